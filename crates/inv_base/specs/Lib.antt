@@ -1,0 +1,5 @@
+pub mod Counts
+pub mod Files
+pub mod Outside
+pub mod Writing
+pub mod Characters

@@ -2,4 +2,8 @@ pub mod Counts
 pub mod Files
 pub mod Outside
 pub mod Writing
+pub mod Memory
+pub mod MemFiles
 pub mod Characters
+pub mod Text
+pub mod Tree

@@ -1,0 +1,73 @@
+-- Files in memory, one more at a time.
+use Rattle.std.proofs.Common.{◌≡◌, ℕ, ◌+◌, ◌<◌, min, drop, Ok, length-append, length-take, length-drop, List, [], ◌∷◌, ◌++◌, map, reverse, take, get_or, length, Bool, true, false, ◌||◌, cond, Some, option_map, unwrap_or, refl, ap, sym, ◌∙◌, string_bytes, bytes_eq, arith, MatchOption, Option, None}
+use Rattle.std.proofs.Math.Seq.{take-append_seam}
+use Rattle.inv_base.specs.Memory.{Kept, shelf_of, behind_read}
+use Rattle.inv_base.specs.Outside.{Reads}
+use Rattle.std.proofs.lemmas.List.{take-append-drop, length-take-le, take_more, map-append, reverse-append}
+use Rattle.std.proofs.lemmas.Option.{slice_get_read}
+use Rattle.inv_base.specs.declared.mem_shelf.MemFile.{MemFile}
+use Rattle.inv_base.specs.Files.{content_of, is_named}
+use Rattle.inv_base.specs.MemFiles.{newest_first, bytes_at, file_of}
+
+pub newest_first-more : (files : List MemFile) (k : ℕ) (file : MemFile) → k < length files → file ≡ get_or files k file
+    → newest_first (take (k + 1) files) ≡ file_of file ∷ newest_first (take k files)
+newest_first-more files k file h e =
+    ap newest_first (take_more files k file h ∙ ap (λ f. take k files ++ f ∷ []) (sym e))
+    ∙ (ap reverse (map-append file_of (take k files) (file ∷ []))
+    ∙ reverse-append (map file_of (take k files)) (file_of file ∷ []))
+
+bytes_at-read : (files : List MemFile) (k : ℕ) (file : MemFile) → k < length files → file ≡ get_or files k file → bytes_at k files ≡ file.bytes.items
+bytes_at-read files k file h e = ap (λ (o : Option MemFile). unwrap_or (option_map (λ (f : MemFile). f.bytes.items) o) []) (slice_get_read files (length files) k file refl h e)
+
+content_of-head : (name : List ℕ) (file : List ℕ × List ℕ) (files : List (List ℕ × List ℕ)) (b : Bool) → bytes_eq file.0 name ≡ b
+    → content_of name (file ∷ files) ≡ cond b file.1 (content_of name files)
+content_of-head name file files b e = ap (λ x. cond x file.1 (content_of name files)) e
+
+is_named-head : (name : List ℕ) (file : List ℕ × List ℕ) (files : List (List ℕ × List ℕ)) (b : Bool) → bytes_eq file.0 name ≡ b
+    → is_named name (file ∷ files) ≡ (b || is_named name files)
+is_named-head name file files b e = ap (λ x. x || is_named name files) e
+
+abbrev pub Found : List ℕ → List MemFile → ℕ → Option ℕ → Type 0
+Found name files n found = let so_far = newest_first (take n files) in
+    MatchOption found (is_named name so_far ≡ false)
+    (λ k. (k < n) × (is_named name so_far ≡ true) × (content_of name so_far ≡ bytes_at k files))
+
+-- The file has the name.
+pub Found-here : (name : List ℕ) (files : List MemFile) (k : ℕ) (file : MemFile) → k < length files → file ≡ get_or files k file
+    → bytes_eq (string_bytes file.name) name ≡ true → Found name files (k + 1) (Some k)
+Found-here name files k file h e same =
+    let more = newest_first-more files k file h e in (
+      omega arith,
+      ap (is_named name) more ∙ is_named-head name (file_of file) (newest_first (take k files)) true same,
+      ap (content_of name) more ∙ (content_of-head name (file_of file) (newest_first (take k files)) true same ∙ sym (bytes_at-read files k file h e)),
+    )
+
+-- The file has another name.
+pub Found-passed : (name : List ℕ) (files : List MemFile) (k : ℕ) (file : MemFile) (found : Option ℕ) → k < length files → file ≡ get_or files k file
+    → bytes_eq (string_bytes file.name) name ≡ false → Found name files k found → Found name files (k + 1) found
+Found-passed name files k file None h e other so_far =
+    ap (is_named name) (newest_first-more files k file h e) ∙ (is_named-head name (file_of file) (newest_first (take k files)) false other ∙ so_far)
+Found-passed name files k file (Some j) h e other so_far =
+    let more = newest_first-more files k file h e in (
+      omega (arith, so_far.0),
+      ap (is_named name) more ∙ (is_named-head name (file_of file) (newest_first (take k files)) false other ∙ so_far.1),
+      ap (content_of name) more ∙ (content_of-head name (file_of file) (newest_first (take k files)) false other ∙ so_far.2),
+    )
+
+-- What files in memory do at a read is what a shelf's read keeps.
+pub Reads-behind_read : {E : Type 0} (n : ℕ) (s t : Kept) (before after : List ℕ) → n ≡ min (length s.left) (length before)
+    → after ≡ take n s.left ++ drop n before → t ≡ behind_read n s → Reads {E = E} (Ok n) after (shelf_of s) (shelf_of t)
+Reads-behind_read {E} n s t before after count copied is =
+    let taken : length (take n s.left) ≡ n = length-take-le n s.left (omega arith) in
+    let front : take n after ≡ take n s.left =
+    ap (take n) copied ∙ (ap (λ k. take k (take n s.left ++ drop n before)) (sym taken) ∙ take-append_seam (take n s.left) (drop n before)) in
+    let long : length after ≡ length before =
+    ap length copied ∙ (length-append (take n s.left) (drop n before) ∙ simp (length-take, length-drop) (omega arith)) in
+    rw is (record {
+      held = refl;
+      bound = omega arith;
+      left = ap Some (sym (ap (λ x. x ++ drop n s.left) front ∙ take-append-drop n s.left));
+      end = λ none room left is. let same : drop n s.left ≡ left = cc in ap length (sym same) ∙ (length-drop n s.left ∙ omega arith);
+      faults = refl;
+      opens = refl;
+    })

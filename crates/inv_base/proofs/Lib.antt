@@ -1,2 +1,5 @@
 pub mod WritingLemmas
 pub mod FilesLemmas
+pub mod TextLemmas
+pub mod PrintingLemmas
+pub mod BufferingLemmas

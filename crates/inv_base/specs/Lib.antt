@@ -2,6 +2,8 @@ pub mod Counts
 pub mod Files
 pub mod Outside
 pub mod Writing
+pub mod Buffering
+pub mod Printing
 pub mod Memory
 pub mod MemFiles
 pub mod Characters

@@ -1,0 +1,21 @@
+use Rattle.std.proofs.Common.{◌++◌, take, ap, ◌∙◌, sym, List, ℕ}
+use Rattle.std.specs.List.{flat_map}
+use Rattle.inv_base.specs.Text.{quoted_character}
+use Rattle.inv_base.proofs.PrintingLemmas.{Prints-append, plain_part, escaped_part}
+use Rattle.inv_base.proofs.printing.Printer.put_escaped.Goals as goal
+
+pub runs-preserved-in-Some-escape_of : goal.runs-preserved-in-Some-escape_of
+runs-preserved-in-Some-escape_of g c =
+    let so_far = c.runs.invariant in (
+      so_far.0 ++ c.in-Some-escape_of.escape.now,
+      escaped_part quoted_character _ _ _ _ so_far.0 _ c.in-Some.ensures.cases.0 c.in-Some-escape_of.ensures.0 so_far.1,
+      Prints-append so_far.0 _ _ _ _ _ _ _ so_far.2 c.put.ensures,
+    )
+
+pub runs-preserved : goal.runs-preserved
+runs-preserved g c =
+    let so_far = c.runs.invariant in (
+      so_far.0 ++ c.split_at.result.0.now,
+      rw (c.split_at.ensures.front, c.split_at.ensures.back) (plain_part quoted_character _ _ so_far.0 _ c.plain_len.ensures.plain so_far.1),
+      Prints-append so_far.0 _ _ _ _ _ _ _ so_far.2 c.put-in-None.ensures,
+    )

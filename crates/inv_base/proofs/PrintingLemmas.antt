@@ -40,3 +40,7 @@ not_plain zero bytes byte after escape (Some text) is plain some matched =
     let same : byte ∷ [] ≡ text.now = sym plain ∙ (ap escape (sym at) ∙ matched.0) in
     let one : 1 ≡ 2 = ap length same ∙ matched.1 in
     absurd (omega (arith, one))
+
+-- nothing printed
+pub Prints-nil : (f : Bool) (s : SinkView) → Prints [] f f s s
+Prints-nil f s = λ text start so_far. subst (λ x. Printed f x start s) (sym (append-nil text)) so_far

@@ -6,6 +6,7 @@ use crate::outside::Sink;
 use crate::writing::write_all;
 
 /// Prints pieces one after another. Behind the first failure it prints nothing more.
+#[derive(Drop)]
 pub struct Printer {
     pub failed: bool,
 }

@@ -1,0 +1,8 @@
+pub mod NameLemmas
+pub mod TokenLemmas
+pub mod ReadLemmas
+pub mod FollowLemmas
+pub mod SpellLemmas
+pub mod TreeLemmas
+pub mod BackLemmas
+pub mod DocumentLemmas

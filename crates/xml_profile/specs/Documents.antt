@@ -1,0 +1,41 @@
+-- The tree of a document, and which events tell which tree, wherever its parts stand and however its names are numbered.
+use Rattle.std.specs.Prelude.{◌≡◌, ℕ, ◌<◌, ◌≤◌, List, [], ◌∷◌, ◌++◌, length, Option, Some, None, Result, Ok, Err}
+use Rattle.inv_base.specs.Tree.{Name, Attribute, Forest, no_more, a_text, an_element, IsDocument, size}
+use Rattle.xml_profile.specs.Events.{Event, starts, has_attribute, has_text, ends, name_at, tree_of_events}
+use Rattle.xml_profile.specs.Reading.{Reading, reading}
+use Rattle.xml_profile.specs.Readers.{not_in_form}
+use Rattle.xml_profile.specs.declared.fault.XmlFault.{XmlFault}
+
+-- The number is that of the name.
+pub record IsNumberOf (names : List Name) (name : Name) (number : ℕ) : Type 0 where
+  pub within : number < length names
+  pub is : name_at names number ≡ name
+
+abbrev pub TellsAttributes : List Name → List Attribute → List Event → Type 0
+TellsAttributes names [] events = events ≡ []
+TellsAttributes names (attribute ∷ attributes) events =
+    (number : ℕ) × (more : List Event) × IsNumberOf names attribute.name number
+    × (events ≡ has_attribute number attribute.value ∷ more) × TellsAttributes names attributes more
+
+abbrev pub Tells : List Name → Forest → List Event → Type 0
+Tells names no_more events = events ≡ []
+Tells names (a_text characters rest) events =
+    (place : ℕ) × (more : List Event) × (events ≡ has_text characters place ∷ more) × Tells names rest more
+Tells names (an_element name attributes inside rest) events =
+    (number : ℕ) × (place : ℕ) × (first : List Event) × (inner : List Event) × (more : List Event) × IsNumberOf names name number
+    × (events ≡ starts number place ∷ (first ++ (inner ++ (ends ∷ more))))
+    × TellsAttributes names attributes first × Tells names inside inner × Tells names rest more
+
+abbrev pub tree_or_fault : Option Reading → Result Forest XmlFault
+tree_or_fault None = Err not_in_form
+tree_or_fault (Some found) = Ok (tree_of_events found.names found.events)
+
+-- the tree of a document within the limit, or why the bytes are none
+unfoldable pub document_tree : ℕ → List ℕ → Result Forest XmlFault
+document_tree limit bytes = tree_or_fault (reading limit bytes)
+
+-- What was read tells the tree, which is a document of no more nodes than the limit on bytes.
+pub record IsReadAs (limit : ℕ) (found : Reading) (tree : Forest) : Type 0 where
+  pub document : IsDocument tree
+  pub tells : Tells found.names tree found.events
+  pub small : size tree ≤ limit

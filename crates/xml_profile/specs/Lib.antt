@@ -1,0 +1,9 @@
+pub mod Events
+pub mod Names
+pub mod NameTables
+pub mod Reading
+pub mod Grammar
+pub mod Readers
+pub mod Tokens
+pub mod Steps
+pub mod Documents

@@ -1,0 +1,4 @@
+pub mod BuiltLemmas
+pub mod NodeLemmas
+pub mod BuilderLemmas
+pub mod TreeLemmas

@@ -1,0 +1,3 @@
+pub mod Document
+pub mod Slots
+pub mod Shown

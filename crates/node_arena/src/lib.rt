@@ -1,0 +1,12 @@
+//! A document in memory: its nodes in document order, their texts placed once in an arena and lent from it.
+#![tactic(auto)]
+
+mod builder;
+mod doc;
+mod laws;
+mod slot;
+
+pub use builder::Builder;
+pub use doc::{Doc, NodeId};
+pub use inv_base::Kind;
+pub use laws::{events_build_a_whole_document, events_build_their_tree};

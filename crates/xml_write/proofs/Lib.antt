@@ -1,0 +1,4 @@
+pub mod Appending
+pub mod EncodingLemmas
+pub mod CallsLemmas
+mod Tried

@@ -1,0 +1,13 @@
+use Rattle.std.proofs.Common.{sym}
+use Rattle.xml_write.specs.Escapes.{in_text, in_value}
+use Rattle.xml_write.proofs.EncodingLemmas.{encodes-appended_by, flat_map-encodes, in_text-IsAsciiEscape, in_value-IsAsciiEscape}
+use Rattle.xml_write.proofs.laws.bytes_are_escaped_as_characters.Goals as goal
+
+pub returns-clause-calls : goal.returns-clause-calls
+returns-clause-calls c = λ state call. sym (encodes-appended_by state call)
+
+pub returns-clause-texts : goal.returns-clause-texts
+returns-clause-texts c = flat_map-encodes in_text in_text-IsAsciiEscape
+
+pub returns-clause-values : goal.returns-clause-values
+returns-clause-values c = flat_map-encodes in_value in_value-IsAsciiEscape

@@ -1,0 +1,36 @@
+use Rattle.std.proofs.Common.{◌∷◌, []}
+use Rattle.inv_base.proofs.WritingLemmas.{WritesFront-append, WritesFront-more}
+use Rattle.xml_write.proofs.Appending.{Writes-append, Writes-at_err}
+use Rattle.xml_write.proofs.pen.Pen.attribute.Goals as goal
+
+pub returns-in_err-put-clause-writes : goal.returns-in_err-put-clause-writes
+returns-in_err-put-clause-writes g c =
+    Writes-at_err _ _ _ _ c.from_residual.ensures.0 (WritesFront-more (0x20 ∷ []) _ _ _ c.in_err-put.ensures)
+
+pub returns-in_err-put-2-clause-writes : goal.returns-in_err-put-2-clause-writes
+returns-in_err-put-2-clause-writes g c =
+    Writes-at_err _ _ _ _ c.from_residual-in_err-put-2.ensures.0
+    (WritesFront-append (0x20 ∷ []) _ _ _ _ c.in_ok-put.ensures
+    (WritesFront-more _ _ _ _ c.in_err-put-2.ensures))
+
+pub returns-in_err-put-3-clause-writes : goal.returns-in_err-put-3-clause-writes
+returns-in_err-put-3-clause-writes g c =
+    Writes-at_err _ _ _ _ c.from_residual-in_err-put-3.ensures.0
+    (WritesFront-append (0x20 ∷ []) _ _ _ _ c.in_ok-put.ensures
+    (WritesFront-append _ _ _ _ _ c.in_ok-put-2.ensures
+    (WritesFront-more (0x3D ∷ 0x22 ∷ []) _ _ _ c.in_err-put-3.ensures)))
+
+pub returns-in_err-put_escaped-clause-writes : goal.returns-in_err-put_escaped-clause-writes
+returns-in_err-put_escaped-clause-writes g c =
+    Writes-at_err _ _ _ _ c.from_residual-in_err-put_escaped.ensures.0
+    (WritesFront-append (0x20 ∷ []) _ _ _ _ c.in_ok-put.ensures
+    (WritesFront-append _ _ _ _ _ c.in_ok-put-2.ensures
+    (WritesFront-append (0x3D ∷ 0x22 ∷ []) _ _ _ _ c.in_ok-put-3.ensures
+    (WritesFront-more _ _ _ _ c.in_err-put_escaped.ensures))))
+
+pub returns-clause-writes : goal.returns-clause-writes
+returns-clause-writes g c =
+    Writes-append _ (0x20 ∷ []) _ _ _ _ c.in_ok-put.ensures
+    (Writes-append _ _ _ _ _ _ c.in_ok-put-2.ensures
+    (Writes-append _ (0x3D ∷ 0x22 ∷ []) _ _ _ _ c.in_ok-put-3.ensures
+    (Writes-append _ _ _ _ _ _ c.in_ok-put_escaped.ensures c.put-4.ensures)))

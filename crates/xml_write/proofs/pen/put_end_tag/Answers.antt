@@ -1,0 +1,18 @@
+use Rattle.std.proofs.Common.{◌∷◌, []}
+use Rattle.inv_base.proofs.WritingLemmas.{WritesFront-append, WritesFront-more}
+use Rattle.xml_write.proofs.Appending.{Writes-append, Writes-at_err}
+use Rattle.xml_write.proofs.pen.put_end_tag.Goals as goal
+
+pub returns-in_err-put : goal.returns-in_err-put
+returns-in_err-put g c = Writes-at_err _ _ _ _ c.from_residual.ensures.0 (WritesFront-more (0x3C ∷ 0x2F ∷ []) _ _ _ c.in_err-put.ensures)
+
+pub returns-in_err-put-2 : goal.returns-in_err-put-2
+returns-in_err-put-2 g c =
+    Writes-at_err _ _ _ _ c.from_residual-in_err-put-2.ensures.0
+    (WritesFront-append (0x3C ∷ 0x2F ∷ []) _ _ _ _ c.in_ok-put.ensures
+    (WritesFront-more _ _ _ _ c.in_err-put-2.ensures))
+
+pub returns : goal.returns
+returns g c =
+    Writes-append _ (0x3C ∷ 0x2F ∷ []) _ _ _ _ c.in_ok-put.ensures
+    (Writes-append _ _ _ _ _ _ c.in_ok-put-2.ensures c.put-3.ensures)

@@ -1,0 +1,3 @@
+pub mod OutlineLemmas
+pub mod LoadLemmas
+pub mod AnswersLemmas

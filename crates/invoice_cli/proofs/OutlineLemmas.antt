@@ -1,0 +1,150 @@
+-- The lines of a document's nodes, in bytes, and that together they are the outline of its tree.
+use Rattle.std.proofs.Common.{◌≡◌, ℕ, zero, suc, ◌+◌, ◌-◌, ◌*◌, ◌<◌, ◌≤◌, List, [], ◌∷◌, ◌++◌, map, take, length, get_or, replicate, Option, Some, None, option_map, refl, ap, sym, ◌∙◌, append_assoc, append-nil, arith, chars, IsUtf8}
+use Rattle.std.specs.List.{flat_map}
+use Rattle.std.specs.Prelude.{encode_utf8_all}
+use Rattle.std.proofs.lemmas.List.{take_more, map-append, replicate-append-replicate}
+use Rattle.std.proofs.lemmas.Str.{encode_ascii, encodes-append, chars-nil}
+use Rattle.std.proofs.lemmas.Grind.{flat_map-append}
+use Rattle.inv_base.specs.declared.tree.Kind.TheVariants as kinds
+use Rattle.inv_base.specs.Text.{quoted, quoted_character}
+use Rattle.inv_base.specs.Tree.{Name, Attribute, Forest, no_more, a_text, an_element}
+use Rattle.inv_base.proofs.TextLemmas.{encode-chars, encode-quoted}
+use Rattle.xml_profile.specs.Events.{name_at}
+use Rattle.node_arena.specs.Document.{Placed, Document, document_node, node_at}
+use Rattle.node_arena.specs.Shown.{Shown, shown, shown_attributes, shown_forest, shown_document, IsOfTree}
+use Rattle.invoice_cli.specs.Outline.{braced, name_text, optional_name_text, line, attribute_text, outline_attributes, outline_forest, outline_text, line_as, node_line}
+
+-- an ASCII character in front
+pub encode-front : (c : ℕ) (cs : List ℕ) → c < 128 → encode_utf8_all (c ∷ cs) ≡ c ∷ encode_utf8_all cs
+encode-front c cs h = ap (λ x. x ++ encode_utf8_all cs) (encode_ascii c h)
+
+encode-last : (cs : List ℕ) (c : ℕ) → c < 128 → encode_utf8_all (cs ++ c ∷ []) ≡ encode_utf8_all cs ++ c ∷ []
+encode-last cs c h = encodes-append cs (c ∷ []) ∙ ap (λ x. encode_utf8_all cs ++ (x ++ [])) (encode_ascii c h)
+
+encode-spaces : (n : ℕ) → encode_utf8_all (replicate n 0x20) ≡ replicate n 0x20
+encode-spaces zero = refl
+encode-spaces (suc n) = encode-front 0x20 (replicate n 0x20) (omega arith) ∙ ap (λ x. 0x20 ∷ x) (encode-spaces n)
+
+encode-line : (level : ℕ) (text : List ℕ) → encode_utf8_all (line level text) ≡ replicate (2 * level) 0x20 ++ (encode_utf8_all text ++ 0xA ∷ [])
+encode-line level text =
+    encodes-append (replicate (2 * level) 0x20) (text ++ 0xA ∷ [])
+    ∙ (ap (λ x. x ++ encode_utf8_all (text ++ 0xA ∷ [])) (encode-spaces (2 * level)) ∙ ap (λ x. replicate (2 * level) 0x20 ++ x) (encode-last text 0xA (omega arith)))
+
+abbrev pub spaces : ℕ → List ℕ
+spaces level = replicate (2 * level) 0x20
+
+-- two more spaces
+pub spaces_more : (level : ℕ) → 1 ≤ level → let two : List ℕ = 0x20 ∷ 0x20 ∷ [] in spaces (level - 1) ++ two ≡ spaces (level + 1 - 1)
+spaces_more level h = replicate-append-replicate (2 * (level - 1)) 2 0x20 ∙ ap (λ n. replicate n 0x20) (omega arith)
+
+-- a namespace name that isn't empty, in bytes
+braced-some : (uri : List ℕ) (c : ℕ) (cs : List ℕ) → chars uri ≡ c ∷ cs → IsUtf8 uri → (0x7B ∷ []) ++ (uri ++ 0x7D ∷ []) ≡ encode_utf8_all (braced (c ∷ cs))
+braced-some uri c cs is u =
+    let text : encode_utf8_all (c ∷ cs) ≡ uri = ap encode_utf8_all (sym is) ∙ encode-chars uri u in
+    sym (encode-front 0x7B ((c ∷ cs) ++ 0x7D ∷ []) (omega arith) ∙ ap (λ x. 0x7B ∷ x) (encode-last (c ∷ cs) 0x7D (omega arith) ∙ ap (λ x. x ++ 0x7D ∷ []) text))
+
+braced-cases : (uri cs : List ℕ) → chars uri ≡ cs → IsUtf8 uri → 0 < length uri → (0x7B ∷ []) ++ (uri ++ 0x7D ∷ []) ≡ encode_utf8_all (braced cs)
+braced-cases uri [] is u some =
+    let none : [] ≡ uri = ap encode_utf8_all (sym is) ∙ encode-chars uri u in
+    let long : 0 ≡ length uri = ap length none in
+    absurd (omega (arith, some, long))
+braced-cases uri (c ∷ cs) is u some = braced-some uri c cs is u
+
+pub encode-braced : (uri : List ℕ) → IsUtf8 uri → 0 < length uri → (0x7B ∷ []) ++ (uri ++ 0x7D ∷ []) ≡ encode_utf8_all (braced (chars uri))
+encode-braced uri u some = braced-cases uri (chars uri) refl u some
+
+-- no namespace name
+pub encode-braced-nil : (uri : List ℕ) → length uri ≡ 0 → [] ≡ encode_utf8_all (braced (chars uri))
+encode-braced-nil [] none = ap (λ cs. encode_utf8_all (braced cs)) (sym chars-nil)
+encode-braced-nil (b ∷ uri) none = absurd (omega arith)
+
+-- a name, in bytes
+pub encode-name : (names : List Name) (number : ℕ) (uri local : List ℕ) → chars uri ≡ (name_at names number).uri → chars local ≡ (name_at names number).local → IsUtf8 local
+    → encode_utf8_all (braced (chars uri)) ++ local ≡ encode_utf8_all (optional_name_text (option_map (name_at names) (Some number)))
+encode-name names number uri local u l utf8 =
+    ap (λ x. encode_utf8_all (braced (chars uri)) ++ x) (sym (encode-chars local utf8))
+    ∙ (sym (encodes-append (braced (chars uri)) (chars local)) ∙ (ap (λ x. encode_utf8_all (braced x ++ chars local)) u ∙ ap (λ x. encode_utf8_all (braced (name_at names number).uri ++ x)) l))
+
+-- the lines of the kinds of nodes
+module _ (names : List Name) (node : Placed) (depth : ℕ) (deep : depth ≡ node.level) where
+  indent : spaces (depth - 1) ≡ spaces (node.level - 1)
+  indent = ap (λ l. spaces (l - 1)) deep
+
+  pub element_line-bytes : (name : Option ℕ) → name ≡ node.name
+      → replicate (2 * (depth - 1)) 0x20 ++ (encode_utf8_all (optional_name_text (option_map (name_at names) name)) ++ 0xA ∷ []) ≡ encode_utf8_all (line_as kinds.Element names node)
+  element_line-bytes name named =
+      ap (λ x. x ++ (encode_utf8_all (optional_name_text (option_map (name_at names) name)) ++ 0xA ∷ [])) indent
+      ∙ (ap (λ n. replicate (2 * (node.level - 1)) 0x20 ++ (encode_utf8_all (optional_name_text (option_map (name_at names) n)) ++ 0xA ∷ [])) named
+      ∙ (sym (encode-line (node.level - 1) (optional_name_text (option_map (name_at names) node.name))) ∙ refl))
+
+  pub text_line-bytes : (text : List ℕ) → chars text ≡ node.text
+      → replicate (2 * (depth - 1)) 0x20 ++ (encode_utf8_all (quoted (chars text)) ++ 0xA ∷ []) ≡ encode_utf8_all (line_as kinds.Text names node)
+  text_line-bytes text is =
+      ap (λ x. x ++ (encode_utf8_all (quoted (chars text)) ++ 0xA ∷ [])) indent
+      ∙ (ap (λ t. replicate (2 * (node.level - 1)) 0x20 ++ (encode_utf8_all (quoted t) ++ 0xA ∷ [])) is
+      ∙ (sym (encode-line (node.level - 1) (quoted node.text)) ∙ refl))
+
+  pub attribute_line-bytes : (name : Option ℕ) (text : List ℕ) → name ≡ node.name → chars text ≡ node.text
+      → replicate (2 * (depth - 1)) 0x20 ++ ((0x40 ∷ []) ++ (encode_utf8_all (optional_name_text (option_map (name_at names) name)) ++ ((0x3D ∷ []) ++ (encode_utf8_all (quoted (chars text)) ++ 0xA ∷ []))))
+      ≡ encode_utf8_all (line_as kinds.Attribute names node)
+  attribute_line-bytes name text named is =
+      let named_text : List ℕ = optional_name_text (option_map (name_at names) node.name) in
+      let all : encode_utf8_all (0x40 ∷ (named_text ++ (0x3D ∷ quoted node.text))) ≡ 0x40 ∷ (encode_utf8_all named_text ++ (0x3D ∷ encode_utf8_all (quoted node.text))) =
+      encode-front 0x40 (named_text ++ (0x3D ∷ quoted node.text)) (omega arith)
+      ∙ ap (λ x. 0x40 ∷ x) (encodes-append named_text (0x3D ∷ quoted node.text) ∙ ap (λ x. encode_utf8_all named_text ++ x) (encode-front 0x3D (quoted node.text) (omega arith))) in
+      let back : (0x40 ∷ (encode_utf8_all named_text ++ (0x3D ∷ encode_utf8_all (quoted node.text)))) ++ 0xA ∷ [] ≡ 0x40 ∷ (encode_utf8_all named_text ++ (0x3D ∷ (encode_utf8_all (quoted node.text) ++ 0xA ∷ []))) =
+      ap (λ x. 0x40 ∷ x) (append_assoc (encode_utf8_all named_text) (0x3D ∷ encode_utf8_all (quoted node.text)) (0xA ∷ [])) in
+      ap (λ x. x ++ (0x40 ∷ (encode_utf8_all (optional_name_text (option_map (name_at names) name)) ++ (0x3D ∷ (encode_utf8_all (quoted (chars text)) ++ 0xA ∷ []))))) indent
+      ∙ (ap (λ n. replicate (2 * (node.level - 1)) 0x20 ++ (0x40 ∷ (encode_utf8_all (optional_name_text (option_map (name_at names) n)) ++ (0x3D ∷ (encode_utf8_all (quoted (chars text)) ++ 0xA ∷ []))))) named
+      ∙ (ap (λ t. replicate (2 * (node.level - 1)) 0x20 ++ (0x40 ∷ (encode_utf8_all named_text ++ (0x3D ∷ (encode_utf8_all (quoted t) ++ 0xA ∷ []))))) is
+      ∙ (ap (λ x. replicate (2 * (node.level - 1)) 0x20 ++ x) (sym (ap (λ x. x ++ 0xA ∷ []) all ∙ back))
+      ∙ (sym (encode-line (node.level - 1) (0x40 ∷ (named_text ++ (0x3D ∷ quoted node.text)))) ∙ refl))))
+
+-- one more node
+node_at-get_or : (nodes : List Placed) (k : ℕ) → node_at nodes k ≡ get_or nodes k document_node
+node_at-get_or [] k = refl
+node_at-get_or (node ∷ nodes) zero = refl
+node_at-get_or (node ∷ nodes) (suc k) = node_at-get_or nodes k
+
+abbrev pub lines_of : List Name → List Placed → List ℕ
+lines_of names nodes = encode_utf8_all (flat_map node_line (map (shown names) nodes))
+
+pub lines_of-more : (names : List Name) (nodes : List Placed) (k : ℕ) → k < length nodes
+    → lines_of names (take k nodes) ++ encode_utf8_all (node_line (shown names (node_at nodes k))) ≡ lines_of names (take (k + 1) nodes)
+lines_of-more names nodes k h =
+    let node = node_at nodes k in
+    let more : take (k + 1) nodes ≡ take k nodes ++ node ∷ [] = take_more nodes k document_node h ∙ ap (λ x. take k nodes ++ x ∷ []) (sym (node_at-get_or nodes k)) in
+    let lines : flat_map node_line (map (shown names) (take k nodes ++ node ∷ [])) ≡ flat_map node_line (map (shown names) (take k nodes)) ++ node_line (shown names node) =
+    ap (flat_map node_line) (map-append (shown names) (take k nodes) (node ∷ []))
+    ∙ (flat_map-append node_line (map (shown names) (take k nodes)) (shown names node ∷ []) ∙ ap (λ x. flat_map node_line (map (shown names) (take k nodes)) ++ x) (append-nil (node_line (shown names node)))) in
+    sym (ap (lines_of names) more ∙ (ap encode_utf8_all lines ∙ encodes-append (flat_map node_line (map (shown names) (take k nodes))) (node_line (shown names node))))
+
+-- the lines of all nodes are the outline
+less_one : (level : ℕ) → level + 1 - 1 ≡ level
+less_one level = omega arith
+
+attribute_lines : (level : ℕ) (attributes : List Attribute) → flat_map node_line (shown_attributes (level + 1) attributes) ≡ outline_attributes level attributes
+attribute_lines level [] = refl
+attribute_lines level (attribute ∷ attributes) =
+    ap (λ l. line l (attribute_text attribute.name attribute.value) ++ flat_map node_line (shown_attributes (level + 1) attributes)) (less_one level)
+    ∙ ap (λ x. line level (attribute_text attribute.name attribute.value) ++ x) (attribute_lines level attributes)
+
+forest_lines : (level : ℕ) (f : Forest) → flat_map node_line (shown_forest (level + 1) f) ≡ outline_forest level f
+forest_lines level no_more = refl
+forest_lines level (a_text characters rest) =
+    ap (λ l. line l (quoted characters) ++ flat_map node_line (shown_forest (level + 1) rest)) (less_one level)
+    ∙ ap (λ x. line level (quoted characters) ++ x) (forest_lines level rest)
+forest_lines level (an_element name attributes inside rest) =
+    let inner = shown_forest (level + 1 + 1) inside in
+    let behind = shown_forest (level + 1) rest in
+    let first = shown_attributes (level + 1 + 1) attributes in
+    let parts : flat_map node_line (first ++ (inner ++ behind)) ≡ outline_attributes (level + 1) attributes ++ (outline_forest (level + 1) inside ++ outline_forest level rest) =
+    flat_map-append node_line first (inner ++ behind)
+    ∙ (ap (λ x. x ++ flat_map node_line (inner ++ behind)) (attribute_lines (level + 1) attributes)
+    ∙ ap (λ x. outline_attributes (level + 1) attributes ++ x) (flat_map-append node_line inner behind
+    ∙ (ap (λ x. x ++ flat_map node_line behind) (forest_lines (level + 1) inside) ∙ ap (λ x. outline_forest (level + 1) inside ++ x) (forest_lines level rest)))) in
+    ap (λ l. line l (name_text name) ++ flat_map node_line (first ++ (inner ++ behind))) (less_one level) ∙ ap (λ x. line level (name_text name) ++ x) parts
+
+pub lines_of-tree : (document : Document) (tree : Forest) → IsOfTree document tree → lines_of document.names document.nodes ≡ outline_text tree
+unfolding outline_text
+lines_of-tree document tree is = ap (λ nodes. encode_utf8_all (flat_map node_line nodes)) is ∙ ap encode_utf8_all (forest_lines 0 tree)

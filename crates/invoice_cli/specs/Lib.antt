@@ -1,0 +1,7 @@
+pub mod Job
+pub mod Commands
+pub mod Outline
+pub mod Lines
+pub mod Answer
+pub mod Answers
+pub mod Load

@@ -1,0 +1,13 @@
+//! The program: what its words ask for, and the one call that answers them.
+#![tactic(auto)]
+
+mod load;
+mod printing;
+mod program;
+mod status;
+mod telling;
+mod usage;
+mod words;
+
+pub use program::run;
+pub use status::Status;

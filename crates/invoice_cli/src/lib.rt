@@ -1,6 +1,7 @@
 //! The program: what its words ask for, and the one call that answers them.
 #![tactic(auto)]
 
+mod adapters;
 mod load;
 mod printing;
 mod program;
@@ -9,5 +10,6 @@ mod telling;
 mod usage;
 mod words;
 
+pub use adapters::{FileShelf, OutputSink};
 pub use program::run;
 pub use status::Status;

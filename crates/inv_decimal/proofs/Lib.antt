@@ -1,0 +1,20 @@
+mod Rows
+pub mod Ascii
+pub mod AsciiDay
+pub mod Characters
+pub mod DayBack
+pub mod DayText
+pub mod DecimalText
+pub mod DigitLists
+pub mod InRange
+pub mod NumberLaws
+pub mod NumberParts
+pub mod Overwritten
+pub mod PrintNumber
+pub mod Products
+pub mod ReadBack
+pub mod ReadDay
+pub mod ReadNumber
+pub mod Results
+pub mod Signs
+pub mod Grammar

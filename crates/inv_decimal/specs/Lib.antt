@@ -1,0 +1,6 @@
+pub mod Arithmetic
+pub mod CivilDay
+pub mod Digits
+pub mod Number
+pub mod WrittenDay
+pub mod WrittenNumber

@@ -1,0 +1,11 @@
+pub mod LongestLaws
+pub mod ScanningLaws
+pub mod ClosingLaws
+pub mod CommentLaws
+pub mod Walks
+pub mod WordsLaws
+pub mod NumberLaws
+pub mod JudgingLaws
+pub mod AnswerLaws
+pub mod TableLaws
+mod Rows

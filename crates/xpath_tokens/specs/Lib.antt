@@ -1,0 +1,4 @@
+pub mod Longest
+pub mod Words
+pub mod Tokens
+pub mod Scanning

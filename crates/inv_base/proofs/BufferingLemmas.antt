@@ -1,5 +1,5 @@
 -- Bytes that are held back and handed on.
-use Rattle.std.proofs.Common.{◌≡◌, ℕ, ◌+◌, List, [], ◌++◌, take, drop, Option, Ok, Result, MatchResult, refl, ap, sym, ◌∙◌, arith}
+use Rattle.std.proofs.Common.{◌≡◌, ℕ, ◌+◌, List, [], take, drop, Result, ap, sym, ◌∙◌, arith}
 use Rattle.std.proofs.lemmas.List.{take-append-drop, drop-drop, drop_all}
 use Rattle.inv_base.specs.Outside.{SinkView, Accepts, appended}
 use Rattle.inv_base.specs.Buffering.{with_held}

@@ -1,5 +1,6 @@
 pub mod WritingLemmas
 pub mod FilesLemmas
+pub mod EscapeLemmas
 pub mod TextLemmas
 pub mod PrintingLemmas
 pub mod BufferingLemmas

@@ -1,8 +1,10 @@
 -- One text written behind another.
-use Rattle.std.proofs.Common.{◌≡◌, ℕ, ◌≤◌, List, [], ◌++◌, Option, Some, None, refl, ap, sym, ◌∙◌, append_assoc, append-nil, arith, le_refl, subst}
+use Rattle.std.proofs.Common.{◌≡◌, ℕ, ◌≤◌, List, [], ◌++◌, Option, Some, None, Result, Ok, Err, refl, ap, sym, ◌∙◌, append_assoc, append-nil, subst}
 use Rattle.inv_base.specs.Counts.{Rose}
-use Rattle.inv_base.specs.Outside.{SinkView, appended, ahead_of}
-use Rattle.inv_base.specs.Writing.{IsFront, WritesAll, WritesFront}
+use Rattle.inv_base.specs.Outside.{SinkView, appended}
+use Rattle.std.specs.Result.{IsErr}
+use Rattle.std.proofs.lemmas.Result.{MatchResult-from_err}
+use Rattle.inv_base.specs.Writing.{IsFront, Writes, WritesAll, WritesFront}
 
 pub appended-nil : (told : Option (List ℕ)) → appended [] told ≡ told
 appended-nil None = refl
@@ -65,3 +67,12 @@ WritesFront-nil text s t e le rose = record {
   rises = le;
   rose = rose;
 }
+
+-- a text, and then a write
+pub Writes-append : {T E : Type 0} (result : Result T E) (a b : List ℕ) (r s t : SinkView) → WritesAll a r s → Writes result b s t → Writes result (a ++ b) r t
+Writes-append (Ok x) a b r s t p q = WritesAll-append a b r s t p q
+Writes-append (Err e) a b r s t p q = WritesFront-append a b r s t p q
+
+-- what the exit of a `?` returns
+pub Writes-at_err : {T E : Type 0} (result : Result T E) (text : List ℕ) (r s : SinkView) → IsErr result → WritesFront text r s → Writes result text r s
+Writes-at_err result text r s e p = MatchResult-from_err result (λ _. WritesAll text r s) (λ _. WritesFront text r s) e (λ _. p)

@@ -1,5 +1,5 @@
 -- Files by their names, as a shelf that tells its content holds them. Names and contents are bytes.
-use Rattle.std.specs.Prelude.{ℕ, Bool, true, false, not, ◌||◌, List, [], ◌∷◌, if◌then◌else◌, bytes_eq}
+use Rattle.std.specs.Prelude.{ℕ, Bool, false, not, ◌||◌, List, [], ◌∷◌, if◌then◌else◌, bytes_eq}
 
 -- the files, of which the first of one name counts, and whether every other name is absent: else it is empty
 pub record Files : Type 0 where

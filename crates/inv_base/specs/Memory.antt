@@ -1,9 +1,9 @@
 -- Files and outputs in memory: what they hold, the calls that fail, and how far their counts are.
-use Rattle.std.specs.Prelude.{ℕ, ◌+◌, ◌-◌, Bool, false, true, ◌||◌, not, List, ◌++◌, length, take, drop, nat_le, ◌==◌, Some, None, min}
+use Rattle.std.specs.Prelude.{ℕ, Bool, true, ◌||◌, not, List, ◌++◌, length, take, drop, nat_le, ◌==◌, Some}
 use Rattle.std.specs.List.{list_any}
 use Rattle.inv_base.specs.Counts.{next_count}
 use Rattle.inv_base.specs.Outside.{SinkView, ShelfView}
-use Rattle.inv_base.specs.Files.{Files, is_named, content_of}
+use Rattle.inv_base.specs.Files.{is_named, content_of}
 
 -- an output: the bytes that it took, its room, the numbers of the calls that fail, and its counts
 pub record Taken : Type 0 where

@@ -3,8 +3,7 @@ use Rattle.std.proofs.Common.{◌≡◌, ℕ, Bool, true, false, Result, List, [
 use Rattle.std.specs.List.{flat_map}
 use Rattle.inv_base.specs.Outside.{SinkView}
 use Rattle.inv_base.specs.Writing.{Writes, WritesAll, WritesFront}
-use Rattle.inv_base.proofs.WritingLemmas.{WritesFront-more}
-use Rattle.xml_write.proofs.Appending.{Writes-append}
+use Rattle.inv_base.proofs.WritingLemmas.{WritesFront-more, Writes-append}
 use Rattle.inv_base.specs.Tree.{Forest, no_more, a_text, an_element, Attribute}
 use Rattle.xml_write.specs.declared.pen.PenState.{PenState}
 use Rattle.xml_write.specs.declared.pen.PenState.TheVariants.{Fresh, InsideTag, PastTag}

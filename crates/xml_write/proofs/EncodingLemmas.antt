@@ -1,22 +1,21 @@
 -- What calls append, in characters and in UTF-8.
-use Rattle.std.proofs.Common.{◌≡◌, ℕ, suc, ◌+◌, ◌<◌, ◌≤◌, false, ◌==◌, List, [], ◌∷◌, ◌++◌, length, map, get_or, inl, inr, refl, ap, sym, ◌∙◌, append-nil, length-append, arith}
+use Rattle.std.proofs.Common.{◌≡◌, ℕ, ◌+◌, ◌<◌, ◌≤◌, false, ◌==◌, List, [], ◌∷◌, ◌++◌, length, map, refl, ap, sym, ◌∙◌, length-append, arith}
 use Rattle.std.specs.List.{flat_map}
-use Rattle.std.proofs.lemmas.List.Concat.{flat_map-append}
-use Rattle.std.proofs.lemmas.Bool.{cases_lt, cond_both, ne_eqb}
+use Rattle.std.proofs.lemmas.Bool.{cond_both, ne_eqb}
 use Rattle.std.proofs.lemmas.Bool.Decides.{nat_tests}
-use Rattle.std.proofs.lemmas.Str.{encodes-append, encode_ascii, inside_one, length-encode, len_utf8_bounds}
+use Rattle.std.proofs.lemmas.Str.{encodes-append, length-encode, len_utf8_bounds}
 use lib.Utf8.{encodes, encode}
+use Rattle.inv_base.proofs.EscapeLemmas.{IsAsciiEscape, encodes-one, flat_map-encodes}
 use Rattle.xml_write.specs.declared.pen.PenState.{PenState}
 use Rattle.xml_write.specs.declared.pen.PenState.TheVariants.{Fresh, InsideTag, PastTag}
 use Rattle.xml_write.specs.Escapes.{in_text, in_value}
 use Rattle.xml_write.specs.Canonical.{declaration_line, attribute_text}
 use Rattle.xml_write.specs.Calls.{Call, call_start, call_attribute, call_text, call_end, call_close, lead_in, start_text, content_text, end_tag, end_text, behind_text, appended_by, state_behind, appended_by_all, encoded}
-use Rattle.xml_write.proofs.Appending.{content_text-some}
 
--- An escape leaves what isn't ASCII, and stands for ASCII by ASCII.
-pub record IsAsciiEscape (f : ℕ → List ℕ) : Type 0 where
-  pub plain : (c : ℕ) → 128 ≤ c → f c ≡ c ∷ []
-  pub ascii : (c : ℕ) → c < 128 → encodes (f c) ≡ f c
+-- a text that isn't empty
+pub content_text-some : (state : PenState) (t : List ℕ) → (length t == 0) ≡ false → content_text state t ≡ lead_in state ++ flat_map in_text t
+content_text-some state [] e = cc
+content_text-some state (c ∷ t) e = refl
 
 in_text-plain : (c : ℕ) → 128 ≤ c → in_text c ≡ c ∷ []
 unfolding in_text
@@ -25,9 +24,6 @@ in_text-plain c h = grind (arith, nat_tests)
 in_value-plain : (c : ℕ) → 128 ≤ c → in_value c ≡ c ∷ []
 unfolding in_value in_text
 in_value-plain c h = grind (arith, nat_tests)
-
-encodes-one : (c : ℕ) → c < 128 → encodes (c ∷ []) ≡ c ∷ []
-encodes-one c h = append-nil (encode c) ∙ encode_ascii c h
 
 Same : List ℕ → Type 0
 Same xs = encodes xs ≡ xs
@@ -52,36 +48,6 @@ in_text-IsAsciiEscape = record { plain = in_text-plain; ascii = in_text-ascii }
 
 pub in_value-IsAsciiEscape : IsAsciiEscape in_value
 in_value-IsAsciiEscape = record { plain = in_value-plain; ascii = in_value-ascii }
-
-flat_map-plain : (f : ℕ → List ℕ) → IsAsciiEscape f → (bytes : List ℕ) → ((k : ℕ) → k < length bytes → 128 ≤ get_or bytes k 0) → flat_map f bytes ≡ bytes
-flat_map-plain f is [] h = refl
-flat_map-plain f is (b ∷ bytes) h =
-    ap (λ x. x ++ flat_map f bytes) (is.plain b (h 0 (omega arith)))
-    ∙ ap (λ x. b ∷ x) (flat_map-plain f is bytes (λ k l. h (suc k) (omega arith)))
-
--- the bytes of a character that isn't ASCII aren't either
-encode-bytes : (c : ℕ) → 128 ≤ c → (k : ℕ) → k < length (encode c) → 128 ≤ get_or (encode c) k 0
-encode-bytes c h k l =
-    elim (cases_lt (get_or (encode c) k 0) 128) [
-      | inl below ↦ let e : c ≡ get_or (encode c) k 0 = inside_one c [] (encode c) k (sym (append-nil (encode c))) l below in absurd (omega arith)
-      | inr above ↦ above
-    ]
-
-flat_map-encode : (f : ℕ → List ℕ) → IsAsciiEscape f → (c : ℕ) → flat_map f (encode c) ≡ encodes (f c)
-flat_map-encode f is c =
-    elim (cases_lt c 128) [
-      | inl below ↦ ap (flat_map f) (encode_ascii c below) ∙ (append-nil (f c) ∙ sym (is.ascii c below))
-      | inr above ↦ flat_map-plain f is (encode c) (encode-bytes c above) ∙ (sym (append-nil (encode c)) ∙ ap encodes (sym (is.plain c above)))
-    ]
-
--- Bytes of UTF-8 are escaped as the characters are.
-pub flat_map-encodes : (f : ℕ → List ℕ) → IsAsciiEscape f → (characters : List ℕ) → flat_map f (encodes characters) ≡ encodes (flat_map f characters)
-flat_map-encodes f is [] = refl
-flat_map-encodes f is (c ∷ characters) =
-    flat_map-append f (encode c) (encodes characters)
-    ∙ (ap (λ x. x ++ flat_map f (encodes characters)) (flat_map-encode f is c)
-    ∙ (ap (λ x. encodes (f c) ++ x) (flat_map-encodes f is characters)
-    ∙ sym (encodes-append (f c) (flat_map f characters))))
 
 encodes-lead_in : (state : PenState) → encodes (lead_in state) ≡ lead_in state
 unfolding declaration_line encode

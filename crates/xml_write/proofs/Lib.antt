@@ -1,4 +1,3 @@
-pub mod Appending
 pub mod EncodingLemmas
 pub mod CallsLemmas
 mod Tried

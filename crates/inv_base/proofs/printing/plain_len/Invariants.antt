@@ -1,4 +1,4 @@
-use Rattle.std.proofs.Common.{◌≡◌, ◌≤◌, ◌-◌, ◌<◌, ℕ, List, [], ◌∷◌, take, length}
+use Rattle.std.proofs.Common.{◌≡◌, ◌≤◌, ◌-◌, take, length}
 use Rattle.std.specs.List.{flat_map}
 use Rattle.inv_base.specs.Text.{quoted_character}
 use Rattle.inv_base.proofs.printing.plain_len.Given as goal

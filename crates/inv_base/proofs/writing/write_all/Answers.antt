@@ -1,4 +1,4 @@
-use Rattle.std.proofs.Common.{◌++◌, take, rules, ap, ◌∙◌, sym, append_assoc, arith}
+use Rattle.std.proofs.Common.{◌++◌, take, ap, ◌∙◌, append_assoc}
 use Rattle.std.proofs.lemmas.List.{take-append-drop}
 use Rattle.inv_base.proofs.WritingLemmas.{WritesAll-append, WritesFront-append, WritesFront-nil}
 use Rattle.inv_base.proofs.writing.write_all.Goals as goal

@@ -1,7 +1,6 @@
 use Rattle.std.proofs.Common.{◌≡◌, ◌+◌, ◌++◌, ap, sym, ◌∙◌, append_assoc, drop}
 use Rattle.std.proofs.lemmas.List.{drop-drop}
-use Rattle.inv_base.proofs.WritingLemmas.{WritesAll-append, WritesFront-append, WritesFront-more}
-use Rattle.xml_write.proofs.Appending.{Writes-append, Writes-at_err}
+use Rattle.inv_base.proofs.WritingLemmas.{WritesAll-append, WritesFront-append, WritesFront-more, Writes-append, Writes-at_err}
 use Rattle.xml_write.specs.Escapes.{escaped}
 use Rattle.xml_write.proofs.escape.put_escaped.Goals as goal
 

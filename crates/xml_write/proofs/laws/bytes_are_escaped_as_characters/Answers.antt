@@ -1,6 +1,7 @@
 use Rattle.std.proofs.Common.{sym}
 use Rattle.xml_write.specs.Escapes.{in_text, in_value}
-use Rattle.xml_write.proofs.EncodingLemmas.{encodes-appended_by, flat_map-encodes, in_text-IsAsciiEscape, in_value-IsAsciiEscape}
+use Rattle.inv_base.proofs.EscapeLemmas.{flat_map-encodes}
+use Rattle.xml_write.proofs.EncodingLemmas.{encodes-appended_by, in_text-IsAsciiEscape, in_value-IsAsciiEscape}
 use Rattle.xml_write.proofs.laws.bytes_are_escaped_as_characters.Goals as goal
 
 pub returns-clause-calls : goal.returns-clause-calls

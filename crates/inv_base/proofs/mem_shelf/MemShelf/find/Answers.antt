@@ -1,5 +1,5 @@
-use Rattle.std.proofs.Common.{rules, subst, sym, ap, ◌∙◌, bytes_eq}
-use Rattle.inv_base.proofs.FilesLemmas.{Found, Found-here, Found-passed}
+use Rattle.std.proofs.Common.{sym, ap, ◌∙◌, bytes_eq}
+use Rattle.inv_base.proofs.FilesLemmas.{Found-here, Found-passed}
 use Rattle.inv_base.proofs.mem_shelf.MemShelf.find.Goals.{then-eq, else-eq}
 use Rattle.inv_base.proofs.mem_shelf.MemShelf.find.Goals as goal
 

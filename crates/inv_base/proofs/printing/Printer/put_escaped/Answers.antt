@@ -1,5 +1,4 @@
-use Rattle.std.proofs.Common.{◌++◌, take, ap, ◌∙◌, sym, List, ℕ}
-use Rattle.std.specs.List.{flat_map}
+use Rattle.std.proofs.Common.{◌++◌}
 use Rattle.inv_base.specs.Text.{quoted_character}
 use Rattle.inv_base.proofs.PrintingLemmas.{Prints-append, plain_part, escaped_part}
 use Rattle.inv_base.proofs.printing.Printer.put_escaped.Goals as goal

@@ -1,6 +1,5 @@
 use Rattle.std.proofs.Common.{◌∷◌, []}
-use Rattle.inv_base.proofs.WritingLemmas.{WritesFront-append, WritesFront-more}
-use Rattle.xml_write.proofs.Appending.{Writes-append, Writes-at_err}
+use Rattle.inv_base.proofs.WritingLemmas.{WritesFront-append, WritesFront-more, Writes-append, Writes-at_err}
 use Rattle.xml_write.proofs.pen.Pen.attribute.Goals as goal
 
 pub returns-in_err-put-clause-writes : goal.returns-in_err-put-clause-writes

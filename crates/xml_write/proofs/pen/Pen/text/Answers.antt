@@ -1,5 +1,6 @@
 use Rattle.std.proofs.Common.{sym, ap, ◌∙◌}
-use Rattle.xml_write.proofs.Appending.{Writes-append, content_text-some}
+use Rattle.inv_base.proofs.WritingLemmas.{Writes-append}
+use Rattle.xml_write.proofs.EncodingLemmas.{content_text-some}
 use Rattle.xml_write.specs.Calls.{lead_in}
 use Rattle.xml_write.proofs.pen.Pen.text.Goals as goal
 

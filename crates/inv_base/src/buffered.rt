@@ -1,6 +1,6 @@
-ghost use Rattle.std.specs.Prelude.{◌≡◌, ℕ, ◌+◌, ◌≤◌, [], length, drop, vec_len, vec_capacity, IfOk, OnOk, OnErr};
+ghost use Rattle.std.specs.Prelude.{◌≡◌, ℕ, ◌+◌, ◌≤◌, List, [], length, drop, vec_len, vec_capacity, IfOk, OnOk, OnErr};
 ghost use Rattle.inv_base.specs.Counts.{Rose, CountsFaults};
-ghost use Rattle.inv_base.specs.Outside.{Accepts};
+ghost use Rattle.inv_base.specs.Outside.{Accepts, appended};
 ghost use Rattle.inv_base.specs.Buffering.{with_held};
 
 use crate::outside::{Failed, Sink};
@@ -54,6 +54,7 @@ impl<K: Sink + Drop> Buffered<K> {
     /// Hands on the rest, and answers the sink behind. Where it fails, the rest is lost.
     pub fn finish(self) -> (K, Result<(), Failed>)
         ensures told { OnOk result.1 ((K.view result.0).told ≡ (⟦<Buffered<K> as Sink>⟧.view self).told) }
+        ensures front { (rest : List ℕ) × (appended rest (K.view result.0).told ≡ (⟦<Buffered<K> as Sink>⟧.view self).told) }
         ensures faults { CountsFaults result.1 (⟦<Buffered<K> as Sink>⟧.view self).faults (K.view result.0).faults }
     {
         let mut buffered = self;

@@ -14,7 +14,7 @@ use Rattle.inv_base.specs.Tree.{Forest}
 use Rattle.xml_profile.specs.Events.{tree_of_events, with_events}
 use Rattle.xml_profile.specs.Reading.{Reading, reading}
 use Rattle.xml_profile.specs.Readers.{not_in_form}
-use Rattle.xml_profile.specs.Documents.{document_tree, tree_or_fault, IsReadAs}
+use Rattle.xml_profile.specs.Documents.{document_tree, tree_or_fault}
 use Rattle.xml_profile.proofs.DocumentLemmas.{read-as}
 use Rattle.node_arena.specs.Document.{Built, Document, built, IsNumbered}
 use Rattle.node_arena.specs.Shown.{IsOfTree}

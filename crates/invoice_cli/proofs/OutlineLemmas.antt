@@ -1,17 +1,17 @@
 -- The lines of a document's nodes, in bytes, and that together they are the outline of its tree.
-use Rattle.std.proofs.Common.{◌≡◌, ℕ, zero, suc, ◌+◌, ◌-◌, ◌*◌, ◌<◌, ◌≤◌, List, [], ◌∷◌, ◌++◌, map, take, length, get_or, replicate, Option, Some, None, option_map, refl, ap, sym, ◌∙◌, append_assoc, append-nil, arith, chars, IsUtf8}
+use Rattle.std.proofs.Common.{◌≡◌, ℕ, zero, suc, ◌+◌, ◌-◌, ◌*◌, ◌<◌, ◌≤◌, List, [], ◌∷◌, ◌++◌, map, take, length, get_or, replicate, Option, Some, option_map, refl, ap, sym, ◌∙◌, append_assoc, append-nil, arith, chars, IsUtf8}
 use Rattle.std.specs.List.{flat_map}
 use Rattle.std.specs.Prelude.{encode_utf8_all}
 use Rattle.std.proofs.lemmas.List.{take_more, map-append, replicate-append-replicate}
 use Rattle.std.proofs.lemmas.Str.{encode_ascii, encodes-append, chars-nil}
 use Rattle.std.proofs.lemmas.Grind.{flat_map-append}
 use Rattle.inv_base.specs.declared.tree.Kind.TheVariants as kinds
-use Rattle.inv_base.specs.Text.{quoted, quoted_character}
+use Rattle.inv_base.specs.Text.{quoted}
 use Rattle.inv_base.specs.Tree.{Name, Attribute, Forest, no_more, a_text, an_element}
-use Rattle.inv_base.proofs.TextLemmas.{encode-chars, encode-quoted}
+use Rattle.inv_base.proofs.TextLemmas.{encode-chars}
 use Rattle.xml_profile.specs.Events.{name_at}
 use Rattle.node_arena.specs.Document.{Placed, Document, document_node, node_at}
-use Rattle.node_arena.specs.Shown.{Shown, shown, shown_attributes, shown_forest, shown_document, IsOfTree}
+use Rattle.node_arena.specs.Shown.{shown, shown_attributes, shown_forest, IsOfTree}
 use Rattle.invoice_cli.specs.Outline.{braced, name_text, optional_name_text, line, attribute_text, outline_attributes, outline_forest, outline_text, line_as, node_line}
 
 -- an ASCII character in front

@@ -1,5 +1,5 @@
 -- What the program answers to a job, as a function of the files that are held.
-use Rattle.std.specs.Prelude.{ℕ, List, [], Ok, Err, Result, Option, Some, None}
+use Rattle.std.specs.Prelude.{ℕ, List, [], Ok, Err, Result}
 use Rattle.inv_base.specs.Files.{Files, bytes_under}
 use Rattle.inv_base.specs.Tree.{Forest}
 use Rattle.xml_profile.specs.declared.fault.XmlFault.{XmlFault}

@@ -4,10 +4,10 @@ use Rattle.std.proofs.Common.{◌⊎◌}
 use Rattle.inv_base.specs.Counts.{Rose, Quiet, next_count}
 use Rattle.inv_base.specs.Outside.{ShelfView, SinkView, WhereTold, appended}
 use Rattle.inv_base.specs.Writing.{IsFront, WritesAll, WritesFront}
-use Rattle.xml_profile.specs.declared.fault.XmlFault.{XmlFault}
+use Rattle.xml_profile.specs.Readers.{not_in_form}
 use Rattle.invoice_cli.specs.declared.status.Status.{Status}
 use Rattle.invoice_cli.specs.declared.status.Status.TheVariants as statuses
-use Rattle.invoice_cli.specs.Job.{Job, outline, help, version, bad_word}
+use Rattle.invoice_cli.specs.Job.{Job, outline, bad_word}
 use Rattle.invoice_cli.specs.Lines.{bad_word_line, read_fault_line, document_line}
 use Rattle.invoice_cli.specs.Answer.{answer_to}
 
@@ -29,7 +29,7 @@ IsRefusal _ = ⊥
 -- The line is one that a refusal of the job may write.
 abbrev pub IsLineOf : Job → Status → List ℕ → Type 0
 IsLineOf (bad_word number) statuses.BadWords line = line ≡ bad_word_line number
-IsLineOf (outline file) statuses.DocumentRefused line = (fault : XmlFault) × (line ≡ document_line file fault)
+IsLineOf (outline file) statuses.DocumentRefused line = line ≡ document_line file not_in_form
 IsLineOf (outline file) statuses.ReadFault line = line ≡ read_fault_line file
 IsLineOf _ _ line = ⊥
 
@@ -51,6 +51,8 @@ pub record Answers (job : Job) (before after : Outside) (status : Status) : Type
   -- Bad words are told exactly where the words name no job.
   pub bad_words : status ≡ statuses.BadWords → (number : ℕ) × (job ≡ bad_word number)
   pub only_bad_words : (number : ℕ) → job ≡ bad_word number → status ≡ statuses.BadWords
+  -- Memory runs out only where the words name a document.
+  pub memory : status ≡ statuses.Memory → (file : List ℕ) × (job ≡ outline file)
   -- A read fault is told only where the shelf's count rose, behind one open, and a write fault only where the output's did and
   -- the answer is no refusal.
   pub read_fault : status ≡ statuses.ReadFault → Rose before.shelf.faults after.shelf.faults
@@ -68,6 +70,9 @@ pub record Answers (job : Job) (before after : Outside) (status : Status) : Type
   -- On the other statuses the output got a front of the answer's bytes.
   pub front : (IsRefusal status → ⊥) → WhereTold before.shelf.held (λ files.
       (front : List ℕ) × IsFront front (answer_to job files).out × (after.out.told ≡ appended front before.out.told))
+  -- A document's file is opened once, and words that name none leave the shelf alone.
+  pub opens : (file : List ℕ) → job ≡ outline file → after.shelf.opens ≡ next_count before.shelf.opens
+  pub untouched : ((file : List ℕ) → job ≢ outline file) → after.shelf ≡ before.shelf
   -- The files stay as they are.
   pub held : after.shelf.held ≡ before.shelf.held
 

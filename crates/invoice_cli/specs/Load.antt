@@ -1,5 +1,5 @@
 -- Reading a file whole, up to a limit.
-use Rattle.std.specs.Prelude.{◌≡◌, ◌≢◌, ℕ, ◌<◌, ◌≤◌, List, length, Result, Ok, Err}
+use Rattle.std.specs.Prelude.{◌≡◌, ◌≢◌, ℕ, ◌<◌, ◌≤◌, List, length, Result, Err}
 use Rattle.std.proofs.Common.{◌⊎◌}
 use Rattle.inv_base.specs.Counts.{Rose, next_count}
 use Rattle.inv_base.specs.Outside.{ShelfView}

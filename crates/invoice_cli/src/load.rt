@@ -6,6 +6,7 @@ ghost use Rattle.inv_base.specs.Outside.{WhereTold};
 ghost use Rattle.inv_base.specs.Tree.{Forest};
 ghost use Rattle.node_arena.specs.Shown.{IsOfTree};
 ghost use Rattle.xml_profile.specs.Documents.{document_tree};
+ghost use Rattle.xml_profile.specs.Readers.{not_in_form};
 ghost use Rattle.xml_profile.specs.declared.fault.XmlKind.TheVariants as kinds;
 ghost use Rattle.invoice_cli.specs.Answer.{document_limit};
 ghost use Rattle.invoice_cli.specs.Load.{IsReadOf, ReadsFrom, ReadsOn};
@@ -59,6 +60,7 @@ pub(crate) fn load<'a, S: Shelf>(
         (tree : Forest) × (document_tree document_limit (bytes_under name.now files) ≡ Ok tree) × IsOfTree doc tree)) }
     ensures refused { (fault : _) → result ≡ Err (faults.Refused fault) → WhereTold (S.view shelf.old).held (λ files.
         document_tree document_limit (bytes_under name.now files) ≡ Err fault) }
+    ensures fault { (fault : _) → result ≡ Err (faults.Refused fault) → fault ≡ not_in_form }
 {
     let bytes = match read_file(alloc, name, shelf) {
         Ok(bytes) => bytes,
@@ -109,6 +111,7 @@ fn read_open<S: Shelf>(alloc: Global, piece: &mut [u8], shelf: &mut S) -> Result
 fn parse<'a>(alloc: Global, bump: &'a Bump, bytes: &[u8]) -> Result<Doc<'a>, LoadFault>
     ensures tree { IfOk result (λ doc. (tree : Forest) × (document_tree document_limit bytes.now ≡ Ok tree) × IsOfTree doc tree) }
     ensures refused { (fault : _) → result ≡ Err (faults.Refused fault) → document_tree document_limit bytes.now ≡ Err fault }
+    ensures fault { (fault : _) → result ≡ Err (faults.Refused fault) → fault ≡ not_in_form }
     ensures no_read_fault { result ≢ Err faults.Read }
 {
     let mut builder = Builder::new(alloc, bump)?;

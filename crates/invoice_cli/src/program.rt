@@ -15,8 +15,9 @@ use std::alloc::Global;
 /// Answers the words behind the program's name: reads the files that they name from the shelf, and writes
 /// the answer to `out`, or to `err` the one line that says why there is none.
 ///
-/// While no call on the shelf or a sink fails and memory is found, the status and what is written are
-/// exactly the answer to the job that the words name. Words that name no job take no memory.
+/// While no call on the shelf or a sink fails, memory is found, and the shelf and the sinks tell their
+/// content, the status and what is written are exactly the answer to the job that the words name. Only
+/// words that name a document take memory.
 pub fn run<S: Shelf, O: Sink, E: Sink>(
     alloc: Global,
     words: &[String],

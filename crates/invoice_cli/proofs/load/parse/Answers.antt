@@ -1,8 +1,7 @@
-use Rattle.std.proofs.Common.{◌≡◌, [], Some, Err, ⊎_elim, subst, ap, sym, ◌∙◌, arith}
+use Rattle.std.proofs.Common.{◌≡◌, [], Err, ⊎_elim, subst, ap, sym, ◌∙◌, arith}
 use Rattle.xml_profile.specs.Reading.{reading}
 use Rattle.xml_profile.specs.Readers.{Progress, not_in_form}
 use Rattle.xml_profile.specs.Events.{tree_of_events}
-use Rattle.xml_profile.specs.Documents.{document_tree}
 use Rattle.xml_profile.specs.declared.fault.XmlFault.{XmlFault}
 use Rattle.node_arena.specs.Document.{Document}
 use Rattle.node_arena.specs.Shown.{IsOfTree}

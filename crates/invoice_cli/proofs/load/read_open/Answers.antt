@@ -1,4 +1,4 @@
-use Rattle.std.proofs.Common.{◌≡◌, ◌<◌, ◌++◌, refl, [], List, ℕ, take, length, sym, ap, subst, ◌∙◌, arith}
+use Rattle.std.proofs.Common.{◌++◌, refl, ap, ◌∙◌, arith}
 use Rattle.invoice_cli.proofs.LoadLemmas.{ahead_of-nil, ahead_of-append, read_all, read_more, failed_on, fine_on, none_taken}
 use Rattle.invoice_cli.proofs.load.read_open.Goals as goal
 

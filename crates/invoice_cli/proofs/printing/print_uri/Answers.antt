@@ -1,4 +1,4 @@
-use Rattle.std.proofs.Common.{[], ◌∷◌, ◌++◌, ◌≡◌, ◌<◌, length, sym, ap, ◌∙◌, arith}
+use Rattle.std.proofs.Common.{[], ◌∷◌, ◌++◌, ◌≡◌, ◌<◌, length, ap, ◌∙◌, arith}
 use Rattle.std.proofs.lemmas.Bool.Decides.{nat_tests}
 use Rattle.inv_base.proofs.PrintingLemmas.{Prints-append, Prints-same, Prints-nil}
 use Rattle.invoice_cli.proofs.OutlineLemmas.{encode-braced, encode-braced-nil}

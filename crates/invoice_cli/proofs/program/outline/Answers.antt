@@ -1,5 +1,3 @@
-use Rattle.std.proofs.Common.{true, false}
-use Rattle.inv_base.specs.Printing.{Printed}
 use Rattle.invoice_cli.proofs.AnswersLemmas.{answers_done, answers_write_fault, answers_read_fault, answers_refused, answers_memory}
 use Rattle.invoice_cli.proofs.program.outline.Goals as goal
 
@@ -14,3 +12,23 @@ returns-in-Ok g c =
     let printed = rw c.if-print_outline.false at c.print_outline.ensures in
     answers_done c.args.file.now (g.S.Shelf.view c.args.shelf.now) (g.S.Shelf.view c.load.new.shelf) (g.O.Sink.view c.args.out.now) (g.E.Sink.view c.args.err.now)
     c.in-Ok.doc c.in-Ok.ensures.reads c.in-Ok.ensures.tree (g.O.Sink.view c.print_outline.new.out) printed
+
+pub returns-in-Err-Refused : goal.returns-in-Err-Refused
+returns-in-Err-Refused g c =
+    let fault = c.in-Err-Refused.fault in
+    let is = c.in-Err-Refused.field-0-is in
+    let found = c.in-Err-Refused.ensures in
+    answers_refused c.args.file.now (g.S.Shelf.view c.args.shelf.now) (g.S.Shelf.view c.load.new.shelf) (g.O.Sink.view c.args.out.now) (g.E.Sink.view c.args.err.now)
+    fault (g.E.Sink.view c.tell_document_fault.new.err) (found.fault fault cc) (rw is at found.reads) (found.refused fault cc) c.tell_document_fault.ensures
+
+pub returns-in-Err-Read : goal.returns-in-Err-Read
+returns-in-Err-Read g c =
+    let is = c.in-Err-Read.field-0-is in
+    answers_read_fault c.args.file.now (g.S.Shelf.view c.args.shelf.now) (g.S.Shelf.view c.load.new.shelf) (g.O.Sink.view c.args.out.now) (g.E.Sink.view c.args.err.now)
+    (g.E.Sink.view c.tell_read_fault.new.err) (rw is at c.in-Err-Read.ensures.reads) c.tell_read_fault.ensures
+
+pub returns : goal.returns
+returns g c =
+    let is = c.in-Err-Memory.field-0-is in
+    answers_memory c.args.file.now (g.S.Shelf.view c.args.shelf.now) (g.S.Shelf.view c.load.new.shelf) (g.O.Sink.view c.args.out.now) (g.E.Sink.view c.args.err.now)
+    (rw is at c.in-Err-Memory.ensures.reads)

@@ -2,7 +2,11 @@
 #![tactic(auto)]
 
 #[cfg(test)]
+mod inv_base_cases;
+#[cfg(test)]
 mod inv_decimal_cases;
+#[cfg(test)]
+mod node_arena_cases;
 #[cfg(test)]
 mod xml_profile_cases;
 #[cfg(test)]

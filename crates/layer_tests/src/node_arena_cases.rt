@@ -1,10 +1,11 @@
 //! Documents in memory, built from what the reader tells.
 
 use bumpalo::Bump;
-use node_arena::{Builder, Doc, NodeId};
+use inv_base::Place;
+use node_arena::{Builder, Doc};
 use std::alloc::Global;
 use std::test::Fail;
-use xml_profile::{Limits, NameId, Reader, XmlFault};
+use xml_profile::{Events, Limits, Reader, XmlFault};
 
 fn document<'a>(alloc: Global, bump: &'a Bump, text: &str) -> Result<Doc<'a>, XmlFault> {
     let mut builder = Builder::new(alloc, bump)?;
@@ -47,5 +48,20 @@ fn a_document_has_its_nodes(rt: HostRuntime) -> Result<(), Fail> {
     assert_eq!(rt; doc.at(0), Some(doc.document()));
     assert_eq!(rt; doc.at(1), Some(doc.root()));
     assert_eq!(rt; doc.names().len(), 3);
+    Ok(())
+}
+
+/// A builder takes attributes, which the reader doesn't tell yet, and a text in pieces.
+#[test]
+fn a_builder_takes_each_event(rt: HostRuntime) -> Result<(), Fail> {
+    let bump = Bump::new(rt.alloc());
+    let doc = document(rt.alloc(), &bump, "<a></a>")?;
+    let name = doc.name(doc.root()).ok_or("name")?;
+    let mut builder = Builder::new(rt.alloc(), &bump)?;
+    builder.start(name, Place { byte: 0 })?;
+    builder.attribute(name, "value")?;
+    builder.text("x", Place { byte: 12 })?;
+    builder.text("y", Place { byte: 13 })?;
+    builder.end()?;
     Ok(())
 }

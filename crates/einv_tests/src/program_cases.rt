@@ -3,6 +3,7 @@
 use inv_base::{MemShelf, MemSink};
 use invoice_cli::{Status, run};
 use std::alloc::Global;
+use std::process::Abort;
 use std::str::from_utf8;
 use std::test::Fail;
 
@@ -225,23 +226,27 @@ fn failed_writes_are_told(rt: HostRuntime) -> Result<(), Fail> {
     Ok(())
 }
 
-#[test]
-fn a_full_output_has_a_front(rt: HostRuntime) -> Result<(), Fail> {
-    for (words, want) in [(OUTLINE, FIRST_OUTLINE), ("--version", "einv 0.1.0\n")] {
-        for room in 0..want.len() + 2 {
-            let mut outside = outside_with(rt.alloc(), FIRST, room)?;
-            let status = answer(rt.alloc(), words, &mut outside)?;
-            let written = &want.as_bytes()[..room.min(want.len())];
-            assert!(rt; outside.out.bytes() == written, "{words} {room}");
-            assert_eq!(rt; outside.err.bytes().len(), 0, "{words} {room}");
-            if room < want.len() {
-                assert_eq!(rt; status, Status::WriteFault, "{words} {room}");
-            } else {
-                assert_eq!(rt; status, Status::Done, "{words} {room}");
-            }
+/// The answer to words where the output has room for less than the text, for all of it, and for more.
+fn fill_output(rt: &impl Abort, alloc: Global, words: &str, want: &str) -> Result<(), Fail> {
+    for room in 0..want.len() + 2 {
+        let mut outside = outside_with(alloc, FIRST, room)?;
+        let status = answer(alloc, words, &mut outside)?;
+        let written = &want.as_bytes()[..room.min(want.len())];
+        assert!(rt; outside.out.bytes() == written, "{words} {room}");
+        assert_eq!(rt; outside.err.bytes().len(), 0, "{words} {room}");
+        if room < want.len() {
+            assert_eq!(rt; status, Status::WriteFault, "{words} {room}");
+        } else {
+            assert_eq!(rt; status, Status::Done, "{words} {room}");
         }
     }
     Ok(())
+}
+
+#[test]
+fn a_full_output_has_a_front(rt: HostRuntime) -> Result<(), Fail> {
+    fill_output(&rt, rt.alloc(), OUTLINE, FIRST_OUTLINE)?;
+    fill_output(&rt, rt.alloc(), "--version", "einv 0.1.0\n")
 }
 
 /// Refusals, whose status stays where the error output fails.
@@ -259,37 +264,58 @@ const REFUSALS: [(&str, &str, Status); 3] = [
     ),
 ];
 
-#[test]
-fn a_full_error_output_has_a_front(rt: HostRuntime) -> Result<(), Fail> {
-    for (words, line, want) in REFUSALS {
-        for room in 0..line.len() + 2 {
-            let mut outside = outside_with(rt.alloc(), "<a></b>", room)?;
-            let status = answer(rt.alloc(), words, &mut outside)?;
-            let written = &line.as_bytes()[..room.min(line.len())];
-            assert_eq!(rt; status, want, "{words} {room}");
-            assert_eq!(rt; outside.out.bytes().len(), 0, "{words} {room}");
-            assert!(rt; outside.err.bytes() == written, "{words} {room}");
-        }
+/// A refusal where the error output has room for less than the line, for all of it, and for more.
+fn fill_error_output(
+    rt: &impl Abort,
+    alloc: Global,
+    words: &str,
+    line: &str,
+    want: Status,
+) -> Result<(), Fail> {
+    for room in 0..line.len() + 2 {
+        let mut outside = outside_with(alloc, "<a></b>", room)?;
+        let status = answer(alloc, words, &mut outside)?;
+        let written = &line.as_bytes()[..room.min(line.len())];
+        assert_eq!(rt; status, want, "{words} {room}");
+        assert_eq!(rt; outside.out.bytes().len(), 0, "{words} {room}");
+        assert!(rt; outside.err.bytes() == written, "{words} {room}");
     }
     Ok(())
 }
 
-/// Each write of the error output fails in turn.
+#[test]
+fn a_full_error_output_has_a_front(rt: HostRuntime) -> Result<(), Fail> {
+    for (words, line, want) in REFUSALS {
+        fill_error_output(&rt, rt.alloc(), words, line, want)?;
+    }
+    Ok(())
+}
+
+/// A refusal where each write of the error output fails in turn.
+fn fail_error_output(
+    rt: &impl Abort,
+    alloc: Global,
+    words: &str,
+    line: &str,
+    want: Status,
+) -> Result<(), Fail> {
+    for call in 1..9 {
+        let mut outside = outside_with(alloc, "<a></b>", 1000)?;
+        outside.err.fail_at(call)?;
+        let status = answer(alloc, words, &mut outside)?;
+        let written = outside.err.bytes();
+        assert_eq!(rt; status, want, "{words} {call}");
+        assert_eq!(rt; outside.out.bytes().len(), 0, "{words} {call}");
+        assert!(rt; line.as_bytes().starts_with(written), "{words} {call}");
+        assert_eq!(rt; call == 1, written.is_empty(), "{words} {call}");
+    }
+    Ok(())
+}
+
 #[test]
 fn failed_error_lines_keep_the_status(rt: HostRuntime) -> Result<(), Fail> {
     for (words, line, want) in REFUSALS {
-        for call in 1..9 {
-            let mut outside = outside_with(rt.alloc(), "<a></b>", 1000)?;
-            outside.err.fail_at(call)?;
-            let status = answer(rt.alloc(), words, &mut outside)?;
-            assert_eq!(rt; status, want, "{words} {call}");
-            assert_eq!(rt; outside.out.bytes().len(), 0, "{words} {call}");
-            assert!(rt;
-                line.as_bytes().starts_with(outside.err.bytes()),
-                "{words} {call}"
-            );
-            assert_eq!(rt; call == 1, outside.err.bytes().is_empty(), "{words} {call}");
-        }
+        fail_error_output(&rt, rt.alloc(), words, line, want)?;
     }
     Ok(())
 }

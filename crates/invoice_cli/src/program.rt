@@ -17,7 +17,7 @@ use std::alloc::Global;
 ///
 /// While no call on the shelf or a sink fails, memory is found, and the shelf and the sinks tell their
 /// content, the status and what is written are exactly the answer to the job that the words name. Only
-/// words that name a document take memory.
+/// words that name a document end for want of memory.
 pub fn run<S: Shelf, O: Sink, E: Sink>(
     alloc: Global,
     words: &[String],

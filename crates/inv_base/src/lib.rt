@@ -11,6 +11,7 @@ mod outside;
 mod place;
 mod printing;
 mod tree;
+mod txt;
 mod writing;
 
 pub use buffered::Buffered;
@@ -21,4 +22,5 @@ pub use outside::{Failed, Shelf, Sink};
 pub use place::Place;
 pub use printing::Printer;
 pub use tree::Kind;
+pub use txt::Txt;
 pub use writing::write_all;

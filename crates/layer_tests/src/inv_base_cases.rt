@@ -1,8 +1,8 @@
 //! Files and outputs in memory, buffered output, printing, and the characters of XML.
 
 use inv_base::{
-    Buffered, Failed, Kind, MemShelf, MemSink, Place, Printer, Shelf, Sink, is_char, is_name_char,
-    is_name_start, is_white_space, write_all,
+    Buffered, Failed, Kind, MemShelf, MemSink, Place, Printer, Shelf, Sink, Txt, is_char,
+    is_name_char, is_name_start, is_white_space, write_all,
 };
 use std::alloc::Global;
 use std::str::from_utf8;
@@ -270,4 +270,16 @@ fn places_and_kinds_are_compared(rt: HostRuntime) {
     assert!(rt; place < Place { byte: 20 });
     assert_ne!(rt; Kind::Element, Kind::Attribute);
     assert_eq!(rt; Kind::Text, Kind::Text);
+}
+
+/// A text keeps its characters, and so does a second one.
+#[test]
+fn texts_are_kept(rt: HostRuntime) -> Result<(), Fail> {
+    let text = Txt::from_characters(rt.alloc(), &['e', 'é', '€', '😀'])?;
+    assert_eq!(rt; text.as_str(), "eé€😀");
+    let again = text.try_clone()?;
+    assert_eq!(rt; again.as_str(), "eé€😀");
+    assert_eq!(rt; Txt::of(rt.alloc(), "eé€😀")?.as_str(), "eé€😀");
+    assert_eq!(rt; Txt::from_characters(rt.alloc(), &[])?.as_str(), "");
+    Ok(())
 }

@@ -9,9 +9,8 @@ use crate::numbers::number_of;
 use crate::pieces::spells;
 use crate::scanning::{is_digit, is_exponent_mark, is_quote};
 use crate::spelled::sign;
-use crate::text::Text;
 use crate::token::{Operator, Place, SyntaxFault, Token};
-use inv_base::is_name_start;
+use inv_base::{Txt, is_name_start};
 use std::alloc::{AllocError, Global};
 
 fn is_numeric(word: &[char]) -> bool
@@ -66,7 +65,7 @@ fn begins_string(word: &[char]) -> bool
 }
 
 /// What a string stands for: what is between its quotes, each doubled one once.
-fn string_value(alloc: Global, word: &[char]) -> Result<Text, AllocError>
+fn string_value(alloc: Global, word: &[char]) -> Result<Txt, AllocError>
     ensures { IfOk result (λ text. text ≡ spec.string_value word.now) }
 {
     match word {
@@ -74,12 +73,12 @@ fn string_value(alloc: Global, word: &[char]) -> Result<Text, AllocError>
             let (inside, _) = behind.split_at(behind.len().saturating_sub(1));
             undoubled(alloc, *quote, inside)
         }
-        [] => Text::new(alloc, word),
+        [] => Txt::from_characters(alloc, word),
     }
 }
 
 /// The text with each doubled quote once.
-fn undoubled(alloc: Global, quote: char, text: &[char]) -> Result<Text, AllocError>
+fn undoubled(alloc: Global, quote: char, text: &[char]) -> Result<Txt, AllocError>
     ensures { IfOk result (λ value. value ≡ spec.undoubled quote false text.now) }
 {
     let mut value: Vec<char> = Vec::new(alloc);
@@ -92,7 +91,7 @@ fn undoubled(alloc: Global, quote: char, text: &[char]) -> Result<Text, AllocErr
             half = *c == quote;
         }
     }
-    Text::new(alloc, value.as_slice())
+    Txt::from_characters(alloc, value.as_slice())
 }
 
 fn place_behind_operator(operator: Operator) -> Place

@@ -8,7 +8,6 @@ mod numbers;
 mod pieces;
 mod scanning;
 mod spelled;
-pub mod text;
 pub mod token;
 mod words;
 

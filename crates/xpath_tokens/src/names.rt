@@ -4,8 +4,8 @@ ghost use Rattle.xpath_tokens.specs.Tokens as spec;
 
 use crate::pieces::{spells, split};
 use crate::spelled::operator_word;
-use crate::text::Text;
 use crate::token::{Keyword, Name, Operator, Place, Token};
+use inv_base::Txt;
 use std::alloc::{AllocError, Global};
 
 /// The name of a name token.
@@ -14,16 +14,16 @@ fn name_of(alloc: Global, word: &[char]) -> Result<Name, AllocError>
 {
     let (prefix, local) = split(word, ':');
     if prefix.len() >= word.len() {
-        return Ok(Name::Plain(Text::new(alloc, word)?));
+        return Ok(Name::Plain(Txt::from_characters(alloc, word)?));
     }
     if spells(prefix, b"*") {
-        return Ok(Name::AnyPrefix(Text::new(alloc, local)?));
+        return Ok(Name::AnyPrefix(Txt::from_characters(alloc, local)?));
     }
-    let prefix_text = Text::new(alloc, prefix)?;
+    let prefix_text = Txt::from_characters(alloc, prefix)?;
     if spells(local, b"*") {
         return Ok(Name::AnyLocal(prefix_text));
     }
-    let local_text = Text::new(alloc, local)?;
+    let local_text = Txt::from_characters(alloc, local)?;
     Ok(Name::Prefixed(prefix_text, local_text))
 }
 

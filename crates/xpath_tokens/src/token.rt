@@ -1,7 +1,7 @@
 ghost use Rattle.std.specs.Prelude.{◌≡◌};
 ghost use Rattle.xpath_tokens.specs.declared.token.SyntaxFault.TheVariants.{Memory};
 
-use crate::text::Text;
+use inv_base::Txt;
 use std::alloc::{AllocError, AllocFailed};
 
 /// A sign or a word between operands, before one, or behind one. Spellings of one meaning stay apart.
@@ -67,13 +67,13 @@ pub enum Keyword {
 #[derive(Debug, Drop)]
 pub enum Name {
     /// `a`
-    Plain(Text),
+    Plain(Txt),
     /// `a:b`
-    Prefixed(Text, Text),
+    Prefixed(Txt, Txt),
     /// `a:*`
-    AnyLocal(Text),
+    AnyLocal(Txt),
     /// `*:b`
-    AnyPrefix(Text),
+    AnyPrefix(Txt),
 }
 
 /// A number below 10^18, exactly.
@@ -109,7 +109,7 @@ pub enum Token {
     Keyword(Keyword),
     Name(Name),
     /// What a string stands for: without its quotes, and a doubled one inside once.
-    Literal(Text),
+    Literal(Txt),
     Number(Number),
 }
 

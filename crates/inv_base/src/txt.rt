@@ -1,29 +1,41 @@
-ghost use Rattle.std.specs.Prelude.{◌≡◌, List, ℕ, IfOk, string_bytes};
+ghost use Rattle.std.specs.Prelude.{◌≡◌, IfOk};
 ghost use Rattle.std.specs.Str.{chars};
 
 use std::alloc::{AllocError, Global};
 use std::fmt;
 use std::marker::Model;
 
-/// A text of its own: a name, or what a string stands for. Contracts see the list of its characters.
+/// A text of its own. Contracts see the list of its characters.
 #[derive(Drop)]
-pub struct Text {
+pub struct Txt {
     text: String,
 }
 
-impl Model for Text {
+impl Model for Txt {
+    ghost use Rattle.std.specs.Prelude.{List, ℕ, string_bytes};
+    ghost use Rattle.std.specs.Str.{chars};
+
     ghost Value = { List ℕ };
 
     ghost view = { λ t. chars (string_bytes t.text) };
 }
 
-impl Text {
+impl Txt {
+    /// A copy of the text.
+    pub fn of(alloc: Global, text: &str) -> Result<Txt, AllocError>
+        ensures { IfOk result (λ t. t ≡ chars text.now) }
+    {
+        Ok(Txt {
+            text: String::from_str(alloc, text)?,
+        })
+    }
+
     /// The text of these characters.
-    pub fn new(alloc: Global, characters: &[char]) -> Result<Text, AllocError>
+    pub fn from_characters(alloc: Global, characters: &[char]) -> Result<Txt, AllocError>
         ensures { IfOk result (λ t. t ≡ characters.now) }
     {
         let text: String = characters.iter().copied().collect(alloc)?;
-        Ok(Text { text })
+        Ok(Txt { text })
     }
 
     pub fn as_str(&self) -> &str
@@ -33,15 +45,15 @@ impl Text {
     }
 
     /// The same text once more.
-    pub fn try_clone(&self) -> Result<Text, AllocError>
+    pub fn try_clone(&self) -> Result<Txt, AllocError>
         ensures { IfOk result (λ t. t ≡ self.now) }
     {
         let text = self.text.clone()?;
-        Ok(Text { text })
+        Ok(Txt { text })
     }
 }
 
-impl fmt::Debug for Text {
+impl fmt::Debug for Txt {
     fn fmt<W: fmt::Write>(&self, f: &mut fmt::Formatter<W>) -> fmt::Result {
         write!(f, "{:?}", self.as_str())
     }

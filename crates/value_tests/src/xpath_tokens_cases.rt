@@ -2,7 +2,6 @@
 
 use std::alloc::{AllocError, Global};
 use std::test::Fail;
-use xpath_tokens::text::Text;
 use xpath_tokens::tokens;
 
 /// The tokens of a text or its refusal, as they are printed for debugging.
@@ -192,16 +191,5 @@ fn long_texts(rt: HostRuntime) -> Result<(), Fail> {
             "at {piece} and {end}"
         );
     }
-    Ok(())
-}
-
-/// A text keeps its characters, and so does a second one made from it.
-#[test]
-fn texts_are_kept(rt: HostRuntime) -> Result<(), Fail> {
-    let text = Text::new(rt.alloc(), &['e', 'é', '€', '😀'])?;
-    assert_eq!(rt; text.as_str(), "eé€😀");
-    let again = text.try_clone()?;
-    assert_eq!(rt; again.as_str(), "eé€😀");
-    assert_eq!(rt; Text::new(rt.alloc(), &[])?.as_str(), "");
     Ok(())
 }

@@ -1,7 +1,7 @@
 use Rattle.std.proofs.Common.{rules, sym, ◌≡◌, string_bytes}
 use Rattle.std.specs.Prelude.{encode_utf8_all}
 use Rattle.std.proofs.lemmas.Str.{chars_from_encodes, IsUtf8-string_bytes}
-use Rattle.xpath_tokens.proofs.text.Text.new.Goals as goal
+use Rattle.inv_base.proofs.txt.Txt.from_characters.Goals as goal
 
 pub returns : goal.returns
 returns c =

@@ -1,6 +1,8 @@
-//! The tests of numbers, days and tokens of expressions, on values from outside.
+//! The tests of numbers, days, code lists and tokens of expressions, on values from outside.
 #![tactic(auto)]
 
+#[cfg(test)]
+mod code_lists_cases;
 #[cfg(test)]
 mod inv_decimal_cases;
 #[cfg(test)]

@@ -1,0 +1,4 @@
+pub mod CodeLemmas
+pub mod OffenceLemmas
+pub mod FileLemmas
+pub mod ListLemmas

@@ -1,0 +1,3 @@
+pub mod ListNames
+pub mod Codes
+pub mod CodeFiles

@@ -6,3 +6,4 @@ pub mod SpellLemmas
 pub mod TreeLemmas
 pub mod BackLemmas
 pub mod DocumentLemmas
+mod Rows

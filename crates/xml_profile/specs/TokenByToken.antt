@@ -1,0 +1,72 @@
+-- Reading token by token: what tokens tell, and where reading stands behind them.
+use Rattle.std.specs.Prelude.{ℕ, ◌+◌, zero, suc, pred, Bool, true, false, ◌==◌, nat_le, List, [], ◌∷◌, ◌++◌, length, Some, None, if◌then◌else◌}
+use Rattle.xml_profile.specs.Events.{Event}
+use Rattle.xml_profile.specs.Faults.{FaultKind, Fault, too_long}
+use Rattle.xml_profile.specs.Limits.{Limits}
+use Rattle.xml_profile.specs.Beginnings.{good, bad, later, beginning}
+use Rattle.xml_profile.specs.States.{State, begin, state_behind, events_of}
+use Rattle.xml_profile.specs.Admission.{fault_of}
+
+-- Where reading stands: behind so many bytes in a state, with the bytes of what isn't a token yet, or at a fault.
+pub data Standing : Type 0 where
+  waits : State → ℕ → List ℕ → Standing
+  stopped : Fault → Standing
+
+-- what tokens tell, a text in as many pieces as it has tokens, and where reading stands behind them
+pub record Read : Type 0 where
+  pub events : List Event
+  pub stands : Standing
+
+-- the same behind events
+abbrev pub telling : List Event → Read → Read
+telling events r = record { events = events ++ r.events; stands = r.stands }
+
+-- a fault at a place, where reading stops
+abbrev pub fault_at : FaultKind → ℕ → Read
+fault_at kind place = record { events = []; stands = stopped (record { kind = kind; place = place }) }
+
+-- a fault of what ends at a place, where that is within the limit; else the input is too long
+abbrev pub fault_within : Limits → ℕ → FaultKind → ℕ → Read
+fault_within limits end kind place = if nat_le end limits.bytes then fault_at kind place else fault_at too_long limits.bytes
+
+-- How many bytes of what isn't a token yet it has whatever follows: a `]` may be a token by itself.
+abbrev pub sure_length : ℕ → List ℕ → ℕ
+sure_length b bytes = if b == 0x5D then 1 else 1 + length bytes
+
+-- a place at which nothing begins yet
+abbrev pub unfinished : Limits → State → ℕ → ℕ → List ℕ → Read
+unfinished limits s place b bytes =
+    if nat_le (place + sure_length b bytes) limits.bytes then record { events = []; stands = waits s place (b ∷ bytes) } else fault_at too_long limits.bytes
+
+-- what the bytes tell from a place on, behind so many bytes that belong to the token before, in an input that has ended or may go on
+unfoldable pub read : Bool → Limits → State → ℕ → ℕ → List ℕ → Read
+read ended limits s place skip [] = record { events = []; stands = waits s place [] }
+read ended limits s place (suc skip) (b ∷ bytes) = read ended limits s (place + 1) skip bytes
+read ended limits s place zero (b ∷ bytes) = elim (beginning s.position ended (b ∷ bytes)) [
+  | later ↦ unfinished limits s place b bytes
+  | (bad kind n) ↦ fault_within limits (place + n) kind place
+  | (good token n) ↦ elim (nat_le (place + n) limits.bytes) [
+    | false ↦ fault_at too_long limits.bytes
+    | true ↦ elim (fault_of limits s token) [
+      | (Some kind) ↦ fault_at kind place
+      | None ↦ telling (events_of s token place) (read ended limits (state_behind s token) (place + 1) (pred n) bytes)
+    ]
+  ]
+]
+
+-- before the first byte
+abbrev pub outset : Standing
+outset = waits begin 0 []
+
+-- what a further piece tells, from where reading stands; behind a fault nothing
+unfoldable pub resume : Bool → Limits → Standing → List ℕ → Read
+resume ended limits (waits s place rest) piece = read ended limits s place 0 (rest ++ piece)
+resume ended limits (stopped fault) piece = record { events = []; stands = stopped fault }
+
+-- what bytes tell that may go on
+abbrev pub read_front : Limits → List ℕ → Read
+read_front limits bytes = resume false limits outset bytes
+
+-- what bytes tell that have ended
+abbrev pub read_whole : Limits → List ℕ → Read
+read_whole limits bytes = resume true limits outset bytes

@@ -1,13 +1,13 @@
 -- A document that is read: its tree, what tells it, and its size.
-use Rattle.std.proofs.Common.{◌≡◌, ℕ, ◌+◌, ◌<◌, ◌≤◌, Bool, true, false, not, ◌&&◌, ◌==◌, List, [], ◌∷◌, ◌++◌, length, refl, sym, ap, subst, ◌∙◌, arith, if◌then◌else◌, Some, length-append}
+use Rattle.std.proofs.Common.{◌≡◌, ℕ, ◌+◌, ◌<◌, ◌≤◌, Bool, true, false, not, ◌&&◌, ◌==◌, List, [], ◌∷◌, length, refl, sym, ap, subst, ◌∙◌, arith, if◌then◌else◌, Some, length-append}
 use Rattle.std.proofs.lemmas.Option.{same_Some}
 use Rattle.std.proofs.lemmas.Bool.Decides.{nat_tests}
-use Rattle.inv_base.specs.Tree.{Name, Attribute, Forest, no_more, a_text, an_element, begins_with_text, is_joined, IsDocument, size}
+use Rattle.inv_base.specs.Tree.{Name, Attribute, Forest, no_more, a_text, an_element, begins_with_text, is_joined, size}
 use Rattle.inv_base.proofs.TextLemmas.{both}
-use Rattle.xml_profile.specs.Events.{Event, ends, name_at, tree_of_events}
+use Rattle.xml_profile.specs.Events.{Event, tree_of_events}
 use Rattle.xml_profile.specs.Names.{same_name, number_of, with_name}
 use Rattle.xml_profile.specs.Reading.{Reading, reading, plain_name}
-use Rattle.xml_profile.specs.Grammar.{spelling, IsPlain, Spells, names_of, events_from}
+use Rattle.xml_profile.specs.Grammar.{spelling, IsPlain, names_of, events_from}
 use Rattle.xml_profile.specs.Documents.{IsNumberOf, Tells, TellsAttributes, IsReadAs}
 use Rattle.xml_profile.proofs.SpellLemmas.{spelled-read}
 use Rattle.xml_profile.proofs.BackLemmas.{read-spelled}

@@ -7,3 +7,5 @@ pub mod TreeLemmas
 pub mod BackLemmas
 pub mod DocumentLemmas
 mod Rows
+pub mod ReadCutLemmas
+pub mod ReadInTwoLemmas

@@ -3,10 +3,10 @@ use Rattle.std.specs.Prelude.{ℕ, ◌+◌, Bool, false, not, ◌&&◌, ◌||◌
 use Rattle.std.specs.List.{list_any}
 use Rattle.inv_base.specs.Characters.{is_white_space}
 use Rattle.inv_base.specs.Tree.{Attribute}
-use Rattle.xml_profile.specs.Faults.{FaultKind, first_cause, text_outside, too_many_attributes, name_too_long, mismatched, second_root, bad_namespace, undeclared_prefix, duplicate_attribute, too_deep, too_many_names, too_many_nodes}
+use Rattle.xml_tokens.specs.Faults.{FaultKind, first_cause, text_outside, too_many_attributes, name_too_long, mismatched, second_root, bad_namespace, undeclared_prefix, duplicate_attribute, too_deep, too_many_names, too_many_nodes}
 use Rattle.xml_profile.specs.Limits.{Limits}
 use Rattle.xml_profile.specs.Names.{same_name}
-use Rattle.xml_profile.specs.Markup.{Written, Tag, Token, a_mark, an_aside, a_character, a_reference, a_section, a_start_tag, an_end_tag}
+use Rattle.xml_tokens.specs.Markup.{Written, Tag, Token, a_mark, an_aside, a_character, a_reference, a_section, a_start_tag, an_end_tag}
 use Rattle.xml_profile.specs.Namespaces.{declared_bindings, undeclaring, is_bad_binding, is_undeclared}
 use Rattle.xml_profile.specs.States.{State, is_outside, bindings_in, attributes_in, names_behind}
 

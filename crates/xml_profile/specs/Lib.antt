@@ -7,16 +7,7 @@ pub mod Readers
 pub mod Tokens
 pub mod Steps
 pub mod Documents
-pub mod Faults
 pub mod Limits
-pub mod Searches
-pub mod Encoding
-pub mod References
-pub mod WrittenNames
-pub mod Literals
-pub mod Markup
-pub mod Tags
-pub mod Beginnings
 pub mod Namespaces
 pub mod States
 pub mod Admission

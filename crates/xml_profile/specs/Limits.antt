@@ -10,7 +10,3 @@ pub record Limits : Type 0 where
   pub attributes : ℕ
   pub name : ℕ
   pub names : ℕ
-
--- The greatest number of bytes of a tag, its `<` and `>` among them, is the same for every document.
-abbrev pub greatest_tag : ℕ
-greatest_tag = 262144

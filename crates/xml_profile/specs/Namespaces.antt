@@ -1,8 +1,8 @@
 -- Namespaces in XML 1.0: which names prefixes stand for, and expanded names.
 use Rattle.std.specs.Prelude.{ℕ, Bool, not, ◌&&◌, ◌||◌, ◌==◌, List, [], ◌∷◌, ◌++◌, length, map, filter, Option, Some, None, is_none, if◌then◌else◌, bytes_eq, codes, chars, filter_map}
 use Rattle.inv_base.specs.Tree.{Name, Attribute}
-use Rattle.xml_profile.specs.WrittenNames.{prefix_of, local_of}
-use Rattle.xml_profile.specs.Markup.{Written, Tag}
+use Rattle.xml_tokens.specs.WrittenNames.{prefix_of, local_of}
+use Rattle.xml_tokens.specs.Markup.{Written, Tag}
 
 -- A prefix as written, empty for the default namespace, and the namespace name that it stands for, empty for none.
 pub record Binding : Type 0 where

@@ -2,7 +2,7 @@
 use Rattle.std.specs.Prelude.{◌≡◌, ℕ, ◌+◌, nat_lt, List, [], length, Option, Some, None, Result, Ok, Err, if◌then◌else◌}
 use Rattle.inv_base.specs.Tree.{Name, Forest}
 use Rattle.xml_profile.specs.Events.{Event, with_events, tree_of_events}
-use Rattle.xml_profile.specs.Faults.{Fault, truncated, no_root}
+use Rattle.xml_tokens.specs.Faults.{Fault, truncated, no_root}
 use Rattle.xml_profile.specs.Limits.{Limits}
 use Rattle.xml_profile.specs.States.{State, is_outside}
 use Rattle.xml_profile.specs.TokenByToken.{Standing, waits, stopped, read_front, read_whole}

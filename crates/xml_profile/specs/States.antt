@@ -3,8 +3,8 @@ use Rattle.std.specs.Prelude.{ℕ, ◌+◌, Bool, true, false, ◌==◌, List, [
 use Rattle.inv_base.specs.Tree.{Name, Attribute}
 use Rattle.xml_profile.specs.Events.{Event, starts, has_attribute, has_text, ends}
 use Rattle.xml_profile.specs.Names.{number_of, with_name}
-use Rattle.xml_profile.specs.Markup.{Tag, Token, a_mark, an_aside, a_character, a_reference, a_section, a_start_tag, an_end_tag}
-use Rattle.xml_profile.specs.Beginnings.{Position, at_start, behind_mark, farther}
+use Rattle.xml_tokens.specs.Markup.{Tag, Token, a_mark, an_aside, a_character, a_reference, a_section, a_start_tag, an_end_tag}
+use Rattle.xml_tokens.specs.Beginnings.{Position, at_start, behind_mark, farther}
 use Rattle.xml_profile.specs.Namespaces.{Binding, first_bindings, bindings_inside, element_name, attributes_of}
 
 -- An open element: its name as written, and the bindings inside it.

@@ -1,9 +1,9 @@
 -- Reading token by token: what tokens tell, and where reading stands behind them.
-use Rattle.std.specs.Prelude.{ℕ, ◌+◌, zero, suc, pred, Bool, true, false, ◌==◌, nat_le, List, [], ◌∷◌, ◌++◌, length, Some, None, if◌then◌else◌}
+use Rattle.std.specs.Prelude.{ℕ, ◌+◌, zero, suc, pred, Bool, true, false, nat_le, List, [], ◌∷◌, ◌++◌, Some, None, if◌then◌else◌}
 use Rattle.xml_profile.specs.Events.{Event}
-use Rattle.xml_profile.specs.Faults.{FaultKind, Fault, too_long}
+use Rattle.xml_tokens.specs.Faults.{FaultKind, Fault, too_long}
 use Rattle.xml_profile.specs.Limits.{Limits}
-use Rattle.xml_profile.specs.Beginnings.{good, bad, later, beginning}
+use Rattle.xml_tokens.specs.Beginnings.{good, bad, later, beginning, sure_length}
 use Rattle.xml_profile.specs.States.{State, begin, state_behind, events_of}
 use Rattle.xml_profile.specs.Admission.{fault_of}
 
@@ -28,10 +28,6 @@ fault_at kind place = record { events = []; stands = stopped (record { kind = ki
 -- a fault of what ends at a place, where that is within the limit; else the input is too long
 abbrev pub fault_within : Limits → ℕ → FaultKind → ℕ → Read
 fault_within limits end kind place = if nat_le end limits.bytes then fault_at kind place else fault_at too_long limits.bytes
-
--- How many bytes of what isn't a token yet it has whatever follows: a `]` may be a token by itself.
-abbrev pub sure_length : ℕ → List ℕ → ℕ
-sure_length b bytes = if b == 0x5D then 1 else 1 + length bytes
 
 -- a place at which nothing begins yet
 abbrev pub unfinished : Limits → State → ℕ → ℕ → List ℕ → Read

@@ -2,7 +2,7 @@
 use Rattle.std.specs.Prelude.{ℕ, Bool, false, ◌&&◌, ◌==◌, List, [], ◌∷◌, drop, Option, Some, None, option_map, option_and_then, if◌then◌else◌, codes}
 use Rattle.std.specs.List.{list_any, prefix_len, before_first, after_first}
 use Rattle.inv_base.specs.Characters.{is_white_space}
-use Rattle.xml_profile.specs.Searches.{behind_string, is_quote}
+use Rattle.xml_tokens.specs.Searches.{behind_string, is_quote}
 
 -- the bytes without the white space at their front
 abbrev pub behind_white_space : List ℕ → List ℕ

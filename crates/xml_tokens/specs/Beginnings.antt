@@ -1,16 +1,15 @@
 -- What begins at a place of the bytes: a token, a bad token, or nothing yet. The standard's document type declaration is no token
 -- of this profile.
-use Rattle.std.specs.Prelude.{ℕ, ◌+◌, pred, max, Bool, true, false, not, ◌&&◌, ◌||◌, ◌==◌, List, [], ◌∷◌, length, take, drop, Some, None, Result, Ok, Err, chars, codes}
+use Rattle.std.specs.Prelude.{ℕ, ◌+◌, pred, max, Bool, true, false, not, ◌&&◌, ◌||◌, ◌==◌, List, [], ◌∷◌, length, take, drop, Some, None, Result, Ok, Err, if◌then◌else◌, chars, codes}
 use Rattle.std.specs.List.{list_all}
 use Rattle.std.specs.Str.{is_utf8}
 use Rattle.inv_base.specs.Characters.{is_char}
-use Rattle.xml_profile.specs.Faults.{FaultKind, tag_too_long, not_utf8, bad_char, doctype, bad_markup, bad_reference}
-use Rattle.xml_profile.specs.Limits.{greatest_tag}
-use Rattle.xml_profile.specs.Searches.{begins_with, ends_inside, shared_front, place_of, behind, none_within, none_yet, tag_end}
-use Rattle.xml_profile.specs.Encoding as encoding
-use Rattle.xml_profile.specs.References.{reference_at}
-use Rattle.xml_profile.specs.Markup.{Token, a_mark, a_character, a_reference, comment, section, instruction}
-use Rattle.xml_profile.specs.Tags.{tag}
+use Rattle.xml_tokens.specs.Faults.{FaultKind, tag_too_long, not_utf8, bad_char, doctype, bad_markup, bad_reference}
+use Rattle.xml_tokens.specs.Searches.{begins_with, ends_inside, shared_front, place_of, behind, none_within, none_yet, tag_end}
+use Rattle.xml_tokens.specs.Encoding as encoding
+use Rattle.xml_tokens.specs.References.{reference_at}
+use Rattle.xml_tokens.specs.Markup.{Token, a_mark, a_character, a_reference, comment, section, instruction}
+use Rattle.xml_tokens.specs.Tags.{tag}
 
 -- Where a place is: at the start of the bytes, right behind the byte order mark, or farther on.
 pub data Position : Type 0 where
@@ -49,6 +48,10 @@ extent_through string opening bytes grammar = elim (place_of string bytes) [
   | None ↦ later
   | (Some n) ↦ extent (opening + (n + length string)) (take n bytes) grammar
 ]
+
+-- the greatest number of bytes of a tag, its `<` and `>` among them, a limit that the standard has not
+abbrev pub greatest_tag : ℕ
+greatest_tag = 262144
 
 -- a tag, by the bytes behind its `<`
 abbrev pub tag_at : List ℕ → Beginning
@@ -137,3 +140,7 @@ beginning position ended (b ∷ bytes) =
         ]
       ]
     ]
+
+-- How many bytes of what isn't a token yet it has whatever follows: a `]` may be a token by itself.
+abbrev pub sure_length : ℕ → List ℕ → ℕ
+sure_length b bytes = if b == 0x5D then 1 else 1 + length bytes

@@ -4,10 +4,10 @@ use Rattle.std.specs.Prelude.{ℕ, Bool, false, not, ◌&&◌, ◌||◌, ◌==�
 use Rattle.std.specs.List.{list_all, prefix_len}
 use Rattle.std.specs.Char.{to_ascii_lowercase}
 use Rattle.inv_base.specs.Characters.{is_white_space, is_name_char}
-use Rattle.xml_profile.specs.Faults.{FaultKind, bad_declaration, bad_markup}
-use Rattle.xml_profile.specs.Searches.{begins_with, behind_string, place_of}
-use Rattle.xml_profile.specs.WrittenNames.{is_colon, is_ncname}
-use Rattle.xml_profile.specs.Literals.{behind_white_space, begins_with_space, Literal, literal_at}
+use Rattle.xml_tokens.specs.Faults.{FaultKind, bad_declaration, bad_markup}
+use Rattle.xml_tokens.specs.Searches.{begins_with, behind_string, place_of}
+use Rattle.xml_tokens.specs.WrittenNames.{is_colon, is_ncname}
+use Rattle.xml_tokens.specs.Literals.{behind_white_space, begins_with_space, Literal, literal_at}
 
 -- An attribute: its name as written, in bytes, and what its value says, in characters.
 pub record Written : Type 0 where

@@ -2,13 +2,13 @@
 use Rattle.std.specs.Prelude.{ℕ, ◌-◌, zero, suc, pred, Bool, true, false, ◌&&◌, ◌==◌, List, [], ◌∷◌, length, drop, Option, Some, None, option_map, option_and_then, Result, Ok, Err, if◌then◌else◌, bytes_eq, codes, chars}
 use Rattle.std.specs.List.{list_all, list_any}
 use Rattle.inv_base.specs.Characters.{is_white_space}
-use Rattle.xml_profile.specs.Faults.{FaultKind, bad_markup, bad_reference}
-use Rattle.xml_profile.specs.Searches.{begins_with}
-use Rattle.xml_profile.specs.Encoding as encoding
-use Rattle.xml_profile.specs.References.{reference_at}
-use Rattle.xml_profile.specs.WrittenNames.{is_qname, name_at_front}
-use Rattle.xml_profile.specs.Literals.{behind_white_space, begins_with_space, Literal, literal_at}
-use Rattle.xml_profile.specs.Markup.{Written, Token, a_start_tag, an_end_tag, if_right}
+use Rattle.xml_tokens.specs.Faults.{FaultKind, bad_markup, bad_reference}
+use Rattle.xml_tokens.specs.Searches.{begins_with}
+use Rattle.xml_tokens.specs.Encoding as encoding
+use Rattle.xml_tokens.specs.References.{reference_at}
+use Rattle.xml_tokens.specs.WrittenNames.{is_qname, name_at_front}
+use Rattle.xml_tokens.specs.Literals.{behind_white_space, begins_with_space, Literal, literal_at}
+use Rattle.xml_tokens.specs.Markup.{Written, Token, a_start_tag, an_end_tag, if_right}
 
 -- An attribute as it stands, its name and its value in bytes, and what is behind it.
 pub record Found : Type 0 where

@@ -2,8 +2,8 @@
 use Rattle.std.specs.Prelude.{ℕ, ◌+◌, ◌*◌, zero, suc, Bool, true, false, ◌||◌, ◌==◌, List, [], ◌∷◌, length, drop, Option, Some, None, option_and_then, if◌then◌else◌, bytes_eq, codes}
 use Rattle.std.specs.Char.{is_digit, digit_value}
 use Rattle.inv_base.specs.Characters.{is_within, is_char}
-use Rattle.xml_profile.specs.Searches.{begins_with}
-use Rattle.xml_profile.specs.Encoding.{Begun, a_character, broken, unfinished}
+use Rattle.xml_tokens.specs.Searches.{begins_with}
+use Rattle.xml_tokens.specs.Encoding.{Begun, a_character, broken, unfinished}
 
 -- A letter or digit of ASCII, or `#`: what may stand between `&` and `;`.
 abbrev pub is_reference_byte : ℕ → Bool

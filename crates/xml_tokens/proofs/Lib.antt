@@ -1,0 +1,4 @@
+pub mod ScannerLemmas
+pub mod ReferenceLemmas
+pub mod BeginningLemmas
+pub mod WithinLemmas

@@ -1,0 +1,9 @@
+pub mod Faults
+pub mod Searches
+pub mod Encoding
+pub mod References
+pub mod WrittenNames
+pub mod Literals
+pub mod Markup
+pub mod Tags
+pub mod Beginnings

@@ -27,6 +27,8 @@ def content(value):
         return (HERE.parent / "examples" / value["example"]).read_bytes()
     if "parts" in value:
         return b"".join(content(part) for part in value["parts"])
+    if value.get("numbered"):
+        return b"".join(content(value["text"].replace("#", str(time))) for time in range(value["times"]))
     return content(value["text"]) * value["times"]
 
 

@@ -1,24 +1,27 @@
 -- The contract of the program's call, way by way.
-use Rattle.std.proofs.Common.{◌≡◌, ℕ, ◌<◌, List, [], Some, Ok, Err, true, false, Bool, inl, inr, refl, ap, sym, subst, ◌∙◌, arith}
+use Rattle.std.proofs.Common.{◌≡◌, ℕ, ◌<◌, List, [], Option, Some, None, Ok, Err, true, false, Bool, inl, inr, refl, ap, sym, subst, ◌∙◌, arith, option_map}
+use Rattle.std.specs.Prelude.{Result}
 use Rattle.inv_base.specs.Counts.{Rose, Quiet}
 use Rattle.inv_base.specs.Files.{Files, bytes_under}
 use Rattle.inv_base.specs.Outside.{ShelfView, SinkView, WhereTold, appended}
 use Rattle.inv_base.specs.Printing.{Printed}
-use Rattle.inv_base.specs.Tree.{Forest}
 use Rattle.inv_base.specs.Writing.{IsFront, WritesAll, WritesFront}
 use Rattle.inv_base.proofs.WritingLemmas.{appended-nil, IsFront-nil, IsFront-whole}
-use Rattle.xml_profile.specs.declared.fault.XmlFault.{XmlFault}
-use Rattle.xml_profile.specs.Documents.{document_tree}
-use Rattle.xml_profile.specs.Readers.{not_in_form}
+use Rattle.xml_tokens.specs.Faults.{Fault}
+use Rattle.xml_state.specs.Events.{with_events}
+use Rattle.xml_state.specs.Limits.{Limits}
+use Rattle.xml_state.specs.declared.fault.XmlFault.{XmlFault}
+use Rattle.xml_profile.specs.Profile.{document, first_fault, tree_of, names_of}
+use Rattle.xml_profile.specs.Profile as profile
+use Rattle.xml_profile.specs.TokenByToken.{read_whole}
 use Rattle.node_arena.specs.Document.{Document}
-use Rattle.node_arena.specs.Shown.{IsOfTree}
 use Rattle.invoice_cli.specs.declared.load.LoadFault.TheVariants as faults
 use Rattle.invoice_cli.specs.declared.status.Status.{Status}
 use Rattle.invoice_cli.specs.declared.status.Status.TheVariants as statuses
 use Rattle.invoice_cli.specs.Job.{Job, outline, bad_word}
 use Rattle.invoice_cli.specs.Lines.{bad_word_line, read_fault_line, document_line}
-use Rattle.invoice_cli.specs.Load.{ReadsFrom}
-use Rattle.invoice_cli.specs.Answer.{Answer, done, document_limit, outline_answer, answer_to}
+use Rattle.invoice_cli.specs.Load.{ReadsFrom, IsRefused, IsLoaded}
+use Rattle.invoice_cli.specs.Answer.{Answer, done, document_limits, outline_answer, answer_to}
 use Rattle.invoice_cli.specs.Answers.{TakesOrFails, Says, Answers}
 use Rattle.invoice_cli.proofs.OutlineLemmas.{lines_of, lines_of-tree}
 
@@ -39,6 +42,17 @@ whole_line line a b (inr front) quiet = absurd (not_quiet a.faults b.faults fron
 pub takes_printed : (failed : Bool) (text : List ℕ) (a b : SinkView) → Printed failed text a b → TakesOrFails text a b
 takes_printed true text a b printed = inr printed
 takes_printed false text a b printed = inl printed
+
+-- A first fault is why the bytes are no document.
+abbrev by_fault : Limits → List ℕ → Option Fault → Result profile.Document Fault
+by_fault limits bytes f = elim f [
+  | (Some fault) ↦ Err fault
+  | None ↦ Ok (record { events = with_events [] (read_whole limits bytes).events; names = names_of (read_whole limits bytes).stands })
+]
+
+refused_document : (limits : Limits) (bytes : List ℕ) (fault : Fault) → first_fault limits bytes ≡ Some fault → document limits bytes ≡ Err fault
+unfolding document
+refused_document limits bytes fault is = ap (by_fault limits bytes) is
 
 -- words that name no job
 pub answers_bad_word : (number : ℕ) (shelf : ShelfView) (out err err' : SinkView) → TakesOrFails (bad_word_line number) err err'
@@ -142,30 +156,50 @@ module _ (file : List ℕ) (shelf shelf' : ShelfView) (out err : SinkView) where
     held = reads.held;
   }
 
-  pub answers_refused : (fault : XmlFault) (err' : SinkView) → fault ≡ not_in_form → ReadsFrom {T = Document} (Err (faults.Refused fault)) faults.Read shelf shelf'
-      → WhereTold shelf.held (λ files. document_tree document_limit (bytes_under file files) ≡ Err fault) → TakesOrFails (document_line file fault) err err'
-      → Answers (outline file) (record { shelf = shelf; out = out; err = err }) (record { shelf = shelf'; out = out; err = err' }) statuses.DocumentRefused
-  answers_refused fault err' plain reads refused takes = record {
-    answered = λ _ _ _ files is. sym (ap (λ r. (outline_answer file r).status) (refused files is));
-    output = λ _ _ _ files is. sym (appended-nil out.told) ∙ ap (λ r. appended (outline_answer file r).out out.told) (sym (refused files is));
-    errors = λ _ _ quiet _ files is. whole_line (document_line file fault) err err' takes quiet ∙ ap (λ r. appended (outline_answer file r).err err.told) (sym (refused files is));
-    bad_words = λ e. cc;
-    only_bad_words = λ number e. cc;
-    memory = λ e. cc;
-    read_fault = λ e. cc;
-    read_opens = λ e. cc;
-    write_fault = λ e. cc;
-    write_done = λ e files is. cc;
-    shelf_rose = λ rise. absurd (no_rise shelf.faults shelf'.faults (reads.quiet (λ e. cc)) rise);
-    out_rose = λ rise. absurd (no_rise out.faults out.faults refl rise);
-    nothing = λ _. refl;
-    line = λ _. (document_line file not_in_form, refl, subst (λ f. TakesOrFails (document_line file f) err err') plain takes);
-    no_line = λ no. absurd (no tt);
-    front = λ no files is. absurd (no tt);
-    opens = λ _ _. reads.opens;
-    untouched = λ other. absurd (other file refl);
-    held = reads.held;
-  }
+  module _ (fault : XmlFault) (reads : ReadsFrom {T = Document} (Err (faults.Refused fault)) faults.Read shelf shelf')
+      (refused : IsRefused document_limits (option_map (bytes_under file) shelf.held) fault) where
+    of_file : WhereTold shelf.held (λ files. refused.content ≡ bytes_under file files)
+    of_file files is = refused.whole (bytes_under file files) (ap (option_map (bytes_under file)) is)
+
+    answer_is : (files : Files) → shelf.held ≡ Some files → answer_to (outline file) files ≡ record { status = statuses.DocumentRefused; out = []; err = document_line file fault }
+    answer_is files is =
+        let first : first_fault document_limits (bytes_under file files) ≡ Some refused.first = ap (first_fault document_limits) (sym (of_file files is)) ∙ refused.is in
+        ap (outline_answer file) (refused_document document_limits (bytes_under file files) refused.first first)
+        ∙ ap (λ f. let a : Answer = record { status = statuses.DocumentRefused; out = []; err = document_line file f } in a) (sym refused.same)
+
+    pub answers_refused : (err' : SinkView) → TakesOrFails (document_line file fault) err err'
+        → Answers (outline file) (record { shelf = shelf; out = out; err = err }) (record { shelf = shelf'; out = out; err = err' }) statuses.DocumentRefused
+    answers_refused err' takes = record {
+      answered = λ _ _ _ files is. sym (ap (λ (a : Answer). a.status) (answer_is files is));
+      output = λ _ _ _ files is. sym (appended-nil out.told) ∙ ap (λ (a : Answer). appended a.out out.told) (sym (answer_is files is));
+      errors = λ _ _ quiet _ files is. whole_line (document_line file fault) err err' takes quiet ∙ ap (λ (a : Answer). appended a.err err.told) (sym (answer_is files is));
+      bad_words = λ e. cc;
+      only_bad_words = λ number e. cc;
+      memory = λ e. cc;
+      read_fault = λ e. cc;
+      read_opens = λ e. cc;
+      write_fault = λ e. cc;
+      write_done = λ e files is. cc;
+      shelf_rose = λ rise. absurd (no_rise shelf.faults shelf'.faults (reads.quiet (λ e. cc)) rise);
+      out_rose = λ rise. absurd (no_rise out.faults out.faults refl rise);
+      nothing = λ _. refl;
+      line = λ _. (
+        document_line file fault,
+        record {
+          content = refused.content;
+          fault = refused.first;
+          first = refused.is;
+          is = ap (document_line file) refused.same;
+          of_file = of_file;
+        },
+        takes,
+      );
+      no_line = λ no. absurd (no tt);
+      front = λ no files is. absurd (no tt);
+      opens = λ _ _. reads.opens;
+      untouched = λ other. absurd (other file refl);
+      held = reads.held;
+    }
 
   pub answers_memory : ReadsFrom {T = Document} (Err faults.Memory) faults.Read shelf shelf'
       → Answers (outline file) (record { shelf = shelf; out = out; err = err }) (record { shelf = shelf'; out = out; err = err }) statuses.Memory
@@ -192,16 +226,21 @@ module _ (file : List ℕ) (shelf shelf' : ShelfView) (out err : SinkView) where
   }
 
   module _ (doc : Document) (reads : ReadsFrom (Ok doc) faults.Read shelf shelf')
-      (of_tree : WhereTold shelf.held (λ files. (tree : Forest) × (document_tree document_limit (bytes_under file files) ≡ Ok tree) × IsOfTree doc tree)) where
-    text_is : (files : Files) → shelf.held ≡ Some files → lines_of doc.names doc.nodes ≡ (answer_to (outline file) files).out
-    text_is files is = lines_of-tree doc (of_tree files is).0 (of_tree files is).2 ∙ sym (ap (λ r. (outline_answer file r).out) (of_tree files is).1)
+      (loaded : WhereTold (option_map (bytes_under file) shelf.held) (λ content. IsLoaded document_limits content doc)) where
+    loaded_file : (files : Files) → shelf.held ≡ Some files → IsLoaded document_limits (bytes_under file files) doc
+    loaded_file files is = loaded (bytes_under file files) (ap (option_map (bytes_under file)) is)
+
+    outline_is : (files : Files) → shelf.held ≡ Some files → answer_to (outline file) files ≡ done (lines_of doc.names doc.nodes)
+    outline_is files is =
+        let from = loaded_file files is in
+        ap (outline_answer file) from.is ∙ ap done (sym (lines_of-tree doc (tree_of from.found) from.of_tree))
 
     pub answers_done : (out' : SinkView) → WritesAll (lines_of doc.names doc.nodes) out out'
         → Answers (outline file) (record { shelf = shelf; out = out; err = err }) (record { shelf = shelf'; out = out'; err = err }) statuses.Done
     answers_done out' all = record {
-      answered = λ _ _ _ files is. sym (ap (λ r. (outline_answer file r).status) (of_tree files is).1);
-      output = λ _ _ _ files is. all.told ∙ ap (λ text. appended text out.told) (text_is files is);
-      errors = λ _ _ _ _ files is. sym (appended-nil err.told) ∙ ap (λ r. appended (outline_answer file r).err err.told) (sym (of_tree files is).1);
+      answered = λ _ _ _ files is. sym (ap (λ (a : Answer). a.status) (outline_is files is));
+      output = λ _ _ _ files is. all.told ∙ ap (λ (a : Answer). appended a.out out.told) (sym (outline_is files is));
+      errors = λ _ _ _ _ files is. sym (appended-nil err.told) ∙ ap (λ (a : Answer). appended a.err err.told) (sym (outline_is files is));
       bad_words = λ e. cc;
       only_bad_words = λ number e. cc;
       memory = λ e. cc;
@@ -214,7 +253,7 @@ module _ (file : List ℕ) (shelf shelf' : ShelfView) (out err : SinkView) where
       nothing = λ refusal. absurd refusal;
       line = λ refusal. absurd refusal;
       no_line = λ _. refl;
-      front = λ _ files is. (lines_of doc.names doc.nodes, subst (IsFront (lines_of doc.names doc.nodes)) (text_is files is) (IsFront-whole _), all.told);
+      front = λ _ files is. (lines_of doc.names doc.nodes, subst (λ (a : Answer). IsFront (lines_of doc.names doc.nodes) a.out) (sym (outline_is files is)) (IsFront-whole _), all.told);
       opens = λ _ _. reads.opens;
       untouched = λ other. absurd (other file refl);
       held = reads.held;
@@ -232,13 +271,13 @@ module _ (file : List ℕ) (shelf shelf' : ShelfView) (out err : SinkView) where
       read_fault = λ e. cc;
       read_opens = λ e. cc;
       write_fault = λ _. front.rose;
-      write_done = λ _ files is. ap (λ r. (outline_answer file r).status) (of_tree files is).1;
+      write_done = λ _ files is. ap (λ (a : Answer). a.status) (outline_is files is);
       shelf_rose = λ rise. absurd (no_rise shelf.faults shelf'.faults (reads.quiet (λ e. cc)) rise);
       out_rose = λ _. refl;
       nothing = λ refusal. absurd refusal;
       line = λ refusal. absurd refusal;
       no_line = λ _. refl;
-      front = λ _ files is. (front.front, subst (IsFront front.front) (text_is files is) front.is_front, front.told);
+      front = λ _ files is. (front.front, subst (λ (a : Answer). IsFront front.front a.out) (sym (outline_is files is)) front.is_front, front.told);
       opens = λ _ _. reads.opens;
       untouched = λ other. absurd (other file refl);
       held = reads.held;

@@ -1,3 +1,4 @@
 pub mod OutlineLemmas
+pub mod LengthLemmas
 pub mod LoadLemmas
 pub mod AnswersLemmas

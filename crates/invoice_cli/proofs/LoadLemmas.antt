@@ -1,51 +1,23 @@
--- What was read of a file, and the document that it is.
-use Rattle.std.proofs.Common.{◌≡◌, ℕ, ◌+◌, ◌<◌, ◌^◌, List, [], ◌∷◌, ◌++◌, take, length, length-append, append_assoc, append-nil, nat_le, false, inl, inr, refl, ap, sym, ◌∙◌, arith, Option, Some, None, Ok, Err}
-use Rattle.std.proofs.lemmas.Bool.Decides.{nat_tests}
+-- A file that is read piece by piece, and the reader that is given the pieces.
+use Rattle.std.proofs.Common.{◌≡◌, ℕ, ◌+◌, ◌-◌, ◌<◌, Bool, List, [], ◌∷◌, ◌++◌, take, length, length-append, append_assoc, append-nil, true, false, refl, ap, sym, subst, ◌∙◌, arith, Option, Some, None, Ok, Err, if◌then◌else◌}
 use Rattle.std.specs.Prelude.{option_map, Result, ◌≢◌, ◌≤◌}
-use Rattle.std.proofs.Common.{subst}
 use Rattle.inv_base.specs.Counts.{Rose, next_count}
-use Rattle.std.specs.Prelude.{Vec, IfOk}
-use Rattle.std.specs.Global.{Global}
-use Rattle.inv_base.specs.Files.{Files, bytes_under}
 use Rattle.inv_base.specs.Outside.{ShelfView, WhereTold, ahead_of}
-use Rattle.invoice_cli.specs.Load.{IsReadOf, ReadsOn, ReadsFrom}
-use Rattle.xml_profile.specs.declared.fault.XmlFault.{XmlFault}
-use Rattle.inv_base.specs.Tree.{Forest}
-use Rattle.xml_profile.specs.Events.{tree_of_events, with_events}
-use Rattle.xml_profile.specs.Reading.{Reading, reading}
-use Rattle.xml_profile.specs.Readers.{not_in_form}
-use Rattle.xml_profile.specs.Documents.{document_tree, tree_or_fault}
-use Rattle.xml_profile.proofs.DocumentLemmas.{read-as}
-use Rattle.node_arena.specs.Document.{Built, Document, built, IsNumbered}
+use Rattle.inv_base.specs.Tree.{Name}
+use Rattle.xml_tokens.specs.Faults.{Fault}
+use Rattle.xml_state.specs.Events.{Event, with_events}
+use Rattle.xml_state.specs.Limits.{Limits}
+use Rattle.xml_state.specs.Seen.{fault_for, want_of_memory}
+use Rattle.xml_state.specs.declared.fault.XmlFault.{XmlFault}
+use Rattle.xml_profile.specs.Profile.{settled_of, settled_fault, first_fault, document, names_of, tree_of}
+use Rattle.xml_profile.specs.Profile as profile
+use Rattle.xml_profile.specs.Readers.{Progress, HasRead, Moves, MovesWithin, Tells, Finishes, Fails, of_document, of_memory, unread, fault_of_reader}
+use Rattle.xml_profile.specs.TokenByToken.{read, resume, read_front, read_whole}
+use Rattle.node_arena.specs.Document.{Built, Document, IsNumbered, built}
+use Rattle.node_arena.specs.Document as arena
 use Rattle.node_arena.specs.Shown.{IsOfTree}
-use Rattle.node_arena.proofs.BuiltLemmas.{built-all}
-use Rattle.node_arena.proofs.TreeLemmas.{document_is_of_tree, document_is_whole}
-
--- what a document that was read has built
-pub record Parsed (limit : ℕ) (bytes : List ℕ) (found : Reading) (b : Built) : Type 0 where
-  pub numbered : IsNumbered b.nodes found.names
-  pub ended : b.in_text ≡ false
-  pub tree : document_tree limit bytes ≡ Ok (tree_of_events found.names found.events)
-  pub of_tree : IsOfTree (record { nodes = b.nodes; names = found.names }) (tree_of_events found.names found.events)
-
-pub parsed : (limit : ℕ) (bytes : List ℕ) (found : Reading) (b : Built) → limit + 1 < 2 ^ 32 → reading limit bytes ≡ Some found
-    → b ≡ built (with_events [] found.events) → Parsed limit bytes found b
-unfolding document_tree
-parsed limit bytes found b few is built_is =
-    let tree = tree_of_events found.names found.events in
-    let read = read-as limit bytes found is in
-    let whole = document_is_whole found.names tree found.events read.document read.tells (omega (arith, read.small)) in
-    let same : b ≡ built found.events = built_is ∙ built-all found.events in
-    rw same (record {
-      numbered = whole.0;
-      ended = whole.1;
-      tree = ap tree_or_fault is;
-      of_tree = document_is_of_tree found.names tree found.events read.document read.tells;
-    })
-
-pub refused_tree : (limit : ℕ) (bytes : List ℕ) → reading limit bytes ≡ None → document_tree limit bytes ≡ Err not_in_form
-unfolding document_tree
-refused_tree limit bytes is = ap tree_or_fault is
+use Rattle.invoice_cli.specs.Load.{ReadsOn, ReadsFrom, HasFed, IsRefused, IsLoaded, IsBuilt}
+use Rattle.invoice_cli.proofs.LengthLemmas.{bytes_read, short_front}
 
 -- Reading piece by piece.
 pub ahead_of-nil : (told : Option (List ℕ)) (bytes : List ℕ) → bytes ≡ [] → told ≡ ahead_of bytes told
@@ -56,45 +28,23 @@ pub ahead_of-append : (a b c : List ℕ) (told mid left : Option (List ℕ)) →
 ahead_of-append a b c told mid None so_far more is = so_far ∙ ap (ahead_of a) more
 ahead_of-append a b c told mid (Some left) so_far more is = so_far ∙ (ap (ahead_of a) more ∙ ap Some (sym (append_assoc a b left) ∙ ap (λ x. x ++ left) (sym is)))
 
-pub no_items : (xs : List ℕ) → length xs ≡ 0 → xs ≡ []
+no_items : (xs : List ℕ) → length xs ≡ 0 → xs ≡ []
 no_items [] none = refl
 no_items (x ∷ xs) none = absurd (omega arith)
 
+pub none_taken : (n : ℕ) (xs : List ℕ) → n ≡ 0 → take n xs ≡ []
+none_taken n xs none = rw none refl
+
 -- at the end of the input
-pub read_all : (limit : ℕ) (told mid left : Option (List ℕ)) (bytes front : List ℕ) → told ≡ ahead_of bytes mid → mid ≡ ahead_of front left → front ≡ []
-    → WhereTold left (λ rest. length rest ≡ 0) → WhereTold told (λ content. IsReadOf limit content bytes)
-read_all limit told mid None bytes front so_far last none end = λ content is. let gone : told ≡ None = so_far ∙ ap (ahead_of bytes) last in cc
-read_all limit told mid (Some rest) bytes front so_far last none end = λ content is.
+pub read_all : (told mid left : Option (List ℕ)) (bytes front : List ℕ) → told ≡ ahead_of bytes mid → mid ≡ ahead_of front left → front ≡ []
+    → WhereTold left (λ rest. length rest ≡ 0) → WhereTold told (λ content. bytes ≡ content)
+read_all told mid None bytes front so_far last none end = λ content is. let gone : told ≡ None = so_far ∙ ap (ahead_of bytes) last in cc
+read_all told mid (Some rest) bytes front so_far last none end = λ content is.
     let empty : rest ≡ [] = no_items rest (end rest refl) in
     let all : told ≡ Some (bytes ++ (front ++ rest)) = so_far ∙ ap (ahead_of bytes) last in
     let whole : bytes ++ (front ++ rest) ≡ bytes = rw (none, empty) (append-nil bytes) in
     let same : content ≡ bytes ++ (front ++ rest) = cc in
-    inl (sym (same ∙ whole))
-
--- where more was read than the limit
-pub read_more : (limit : ℕ) (told left : Option (List ℕ)) (bytes : List ℕ) → told ≡ ahead_of bytes left → limit < length bytes
-    → WhereTold told (λ content. IsReadOf limit content bytes)
-read_more limit told None bytes so_far long = λ content is. cc
-read_more limit told (Some rest) bytes so_far long = λ content is.
-    let same : bytes ++ rest ≡ content = cc in
-    inr (record { rest = rest; whole = same }, long)
-
--- The tree of what was read is that of the whole content.
-same_tree : (limit : ℕ) (content bytes : List ℕ) → IsReadOf limit content bytes → document_tree limit content ≡ document_tree limit bytes
-unfolding document_tree reading
-same_tree limit content bytes (inl same) = ap (document_tree limit) (sym same)
-same_tree limit content bytes (inr h) =
-    let long : length content ≡ length bytes + length h.0.rest = ap length (sym h.0.whole) ∙ length-append bytes h.0.rest in
-    let a : nat_le (length content) limit ≡ false = grind (arith, nat_tests, h.1, long) in
-    let b : nat_le (length bytes) limit ≡ false = grind (arith, nat_tests, h.1) in
-    rw (a, b) refl
-
-pub loaded_tree : (limit : ℕ) (content bytes : List ℕ) (doc : Document) → IsReadOf limit content bytes
-    → ((tree : Forest) × (document_tree limit bytes ≡ Ok tree) × IsOfTree doc tree) → (tree : Forest) × (document_tree limit content ≡ Ok tree) × IsOfTree doc tree
-loaded_tree limit content bytes doc read parse = (parse.0, same_tree limit content bytes read ∙ parse.1, parse.2)
-
-pub loaded_fault : (limit : ℕ) (content bytes : List ℕ) (fault : XmlFault) → IsReadOf limit content bytes → document_tree limit bytes ≡ Err fault → document_tree limit content ≡ Err fault
-loaded_fault limit content bytes fault read parse = same_tree limit content bytes read ∙ parse
+    sym (same ∙ whole)
 
 -- What reading keeps, where it failed and where it didn't.
 pub failed_on : {T E : Type 0} (result : Result T E) (fault : E) (begun now after : ShelfView) → result ≡ Err fault
@@ -133,25 +83,204 @@ opened_from result fault begun now after held opens faults on = record {
   quiet = λ other. on.quiet other ∙ faults;
 }
 
--- what was read of the open input is what was read of the file
-pub read_of_file : (limit : ℕ) (name : List ℕ) (begun now : ShelfView) (bytes : List ℕ) → now.left ≡ option_map (bytes_under name) begun.held
-    → WhereTold now.left (λ left. IsReadOf limit left bytes) → WhereTold begun.held (λ files. IsReadOf limit (bytes_under name files) bytes)
-read_of_file limit name begun now bytes left read = λ files is. read (bytes_under name files) (left ∙ ap (option_map (bytes_under name)) is)
+-- What a reader's fault says of it.
+pub going_reader : (reader : Progress) → fault_of_reader reader ≡ None → (reader.lacks_memory ≡ false) × (settled_of reader.stands ≡ None)
+going_reader reader is = by reader.lacks_memory (settled_of reader.stands) is
+  where
+    by : (lacks : Bool) (settled : Option Fault) → (if lacks then Some want_of_memory else option_map fault_for settled) ≡ None → (lacks ≡ false) × (settled ≡ None)
+    by true settled is = cc
+    by false None is = (refl, refl)
+    by false (Some fault) is = cc
 
-pub none_taken : (n : ℕ) (xs : List ℕ) → n ≡ 0 → take n xs ≡ []
-none_taken n xs none = rw none refl
+pub stopped_reader : (reader : Progress) (told : XmlFault) → fault_of_reader reader ≡ Some told → told ≢ want_of_memory
+    → (fault : Fault) × (reader.lacks_memory ≡ false) × (settled_of reader.stands ≡ Some fault) × (told ≡ fault_for fault)
+stopped_reader reader told is found = by reader.lacks_memory (settled_of reader.stands) is
+  where
+    by : (lacks : Bool) (settled : Option Fault) → (if lacks then Some want_of_memory else option_map fault_for settled) ≡ Some told
+        → (fault : Fault) × (lacks ≡ false) × (settled ≡ Some fault) × (told ≡ fault_for fault)
+    by true settled is = absurd (found cc)
+    by false None is = cc
+    by false (Some fault) is = (fault, refl, refl, cc)
 
-pub read_of_result : {E : Type 0} (limit : ℕ) (name : List ℕ) (begun now : ShelfView) (r : Result (Vec ℕ Global) E) → now.left ≡ option_map (bytes_under name) begun.held
-    → IfOk r (λ bytes. WhereTold now.left (λ left. IsReadOf limit left bytes.items))
-    → IfOk r (λ bytes. WhereTold begun.held (λ files. IsReadOf limit (bytes_under name files) bytes.items))
-read_of_result limit name begun now (Ok v) left h = read_of_file limit name begun now v.items left h
-read_of_result limit name begun now (Err e) left h = tt
+-- Behind some pieces: what was fed stands before what is left, no fault is settled, and a receiver has taken what was told.
+pub record Feeding (begun now : ShelfView) (limits : Limits) (reader : Progress) (before after : List Event → Type 0) : Type 0 where
+  pub held : now.held ≡ begun.held
+  pub opens : now.opens ≡ begun.opens
+  pub faults : now.faults ≡ begun.faults
+  pub fed : List ℕ
+  pub content : begun.left ≡ ahead_of fed now.left
+  pub kept : reader.limits ≡ limits
+  pub read : HasRead reader fed
+  pub going : settled_of reader.stands ≡ None
+  pub events : Moves [] (read_front limits fed).events before after
 
--- the document of the bytes that were read is that of the file
-pub tree_of_result : {E : Type 0} (limit : ℕ) (held : Option Files) (name bytes slice : List ℕ) (r : Result Document E) → slice ≡ bytes
-    → WhereTold held (λ files. IsReadOf limit (bytes_under name files) bytes)
-    → IfOk r (λ doc. (tree : Forest) × (document_tree limit slice ≡ Ok tree) × IsOfTree doc tree)
-    → IfOk r (λ doc. WhereTold held (λ files. (tree : Forest) × (document_tree limit (bytes_under name files) ≡ Ok tree) × IsOfTree doc tree))
-tree_of_result limit held name bytes slice (Ok doc) same read h = λ files is.
-    loaded_tree limit (bytes_under name files) bytes doc (read files is) (h.0, ap (document_tree limit) (sym same) ∙ h.1, h.2)
-tree_of_result limit held name bytes slice (Err e) same read h = tt
+pub feeding_nothing : (begun : ShelfView) (reader : Progress) (before : List Event → Type 0) → HasRead reader [] → Feeding begun begun reader.limits reader before before
+unfolding read resume
+feeding_nothing begun reader before read = record {
+  held = refl;
+  opens = refl;
+  faults = refl;
+  fed = [];
+  content = ahead_of-nil begun.left [] refl;
+  kept = refl;
+  read = read;
+  going = ap settled_of read.stands;
+  events = λ first taken. taken;
+}
+
+tells_moves : (reader : Progress) (fed more : List ℕ) (a b : List Event → Type 0) → reader.lacks_memory ≡ false → Tells reader fed more a b
+    → Moves (read_front reader.limits fed).events (read_front reader.limits more).events a b
+tells_moves reader fed more a b found tells = by reader.lacks_memory found tells
+  where
+    by : (lacks : Bool) → lacks ≡ false → (elim lacks as (λ x. Type 0) [
+      | false ↦ Moves (read_front reader.limits fed).events (read_front reader.limits more).events a b
+      | true ↦ MovesWithin (read_front reader.limits fed).events (read_front reader.limits more).events a b
+    ]) → Moves (read_front reader.limits fed).events (read_front reader.limits more).events a b
+    by false e tells = tells
+    by true e tells = cc
+
+-- Behind one more piece.
+pub feeding_more : (begun now after : ShelfView) (limits : Limits) (old new : Progress) (piece : List ℕ) (before mid behind : List Event → Type 0)
+    → (so_far : Feeding begun now limits old before mid) → after.held ≡ now.held → after.opens ≡ now.opens → after.faults ≡ now.faults → now.left ≡ ahead_of piece after.left
+    → new.limits ≡ old.limits → fault_of_reader new ≡ None
+    → (new.lacks_memory ≡ false → (fed : List ℕ) → HasRead old fed → HasRead new (fed ++ piece))
+    → ((fed : List ℕ) → HasRead old fed → Tells new fed (fed ++ piece) mid behind)
+    → Feeding begun after limits new before behind
+feeding_more begun now after limits old new piece before mid behind so_far held opens faults left kept none read told =
+    let going = going_reader new none in
+    let same : new.limits ≡ limits = kept ∙ so_far.kept in
+    let tells : Moves (read_front new.limits so_far.fed).events (read_front new.limits (so_far.fed ++ piece)).events mid behind = tells_moves new so_far.fed (so_far.fed ++ piece) mid behind going.0 (told so_far.fed so_far.read) in
+    let moves : Moves (read_front limits so_far.fed).events (read_front limits (so_far.fed ++ piece)).events mid behind =
+    subst (λ l. Moves (read_front l so_far.fed).events (read_front l (so_far.fed ++ piece)).events mid behind) same tells in
+    record {
+      held = held ∙ so_far.held;
+      opens = opens ∙ so_far.opens;
+      faults = faults ∙ so_far.faults;
+      fed = so_far.fed ++ piece;
+      content = ahead_of-append so_far.fed piece (so_far.fed ++ piece) begun.left now.left after.left so_far.content left refl;
+      kept = same;
+      read = read going.0 so_far.fed so_far.read;
+      going = going.1;
+      events = λ first taken. moves first (so_far.events first taken);
+    }
+
+-- The measure falls: the piece isn't empty, and what isn't refused is short.
+pub feeding_falls : (limits : Limits) (old new : Progress) (fed piece : List ℕ) → old.limits ≡ limits → HasRead old fed → settled_of old.stands ≡ None
+    → new.limits ≡ old.limits → HasRead new (fed ++ piece) → settled_of new.stands ≡ None → 0 < length piece
+    → new.limits.bytes + 2 - bytes_read new.stands < old.limits.bytes + 2 - bytes_read old.stands
+feeding_falls limits old new fed piece kept read going same more goes some =
+    let a = short old fed read going in
+    let b = short new (fed ++ piece) more goes in
+    let long : length (fed ++ piece) ≡ length fed + length piece = length-append fed piece in
+    let bytes : new.limits.bytes ≡ old.limits.bytes = ap (λ (l : Limits). l.bytes) same in
+    omega (arith, a.0, a.1, b.0, b.1)
+  where
+    short : (reader : Progress) (fed : List ℕ) → HasRead reader fed → settled_of reader.stands ≡ None
+        → (bytes_read reader.stands ≡ length fed) × (length fed ≤ reader.limits.bytes + 1)
+    short reader fed read = subst (λ s. settled_of s ≡ None → (bytes_read s ≡ length fed) × (length fed ≤ reader.limits.bytes + 1)) (sym read.stands) (short_front reader.limits fed)
+
+-- At the end of the input all was fed.
+pub fed_whole : (begun now after : ShelfView) (limits : Limits) (reader : Progress) (front : List ℕ) (before behind : List Event → Type 0)
+    → (so_far : Feeding begun now limits reader before behind) → now.left ≡ ahead_of front after.left → front ≡ [] → WhereTold after.left (λ rest. length rest ≡ 0)
+    → HasFed begun.left reader before behind
+fed_whole begun now after limits reader front before behind so_far left none end = record {
+  fed = so_far.fed;
+  read = so_far.read;
+  events = subst (λ l. Moves [] (read_front l so_far.fed).events before behind) (sym so_far.kept) so_far.events;
+  whole = read_all begun.left now.left after.left so_far.fed front so_far.content left none end;
+}
+
+-- A fault that is settled is the first of what was fed and what is left.
+pub refused_settled : (limits : Limits) (told left : Option (List ℕ)) (reader : Progress) (fed : List ℕ) (fault : Fault) (answer : XmlFault) → told ≡ ahead_of fed left
+    → reader.limits ≡ limits → HasRead reader fed → settled_of reader.stands ≡ Some fault → answer ≡ fault_for fault
+    → ((limits : Limits) (bytes more : List ℕ) (fault : Fault) → settled_fault limits bytes ≡ Some fault → first_fault limits (bytes ++ more) ≡ Some fault)
+    → IsRefused limits told answer
+unfolding settled_fault
+refused_settled limits told left reader fed fault answer content kept read settled same law = by left content
+  where
+    now : settled_fault limits fed ≡ Some fault
+    now = ap settled_of (ap (λ l. (read_front l fed).stands) (sym kept) ∙ sym read.stands) ∙ settled
+
+    by : (left : Option (List ℕ)) → told ≡ ahead_of fed left → IsRefused limits told answer
+    by None content = record {
+      content = fed;
+      first = fault;
+      is = ap (first_fault limits) (sym (append-nil fed)) ∙ law limits fed [] fault now;
+      same = same;
+      whole = λ bytes is. cc;
+    }
+    by (Some rest) content = record {
+      content = fed ++ rest;
+      first = fault;
+      is = law limits fed rest fault now;
+      same = same;
+      whole = λ bytes is. cc;
+    }
+
+-- The first fault of a whole input.
+pub refused_whole : (limits : Limits) (told : Option (List ℕ)) (fed : List ℕ) (before after : List Event → Type 0) (answer : XmlFault) → Fails limits fed before after answer
+    → answer ≢ want_of_memory → WhereTold told (λ content. fed ≡ content) → IsRefused limits told answer
+refused_whole limits told fed before after answer (of_document fault first moves) other whole = record { content = fed; first = fault; is = first; same = refl; whole = whole }
+refused_whole limits told fed before after answer (of_memory moves) other whole = absurd (other refl)
+
+-- The same of a reader that has these limits.
+pub refused_at_end : (limits l : Limits) (told : Option (List ℕ)) (fed : List ℕ) (before after : List Event → Type 0) (fault answer : XmlFault) → l ≡ limits → Fails l fed before after fault
+    → fault ≢ want_of_memory → answer ≡ fault → WhereTold told (λ content. fed ≡ content) → IsRefused limits told answer
+refused_at_end limits l told fed before after fault answer kept fails other same whole =
+    subst (λ x. IsRefused x told answer) kept (subst (λ x. IsRefused l told x) (sym same) (refused_whole l told fed before after fault fails other whole))
+
+-- A document that was read and has built its nodes.
+abbrev by_fault : Limits → List ℕ → Option Fault → Result profile.Document Fault
+by_fault limits bytes f = elim f [
+  | (Some fault) ↦ Err fault
+  | None ↦ Ok (record { events = with_events [] (read_whole limits bytes).events; names = names_of (read_whole limits bytes).stands })
+]
+
+abbrev pub told_whole : Limits → List ℕ → profile.Document
+told_whole limits bytes = record { events = with_events [] (read_whole limits bytes).events; names = names_of (read_whole limits bytes).stands }
+
+-- The events of a whole document were taken, behind which it is a document.
+pub record Wholly (limits : Limits) (told : Option (List ℕ)) (names : List Name) (b : Built) : Type 0 where
+  pub fed : List ℕ
+  pub whole : WhereTold told (λ content. fed ≡ content)
+  pub is : document limits fed ≡ Ok (told_whole limits fed)
+  pub named : names ≡ (told_whole limits fed).names
+  pub made : IsBuilt (told_whole limits fed) b
+
+pub read_wholly : (limits : Limits) (told : Option (List ℕ)) (reader : Progress) (first mid last : Built) (names : List Name) → reader.limits ≡ limits → first ≡ arena.begun
+    → (all : HasFed told reader (λ events. first ≡ built events) (λ events. mid ≡ built events))
+    → Finishes reader.limits all.fed names (λ events. mid ≡ built events) (λ events. last ≡ built events)
+    → ((found : profile.Document) → document limits all.fed ≡ Ok found → IsBuilt found (built found.events))
+    → Wholly limits told names last
+unfolding built document
+read_wholly limits told reader first mid last names kept is all ends law =
+    let none : first_fault limits all.fed ≡ None = ap (λ l. first_fault l all.fed) (sym kept) ∙ ends.document in
+    let document_is : document limits all.fed ≡ Ok (told_whole limits all.fed) = ap (by_fault limits all.fed) none in
+    let behind : last ≡ built (told_whole reader.limits all.fed).events = ends.told [] (all.events [] is) in
+    let last_is : last ≡ built (told_whole limits all.fed).events = behind ∙ ap (λ l. built (told_whole l all.fed).events) kept in
+    record {
+      fed = all.fed;
+      whole = all.whole;
+      is = document_is;
+      named = ends.named ∙ ap (λ l. (told_whole l all.fed).names) kept;
+      made = subst (IsBuilt (told_whole limits all.fed)) (sym last_is) (law (told_whole limits all.fed) document_is);
+    }
+
+pub wholly_numbered : (limits : Limits) (told : Option (List ℕ)) (names : List Name) (b : Built) → Wholly limits told names b → IsNumbered b.nodes names
+wholly_numbered limits told names b wholly = subst (IsNumbered b.nodes) (sym wholly.named) wholly.made.numbered
+
+pub wholly_loaded : (limits : Limits) (told : Option (List ℕ)) (names : List Name) (b : Built) (doc : Document) → Wholly limits told names b → doc ≡ record { nodes = b.nodes; names = names }
+    → WhereTold told (λ content. IsLoaded limits content doc)
+wholly_loaded limits told names b doc wholly is = λ content told_is.
+    let found = told_whole limits wholly.fed in
+    let made : doc ≡ record { nodes = b.nodes; names = found.names } = is ∙ ap (λ names. let d : Document = record { nodes = b.nodes; names = names } in d) wholly.named in
+    record {
+      found = found;
+      is = ap (document limits) (sym (wholly.whole content told_is)) ∙ wholly.is;
+      of_tree = subst (λ (d : Document). IsOfTree d (tree_of found)) (sym made) wholly.made.of_tree;
+    }
+
+-- A reader that was given nothing has read nothing.
+pub read_nothing : (limits : Limits) (reader : Progress) → reader ≡ unread limits → HasRead reader []
+unfolding read resume
+read_nothing limits reader is = subst (λ (r : Progress). HasRead r []) (sym is) (record { memory = refl; stands = refl })

@@ -9,7 +9,7 @@ use Rattle.inv_base.specs.declared.tree.Kind.TheVariants as kinds
 use Rattle.inv_base.specs.Text.{quoted}
 use Rattle.inv_base.specs.Tree.{Name, Attribute, Forest, no_more, a_text, an_element}
 use Rattle.inv_base.proofs.TextLemmas.{encode-chars}
-use Rattle.xml_profile.specs.Events.{name_at}
+use Rattle.xml_state.specs.Events.{name_at}
 use Rattle.node_arena.specs.Document.{Placed, Document, document_node, node_at}
 use Rattle.node_arena.specs.Shown.{shown, shown_attributes, shown_forest, IsOfTree}
 use Rattle.invoice_cli.specs.Outline.{braced, name_text, optional_name_text, line, attribute_text, outline_attributes, outline_forest, outline_text, line_as, node_line}

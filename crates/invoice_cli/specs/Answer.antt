@@ -1,9 +1,10 @@
 -- What the program answers to a job, as a function of the files that are held.
 use Rattle.std.specs.Prelude.{ℕ, List, [], Ok, Err, Result}
 use Rattle.inv_base.specs.Files.{Files, bytes_under}
-use Rattle.inv_base.specs.Tree.{Forest}
-use Rattle.xml_profile.specs.declared.fault.XmlFault.{XmlFault}
-use Rattle.xml_profile.specs.Documents.{document_tree}
+use Rattle.xml_tokens.specs.Faults.{Fault}
+use Rattle.xml_state.specs.Limits.{Limits}
+use Rattle.xml_state.specs.Seen.{fault_for}
+use Rattle.xml_profile.specs.Profile.{Document, document, tree_of}
 use Rattle.invoice_cli.specs.declared.status.Status.{Status}
 use Rattle.invoice_cli.specs.declared.status.Status.TheVariants as statuses
 use Rattle.invoice_cli.specs.declared.usage.TheConstants.{HELP, VERSION}
@@ -20,16 +21,17 @@ pub record Answer : Type 0 where
 abbrev pub done : List ℕ → Answer
 done text = record { status = statuses.Done; out = text; err = [] }
 
--- the greatest number of bytes of a document
-abbrev pub document_limit : ℕ
-document_limit = 16777216
+-- how large a document may be
+abbrev pub document_limits : Limits
+document_limits = record { bytes = 16777216; nodes = 1000000; depth = 100; attributes = 64; name = 200; names = 10000 }
 
-abbrev pub outline_answer : List ℕ → Result Forest XmlFault → Answer
-outline_answer file (Ok tree) = done (outline_text tree)
-outline_answer file (Err fault) = record { status = statuses.DocumentRefused; out = []; err = document_line file fault }
+-- The outline of the document's tree, or the line of the first fault.
+abbrev pub outline_answer : List ℕ → Result Document Fault → Answer
+outline_answer file (Ok found) = done (outline_text (tree_of found))
+outline_answer file (Err fault) = record { status = statuses.DocumentRefused; out = []; err = document_line file (fault_for fault) }
 
 abbrev pub answer_to : Job → Files → Answer
-answer_to (outline file) files = outline_answer file (document_tree document_limit (bytes_under file files))
+answer_to (outline file) files = outline_answer file (document document_limits (bytes_under file files))
 answer_to help files = done HELP.now
 answer_to version files = done VERSION.now
 answer_to (bad_word number) files = record { status = statuses.BadWords; out = []; err = bad_word_line number }

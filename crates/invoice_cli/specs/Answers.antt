@@ -1,15 +1,18 @@
 -- The contract of the program's call.
-use Rattle.std.specs.Prelude.{◌≡◌, ◌≢◌, ℕ, ◌<◌, List}
+use Rattle.std.specs.Prelude.{◌≡◌, ◌≢◌, ℕ, ◌<◌, List, Option, Some}
 use Rattle.std.proofs.Common.{◌⊎◌}
 use Rattle.inv_base.specs.Counts.{Rose, Quiet, next_count}
+use Rattle.inv_base.specs.Files.{Files, bytes_under}
 use Rattle.inv_base.specs.Outside.{ShelfView, SinkView, WhereTold, appended}
 use Rattle.inv_base.specs.Writing.{IsFront, WritesAll, WritesFront}
-use Rattle.xml_profile.specs.Readers.{not_in_form}
+use Rattle.xml_tokens.specs.Faults.{Fault}
+use Rattle.xml_state.specs.Seen.{fault_for}
+use Rattle.xml_profile.specs.Profile.{first_fault}
 use Rattle.invoice_cli.specs.declared.status.Status.{Status}
 use Rattle.invoice_cli.specs.declared.status.Status.TheVariants as statuses
 use Rattle.invoice_cli.specs.Job.{Job, outline, bad_word}
 use Rattle.invoice_cli.specs.Lines.{bad_word_line, read_fault_line, document_line}
-use Rattle.invoice_cli.specs.Answer.{answer_to}
+use Rattle.invoice_cli.specs.Answer.{document_limits, answer_to}
 
 -- the shelf, the output and the error output
 pub record Outside : Type 0 where
@@ -26,12 +29,20 @@ IsRefusal statuses.Unable = Unit {0}
 IsRefusal statuses.ReadFault = Unit {0}
 IsRefusal _ = ⊥
 
--- The line is one that a refusal of the job may write.
-abbrev pub IsLineOf : Job → Status → List ℕ → Type 0
-IsLineOf (bad_word number) statuses.BadWords line = line ≡ bad_word_line number
-IsLineOf (outline file) statuses.DocumentRefused line = line ≡ document_line file not_in_form
-IsLineOf (outline file) statuses.ReadFault line = line ≡ read_fault_line file
-IsLineOf _ _ line = ⊥
+-- The line tells the first fault of some content, which is that of the file where the files are told.
+pub record IsFaultLine (file : List ℕ) (held : Option Files) (line : List ℕ) : Type 0 where
+  pub content : List ℕ
+  pub fault : Fault
+  pub first : first_fault document_limits content ≡ Some fault
+  pub is : line ≡ document_line file (fault_for fault)
+  pub of_file : WhereTold held (λ files. content ≡ bytes_under file files)
+
+-- The line is one that a refusal of the job may write, where the shelf tells these files or none.
+abbrev pub IsLineOf : Job → Status → Option Files → List ℕ → Type 0
+IsLineOf (bad_word number) statuses.BadWords held line = line ≡ bad_word_line number
+IsLineOf (outline file) statuses.DocumentRefused held line = IsFaultLine file held line
+IsLineOf (outline file) statuses.ReadFault held line = line ≡ read_fault_line file
+IsLineOf _ _ held line = ⊥
 
 -- The sink took the text, or, where its count of faults rose, a front of it.
 abbrev pub TakesOrFails : List ℕ → SinkView → SinkView → Type 0
@@ -65,7 +76,7 @@ pub record Answers (job : Job) (before after : Outside) (status : Status) : Type
   -- A refusal writes nothing to the output and its line to the error output, or a front of it where that fails; the other
   -- statuses write nothing to the error output.
   pub nothing : IsRefusal status → after.out ≡ before.out
-  pub line : IsRefusal status → (line : List ℕ) × IsLineOf job status line × TakesOrFails line before.err after.err
+  pub line : IsRefusal status → (line : List ℕ) × IsLineOf job status before.shelf.held line × TakesOrFails line before.err after.err
   pub no_line : (IsRefusal status → ⊥) → after.err ≡ before.err
   -- On the other statuses the output got a front of the answer's bytes.
   pub front : (IsRefusal status → ⊥) → WhereTold before.shelf.held (λ files.

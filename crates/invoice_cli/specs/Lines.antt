@@ -1,11 +1,32 @@
 -- The one line that a refusal writes to the error output.
 use Rattle.std.specs.Prelude.{ℕ, List, [], ◌∷◌, ◌++◌, codes, decimal}
-use Rattle.xml_profile.specs.declared.fault.XmlKind.{XmlKind}
-use Rattle.xml_profile.specs.declared.fault.XmlKind.TheVariants as kinds
-use Rattle.xml_profile.specs.declared.fault.XmlFault.{XmlFault}
+use Rattle.xml_tokens.specs.declared.kind.XmlKind.{XmlKind}
+use Rattle.xml_tokens.specs.declared.kind.XmlKind.TheVariants as kinds
+use Rattle.xml_state.specs.declared.fault.XmlFault.{XmlFault}
 
+-- the name of a kind of fault
 abbrev pub kind_text : XmlKind → List ℕ
-kind_text kinds.NotInForm = codes "NotInForm"
+kind_text kinds.TagTooLong = codes "TagTooLong"
+kind_text kinds.NotUtf8 = codes "NotUtf8"
+kind_text kinds.BadChar = codes "BadChar"
+kind_text kinds.Doctype = codes "Doctype"
+kind_text kinds.BadDeclaration = codes "BadDeclaration"
+kind_text kinds.BadMarkup = codes "BadMarkup"
+kind_text kinds.BadReference = codes "BadReference"
+kind_text kinds.TextOutside = codes "TextOutside"
+kind_text kinds.TooManyAttributes = codes "TooManyAttributes"
+kind_text kinds.NameTooLong = codes "NameTooLong"
+kind_text kinds.Mismatched = codes "Mismatched"
+kind_text kinds.SecondRoot = codes "SecondRoot"
+kind_text kinds.BadNamespace = codes "BadNamespace"
+kind_text kinds.UndeclaredPrefix = codes "UndeclaredPrefix"
+kind_text kinds.DuplicateAttribute = codes "DuplicateAttribute"
+kind_text kinds.TooDeep = codes "TooDeep"
+kind_text kinds.TooManyNames = codes "TooManyNames"
+kind_text kinds.TooManyNodes = codes "TooManyNodes"
+kind_text kinds.TooLong = codes "TooLong"
+kind_text kinds.Truncated = codes "Truncated"
+kind_text kinds.NoRoot = codes "NoRoot"
 kind_text kinds.Memory = codes "Memory"
 
 abbrev pub bad_word_line : ℕ → List ℕ

@@ -1,13 +1,18 @@
--- Reading a file whole, up to a limit.
-use Rattle.std.specs.Prelude.{◌≡◌, ◌≢◌, ℕ, ◌<◌, ◌≤◌, List, length, Result, Err}
-use Rattle.std.proofs.Common.{◌⊎◌}
+-- Reading a file, in pieces, as a document.
+use Rattle.std.specs.Prelude.{◌≡◌, ◌≢◌, ℕ, ◌≤◌, false, List, [], Option, Some, Result, Ok, Err}
 use Rattle.inv_base.specs.Counts.{Rose, next_count}
-use Rattle.inv_base.specs.Outside.{ShelfView}
-use Rattle.inv_base.specs.Writing.{IsFront}
-
--- What was read is all, or a front of it that is longer than the limit.
-abbrev pub IsReadOf : ℕ → List ℕ → List ℕ → Type 0
-IsReadOf limit content bytes = (bytes ≡ content) ⊎ (IsFront bytes content × (limit < length bytes))
+use Rattle.inv_base.specs.Outside.{ShelfView, WhereTold}
+use Rattle.xml_tokens.specs.Faults.{Fault}
+use Rattle.xml_state.specs.Events.{Event}
+use Rattle.xml_state.specs.Limits.{Limits}
+use Rattle.xml_state.specs.Seen.{fault_for}
+use Rattle.xml_state.specs.declared.fault.XmlFault.{XmlFault}
+use Rattle.xml_profile.specs.Profile.{document, first_fault, tree_of}
+use Rattle.xml_profile.specs.Profile as profile
+use Rattle.xml_profile.specs.Readers.{Progress, HasRead, Moves}
+use Rattle.xml_profile.specs.TokenByToken.{read_front}
+use Rattle.node_arena.specs.Document.{Built, Document, IsNumbered}
+use Rattle.node_arena.specs.Shown.{IsOfTree}
 
 -- One file was opened, and the files stay. A fault of reading is told where the count rose, and nowhere else did it rise.
 pub record ReadsFrom {T E : Type 0} (result : Result T E) (fault : E) (before after : ShelfView) : Type 0 where
@@ -24,3 +29,30 @@ pub record ReadsOn {T E : Type 0} (result : Result T E) (fault : E) (before afte
   pub rose : result ≡ Err fault → Rose before.faults after.faults
   pub rises : before.faults ≤ after.faults
   pub quiet : result ≢ Err fault → after.faults ≡ before.faults
+
+-- A reader was given a whole content, which is this one where it is told, and a receiver has taken what it tells so far.
+pub record HasFed (told : Option (List ℕ)) (reader : Progress) (before after : List Event → Type 0) : Type 0 where
+  pub fed : List ℕ
+  pub read : HasRead reader fed
+  pub events : Moves [] (read_front reader.limits fed).events before after
+  pub whole : WhereTold told (λ content. fed ≡ content)
+
+-- The fault is the first of some content, which is this one where it is told.
+pub record IsRefused (limits : Limits) (told : Option (List ℕ)) (fault : XmlFault) : Type 0 where
+  pub content : List ℕ
+  pub first : Fault
+  pub is : first_fault limits content ≡ Some first
+  pub same : fault ≡ fault_for first
+  pub whole : WhereTold told (λ bytes. content ≡ bytes)
+
+-- The document has the nodes of the tree of the content.
+pub record IsLoaded (limits : Limits) (content : List ℕ) (doc : Document) : Type 0 where
+  pub found : profile.Document
+  pub is : document limits content ≡ Ok found
+  pub of_tree : IsOfTree doc (tree_of found)
+
+-- What was built is a whole document, whose nodes are those of the tree of what was read.
+pub record IsBuilt (found : profile.Document) (b : Built) : Type 0 where
+  pub ended : b.in_text ≡ false
+  pub numbered : IsNumbered b.nodes found.names
+  pub of_tree : IsOfTree (record { nodes = b.nodes; names = found.names }) (tree_of found)

@@ -4,7 +4,7 @@ use Rattle.inv_base.specs.declared.tree.Kind.{Kind}
 use Rattle.inv_base.specs.declared.tree.Kind.TheVariants as kinds
 use Rattle.inv_base.specs.Text.{quoted}
 use Rattle.inv_base.specs.Tree.{Name, Attribute, Forest, no_more, a_text, an_element}
-use Rattle.xml_profile.specs.Events.{name_at}
+use Rattle.xml_state.specs.Events.{name_at}
 use Rattle.node_arena.specs.Document.{Placed}
 use Rattle.node_arena.specs.Shown.{Shown}
 

@@ -1,25 +1,35 @@
-ghost use Rattle.std.specs.Prelude.{◌≡◌, ◌≢◌, ℕ, ◌<◌, length, Ok, Err, IfOk, IfErr};
-ghost use Rattle.std.proofs.Common.{◌⊎◌};
-ghost use Rattle.inv_base.specs.Counts.{Rose, next_count};
+ghost use Rattle.std.specs.Prelude.{◌≡◌, ◌≢◌, ℕ, ◌<◌, ◌^◌, List, [], length, option_map, Ok, Err, IfOk};
 ghost use Rattle.inv_base.specs.Files.{bytes_under};
 ghost use Rattle.inv_base.specs.Outside.{WhereTold};
-ghost use Rattle.inv_base.specs.Tree.{Forest};
-ghost use Rattle.node_arena.specs.Shown.{IsOfTree};
-ghost use Rattle.xml_profile.specs.Documents.{document_tree};
-ghost use Rattle.xml_profile.specs.Readers.{not_in_form};
-ghost use Rattle.xml_profile.specs.declared.fault.XmlKind.TheVariants as kinds;
-ghost use Rattle.invoice_cli.specs.Answer.{document_limit};
-ghost use Rattle.invoice_cli.specs.Load.{IsReadOf, ReadsFrom, ReadsOn};
+ghost use Rattle.node_arena.specs.Document.{built};
+ghost use Rattle.xml_profile.specs.Profile as profile;
+ghost use Rattle.xml_profile.specs.Profile.{document};
+ghost use Rattle.xml_profile.specs.Readers.{HasRead};
+ghost use Rattle.xml_state.specs.Limits as spec;
+ghost use Rattle.xml_state.specs.Seen.{want_of_memory};
+ghost use Rattle.xml_tokens.specs.declared.kind.XmlKind.TheVariants as kinds;
+ghost use Rattle.invoice_cli.specs.Answer.{document_limits};
+ghost use Rattle.invoice_cli.specs.Load.{HasFed, IsBuilt, IsLoaded, IsRefused, ReadsFrom, ReadsOn};
 ghost use Rattle.invoice_cli.specs.declared.load.LoadFault.TheVariants as faults;
 
 use bumpalo::Bump;
 use inv_base::Shelf;
-use node_arena::{Builder, Doc};
+use node_arena::{Builder, Doc, events_build_a_whole_document, events_build_their_tree};
 use std::alloc::{AllocError, AllocFailed, Global};
-use xml_profile::{Limits, Reader, XmlFault, XmlKind};
+use xml_laws::read_tells_its_tree;
+use xml_profile::{Reader, settled_is_first};
+use xml_state::{Events, Limits, XmlFault};
+use xml_tokens::XmlKind;
 
-/// The greatest number of bytes of a document.
-const DOCUMENT_LIMIT: usize = 16_777_216;
+/// How large a document may be.
+const DOCUMENT_LIMITS: Limits = Limits {
+    bytes: 16_777_216,
+    nodes: 1_000_000,
+    depth: 100,
+    attributes: 64,
+    name: 200,
+    names: 10_000,
+};
 
 /// How many bytes are read at a time.
 const PIECE: usize = 65_536;
@@ -48,7 +58,7 @@ impl<T: Drop> From<AllocFailed<T>> for LoadFault {
     }
 }
 
-/// Reads the document of that name, its texts placed in the arena.
+/// The document of that name, its texts placed in the arena.
 pub(crate) fn load<'a, S: Shelf>(
     alloc: Global,
     bump: &'a Bump,
@@ -56,80 +66,91 @@ pub(crate) fn load<'a, S: Shelf>(
     shelf: &mut S,
 ) -> Result<Doc<'a>, LoadFault>
     ensures reads { ReadsFrom result faults.Read (S.view shelf.old) (S.view shelf.new) }
-    ensures tree { IfOk result (λ doc. WhereTold (S.view shelf.old).held (λ files.
-        (tree : Forest) × (document_tree document_limit (bytes_under name.now files) ≡ Ok tree) × IsOfTree doc tree)) }
-    ensures refused { (fault : _) → result ≡ Err (faults.Refused fault) → WhereTold (S.view shelf.old).held (λ files.
-        document_tree document_limit (bytes_under name.now files) ≡ Err fault) }
-    ensures fault { (fault : _) → result ≡ Err (faults.Refused fault) → fault ≡ not_in_form }
-{
-    let bytes = match read_file(alloc, name, shelf) {
-        Ok(bytes) => bytes,
-        Err(fault) => return Err(fault),
-    };
-    parse(alloc, bump, bytes.as_slice())
-}
-
-/// The bytes of a file; a front that is longer than a document may be is as good as all.
-fn read_file<S: Shelf>(alloc: Global, name: &str, shelf: &mut S) -> Result<Vec<u8>, LoadFault>
-    ensures reads { ReadsFrom result faults.Read (S.view shelf.old) (S.view shelf.new) }
-    ensures bytes { IfOk result (λ bytes. WhereTold (S.view shelf.old).held (λ files. IsReadOf document_limit (bytes_under name.now files) bytes.items)) }
-    ensures no_refusal { (fault : _) → result ≢ Err (faults.Refused fault) }
+    ensures tree { IfOk result (λ doc. WhereTold (option_map (bytes_under name.now) (S.view shelf.old).held) (λ content. IsLoaded document_limits content doc)) }
+    ensures refused { (fault : _) → result ≡ Err (faults.Refused fault)
+        → IsRefused document_limits (option_map (bytes_under name.now) (S.view shelf.old).held) fault }
 {
     match shelf.open(name) {
         Ok(()) => {}
         Err(_) => return Err(LoadFault::Read),
     }
     let mut piece = vec![in alloc; 0u8; PIECE]?;
-    read_open(alloc, &mut piece, shelf)
+    read_open(alloc, bump, &mut piece, shelf)
 }
 
-/// The bytes left of the open input, read by pieces of some length.
-fn read_open<S: Shelf>(alloc: Global, piece: &mut [u8], shelf: &mut S) -> Result<Vec<u8>, LoadFault>
+/// The document that is left of the open input, read by pieces of some length.
+fn read_open<'a, S: Shelf>(
+    alloc: Global,
+    bump: &'a Bump,
+    piece: &mut [u8],
+    shelf: &mut S,
+) -> Result<Doc<'a>, LoadFault>
     requires { 0 < length piece.old }
     ensures reads { ReadsOn result faults.Read (S.view shelf.old) (S.view shelf.new) }
-    ensures bytes { IfOk result (λ bytes. WhereTold (S.view shelf.old).left (λ left. IsReadOf document_limit left bytes.items)) }
-    ensures no_refusal { (fault : _) → result ≢ Err (faults.Refused fault) }
+    ensures tree { IfOk result (λ doc. WhereTold (S.view shelf.old).left (λ content. IsLoaded document_limits content doc)) }
+    ensures refused { (fault : _) → result ≡ Err (faults.Refused fault) → IsRefused document_limits (S.view shelf.old).left fault }
 {
-    let mut bytes = Vec::new(alloc);
-    'pieces: while bytes.len() <= DOCUMENT_LIMIT {
+    read_builds_its_tree();
+    let mut builder = Builder::new(alloc, bump)?;
+    let mut reader = Reader::new(alloc, DOCUMENT_LIMITS)?;
+    match feed_all(&mut reader, &mut builder, piece, shelf) {
+        Ok(()) => {}
+        Err(fault) => return Err(fault),
+    }
+    match reader.finish(&mut builder) {
+        Ok(names) => Ok(builder.finish(names)?),
+        Err(fault) => Err(fault_of_reader(fault)),
+    }
+}
+
+/// Gives the reader what is left of the open input, by pieces of some length, up to the first fault that is settled: then the
+/// rest of the input isn't read.
+fn feed_all<S: Shelf, E: Events>(
+    reader: &mut Reader,
+    events: &mut E,
+    piece: &mut [u8],
+    shelf: &mut S,
+) -> Result<(), LoadFault>
+    requires room { 0 < length piece.old }
+    requires unread { HasRead reader.old [] }
+    ensures reads { ReadsOn result faults.Read (S.view shelf.old) (S.view shelf.new) }
+    ensures fed { IfOk result (λ _. HasFed (S.view shelf.old).left reader.new (E.taken events.old) (E.taken events.new)) }
+    ensures refused { (fault : _) → result ≡ Err (faults.Refused fault) → IsRefused reader.old.limits (S.view shelf.old).left fault }
+    ensures limits { reader.new.limits ≡ reader.old.limits }
+{
+    settled_is_first();
+    'pieces: loop {
         let count = match shelf.read(piece) {
             Ok(count) => count,
             Err(_) => return Err(LoadFault::Read),
         };
         if count == 0 {
-            return Ok(bytes);
+            return Ok(());
         }
-        match bytes.extend_from_slice(piece.split_at(count).0) {
+        match reader.feed(piece.split_at(count).0, events) {
             Ok(()) => {}
-            Err(_) => return Err(LoadFault::Memory),
+            Err(fault) => return Err(fault_of_reader(fault)),
         }
     }
-    Ok(bytes)
 }
 
-/// The document that the bytes are.
-fn parse<'a>(alloc: Global, bump: &'a Bump, bytes: &[u8]) -> Result<Doc<'a>, LoadFault>
-    ensures tree { IfOk result (λ doc. (tree : Forest) × (document_tree document_limit bytes.now ≡ Ok tree) × IsOfTree doc tree) }
-    ensures refused { (fault : _) → result ≡ Err (faults.Refused fault) → document_tree document_limit bytes.now ≡ Err fault }
-    ensures fault { (fault : _) → result ≡ Err (faults.Refused fault) → fault ≡ not_in_form }
-    ensures no_read_fault { result ≢ Err faults.Read }
+/// A reader's fault as one of loading.
+fn fault_of_reader(fault: XmlFault) -> LoadFault
+    ensures refused { (told : _) → result ≡ faults.Refused told → (told ≡ fault) × (fault ≢ want_of_memory) }
+    ensures memory { result ≡ faults.Memory → fault.kind ≡ kinds.Memory }
+    ensures read { result ≢ faults.Read }
 {
-    let mut builder = Builder::new(alloc, bump)?;
-    let mut reader = Reader::new(
-        alloc,
-        Limits {
-            bytes: DOCUMENT_LIMIT as u64,
-        },
-    )?;
-    match reader.feed(bytes, &mut builder) {
-        Ok(()) => {}
-        Err(_) => return Err(LoadFault::Memory),
+    match fault.kind {
+        XmlKind::Memory => LoadFault::Memory,
+        _ => LoadFault::Refused(fault),
     }
-    match reader.finish(&mut builder) {
-        Ok(names) => Ok(builder.finish(names)?),
-        Err(fault) => match fault.kind {
-            XmlKind::Memory => Err(LoadFault::Memory),
-            XmlKind::NotInForm => Err(LoadFault::Refused(fault)),
-        },
-    }
+}
+
+/// What is read builds the nodes of its tree.
+fn read_builds_its_tree()
+    ensures { (limits : spec.Limits) (bytes : List ℕ) (found : profile.Document) → limits.nodes < 2 ^ 32 → document limits bytes ≡ Ok found → IsBuilt found (built found.events) }
+{
+    read_tells_its_tree();
+    events_build_their_tree();
+    events_build_a_whole_document();
 }

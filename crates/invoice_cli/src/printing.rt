@@ -4,12 +4,12 @@ ghost use Rattle.inv_base.specs.Printing.{Prints, Printed};
 ghost use Rattle.node_arena.specs.Document.{node_at};
 ghost use Rattle.node_arena.specs.Shown.{shown};
 ghost use Rattle.std.specs.Option.{ForSome};
-ghost use Rattle.xml_profile.specs.Events.{name_at};
+ghost use Rattle.xml_state.specs.Events.{name_at};
 ghost use Rattle.invoice_cli.specs.Outline.{node_line, line_as, optional_name_text, braced};
 
 use inv_base::{Kind, Printer, Sink};
 use node_arena::{Doc, NodeId};
-use xml_profile::NameId;
+use xml_state::NameId;
 
 /// Prints the outline of a document, a line for each element, attribute and text, and answers whether a
 /// write failed.

@@ -4,7 +4,8 @@ ghost use Rattle.std.specs.Prelude.{◌≡◌};
 
 use inv_base::{Printer, Sink};
 use itoa::Buffer;
-use xml_profile::{XmlFault, XmlKind};
+use xml_state::XmlFault;
+use xml_tokens::XmlKind;
 
 /// Tells which word fits no command.
 pub(crate) fn tell_bad_word<E: Sink>(number: u64, err: &mut E)
@@ -47,7 +48,27 @@ fn kind_name(kind: XmlKind) -> &'static str
     ensures { result.now ≡ kind_text kind }
 {
     match kind {
-        XmlKind::NotInForm => "NotInForm",
+        XmlKind::TagTooLong => "TagTooLong",
+        XmlKind::NotUtf8 => "NotUtf8",
+        XmlKind::BadChar => "BadChar",
+        XmlKind::Doctype => "Doctype",
+        XmlKind::BadDeclaration => "BadDeclaration",
+        XmlKind::BadMarkup => "BadMarkup",
+        XmlKind::BadReference => "BadReference",
+        XmlKind::TextOutside => "TextOutside",
+        XmlKind::TooManyAttributes => "TooManyAttributes",
+        XmlKind::NameTooLong => "NameTooLong",
+        XmlKind::Mismatched => "Mismatched",
+        XmlKind::SecondRoot => "SecondRoot",
+        XmlKind::BadNamespace => "BadNamespace",
+        XmlKind::UndeclaredPrefix => "UndeclaredPrefix",
+        XmlKind::DuplicateAttribute => "DuplicateAttribute",
+        XmlKind::TooDeep => "TooDeep",
+        XmlKind::TooManyNames => "TooManyNames",
+        XmlKind::TooManyNodes => "TooManyNodes",
+        XmlKind::TooLong => "TooLong",
+        XmlKind::Truncated => "Truncated",
+        XmlKind::NoRoot => "NoRoot",
         XmlKind::Memory => "Memory",
     }
 }

@@ -1,71 +1,132 @@
 -- What a builder keeps behind one call more.
-use Rattle.std.proofs.Common.{◌≡◌, ℕ, ◌+◌, true, List, [], ◌∷◌, ◌++◌, map, Option, Some, None, OnSome, chars, IsUtf8, is_some, refl, ap, sym, ◌∙◌, append_assoc, append-nil}
-use Rattle.std.proofs.lemmas.List.{map-append}
+use Rattle.std.proofs.Common.{◌≡◌, ℕ, ◌-◌, ◌<◌, Bool, true, false, cond, zero, suc, List, [], ◌∷◌, ◌++◌, length, take, get_or, Option, Some, None, OnSome, chars, IsUtf8, is_some, refl, ap, sym, ◌∙◌, append-nil, arith}
 use Rattle.std.proofs.lemmas.Str.{chars-nil}
+use Rattle.std.proofs.lemmas.Bool.{false≢true}
+use Rattle.inv_base.specs.Tree.{is_among}
 use Rattle.inv_base.specs.declared.tree.Kind.TheVariants as kinds
 use Rattle.inv_base.specs.declared.place.Place.{Place}
 use Rattle.inv_base.proofs.TextLemmas.{chars-append}
-use Rattle.xml_profile.specs.Events.{has_text}
-use Rattle.node_arena.specs.Document.{Placed, Built, after, document_node, last_place}
-use Rattle.node_arena.specs.Slots.{placed, text_nodes}
+use Rattle.xml_state.specs.Events.{starts, has_attribute, has_text, ends}
+use Rattle.node_arena.specs.Document.{Placed, Built, after, begun, document_node, node_at, node_behind, last_place, ended}
+use Rattle.node_arena.specs.Slots.{is_inner, path, placed, kept, text_nodes, last_kept, IsGrowing}
 use Rattle.node_arena.specs.declared.slot.Slot.{Slot}
-use Rattle.node_arena.proofs.NodeLemmas.{with_last_text-push}
+use Rattle.node_arena.proofs.NodeLemmas.{with_last_text-push, last_place-at}
+use Rattle.node_arena.proofs.KeptLemmas.{kept-at, kept_length}
 
-same_text : (level : ℕ) (a b : List ℕ) (place : Option Place) → OnSome place (a ≡ b) → text_nodes level (chars a) place ≡ text_nodes level (chars b) place
-same_text level a b None e = refl
-same_text level a b (Some place) e = ap (λ text. text_nodes level (chars text) (Some place)) e
+abbrev pub as_built : List Placed → List ℕ → Bool → Built
+as_built nodes open_nodes in_text = record { nodes = nodes; open_nodes = open_nodes; in_text = in_text }
 
--- the text that was going on, behind the nodes
-pub lent : (old reserved new : List Slot) (level : ℕ) (lent_text text : List ℕ) (place : Option Place) → reserved ≡ old
-    → map placed new ≡ map placed reserved ++ text_nodes level (chars lent_text) place → OnSome place (lent_text ≡ text)
-    → map placed new ≡ map placed old ++ text_nodes level (chars text) place
-lent old reserved new level lent_text text place kept pushed same =
-    pushed ∙ (ap (λ (slots : List Slot). map placed slots ++ text_nodes level (chars lent_text) place) kept ∙ ap (λ nodes. map placed old ++ nodes) (same_text level lent_text text place same))
+-- the text that was going on, as it is lent
+same_text : (nodes : List Placed) (open_nodes a b : List ℕ) (place : Option Place) → OnSome place (a ≡ b)
+    → text_nodes nodes open_nodes (chars a) place ≡ text_nodes nodes open_nodes (chars b) place
+same_text nodes open_nodes a b None e = refl
+same_text nodes open_nodes a b (Some place) e = ap (λ text. text_nodes nodes open_nodes (chars text) (Some place)) e
 
--- and a node behind it
-pub pushed : (mid new : List Slot) (slot : Slot) (nodes : List Placed) → map placed mid ≡ nodes → new ≡ mid ++ slot ∷ []
-    → map placed new ++ [] ≡ nodes ++ placed slot ∷ []
-pushed mid new slot nodes so_far push =
-    append-nil (map placed new) ∙ (ap (λ (slots : List Slot). map placed slots) push ∙ (map-append placed mid (slot ∷ []) ∙ ap (λ x. x ++ placed slot ∷ []) so_far))
+module _ (old reserved mid : List Slot) (current : ℕ) (kept_same : reserved ≡ old) where
+  pub lent : (lent_text text : List ℕ) (place : Option Place)
+      → kept mid ≡ kept reserved ++ text_nodes (kept reserved) (path (kept reserved) current) (chars lent_text) place → OnSome place (lent_text ≡ text)
+      → kept mid ≡ kept old ++ text_nodes (kept old) (path (kept old) current) (chars text) place
+  lent lent_text text place pushed same =
+      pushed
+      ∙ (ap (λ slots. kept slots ++ text_nodes (kept slots) (path (kept slots) current) (chars lent_text) place) kept_same
+      ∙ ap (λ text_node. kept old ++ text_node) (same_text (kept old) (path (kept old) current) lent_text text place same))
+
+  pub lent_around : path (kept mid) current ≡ path (kept reserved) current → path (kept mid) current ≡ path (kept old) current
+  lent_around around = around ∙ ap (λ slots. path (kept slots) current) kept_same
+
+-- an element behind the nodes
+pub started : (mid new nodes : List Placed) (around around_new open_nodes text : List ℕ) (name place number : ℕ)
+    → mid ≡ nodes → around ≡ open_nodes → new ≡ mid ++ node_behind mid around kinds.Element (Some name) (chars text) place ∷ [] → text ≡ []
+    → around_new ≡ number ∷ around → number ≡ length mid
+    → as_built (new ++ []) around_new false ≡ after (starts name place) (as_built nodes open_nodes false)
+started mid new nodes around around_new open_nodes text name place number so_far inside push none opened is =
+    let all : List Placed → List ℕ → List ℕ → Built = λ before inside characters.
+    as_built (before ++ node_behind before inside kinds.Element (Some name) characters place ∷ []) (length before ∷ inside) false in
+    ap (λ before. as_built before around_new false) (append-nil new ∙ push)
+    ∙ (ap (λ opening. as_built (mid ++ node_behind mid around kinds.Element (Some name) (chars text) place ∷ []) opening false) (opened ∙ ap (λ n. n ∷ around) is)
+    ∙ (ap (all mid around) (ap chars none ∙ chars-nil) ∙ (ap (λ before. all before around []) so_far ∙ ap (λ inner. all nodes inner []) inside)))
+
+-- an attribute behind the nodes
+pub attributed : (mid new nodes : List Placed) (around around_new open_nodes text value : List ℕ) (name place : ℕ)
+    → mid ≡ nodes → around ≡ open_nodes → new ≡ mid ++ node_behind mid around kinds.Attribute (Some name) (chars text) place ∷ [] → text ≡ value
+    → place ≡ last_place mid → around_new ≡ around
+    → as_built (new ++ []) around_new false ≡ after (has_attribute name (chars value)) (as_built nodes open_nodes false)
+attributed mid new nodes around around_new open_nodes text value name place so_far inside push same at kept_open =
+    let all : List Placed → List ℕ → List ℕ → ℕ → Built = λ before inner characters where_at.
+    as_built (before ++ node_behind before inner kinds.Attribute (Some name) (chars characters) where_at ∷ []) inner false in
+    ap (λ before. as_built before around_new false) (append-nil new ∙ push)
+    ∙ (ap (λ inner. as_built (mid ++ node_behind mid around kinds.Attribute (Some name) (chars text) place ∷ []) inner false) kept_open
+    ∙ (ap (λ t. all mid around t place) same ∙ (ap (all mid around value) at
+    ∙ (ap (λ before. all before around value (last_place before)) so_far ∙ ap (λ inner. all nodes inner value (last_place nodes)) inside))))
+
+-- the end of the innermost
+pub ended_behind : (mid nodes : List Placed) (around around_new open_nodes : List ℕ)
+    → mid ≡ nodes → around ≡ open_nodes → around_new ≡ ended around
+    → as_built (mid ++ []) around_new false ≡ after ends (as_built nodes open_nodes false)
+ended_behind mid nodes around around_new open_nodes so_far inside ends_it =
+    ap (λ before. as_built before around_new false) (append-nil mid ∙ so_far) ∙ ap (λ inner. as_built nodes inner false) (ends_it ∙ ap ended inside)
+
+pub closed_around : (seen mid : List Slot) (current inner : ℕ) → seen ≡ mid → path (kept seen) inner ≡ ended (path (kept seen) current)
+    → path (kept mid) inner ≡ ended (path (kept mid) current)
+closed_around seen mid current inner same closed =
+    ap (λ slots. path (kept slots) inner) (sym same) ∙ (closed ∙ ap (λ slots. ended (path (kept slots) current)) same)
 
 -- more of a text that was going on
-pub text_more : (slots : List Slot) (level : ℕ) (text piece new : List ℕ) (place : Option Place) (p : Place) (q : ℕ) → place ≡ Some p
+pub text_more : (nodes : List Placed) (open_nodes text piece new : List ℕ) (place : Option Place) (p : Place) (q : ℕ) → place ≡ Some p
     → new ≡ text ++ piece → IsUtf8 text → IsUtf8 piece
-    → record { nodes = map placed slots ++ text_nodes level (chars new) place; level = level; in_text = is_some place }
-    ≡ after (has_text (chars piece) q) (record { nodes = map placed slots ++ text_nodes level (chars text) place; level = level; in_text = is_some place })
-text_more slots level text piece new place p q is more u v =
-    let begun : List ℕ → Built = λ characters. record { nodes = map placed slots ++ text_nodes level characters (Some p); level = level; in_text = true } in
-    let e : begun (chars new) ≡ after (has_text (chars piece) q) (begun (chars text)) =
-    ap begun (ap chars more ∙ chars-append text piece u v)
-    ∙ ap (λ nodes. let b : Built = record { nodes = nodes; level = level; in_text = true } in b) (sym (with_last_text-push (chars piece) (map placed slots) _)) in
+    → as_built (nodes ++ text_nodes nodes open_nodes (chars new) place) open_nodes (is_some place)
+    ≡ after (has_text (chars piece) q) (as_built (nodes ++ text_nodes nodes open_nodes (chars text) place) open_nodes (is_some place))
+text_more nodes open_nodes text piece new place p q is more u v =
+    let going : List ℕ → Built = λ characters. as_built (nodes ++ text_nodes nodes open_nodes characters (Some p)) open_nodes true in
+    let e : going (chars new) ≡ after (has_text (chars piece) q) (going (chars text)) =
+    ap going (ap chars more ∙ chars-append text piece u v)
+    ∙ ap (λ all. as_built all open_nodes true) (sym (with_last_text-push (chars piece) nodes _)) in
     rw is e
 
--- the document's own node as it is kept
-pub document_placed : (text : List ℕ) → text ≡ [] → [] ++ record { kind = kinds.Document; name = None; level = 0; text = chars text; place = 0 } ∷ [] ≡ document_node ∷ []
-document_placed text e = ap (λ characters. let node : Placed = record { kind = kinds.Document; name = None; level = 0; text = characters; place = 0 } in node ∷ []) (ap chars e ∙ chars-nil)
-
--- an attribute as it is kept, and as it is to be
-abbrev pub attribute_node : ℕ → ℕ → List ℕ → ℕ → Placed
-attribute_node level name characters place = record { kind = kinds.Attribute; name = Some name; level = level; text = characters; place = place }
-
-pub attribute_pushed : (nodes before mid : List Placed) (level name : ℕ) (text value : List ℕ) (place : ℕ) → nodes ≡ before ++ attribute_node level name (chars text) place ∷ []
-    → text ≡ value → place ≡ last_place mid → mid ≡ before → nodes ≡ before ++ attribute_node level name (chars value) (last_place before) ∷ []
-attribute_pushed nodes before mid level name text value place push same at is =
-    push ∙ (ap (λ t. before ++ attribute_node level name (chars t) place ∷ []) same ∙ ap (λ p. before ++ attribute_node level name (chars value) p ∷ []) (at ∙ ap last_place is))
-
--- an element as it is kept
-pub element_pushed : (nodes before : List Placed) (level name place : ℕ) (text : List ℕ)
-    → nodes ≡ before ++ record { kind = kinds.Element; name = Some name; level = level; text = chars text; place = place } ∷ [] → text ≡ []
-    → nodes ≡ before ++ record { kind = kinds.Element; name = Some name; level = level; text = []; place = place } ∷ []
-element_pushed nodes before level name place text push none =
-    push ∙ ap (λ characters. let node : Placed = record { kind = kinds.Element; name = Some name; level = level; text = characters; place = place } in before ++ node ∷ []) (ap chars none ∙ chars-nil)
-
 -- the first piece of a text
-pub text_begun : (slots : List Slot) (level : ℕ) (text piece new : List ℕ) (place : Option Place) (p : Place) → place ≡ None → new ≡ piece
-    → record { nodes = map placed slots ++ text_nodes level (chars new) (Some p); level = level; in_text = true }
-    ≡ after (has_text (chars piece) p.byte) (record { nodes = map placed slots ++ text_nodes level (chars text) place; level = level; in_text = is_some place })
-text_begun slots level text piece new place p none first =
-    let begun : List ℕ → List Placed → Built = λ characters nodes. record { nodes = nodes ++ text_nodes level characters (Some p); level = level; in_text = true } in
-    let e : begun (chars new) (map placed slots) ≡ begun (chars piece) (map placed slots ++ []) =
-    ap (λ t. begun (chars t) (map placed slots)) first ∙ ap (begun (chars piece)) (sym (append-nil (map placed slots))) in
+pub text_begun : (nodes : List Placed) (open_nodes text piece new : List ℕ) (place : Option Place) (p : Place) → place ≡ None → new ≡ piece
+    → as_built (nodes ++ text_nodes nodes open_nodes (chars new) (Some p)) open_nodes true
+    ≡ after (has_text (chars piece) p.byte) (as_built (nodes ++ text_nodes nodes open_nodes (chars text) place) open_nodes (is_some place))
+text_begun nodes open_nodes text piece new place p none first =
+    let going : List ℕ → List Placed → Built = λ characters before. as_built (before ++ text_nodes before open_nodes characters (Some p)) open_nodes true in
+    let e : going (chars new) nodes ≡ going (chars piece) (nodes ++ []) =
+    ap (λ t. going (chars t) nodes) first ∙ ap (going (chars piece)) (sym (append-nil nodes)) in
     rw none e
+
+-- the place of the last node
+pub last_place-kept : (slots : List Slot) (slot : Slot) → 0 < length slots → slot ≡ get_or slots (length slots - 1) slot
+    → slot.place.byte ≡ last_place (kept slots)
+last_place-kept slots slot some is =
+    let last = length slots - 1 in
+    sym (last_place-at (kept slots) last (omega (arith, kept_length slots))
+    ∙ ap (λ (node : Placed). node.place) (kept-at slots last slot (omega arith) is))
+
+-- the document's own node, as it is kept
+module _ (nodes new : List Slot) (slot : Slot) (none : nodes ≡ []) (pushed : new ≡ nodes ++ slot ∷ []) (kind : slot.kind ≡ kinds.Document) where
+  alone : new ≡ slot ∷ []
+  alone = pushed ∙ ap (λ (before : List Slot). before ++ slot ∷ []) none
+
+  document_kept : slot.name ≡ None → slot.text.now ≡ [] → slot.place.byte ≡ 0 → kept (slot ∷ []) ≡ document_node ∷ []
+  unfolding kept
+  document_kept name text place =
+      ap (λ k. node_behind [] (cond (is_inner k) (path [] slot.parent) []) k slot.name (chars slot.text.now) slot.place.byte ∷ []) kind
+      ∙ (ap (λ n. node_behind [] [] kinds.Document n (chars slot.text.now) slot.place.byte ∷ []) name
+      ∙ (ap (λ t. node_behind [] [] kinds.Document None t slot.place.byte ∷ []) (ap chars text ∙ chars-nil)
+      ∙ ap (λ p. node_behind [] [] kinds.Document None [] p ∷ []) place))
+
+  pub begun_kept : slot.name ≡ None → slot.text.now ≡ [] → slot.place.byte ≡ 0 → as_built (kept new ++ []) (path (kept new) 0) false ≡ begun
+  begun_kept name text place =
+      ap (λ all. as_built (all ++ []) (path all 0) false) (ap kept alone ∙ document_kept name text place)
+
+  begun_ends : (n : ℕ) → n < 1 → cond (is_among n (path (kept (slot ∷ [])) 0)) 0 (get_or (0 ∷ []) n 0) ≡ last_kept (kept (slot ∷ [])) n
+  unfolding kept last_kept
+  begun_ends zero h = refl
+  begun_ends (suc n) h = absurd (omega arith)
+
+  begun_below : is_inner slot.kind ≡ true → slot.parent < 0
+  begun_below inner = absurd (false≢true (sym (ap is_inner kind) ∙ inner))
+
+  pub begun_growing : (old_ends more_ends : List ℕ) → old_ends ≡ [] → more_ends ≡ old_ends ++ 0 ∷ [] → IsGrowing new more_ends 0
+  begun_growing old_ends more_ends no_ends ended_by =
+      let first : more_ends ≡ 0 ∷ [] = ended_by ∙ ap (λ e. e ++ 0 ∷ []) no_ends in
+      rw (alone, first) (record { here = omega arith; below = (begun_below, tt); long = refl; ends_are = begun_ends })

@@ -1,6 +1,6 @@
 -- A document behind one event more.
-use Rattle.std.proofs.Common.{◌≡◌, ℕ, ◌+◌, Bool, true, false, List, [], ◌∷◌, ◌++◌, refl, ap, sym, ◌∙◌, append_assoc}
-use Rattle.xml_profile.specs.Events.{Event, starts, has_attribute, has_text, ends, with_event, with_events, joined}
+use Rattle.std.proofs.Common.{◌≡◌, ℕ, Bool, true, false, List, [], ◌∷◌, ◌++◌, refl, ap, sym, ◌∙◌, append_assoc}
+use Rattle.xml_state.specs.Events.{Event, starts, has_attribute, has_text, ends, with_event, with_events, joined}
 use Rattle.node_arena.specs.Document.{Placed, Built, begun, after, built, built_from, with_last_text}
 use Rattle.node_arena.proofs.NodeLemmas.{with_last_text-push}
 
@@ -11,14 +11,14 @@ with_last_text-append a b (node ∷ (m ∷ [])) = ap (λ x. node ∷ x) (with_la
 with_last_text-append a b (node ∷ (m ∷ (k ∷ nodes))) = ap (λ x. node ∷ x) (with_last_text-append a b (m ∷ (k ∷ nodes)))
 
 -- Two texts, one behind the other, are one.
-after-joined : (a b : List ℕ) (p q : ℕ) (nodes : List Placed) (level : ℕ) (in_text : Bool)
-    → after (has_text (a ++ b) p) (record { nodes = nodes; level = level; in_text = in_text })
-    ≡ after (has_text b q) (after (has_text a p) (record { nodes = nodes; level = level; in_text = in_text }))
-after-joined a b p q nodes level true = ap (λ x. record { nodes = x; level = level; in_text = true }) (with_last_text-append a b nodes)
-after-joined a b p q nodes level false = ap (λ x. record { nodes = x; level = level; in_text = true }) (sym (with_last_text-push b nodes _))
+after-joined : (a b : List ℕ) (p q : ℕ) (nodes : List Placed) (open_nodes : List ℕ) (in_text : Bool)
+    → after (has_text (a ++ b) p) (record { nodes = nodes; open_nodes = open_nodes; in_text = in_text })
+    ≡ after (has_text b q) (after (has_text a p) (record { nodes = nodes; open_nodes = open_nodes; in_text = in_text }))
+after-joined a b p q nodes open_nodes true = ap (λ x. record { nodes = x; open_nodes = open_nodes; in_text = true }) (with_last_text-append a b nodes)
+after-joined a b p q nodes open_nodes false = ap (λ x. record { nodes = x; open_nodes = open_nodes; in_text = true }) (sym (with_last_text-push b nodes _))
 
 built_from-joined : (b : Built) (d e : Event) → built_from b (joined d e) ≡ after e (after d b)
-built_from-joined b (has_text x p) (has_text y q) = after-joined x y p q b.nodes b.level b.in_text
+built_from-joined b (has_text x p) (has_text y q) = after-joined x y p q b.nodes b.open_nodes b.in_text
 built_from-joined b (has_text x p) (starts n q) = refl
 built_from-joined b (has_text x p) (has_attribute n v) = refl
 built_from-joined b (has_text x p) ends = refl

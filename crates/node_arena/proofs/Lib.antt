@@ -1,4 +1,8 @@
 pub mod BuiltLemmas
 pub mod NodeLemmas
-pub mod BuilderLemmas
 pub mod TreeLemmas
+mod KeptLemmas
+mod GrowingLemmas
+mod BuilderLemmas
+mod ChainLemmas
+mod MoveLemmas

@@ -2,9 +2,10 @@
 use Rattle.std.specs.Prelude.{◌≡◌, ℕ, ◌+◌, List, [], ◌∷◌, ◌++◌, map, Option, Some, None, option_map}
 use Rattle.inv_base.specs.declared.tree.Kind.{Kind}
 use Rattle.inv_base.specs.declared.tree.Kind.TheVariants as kinds
-use Rattle.inv_base.specs.Tree.{Name, Attribute, Forest, no_more, a_text, an_element}
-use Rattle.xml_profile.specs.Events.{name_at}
+use Rattle.inv_base.specs.Tree.{Name, Attribute, Forest, no_more, a_text, an_element, document_nodes}
+use Rattle.xml_state.specs.Events.{name_at}
 use Rattle.node_arena.specs.Document.{Placed, Document}
+use Rattle.node_arena.specs.Moves.{tree_nodes}
 
 -- a node with its expanded name, its level and its text
 pub record Shown : Type 0 where
@@ -36,3 +37,7 @@ shown_document forest = record { kind = kinds.Document; name = None; level = 0; 
 -- The document's nodes are those of the tree.
 abbrev pub IsOfTree : Document → Forest → Type 0
 IsOfTree document tree = map (shown document.names) document.nodes ≡ shown_document tree
+
+-- The same with the ancestors of each node: the document's nodes are those of the plain tree, node for node.
+abbrev pub HasNodesOf : Document → Forest → Type 0
+HasNodesOf document tree = tree_nodes document ≡ document_nodes tree

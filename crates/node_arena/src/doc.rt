@@ -1,16 +1,19 @@
-ghost use Rattle.std.specs.Prelude.{◌≡◌, ℕ, ◌<◌, ◌^◌, length, map, chars, IfSome, SomeIff};
-ghost use Rattle.node_arena.specs.Document.{node_at, IsNumbered};
-ghost use Rattle.node_arena.specs.Slots.{placed};
+ghost use Rattle.std.specs.Prelude.{◌≡◌, ℕ, ◌+◌, ◌<◌, ◌^◌, length, take, chars, IfSome, IfOk, SomeIff};
+ghost use Rattle.node_arena.specs.Document.{node_at, IsNumbered, AreNumbered};
+ghost use Rattle.node_arena.specs.Linked.{AreEnds};
+ghost use Rattle.node_arena.specs.Slots.{placed, kept, AreBelow};
 
-use crate::slot::Slot;
+use crate::chains::Links;
+use crate::slot::{Slot, parent_at};
 use inv_base::{Kind, Place};
+use std::alloc::{AllocError, Global};
 use std::marker::Model;
-use xml_profile::{NameId, NameTable};
+use xml_state::{NameId, NameTable};
 
 /// The number of a node in its document: how many nodes stand before it in document order.
 #[derive(Clone, Copy, Debug, PartialEq, Eq, Hash, PartialOrd, Ord)]
 pub struct NodeId {
-    number: u32,
+    pub(crate) number: u32,
 }
 
 impl Model for NodeId {
@@ -31,37 +34,57 @@ impl NodeId {
 
 /// A document: its nodes in document order, which is a node before its attributes and these before its
 /// children. The document is node 0. Texts are lent from the arena that the builder was given.
+///
+/// A move answers None exactly where the tree has no such node, and takes one step.
 #[derive(Drop)]
 pub struct Doc<'a> {
-    nodes: Vec<Slot<'a>>,
-    names: NameTable,
+    pub(crate) nodes: Vec<Slot<'a>>,
+    pub(crate) ends: Vec<u32>,
+    pub(crate) links: Links,
+    pub(crate) names: NameTable,
 }
 
 impl<'a> Model for Doc<'a> {
-    ghost use Rattle.std.specs.Prelude.{ℕ, ◌<◌, ◌^◌, map, length};
-    ghost use Rattle.node_arena.specs.Document.{Document, IsNumbered};
+    ghost use Rattle.node_arena.specs.Document.{Document};
 
     ghost Value = { Document };
 
-    ghost use Rattle.node_arena.specs.Slots.{placed};
+    ghost use Rattle.node_arena.specs.Slots.{kept};
+    ghost use Rattle.node_arena.specs.Linked.{IsLinked};
 
-    ghost view = { λ doc. record { nodes = map placed doc.nodes.items; names = doc.names } };
+    ghost view = { λ doc. record { nodes = kept doc.nodes.items; names = doc.names } };
 
-    ghost invariant = { λ doc. IsNumbered (map placed doc.nodes.items) doc.names };
+    ghost invariant = { λ doc. IsLinked doc.nodes.items doc.ends.items doc.links doc.names };
 }
 
 impl<'a> Doc<'a> {
-    pub(crate) fn new(nodes: Vec<Slot<'a>>, names: NameTable) -> Doc<'a>
-        requires { IsNumbered (map placed nodes.items) names }
-        ensures { result ≡ record { nodes = map placed nodes.entry.items; names = names } }
+    pub(crate) fn new(
+        alloc: Global,
+        nodes: Vec<Slot<'a>>,
+        ends: Vec<u32>,
+        names: NameTable,
+    ) -> Result<Doc<'a>, AllocError>
+        requires numbered { IsNumbered (kept nodes.items) names }
+        requires below { AreBelow 0 nodes.items }
+        requires ends { AreEnds nodes.items ends.items }
+        requires long { length ends.items ≡ length nodes.items }
+        ensures { IfOk result (λ doc. doc ≡ record { nodes = kept nodes.entry.items; names = names }) }
     {
-        Doc { nodes, names }
+        let links = Links::of(alloc, &nodes, names.len())?;
+        Ok(Doc {
+            nodes,
+            ends,
+            links,
+            names,
+        })
     }
 
     /// The document's own node, which is around the root element.
     pub fn document(&self) -> NodeId
-        ensures { result ≡ 0 }
+        ensures number { result ≡ 0 }
+        ensures numbers { AreNumbered 0 self.now.nodes }
     {
+        let _ = &self.nodes;
         NodeId { number: 0 }
     }
 
@@ -75,6 +98,7 @@ impl<'a> Doc<'a> {
     }
 
     /// The node of that number.
+    #[tactic(auto, using(crate::proofs::KeptLemmas::kept_length))]
     pub fn at(&self, k: u32) -> Option<NodeId>
         ensures node { SomeIff result (k < length self.now.nodes) k }
         ensures few { length self.now.nodes < 2 ^ 32 }
@@ -86,6 +110,7 @@ impl<'a> Doc<'a> {
         }
     }
 
+    #[tactic(auto, using(crate::proofs::KeptLemmas::kept_length))]
     pub fn kind(&self, n: NodeId) -> Kind
         requires { n < length self.now.nodes }
         ensures { result ≡ (node_at self.now.nodes n).kind }
@@ -94,6 +119,7 @@ impl<'a> Doc<'a> {
     }
 
     /// The name of an element or an attribute.
+    #[tactic(auto, using(crate::proofs::KeptLemmas::kept_length))]
     pub fn name(&self, n: NodeId) -> Option<NameId>
         requires { n < length self.now.nodes }
         ensures value { result ≡ (node_at self.now.nodes n).name }
@@ -103,14 +129,16 @@ impl<'a> Doc<'a> {
     }
 
     /// How many nodes it stands inside: 0 at the document, 1 at the root element.
+    #[tactic(auto, using(crate::proofs::KeptLemmas::kept_length))]
     pub fn depth(&self, n: NodeId) -> usize
         requires { n < length self.now.nodes }
         ensures { result ≡ (node_at self.now.nodes n).level }
     {
-        slot_at(&self.nodes, n).level
+        depth_at(&self.nodes, n.number)
     }
 
     /// The characters of a text or the value of an attribute, else nothing.
+    #[tactic(auto, using(crate::proofs::KeptLemmas::kept_length))]
     pub fn text(&self, n: NodeId) -> &'a str
         requires { n < length self.now.nodes }
         ensures { chars result.now ≡ (node_at self.now.nodes n).text }
@@ -119,6 +147,7 @@ impl<'a> Doc<'a> {
     }
 
     /// Where an element's tag begins, or a text; an attribute has its element's place, and the document 0.
+    #[tactic(auto, using(crate::proofs::KeptLemmas::kept_length))]
     pub fn place(&self, n: NodeId) -> Place
         requires { n < length self.now.nodes }
         ensures { result.byte ≡ (node_at self.now.nodes n).place }
@@ -137,7 +166,22 @@ impl<'a> Doc<'a> {
 /// The node of that number, as it is kept.
 fn slot_at<'s, 'a>(nodes: &'s [Slot<'a>], n: NodeId) -> &'s Slot<'a>
     requires { n < length nodes.now }
-    ensures { placed result.now ≡ node_at (map placed nodes.now) n }
+    ensures { placed (take n (kept nodes.now)) result.now ≡ node_at (kept nodes.now) n }
 {
     &nodes[n.number as usize]
+}
+
+/// How many nodes a node is inside.
+fn depth_at(nodes: &[Slot<'_>], n: u32) -> usize
+    requires within { n < length nodes.now }
+    requires below { AreBelow 0 nodes.now }
+    ensures { result ≡ (node_at (kept nodes.now) n).level }
+{
+    let mut depth = 0;
+    let mut n = n;
+    'around: while let Some(parent) = parent_at(nodes, n) {
+        depth += 1;
+        n = parent;
+    }
+    depth
 }

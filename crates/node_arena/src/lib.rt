@@ -1,12 +1,18 @@
-//! A document in memory: its nodes in document order, their texts placed once in an arena and lent from it.
+//! A document in memory: its nodes in document order, linked, their texts placed once in an arena and lent from it.
 #![tactic(auto)]
 
 mod builder;
+mod chains;
 mod doc;
+mod growing;
 mod laws;
+mod link;
+mod moves;
 mod slot;
 
 pub use builder::Builder;
 pub use doc::{Doc, NodeId};
 pub use inv_base::Kind;
-pub use laws::{events_build_a_whole_document, events_build_their_tree};
+pub use laws::{
+    events_build_a_whole_document, events_build_the_nodes_of_their_tree, events_build_their_tree,
+};

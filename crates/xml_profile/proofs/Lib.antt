@@ -1,11 +1,14 @@
-pub mod NameLemmas
-pub mod TokenLemmas
-pub mod ReadLemmas
-pub mod FollowLemmas
-pub mod SpellLemmas
-pub mod TreeLemmas
-pub mod BackLemmas
-pub mod DocumentLemmas
 mod Rows
 pub mod ReadCutLemmas
 pub mod ReadInTwoLemmas
+pub mod GrowthLemmas
+pub mod EndedLemmas
+pub mod TokenLemmas
+pub mod TurnLemmas
+pub mod EventLemmas
+pub mod RunLemmas
+pub mod BlankLemmas
+pub mod CourseLemmas
+pub mod FeedLemmas
+pub mod ReaderLemmas
+pub mod FinishLemmas

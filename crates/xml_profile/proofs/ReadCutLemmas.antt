@@ -1,15 +1,16 @@
 -- Reading in two pieces.
-use Rattle.std.proofs.Common.{◌≡◌, ℕ, zero, suc, pred, ◌+◌, ◌≤◌, ◌==◌, Bool, true, false, nat_le, List, [], ◌∷◌, ◌++◌, length, refl, sym, ap, ◌∙◌, arith, Option, Some, None, if◌then◌else◌}
-use Rattle.std.proofs.lemmas.List.{append_assoc, length-append}
+use Rattle.std.proofs.Common.{◌≡◌, ℕ, zero, suc, pred, ◌+◌, ◌<◌, ◌≤◌, ◌==◌, Bool, true, false, ◌||◌, ◌&&◌, not, nat_le, List, [], ◌∷◌, ◌++◌, length, refl, sym, ap, ◌∙◌, arith, Option, Some, None, if◌then◌else◌}
+use Rattle.std.proofs.lemmas.List.{append_assoc, append-nil, length-append}
 use Rattle.std.proofs.lemmas.Bool.Decides.{nat_tests}
-use Rattle.xml_tokens.specs.Faults.{FaultKind, too_long}
-use Rattle.xml_profile.specs.Limits.{Limits}
+use Rattle.xml_state.specs.Events.{Event}
+use Rattle.xml_tokens.specs.Faults.{FaultKind, Fault, too_long}
+use Rattle.xml_state.specs.Limits.{Limits}
 use Rattle.xml_tokens.specs.Markup.{Token}
 use Rattle.xml_tokens.specs.Beginnings.{Position, Beginning, good, bad, later, beginning, sure_length}
-use Rattle.xml_profile.specs.States.{State, state_behind, events_of}
-use Rattle.xml_profile.specs.Admission.{fault_of}
+use Rattle.xml_state.specs.States.{State, state_behind, events_of}
+use Rattle.xml_state.specs.Admission.{fault_of}
 use Rattle.xml_tokens.proofs.BeginningLemmas.{From, Stays, same, goes_on, Within}
-use Rattle.xml_profile.specs.TokenByToken.{waits, Read, telling, fault_at, fault_within, unfinished, read, resume}
+use Rattle.xml_profile.specs.TokenByToken.{Standing, waits, stopped, Read, telling, fault_at, fault_within, unfinished, read, resume}
 
 abbrev pub turn : Bool → Limits → State → ℕ → ℕ → List ℕ → Beginning → Read
 turn ended limits s place b bytes x = elim x [

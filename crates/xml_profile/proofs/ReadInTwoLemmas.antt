@@ -1,7 +1,7 @@
 -- Reading in two pieces is reading in one, wherever the bytes are cut.
 use Rattle.std.proofs.Common.{◌≡◌, ℕ, ◌≤◌, Bool, false, List, ◌++◌, length}
-use Rattle.xml_profile.specs.Limits.{Limits}
-use Rattle.xml_profile.specs.States.{State}
+use Rattle.xml_state.specs.Limits.{Limits}
+use Rattle.xml_state.specs.States.{State}
 use Rattle.xml_profile.specs.TokenByToken.{read}
 use Rattle.xml_tokens.proofs.BeginningLemmas.{beginning-stays}
 use Rattle.xml_tokens.proofs.WithinLemmas.{beginning-within}

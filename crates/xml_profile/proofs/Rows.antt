@@ -4,17 +4,17 @@ use Rattle.std.specs.Str.{is_utf8, chars}
 use Rattle.std.specs.Char.{encode_utf8}
 use Rattle.inv_base.specs.Characters.{is_char, is_white_space, is_name_start, is_name_char}
 use Rattle.inv_base.specs.Tree.{Name, Forest, no_more, a_text, an_element}
-use Rattle.xml_profile.specs.Events.{Event, starts, has_attribute, has_text, ends, tree_of_events}
+use Rattle.xml_state.specs.Events.{Event, starts, has_attribute, has_text, ends, tree_of_events}
 use Rattle.xml_tokens.specs.Faults.{Fault, FaultKind, not_utf8, bad_char, doctype, bad_declaration, bad_markup, bad_reference, text_outside, too_many_attributes, name_too_long, mismatched, second_root, bad_namespace, undeclared_prefix, duplicate_attribute, too_deep, too_many_names, too_many_nodes, too_long, truncated, no_root}
-use Rattle.xml_profile.specs.Limits.{Limits}
+use Rattle.xml_state.specs.Limits.{Limits}
 use Rattle.xml_tokens.specs.Encoding.{character_at}
 use Rattle.xml_tokens.specs.References.{referred, reference_at}
 use Rattle.xml_tokens.specs.WrittenNames.{is_qname}
 use Rattle.xml_tokens.specs.Markup.{comment, section, is_declaration, instruction}
 use Rattle.xml_tokens.specs.Tags.{attribute_at, tag_inside, value_of, start_tag, end_tag}
 use Rattle.xml_tokens.specs.Beginnings.{extent, beginning}
-use Rattle.xml_profile.specs.States.{state_behind, events_of}
-use Rattle.xml_profile.specs.Admission.{fault_of}
+use Rattle.xml_state.specs.States.{state_behind, events_of}
+use Rattle.xml_state.specs.Admission.{fault_of}
 use Rattle.xml_profile.specs.TokenByToken.{read_front, read, resume}
 use Rattle.xml_profile.specs.Profile.{Document, document, tree_of, fault_of_whole, first_fault, settled_fault}
 

@@ -1,10 +1,10 @@
 -- Whole inputs and beginnings of inputs: the first fault, the fault that is settled, and the document.
 use Rattle.std.specs.Prelude.{◌≡◌, ℕ, ◌+◌, nat_lt, List, [], length, Option, Some, None, Result, Ok, Err, if◌then◌else◌}
 use Rattle.inv_base.specs.Tree.{Name, Forest}
-use Rattle.xml_profile.specs.Events.{Event, with_events, tree_of_events}
+use Rattle.xml_state.specs.Events.{Event, with_events, tree_of_events}
 use Rattle.xml_tokens.specs.Faults.{Fault, truncated, no_root}
-use Rattle.xml_profile.specs.Limits.{Limits}
-use Rattle.xml_profile.specs.States.{State, is_outside}
+use Rattle.xml_state.specs.Limits.{Limits}
+use Rattle.xml_state.specs.States.{State, is_outside}
 use Rattle.xml_profile.specs.TokenByToken.{Standing, waits, stopped, read_front, read_whole}
 
 -- the fault of an end in a state at a place, behind the bytes of what isn't a token: inside something that has begun, or before a root

@@ -1,11 +1,11 @@
 -- Reading token by token: what tokens tell, and where reading stands behind them.
-use Rattle.std.specs.Prelude.{ℕ, ◌+◌, zero, suc, pred, Bool, true, false, nat_le, List, [], ◌∷◌, ◌++◌, Some, None, if◌then◌else◌}
-use Rattle.xml_profile.specs.Events.{Event}
+use Rattle.std.specs.Prelude.{ℕ, ◌+◌, zero, suc, pred, Bool, true, false, ◌==◌, nat_le, List, [], ◌∷◌, ◌++◌, length, Some, None, if◌then◌else◌}
+use Rattle.xml_state.specs.Events.{Event}
 use Rattle.xml_tokens.specs.Faults.{FaultKind, Fault, too_long}
-use Rattle.xml_profile.specs.Limits.{Limits}
+use Rattle.xml_state.specs.Limits.{Limits}
 use Rattle.xml_tokens.specs.Beginnings.{good, bad, later, beginning, sure_length}
-use Rattle.xml_profile.specs.States.{State, begin, state_behind, events_of}
-use Rattle.xml_profile.specs.Admission.{fault_of}
+use Rattle.xml_state.specs.States.{State, begin, state_behind, events_of}
+use Rattle.xml_state.specs.Admission.{fault_of}
 
 -- Where reading stands: behind so many bytes in a state, with the bytes of what isn't a token yet, or at a fault.
 pub data Standing : Type 0 where

@@ -1,105 +1,108 @@
-ghost use Rattle.std.specs.Prelude.{◌≡◌, [], Some, None, IfOk, IfErr, OnOk};
-ghost use Rattle.std.proofs.Common.{◌⊎◌};
-ghost use Rattle.xml_profile.specs.Events.{TakesAll};
-ghost use Rattle.xml_profile.specs.Reading as spec;
-ghost use Rattle.xml_profile.specs.Reading.{Reading, reading};
-ghost use Rattle.xml_profile.specs.Readers.{want_of_memory, not_in_form};
-ghost use Rattle.xml_profile.specs.Steps.{Refuses};
+ghost use Rattle.std.specs.Prelude.{◌≡◌, ◌≢◌, ◌++◌, List, [], ℕ, None, Err, true, false, IfOk};
+ghost use Rattle.xml_state.specs.Events.{TakesAll};
+ghost use Rattle.xml_state.specs.Seen.{seen_limits, want_of_memory};
+ghost use Rattle.xml_profile.specs.Readers.{Progress, HasRead, Answers, Tells, Ends, unread, fault_of_reader};
+ghost use Rattle.xml_profile.specs.Fields.{Feeds, EndsAt};
 
-use crate::events::Events;
-use crate::fault::XmlFault;
-use crate::names::NameTable;
-use crate::nest::Nest;
-use crate::tokens::token_at;
-use inv_base::Place;
+use crate::cursor::Cursor;
 use std::alloc::{AllocError, Global};
 use std::marker::Model;
+use xml_state::{Events, Limits, NameTable, XmlFault};
 
-/// The greatest sizes of a document that is read.
-#[derive(Clone, Copy, Debug, PartialEq, Eq)]
-pub struct Limits {
-    /// Bytes of the whole document.
-    pub bytes: u64,
-}
-
-/// Reads a document: it is given the bytes, and then tells a receiver what they hold.
+/// Reads a document, in pieces, and tells a receiver what it holds. It keeps the bytes of the unfinished token and nothing else of
+/// the input.
 #[derive(Drop)]
 pub struct Reader {
     alloc: Global,
     limits: Limits,
-    fed: Vec<u8>,
+    cursor: Cursor,
+    // the bytes of what begins at the cursor and isn't a token yet
+    rest: Vec<u8>,
+    // the fault that was answered
+    fault: Option<XmlFault>,
 }
 
 impl Model for Reader {
+    ghost use Rattle.xml_state.specs.Seen.{seen_limits};
     ghost use Rattle.xml_profile.specs.Readers.{Progress};
 
     ghost Value = { Progress };
 
-    ghost view = { λ reader. record { limit = reader.limits.bytes; fed = reader.fed.items } };
+    ghost use Rattle.xml_profile.specs.Fields.{progress_of, IsSound};
+
+    ghost view = { λ reader. progress_of (seen_limits reader.limits) reader.fault reader.cursor reader.rest.items };
+
+    ghost invariant = { λ reader. IsSound (seen_limits reader.limits) reader.fault reader.cursor reader.rest.items };
 }
 
 impl Reader {
     /// A reader that was given nothing.
     pub fn new(alloc: Global, limits: Limits) -> Result<Reader, AllocError>
-        ensures { IfOk result (λ reader. reader ≡ record { limit = limits.bytes; fed = [] }) }
+        ensures { IfOk result (λ reader. reader ≡ unread (seen_limits limits)) }
     {
         Ok(Reader {
             alloc,
             limits,
-            fed: Vec::new(alloc),
+            cursor: Cursor::new(alloc),
+            rest: Vec::new(alloc),
+            fault: None,
         })
     }
 
-    /// Takes the bytes of the document, all at once. Nothing was fed before, and nothing is told yet. The only `Err` is want of memory.
+    /// Takes a further piece of the document. A fault is answered as soon as no further byte can change it, and then at each
+    /// call. `NoRoot` and `Truncated` come from `finish` alone.
     pub fn feed<E: Events>(&mut self, piece: &[u8], events: &mut E) -> Result<(), XmlFault>
-        requires { self.old.fed ≡ [] }
-        ensures ok { OnOk result (self.new ≡ record self.old { fed = piece.now }) }
-        ensures err { IfErr result (λ fault. (fault ≡ want_of_memory) × (self.new ≡ self.old)) }
-        ensures events { TakesAll [] (E.taken events.old) (E.taken events.new) }
+        ensures limits { self.new.limits ≡ self.old.limits }
+        ensures answer { Answers result (fault_of_reader self.new) }
+        ensures read { self.new.lacks_memory ≡ false → (fed : List ℕ) → HasRead self.old fed → HasRead self.new (fed ++ piece.now) }
+        ensures told { (fed : List ℕ) → HasRead self.old fed → Tells self.new fed (fed ++ piece.now) (E.taken events.old) (E.taken events.new) }
+        ensures stopped { fault_of_reader self.old ≢ None → (self.new ≡ self.old) × TakesAll [] (E.taken events.old) (E.taken events.new) }
     {
-        self.fed.extend_from_slice(piece)?;
-        Ok(())
+        self.feed_piece(piece, events)
     }
 
-    /// Tells the receiver the document that was fed, and answers its names; or says why it is refused: because memory ran out, or
-    /// because the bytes aren't a document in the plainest form, or are more than the limit. A receiver may then have been told
-    /// events of a front of the document.
+    fn feed_piece<E: Events>(&mut self, piece: &[u8], events: &mut E) -> Result<(), XmlFault>
+        ensures { Feeds result self.old self.new piece.now (E.taken events.old) (E.taken events.new) }
+    {
+        if let Some(fault) = self.fault {
+            return Err(fault);
+        }
+        match self
+            .cursor
+            .feed(self.alloc, &self.limits, &mut self.rest, piece, events)
+        {
+            Ok(()) => Ok(()),
+            Err(fault) => {
+                self.fault = Some(fault);
+                Err(fault)
+            }
+        }
+    }
+
+    /// Ends the document: its names, or its first fault.
     pub fn finish<E: Events>(self, events: &mut E) -> Result<NameTable, XmlFault>
-        ensures found { IfOk result (λ names. (found : Reading) × (reading self.limit self.fed ≡ Some found) × (names ≡ found.names)
-            × TakesAll found.events (E.taken events.old) (E.taken events.new)) }
-        ensures refused { IfErr result (λ fault. (fault ≡ want_of_memory) ⊎ ((fault ≡ not_in_form) × (reading self.limit self.fed ≡ None))) }
+        ensures ended { (fed : List ℕ) → HasRead self fed → Ends (λ table. table) result self.limits fed (E.taken events.old) (E.taken events.new) }
+        ensures stopped { self.lacks_memory ≡ true → (result ≡ Err want_of_memory) × TakesAll [] (E.taken events.old) (E.taken events.new) }
     {
-        if self.fed.len() as u64 > self.limits.bytes {
-            return Err(XmlFault::NOT_IN_FORM);
-        }
-        read(self.alloc, self.fed.as_slice(), events)
+        self.end(events)
     }
-}
 
-// Tells what all the bytes hold, token by token.
-fn read<E: Events>(alloc: Global, bytes: &[u8], events: &mut E) -> Result<NameTable, XmlFault>
-    ensures found { IfOk result (λ names. (found : Reading) × (spec.read spec.begin 0 0 bytes.now ≡ Some found) × (names ≡ found.names)
-        × TakesAll found.events (E.taken events.old) (E.taken events.new)) }
-    ensures refused { IfErr result (λ fault. Refuses fault (spec.read spec.begin 0 0 bytes.now ≡ None)) }
-{
-    let mut nest = Nest::new(alloc);
-    let mut rest = bytes;
-    'tokens: while !rest.is_empty() {
-        let place = Place {
-            byte: (bytes.len() - rest.len()) as u64,
-        };
-        let (token, behind) = match token_at(rest) {
-            Some(found) => found,
-            None => return Err(XmlFault::NOT_IN_FORM),
-        };
-        match nest.take(alloc, token, place, events) {
-            Ok(()) => rest = behind,
-            Err(fault) => return Err(fault),
+    fn end<E: Events>(self, events: &mut E) -> Result<NameTable, XmlFault>
+        ensures { EndsAt result self (E.taken events.old) (E.taken events.new) }
+    {
+        let Reader {
+            alloc,
+            limits,
+            mut cursor,
+            rest,
+            fault,
+        } = self;
+        if let Some(fault) = fault {
+            return Err(fault);
         }
-    }
-    if nest.may_end() {
-        Ok(nest.into_names())
-    } else {
-        Err(XmlFault::NOT_IN_FORM)
+        match cursor.read(alloc, &limits, true, &rest, events) {
+            Ok(left) => cursor.end(limits.bytes, left.len()),
+            Err(fault) => Err(fault),
+        }
     }
 }

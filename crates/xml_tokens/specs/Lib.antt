@@ -7,3 +7,7 @@ pub mod Literals
 pub mod Markup
 pub mod Tags
 pub mod Beginnings
+pub mod Searching
+pub mod Seen
+pub mod Told
+pub mod Runs

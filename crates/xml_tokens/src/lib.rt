@@ -1,3 +1,27 @@
-//! What begins at a place of a document's bytes: a token, a bad token, or nothing yet (XML 1.0, fifth edition). Definitions and laws; no
-//! code reads by them yet.
+//! What begins at a place of a document's bytes: a token, a bad token, or nothing yet (XML 1.0, fifth edition).
+//!
+//! A token is the byte order mark, the declaration, a comment, a processing instruction, a CDATA section, a tag, a reference, a line end or one
+//! character. Whether it may stand where it stands is no matter of this crate.
 #![tactic(auto)]
+
+mod beginning;
+mod declaration;
+mod encoding;
+mod extents;
+mod kind;
+mod literals;
+mod markup;
+mod names;
+mod references;
+mod run;
+mod scanning;
+mod search;
+mod tags;
+mod token;
+mod values;
+
+pub use beginning::{Beginning, Position, what_begins};
+pub use kind::XmlKind;
+pub use run::run_at_front;
+pub use search::Search;
+pub use token::{Attribute, Section, StartTag, Token, Value};

@@ -1,13 +1,22 @@
-use Rattle.std.proofs.Common.{sym, ap, ◌∙◌}
-use Rattle.inv_base.specs.Files.{bytes_under}
-use Rattle.xml_profile.specs.Documents.{document_tree}
-use Rattle.invoice_cli.proofs.LoadLemmas.{tree_of_result, loaded_fault}
+use Rattle.std.proofs.Common.{refl, subst}
+use Rattle.std.specs.Prelude.{IfOk}
+use Rattle.inv_base.specs.Outside.{WhereTold}
+use Rattle.invoice_cli.specs.Answer.{document_limits}
+use Rattle.invoice_cli.specs.Load.{IsLoaded, IsRefused}
+use Rattle.invoice_cli.proofs.LoadLemmas.{failed_from, opened_from}
 use Rattle.invoice_cli.proofs.load.load.Goals as goal
 
-pub returns-clause-tree : goal.returns-clause-tree
-returns-clause-tree g c = tree_of_result 16777216 _ _ _ _ c.parse.result c.as_slice.ensures.value c.in-Ok.ensures.bytes c.parse.ensures.tree
+pub returns-in-Err-clause-reads : goal.returns-in-Err-clause-reads
+returns-in-Err-clause-reads g c =
+    let opened = c.in-Err.ensures in
+    failed_from _ _ (g.S.Shelf.view c.args.shelf.now) (g.S.Shelf.view c.open.new.self) refl opened.held opened.opens opened.faults.0 opened.faults.1
 
-pub returns-clause-refused : goal.returns-clause-refused
-returns-clause-refused g c = λ fault is files held.
-    loaded_fault 16777216 (bytes_under c.args.name.now files) c.in-Ok.bytes.items fault (c.in-Ok.ensures.bytes files held)
-    (ap (document_tree 16777216) (sym c.as_slice.ensures.value) ∙ c.parse.ensures.refused fault is)
+pub returns : goal.returns
+returns g c =
+    let opened = c.in-Ok.ensures in
+    let read = c.read_open.ensures in
+    record {
+      reads = opened_from _ _ (g.S.Shelf.view c.args.shelf.now) (g.S.Shelf.view c.open.new.self) (g.S.Shelf.view c.read_open.new.shelf) opened.held opened.opens opened.faults read.reads;
+      tree = subst (λ told. IfOk c.read_open.result (λ doc. WhereTold told (λ content. IsLoaded document_limits content doc))) opened.left read.tree;
+      refused = λ fault is. subst (λ told. IsRefused document_limits told fault) opened.left (read.refused fault is);
+    }

@@ -1,57 +1,41 @@
-use Rattle.std.proofs.Common.{◌++◌, refl, ap, ◌∙◌, arith}
-use Rattle.invoice_cli.proofs.LoadLemmas.{ahead_of-nil, ahead_of-append, read_all, read_more, failed_on, fine_on, none_taken}
+use Rattle.std.proofs.Common.{◌≡◌, ap, ◌∙◌, arith}
+use Rattle.xml_profile.specs.Readers.{Progress}
+use Rattle.invoice_cli.specs.Answer.{document_limits}
+use Rattle.invoice_cli.proofs.LoadLemmas.{read_nothing, read_wholly, refused_at_end, wholly_numbered, wholly_loaded}
 use Rattle.invoice_cli.proofs.load.read_open.Goals as goal
 
-pub pieces-init : goal.pieces-init
-pieces-init g c = record {
-  content = ahead_of-nil _ _ c.new-bytes.ensures.items;
-  held = refl;
-  opens = refl;
-  faults = refl;
-}
+pub feed_all-requires-clause-unread : goal.feed_all-requires-clause-unread
+feed_all-requires-clause-unread g c = read_nothing document_limits c.in_ok-reader.reader c.in_ok-reader.ensures
 
-pub pieces-preserved : goal.pieces-preserved
-pieces-preserved g c =
-    let so_far = c.pieces.invariant in
-    let read = c.in-Ok.ensures in
-    record {
-      content = ahead_of-append _ _ _ _ _ _ so_far.content read.left (c.in-Ok-extend_from_slice.ensures.items ∙ ap (λ x. c.pieces.bytes.items ++ x) c.split_at.ensures.front);
-      held = read.held ∙ so_far.held;
-      opens = read.opens ∙ so_far.opens;
-      faults = read.faults ∙ so_far.faults;
-    }
+pub finish-requires-in-Ok-finish-clause-ended : goal.finish-requires-in-Ok-finish-clause-ended
+finish-requires-in-Ok-finish-clause-ended g c =
+    let fed = c.in-Ok.ensures.fed in
+    let kept : c.feed_all.new.reader.limits ≡ document_limits = c.feed_all.ensures.limits ∙ ap (λ (p : Progress). p.limits) c.in_ok-reader.ensures in
+    let whole = read_wholly document_limits (g.S.Shelf.view c.args.shelf.now).left c.feed_all.new.reader c.in_ok-builder.builder c.feed_all.new.events c.finish.new.events c.in-Ok-finish.names kept c.in_ok-builder.ensures fed
+    (c.in-Ok-finish.ensures.ended fed.fed fed.read) (λ found is. c.read_builds_its_tree.ensures document_limits fed.fed found (omega arith) is) in
+    whole.made.ended
 
-pub returns-in-Err-clause-reads : goal.returns-in-Err-clause-reads
-returns-in-Err-clause-reads g c =
-    let so_far = c.pieces.invariant in
-    let read = c.in-Err.ensures in
-    failed_on _ _ (g.S.Shelf.view c.args.shelf.now) (g.S.Shelf.view c.pieces.shelf) (g.S.Shelf.view c.read.new.self) refl so_far.held so_far.opens so_far.faults read.held read.opens read.faults.0 read.faults.1
+pub finish-requires-in-Ok-finish-clause-numbered : goal.finish-requires-in-Ok-finish-clause-numbered
+finish-requires-in-Ok-finish-clause-numbered g c =
+    let fed = c.in-Ok.ensures.fed in
+    let kept : c.feed_all.new.reader.limits ≡ document_limits = c.feed_all.ensures.limits ∙ ap (λ (p : Progress). p.limits) c.in_ok-reader.ensures in
+    wholly_numbered document_limits (g.S.Shelf.view c.args.shelf.now).left c.in-Ok-finish.names c.finish.new.events
+    (read_wholly document_limits (g.S.Shelf.view c.args.shelf.now).left c.feed_all.new.reader c.in_ok-builder.builder c.feed_all.new.events c.finish.new.events c.in-Ok-finish.names kept c.in_ok-builder.ensures fed
+    (c.in-Ok-finish.ensures.ended fed.fed fed.read) (λ found is. c.read_builds_its_tree.ensures document_limits fed.fed found (omega arith) is))
 
-pub returns-then-count-eq0 : goal.returns-then-count-eq0
-returns-then-count-eq0 g c =
-    let so_far = c.pieces.invariant in
-    let read = c.in-Ok.ensures in
-    record {
-      reads = fine_on _ _ (g.S.Shelf.view c.args.shelf.now) (g.S.Shelf.view c.read.new.self) (λ e. cc) (read.held ∙ so_far.held) (read.opens ∙ so_far.opens) (read.faults ∙ so_far.faults);
-      bytes = read_all _ _ _ _ _ _ so_far.content read.left (none_taken _ _ c.if-count-eq0.true) (read.end c.if-count-eq0.true (omega arith));
-      no_refusal = λ fault e. cc;
-    }
+pub returns-in-Ok-finish-clause-tree : goal.returns-in-Ok-finish-clause-tree
+returns-in-Ok-finish-clause-tree g c =
+    let fed = c.in-Ok.ensures.fed in
+    let kept : c.feed_all.new.reader.limits ≡ document_limits = c.feed_all.ensures.limits ∙ ap (λ (p : Progress). p.limits) c.in_ok-reader.ensures in
+    wholly_loaded document_limits (g.S.Shelf.view c.args.shelf.now).left c.in-Ok-finish.names c.finish.new.events c.in_ok-finish-in-Ok-finish.field-0
+    (read_wholly document_limits (g.S.Shelf.view c.args.shelf.now).left c.feed_all.new.reader c.in_ok-builder.builder c.feed_all.new.events c.finish.new.events c.in-Ok-finish.names kept c.in_ok-builder.ensures fed
+    (c.in-Ok-finish.ensures.ended fed.fed fed.read) (λ found is. c.read_builds_its_tree.ensures document_limits fed.fed found (omega arith) is))
+    c.in_ok-finish-in-Ok-finish.ensures
 
-pub returns-in-Err-extend_from_slice : goal.returns-in-Err-extend_from_slice
-returns-in-Err-extend_from_slice g c =
-    let so_far = c.pieces.invariant in
-    let read = c.in-Ok.ensures in
-    record {
-      reads = fine_on _ _ (g.S.Shelf.view c.args.shelf.now) (g.S.Shelf.view c.read.new.self) (λ e. cc) (read.held ∙ so_far.held) (read.opens ∙ so_far.opens) (read.faults ∙ so_far.faults);
-      bytes = tt;
-      no_refusal = λ fault e. cc;
-    }
-
-pub returns : goal.returns
-returns g c =
-    let so_far = c.pieces.invariant in
-    record {
-      reads = fine_on _ _ (g.S.Shelf.view c.args.shelf.now) (g.S.Shelf.view c.pieces.shelf) (λ e. cc) so_far.held so_far.opens so_far.faults;
-      bytes = read_more _ _ _ _ so_far.content (omega (arith, c.pieces.bytes.ok.0));
-      no_refusal = λ fault e. cc;
-    }
+pub returns-clause-refused : goal.returns-clause-refused
+returns-clause-refused g c = λ told is.
+    let fed = c.in-Ok.ensures.fed in
+    let kept : c.feed_all.new.reader.limits ≡ document_limits = c.feed_all.ensures.limits ∙ ap (λ (p : Progress). p.limits) c.in_ok-reader.ensures in
+    let found = c.fault_of_reader.ensures.refused told cc in
+    refused_at_end document_limits c.feed_all.new.reader.limits (g.S.Shelf.view c.args.shelf.now).left fed.fed _ _ c.in-Err-finish.fault told kept (c.in-Err-finish.ensures.ended fed.fed fed.read)
+    found.1 found.0 fed.whole

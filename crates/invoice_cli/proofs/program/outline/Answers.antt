@@ -19,7 +19,7 @@ returns-in-Err-Refused g c =
     let is = c.in-Err-Refused.field-0-is in
     let found = c.in-Err-Refused.ensures in
     answers_refused c.args.file.now (g.S.Shelf.view c.args.shelf.now) (g.S.Shelf.view c.load.new.shelf) (g.O.Sink.view c.args.out.now) (g.E.Sink.view c.args.err.now)
-    fault (g.E.Sink.view c.tell_document_fault.new.err) (found.fault fault cc) (rw is at found.reads) (found.refused fault cc) c.tell_document_fault.ensures
+    fault (rw is at found.reads) (found.refused fault cc) (g.E.Sink.view c.tell_document_fault.new.err) c.tell_document_fault.ensures
 
 pub returns-in-Err-Read : goal.returns-in-Err-Read
 returns-in-Err-Read g c =

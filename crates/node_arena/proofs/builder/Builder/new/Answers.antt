@@ -1,10 +1,9 @@
-use Rattle.std.proofs.Common.{[], List, refl, false, map, ap, ◌∙◌}
-use Rattle.node_arena.specs.Slots.{placed}
-use Rattle.node_arena.specs.Document.{Built, Placed}
-use Rattle.node_arena.proofs.BuilderLemmas.{pushed, document_placed}
+use Rattle.std.proofs.Common.{refl}
+use Rattle.node_arena.proofs.BuilderLemmas.{begun_kept, begun_growing}
 use Rattle.node_arena.proofs.builder.Builder.new.Goals as goal
 
+pub invariant_of-result : goal.invariant_of-result
+invariant_of-result c = begun_growing _ _ _ c.in_ok-nodes.ensures.items c.push_within.ensures.items refl _ _ c.in_ok-ends.ensures.items c.push_within-2.ensures.items
+
 pub returns : goal.returns
-returns c =
-    let behind : List Placed → Built = λ nodes. record { nodes = nodes; level = 1; in_text = false } in
-    ap behind (pushed _ _ _ [] (ap (map placed) c.in_ok-nodes.ensures.items) c.push_within.ensures.items ∙ document_placed [] refl)
+returns c = begun_kept _ _ _ c.in_ok-nodes.ensures.items c.push_within.ensures.items refl refl refl refl

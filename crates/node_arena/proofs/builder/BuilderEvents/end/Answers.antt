@@ -1,13 +1,13 @@
-use Rattle.std.proofs.Common.{◌-◌, ◌++◌, map, List, [], false, ap, ◌∙◌, append-nil}
-use Rattle.xml_profile.specs.Events.{ends}
-use Rattle.node_arena.specs.Document.{Built, Placed, after}
-use Rattle.node_arena.specs.Slots.{placed}
+use Rattle.std.proofs.Common.{ap, ◌∙◌}
+use Rattle.xml_state.specs.Events.{ends}
+use Rattle.node_arena.specs.Document.{after}
 use Rattle.node_arena.proofs.BuiltLemmas.{Takes-after}
-use Rattle.node_arena.proofs.BuilderLemmas.{lent}
+use Rattle.node_arena.proofs.BuilderLemmas.{lent, lent_around, ended_behind, closed_around}
 use Rattle.node_arena.proofs.builder.BuilderEvents.end.Goals as goal
 
 pub returns : goal.returns
 returns c =
-    let nodes = lent _ _ _ _ _ _ _ c.in_ok-reserve.ensures.items c.push_text.ensures.nodes c.in_ok-text.ensures in
-    let behind : List Placed → Built = λ nodes. record { nodes = nodes; level = c.self.inside.level - 1; in_text = false } in
-    Takes-after _ _ _ (ap (λ level. let b : Built = record { nodes = map placed c.push_text.new.nodes.items ++ []; level = level; in_text = false } in b) c.saturating_sub-self-inside.ensures ∙ (ap behind (append-nil _ ∙ nodes) ∙ ap (after ends) c.self.view_is))
+    let is = c.in_ok-make_room.ensures.nodes in
+    let so_far = lent _ _ _ _ is _ _ _ c.push_text.ensures.nodes c.in_ok-text.ensures in
+    let inside = lent_around _ _ _ _ is c.push_text.ensures.around in
+    Takes-after _ _ _ (ended_behind _ _ _ _ _ so_far inside (closed_around _ _ _ _ c.deref.ensures.value c.close-self-inside.ensures.around) ∙ ap (after ends) c.self.view_is)

@@ -1,12 +1,23 @@
-use Rattle.std.proofs.Common.{◌+◌, List, [], refl, false, ap, ◌∙◌}
-use Rattle.xml_profile.specs.Events.{starts}
-use Rattle.node_arena.specs.Document.{Built, Placed, after}
+use Rattle.std.proofs.Common.{refl, ap, ◌∙◌, arith}
+use Rattle.xml_state.specs.Events.{starts}
+use Rattle.node_arena.specs.Document.{after}
 use Rattle.node_arena.proofs.BuiltLemmas.{Takes-after}
-use Rattle.node_arena.proofs.BuilderLemmas.{lent, pushed, element_pushed}
+use Rattle.node_arena.proofs.BuilderLemmas.{lent, lent_around, started}
+use Rattle.node_arena.proofs.GrowingLemmas.{growing-opened, path-opened, kept-more}
+use Rattle.node_arena.proofs.KeptLemmas.{kept_length}
 use Rattle.node_arena.proofs.builder.BuilderEvents.start.Goals as goal
+
+pub invariant_of-self-2 : goal.invariant_of-self-2
+invariant_of-self-2 c =
+    growing-opened _ _ _ _ _ _ c.push_text.ensures.growing refl c.push_within.ensures.items c.push_within-2.ensures.items (omega (arith, c.len-number.ensures, c.push_text.new.nodes.ok.0))
 
 pub returns : goal.returns
 returns c =
-    let nodes = element_pushed _ _ _ _ _ [] (pushed _ _ _ _ (lent _ _ _ _ _ _ _ c.in_ok-reserve.ensures.items c.push_text.ensures.nodes c.in_ok-text.ensures) c.push_within.ensures.items) refl in
-    let behind : List Placed → Built = λ nodes. record { nodes = nodes; level = c.self.inside.level + 1; in_text = false } in
-    Takes-after _ _ _ (ap behind nodes ∙ ap (after (starts c.args.name c.args.place.byte)) c.self.view_is)
+    let is = c.in_ok-make_room.ensures.nodes in
+    let so_far = lent _ _ _ _ is _ _ _ c.push_text.ensures.nodes c.in_ok-text.ensures in
+    let inside = lent_around _ _ _ _ is c.push_text.ensures.around in
+    let count = kept_length c.push_text.new.nodes.items in
+    let pushed = kept-more _ _ _ _ _ _ c.push_text.ensures.growing refl c.push_within.ensures.items c.push_within-2.ensures.items (omega (arith, c.len-number.ensures, c.push_text.new.nodes.ok.0)) in
+    let opened = path-opened _ _ _ _ _ _ c.push_text.ensures.growing refl c.push_within.ensures.items c.push_within-2.ensures.items (omega (arith, c.len-number.ensures, c.push_text.new.nodes.ok.0)) in
+    Takes-after _ _ _ (started _ _ _ _ _ _ _ _ _ _ so_far inside pushed refl opened (omega (arith, count, c.len-number.ensures, c.push_text.new.nodes.ok.0))
+    ∙ ap (after (starts c.args.name c.args.place.byte)) c.self.view_is)

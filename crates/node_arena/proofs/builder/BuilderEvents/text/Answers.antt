@@ -1,7 +1,7 @@
-use Rattle.std.proofs.Common.{List, ◌++◌, ap, ◌∙◌, ◌+◌, true}
+use Rattle.std.proofs.Common.{◌++◌, ap, ◌∙◌}
 use Rattle.std.proofs.lemmas.Str.{IsUtf8-string_bytes}
-use Rattle.xml_profile.specs.Events.{has_text}
-use Rattle.node_arena.specs.Document.{Built, Placed, after}
+use Rattle.xml_state.specs.Events.{has_text}
+use Rattle.node_arena.specs.Document.{after}
 use Rattle.node_arena.proofs.BuiltLemmas.{Takes-after}
 use Rattle.node_arena.proofs.BuilderLemmas.{text_more, text_begun}
 use Rattle.node_arena.proofs.builder.BuilderEvents.text.Goals as goal

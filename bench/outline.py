@@ -1,0 +1,117 @@
+#!/usr/bin/env python3
+"""Times `einv outline FILE > /dev/null` beside `xmllint --noout FILE`, over documents that are made here.
+
+    python3 bench/outline.py [PROGRAM] [RUNS]
+
+PROGRAM is crates/einv/out/einv if it isn't given, RUNS 5. Prints two tables: documents of 1 and 16 MB, rich in elements, in
+attributes or in text, with both times and their ratio; and one hostile document of each kind, with what einv answers. Each time is the best of the
+runs, wall clock, start-up included. Where xmllint (libxml2-utils) is missing its column is left out with a word.
+"""
+import pathlib
+import shutil
+import subprocess
+import sys
+import tempfile
+import time
+
+HOME = pathlib.Path(__file__).resolve().parent.parent
+MEGABYTE = 1_000_000
+
+
+def filled(front, piece, back, size):
+    """A document of nearly that many bytes: a front, pieces with `#` for their numbers, and a back."""
+    parts, length, number = [front], len(front) + len(back), 0
+    while True:
+        part = piece.replace("#", str(number))
+        length += len(part.encode())
+        if length > size:
+            return "".join([*parts, back]).encode()
+        parts.append(part)
+        number += 1
+
+
+def elements(size):
+    # Five nodes in 98 bytes: some 800,000 at 16 MB, within the limit of einv.
+    return filled("<list>", "<invoiceLine><invoicedQuantity>12</invoicedQuantity><priceAmount>10.00</priceAmount></invoiceLine>", "</list>", size)
+
+
+def attributes(size):
+    # Seven nodes in some 130 bytes.
+    item = '<item a="1" b="two" c="three &amp; more" p:d="4" id="number #" note="some longer value, which is longer than the others"/>'
+    return filled('<list xmlns:p="urn:p">', item, "</list>", size)
+
+
+def texts(size):
+    line = "A text that goes on and on, with an umlaut ü, a &lt; now and then, and an end. " * 12
+    return filled("<book>", "<p>" + line + "</p>\n", "</book>", size)
+
+
+def whole(front, piece, back, size):
+    return (front + piece * ((size - len(front) - len(back)) // len(piece)) + back).encode()
+
+
+# The greatest document has 16,777,216 bytes.
+GREATEST = 16_777_216
+HOSTILE = {
+    "deep": lambda: whole("", "<a>", "", GREATEST),
+    "100 deep, side by side": lambda: ("<r>" + ("<a>" * 99 + "</a>" * 99) * 10_000 + "</r>").encode(),
+    "wide: 1,000,000 nodes": lambda: whole("<r>", "<e/>", "</r>", 3 + 4 * 999_998 + 4),
+    "64 attributes an element": lambda: filled("<r>", "<e " + " ".join(f'a{n}=""' for n in range(64)) + "/>", "</r>", 8 * MEGABYTE),
+    "64 declarations an element, 99 deep": lambda: (
+        "".join(f"<e{d} " + " ".join(f'xmlns:p{d}x{n}="u{n}"' for n in range(64)) + ">" for d in range(99))
+        + '<p0x0:x p98x63:y="1"/>' * 100_000
+        + "".join(f"</e{d}>" for d in reversed(range(99)))
+    ).encode(),
+    "10,000 names": lambda: ("<r>" + "".join(f"<n{n}/>" for n in range(9_999)) * 50 + "</r>").encode(),
+    "a huge comment": lambda: whole("<a><!--", "- ", "--></a>", GREATEST),
+    "a huge comment that doesn't end": lambda: whole("<a><!--", "-", "", GREATEST),
+    "a huge CDATA section": lambda: whole("<a><![CDATA[", "]] ", "]]></a>", GREATEST),
+    "a huge CDATA section that doesn't end": lambda: whole("<a><![CDATA[", "]", "", GREATEST),
+    "a huge instruction": lambda: whole("<a><?p ", "? ", "?></a>", GREATEST),
+    "a tag without an end": lambda: whole("<a x='", ">", "", GREATEST),
+    "a text of ]": lambda: whole("<a>", "]", "</a>", GREATEST),
+    "a text of CR": lambda: whole("<a>", "\r", "</a>", GREATEST),
+    "references alone": lambda: whole("<a>", "&#x10FFFF;", "</a>", GREATEST),
+    "texts of one byte and comments": lambda: whole("<a>", "x<!---->", "</a>", GREATEST),
+    "tags of 262,144 bytes": lambda: whole("<r>", "<a" + " " * 262_140 + "/>", "</r>", GREATEST),
+}
+
+
+def seconds(words, runs):
+    """The best time of the command, and what it said on standard error at last."""
+    best = None
+    for _ in range(runs):
+        begun = time.perf_counter()
+        done = subprocess.run(words, stdin=subprocess.DEVNULL, stdout=subprocess.DEVNULL, stderr=subprocess.PIPE)
+        taken = time.perf_counter() - begun
+        best = taken if best is None else min(best, taken)
+    return best, done.stderr.decode(errors="replace").strip().splitlines()
+
+
+def main():
+    program = sys.argv[1] if len(sys.argv) > 1 else str(HOME / "crates/einv/out/einv")
+    runs = int(sys.argv[2]) if len(sys.argv) > 2 else 5
+    other = shutil.which("xmllint")
+    if other is None:
+        print("xmllint isn't there (libxml2-utils): its column is left out\n")
+    with tempfile.TemporaryDirectory() as folder:
+        path = pathlib.Path(folder) / "document.xml"
+        print("| Document | MB | einv outline | xmllint --noout | ratio |")
+        print("|---|---|---|---|---|")
+        for name, make in (("elements", elements), ("attributes", attributes), ("texts", texts)):
+            for megabytes in (1, 16):
+                path.write_bytes(make(megabytes * MEGABYTE))
+                mine, said = seconds([program, "outline", str(path)], runs)
+                theirs = seconds([other, "--noout", str(path)], runs)[0] if other else None
+                right = f"{theirs:.3f} | {mine / theirs:.2f}" if theirs else "- | -"
+                print(f"| {name} | {megabytes} | {mine:.3f} | {right} |" + (f" {said[0]}" if said else ""))
+        print("\n| Hostile document | MB | einv outline | answer |")
+        print("|---|---|---|---|")
+        for name, make in HOSTILE.items():
+            path.write_bytes(make())
+            mine, said = seconds([program, "outline", str(path)], runs)
+            answer = said[0].replace(str(path) + ": ", "") if said else "Done"
+            print(f"| {name} | {path.stat().st_size / MEGABYTE:.1f} | {mine:.3f} | {answer} |")
+
+
+main()

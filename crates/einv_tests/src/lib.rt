@@ -1,7 +1,0 @@
-//! Tests of the program's call.
-#![tactic(auto)]
-
-#[cfg(test)]
-mod adapter_cases;
-#[cfg(test)]
-mod program_cases;

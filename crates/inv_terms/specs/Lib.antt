@@ -1,0 +1,10 @@
+pub mod SemanticModel
+pub mod Groups
+pub mod Contexts
+pub mod Values
+pub mod Listing
+pub mod LastEntry
+pub mod Refusals
+pub mod Validity
+pub mod Runs
+pub mod Attachments

@@ -1,0 +1,83 @@
+ghost use Rattle.std.specs.Prelude.{◌≡◌, [], ◌∷◌, ◌++◌, None, IfOk, OnOk, IfErr, OnErr, option_copied, slice_get};
+ghost use Rattle.inv_terms.specs.Listing.{IsInvoice, Fits, refusal};
+ghost use Rattle.inv_terms.specs.Refusals.{Refuses};
+
+use crate::entries::Entry;
+use crate::listing::{Refusal, why_refused};
+use std::alloc::{AllocError, Global};
+use std::marker::Model;
+
+/// Why an entry wasn't added to an invoice, with the entry.
+#[derive(Debug, Drop)]
+pub enum PushFault {
+    /// The entry isn't listed behind the last one.
+    OutOfOrder(Entry),
+    /// Its term has no such context, or an index is neither that of the last occurrence of its group nor the next.
+    BadContext(Entry),
+    Memory(Entry),
+}
+
+/// An invoice: its entries in listing order, each with a context that its term has and a value that fits it, the occurrences of
+/// each group numbered from 1 without a gap. Contracts see the list of its entries.
+#[derive(Drop)]
+pub struct Invoice {
+    entries: Vec<Entry>,
+}
+
+impl Model for Invoice {
+    ghost use Rattle.std.specs.Prelude.{List};
+    ghost use Rattle.inv_terms.specs.declared.entries.Entry.{Entry};
+    ghost use Rattle.inv_terms.specs.Listing.{IsInvoice};
+
+    ghost Value = { List Entry };
+
+    ghost view = { λ i. i.entries.items };
+
+    ghost invariant = { λ i. IsInvoice i.entries.items };
+}
+
+impl Invoice {
+    /// An invoice without entries.
+    pub fn new(alloc: Global) -> Result<Invoice, AllocError>
+        ensures { IfOk result (λ i. i ≡ []) }
+    {
+        Ok(Invoice {
+            entries: Vec::new(alloc),
+        })
+    }
+
+    /// Adds an entry behind the others. A refused entry is handed back, and nothing changes.
+    pub fn push(&mut self, e: Entry) -> Result<(), PushFault>
+        requires { Fits e.term e.value }
+        ensures ok { OnOk result ((refusal self.old e ≡ None) × (self.new ≡ self.old ++ e ∷ [])) }
+        ensures err { OnErr result (self.new ≡ self.old) }
+        ensures fault { IfErr result (λ fault. Refuses (refusal self.old e) e fault) }
+        ensures invoice { IsInvoice self.new }
+    {
+        match why_refused(&self.entries, &e) {
+            Some(Refusal::OutOfOrder) => return Err(PushFault::OutOfOrder(e)),
+            Some(Refusal::BadContext) => return Err(PushFault::BadContext(e)),
+            None => {}
+        }
+        match self.entries.push(e) {
+            Ok(()) => return Ok(()),
+            Err(failed) => return Err(PushFault::Memory(failed.value)),
+        }
+    }
+
+    /// The k-th entry, from 0. None behind the last one.
+    pub fn entry(&self, k: usize) -> Option<&Entry>
+        ensures entry { option_copied result ≡ slice_get self.now k }
+        ensures invoice { IsInvoice self.now }
+    {
+        self.entries.get(k)
+    }
+
+    /// The entries in listing order.
+    pub(crate) fn entries(&self) -> &[Entry]
+        ensures entries { result.now ≡ self.now }
+        ensures invoice { IsInvoice self.now }
+    {
+        self.entries.as_slice()
+    }
+}

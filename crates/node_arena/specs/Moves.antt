@@ -1,0 +1,96 @@
+-- Moves from one node of a document to another, as relations between the nodes of the plain tree in document order. A node's
+-- number is its place among them.
+use Rattle.std.specs.Prelude.{ℕ, ◌+◌, Bool, true, false, not, ◌&&◌, ◌==◌, if◌then◌else◌, List, [], ◌∷◌, map, filter, find, drop, get_or, Option, Some, None, option_map}
+use Rattle.inv_base.specs.declared.tree.Kind.TheVariants as kinds
+use Rattle.inv_base.specs.Tree.{Name, Node, is_among}
+use Rattle.xml_state.specs.Events.{name_at}
+use Rattle.node_arena.specs.Document.{Placed, Document, node_at}
+
+-- the nodes of a document as the plain tree has them
+abbrev pub node_of : List Name → Placed → Node
+node_of names node = record { number = node.number; kind = node.kind; name = option_map (name_at names) node.name; above = node.above; text = node.text }
+
+abbrev pub tree_nodes : Document → List Node
+tree_nodes document = map (node_of document.names) document.nodes
+
+-- the node of that number
+abbrev pub tree_node : List Node → ℕ → Node
+tree_node nodes n = get_or nodes n (record { number = 0; kind = kinds.Document; name = None; above = []; text = [] })
+
+-- the nodes behind the one of that number
+abbrev pub behind : ℕ → List Node → List Node
+behind n nodes = drop (n + 1) nodes
+
+abbrev pub is_attribute : Node → Bool
+is_attribute node = elim node.kind [ kinds.Document ↦ false | kinds.Element ↦ false | kinds.Attribute ↦ true | kinds.Text ↦ false ]
+
+-- the nearest of a node's ancestors
+abbrev pub nearest : List ℕ → Option ℕ
+nearest [] = None
+nearest (n ∷ above) = Some n
+
+abbrev pub is_nearest : ℕ → List ℕ → Bool
+is_nearest n [] = false
+is_nearest n (m ∷ above) = m == n
+
+-- A child of the node of that number: an element or a text right inside it.
+abbrev pub is_child : ℕ → Node → Bool
+is_child n node = is_nearest n node.above && not (is_attribute node)
+
+abbrev pub is_attribute_of : ℕ → Node → Bool
+is_attribute_of n node = is_nearest n node.above && is_attribute node
+
+-- The node of that number is one of its ancestors.
+abbrev pub is_inside : ℕ → Node → Bool
+is_inside n node = is_among n node.above
+
+-- the number of the first node of a sort
+abbrev pub first_that : (Node → Bool) → List Node → Option ℕ
+first_that is_so nodes = option_map (λ (node : Node). node.number) (find is_so nodes)
+
+-- the number of the last node of a sort, or else this one
+abbrev pub last_that : (Node → Bool) → ℕ → List Node → ℕ
+last_that is_so n [] = n
+last_that is_so n (node ∷ nodes) = last_that is_so (if is_so node then node.number else n) nodes
+
+-- the element or document that a node is right inside
+abbrev pub parent : List Node → ℕ → Option ℕ
+parent nodes n = nearest (tree_node nodes n).above
+
+-- the first child of a node
+abbrev pub first_child : List Node → ℕ → Option ℕ
+first_child nodes n = first_that (is_child n) nodes
+
+-- the next child of a child's parent
+abbrev pub next_sibling : List Node → ℕ → Option ℕ
+next_sibling nodes n = if is_attribute (tree_node nodes n) then None
+    else (elim (parent nodes n) [ None ↦ None | Some p ↦ first_that (is_child p) (behind n nodes) ])
+
+-- the last node inside a node, at any depth, or itself where none is inside it
+abbrev pub last_inside : List Node → ℕ → ℕ
+last_inside nodes n = last_that (is_inside n) n (behind n nodes)
+
+-- the first attribute of an element
+abbrev pub first_attribute : List Node → ℕ → Option ℕ
+first_attribute nodes n = first_that (is_attribute_of n) nodes
+
+-- the next attribute of an attribute's element
+abbrev pub next_attribute : List Node → ℕ → Option ℕ
+next_attribute nodes n = if is_attribute (tree_node nodes n)
+    then (elim (parent nodes n) [ None ↦ None | Some p ↦ first_that (is_attribute_of p) (behind n nodes) ]) else None
+
+-- An element or attribute has the name of that number.
+abbrev pub is_named : ℕ → Placed → Bool
+is_named name node = elim node.name [ None ↦ false | Some k ↦ k == name ]
+
+-- the chain of a name: the numbers of the elements and attributes that have it, in document order
+abbrev pub chain : List Placed → ℕ → List ℕ
+chain nodes name = map (λ (node : Placed). node.number) (filter (is_named name) nodes)
+
+-- the first of a chain
+abbrev pub first_named : List Placed → ℕ → Option ℕ
+first_named nodes name = nearest (chain nodes name)
+
+-- the next of the chain that a node is on
+abbrev pub next_named : List Placed → ℕ → Option ℕ
+next_named nodes n = elim (node_at nodes n).name [ None ↦ None | Some name ↦ first_named (drop (n + 1) nodes) name ]

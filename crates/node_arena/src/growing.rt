@@ -1,0 +1,101 @@
+//! Nodes while they are built, beside the number of the last node inside each.
+ghost use Rattle.std.specs.Prelude.{◌≡◌, ◌+◌, ◌^◌, ◌<◌, ◌≤◌, true, [], ◌∷◌, ◌++◌, length, chars, vec_len, vec_capacity, OnOk};
+ghost use Rattle.node_arena.specs.Document.{ended};
+ghost use Rattle.node_arena.specs.Slots.{path, kept, text_nodes, IsGrowing};
+ghost use Rattle.node_arena.specs.Linked.{AreEnds};
+
+use crate::slot::{Slot, parent_at};
+use inv_base::{Kind, Place};
+use std::alloc::AllocError;
+
+/// Room for two nodes more, which have numbers of 32 bits. Where there is none, memory runs out.
+pub(crate) fn make_room(nodes: &mut Vec<Slot<'_>>, ends: &mut Vec<u32>) -> Result<(), AllocError>
+    ensures nodes { nodes.new.items ≡ nodes.old.items }
+    ensures ends { ends.new.items ≡ ends.old.items }
+    ensures nodes_room { OnOk result (vec_len nodes.new + 2 ≤ vec_capacity nodes.new) }
+    ensures ends_room { OnOk result (vec_len ends.new + 2 ≤ vec_capacity ends.new) }
+    ensures few { OnOk result (vec_len nodes.new + 2 < 2 ^ 32) }
+{
+    if nodes.len() >= u32::MAX as usize - 2 {
+        return Err(AllocError);
+    }
+    nodes.reserve(2)?;
+    ends.reserve(2)?;
+    Ok(())
+}
+
+/// Adds the text that was going on, if one was, as a node.
+pub(crate) fn push_text<'a>(
+    nodes: &mut Vec<Slot<'a>>,
+    ends: &mut Vec<u32>,
+    current: u32,
+    text: &'a str,
+    place: Option<Place>,
+)
+    requires growing { IsGrowing nodes.old.items ends.old.items current }
+    requires nodes_room { vec_len nodes.old + 2 ≤ vec_capacity nodes.old }
+    requires ends_room { vec_len ends.old + 2 ≤ vec_capacity ends.old }
+    requires few { vec_len nodes.old + 2 < 2 ^ 32 }
+    ensures growing { IsGrowing nodes.new.items ends.new.items current }
+    ensures nodes { kept nodes.new.items ≡ kept nodes.old.items ++ text_nodes (kept nodes.old.items) (path (kept nodes.old.items) current) (chars text.now) place }
+    ensures around { path (kept nodes.new.items) current ≡ path (kept nodes.old.items) current }
+    ensures nodes_room { vec_len nodes.new < vec_capacity nodes.new }
+    ensures ends_room { vec_len ends.new < vec_capacity ends.new }
+    ensures few { vec_len nodes.new + 1 < 2 ^ 32 }
+{
+    if let Some(place) = place {
+        let node = Slot {
+            kind: Kind::Text,
+            name: None,
+            parent: current,
+            text,
+            place,
+        };
+        let number = nodes.len() as u32;
+        push_within(nodes, node);
+        push_within(ends, number);
+    }
+}
+
+/// Adds an item where there is room for it.
+pub(crate) fn push_within<T: Drop>(items: &mut Vec<T>, item: T)
+    requires { vec_len items.old < vec_capacity items.old }
+    ensures items { items.new.items ≡ items.old.items ++ item ∷ [] }
+    ensures len { vec_len items.new ≡ vec_len items.old + 1 }
+    ensures room { vec_capacity items.old ≤ vec_capacity items.new }
+{
+    let _ = items.push(item);
+}
+
+/// The innermost open node ends with the last node so far, and the one around it is the innermost. The document stays
+/// open.
+pub(crate) fn close(nodes: &[Slot<'_>], ends: &mut [u32], current: u32) -> u32
+    requires growing { IsGrowing nodes.now ends.old current }
+    requires few { length nodes.now < 2 ^ 32 }
+    ensures growing { IsGrowing nodes.now ends.new result }
+    ensures around { path (kept nodes.now) result ≡ ended (path (kept nodes.now) current) }
+{
+    match parent_at(nodes, current) {
+        Some(parent) => {
+            ends[current as usize] = (nodes.len() - 1) as u32;
+            parent
+        }
+        None => current,
+    }
+}
+
+/// All that is still open ends with the last node.
+pub(crate) fn close_all(nodes: &[Slot<'_>], ends: &mut [u32], current: u32)
+    requires growing { IsGrowing nodes.now ends.old current }
+    requires few { length nodes.now < 2 ^ 32 }
+    ensures ends { AreEnds nodes.now ends.new }
+    ensures long { length ends.new ≡ length ends.old }
+{
+    let last = (nodes.len() - 1) as u32;
+    let mut current = current;
+    'open: while let Some(parent) = parent_at(nodes, current) {
+        ends[current as usize] = last;
+        current = parent;
+    }
+    ends[current as usize] = last;
+}

@@ -1,0 +1,26 @@
+mod JoinLemmas
+mod NameLemmas
+pub mod TellLemmas
+mod RestLemmas
+mod ReadLemmas
+mod EncodedLemmas
+mod SplitLemmas
+mod TextTokenLemmas
+mod StepLemmas
+mod TextReadLemmas
+mod ValueLemmas
+mod AttributeLemmas
+mod TagLemmas
+mod TagTokenLemmas
+mod QualifiedLemmas
+mod BindingLemmas
+mod TagStateLemmas
+mod WritableLemmas
+mod StartTagLemmas
+mod PieceLemmas
+mod BytesLemmas
+mod ElementReadLemmas
+mod ForestReadLemmas
+mod DeclaredLemmas
+mod CanonicalReadLemmas
+mod Rows

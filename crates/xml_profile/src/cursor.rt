@@ -1,0 +1,365 @@
+//! Where reading stands as long as nothing is wrong, and one turn of it: a token, or a run of characters that are tokens one by one.
+ghost use Rattle.std.specs.Prelude.{◌≡◌, ℕ, ◌∷◌, List, ◌<◌, ◌≤◌, ◌+◌, ◌≢◌, ◌==◌, ◌++◌, ◌-◌, [], Some, None, drop, length, vec_len, slice_index, nat_le, true, false, IfOk, MatchResult, if◌then◌else◌, chars};
+ghost use Rattle.std.specs.List.{list_all};
+ghost use Rattle.xml_tokens.specs.Beginnings.{farther, sure_length};
+ghost use Rattle.xml_tokens.specs.Searching.{fresh};
+ghost use Rattle.xml_tokens.specs.Runs.{is_plain};
+ghost use Rattle.xml_tokens.specs.Faults.{Fault, too_long};
+ghost use Rattle.xml_state.specs.States.{begin, is_outside};
+ghost use Rattle.xml_state.specs.Seen.{seen_limits, fault_for};
+ghost use Rattle.xml_profile.specs.Profile.{end_fault};
+ghost use Rattle.xml_profile.specs.Courses.{is_blank, IsAt, Turns, Reaches, Breaks};
+
+use inv_base::Place;
+use std::alloc::{AllocError, Global};
+use xml_state::{Events, Limits, NameTable, Nest, XmlFault};
+use xml_tokens::{Beginning, Position, Search, XmlKind, run_at_front, what_begins};
+
+/// Where reading stands: what stands behind the tokens before, how many bytes they take, and how far the next one was searched.
+#[derive(Drop)]
+pub(crate) struct Cursor {
+    pub nest: Nest,
+    pub place: u64,
+    pub search: Search,
+}
+
+/// What a turn finds.
+pub(crate) enum Turn<'b> {
+    /// The bytes behind what was read.
+    Behind(&'b [u8]),
+    /// What begins here isn't whole.
+    Unfinished,
+    Stopped(XmlFault),
+}
+
+fn fault_at(kind: XmlKind, byte: u64) -> XmlFault
+    ensures { result ≡ record { kind = kind; place = record { byte = byte } } }
+{
+    XmlFault {
+        kind,
+        place: Place { byte },
+    }
+}
+
+fn too_long(limit: u64) -> XmlFault
+    ensures { result ≡ fault_for (record { kind = too_long; place = limit }) }
+{
+    fault_at(XmlKind::TooLong, limit)
+}
+
+/// How many bytes of what isn't a token yet it has whatever follows: a `]` may be a token by itself.
+fn sure_len(bytes: &[u8]) -> usize
+    requires { 0 < length bytes.now }
+    ensures { (b : ℕ) (more : List ℕ) → bytes.now ≡ b ∷ more → result ≡ sure_length b more }
+{
+    if bytes[0] == b']' { 1 } else { bytes.len() }
+}
+
+/// Leaves the last so many bytes.
+fn keep_back(bytes: &mut Vec<u8>, len: usize)
+    requires { len ≤ vec_len bytes.old }
+    ensures { bytes.new.items ≡ drop (length bytes.old.items - len) bytes.old.items }
+{
+    let passed = bytes.len() - len;
+    if passed > 0 {
+        bytes.copy_within(passed.., 0);
+        bytes.truncate(len);
+    }
+}
+
+fn is_blank(byte: u8) -> bool
+    ensures { result ≡ is_blank byte }
+{
+    byte == b' ' || byte == b'\t' || byte == b'\n'
+}
+
+/// How many bytes at the front are white space that is a token by itself.
+fn blank_len(bytes: &[u8]) -> usize
+    ensures within { result ≤ length bytes.now }
+    ensures blank { (k : ℕ) → k < result → is_blank (slice_index bytes.now k) ≡ true }
+{
+    for (i, byte) in bytes.iter().enumerate() {
+        if !is_blank(*byte) {
+            return i;
+        }
+    }
+    bytes.len()
+}
+
+/// The bytes that end within so many.
+fn front_within(bytes: &[u8], room: u64) -> &[u8]
+    ensures front { bytes.now ≡ result.now ++ drop (length result.now) bytes.now }
+    ensures within { length result.now ≤ room }
+{
+    if bytes.len() as u64 <= room {
+        return bytes;
+    }
+    let (front, _) = bytes.split_at(room as usize);
+    front
+}
+
+impl Cursor {
+    /// Before the first byte.
+    pub fn new(alloc: Global) -> Cursor
+        ensures { (result.nest ≡ begin) × (result.place ≡ 0) × (result.search ≡ fresh) }
+    {
+        Cursor {
+            nest: Nest::new(alloc),
+            place: 0,
+            search: Search::new(),
+        }
+    }
+
+    /// Whether so many further bytes end within the limit.
+    fn has_room(&self, limit: u64, len: usize) -> bool
+        requires { self.now.place ≤ limit }
+        ensures { result ≡ nat_le (self.now.place + len) limit }
+    {
+        len as u64 <= limit - self.place
+    }
+
+    /// The fault that so many bytes show, or that they end beyond the limit.
+    fn fault_within(&self, limit: u64, kind: XmlKind, len: usize) -> XmlFault
+        requires { self.now.place ≤ limit }
+        ensures { result ≡ (if nat_le (self.now.place + len) limit then record { kind = kind; place = record { byte = self.now.place } } else fault_for (record { kind = too_long; place = limit })) }
+    {
+        if self.has_room(limit, len) {
+            fault_at(kind, self.place)
+        } else {
+            too_long(limit)
+        }
+    }
+
+    /// Takes a token, or finds that none is whole.
+    fn token<'b, E: Events>(
+        &mut self,
+        alloc: Global,
+        limits: &Limits,
+        ended: bool,
+        bytes: &'b [u8],
+        events: &mut E,
+    ) -> Turn<'b>
+        requires at { IsAt (seen_limits limits.now) self.old bytes.now }
+        requires some { 0 < length bytes.now }
+        ensures { Turns result ended (seen_limits limits.now) self.old self.new bytes.now (E.taken events.old) (E.taken events.new) }
+    {
+        let limit = limits.bytes;
+        let position = self.nest.position();
+        let found = match what_begins(alloc, position, ended, bytes, &mut self.search) {
+            Ok(found) => found,
+            Err(AllocError) => return Turn::Stopped(XmlFault::WANT_OF_MEMORY),
+        };
+        match found {
+            Beginning::Good(token, len) => {
+                if !self.has_room(limit, len) {
+                    return Turn::Stopped(too_long(limit));
+                }
+                let place = Place { byte: self.place };
+                match self.nest.take(alloc, limits, &token, place, events) {
+                    Ok(()) => {
+                        self.place += len as u64;
+                        let (_, behind) = bytes.split_at(len);
+                        Turn::Behind(behind)
+                    }
+                    Err(fault) => Turn::Stopped(fault),
+                }
+            }
+            Beginning::Bad(kind, len) => Turn::Stopped(self.fault_within(limit, kind, len)),
+            Beginning::Later => {
+                if self.has_room(limit, sure_len(bytes)) {
+                    Turn::Unfinished
+                } else {
+                    Turn::Stopped(too_long(limit))
+                }
+            }
+        }
+    }
+
+    /// Passes over white space outside the root, or else takes one token.
+    fn outside<'b, E: Events>(
+        &mut self,
+        alloc: Global,
+        limits: &Limits,
+        ended: bool,
+        bytes: &'b [u8],
+        events: &mut E,
+    ) -> Turn<'b>
+        requires at { IsAt (seen_limits limits.now) self.old bytes.now }
+        requires some { 0 < length bytes.now }
+        requires outside { is_outside self.old.nest ≡ true }
+        requires position { self.old.nest.position ≡ farther }
+        ensures { Turns result ended (seen_limits limits.now) self.old self.new bytes.now (E.taken events.old) (E.taken events.new) }
+    {
+        let len = blank_len(front_within(bytes, limits.bytes - self.place));
+        if len == 0 {
+            return self.token(alloc, limits, ended, bytes, events);
+        }
+        self.nest.pass();
+        self.place += len as u64;
+        self.search = Search::new();
+        let (_, behind) = bytes.split_at(len);
+        Turn::Behind(behind)
+    }
+
+    /// Takes characters inside an element that are tokens one by one, or else one token.
+    fn inside<'b, E: Events>(
+        &mut self,
+        alloc: Global,
+        limits: &Limits,
+        ended: bool,
+        bytes: &'b [u8],
+        events: &mut E,
+    ) -> Turn<'b>
+        requires at { IsAt (seen_limits limits.now) self.old bytes.now }
+        requires some { 0 < length bytes.now }
+        requires inside { is_outside self.old.nest ≡ false }
+        requires position { self.old.nest.position ≡ farther }
+        ensures { Turns result ended (seen_limits limits.now) self.old self.new bytes.now (E.taken events.old) (E.taken events.new) }
+    {
+        let text = run_at_front(front_within(bytes, limits.bytes - self.place));
+        if text.is_empty() {
+            return self.token(alloc, limits, ended, bytes, events);
+        }
+        let place = Place { byte: self.place };
+        match self.nest.tell(limits, text, place, events) {
+            Ok(()) => {
+                self.place += text.len() as u64;
+                self.search = Search::new();
+                let (_, behind) = bytes.split_at(text.len());
+                Turn::Behind(behind)
+            }
+            Err(fault) => Turn::Stopped(fault),
+        }
+    }
+
+    /// Takes a token or a run of characters, or finds that none is whole.
+    fn turn<'b, E: Events>(
+        &mut self,
+        alloc: Global,
+        limits: &Limits,
+        ended: bool,
+        bytes: &'b [u8],
+        events: &mut E,
+    ) -> Turn<'b>
+        requires at { IsAt (seen_limits limits.now) self.old bytes.now }
+        requires some { 0 < length bytes.now }
+        ensures { Turns result ended (seen_limits limits.now) self.old self.new bytes.now (E.taken events.old) (E.taken events.new) }
+    {
+        match self.nest.position() {
+            Position::AtStart | Position::BehindMark => return self.token(
+                alloc, limits, ended, bytes, events,
+            ),
+            Position::Farther => {}
+        }
+        if self.nest.is_outside() {
+            self.outside(alloc, limits, ended, bytes, events)
+        } else {
+            self.inside(alloc, limits, ended, bytes, events)
+        }
+    }
+
+    /// Takes token behind token. Answers the bytes of what isn't one yet.
+    pub fn read<'b, E: Events>(
+        &mut self,
+        alloc: Global,
+        limits: &Limits,
+        ended: bool,
+        bytes: &'b [u8],
+        events: &mut E,
+    ) -> Result<&'b [u8], XmlFault>
+        requires { IsAt (seen_limits limits.now) self.old bytes.now }
+        ensures { MatchResult result
+            (λ rest. Reaches ended (seen_limits limits.now) self.old self.new bytes.now rest.now (E.taken events.old) (E.taken events.new))
+            (λ fault. Breaks ended (seen_limits limits.now) self.old bytes.now (E.taken events.old) (E.taken events.new) fault) }
+    {
+        let mut rest = bytes;
+        'turns: while !rest.is_empty() {
+            match self.turn(alloc, limits, ended, rest, events) {
+                Turn::Behind(behind) => rest = behind,
+                Turn::Unfinished => return Ok(rest),
+                Turn::Stopped(fault) => return Err(fault),
+            }
+        }
+        Ok(rest)
+    }
+
+    /// Reads a further piece behind the rest of those before. The bytes of what isn't a token yet are the new rest.
+    pub fn feed<E: Events>(
+        &mut self,
+        alloc: Global,
+        limits: &Limits,
+        rest: &mut Vec<u8>,
+        piece: &[u8],
+        events: &mut E,
+    ) -> Result<(), XmlFault>
+        requires { IsAt (seen_limits limits.now) self.old rest.old.items }
+        ensures { MatchResult result
+            (λ _. Reaches false (seen_limits limits.now) self.old self.new (rest.old.items ++ piece.now) rest.new.items (E.taken events.old) (E.taken events.new))
+            (λ fault. Breaks false (seen_limits limits.now) self.old (rest.old.items ++ piece.now) (E.taken events.old) (E.taken events.new) fault) }
+    {
+        if rest.is_empty() {
+            return self.feed_anew(alloc, limits, rest, piece, events);
+        }
+        if rest.extend_from_slice(piece).is_err() {
+            return Err(XmlFault::WANT_OF_MEMORY);
+        }
+        match self.read(alloc, limits, false, rest, events) {
+            Ok(left) => {
+                let len = left.len();
+                keep_back(rest, len);
+                Ok(())
+            }
+            Err(fault) => Err(fault),
+        }
+    }
+
+    /// Reads a piece where there is no rest: of its bytes only the rest is kept.
+    fn feed_anew<E: Events>(
+        &mut self,
+        alloc: Global,
+        limits: &Limits,
+        rest: &mut Vec<u8>,
+        piece: &[u8],
+        events: &mut E,
+    ) -> Result<(), XmlFault>
+        requires at { IsAt (seen_limits limits.now) self.old rest.old.items }
+        requires empty { rest.old.items ≡ [] }
+        ensures { MatchResult result
+            (λ _. Reaches false (seen_limits limits.now) self.old self.new (rest.old.items ++ piece.now) rest.new.items (E.taken events.old) (E.taken events.new))
+            (λ fault. Breaks false (seen_limits limits.now) self.old (rest.old.items ++ piece.now) (E.taken events.old) (E.taken events.new) fault) }
+    {
+        match self.read(alloc, limits, false, piece, events) {
+            Ok(left) => {
+                if rest.extend_from_slice(left).is_err() {
+                    return Err(XmlFault::WANT_OF_MEMORY);
+                }
+                Ok(())
+            }
+            Err(fault) => Err(fault),
+        }
+    }
+
+    /// Ends the document behind its tokens, where so many bytes are left that are none, within the limit.
+    pub fn end(self, limit: u64, left: usize) -> Result<NameTable, XmlFault>
+        requires { self.place + left ≤ limit }
+        ensures { (rest : List ℕ) → length rest ≡ left → MatchResult result
+            (λ table. (end_fault self.nest self.place rest ≡ None) × (table ≡ self.nest.names))
+            (λ fault. (f : Fault) × (fault ≡ fault_for f) × (end_fault self.nest self.place rest ≡ Some f)) }
+    {
+        let Cursor {
+            nest,
+            place,
+            search: _,
+        } = self;
+        if left > 0 {
+            return Err(fault_at(XmlKind::Truncated, place + left as u64));
+        }
+        if !nest.is_outside() {
+            return Err(fault_at(XmlKind::Truncated, place));
+        }
+        if !nest.root_seen() {
+            return Err(fault_at(XmlKind::NoRoot, place));
+        }
+        Ok(nest.into_names())
+    }
+}

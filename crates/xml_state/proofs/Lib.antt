@@ -1,0 +1,10 @@
+pub mod ListLemmas
+pub mod NameLemmas
+pub mod ScopeLemmas
+pub mod WrittenLemmas
+pub mod DuplicateLemmas
+pub mod NumberLemmas
+pub mod TellingLemmas
+pub mod NestLemmas
+pub mod StartLemmas
+pub mod TextLemmas

@@ -1,0 +1,7 @@
+use Rattle.std.proofs.Common.{ap, ◌∙◌, chars}
+use Rattle.inv_base.specs.Tree.{Name}
+use Rattle.xml_state.proofs.NameLemmas.{name_at-kept}
+use Rattle.xml_state.proofs.names.NameTable.uri.Goals as goal
+
+pub returns : goal.returns
+returns c = ap chars c.as_str.ensures.value ∙ ap (λ (name : Name). name.uri) (name_at-kept _ _ c.index.result.now _ _ c.index.ensures c.self.view_is c.id.view_is)

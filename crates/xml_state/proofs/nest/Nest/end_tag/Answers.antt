@@ -1,0 +1,31 @@
+use Rattle.std.proofs.Common.{List, false, ap, sym}
+use Rattle.xml_tokens.specs.Beginnings.{farther}
+use Rattle.xml_tokens.specs.Seen.{seen_position}
+use Rattle.xml_state.specs.States.{State, Open}
+use Rattle.xml_state.proofs.NestLemmas.{end_too_long, end_mismatched, nothing_told, end_told}
+use Rattle.xml_state.proofs.nest.Nest.end_tag.Goals as goal
+
+pub returns-then-is_long : goal.returns-then-is_long
+returns-then-is_long g c = end_too_long _ _ _ c.args.place.byte _ (sym c.if-is_long.ensures)
+
+pub returns-then-not-is_innermost : goal.returns-then-not-is_innermost
+returns-then-not-is_innermost g c =
+    rw (← c.self.view_is) (end_mismatched _ _ _ c.args.place.byte _ (sym c.if-is_long.ensures) (sym c.if-not-is_innermost.ensures))
+
+pub returns-in-Err : goal.returns-in-Err
+returns-in-Err g c = nothing_told _ _ _ _ _ _ c.in-Err.ensures
+
+pub returns : goal.returns
+returns g c =
+    let nest = c.self.inside in
+    let s : State = record {
+      position = seen_position nest.position;
+      open_elements = nest.scopes.open_elements;
+      root_seen = nest.root_seen;
+      in_text = nest.in_text;
+      nodes = nest.nodes;
+      names = nest.names;
+    } in
+    rw (← c.self.view_is)
+    (end_told _ s _ _ c.args.place.byte _ _ (sym c.if-is_long.ensures) (sym c.if-not-is_innermost.ensures)
+    (ap (λ (elements : List Open). record s { position = farther; open_elements = elements; in_text = false }) c.close.ensures) c.in-Ok.ensures)

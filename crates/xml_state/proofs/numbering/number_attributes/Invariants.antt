@@ -1,0 +1,14 @@
+use Rattle.std.proofs.Common.{◌≡◌, map, drop, ◌++◌}
+use Rattle.xml_tokens.specs.Seen.{seen_attribute}
+use Rattle.xml_state.specs.States.{with_names}
+use Rattle.xml_state.specs.StartTags.{attribute_names, numbers_from}
+use Rattle.xml_state.proofs.numbering.number_attributes.Given as goal
+
+abbrev pub invariant-loop-attribute : goal.invariant-loop-attribute
+invariant-loop-attribute l =
+    let rest = attribute_names l.scopes.bound (map seen_attribute (drop l.attribute-index l.attributes)) in
+    let all = attribute_names l.scopes.bound (map seen_attribute l.attributes) in
+    record {
+      names : with_names l.names rest ≡ with_names l.initial.names all;
+      numbers : l.numbers.items ++ numbers_from l.names rest ≡ l.initial.numbers.items ++ numbers_from l.initial.names all;
+    }

@@ -1,0 +1,10 @@
+use Rattle.std.proofs.Common.{ap}
+use Rattle.xml_state.specs.Scopes.{InScope}
+use Rattle.xml_state.proofs.ScopeLemmas.{closed_nested, closed_opened}
+use Rattle.xml_state.proofs.scopes.Scopes.close.Goals as goal
+
+pub invariant_of-self : goal.invariant_of-self
+invariant_of-self c = rw c.truncate.ensures.items (closed_nested _ _ c.in-Some.frame _ _ c.in-Some.ensures.items c.self.invariant)
+
+pub returns-in-Some : goal.returns-in-Some
+returns-in-Some c = rw c.truncate.ensures.items (closed_opened _ _ c.in-Some.frame _ _ _ c.in-Some.ensures.items c.self.invariant (ap (λ (s : InScope). s.open_elements) c.self.view_is))

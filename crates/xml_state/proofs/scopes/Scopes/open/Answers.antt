@@ -1,0 +1,5 @@
+use Rattle.xml_state.proofs.ScopeLemmas.{nested_still}
+use Rattle.xml_state.proofs.scopes.Scopes.open.Goals as goal
+
+pub invariant_of-self-in_err-push : goal.invariant_of-self-in_err-push
+invariant_of-self-in_err-push c = nested_still _ _ _ _ _ _ c.in_err-push.ensures.items c.in_ok-extend_from_slice.ensures.items c.self.invariant

@@ -1,0 +1,13 @@
+pub mod Events
+pub mod Names
+pub mod NameTables
+pub mod Documents
+pub mod Limits
+pub mod Namespaces
+pub mod States
+pub mod Admission
+pub mod Seen
+pub mod Taking
+pub mod Scopes
+pub mod StartTags
+pub mod LineEnds

@@ -1,0 +1,22 @@
+//! What stands behind the tokens of a document: the open elements with their namespaces, the names, and counts; which tokens may stand
+//! there, and what they tell (XML 1.0, fifth edition; Namespaces in XML 1.0).
+#![tactic(auto)]
+
+mod duplicates;
+mod events;
+mod fault;
+mod limits;
+mod names;
+mod nest;
+mod numbering;
+mod scopes;
+mod tags;
+mod telling;
+mod text;
+mod written;
+
+pub use events::Events;
+pub use fault::XmlFault;
+pub use limits::Limits;
+pub use names::{NameId, NameTable};
+pub use nest::Nest;

@@ -1,0 +1,190 @@
+ghost use Rattle.std.specs.Prelude.{◌≤◌};
+
+use std::alloc::{AllocError, Global};
+use std::test::Fail;
+use xml_tokens::{Beginning, Position, Search, what_begins};
+
+/// What begins a document and, behind ` => `, the answer. `$n`, `$r` and `$t` are LF, CR and TAB, and `$HH` is a byte.
+const STARTS: &str = "\
+a => Good(Character('a'), 1)
+$20a => Good(Character(' '), 1)
+$EF$BB$BF => Good(Mark, 3)
+$EF$BB => Later
+$EF$BB$BEx => Good(Character('\\u{fefe}'), 3)
+$E2$82$AC => Good(Character('€'), 3)
+$E2$82 => Later
+$E2$28 => Bad(NotUtf8, 2)
+$E0$80 => Bad(NotUtf8, 2)
+$ED$A0 => Bad(NotUtf8, 2)
+$C0$80 => Bad(NotUtf8, 1)
+$80 => Bad(NotUtf8, 1)
+$F0$9F$98$80 => Good(Character('😀'), 4)
+$F4$90 => Bad(NotUtf8, 2)
+$EF$BF$BE => Bad(BadChar, 3)
+$00 => Bad(BadChar, 1)
+$ra => Good(Character('\\n'), 1)
+$r$n => Good(Character('\\n'), 2)
+]]> => Bad(BadMarkup, 3)
+]]a => Good(Character(']'), 1)
+]a => Good(Character(']'), 1)
+&amp;x => Good(Reference('&'), 5)
+&apos; => Good(Reference('\\''), 6)
+&quot; => Good(Reference('\"'), 6)
+&foo; => Bad(BadReference, 5)
+&foo => Later
+& => Later
+&; => Bad(BadReference, 2)
+&#; => Bad(BadReference, 3)
+&#x; => Bad(BadReference, 4)
+&#65; => Good(Reference('A'), 5)
+&#x41; => Good(Reference('A'), 6)
+&#X41; => Bad(BadReference, 6)
+&#x0000000041; => Good(Reference('A'), 14)
+&#x00000000041; => Bad(BadReference, 14)
+&#0; => Bad(BadReference, 4)
+&#xD800; => Bad(BadReference, 8)
+&#x10FFFF; => Good(Reference('\\u{10ffff}'), 10)
+&#x110000; => Bad(BadReference, 10)
+&a$FF => Bad(BadReference, 3)
+< => Later
+<! => Later
+<!- => Later
+<!x => Bad(BadMarkup, 3)
+<!-x => Bad(BadMarkup, 4)
+<![CDx => Bad(BadMarkup, 6)
+<!DOCTYP => Later
+<!DOCTYPE => Bad(Doctype, 9)
+<!doctype => Bad(BadMarkup, 3)
+<!--x => Later
+<!-- => Later
+<!--> => Later
+<!---> => Later
+<!----> => Good(Aside, 7)
+<!--x-->y => Good(Aside, 8)
+<!--x--y--> => Bad(BadMarkup, 11)
+<!--x---> => Bad(BadMarkup, 9)
+<!--$FF--> => Bad(NotUtf8, 8)
+<!--$01--> => Bad(BadChar, 8)
+<![CDATA[]]> => Good(Section(Section { written: \"\" }), 12)
+<![CDATA[a<b]]]>x => Good(Section(Section { written: \"a<b]\" }), 16)
+<![CDATA[x]] => Later
+<?a?> => Good(Aside, 5)
+<?a b?> => Good(Aside, 7)
+<?a:b?> => Bad(BadMarkup, 7)
+<?a<?> => Bad(BadMarkup, 6)
+<?> => Later
+<?>?> => Bad(BadMarkup, 5)
+<? a?> => Bad(BadMarkup, 6)
+<?XML?> => Bad(BadMarkup, 7)
+<?xml?> => Bad(BadDeclaration, 7)
+<?xml.?> => Good(Aside, 8)
+<?xml version='1.0'?> => Good(Aside, 21)
+<?xml version = \"1.0\" encoding='utf-8'$nstandalone='no' ?> => Good(Aside, 57)
+<?xml version='1.1'?> => Bad(BadDeclaration, 21)
+<?xml version='1.0' standalone='no' encoding='utf-8'?> => Bad(BadDeclaration, 54)
+<?xml version='1.0'encoding='utf-8'?> => Bad(BadDeclaration, 37)
+<?xmlversion='1.0'?> => Bad(BadMarkup, 20)
+<a> => Good(StartTag(StartTag { name: \"a\", attributes: [], is_empty: false }), 3)
+<p:a/> => Good(StartTag(StartTag { name: \"p:a\", attributes: [], is_empty: true }), 6)
+<é /> => Good(StartTag(StartTag { name: \"é\", attributes: [], is_empty: true }), 6)
+<a b='c'> => Good(StartTag(StartTag { name: \"a\", attributes: [Attribute { name: \"b\", value: Lent(\"c\") }], is_empty: false }), 9)
+<a b='>' c = \"'\" > => Good(StartTag(StartTag { name: \"a\", attributes: [Attribute { name: \"b\", value: Lent(\">\") }, Attribute { name: \"c\", value: Lent(\"'\") }], is_empty: false }), 18)
+<a b='x&lt;$r$ny$tz&#10;'/> => Good(StartTag(StartTag { name: \"a\", attributes: [Attribute { name: \"b\", value: Own(\"x< y z\\n\") }], is_empty: true }), 24)
+<a b='&x;'> => Bad(BadReference, 11)
+<a b='&x;'c> => Bad(BadMarkup, 12)
+<a b='&'> => Bad(BadReference, 9)
+<a b='<'> => Bad(BadMarkup, 9)
+<a b='c'd='e'> => Bad(BadMarkup, 14)
+<a b> => Bad(BadMarkup, 5)
+<a b=c> => Bad(BadMarkup, 7)
+<a / > => Bad(BadMarkup, 6)
+<a b='> => Later
+<a \"/> => Later
+<a:b:c> => Bad(BadMarkup, 7)
+<1> => Bad(BadMarkup, 3)
+<> => Bad(BadMarkup, 2)
+< a> => Bad(BadMarkup, 4)
+<a b='$FF'> => Bad(NotUtf8, 9)
+<a b='$EF$BF$BF'> => Bad(BadChar, 11)
+</a> => Good(EndTag(\"a\"), 4)
+</p:a > => Good(EndTag(\"p:a\"), 7)
+</ a> => Bad(BadMarkup, 5)
+</a b=''> => Bad(BadMarkup, 9)
+</> => Bad(BadMarkup, 3)
+</a/> => Bad(BadMarkup, 5)";
+
+fn digit(byte: u8) -> u8
+    ensures { result ≤ 15 }
+{
+    match byte {
+        b'0'..=b'9' => byte - b'0',
+        b'A'..=b'F' => byte - b'A' + 10,
+        _ => 0,
+    }
+}
+
+/// The bytes that a text of the table stands for.
+fn bytes_of(alloc: Global, text: &str) -> Result<Vec<u8>, AllocError> {
+    let mut bytes: Vec<u8> = Vec::new(alloc);
+    let mut rest = text.as_bytes();
+    'texts: while let [first, behind @ ..] = rest {
+        rest = behind;
+        match (*first, behind) {
+            (b'$', [b'n', others @ ..]) => {
+                bytes.push(b'\n')?;
+                rest = others;
+            }
+            (b'$', [b'r', others @ ..]) => {
+                bytes.push(b'\r')?;
+                rest = others;
+            }
+            (b'$', [b't', others @ ..]) => {
+                bytes.push(b'\t')?;
+                rest = others;
+            }
+            (b'$', [high, low, others @ ..]) => {
+                bytes.push(digit(*high) * 16 + digit(*low))?;
+                rest = others;
+            }
+            _ => bytes.push(*first)?,
+        }
+    }
+    Ok(bytes)
+}
+
+/// What begins at the start of the bytes, where they come one by one and the search is kept.
+fn piece_by_piece(alloc: Global, bytes: &[u8]) -> Result<String, AllocError> {
+    let mut search = Search::new();
+    'ends: for end in 0..bytes.len() {
+        let front = bytes.split_at(end + 1).0;
+        match what_begins(alloc, Position::AtStart, false, front, &mut search) {
+            Ok(Beginning::Later) => {}
+            Ok(found) => return format!(in alloc; "{found:?}"),
+            Err(error) => return Err(error),
+        }
+    }
+    String::from_str(alloc, "Later")
+}
+
+/// What begins at the start of the bytes.
+fn at_once(alloc: Global, bytes: &[u8]) -> Result<String, AllocError> {
+    let mut search = Search::new();
+    match what_begins(alloc, Position::AtStart, false, bytes, &mut search) {
+        Ok(found) => format!(in alloc; "{found:?}"),
+        Err(error) => Err(error),
+    }
+}
+
+#[test]
+fn tokens_begin(rt: HostRuntime) -> Result<(), Fail> {
+    let alloc = rt.alloc();
+    for line in STARTS.lines() {
+        let (text, want) = line.split_once(" => ").unwrap_or((line, ""));
+        let bytes = bytes_of(alloc, text)?;
+        let answer = at_once(alloc, bytes.as_slice())?;
+        assert_eq!(rt; answer.as_str(), want, "{line}");
+        let cut = piece_by_piece(alloc, bytes.as_slice())?;
+        assert_eq!(rt; cut.as_str(), want, "{line}");
+    }
+    Ok(())
+}

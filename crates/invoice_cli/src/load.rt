@@ -118,6 +118,7 @@ fn feed_all<S: Shelf, E: Events>(
     ensures refused { (fault : _) → result ≡ Err (faults.Refused fault) → IsRefused reader.old.limits (S.view shelf.old).left fault }
     ensures limits { reader.new.limits ≡ reader.old.limits }
 {
+    // A law, which has no code: what stands behind a settled fault can't change it.
     settled_is_first();
     'pieces: loop {
         let count = match shelf.read(piece) {
@@ -146,7 +147,7 @@ fn fault_of_reader(fault: XmlFault) -> LoadFault
     }
 }
 
-/// What is read builds the nodes of its tree.
+/// What is read builds the nodes of its tree: laws of the crates below, which have no code, in one.
 fn read_builds_its_tree()
     ensures { (limits : spec.Limits) (bytes : List ℕ) (found : profile.Document) → limits.nodes < 2 ^ 32 → document limits bytes ≡ Ok found → IsBuilt found (built found.events) }
 {

@@ -1,0 +1,9 @@
+//! Tests of the program's call.
+#![tactic(auto)]
+
+#[cfg(test)]
+mod adapter_cases;
+#[cfg(test)]
+mod document_cases;
+#[cfg(test)]
+mod program_cases;

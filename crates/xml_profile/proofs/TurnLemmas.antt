@@ -69,8 +69,8 @@ module _ (e : Bool) (limits : Limits) (old : Cursor) (bytes : List ℕ) (before 
   refuses token n fault is room (of_memory admitted front) =
       let rest = read e limits (state_behind old.nest token) (old.place + n) 0 (drop n bytes) in
       courses.of_memory front.front (front.others ++ rest.events)
-          (ap (λ (r : Read). r.events) (read-good e limits old.nest old.place bytes token n is room admitted)
-          ∙ ap (λ es. es ++ rest.events) front.is ∙ append_assoc front.front front.others rest.events) front.told
+      (ap (λ (r : Read). r.events) (read-good e limits old.nest old.place bytes token n is room admitted)
+      ∙ ap (λ es. es ++ rest.events) front.is ∙ append_assoc front.front front.others rest.events) front.told
 
   -- A token was taken.
   pub goes-on : (token : Token) (n : ℕ) (nest : State) (search : Searched) (rest : List ℕ) → spec.beginning old.nest.position e bytes ≡ spec.good token n

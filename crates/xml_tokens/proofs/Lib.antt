@@ -19,3 +19,4 @@ pub mod LiteralLemmas
 pub mod CharacterLemmas
 pub mod RunLemmas
 pub mod PlainLemmas
+pub mod AsciiLemmas

@@ -7,6 +7,7 @@ ghost use Rattle.xml_tokens.specs.Seen.{Shows, seen_position};
 ghost use Rattle.xml_tokens.specs.Searching.{Fits, Keeps};
 ghost use Rattle.xml_tokens.specs.Told as told;
 
+use crate::ascii::are_plain_chars;
 use crate::beginning::{Beginning, Position};
 use crate::kind::XmlKind;
 use crate::markup::{comment, instruction, section};
@@ -25,7 +26,7 @@ const GREATEST_TAG: usize = 262_144;
 pub fn are_chars(text: &str) -> bool
     ensures { result ≡ told.are_chars text.now }
 {
-    text.chars().all(|c| is_char(c))
+    are_plain_chars(text.as_bytes()) || text.chars().all(|c| is_char(c))
 }
 
 /// What stands inside an extent as text, or why it is none.

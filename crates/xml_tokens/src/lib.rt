@@ -4,6 +4,7 @@
 //! character. Whether it may stand where it stands is no matter of this crate.
 #![tactic(auto)]
 
+mod ascii;
 mod beginning;
 mod declaration;
 mod encoding;

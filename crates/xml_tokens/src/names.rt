@@ -5,6 +5,7 @@ ghost use Rattle.inv_base.specs.Characters as characters;
 ghost use Rattle.xml_tokens.specs.WrittenNames as spec;
 ghost use Rattle.xml_tokens.specs.Told.{IsFirst};
 
+use crate::ascii::are_plain_name_chars;
 use inv_base::{is_name_char, is_name_start};
 
 /// The first character of a text, and what stands behind it.
@@ -19,7 +20,7 @@ pub fn first_of(text: &str) -> Option<(char, &str)>
 fn are_name_chars(text: &str) -> bool
     ensures { result ≡ list_all characters.is_name_char (chars text.now) }
 {
-    text.chars().all(|c| is_name_char(c))
+    are_plain_name_chars(text.as_bytes()) || text.chars().all(|c| is_name_char(c))
 }
 
 /// NCName.
@@ -61,11 +62,12 @@ pub fn is_white_space(byte: u8) -> bool
     matches!(byte, b'\t' | b'\n' | b'\r' | b' ')
 }
 
-/// Whether the byte ends a name in a tag.
+/// Whether the byte ends a name in a tag. None behind `=` in ASCII does, so that a letter takes one comparison.
+#[tactic(auto, unfolding(inv_base::specs::Characters::is_white_space))]
 fn ends_name(byte: u8) -> bool
     ensures { result ≡ spec.ends_name byte }
 {
-    is_white_space(byte) || byte == b'=' || byte == b'/'
+    byte <= b'=' && (is_white_space(byte) || byte == b'=' || byte == b'/')
 }
 
 fn name_end(bytes: &[u8]) -> Option<usize>

@@ -1,5 +1,5 @@
 //! What bytes begin with, and where a string or the end of a tag first stands in them.
-ghost use Rattle.std.specs.Prelude.{◌≡◌, ◌≤◌, ◌<◌, ◌+◌, length, take, None, IfSome, ◌==◌, true};
+ghost use Rattle.std.specs.Prelude.{◌≡◌, ◌≤◌, ◌<◌, ◌+◌, length, take, None, IfSome, ◌==◌, true, false};
 ghost use Rattle.xml_tokens.specs.Searches as spec;
 ghost use Rattle.xml_tokens.specs.Searching.{quote_after};
 ghost use Rattle.xml_tokens.specs.Told.{Ends};
@@ -92,6 +92,13 @@ fn quote_behind(quote: Option<u8>, byte: u8) -> Option<u8>
     }
 }
 
+/// Whether the byte changes nothing: no quote is open, and it stands behind `>` and the quotes in ASCII, as letters do.
+fn is_passed(quote: Option<u8>, byte: u8) -> bool
+    ensures { result ≡ true → (spec.ends_tag quote byte ≡ false) × (quote ≡ spec.quote_behind quote byte) }
+{
+    quote.is_none() && byte > b'>'
+}
+
 /// Where the tag ends, by the bytes behind its `<`, given that so many of them were searched in vain, behind which this quote is open.
 pub fn tag_end(bytes: &[u8], searched: usize, open_quote: Option<u8>) -> TagEnd
     requires within { searched ≤ length bytes.now }
@@ -104,10 +111,12 @@ pub fn tag_end(bytes: &[u8], searched: usize, open_quote: Option<u8>) -> TagEnd
     let mut place = searched;
     'places: while place < end {
         let byte = bytes[place];
-        if ends_tag(quote, byte) {
-            return TagEnd::Behind(place);
+        if !is_passed(quote, byte) {
+            if ends_tag(quote, byte) {
+                return TagEnd::Behind(place);
+            }
+            quote = quote_behind(quote, byte);
         }
-        quote = quote_behind(quote, byte);
         place += 1;
     }
     if end < ROOM {

@@ -226,14 +226,12 @@ module _ (file : List ℕ) (shelf shelf' : ShelfView) (out err : SinkView) where
   }
 
   module _ (doc : Document) (reads : ReadsFrom (Ok doc) faults.Read shelf shelf')
-      (loaded : WhereTold (option_map (bytes_under file) shelf.held) (λ content. IsLoaded document_limits content doc)) where
-    loaded_file : (files : Files) → shelf.held ≡ Some files → IsLoaded document_limits (bytes_under file files) doc
-    loaded_file files is = loaded (bytes_under file files) (ap (option_map (bytes_under file)) is)
-
+      (loaded : IsLoaded document_limits (option_map (bytes_under file) shelf.held) doc) where
     outline_is : (files : Files) → shelf.held ≡ Some files → answer_to (outline file) files ≡ done (lines_of doc.names doc.nodes)
     outline_is files is =
-        let from = loaded_file files is in
-        ap (outline_answer file) from.is ∙ ap done (sym (lines_of-tree doc (tree_of from.found) from.of_tree))
+        let content = loaded.whole (bytes_under file files) (ap (option_map (bytes_under file)) is) in
+        ap (λ bytes. outline_answer file (document document_limits bytes)) (sym content)
+        ∙ (ap (outline_answer file) loaded.is ∙ ap done (sym (lines_of-tree doc (tree_of loaded.found) loaded.of_tree)))
 
     pub answers_done : (out' : SinkView) → WritesAll (lines_of doc.names doc.nodes) out out'
         → Answers (outline file) (record { shelf = shelf; out = out; err = err }) (record { shelf = shelf'; out = out'; err = err }) statuses.Done

@@ -1,4 +1,5 @@
 pub mod OutlineLemmas
+pub mod WalkingLemmas
 pub mod LengthLemmas
 pub mod LoadLemmas
 pub mod AnswersLemmas

@@ -15,7 +15,7 @@ use Rattle.xml_profile.specs.Readers.{Progress, HasRead, Moves, MovesWithin, Tel
 use Rattle.xml_profile.specs.TokenByToken.{read, resume, read_front, read_whole}
 use Rattle.node_arena.specs.Document.{Built, Document, IsNumbered, built}
 use Rattle.node_arena.specs.Document as arena
-use Rattle.node_arena.specs.Shown.{IsOfTree}
+use Rattle.node_arena.specs.Moves.{HasNodesOf}
 use Rattle.invoice_cli.specs.Load.{ReadsOn, ReadsFrom, HasFed, IsRefused, IsLoaded, IsBuilt}
 use Rattle.invoice_cli.proofs.LengthLemmas.{bytes_read, short_front}
 
@@ -270,14 +270,16 @@ pub wholly_numbered : (limits : Limits) (told : Option (List ℕ)) (names : List
 wholly_numbered limits told names b wholly = subst (IsNumbered b.nodes) (sym wholly.named) wholly.made.numbered
 
 pub wholly_loaded : (limits : Limits) (told : Option (List ℕ)) (names : List Name) (b : Built) (doc : Document) → Wholly limits told names b → doc ≡ record { nodes = b.nodes; names = names }
-    → WhereTold told (λ content. IsLoaded limits content doc)
-wholly_loaded limits told names b doc wholly is = λ content told_is.
+    → IsLoaded limits told doc
+wholly_loaded limits told names b doc wholly is =
     let found = told_whole limits wholly.fed in
     let made : doc ≡ record { nodes = b.nodes; names = found.names } = is ∙ ap (λ names. let d : Document = record { nodes = b.nodes; names = names } in d) wholly.named in
     record {
+      content = wholly.fed;
       found = found;
-      is = ap (document limits) (sym (wholly.whole content told_is)) ∙ wholly.is;
-      of_tree = subst (λ (d : Document). IsOfTree d (tree_of found)) (sym made) wholly.made.of_tree;
+      is = wholly.is;
+      of_tree = subst (λ (d : Document). HasNodesOf d (tree_of found)) (sym made) wholly.made.of_tree;
+      whole = wholly.whole;
     }
 
 -- A reader that was given nothing has read nothing.

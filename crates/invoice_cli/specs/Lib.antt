@@ -1,6 +1,7 @@
 pub mod Job
 pub mod Commands
 pub mod Outline
+pub mod Walking
 pub mod Lines
 pub mod Answer
 pub mod Answers

@@ -12,7 +12,7 @@ use Rattle.xml_profile.specs.Profile as profile
 use Rattle.xml_profile.specs.Readers.{Progress, HasRead, Moves}
 use Rattle.xml_profile.specs.TokenByToken.{read_front}
 use Rattle.node_arena.specs.Document.{Built, Document, IsNumbered}
-use Rattle.node_arena.specs.Shown.{IsOfTree}
+use Rattle.node_arena.specs.Moves.{HasNodesOf}
 
 -- One file was opened, and the files stay. A fault of reading is told where the count rose, and nowhere else did it rise.
 pub record ReadsFrom {T E : Type 0} (result : Result T E) (fault : E) (before after : ShelfView) : Type 0 where
@@ -45,14 +45,16 @@ pub record IsRefused (limits : Limits) (told : Option (List ℕ)) (fault : XmlFa
   pub same : fault ≡ fault_for first
   pub whole : WhereTold told (λ bytes. content ≡ bytes)
 
--- The document has the nodes of the tree of the content.
-pub record IsLoaded (limits : Limits) (content : List ℕ) (doc : Document) : Type 0 where
+-- The document has the nodes of the tree of some content, which is this one where it is told.
+pub record IsLoaded (limits : Limits) (told : Option (List ℕ)) (doc : Document) : Type 0 where
+  pub content : List ℕ
   pub found : profile.Document
   pub is : document limits content ≡ Ok found
-  pub of_tree : IsOfTree doc (tree_of found)
+  pub of_tree : HasNodesOf doc (tree_of found)
+  pub whole : WhereTold told (λ bytes. content ≡ bytes)
 
 -- What was built is a whole document, whose nodes are those of the tree of what was read.
 pub record IsBuilt (found : profile.Document) (b : Built) : Type 0 where
   pub ended : b.in_text ≡ false
   pub numbered : IsNumbered b.nodes found.names
-  pub of_tree : IsOfTree (record { nodes = b.nodes; names = found.names }) (tree_of found)
+  pub of_tree : HasNodesOf (record { nodes = b.nodes; names = found.names }) (tree_of found)

@@ -1,12 +1,11 @@
 -- The outline of a document: a line for each element, attribute and text, indented by two spaces for each level below the root.
-use Rattle.std.specs.Prelude.{ℕ, ◌+◌, ◌-◌, ◌*◌, List, [], ◌∷◌, ◌++◌, Option, Some, None, option_map, replicate, encode_utf8_all}
+use Rattle.std.specs.Prelude.{ℕ, ◌+◌, ◌-◌, ◌*◌, List, [], ◌∷◌, ◌++◌, length, Option, Some, None, option_map, replicate, encode_utf8_all}
 use Rattle.inv_base.specs.declared.tree.Kind.{Kind}
 use Rattle.inv_base.specs.declared.tree.Kind.TheVariants as kinds
 use Rattle.inv_base.specs.Text.{quoted}
-use Rattle.inv_base.specs.Tree.{Name, Attribute, Forest, no_more, a_text, an_element}
+use Rattle.inv_base.specs.Tree.{Name, Attribute, Node, Forest, no_more, a_text, an_element}
 use Rattle.xml_state.specs.Events.{name_at}
 use Rattle.node_arena.specs.Document.{Placed}
-use Rattle.node_arena.specs.Shown.{Shown}
 
 -- a namespace name in braces, where there is one
 abbrev pub braced : List ℕ → List ℕ
@@ -39,7 +38,6 @@ outline_forest level (an_element name attributes inside rest) =
 unfoldable pub outline_text : Forest → List ℕ
 outline_text tree = encode_utf8_all (outline_forest 0 tree)
 
--- the line of a node
 abbrev pub optional_name_text : Option Name → List ℕ
 optional_name_text None = []
 optional_name_text (Some name) = name_text name
@@ -50,9 +48,10 @@ line_of kinds.Element level name text = line level (optional_name_text name)
 line_of kinds.Attribute level name text = line level (0x40 ∷ (optional_name_text name ++ (0x3D ∷ quoted text)))
 line_of kinds.Text level name text = line level (quoted text)
 
-abbrev pub node_line : Shown → List ℕ
-node_line node = line_of node.kind (node.level - 1) node.name node.text
+-- a node's line at its level, which is how many elements it is inside
+abbrev pub node_line : Node → List ℕ
+node_line node = line_of node.kind (length node.above - 1) node.name node.text
 
 -- the line of a node as if it were of the kind
 abbrev pub line_as : Kind → List Name → Placed → List ℕ
-line_as kind names node = line_of kind (node.level - 1) (option_map (name_at names) node.name) node.text
+line_as kind names node = line_of kind (length node.above - 1) (option_map (name_at names) node.name) node.text

@@ -8,6 +8,7 @@ mod program;
 mod status;
 mod telling;
 mod usage;
+mod walking;
 mod words;
 
 pub use adapters::{FileShelf, OutputSink};

@@ -1,6 +1,5 @@
 ghost use Rattle.std.specs.Prelude.{◌≡◌, ◌≢◌, ℕ, ◌<◌, ◌^◌, List, [], length, option_map, Ok, Err, IfOk};
 ghost use Rattle.inv_base.specs.Files.{bytes_under};
-ghost use Rattle.inv_base.specs.Outside.{WhereTold};
 ghost use Rattle.node_arena.specs.Document.{built};
 ghost use Rattle.xml_profile.specs.Profile as profile;
 ghost use Rattle.xml_profile.specs.Profile.{document};
@@ -14,7 +13,9 @@ ghost use Rattle.invoice_cli.specs.declared.load.LoadFault.TheVariants as faults
 
 use bumpalo::Bump;
 use inv_base::Shelf;
-use node_arena::{Builder, Doc, events_build_a_whole_document, events_build_their_tree};
+use node_arena::{
+    Builder, Doc, events_build_a_whole_document, events_build_the_nodes_of_their_tree,
+};
 use std::alloc::{AllocError, AllocFailed, Global};
 use xml_laws::read_tells_its_tree;
 use xml_profile::{Reader, settled_is_first};
@@ -66,7 +67,7 @@ pub(crate) fn load<'a, S: Shelf>(
     shelf: &mut S,
 ) -> Result<Doc<'a>, LoadFault>
     ensures reads { ReadsFrom result faults.Read (S.view shelf.old) (S.view shelf.new) }
-    ensures tree { IfOk result (λ doc. WhereTold (option_map (bytes_under name.now) (S.view shelf.old).held) (λ content. IsLoaded document_limits content doc)) }
+    ensures tree { IfOk result (λ doc. IsLoaded document_limits (option_map (bytes_under name.now) (S.view shelf.old).held) doc) }
     ensures refused { (fault : _) → result ≡ Err (faults.Refused fault)
         → IsRefused document_limits (option_map (bytes_under name.now) (S.view shelf.old).held) fault }
 {
@@ -87,7 +88,7 @@ fn read_open<'a, S: Shelf>(
 ) -> Result<Doc<'a>, LoadFault>
     requires { 0 < length piece.old }
     ensures reads { ReadsOn result faults.Read (S.view shelf.old) (S.view shelf.new) }
-    ensures tree { IfOk result (λ doc. WhereTold (S.view shelf.old).left (λ content. IsLoaded document_limits content doc)) }
+    ensures tree { IfOk result (λ doc. IsLoaded document_limits (S.view shelf.old).left doc) }
     ensures refused { (fault : _) → result ≡ Err (faults.Refused fault) → IsRefused document_limits (S.view shelf.old).left fault }
 {
     read_builds_its_tree();
@@ -152,6 +153,6 @@ fn read_builds_its_tree()
     ensures { (limits : spec.Limits) (bytes : List ℕ) (found : profile.Document) → limits.nodes < 2 ^ 32 → document limits bytes ≡ Ok found → IsBuilt found (built found.events) }
 {
     read_tells_its_tree();
-    events_build_their_tree();
+    events_build_the_nodes_of_their_tree();
     events_build_a_whole_document();
 }

@@ -1,5 +1,5 @@
 -- What a builder keeps behind one call more.
-use Rattle.std.proofs.Common.{◌≡◌, ℕ, ◌-◌, ◌<◌, Bool, true, false, cond, zero, suc, List, [], ◌∷◌, ◌++◌, length, take, get_or, Option, Some, None, OnSome, chars, IsUtf8, is_some, refl, ap, sym, ◌∙◌, append-nil, arith}
+use Rattle.std.proofs.Common.{◌≡◌, ℕ, ◌-◌, ◌<◌, Bool, true, false, cond, zero, suc, List, [], ◌∷◌, ◌++◌, length, get_or, Option, Some, None, OnSome, chars, IsUtf8, is_some, refl, ap, sym, ◌∙◌, append-nil, arith}
 use Rattle.std.proofs.lemmas.Str.{chars-nil}
 use Rattle.std.proofs.lemmas.Bool.{false≢true}
 use Rattle.inv_base.specs.Tree.{is_among}
@@ -7,8 +7,8 @@ use Rattle.inv_base.specs.declared.tree.Kind.TheVariants as kinds
 use Rattle.inv_base.specs.declared.place.Place.{Place}
 use Rattle.inv_base.proofs.TextLemmas.{chars-append}
 use Rattle.xml_state.specs.Events.{starts, has_attribute, has_text, ends}
-use Rattle.node_arena.specs.Document.{Placed, Built, after, begun, document_node, node_at, node_behind, last_place, ended}
-use Rattle.node_arena.specs.Slots.{is_inner, path, placed, kept, text_nodes, last_kept, IsGrowing}
+use Rattle.node_arena.specs.Document.{Placed, Built, after, begun, document_node, node_behind, last_place, ended}
+use Rattle.node_arena.specs.Slots.{is_inner, path, kept, text_nodes, last_kept, IsGrowing}
 use Rattle.node_arena.specs.declared.slot.Slot.{Slot}
 use Rattle.node_arena.proofs.NodeLemmas.{with_last_text-push, last_place-at}
 use Rattle.node_arena.proofs.KeptLemmas.{kept-at, kept_length}

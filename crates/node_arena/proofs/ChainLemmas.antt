@@ -1,8 +1,8 @@
 -- Chains that are linked from the last node back.
-use Rattle.std.proofs.Common.{◌≡◌, ℕ, ◌+◌, ◌<◌, ◌≤◌, Bool, true, false, cond, ◌==◌, List, [], ◌∷◌, length, drop, set, get_or, replicate, Option, Some, None, refl, ap, sym, ◌∙◌, arith, ⊎_elim}
+use Rattle.std.proofs.Common.{◌≡◌, ℕ, ◌+◌, ◌<◌, ◌≤◌, cond, List, length, drop, set, get_or, replicate, Option, Some, None, refl, ap, sym, ◌∙◌, arith, ⊎_elim}
 use Rattle.std.proofs.lemmas.List.{drop_more, drop_all, length-replicate, get_or-replicate, length-map, length-set, get_or-map, get_or-set_same, get_or-set_other, get_or_read}
-use Rattle.std.proofs.lemmas.Bool.{eq-eqb, ne_eqb, cases_eq, cases_lt}
-use Rattle.node_arena.specs.Document.{Placed, document_node, node_at}
+use Rattle.std.proofs.lemmas.Bool.{eq-eqb, ne_eqb, cases_eq}
+use Rattle.node_arena.specs.Document.{document_node, node_at}
 use Rattle.node_arena.specs.Keys.{key_of, has_key, first_keyed, next_keyed, keys}
 use Rattle.node_arena.specs.Slots.{kept}
 use Rattle.node_arena.specs.declared.chains.Family.{Family}

@@ -1,10 +1,10 @@
 -- Nodes while they are built.
-use Rattle.std.proofs.Common.{◌≡◌, ℕ, zero, suc, ◌+◌, ◌-◌, ◌<◌, ◌≤◌, Bool, true, false, cond, ◌||◌, ◌==◌, List, [], ◌∷◌, ◌++◌, length, take, drop, set, get_or, chars, Option, Some, None, refl, ap, sym, subst, ◌∙◌, append_assoc, append-nil, length-append, arith, ⊎_elim}
+use Rattle.std.proofs.Common.{◌≡◌, ℕ, ◌+◌, ◌-◌, ◌<◌, ◌≤◌, Bool, true, false, cond, ◌||◌, ◌==◌, List, [], ◌∷◌, ◌++◌, length, drop, set, get_or, refl, ap, sym, ◌∙◌, length-append, arith, ⊎_elim}
 use Rattle.std.proofs.lemmas.List.{get_or_append_left, get_or_push, length_push, drop-append-le, drop_all, length-set, get_or-set_same, get_or-set_other}
-use Rattle.std.proofs.lemmas.Bool.{eqb-true, eqb-false, eq-eqb, ne_eqb, cases_eq, cases_lt, or_right}
+use Rattle.std.proofs.lemmas.Bool.{eq-eqb, ne_eqb, cases_eq, cases_lt}
 use Rattle.inv_base.specs.Tree.{is_among}
 use Rattle.node_arena.specs.Document.{Placed, document_node, node_at, ended}
-use Rattle.node_arena.specs.Slots.{is_inner, path, around, placed, kept, AreBelow, last_among, last_kept, IsGrowing}
+use Rattle.node_arena.specs.Slots.{is_inner, path, placed, kept, AreBelow, last_among, last_kept, IsGrowing}
 use Rattle.node_arena.specs.Linked.{AreEnds}
 use Rattle.node_arena.specs.declared.slot.Slot.{Slot}
 use Rattle.node_arena.proofs.KeptLemmas.{kept-push, kept_length}

@@ -1,11 +1,10 @@
 -- Nodes as they are kept, and as they are seen.
-use Rattle.std.proofs.Common.{◌≡◌, ℕ, zero, suc, ◌+◌, ◌-◌, ◌<◌, ◌≤◌, Bool, true, false, cond, List, [], ◌∷◌, ◌++◌, length, take, drop, get_or, chars, Option, Some, None, IfSome, subst, ⊎_elim, refl, ap, sym, ◌∙◌, append_assoc, append-nil, length-append, arith}
+use Rattle.std.proofs.Common.{◌≡◌, ℕ, zero, suc, ◌+◌, ◌<◌, Bool, true, false, cond, List, [], ◌∷◌, ◌++◌, length, take, get_or, Option, None, IfSome, subst, ⊎_elim, refl, ap, sym, ◌∙◌, append_assoc, append-nil, length-append, arith}
 use Rattle.std.proofs.lemmas.List.{get_or-take, get_or_default}
 use Rattle.std.proofs.lemmas.Bool.{cases_Bool}
 use Rattle.std.proofs.lemmas.Option.{IfSome_then}
 use Rattle.node_arena.specs.Moves.{nearest}
-use Rattle.inv_base.specs.declared.tree.Kind.TheVariants as kinds
-use Rattle.node_arena.specs.Document.{Placed, document_node, node_at, node_behind, AreNumbered}
+use Rattle.node_arena.specs.Document.{Placed, document_node, node_at, AreNumbered}
 use Rattle.node_arena.specs.Slots.{is_inner, path, placed, kept_behind, kept, AreBelow}
 use Rattle.node_arena.specs.declared.slot.Slot.{Slot}
 
@@ -98,15 +97,6 @@ if_not false o count h = h
 pub if_so : (b : Bool) (o : Option ℕ) (count : ℕ) → IfSome o (λ n. n < count) → IfSome (cond b o None) (λ n. n < count)
 if_so true o count h = h
 if_so false o count h = tt
-
--- A node's level is the number of its ancestors, which are before it.
-pub level_at : (slots : List Slot) (n : ℕ) → n < length slots → (node_at (kept slots) n).level ≡ length (node_at (kept slots) n).above
-level_at [] n h = absurd (omega arith)
-level_at (s ∷ slots) n h =
-    let all : List Slot = s ∷ slots in
-    let slot = get_or all n s in
-    let is = kept-at all n slot h (get_or_default all n s slot h) in
-    ap (λ (node : Placed). node.level) is ∙ sym (ap (λ (node : Placed). length node.above) is)
 
 numbers_behind : (before : List Placed) (slots : List Slot) (n : ℕ) → n ≡ length before → AreNumbered n (kept_behind before slots)
 numbers_behind before [] n h = tt

@@ -6,3 +6,7 @@ mod GrowingLemmas
 mod BuilderLemmas
 mod ChainLemmas
 mod MoveLemmas
+pub mod FoundLemmas
+pub mod StepLemmas
+pub mod WalkLemmas
+pub mod ExpandedLemmas

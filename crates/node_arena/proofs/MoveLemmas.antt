@@ -1,14 +1,14 @@
 -- The links of a document lead where the moves of its tree do.
-use Rattle.std.proofs.Common.{◌≡◌, ℕ, zero, suc, ◌+◌, ◌-◌, ◌<◌, ◌≤◌, Bool, true, false, cond, not, ◌&&◌, ◌==◌, List, [], ◌∷◌, map, length, drop, get_or, Option, Some, None, IfSome, option_map, subst, refl, ap, sym, ◌∙◌, arith, ⊎_elim}
+use Rattle.std.proofs.Common.{◌≡◌, ℕ, zero, suc, ◌+◌, ◌<◌, ◌≤◌, Bool, true, false, cond, not, ◌&&◌, ◌==◌, List, [], ◌∷◌, map, length, drop, get_or, Option, Some, None, IfSome, option_map, subst, refl, ap, sym, ◌∙◌, arith}
 use Rattle.std.specs.Prelude.{filter, find}
 use Rattle.std.proofs.lemmas.List.{drop-map, get_or-map, length-map, length-drop}
-use Rattle.std.proofs.lemmas.Bool.{and_right, cases_Bool, eqb-true, false≢true}
+use Rattle.std.proofs.lemmas.Bool.{and_right, eqb-true, false≢true}
 use Rattle.std.proofs.lemmas.Option.{IfSome_then}
 use Rattle.inv_base.specs.Tree.{Name, Node, is_among}
 use Rattle.node_arena.specs.Document.{Placed, Document, document_node, node_at, AreNumbered}
-use Rattle.node_arena.specs.Moves.{node_of, tree_nodes, tree_node, behind, nearest, is_nearest, is_child, is_attribute_of, is_inside, is_named, first_that, last_that, parent, first_child, next_sibling, last_inside, first_attribute, next_attribute, chain, first_named, next_named}
-use Rattle.node_arena.specs.Keys.{is_attribute_kind, key_of, has_key, first_keyed, next_keyed, keys, AreLinks}
-use Rattle.node_arena.specs.Slots.{kept, last_among, last_kept, AreBelow}
+use Rattle.node_arena.specs.Moves.{node_of, tree_nodes, tree_node, behind, nearest, is_nearest, is_child, is_attribute_of, is_inside, is_named, first_that, last_that, parent, first_child, next_sibling, last_inside, first_attribute, next_attribute, first_named, next_named}
+use Rattle.node_arena.specs.Keys.{is_attribute_kind, key_of, has_key, first_keyed, next_keyed, keys}
+use Rattle.node_arena.specs.Slots.{kept, last_among, last_kept}
 use Rattle.node_arena.specs.Linked.{IsLinked}
 use Rattle.node_arena.specs.declared.chains.Family.{Family}
 use Rattle.node_arena.specs.declared.chains.Family.TheVariants as families

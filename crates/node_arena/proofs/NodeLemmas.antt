@@ -1,8 +1,8 @@
 -- Lists of nodes.
-use Rattle.std.proofs.Common.{◌≡◌, ℕ, zero, suc, ◌+◌, ◌-◌, ◌<◌, List, [], ◌∷◌, ◌++◌, length, get_or, refl, ap, sym, ◌∙◌, arith}
+use Rattle.std.proofs.Common.{◌≡◌, ℕ, zero, suc, ◌+◌, ◌<◌, List, [], ◌∷◌, ◌++◌, length, refl, ap, arith}
 use Rattle.std.specs.Prelude.{Option, Some, None, IfSome}
 use Rattle.std.specs.Option.{ForSome}
-use Rattle.node_arena.specs.Document.{Placed, document_node, node_at, last_place, with_last_text, AreNamed}
+use Rattle.node_arena.specs.Document.{Placed, node_at, last_place, with_last_text, AreNamed}
 
 pub with_last_text-push : (characters : List ℕ) (nodes : List Placed) (node : Placed)
     → with_last_text characters (nodes ++ node ∷ []) ≡ nodes ++ record node { text = node.text ++ characters } ∷ []

@@ -1,32 +1,22 @@
 -- What the events of a tree build.
-use Rattle.std.proofs.Common.{◌≡◌, ℕ, ◌+◌, ◌-◌, ◌<◌, ◌^◌, Bool, true, false, not, ◌&&◌, ◌==◌, List, [], ◌∷◌, ◌++◌, map, length, Option, Some, None, option_map, refl, ap, sym, ◌∙◌, append_assoc, append-nil, arith, cond, suc, length-append, subst}
+use Rattle.std.proofs.Common.{◌≡◌, ℕ, ◌+◌, ◌<◌, ◌^◌, Bool, true, false, not, ◌&&◌, ◌==◌, List, [], ◌∷◌, ◌++◌, map, length, Some, None, refl, ap, sym, ◌∙◌, append_assoc, append-nil, arith, cond, suc, length-append, subst}
 use Rattle.std.specs.Option.{ForSome}
-use Rattle.std.specs.List.{AllByRecursion}
 use Rattle.std.proofs.lemmas.List.{map-append, length-map, length_push}
 use Rattle.inv_base.specs.declared.tree.Kind.TheVariants as kinds
-use Rattle.inv_base.specs.Tree.{Name, Attribute, Forest, no_more, a_text, an_element, begins_with_text, is_joined, IsDocument, Node, size, nodes_of, nodes_of_attributes, document_nodes}
+use Rattle.inv_base.specs.Tree.{Name, Attribute, Forest, no_more, a_text, an_element, begins_with_text, is_joined, IsDocument, Node, size, nodes_of, nodes_of_attributes}
 use Rattle.inv_base.proofs.TextLemmas.{both}
-use Rattle.xml_state.specs.Events.{Event, starts, has_attribute, has_text, ends, name_at}
-use Rattle.xml_state.specs.Documents.{Tells, TellsAttributes, IsNumberOf}
-use Rattle.node_arena.specs.Document.{Placed, Document, Built, begun, after, built, built_from, last_place, with_last_text, document_node, node_behind, ended, AreNamed, IsNumbered}
-use Rattle.node_arena.specs.Moves.{node_of}
-use Rattle.node_arena.specs.Shown.{Shown, shown, shown_attributes, shown_forest, shown_document, IsOfTree, HasNodesOf}
+use Rattle.xml_state.specs.Events.{Event, starts, has_attribute, has_text, ends}
+use Rattle.xml_state.specs.Documents.{Tells, TellsAttributes}
+use Rattle.node_arena.specs.Document.{Placed, Built, begun, after, built, built_from, last_place, with_last_text, document_node, node_behind, ended, AreNamed, IsNumbered}
+use Rattle.node_arena.specs.Moves.{node_of, HasNodesOf}
 
 built_from-append : (b : Built) (first more : List Event) → built_from b (first ++ more) ≡ built_from (built_from b first) more
 built_from-append b [] more = refl
 built_from-append b (event ∷ first) more = built_from-append (after event b) first more
 
--- the level of each is the number of its ancestors
-abbrev AreLevelled : List Placed → Type 0
-AreLevelled nodes = AllByRecursion (λ (node : Placed). node.level ≡ length node.above) nodes
-
 AreNamed-append : (count : ℕ) (a b : List Placed) → AreNamed count a → AreNamed count b → AreNamed count (a ++ b)
 AreNamed-append count [] b p q = q
 AreNamed-append count (node ∷ a) b p q = (p.0, AreNamed-append count a b p.1 q)
-
-AreLevelled-append : (a b : List Placed) → AreLevelled a → AreLevelled b → AreLevelled (a ++ b)
-AreLevelled-append [] b p q = q
-AreLevelled-append (node ∷ a) b p q = (p.0, AreLevelled-append a b p.1 q)
 
 -- From one document to the next, these nodes were added.
 pub record Adds (names : List Name) (before behind : Built) (nodes : List Node) : Type 0 where
@@ -34,10 +24,9 @@ pub record Adds (names : List Name) (before behind : Built) (nodes : List Node) 
   pub nodes_are : behind.nodes ≡ before.nodes ++ new
   pub tree_are : map (node_of names) new ≡ nodes
   pub named : AreNamed (length names) new
-  pub levelled : AreLevelled new
 
 Adds-nil : (names : List Name) (b : Built) → Adds names b b []
-Adds-nil names b = record { new = []; nodes_are = sym (append-nil b.nodes); tree_are = refl; named = tt; levelled = tt }
+Adds-nil names b = record { new = []; nodes_are = sym (append-nil b.nodes); tree_are = refl; named = tt }
 
 Adds-append : (names : List Name) (b c d : Built) (xs ys : List Node) → Adds names b c xs → Adds names c d ys → Adds names b d (xs ++ ys)
 Adds-append names b c d xs ys p q = record {
@@ -45,7 +34,6 @@ Adds-append names b c d xs ys p q = record {
   nodes_are = q.nodes_are ∙ (ap (λ x. x ++ q.new) p.nodes_are ∙ append_assoc b.nodes p.new q.new);
   tree_are = map-append (node_of names) p.new q.new ∙ (ap (λ x. x ++ map (node_of names) q.new) p.tree_are ∙ ap (λ x. xs ++ x) q.tree_are);
   named = AreNamed-append (length names) p.new q.new p.named q.named;
-  levelled = AreLevelled-append p.new q.new p.levelled q.levelled;
 }
 
 Adds-count : (names : List Name) (b c : Built) (nodes : List Node) → Adds names b c nodes → length c.nodes ≡ length b.nodes + length nodes
@@ -63,8 +51,8 @@ none_number names = λ x e. cc
 
 -- one node
 adds_one : (names : List Name) (b c : Built) (node : Placed) → c.nodes ≡ b.nodes ++ node ∷ []
-    → ForSome node.name (λ name. name < length names) → node.level ≡ length node.above → Adds names b c (node_of names node ∷ [])
-adds_one names b c node nodes named level = record { new = node ∷ []; nodes_are = nodes; tree_are = refl; named = (named, tt); levelled = (level, tt) }
+    → ForSome node.name (λ name. name < length names) → Adds names b c (node_of names node ∷ [])
+adds_one names b c node nodes named = record { new = node ∷ []; nodes_are = nodes; tree_are = refl; named = (named, tt) }
 
 -- The attributes of an element are added.
 pub record AddsAttributes (names : List Name) (before behind : Built) (nodes : List Node) : Type 0 where
@@ -81,7 +69,7 @@ adds_attributes names (attribute ∷ attributes) events told b out =
     let is = told.2 in
     let node = node_behind b.nodes b.open_nodes kinds.Attribute (Some number) attribute.value (last_place b.nodes) in
     let c = after (has_attribute number attribute.value) b in
-    let first = adds_one names b c node refl (some_number names number is.within) refl in
+    let first = adds_one names b c node refl (some_number names number is.within) in
     let others = adds_attributes names attributes more told.4 c refl in
     let count : length c.nodes ≡ length b.nodes + 1 = length_push b.nodes node in
     let others_adds : Adds names c (built_from c more) (nodes_of_attributes b.open_nodes (length b.nodes + 1) attributes) =
@@ -136,7 +124,7 @@ adds_forest names (a_text characters rest) events joined told b out some =
     let node = node_behind b.nodes b.open_nodes kinds.Text None characters place in
     let c = after (has_text characters place) b in
     let added : c.nodes ≡ b.nodes ++ node ∷ [] = ap (λ t. cond t (with_last_text characters b.nodes) (b.nodes ++ node ∷ [])) (out_of_text b.in_text out) in
-    let first = adds_one names b c node added (none_number names) refl in
+    let first = adds_one names b c node added (none_number names) in
     let others = adds_forest names rest more others_joined.1 told.3 c (not_so (begins_with_text rest) others_joined.0) some in
     let count : length c.nodes ≡ length b.nodes + 1 = ap length added ∙ length_push b.nodes node in
     let others_adds : Adds names c (built_from c more) (nodes_of b.open_nodes (length b.nodes + 1) rest) =
@@ -155,7 +143,7 @@ adds_forest names (an_element name attributes inside rest) events joined told b 
     let b2 = built_from b1 told.3 in
     let b3 = after ends b2 in
     let b4 = built_from b3 told.4 in
-    let element = adds_one names b b0 node refl (some_number names number is.within) refl in
+    let element = adds_one names b b0 node refl (some_number names number is.within) in
     let first = adds_attributes names attributes told.2 told.7 b0 refl in
     let one : length b0.nodes ≡ n + 1 = length_push b.nodes node in
     let first_adds : Adds names b0 b1 (nodes_of_attributes (n ∷ b.open_nodes) (n + 1) attributes) =
@@ -171,7 +159,6 @@ adds_forest names (an_element name attributes inside rest) events joined told b 
       nodes_are = inner.adds.nodes_are;
       tree_are = inner.adds.tree_are ∙ (ap (λ above. nodes_of above (length b1.nodes) inside) opened ∙ ap (λ m. nodes_of (n ∷ b.open_nodes) m inside) behind_attributes);
       named = inner.adds.named;
-      levelled = inner.adds.levelled;
     } in
     let closed : b3.open_nodes ≡ b.open_nodes = ap ended (inner.still_open ∙ opened) ∙ ended_inside n b.open_nodes some in
     let still_some = ap length closed in
@@ -185,7 +172,6 @@ adds_forest names (an_element name attributes inside rest) events joined told b 
       nodes_are = others.adds.nodes_are;
       tree_are = others.adds.tree_are ∙ (ap (λ above. nodes_of above (length b3.nodes) rest) closed ∙ ap (λ m. nodes_of b.open_nodes m rest) behind_inside);
       named = others.adds.named;
-      levelled = others.adds.levelled;
     } in
     let all = Adds-append names b b0 b4 _ _ element (Adds-append names b0 b1 b4 _ _ first_adds (Adds-append names b1 b3 b4 _ _ inner_adds others_adds)) in
     let behind : built_from b (starts number place ∷ (told.2 ++ (told.3 ++ (ends ∷ told.4)))) ≡ b4 =
@@ -208,55 +194,6 @@ document_has_nodes names tree events d told =
     let added = (document_adds names tree events d told).adds in
     ap (map (node_of names)) added.nodes_are
     ∙ ap (λ nodes. let node : Node = record { number = 0; kind = kinds.Document; name = None; above = []; text = [] } in node ∷ nodes) added.tree_are
-
--- a node with its level alone
-abbrev level_of : Node → Shown
-level_of node = record { kind = node.kind; name = node.name; level = length node.above; text = node.text }
-
-levels_of : (names : List Name) (nodes : List Placed) → AreLevelled nodes → map (shown names) nodes ≡ map level_of (map (node_of names) nodes)
-levels_of names [] h = refl
-levels_of names (node ∷ nodes) h =
-    ap (λ level. let one : Shown = record { kind = node.kind; name = option_map (name_at names) node.name; level = level; text = node.text } in one ∷ map (shown names) nodes) h.0
-    ∙ ap (λ more. level_of (node_of names node) ∷ more) (levels_of names nodes h.1)
-
-attribute_levels : (above : List ℕ) (n : ℕ) (attributes : List Attribute) → map level_of (nodes_of_attributes above n attributes) ≡ shown_attributes (length above) attributes
-attribute_levels above n [] = refl
-attribute_levels above n (attribute ∷ attributes) =
-    ap (λ more. let one : Shown = record { kind = kinds.Attribute; name = Some attribute.name; level = length above; text = attribute.value } in one ∷ more)
-    (attribute_levels above (n + 1) attributes)
-
-deeper : (n : ℕ) (above : List ℕ) → length (n ∷ above) ≡ length above + 1
-deeper n above = omega arith
-
-forest_levels : (above : List ℕ) (n : ℕ) (f : Forest) → map level_of (nodes_of above n f) ≡ shown_forest (length above) f
-forest_levels above n no_more = refl
-forest_levels above n (a_text characters rest) =
-    ap (λ more. let one : Shown = record { kind = kinds.Text; name = None; level = length above; text = characters } in one ∷ more) (forest_levels above (n + 1) rest)
-forest_levels above n (an_element name attributes inside rest) =
-    let at = nodes_of_attributes (n ∷ above) (n + 1) attributes in
-    let inner = nodes_of (n ∷ above) (n + (1 + length attributes)) inside in
-    let others = nodes_of above (n + (1 + (length attributes + size inside))) rest in
-    let first : map level_of at ≡ shown_attributes (length above + 1) attributes =
-    attribute_levels (n ∷ above) (n + 1) attributes ∙ ap (λ l. shown_attributes l attributes) (deeper n above) in
-    let second : map level_of inner ≡ shown_forest (length above + 1) inside =
-    forest_levels (n ∷ above) (n + (1 + length attributes)) inside ∙ ap (λ l. shown_forest l inside) (deeper n above) in
-    let third = forest_levels above (n + (1 + (length attributes + size inside))) rest in
-    ap (λ more. let one : Shown = record { kind = kinds.Element; name = Some name; level = length above; text = [] } in one ∷ more)
-    (map-append level_of at (inner ++ others)
-    ∙ (ap (λ x. map level_of at ++ x) (map-append level_of inner others)
-    ∙ (ap (λ x. x ++ (map level_of inner ++ map level_of others)) first
-    ∙ (ap (λ x. shown_attributes (length above + 1) attributes ++ (x ++ map level_of others)) second
-    ∙ ap (λ x. shown_attributes (length above + 1) attributes ++ (shown_forest (length above + 1) inside ++ x)) third))))
-
-pub document_is_of_tree : (names : List Name) (tree : Forest) (events : List Event) → IsDocument tree → Tells names tree events
-    → IsOfTree (record { nodes = (built events).nodes; names = names }) tree
-unfolding built
-document_is_of_tree names tree events d told =
-    let added = (document_adds names tree events d told).adds in
-    let levelled : AreLevelled (built_from begun events).nodes = subst AreLevelled (sym added.nodes_are) (refl, added.levelled) in
-    levels_of names (built_from begun events).nodes levelled
-    ∙ (ap (map level_of) (document_has_nodes names tree events d told)
-    ∙ ap (λ nodes. let node : Shown = record { kind = kinds.Document; name = None; level = 0; text = [] } in node ∷ nodes) (forest_levels (0 ∷ []) 1 tree))
 
 root_ends : (names : List Name) (name : Name) (attributes : List Attribute) (inside : Forest) (events : List Event) (b : Built)
     → Tells names (an_element name attributes inside no_more) events → (built_from b events).in_text ≡ false

@@ -1,4 +1,4 @@
--- What a document holds: its nodes in document order, each with its level and place, and its names.
+-- What a document holds: its nodes in document order, each with its place, and its names.
 use Rattle.std.specs.Prelude.{◌≡◌, ℕ, ◌+◌, ◌^◌, ◌<◌, Bool, true, false, List, [], ◌∷◌, ◌++◌, length, get_or, Option, Some, None, if◌then◌else◌}
 use Rattle.std.specs.List.{AllByRecursion}
 use Rattle.std.specs.Option.{ForSome}
@@ -8,18 +8,17 @@ use Rattle.inv_base.specs.Tree.{Name}
 use Rattle.xml_state.specs.Events.{Event, starts, has_attribute, has_text, ends}
 
 -- A node: how many nodes stand before it in document order, its kind, the number of its name, the numbers of its ancestors
--- from the nearest to the document's, how many these are, its own text, and its place.
+-- from the nearest to the document's, its own text, and its place.
 pub record Placed : Type 0 where
   pub number : ℕ
   pub kind : Kind
   pub name : Option ℕ
   pub above : List ℕ
-  pub level : ℕ
   pub text : List ℕ
   pub place : ℕ
 
 abbrev pub document_node : Placed
-document_node = record { number = 0; kind = kinds.Document; name = None; above = []; level = 0; text = []; place = 0 }
+document_node = record { number = 0; kind = kinds.Document; name = None; above = []; text = []; place = 0 }
 
 -- A document as it grows: its nodes so far, the numbers of the nodes that are still open from the innermost to the
 -- document's, and whether the last event was a text.
@@ -35,7 +34,7 @@ begun = record { nodes = document_node ∷ []; open_nodes = 0 ∷ []; in_text = 
 -- a node behind others, inside the nodes that are open
 abbrev pub node_behind : List Placed → List ℕ → Kind → Option ℕ → List ℕ → ℕ → Placed
 node_behind nodes open_nodes kind name text place =
-    record { number = length nodes; kind = kind; name = name; above = open_nodes; level = length open_nodes; text = text; place = place }
+    record { number = length nodes; kind = kind; name = name; above = open_nodes; text = text; place = place }
 
 abbrev pub last_place : List Placed → ℕ
 last_place [] = 0

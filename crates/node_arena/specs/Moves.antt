@@ -1,9 +1,10 @@
 -- Moves from one node of a document to another, as relations between the nodes of the plain tree in document order. A node's
 -- number is its place among them.
-use Rattle.std.specs.Prelude.{ℕ, ◌+◌, Bool, true, false, not, ◌&&◌, ◌==◌, if◌then◌else◌, List, [], ◌∷◌, map, filter, find, drop, get_or, Option, Some, None, option_map}
+use Rattle.std.specs.Prelude.{◌≡◌, ℕ, ◌+◌, Bool, true, false, not, ◌&&◌, ◌==◌, if◌then◌else◌, List, [], ◌∷◌, map, filter, find, drop, get_or, Option, Some, None, option_map}
 use Rattle.inv_base.specs.declared.tree.Kind.TheVariants as kinds
-use Rattle.inv_base.specs.Tree.{Name, Node, is_among}
+use Rattle.inv_base.specs.Tree.{Name, Forest, Node, document_nodes, is_among}
 use Rattle.xml_state.specs.Events.{name_at}
+use Rattle.xml_state.specs.Names.{same_name}
 use Rattle.node_arena.specs.Document.{Placed, Document, node_at}
 
 -- the nodes of a document as the plain tree has them
@@ -12,6 +13,10 @@ node_of names node = record { number = node.number; kind = node.kind; name = opt
 
 abbrev pub tree_nodes : Document → List Node
 tree_nodes document = map (node_of document.names) document.nodes
+
+-- The document's nodes are those of the tree, node for node.
+abbrev pub HasNodesOf : Document → Forest → Type 0
+HasNodesOf document tree = tree_nodes document ≡ document_nodes tree
 
 -- the node of that number
 abbrev pub tree_node : List Node → ℕ → Node
@@ -86,6 +91,10 @@ is_named name node = elim node.name [ None ↦ false | Some k ↦ k == name ]
 -- the chain of a name: the numbers of the elements and attributes that have it, in document order
 abbrev pub chain : List Placed → ℕ → List ℕ
 chain nodes name = map (λ (node : Placed). node.number) (filter (is_named name) nodes)
+
+-- The element or attribute has the expanded name.
+abbrev pub has_name : Name → Node → Bool
+has_name name node = elim node.name [ None ↦ false | Some n ↦ same_name n name ]
 
 -- the first of a chain
 abbrev pub first_named : List Placed → ℕ → Option ℕ

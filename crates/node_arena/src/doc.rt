@@ -1,10 +1,11 @@
-ghost use Rattle.std.specs.Prelude.{◌≡◌, ℕ, ◌+◌, ◌<◌, ◌^◌, length, take, chars, IfSome, IfOk, SomeIff};
-ghost use Rattle.node_arena.specs.Document.{node_at, IsNumbered, AreNumbered};
+ghost use Rattle.std.specs.Prelude.{◌≡◌, ℕ, ◌<◌, length, take, chars, IfSome, IfOk};
+ghost use Rattle.node_arena.specs.Document.{node_at, IsNumbered, AreNumbered, AreNamed};
 ghost use Rattle.node_arena.specs.Linked.{AreEnds};
 ghost use Rattle.node_arena.specs.Slots.{placed, kept, AreBelow};
+ghost use Rattle.xml_state.specs.Names.{AreDistinct};
 
 use crate::chains::Links;
-use crate::slot::{Slot, parent_at};
+use crate::slot::Slot;
 use inv_base::{Kind, Place};
 use std::alloc::{AllocError, Global};
 use std::marker::Model;
@@ -83,8 +84,10 @@ impl<'a> Doc<'a> {
     pub fn document(&self) -> NodeId
         ensures number { result ≡ 0 }
         ensures numbers { AreNumbered 0 self.now.nodes }
+        ensures named { AreNamed (length self.now.names) self.now.nodes }
+        ensures distinct { AreDistinct self.now.names }
     {
-        let _ = &self.nodes;
+        self.names.names_differ();
         NodeId { number: 0 }
     }
 
@@ -95,19 +98,6 @@ impl<'a> Doc<'a> {
     {
         let _ = &self.nodes;
         NodeId { number: 1 }
-    }
-
-    /// The node of that number.
-    #[tactic(auto, using(crate::proofs::KeptLemmas::kept_length))]
-    pub fn at(&self, k: u32) -> Option<NodeId>
-        ensures node { SomeIff result (k < length self.now.nodes) k }
-        ensures few { length self.now.nodes < 2 ^ 32 }
-    {
-        if (k as usize) < self.nodes.len() {
-            Some(NodeId { number: k })
-        } else {
-            None
-        }
     }
 
     #[tactic(auto, using(crate::proofs::KeptLemmas::kept_length))]
@@ -126,15 +116,6 @@ impl<'a> Doc<'a> {
         ensures within { IfSome result (λ name. name < length self.now.names) }
     {
         slot_at(&self.nodes, n).name
-    }
-
-    /// How many nodes it stands inside: 0 at the document, 1 at the root element.
-    #[tactic(auto, using(crate::proofs::KeptLemmas::kept_length))]
-    pub fn depth(&self, n: NodeId) -> usize
-        requires { n < length self.now.nodes }
-        ensures { result ≡ (node_at self.now.nodes n).level }
-    {
-        depth_at(&self.nodes, n.number)
     }
 
     /// The characters of a text or the value of an attribute, else nothing.
@@ -169,19 +150,4 @@ fn slot_at<'s, 'a>(nodes: &'s [Slot<'a>], n: NodeId) -> &'s Slot<'a>
     ensures { placed (take n (kept nodes.now)) result.now ≡ node_at (kept nodes.now) n }
 {
     &nodes[n.number as usize]
-}
-
-/// How many nodes a node is inside.
-fn depth_at(nodes: &[Slot<'_>], n: u32) -> usize
-    requires within { n < length nodes.now }
-    requires below { AreBelow 0 nodes.now }
-    ensures { result ≡ (node_at (kept nodes.now) n).level }
-{
-    let mut depth = 0;
-    let mut n = n;
-    'around: while let Some(parent) = parent_at(nodes, n) {
-        depth += 1;
-        n = parent;
-    }
-    depth
 }

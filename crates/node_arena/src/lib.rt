@@ -14,5 +14,6 @@ pub use builder::Builder;
 pub use doc::{Doc, NodeId};
 pub use inv_base::Kind;
 pub use laws::{
-    events_build_a_whole_document, events_build_the_nodes_of_their_tree, events_build_their_tree,
+    chains_are_of_expanded_names, events_build_a_whole_document,
+    events_build_the_nodes_of_their_tree, moves_lead_on,
 };

@@ -1,5 +1,6 @@
 pub mod ListLemmas
 pub mod NameLemmas
+pub mod DistinctLemmas
 pub mod ScopeLemmas
 pub mod WrittenLemmas
 pub mod DuplicateLemmas

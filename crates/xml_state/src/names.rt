@@ -1,6 +1,6 @@
 ghost use Rattle.std.specs.Prelude.{◌≡◌, ℕ, ◌<◌, [], length, chars, string_bytes, IfOk, OnOk, OnErr, IsTrue, ◌↔◌};
 ghost use Rattle.xml_state.specs.Events.{name_at};
-ghost use Rattle.xml_state.specs.Names.{find_name, number_of, with_name};
+ghost use Rattle.xml_state.specs.Names.{find_name, number_of, with_name, AreDistinct};
 
 use indexmap::IndexSet;
 use std::alloc::{AllocError, Global};
@@ -97,6 +97,10 @@ impl Model for NameTable {
     ghost use Rattle.xml_state.specs.NameTables.{names_of};
 
     ghost view = { λ table. names_of table.names.keys };
+
+    ghost use Rattle.xml_state.specs.Names.{AreDistinct};
+
+    ghost invariant = { λ table. AreDistinct (names_of table.names.keys) };
 }
 
 impl NameTable {
@@ -120,6 +124,13 @@ impl NameTable {
         ensures { IsTrue result ↔ (self.now ≡ []) }
     {
         self.names.is_empty()
+    }
+
+    /// Each number has a name of its own: what callers may know of every table. It has no code.
+    pub fn names_differ(&self)
+        ensures { AreDistinct self.now }
+    {
+        let _ = &self.names;
     }
 
     // The number of a name, which is added where it is new. Want of memory changes nothing.

@@ -1,6 +1,5 @@
 use Rattle.std.proofs.Common.{refl, subst}
 use Rattle.std.specs.Prelude.{IfOk}
-use Rattle.inv_base.specs.Outside.{WhereTold}
 use Rattle.invoice_cli.specs.Answer.{document_limits}
 use Rattle.invoice_cli.specs.Load.{IsLoaded, IsRefused}
 use Rattle.invoice_cli.proofs.LoadLemmas.{failed_from, opened_from}
@@ -17,6 +16,6 @@ returns g c =
     let read = c.read_open.ensures in
     record {
       reads = opened_from _ _ (g.S.Shelf.view c.args.shelf.now) (g.S.Shelf.view c.open.new.self) (g.S.Shelf.view c.read_open.new.shelf) opened.held opened.opens opened.faults read.reads;
-      tree = subst (λ told. IfOk c.read_open.result (λ doc. WhereTold told (λ content. IsLoaded document_limits content doc))) opened.left read.tree;
+      tree = subst (λ told. IfOk c.read_open.result (λ doc. IsLoaded document_limits told doc)) opened.left read.tree;
       refused = λ fault is. subst (λ told. IsRefused document_limits told fault) opened.left (read.refused fault is);
     }

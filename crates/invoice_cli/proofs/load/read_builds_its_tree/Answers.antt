@@ -9,5 +9,5 @@ returns c = λ limits bytes found few is.
     record {
       ended = whole.1;
       numbered = whole.0;
-      of_tree = c.events_build_their_tree.ensures found.names (tree_of found) found.events read.document read.tells;
+      of_tree = c.events_build_the_nodes_of_their_tree.ensures found.names (tree_of found) found.events read.document read.tells;
     }

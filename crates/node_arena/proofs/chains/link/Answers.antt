@@ -1,4 +1,4 @@
-use Rattle.std.proofs.Common.{◌≡◌, ◌<◌, ◌-◌, set, length, Option, Some, None, IfSome, subst, refl, ap, sym, ◌∙◌, arith}
+use Rattle.std.proofs.Common.{◌<◌, ◌-◌, set, length, IfSome, subst, refl, sym, ◌∙◌, arith}
 use Rattle.std.proofs.lemmas.List.{length-set}
 use Rattle.node_arena.specs.Keys.{keys}
 use Rattle.node_arena.specs.Slots.{kept}

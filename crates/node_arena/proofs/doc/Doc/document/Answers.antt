@@ -1,4 +1,4 @@
-use Rattle.std.proofs.Common.{ap, subst}
+use Rattle.std.proofs.Common.{subst}
 use Rattle.node_arena.specs.Document.{Document, AreNumbered}
 use Rattle.node_arena.proofs.KeptLemmas.{kept_numbers}
 use Rattle.node_arena.proofs.doc.Doc.document.Goals as goal

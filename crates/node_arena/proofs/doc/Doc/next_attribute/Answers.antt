@@ -1,4 +1,4 @@
-use Rattle.std.proofs.Common.{get_or, None, IfSome, true, false, subst, ap, sym, ⊎_elim, ◌∙◌, ◌<◌, length}
+use Rattle.std.proofs.Common.{get_or, None, IfSome, subst, ap, sym, ⊎_elim, ◌∙◌, ◌<◌, length}
 use Rattle.node_arena.specs.Keys.{is_attribute_kind}
 use Rattle.node_arena.proofs.MoveLemmas.{answers_next_attribute, answers_no_attribute}
 use Rattle.node_arena.proofs.doc.Doc.next_attribute.Goals as goal

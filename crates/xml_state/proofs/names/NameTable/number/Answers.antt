@@ -1,5 +1,7 @@
 use Rattle.std.proofs.Common.{◌≡◌, ◌∙◌, subst, refl, IfOk}
 use Rattle.xml_state.proofs.NameLemmas.{finds_sought, found_number, found_names, new_number, new_names, same_name_of, same_test, if_ok}
+use Rattle.xml_state.specs.NameTables.{names_of}
+use Rattle.xml_state.proofs.DistinctLemmas.{distinct_kept}
 use Rattle.xml_state.proofs.names.NameTable.number.Goals as goal
 
 pub returns-in-Some-clause-number : goal.returns-in-Some-clause-number
@@ -24,3 +26,12 @@ returns-in_ok-insert-in-None-clause-names c =
     let copied = c.in_ok-copy-in-None.ensures in
     new_names _ _ finds copy _ _ _ c.self.view_is c.in-None.ensures.found (same_name_of copy c.set.new.self _ _ copied.uri copied.local c.in_ok-set.ensures.uri c.in_ok-set.ensures.local)
     _ (λ kept. same_test copy c.set.new.self kept copied.uri copied.local) c.in_ok-insert-in-None.ensures.keys
+
+pub invariant_of-self-in-None : goal.invariant_of-self-in-None
+invariant_of-self-in-None c =
+    let finds = finds_sought _ _ _ c.set.new.self c.utf8.uri c.utf8.local c.in_ok-set.ensures.uri c.in_ok-set.ensures.local (λ kept. refl) in
+    let copy = c.in_ok-copy-in-None.field-0 in
+    let copied = c.in_ok-copy-in-None.ensures in
+    distinct_kept (names_of c.self.inside.names.keys) (names_of c.insert.new.self.keys) c.args.self.now _ c.self.invariant c.self.view_is
+    (new_names _ _ finds copy _ _ _ c.self.view_is c.in-None.ensures.found (same_name_of copy c.set.new.self _ _ copied.uri copied.local c.in_ok-set.ensures.uri c.in_ok-set.ensures.local)
+    _ (λ kept. same_test copy c.set.new.self kept copied.uri copied.local) c.in_ok-insert-in-None.ensures.keys)

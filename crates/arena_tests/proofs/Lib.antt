@@ -1,0 +1,2 @@
+mod WalkingLemmas
+mod DocumentLemmas

@@ -1,0 +1,8 @@
+use Rattle.xpath_syntax.proofs.Answering.{pattern-found, pattern-refused}
+use Rattle.xpath_syntax.proofs.spelled.pattern.Goals as goal
+
+pub returns-in-Ok : goal.returns-in-Ok
+returns-in-Ok c = pattern-found _ _ _ c.trees_are_expressions.ensures c.in-Ok.ensures c.pattern_of.ensures
+
+pub returns-in-Err : goal.returns-in-Err
+returns-in-Err c = pattern-refused _ _ c.in-Err.ensures

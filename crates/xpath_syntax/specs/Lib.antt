@@ -1,0 +1,5 @@
+pub mod Named
+pub mod Values
+pub mod Stacks
+pub mod Spelled
+pub mod Answers

@@ -1,0 +1,13 @@
+pub mod TextLemmas
+pub mod FunctionLemmas
+pub mod ScopeLemmas
+pub mod VariableLemmas
+pub mod RefusalLemmas
+pub mod LeafLemmas
+pub mod WalkLemmas
+pub mod KindLaws
+pub mod FreeLaws
+pub mod WalkLaws
+pub mod TypingLaws
+pub mod OrderLaws
+mod Rows

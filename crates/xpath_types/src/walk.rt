@@ -1,0 +1,181 @@
+//! The walk over an expression that judges it.
+ghost use Rattle.std.specs.Prelude.{◌≡◌, ◌≤◌, ◌<◌, ◌+◌, [], ◌∷◌, ◌++◌, map, length, ◌==◌, IfOk, OnOk};
+ghost use Rattle.xpath_grammar.specs.View.{view};
+ghost use Rattle.xpath_types.specs.Walking as spec;
+
+use crate::facts::Facts;
+use crate::kinds::{Kinds, NO_KINDS};
+use crate::leaves::{judge_leaf, leaf_length};
+use crate::nodes::{
+    begins_at_root, closing_length, focus_behind, focus_inside, is_sure_error, kinds_concluded,
+    label_length, refuse_names, refuse_operand, with_part,
+};
+use crate::part::Part;
+use crate::refusals::Refusal;
+use crate::scope::Scope;
+use crate::uses::Uses;
+use crate::variables::{Variable, bind};
+use std::alloc::{AllocError, Global};
+use xpath_grammar::expr::{Expr, Form, Label, Leaf};
+
+/// What is kept along the walk.
+#[derive(Drop)]
+pub(crate) struct State {
+    /// The variables that are bound around the part, the innermost last.
+    pub variables: Vec<Variable>,
+    /// The parts so far, in their order.
+    pub parts: Vec<Part>,
+    /// The first refusal so far.
+    pub first: Option<Refusal>,
+}
+
+/// What is known behind an expression.
+#[derive(Clone, Copy)]
+pub(crate) struct Walked {
+    pub facts: Facts,
+    /// The number of the token behind it.
+    pub end: u32,
+}
+
+/// Stands for a part until the parts in it are known.
+const UNKNOWN: Part = Part {
+    kinds: NO_KINDS,
+    uses_focus: false,
+    depends_on_document_alone: false,
+};
+
+/// The number of a token further on. A number of 32 bits serves each text that has tokens; a longer expression, which no text spells, is
+/// refused as where memory runs out, and no number wraps.
+fn further(token: u32, count: usize) -> Result<u32, AllocError>
+    ensures { IfOk result (λ further. further ≡ token + count) }
+{
+    let Ok(count) = u32::try_from(count) else {
+        return Err(AllocError);
+    };
+    match token.checked_add(count) {
+        Some(further) => Ok(further),
+        None => Err(AllocError),
+    }
+}
+
+/// Judges the expression, whose first token has the number, at a focus of these kinds.
+pub(crate) fn walk(
+    alloc: Global,
+    scope: &Scope,
+    state: &mut State,
+    focus: Kinds,
+    token: u32,
+    x: &Expr,
+) -> Result<Walked, AllocError>
+    ensures walked { IfOk result (λ walked. walked ≡ (spec.walked scope.now focus (spec.stacked [] state.old.variables.items) token (spec.seen state.old) (view x.now)).0) }
+    ensures seen { OnOk result (spec.seen state.new ≡ (spec.walked scope.now focus (spec.stacked [] state.old.variables.items) token (spec.seen state.old) (view x.now)).1) }
+    ensures kept { OnOk result (state.new.variables.items ≡ state.old.variables.items) }
+    ensures longer { OnOk result (length state.old.parts.items ≤ length state.new.parts.items) }
+{
+    match x {
+        Expr::Leaf(leaf) => walk_leaf(alloc, scope, state, focus, token, leaf),
+        Expr::Node(form, parts) => {
+            let parts = parts.as_slice();
+            let index = state.parts.len();
+            let height = state.variables.len();
+            let mut so_far = begin(scope, state, token, form, parts)?;
+            let mut inner = focus;
+            'parts: for (i, part) in parts.iter().enumerate() {
+                let start = further(so_far.end, label_length(&part.0))?;
+                let focus = focus_inside(form, &part.0, inner);
+                let walked = walk(alloc, scope, state, focus, start, &part.1)?;
+                inner = focus_behind(form, &part.0, walked.facts.kinds, inner);
+                let sure = is_sure_error(form, i + 1 == parts.len(), walked.facts.kinds);
+                refuse_operand(&mut state.first, start, sure);
+                so_far = Walked {
+                    facts: with_part(form, &part.0, i == 0, sure, so_far.facts, walked.facts),
+                    end: walked.end,
+                };
+                bind(alloc, &mut state.variables, &part.0, walked.facts.kinds)?;
+            }
+            state.variables.truncate(height);
+            end(scope, state, form, parts, focus, index, so_far)
+        }
+    }
+}
+
+fn walk_leaf(
+    alloc: Global,
+    scope: &Scope,
+    state: &mut State,
+    focus: Kinds,
+    token: u32,
+    leaf: &Leaf,
+) -> Result<Walked, AllocError>
+    ensures walked { IfOk result (λ walked. walked ≡ (spec.leaf_walked scope.now focus (spec.stacked [] state.old.variables.items) token (spec.seen state.old) leaf.now).0) }
+    ensures seen { OnOk result (spec.seen state.new ≡ (spec.leaf_walked scope.now focus (spec.stacked [] state.old.variables.items) token (spec.seen state.old) leaf.now).1) }
+    ensures kept { OnOk result (state.new.variables.items ≡ state.old.variables.items) }
+    ensures longer { OnOk result (length state.old.parts.items ≤ length state.new.parts.items) }
+{
+    let facts = judge_leaf(
+        alloc,
+        scope,
+        &state.variables,
+        &mut state.first,
+        focus,
+        token,
+        leaf,
+    )?;
+    state.parts.push(facts.part(focus, state.variables.len()))?;
+    let end = further(token, leaf_length(leaf))?;
+    Ok(Walked { facts, end })
+}
+
+/// Puts the part in its place, and refuses the names that the expression itself has.
+fn begin(
+    scope: &Scope,
+    state: &mut State,
+    token: u32,
+    form: &Form,
+    parts: &[(Label, Expr)],
+) -> Result<Walked, AllocError>
+    ensures walked { IfOk result (λ walked. walked ≡ spec.node_begun scope.now token form.now (map (λ part. part.0) parts.now)) }
+    ensures seen { OnOk result (spec.seen state.new ≡ spec.seen_begun scope.now token form.now (map (λ part. part.0) parts.now) (spec.seen state.old)) }
+    ensures kept { OnOk result (state.new.variables.items ≡ state.old.variables.items) }
+{
+    state.parts.push(UNKNOWN)?;
+    let refused = refuse_names(scope, &mut state.first, token, form, parts);
+    let facts = Facts {
+        kinds: NO_KINDS,
+        refused,
+        uses: Uses {
+            position: false,
+            root: begins_at_root(form, parts),
+            item: false,
+        },
+        lowest: None,
+    };
+    Ok(Walked { facts, end: token })
+}
+
+/// States the part with the index, now that the parts in it are known.
+fn end(
+    scope: &Scope,
+    state: &mut State,
+    form: &Form,
+    parts: &[(Label, Expr)],
+    focus: Kinds,
+    index: usize,
+    inner: Walked,
+) -> Result<Walked, AllocError>
+    requires { index < length state.old.parts.items }
+    ensures walked { IfOk result (λ walked. walked ≡ (spec.node_ended scope.now focus (length state.old.variables.items) index form.now (map (λ part. part.0) parts.now) (inner, spec.seen state.old)).0) }
+    ensures seen { OnOk result (spec.seen state.new ≡ (spec.node_ended scope.now focus (length state.old.variables.items) index form.now (map (λ part. part.0) parts.now) (inner, spec.seen state.old)).1) }
+    ensures kept { OnOk result (state.new.variables.items ≡ state.old.variables.items) }
+    ensures long { OnOk result (length state.new.parts.items ≡ length state.old.parts.items) }
+{
+    let facts = Facts::of(
+        kinds_concluded(scope, form, parts, inner.facts.kinds),
+        inner.facts.refused,
+        inner.facts.uses,
+        inner.facts.lowest,
+    );
+    state.parts[index] = facts.part(focus, state.variables.len());
+    let end = further(inner.end, closing_length(form))?;
+    Ok(Walked { facts, end })
+}

@@ -1,5 +1,5 @@
-//! The chain of each name in some documents: the elements and attributes that have it. The rows were made by plain searches,
-//! outside of this program.
+//! The chain of each name in some documents: the elements and attributes that have it. The rows were
+//! made by plain searches, outside of this program.
 ghost use Rattle.std.specs.Prelude.{◌≡◌, ◌<◌, length};
 ghost use Rattle.arena_tests.specs.Walking.{MovesLeadOn};
 
@@ -30,7 +30,8 @@ const CHAINS: &str = "\
 <r><l k=\"1\"></l><m><l></l></m><l></l></r> | r 1; l 2 5 6; k 3; m 4
 <r><l k=\"1\" l=\"2\" m=\"3\">x<k></k>y</l><l></l></r> | r 1; l 2 4 9; k 3 7; m 5
 <r><m><m m=\"1\"><m>m</m></m><m></m></m></r> | r 1; m 2 3 4 5 7
-<r><l k=\"a\"></l><l k=\"b\">x</l><m><l k=\"c\"></l><k k=\"d\"></k></m></r> | r 1; l 2 4 8; k 3 5 9 10 11; m 7
+<r><l k=\"a\"></l><l k=\"b\">x</l><m><l k=\"c\"></l><k k=\"d\"></k></m></r> | \
+    r 1; l 2 4 8; k 3 5 9 10 11; m 7
 <r xmlns:a=\"u\" xmlns:b=\"u\"><a:l/><b:l l=\"x\"/><l/></r> | r 1; l 2 3; l 4 5";
 
 /// The chain from a node on.

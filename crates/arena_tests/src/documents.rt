@@ -46,7 +46,8 @@ pub(crate) fn document<'a>(alloc: Global, bump: &'a Bump, text: &str) -> Result<
 
 /// What is read builds the nodes of its tree: laws of the crates below, which have no code, in one.
 fn what_is_read_is_built()
-    ensures { (limits : spec.Limits) (bytes : List ℕ) (found : profile.Document) → limits.nodes < 2 ^ 32 → document limits bytes ≡ Ok found
+    ensures { (limits : spec.Limits) (bytes : List ℕ) (found : profile.Document)
+        → limits.nodes < 2 ^ 32 → document limits bytes ≡ Ok found
         → IsWhole found.names (built found.events) (tree_of found) }
 {
     read_tells_its_tree();

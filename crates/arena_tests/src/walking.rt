@@ -9,8 +9,8 @@ use inv_base::{Kind, Steps};
 use node_arena::{Doc, NodeId};
 use std::sync::ledger::Ledger;
 
-/// The node behind another in document order: its first attribute, else its first child, else what is beside it or beside
-/// the nearest of its ancestors that has something beside it.
+/// The node behind another in document order: its first attribute, else its first child, else what
+/// is beside it or beside the nearest of its ancestors that has something beside it.
 pub(crate) fn next_node<L: Ledger>(doc: &Doc<'_>, n: NodeId, steps: &mut Steps<L>) -> Option<NodeId>
     requires leads { MovesLeadOn doc.now }
     requires within { n < length doc.now.nodes }
@@ -45,7 +45,8 @@ fn node_beside<L: Ledger>(doc: &Doc<'_>, n: NodeId, steps: &mut Steps<L>) -> Opt
     }
 }
 
-/// What is beside a node: the next attribute and, behind the last, the first child; or the next child.
+/// What is beside a node: the next attribute and, behind the last, the first child; or the next
+/// child.
 fn beside<L: Ledger>(doc: &Doc<'_>, n: NodeId, steps: &mut Steps<L>) -> Option<NodeId>
     requires leads { MovesLeadOn doc.now }
     requires within { n < length doc.now.nodes }

@@ -1,5 +1,6 @@
--- Of what kinds the items of an expression's value are, and what is refused in it (XPath 2.0, section 2.3.1, static type errors
--- only where no value of the operand could do).
+-- Of what kinds the items of an expression's value are, and what is refused in it before it is evaluated (XPath 2.0, section 2.2.3.1,
+-- in a subset): a name of a prefix, a variable, a function or a type that isn't known, and an operand of which each kind of item is
+-- an error where it stands.
 use Rattle.std.specs.Prelude.{ℕ, Bool, true, false, ◌+◌, ◌&&◌, not, List, [], ◌∷◌, ◌++◌, Option, Some, None, length, map, is_some, if◌then◌else◌}
 use Rattle.std.specs.List.{flat_map}
 use Rattle.std.specs.Str.{bytes_eq}

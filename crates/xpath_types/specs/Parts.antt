@@ -22,7 +22,7 @@ use Rattle.xpath_types.specs.declared.uses.Uses.{Uses}
 use Rattle.xpath_types.specs.Functions.{function_called}
 use Rattle.xpath_types.specs.Judging.{Environment, Judged, judged, labels, inside, behind}
 
--- what an expression uses of the focus that it is evaluated at
+-- nothing of the focus that an expression is evaluated at
 abbrev pub no_uses : Uses
 no_uses = record { position = false; root = false; item = false }
 

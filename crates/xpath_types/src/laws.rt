@@ -7,7 +7,8 @@ ghost use Rattle.xpath_types.specs.Refusals.{Refusal, is_before, first_of};
 ghost use Rattle.xpath_types.specs.Judging.{Environment};
 ghost use Rattle.xpath_types.specs.Parts.{placed};
 
-/// The parts that are typed are those of the expression, each at its place among the tokens, in their order.
+/// The parts that are typed are those of the expression, each at its place among the tokens, in
+/// their order.
 pub fn parts_are_typed()
     ensures { (env : Environment) (token : ℕ) (x : Tree) → map (λ at. (at.token, at.part)) (placed env token x) ≡ parts_from token x }
 {}

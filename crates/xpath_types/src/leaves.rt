@@ -52,7 +52,8 @@ fn test_length(test: &Test) -> usize
     }
 }
 
-/// Judges an expression without parts, whose first token has the number, at a focus and inside bound variables.
+/// Judges an expression without parts, whose first token has the number, at a focus and inside
+/// bound variables.
 pub(crate) fn judge_leaf(
     alloc: Global,
     scope: &Scope,

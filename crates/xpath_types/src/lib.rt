@@ -1,5 +1,5 @@
-//! The typing of expressions and patterns: what kinds of items the value of each part may have, what each part uses of the place
-//! that it is evaluated at, and the first refusal.
+//! The typing of expressions and patterns: what kinds of items the value of each part may have,
+//! what each part uses of the place that it is evaluated at, and the first refusal.
 #![tactic(auto)]
 
 mod facts;

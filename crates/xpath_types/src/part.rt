@@ -7,14 +7,17 @@ use crate::kinds::Kinds;
 pub struct Part {
     /// The kinds that the items of its value may have.
     pub kinds: Kinds,
-    /// Whether its value may depend on the focus that it is evaluated at: the item, its position or the last position.
+    /// Whether its value may depend on the focus that it is evaluated at: the item, its position or
+    /// the last position.
     pub uses_focus: bool,
-    /// Whether its value depends on the document alone: on no variable from outside, and on no focus but for its document.
+    /// Whether its value depends on the document alone: on no variable from outside, and on no
+    /// focus but for its document.
     pub depends_on_document_alone: bool,
 }
 
 impl Part {
-    /// Whether its value may be or hold a number, so that a predicate with it may test the position.
+    /// Whether its value may be or hold a number, so that a predicate with it may test the
+    /// position.
     pub fn may_be_number(&self) -> bool
         ensures { result ≡ self.now.kinds.number }
     {

@@ -73,7 +73,8 @@ pub(crate) fn refuse_prefix(
     }
 }
 
-/// Refuses a call with so many arguments where its name or the arguments are wrong, and tells whether it did.
+/// Refuses a call with so many arguments where its name or the arguments are wrong, and tells
+/// whether it did.
 pub(crate) fn refuse_call(
     first: &mut Option<Refusal>,
     token: u32,

@@ -7,8 +7,8 @@ use indexmap::{IndexMap, IndexSet};
 use std::alloc::{AllocError, Global};
 use std::marker::Model;
 
-/// What is declared outside an expression: prefixes with the namespaces that they are bound to, and names of variables. The
-/// prefixes `fn` and `xs` are always bound.
+/// What is declared outside an expression: prefixes with the namespaces that they are bound to, and
+/// names of variables. The prefixes `fn` and `xs` are always bound.
 #[derive(Drop)]
 pub struct Scope {
     prefixes: IndexMap<String, String>,
@@ -34,7 +34,8 @@ impl Scope {
         }
     }
 
-    /// Binds the prefix to the namespace, unless it is bound: the first binding counts. Want of memory changes nothing.
+    /// Binds the prefix to the namespace, unless it is bound: the first binding counts. Want of
+    /// memory changes nothing.
     pub fn prefix(&mut self, alloc: Global, prefix: &str, uri: &str) -> Result<(), AllocError>
         ensures ok { OnOk result (self.new ≡ spec.with_prefix self.old (chars prefix.now) (chars uri.now)) }
         ensures err { OnErr result (self.new ≡ self.old) }
@@ -48,7 +49,8 @@ impl Scope {
         Ok(())
     }
 
-    /// Declares the variable, whose name is given as it is written: `x` or `p:x`. Want of memory changes nothing.
+    /// Declares the variable, whose name is given as it is written: `x` or `p:x`. Want of memory
+    /// changes nothing.
     pub fn variable(&mut self, alloc: Global, name: &str) -> Result<(), AllocError>
         ensures ok { OnOk result (self.new ≡ spec.with_variable self.old (chars name.now)) }
         ensures err { OnErr result (self.new ≡ self.old) }

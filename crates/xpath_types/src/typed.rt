@@ -33,8 +33,8 @@ impl<'e> Model for Typed<'e> {
 }
 
 impl<'e> Typed<'e> {
-    /// What is stated of the part with the number, from 0. Parts are numbered in the order of their first tokens, an outer part
-    /// before the parts in it.
+    /// What is stated of the part with the number, from 0. Parts are numbered in the order of their
+    /// first tokens, an outer part before the parts in it.
     pub fn part(&self, k: usize) -> Option<&Part>
         ensures { option_copied result ≡ slice_get self.now.parts k }
     {
@@ -56,8 +56,8 @@ impl<'e> Typed<'e> {
     }
 }
 
-/// Types the expression in the scope, or tells the first refusal. Takes time in proportion to the expression, but for the names
-/// that are looked up.
+/// Types the expression in the scope, or tells the first refusal. Takes time in proportion to the
+/// expression, but for the names that are looked up.
 pub fn check<'e>(
     alloc: Global,
     expression: &'e Expr,

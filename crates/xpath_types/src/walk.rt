@@ -44,8 +44,8 @@ const UNKNOWN: Part = Part {
     depends_on_document_alone: false,
 };
 
-/// The number of a token further on. A number of 32 bits serves each text that has tokens; a longer expression, which no text spells, is
-/// refused as where memory runs out, and no number wraps.
+/// The number of a token further on. A number of 32 bits serves each text that has tokens; a longer
+/// expression, which no text spells, is refused as where memory runs out, and no number wraps.
 fn further(token: u32, count: usize) -> Result<u32, AllocError>
     ensures { IfOk result (λ further. further ≡ token + count) }
 {

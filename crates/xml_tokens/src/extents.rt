@@ -26,7 +26,14 @@ const GREATEST_TAG: usize = 262_144;
 pub fn are_chars(text: &str) -> bool
     ensures { result ≡ told.are_chars text.now }
 {
-    are_plain_chars(text.as_bytes()) || text.chars().all(|c| is_char(c))
+    text.chars().all(|c| is_char(c))
+}
+
+/// The same, sooner for a text that is ASCII throughout.
+fn are_chars_of_markup(text: &str) -> bool
+    ensures { result ≡ told.are_chars text.now }
+{
+    are_plain_chars(text.as_bytes()) || are_chars(text)
 }
 
 /// What stands inside an extent as text, or why it is none.
@@ -34,7 +41,7 @@ fn text_of(inside: &[u8]) -> Result<&str, XmlKind>
     ensures { MatchResult result (λ text. told.IsRight inside.now text.now) (told.IsWrong inside.now) }
 {
     match str::from_utf8(inside) {
-        Ok(text) if are_chars(text) => Ok(text),
+        Ok(text) if are_chars_of_markup(text) => Ok(text),
         Ok(_) => Err(XmlKind::BadChar),
         Err(_) => Err(XmlKind::NotUtf8),
     }

@@ -7,20 +7,19 @@ use Rattle.inv_base.specs.Outside.{ShelfView, SinkView, WhereTold, appended}
 use Rattle.inv_base.specs.Printing.{Printed}
 use Rattle.inv_base.specs.Writing.{IsFront, WritesAll, WritesFront}
 use Rattle.inv_base.proofs.WritingLemmas.{appended-nil, IsFront-nil, IsFront-whole}
-use Rattle.xml_tokens.specs.Faults.{Fault}
 use Rattle.xml_state.specs.Events.{with_events}
-use Rattle.xml_state.specs.Limits.{Limits}
+use Rattle.xml_state.specs.declared.limits.Limits.{Limits}
 use Rattle.xml_state.specs.declared.fault.XmlFault.{XmlFault}
 use Rattle.xml_profile.specs.Profile.{document, first_fault, tree_of, names_of}
 use Rattle.xml_profile.specs.Profile as profile
 use Rattle.xml_profile.specs.TokenByToken.{read_whole}
 use Rattle.node_arena.specs.Document.{Document}
-use Rattle.invoice_cli.specs.declared.load.LoadFault.TheVariants as faults
+use Rattle.xml_document.specs.declared.loading.LoadFault.TheVariants as faults
 use Rattle.invoice_cli.specs.declared.status.Status.{Status}
 use Rattle.invoice_cli.specs.declared.status.Status.TheVariants as statuses
 use Rattle.invoice_cli.specs.Job.{Job, outline, bad_word}
 use Rattle.invoice_cli.specs.Lines.{bad_word_line, read_fault_line, document_line}
-use Rattle.invoice_cli.specs.Load.{ReadsFrom, IsRefused, IsLoaded}
+use Rattle.xml_document.specs.Loading.{ReadsFrom, IsRefused, StopsInTime, IsLoaded}
 use Rattle.invoice_cli.specs.Answer.{Answer, done, document_limits, outline_answer, answer_to}
 use Rattle.invoice_cli.specs.Answers.{TakesOrFails, Says, Answers}
 use Rattle.invoice_cli.proofs.OutlineLemmas.{lines_of, lines_of-tree}
@@ -44,13 +43,13 @@ takes_printed true text a b printed = inr printed
 takes_printed false text a b printed = inl printed
 
 -- A first fault is why the bytes are no document.
-abbrev by_fault : Limits → List ℕ → Option Fault → Result profile.Document Fault
+abbrev by_fault : Limits → List ℕ → Option XmlFault → Result profile.Document XmlFault
 by_fault limits bytes f = elim f [
   | (Some fault) ↦ Err fault
   | None ↦ Ok (record { events = with_events [] (read_whole limits bytes).events; names = names_of (read_whole limits bytes).stands })
 ]
 
-refused_document : (limits : Limits) (bytes : List ℕ) (fault : Fault) → first_fault limits bytes ≡ Some fault → document limits bytes ≡ Err fault
+refused_document : (limits : Limits) (bytes : List ℕ) (fault : XmlFault) → first_fault limits bytes ≡ Some fault → document limits bytes ≡ Err fault
 unfolding document
 refused_document limits bytes fault is = ap (by_fault limits bytes) is
 
@@ -74,6 +73,7 @@ answers_bad_word number shelf out err err' takes = record {
   line = λ _. (bad_word_line number, refl, takes);
   no_line = λ no. absurd (no tt);
   front = λ no files is. absurd (no tt);
+  stops = λ file' same e. cc;
   opens = λ file e. cc;
   untouched = λ _. refl;
   held = refl;
@@ -102,6 +102,7 @@ answers_said job text status shelf out out' err is_text good no_document (inl sa
       line = λ refusal. absurd refusal;
       no_line = λ _. refl;
       front = λ _ files is. (text, subst (λ (a : Answer). IsFront text a.out) (sym (is_text files)) (IsFront-whole text), all.told);
+      stops = λ file' same e. cc;
       opens = λ file e. absurd (no_document file e);
       untouched = λ _. refl;
       held = refl;
@@ -125,6 +126,7 @@ answers_said job text status shelf out out' err is_text good no_document (inr sa
       line = λ refusal. absurd refusal;
       no_line = λ _. refl;
       front = λ _ files is. (front.front, subst (λ (a : Answer). IsFront front.front a.out) (sym (is_text files)) front.is_front, front.told);
+      stops = λ file' same e. cc;
       opens = λ file e. absurd (no_document file e);
       untouched = λ _. refl;
       held = refl;
@@ -151,21 +153,25 @@ module _ (file : List ℕ) (shelf shelf' : ShelfView) (out err : SinkView) where
     line = λ _. (read_fault_line file, refl, takes);
     no_line = λ no. absurd (no tt);
     front = λ no files is. absurd (no tt);
+    stops = λ file' same e. cc;
     opens = λ _ _. reads.opens;
     untouched = λ other. absurd (other file refl);
     held = reads.held;
   }
 
   module _ (fault : XmlFault) (reads : ReadsFrom {T = Document} (Err (faults.Refused fault)) faults.Read shelf shelf')
-      (refused : IsRefused document_limits (option_map (bytes_under file) shelf.held) fault) where
+      (refused : IsRefused document_limits (option_map (bytes_under file) shelf.held) fault)
+      (stops : StopsInTime document_limits (option_map (bytes_under file) shelf.held) shelf'.left) where
+    file_is : (file' : List ℕ) → outline file ≡ outline file' → file ≡ file'
+    file_is file' same = cc
+
     of_file : WhereTold shelf.held (λ files. refused.content ≡ bytes_under file files)
     of_file files is = refused.whole (bytes_under file files) (ap (option_map (bytes_under file)) is)
 
     answer_is : (files : Files) → shelf.held ≡ Some files → answer_to (outline file) files ≡ record { status = statuses.DocumentRefused; out = []; err = document_line file fault }
     answer_is files is =
-        let first : first_fault document_limits (bytes_under file files) ≡ Some refused.first = ap (first_fault document_limits) (sym (of_file files is)) ∙ refused.is in
-        ap (outline_answer file) (refused_document document_limits (bytes_under file files) refused.first first)
-        ∙ ap (λ f. let a : Answer = record { status = statuses.DocumentRefused; out = []; err = document_line file f } in a) (sym refused.same)
+        let first : first_fault document_limits (bytes_under file files) ≡ Some fault = ap (first_fault document_limits) (sym (of_file files is)) ∙ refused.is in
+        ap (outline_answer file) (refused_document document_limits (bytes_under file files) fault first)
 
     pub answers_refused : (err' : SinkView) → TakesOrFails (document_line file fault) err err'
         → Answers (outline file) (record { shelf = shelf; out = out; err = err }) (record { shelf = shelf'; out = out; err = err' }) statuses.DocumentRefused
@@ -187,15 +193,16 @@ module _ (file : List ℕ) (shelf shelf' : ShelfView) (out err : SinkView) where
         document_line file fault,
         record {
           content = refused.content;
-          fault = refused.first;
+          fault = fault;
           first = refused.is;
-          is = ap (document_line file) refused.same;
+          is = refl;
           of_file = of_file;
         },
         takes,
       );
       no_line = λ no. absurd (no tt);
       front = λ no files is. absurd (no tt);
+      stops = λ file' same e. subst (λ name. StopsInTime document_limits (option_map (bytes_under name) shelf.held) shelf'.left) (file_is file' same) stops;
       opens = λ _ _. reads.opens;
       untouched = λ other. absurd (other file refl);
       held = reads.held;
@@ -220,6 +227,7 @@ module _ (file : List ℕ) (shelf shelf' : ShelfView) (out err : SinkView) where
     line = λ refusal. absurd refusal;
     no_line = λ _. refl;
     front = λ _ files is. ([], IsFront-nil _, sym (appended-nil out.told));
+    stops = λ file' same e. cc;
     opens = λ _ _. reads.opens;
     untouched = λ other. absurd (other file refl);
     held = reads.held;
@@ -252,6 +260,7 @@ module _ (file : List ℕ) (shelf shelf' : ShelfView) (out err : SinkView) where
       line = λ refusal. absurd refusal;
       no_line = λ _. refl;
       front = λ _ files is. (lines_of doc.names doc.nodes, subst (λ (a : Answer). IsFront (lines_of doc.names doc.nodes) a.out) (sym (outline_is files is)) (IsFront-whole _), all.told);
+      stops = λ file' same e. cc;
       opens = λ _ _. reads.opens;
       untouched = λ other. absurd (other file refl);
       held = reads.held;
@@ -276,6 +285,7 @@ module _ (file : List ℕ) (shelf shelf' : ShelfView) (out err : SinkView) where
       line = λ refusal. absurd refusal;
       no_line = λ _. refl;
       front = λ _ files is. (front.front, subst (λ (a : Answer). IsFront front.front a.out) (sym (outline_is files is)) front.is_front, front.told);
+      stops = λ file' same e. cc;
       opens = λ _ _. reads.opens;
       untouched = λ other. absurd (other file refl);
       held = reads.held;

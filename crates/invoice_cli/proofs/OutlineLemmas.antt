@@ -2,16 +2,18 @@
 use Rattle.std.proofs.Common.{◌≡◌, ℕ, zero, suc, ◌+◌, ◌-◌, ◌*◌, ◌<◌, List, [], ◌∷◌, ◌++◌, map, take, length, get_or, replicate, Option, Some, option_map, refl, ap, sym, ◌∙◌, append_assoc, append-nil, arith, chars, IsUtf8}
 use Rattle.std.specs.List.{flat_map}
 use Rattle.std.specs.Prelude.{encode_utf8_all}
-use Rattle.std.proofs.lemmas.List.{take_more, map-append, replicate-append-replicate}
+use Rattle.std.proofs.lemmas.List.{take_more, get_or-map, map-append, replicate-append-replicate}
 use Rattle.std.proofs.lemmas.Str.{encode_ascii, encodes-append, chars-nil}
 use Rattle.std.proofs.lemmas.Grind.{flat_map-append}
 use Rattle.inv_base.specs.declared.tree.Kind.TheVariants as kinds
 use Rattle.inv_base.specs.Text.{quoted}
-use Rattle.inv_base.specs.Tree.{Name, Attribute, Forest, no_more, a_text, an_element, size, nodes_of_attributes, nodes_of}
+use Rattle.inv_base.specs.Tree.{Name, Attribute, Node, Forest, no_more, a_text, an_element, size, nodes_of_attributes, nodes_of}
 use Rattle.inv_base.proofs.TextLemmas.{encode-chars}
 use Rattle.xml_state.specs.Events.{name_at}
 use Rattle.node_arena.specs.Document.{Placed, Document, document_node, node_at}
-use Rattle.node_arena.specs.Moves.{node_of, HasNodesOf}
+use Rattle.node_arena.specs.Moves.{node_of, tree_nodes, tree_node, HasNodesOf}
+use Rattle.xml_document.specs.Walking.{StandsIn}
+use Rattle.xml_document.specs.declared.walk.Walk.{Walk}
 use Rattle.invoice_cli.specs.Outline.{braced, name_text, optional_name_text, line, attribute_text, outline_attributes, outline_forest, outline_text, line_as, node_line}
 
 -- an ASCII character in front
@@ -99,6 +101,13 @@ module _ (names : List Name) (node : Placed) (level : ℕ) (deep : level ≡ len
       ∙ (ap (λ t. replicate (2 * (length node.above - 1)) 0x20 ++ (0x40 ∷ (encode_utf8_all named_text ++ (0x3D ∷ (encode_utf8_all (quoted t) ++ 0xA ∷ []))))) is
       ∙ (ap (λ x. replicate (2 * (length node.above - 1)) 0x20 ++ x) (sym (ap (λ x. x ++ 0xA ∷ []) all ∙ back))
       ∙ (sym (encode-line (length node.above - 1) (0x40 ∷ (named_text ++ (0x3D ∷ quoted node.text)))) ∙ refl))))
+
+-- the level of a walk by the document's own nodes
+tree_node-at : (document : Document) (n : ℕ) → n < length document.nodes → tree_node (tree_nodes document) n ≡ node_of document.names (node_at document.nodes n)
+tree_node-at document n h = get_or-map (node_of document.names) document.nodes n document_node _ h
+
+pub deep : (document : Document) (walk : Walk) → StandsIn document walk → walk.level ≡ length (node_at document.nodes walk.node).above
+deep document walk stands = stands.level ∙ ap (λ (node : Node). length node.above) (tree_node-at document walk.node stands.within)
 
 -- one more node
 node_at-get_or : (nodes : List Placed) (k : ℕ) → node_at nodes k ≡ get_or nodes k document_node

@@ -1,9 +1,8 @@
 -- What the program answers to a job, as a function of the files that are held.
 use Rattle.std.specs.Prelude.{ℕ, List, [], Ok, Err, Result}
 use Rattle.inv_base.specs.Files.{Files, bytes_under}
-use Rattle.xml_tokens.specs.Faults.{Fault}
-use Rattle.xml_state.specs.Limits.{Limits}
-use Rattle.xml_state.specs.Seen.{fault_for}
+use Rattle.xml_state.specs.declared.fault.XmlFault.{XmlFault}
+use Rattle.xml_state.specs.declared.limits.Limits.{Limits}
 use Rattle.xml_profile.specs.Profile.{Document, document, tree_of}
 use Rattle.invoice_cli.specs.declared.status.Status.{Status}
 use Rattle.invoice_cli.specs.declared.status.Status.TheVariants as statuses
@@ -26,9 +25,9 @@ abbrev pub document_limits : Limits
 document_limits = record { bytes = 16777216; nodes = 1000000; depth = 100; attributes = 64; name = 200; names = 10000 }
 
 -- The outline of the document's tree, or the line of the first fault.
-abbrev pub outline_answer : List ℕ → Result Document Fault → Answer
+abbrev pub outline_answer : List ℕ → Result Document XmlFault → Answer
 outline_answer file (Ok found) = done (outline_text (tree_of found))
-outline_answer file (Err fault) = record { status = statuses.DocumentRefused; out = []; err = document_line file (fault_for fault) }
+outline_answer file (Err fault) = record { status = statuses.DocumentRefused; out = []; err = document_line file fault }
 
 abbrev pub answer_to : Job → Files → Answer
 answer_to (outline file) files = outline_answer file (document document_limits (bytes_under file files))

@@ -1,13 +1,13 @@
 -- The contract of the program's call.
-use Rattle.std.specs.Prelude.{◌≡◌, ◌≢◌, ℕ, ◌<◌, List, Option, Some}
+use Rattle.std.specs.Prelude.{◌≡◌, ◌≢◌, ℕ, ◌<◌, List, Option, Some, option_map}
 use Rattle.std.proofs.Common.{◌⊎◌}
 use Rattle.inv_base.specs.Counts.{Rose, Quiet, next_count}
 use Rattle.inv_base.specs.Files.{Files, bytes_under}
 use Rattle.inv_base.specs.Outside.{ShelfView, SinkView, WhereTold, appended}
 use Rattle.inv_base.specs.Writing.{IsFront, WritesAll, WritesFront}
-use Rattle.xml_tokens.specs.Faults.{Fault}
-use Rattle.xml_state.specs.Seen.{fault_for}
+use Rattle.xml_state.specs.declared.fault.XmlFault.{XmlFault}
 use Rattle.xml_profile.specs.Profile.{first_fault}
+use Rattle.xml_document.specs.Loading.{StopsInTime}
 use Rattle.invoice_cli.specs.declared.status.Status.{Status}
 use Rattle.invoice_cli.specs.declared.status.Status.TheVariants as statuses
 use Rattle.invoice_cli.specs.Job.{Job, outline, bad_word}
@@ -32,9 +32,9 @@ IsRefusal _ = ⊥
 -- The line tells the first fault of some content, which is that of the file where the files are told.
 pub record IsFaultLine (file : List ℕ) (held : Option Files) (line : List ℕ) : Type 0 where
   pub content : List ℕ
-  pub fault : Fault
+  pub fault : XmlFault
   pub first : first_fault document_limits content ≡ Some fault
-  pub is : line ≡ document_line file (fault_for fault)
+  pub is : line ≡ document_line file fault
   pub of_file : WhereTold held (λ files. content ≡ bytes_under file files)
 
 -- The line is one that a refusal of the job may write, where the shelf tells these files or none.
@@ -52,8 +52,8 @@ pub record Answers (job : Job) (before after : Outside) (status : Status) : Type
   -- While no call on the shelf or the output fails and memory is found, the status is the answer's ..
   pub answered : Quiet before.shelf.faults after.shelf.faults → Quiet before.out.faults after.out.faults → status ≢ statuses.Memory
       → WhereTold before.shelf.held (λ files. status ≡ (answer_to job files).status)
-  -- .. and the output got exactly the answer's bytes. With the clause above this is completeness: words that name a job and a
-  -- document that is accepted end in Done with the whole text, or for want of memory.
+  -- .. and the output got exactly the answer's bytes. With the clause above this is completeness: words that name a job
+  -- and a document that is accepted end in Done with the whole text, or for want of memory.
   pub output : Quiet before.shelf.faults after.shelf.faults → Quiet before.out.faults after.out.faults → status ≢ statuses.Memory
       → WhereTold before.shelf.held (λ files. after.out.told ≡ appended (answer_to job files).out before.out.told)
   -- While no call on the error output fails either, it got exactly the answer's bytes.
@@ -64,8 +64,8 @@ pub record Answers (job : Job) (before after : Outside) (status : Status) : Type
   pub only_bad_words : (number : ℕ) → job ≡ bad_word number → status ≡ statuses.BadWords
   -- Memory runs out only where the words name a document.
   pub memory : status ≡ statuses.Memory → (file : List ℕ) × (job ≡ outline file)
-  -- A read fault is told only where the shelf's count rose, behind one open, and a write fault only where the output's did and
-  -- the answer is no refusal.
+  -- A read fault is told only where the shelf's count rose, behind one open, and a write fault only where the output's
+  -- did and the answer is no refusal.
   pub read_fault : status ≡ statuses.ReadFault → Rose before.shelf.faults after.shelf.faults
   pub read_opens : status ≡ statuses.ReadFault → after.shelf.opens ≡ next_count before.shelf.opens
   pub write_fault : status ≡ statuses.WriteFault → Rose before.out.faults after.out.faults
@@ -73,14 +73,17 @@ pub record Answers (job : Job) (before after : Outside) (status : Status) : Type
   -- A count that rose is told, on the shelf unless memory ran out.
   pub shelf_rose : before.shelf.faults < after.shelf.faults → (status ≡ statuses.ReadFault) ⊎ (status ≡ statuses.Memory)
   pub out_rose : before.out.faults < after.out.faults → status ≡ statuses.WriteFault
-  -- A refusal writes nothing to the output and its line to the error output, or a front of it where that fails; the other
-  -- statuses write nothing to the error output.
+  -- A refusal writes nothing to the output and its line to the error output, or a front of it where that fails; the
+  -- other statuses write nothing to the error output.
   pub nothing : IsRefusal status → after.out ≡ before.out
   pub line : IsRefusal status → (line : List ℕ) × IsLineOf job status before.shelf.held line × TakesOrFails line before.err after.err
   pub no_line : (IsRefusal status → ⊥) → after.err ≡ before.err
   -- On the other statuses the output got a front of the answer's bytes.
   pub front : (IsRefusal status → ⊥) → WhereTold before.shelf.held (λ files.
       (front : List ℕ) × IsFront front (answer_to job files).out × (after.out.told ≡ appended front before.out.told))
+  -- Behind bytes of a refused document that settle no fault yet, at most one piece was read: the rest is left.
+  pub stops : (file : List ℕ) → job ≡ outline file → status ≡ statuses.DocumentRefused
+      → StopsInTime document_limits (option_map (bytes_under file) before.shelf.held) after.shelf.left
   -- A document's file is opened once, and words that name none leave the shelf alone.
   pub opens : (file : List ℕ) → job ≡ outline file → after.shelf.opens ≡ next_count before.shelf.opens
   pub untouched : ((file : List ℕ) → job ≢ outline file) → after.shelf ≡ before.shelf

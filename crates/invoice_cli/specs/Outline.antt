@@ -1,4 +1,5 @@
--- The outline of a document: a line for each element, attribute and text, indented by two spaces for each level below the root.
+-- The outline of a document: a line for each element, attribute and text, indented by two spaces for each level below
+-- the root.
 use Rattle.std.specs.Prelude.{ℕ, ◌+◌, ◌-◌, ◌*◌, List, [], ◌∷◌, ◌++◌, length, Option, Some, None, option_map, replicate, encode_utf8_all}
 use Rattle.inv_base.specs.declared.tree.Kind.{Kind}
 use Rattle.inv_base.specs.declared.tree.Kind.TheVariants as kinds

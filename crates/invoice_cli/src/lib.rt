@@ -2,13 +2,11 @@
 #![tactic(auto)]
 
 mod adapters;
-mod load;
 mod printing;
 mod program;
 mod status;
 mod telling;
 mod usage;
-mod walking;
 mod words;
 
 pub use adapters::{FileShelf, OutputSink};

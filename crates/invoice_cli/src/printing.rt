@@ -6,13 +6,13 @@ ghost use Rattle.node_arena.specs.Moves.{node_of, tree_nodes};
 ghost use Rattle.std.specs.Option.{ForSome};
 ghost use Rattle.xml_state.specs.Events.{name_at};
 ghost use Rattle.invoice_cli.specs.Outline.{node_line, line_as, optional_name_text, braced};
-ghost use Rattle.invoice_cli.specs.Walking.{IsOfATree, StandsIn};
+ghost use Rattle.xml_document.specs.Walking.{StandsIn};
 
-use crate::walking::{Walk, next_node, walk_begins};
 use inv_base::{Kind, Printer, Sink, Steps};
 use node_arena::Doc;
 use std::marker::Brand;
 use std::sync::ledger::{Blank, Ledger};
+use xml_document::Walk;
 use xml_state::NameId;
 
 /// How many spaces are printed at once: those of a hundred levels.
@@ -21,7 +21,6 @@ const INDENT: [u8; 200] = [b' '; 200];
 /// Prints the outline of a document, a line for each element, attribute and text, and answers
 /// whether a write failed.
 pub(crate) fn print_outline<K: Sink>(doc: &Doc<'_>, out: &mut K) -> bool
-    requires { IsOfATree doc.now }
     ensures { Printed result (encode_utf8_all (flat_map node_line (tree_nodes doc.now))) (K.view out.old) (K.view out.new) }
 {
     print_walk::<Brand, K>(doc, Blank::new(1), out)
@@ -29,7 +28,6 @@ pub(crate) fn print_outline<K: Sink>(doc: &Doc<'_>, out: &mut K) -> bool
 
 /// The same by a walk, whose steps nobody asks for.
 fn print_walk<L: Ledger, K: Sink>(doc: &Doc<'_>, ledger: Blank, out: &mut K) -> bool
-    requires tree { IsOfATree doc.now }
     requires name { ledger.name ≡ L.name }
     requires parts { ledger.parts ≡ L.parts }
     requires some { 0 < ledger.parts }
@@ -37,10 +35,10 @@ fn print_walk<L: Ledger, K: Sink>(doc: &Doc<'_>, ledger: Blank, out: &mut K) -> 
 {
     let mut steps = Steps::<L>::new(ledger);
     let mut printer = Printer::new();
-    let mut at = walk_begins(doc);
+    let mut at = Walk::begin(doc);
     'nodes: loop {
         print_node(doc, &at, &mut printer, out);
-        match next_node(doc, &at, &mut steps) {
+        match at.next(doc, &mut steps) {
             Some(next) => at = next,
             None => return printer.failed,
         }

@@ -2,7 +2,6 @@ ghost use Rattle.std.specs.Prelude.{◌≡◌};
 ghost use Rattle.invoice_cli.specs.Job.{job, words_of, outline};
 ghost use Rattle.invoice_cli.specs.Answers.{Outside, Answers, Says};
 
-use crate::load::{LoadFault, load};
 use crate::printing::print_outline;
 use crate::status::Status;
 use crate::telling::{tell_bad_word, tell_document_fault, tell_read_fault};
@@ -11,6 +10,18 @@ use crate::words::{Command, command_of};
 use bumpalo::Bump;
 use inv_base::{Shelf, Sink, write_all};
 use std::alloc::Global;
+use xml_document::{LoadFault, load};
+use xml_state::Limits;
+
+/// How large a document may be.
+const DOCUMENT_LIMITS: Limits = Limits {
+    bytes: 16_777_216,
+    nodes: 1_000_000,
+    depth: 100,
+    attributes: 64,
+    name: 200,
+    names: 10_000,
+};
 
 /// Answers the words behind the program's name: reads the files that they name from the shelf, and writes
 /// the answer to `out`, or to `err` the one line that says why there is none.
@@ -53,7 +64,7 @@ fn outline<S: Shelf, O: Sink, E: Sink>(
         (record { shelf = S.view shelf.new; out = O.view out.new; err = E.view err.new }) result }
 {
     let bump = Bump::new(alloc);
-    match load(alloc, &bump, file, shelf) {
+    match load(alloc, &bump, shelf, file, DOCUMENT_LIMITS) {
         Ok(doc) => {
             if print_outline(&doc, out) {
                 Status::WriteFault

@@ -1,14 +1,14 @@
 -- A chain of a name's number is one of its expanded name.
-use Rattle.std.proofs.Common.{◌≡◌, ℕ, ◌<◌, Bool, true, false, cond, ◌==◌, List, [], ◌∷◌, map, filter, length, Option, Some, None, refl, ap, sym, ◌∙◌, zero, suc, ◌+◌, drop, find, option_map}
+use Rattle.std.proofs.Common.{◌≡◌, ℕ, ◌<◌, Bool, true, false, cond, ◌==◌, List, [], ◌∷◌, map, filter, length, Option, Some, None, refl, ap, sym, ◌∙◌, zero, suc, ◌+◌, drop, find, option_map, subst, ⊎_elim, arith}
 use Rattle.std.specs.Option.{ForSome}
-use Rattle.std.proofs.lemmas.Bool.{eqb-true, eq-eqb, and_parts, and_from}
-use Rattle.std.proofs.lemmas.List.{drop-map}
+use Rattle.std.proofs.lemmas.Bool.{eqb-true, eq-eqb, and_parts, and_from, cases_Bool}
+use Rattle.std.proofs.lemmas.List.{drop-map, get_or-map}
 use Rattle.std.proofs.lemmas.Slice.Eq.{bytes_eq-Decides}
 use Rattle.inv_base.specs.Tree.{Name, Node}
 use Rattle.xml_state.specs.Events.{name_at}
-use Rattle.xml_state.specs.Names.{same_name, AreDistinct}
-use Rattle.node_arena.specs.Document.{Placed, Document, node_at, AreNamed}
-use Rattle.node_arena.specs.Moves.{node_of, tree_nodes, behind, nearest, first_that, is_named, has_name, chain, first_named, next_named}
+use Rattle.xml_state.specs.Names.{same_name, find_name, AreDistinct}
+use Rattle.node_arena.specs.Document.{Placed, Document, document_node, node_at, AreNamed}
+use Rattle.node_arena.specs.Moves.{node_of, tree_nodes, behind, nearest, first_that, is_named, has_name, has_found, tree_node, chain, first_named, next_named}
 
 -- A test of names is true exactly where they are equal.
 same_is : (a b : Name) → same_name a b ≡ true → a ≡ b
@@ -85,3 +85,53 @@ expanded_next document n name distinct named has within =
     ap (λ o. elim o as (λ _. Option ℕ) [ None ↦ None | Some k ↦ first_named (drop (n + 1) document.nodes) k ]) has
     ∙ (first_among document.names (drop (n + 1) document.nodes) name distinct (named_behind (length document.names) (n + 1) document.nodes named) within
     ∙ ap (first_that (has_name (name_at document.names name))) (sym (drop-map (node_of document.names) (n + 1) document.nodes)))
+
+-- Where a name is found, it has the number; where it isn't, no name of the table is the same.
+abbrev Found : Name → List Name → Option ℕ → Type 0
+Found name names None = (k : ℕ) → k < length names → same_name (name_at names k) name ≡ false
+Found name names (Some n) = (n < length names) × (name_at names n ≡ name)
+
+found_more : (name first : Name) (names : List Name) (o : Option ℕ) → same_name first name ≡ false → Found name names o → Found name (first ∷ names) (option_map (λ k. k + 1) o)
+found_more name first names None other none = at
+  where
+    at : (k : ℕ) → k < length (first ∷ names) → same_name (name_at (first ∷ names) k) name ≡ false
+    at zero h = other
+    at (suc k) h = none k (omega (arith, h))
+found_more name first names (Some n) other found = (omega (arith, found.0), ap (name_at (first ∷ names)) (let e : n + 1 ≡ suc n = omega arith in e) ∙ found.1)
+
+found : (name : Name) (names : List Name) → Found name names (find_name name names)
+found name [] = λ k h. absurd (omega (arith, h))
+found name (first ∷ names) = ⊎_elim
+    (λ (same : same_name first name ≡ true). subst (λ b. Found name (first ∷ names) (cond b (Some 0) (option_map (λ k. k + 1) (find_name name names)))) (sym same)
+    (let here : Found name (first ∷ names) (Some 0) = (omega arith, same_is first name same) in here))
+    (λ (other : same_name first name ≡ false). subst (λ b. Found name (first ∷ names) (cond b (Some 0) (option_map (λ k. k + 1) (find_name name names)))) (sym other)
+    (found_more name first names (find_name name names) other (found name names)))
+    (cases_Bool (same_name first name))
+
+-- The expanded name of a node is tested by its number.
+module _ (names : List Name) (distinct : AreDistinct names) (name : Name) where
+  tested : (f o : Option ℕ) → Found name names f → ForSome o (λ k. k < length names)
+      → (elim (option_map (name_at names) o) as (λ _. Bool) [ None ↦ false | Some n ↦ same_name n name ])
+      ≡ (elim f as (λ _. Bool) [ None ↦ false | Some number ↦ elim o as (λ _. Bool) [ None ↦ false | Some k ↦ k == number ] ])
+  tested None None found h = refl
+  tested (Some number) None found h = refl
+  tested None (Some k) found h = found k (h k refl)
+  tested (Some number) (Some k) found h =
+      ap (same_name (name_at names k)) (sym found.1) ∙ sym (same_test names distinct number found.0 (Some k) h)
+
+by_found : (f : Option ℕ) (node : Placed) → has_found f node ≡ (elim f as (λ _. Bool) [ None ↦ false | Some number ↦ is_named number node ])
+by_found None node = refl
+by_found (Some number) node = refl
+
+named_node : (count : ℕ) (nodes : List Placed) (n : ℕ) → AreNamed count nodes → n < length nodes → ForSome (node_at nodes n).name (λ name. name < count)
+named_node count [] n h within = absurd (omega (arith, within))
+named_node count (node ∷ nodes) zero h within = h.0
+named_node count (node ∷ nodes) (suc n) h within = named_node count nodes n h.1 (omega (arith, within))
+
+pub found_by_number : (document : Document) (name : Name) (n : ℕ) → AreDistinct document.names → AreNamed (length document.names) document.nodes → n < length document.nodes
+    → has_name name (tree_node (tree_nodes document) n) ≡ has_found (find_name name document.names) (node_at document.nodes n)
+found_by_number document name n distinct named within =
+    let node = node_at document.nodes n in
+    ap (has_name name) (get_or-map (node_of document.names) document.nodes n document_node _ within)
+    ∙ (tested document.names distinct name (find_name name document.names) node.name (found name document.names) (named_node (length document.names) document.nodes n named within)
+    ∙ sym (by_found (find_name name document.names) node))

@@ -9,4 +9,6 @@ mod MoveLemmas
 pub mod FoundLemmas
 pub mod StepLemmas
 pub mod WalkLemmas
+pub mod IntervalLemmas
+mod StringLemmas
 pub mod ExpandedLemmas

@@ -6,7 +6,7 @@ use Rattle.std.proofs.lemmas.Bool.{and_right, eqb-true, false≢true}
 use Rattle.std.proofs.lemmas.Option.{IfSome_then}
 use Rattle.inv_base.specs.Tree.{Name, Node, is_among}
 use Rattle.node_arena.specs.Document.{Placed, Document, document_node, node_at, AreNumbered}
-use Rattle.node_arena.specs.Moves.{node_of, tree_nodes, tree_node, behind, nearest, is_nearest, is_child, is_attribute_of, is_inside, is_named, first_that, last_that, parent, first_child, next_sibling, last_inside, first_attribute, next_attribute, first_named, next_named}
+use Rattle.node_arena.specs.Moves.{node_of, tree_nodes, tree_node, Leads, behind, nearest, is_nearest, is_child, is_attribute_of, is_inside, is_named, first_that, last_that, parent, first_child, next_sibling, last_inside, first_attribute, next_attribute, first_named, next_named}
 use Rattle.node_arena.specs.Keys.{is_attribute_kind, key_of, has_key, first_keyed, next_keyed, keys}
 use Rattle.node_arena.specs.Slots.{kept, last_among, last_kept}
 use Rattle.node_arena.specs.Linked.{IsLinked}
@@ -375,3 +375,20 @@ answers_first slots node_ends links names document linked seen name h =
       subst (λ o. IfSome o (λ m. m < length (kept slots))) (sym is)
           (IfSome_then (first_keyed name 0 (keys families.Named (kept slots))) (first_leads name 0 (keys families.Named (kept slots))) (λ m led. omega (arith, led.1, led.2, count))),
     )
+
+-- A move by the link that is kept for it.
+pub moved : (document : Document) (n : ℕ) (links kept_links : List (Option ℕ)) (answer where_to : Option ℕ) (before after : ℕ)
+    → answer ≡ get_or links n None → links ≡ kept_links → get_or kept_links n None ≡ where_to
+    → IfSome (get_or kept_links n None) (λ m. (n < m) × (m < length document.nodes)) → after ≡ before + 1
+    → Leads document n where_to answer before after
+moved document n links kept_links answer where_to before after answered same is behind_it step =
+    let found : answer ≡ get_or kept_links n None = answered ∙ ap (λ all. get_or all n None) same in
+    record {
+      node = found ∙ is;
+      behind = subst (λ o. IfSome o (λ m. (n < m) × (m < length document.nodes))) (sym found) behind_it;
+      step = step;
+    }
+
+-- A move that leads nowhere.
+pub not_moved : (document : Document) (n : ℕ) (where_to : Option ℕ) (before after : ℕ) → None ≡ where_to → after ≡ before + 1 → Leads document n where_to None before after
+not_moved document n where_to before after is step = record { node = is; behind = tt; step = step }

@@ -8,7 +8,7 @@ use Rattle.inv_base.proofs.TextLemmas.{both}
 use Rattle.xml_state.specs.Events.{Event, starts, has_attribute, has_text, ends}
 use Rattle.xml_state.specs.Documents.{Tells, TellsAttributes}
 use Rattle.node_arena.specs.Document.{Placed, Built, begun, after, built, built_from, last_place, with_last_text, document_node, node_behind, ended, AreNamed, IsNumbered}
-use Rattle.node_arena.specs.Moves.{node_of, HasNodesOf}
+use Rattle.node_arena.specs.Moves.{node_of, HasNodesOf, IsWhole}
 
 built_from-append : (b : Built) (first more : List Event) → built_from b (first ++ more) ≡ built_from (built_from b first) more
 built_from-append b [] more = refl
@@ -204,10 +204,10 @@ root_ends names name attributes inside events b told =
     built_from-append b0 told.2 (told.3 ++ (ends ∷ told.4)) ∙ built_from-append b1 told.3 (ends ∷ told.4) in
     rw (told.6, behind, told.9) refl
 
-pub document_is_whole : (names : List Name) (tree : Forest) (events : List Event) → IsDocument tree → Tells names tree events → size tree + 1 < 2 ^ 32
+document_is_numbered : (names : List Name) (tree : Forest) (events : List Event) → IsDocument tree → Tells names tree events → size tree + 1 < 2 ^ 32
     → IsNumbered (built events).nodes names × ((built events).in_text ≡ false)
 unfolding built
-document_is_whole names tree events d told few =
+document_is_numbered names tree events d told few =
     let added = (document_adds names tree events d told).adds in
     let count : length added.new ≡ size tree = sym (length-map added.new (node_of names)) ∙ (ap length added.tree_are ∙ length-nodes_of (0 ∷ []) 1 tree) in
     let some : 0 < size tree = rw d.root (omega arith) in
@@ -216,3 +216,9 @@ document_is_whole names tree events d told few =
       record { rooted = omega arith; few = omega arith; named = rw added.nodes_are named },
       root_ends names d.name d.attributes d.inside events begun (subst (λ t. Tells names t events) d.root told),
     )
+
+pub document_is_whole : (names : List Name) (tree : Forest) (events : List Event) → IsDocument tree → Tells names tree events → size tree + 1 < 2 ^ 32
+    → IsWhole names (built events)
+document_is_whole names tree events d told few =
+    let parts = document_is_numbered names tree events d told few in
+    record { ended = parts.1; numbered = parts.0; of_a_tree = record { tree = tree; whole = d; has_nodes = document_has_nodes names tree events d told } }

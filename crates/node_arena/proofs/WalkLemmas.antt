@@ -10,7 +10,7 @@ use Rattle.node_arena.proofs.FoundLemmas.{IsFirstFrom, first_from, none_from, Is
 use Rattle.node_arena.proofs.StepLemmas.{In, in_among, among_in, in_right, Step, inner, beside, Walk, document_walk}
 
 -- the ancestors of the node of that number
-abbrev above : List Node → ℕ → List ℕ
+abbrev pub above : List Node → ℕ → List ℕ
 above nodes k = (tree_node nodes k).above
 
 in_step : (node next : Node) (p : ℕ) → Step node next → In p next.above → (p ≡ node.number) ⊎ In p node.above
@@ -65,7 +65,7 @@ child_from n node more e not_so = and_from (is_nearest n node.above) (not (is_at
 attribute_from : (n : ℕ) (node : Node) (more : List ℕ) → node.above ≡ n ∷ more → is_attribute node ≡ true → is_attribute_of n node ≡ true
 attribute_from n node more e is = and_from (is_nearest n node.above) (is_attribute node) (test_nearest node.above more n e) is
 
-both_ways : (b : Bool) → b ≡ true → b ≡ false → ⊥
+pub both_ways : (b : Bool) → b ≡ true → b ≡ false → ⊥
 both_ways b is not_so = false≢true (sym not_so ∙ is)
 
 -- A move beside is by the parent.
@@ -93,12 +93,12 @@ module _ (nodes : List Node) (w : Walk nodes) where
   in_next k p h i = ⊎_elim (λ e. inl (e ∙ w.numbers k (omega (arith, h)))) (λ j. inr j) (in_step (tree_node nodes k) (tree_node nodes (suc k)) p (w.step k h) i)
 
   -- Ancestors stand before.
-  before : (k p : ℕ) → k < length nodes → In p (above nodes k) → p < k
+  pub before : (k p : ℕ) → k < length nodes → In p (above nodes k) → p < k
   before zero p h i = absurd (subst (In p) w.begins i)
   before (suc k) p h i = ⊎_elim (λ e. omega (arith, e)) (λ j. let less = before k p (omega (arith, h)) j in omega (arith, less)) (in_next k p h i)
 
   -- All from a node to one inside it are inside it.
-  down : (m k p : ℕ) → p < k → k ≤ m → m < length nodes → In p (above nodes m) → In p (above nodes k)
+  pub down : (m k p : ℕ) → p < k → k ≤ m → m < length nodes → In p (above nodes m) → In p (above nodes k)
   down zero k p a b h i = absurd (omega (arith, a, b))
   down (suc m) k p a b h i = ⊎_elim
       (λ (e : k ≡ suc m). subst (λ j. In p (above nodes j)) (sym e) i)
@@ -162,7 +162,7 @@ module _ (nodes : List Node) (w : Walk nodes) where
       (cases_eq k (suc m))
 
   -- The last inside a node.
-  record Ends (n m : ℕ) : Type 0 where
+  pub record Ends (n m : ℕ) : Type 0 where
     pub from : n ≤ m
     pub within : m < length nodes
     pub here : (m ≡ n) ⊎ In n (above nodes m)
@@ -178,7 +178,7 @@ module _ (nodes : List Node) (w : Walk nodes) where
         behind_it = λ k past within i. both_ways (is_inside n (tree_node nodes k)) (among_in n (above nodes k) i) (f.behind_it k (omega (arith, from, past)) past within);
       }
 
-  ends : (n : ℕ) → n < length nodes → Ends n (last_inside nodes n)
+  pub ends : (n : ℕ) → n < length nodes → Ends n (last_inside nodes n)
   ends n h = ends_of n h (last_inside nodes n) (last_from (is_inside n) nodes w.numbers (n + 1) n)
 
   -- Nothing inside the next place: nothing inside.
@@ -476,6 +476,29 @@ module _ (nodes : List Node) (w : Walk nodes) where
       let same = top n h none in
       ap (λ k. last_inside nodes k + 1) same ∙ whole_go (last_inside nodes 0) (ends 0 (omega (arith, h)))
 
+  -- What is around the next node.
+  next_at : (n p : ℕ) → suc n < length nodes → nearest (above nodes (suc n)) ≡ Some p → (p ≡ n) ⊎ (is_inside p (tree_node nodes n) ≡ true)
+  next_at n p h e = ⊎_elim inl (λ i. inr (among_in p (above nodes n) i)) (in_next n p h (nearest_is (suc n) p h e))
+
+  next_parent : (n : ℕ) → n + 1 < length nodes → (p : ℕ) × (parent nodes (n + 1) ≡ Some p) × ((p ≡ n) ⊎ (is_inside p (tree_node nodes n) ≡ true))
+  next_parent n h =
+      let within : suc n < length nodes = omega (arith, h) in
+      let at : n + 1 ≡ suc n = omega arith in
+      let some = nearest_in (above nodes (suc n)) 0 (w.rooted n within) in
+      (some.0, ap (parent nodes) at ∙ some.1, next_at n some.0 within some.1)
+
+  level_of : (k : ℕ) → k < length nodes → ((p : ℕ) → p < k → length (above nodes p) ≤ p) → (numbers : List ℕ) → above nodes k ≡ numbers → length (above nodes k) ≤ k
+  level_of k h earlier [] e = let none = ap length e in omega (arith, none)
+  level_of k h earlier (p ∷ numbers) e =
+      let less = before k p h (nearest_is k p h (ap nearest e)) in
+      let long = ap length (around k p h (ap nearest e)) in
+      omega (arith, less, long, earlier p less)
+
+  level_below : (m k : ℕ) → k < m → k < length nodes → length (above nodes k) ≤ k
+  level_below zero k below h = absurd (omega (arith, below))
+  level_below (suc m) k below h =
+      level_of k h (λ p less. level_below m p (omega (arith, less, below)) (omega (arith, less, h))) (above nodes k) refl
+
   pub leads_on : (n : ℕ) → n < length nodes → LeadsOn nodes n
   leads_on n h = record {
     attribute = λ m. attribute n m;
@@ -489,6 +512,8 @@ module _ (nodes : List Node) (w : Walk nodes) where
     attribute_ends = attribute_ends n h;
     around = λ p. around n p h;
     whole = whole n h;
+    next_parent = next_parent n;
+    level = level_below (n + 1) n (omega arith) h;
   }
 
 pub document_leads_on : (document : Document) (tree : Forest) → HasNodesOf document tree → (n : ℕ) → n < length document.nodes → LeadsOn (tree_nodes document) n

@@ -5,3 +5,4 @@ pub mod Links
 pub mod Slots
 pub mod Keys
 pub mod Linked
+pub mod Strings

@@ -1,11 +1,11 @@
--- Moves from one node of a document to another, as relations between the nodes of the plain tree in document order. A node's
--- number is its place among them.
-use Rattle.std.specs.Prelude.{◌≡◌, ℕ, ◌+◌, Bool, true, false, not, ◌&&◌, ◌==◌, if◌then◌else◌, List, [], ◌∷◌, map, filter, find, drop, get_or, Option, Some, None, option_map}
+-- Moves from one node of a document to another, as relations between the nodes of the plain tree in document order. A
+-- node's number is its place among them.
+use Rattle.std.specs.Prelude.{◌≡◌, ℕ, ◌+◌, ◌<◌, Bool, true, false, not, ◌&&◌, ◌==◌, nat_lt, nat_le, if◌then◌else◌, List, [], ◌∷◌, length, map, filter, find, drop, get_or, Option, Some, None, IfSome, option_map}
 use Rattle.inv_base.specs.declared.tree.Kind.TheVariants as kinds
-use Rattle.inv_base.specs.Tree.{Name, Forest, Node, document_nodes, is_among}
+use Rattle.inv_base.specs.Tree.{Name, Forest, IsDocument, Node, document_nodes, is_among}
 use Rattle.xml_state.specs.Events.{name_at}
 use Rattle.xml_state.specs.Names.{same_name}
-use Rattle.node_arena.specs.Document.{Placed, Document, node_at}
+use Rattle.node_arena.specs.Document.{Placed, Built, Document, node_at, IsNumbered}
 
 -- the nodes of a document as the plain tree has them
 abbrev pub node_of : List Name → Placed → Node
@@ -17,6 +17,19 @@ tree_nodes document = map (node_of document.names) document.nodes
 -- The document's nodes are those of the tree, node for node.
 abbrev pub HasNodesOf : Document → Forest → Type 0
 HasNodesOf document tree = tree_nodes document ≡ document_nodes tree
+
+-- The document is one of a tree: its nodes are that tree's, node for node.
+pub record IsOfATree (document : Document) : Type 0 where
+  pub tree : Forest
+  pub whole : IsDocument tree
+  pub has_nodes : HasNodesOf document tree
+
+-- What was built, with these names, is a whole document: no text may go on, its nodes can be numbered, and they are a
+-- tree's.
+pub record IsWhole (names : List Name) (b : Built) : Type 0 where
+  pub ended : b.in_text ≡ false
+  pub numbered : IsNumbered b.nodes names
+  pub of_a_tree : IsOfATree (record { nodes = b.nodes; names = names })
 
 -- the node of that number
 abbrev pub tree_node : List Node → ℕ → Node
@@ -48,6 +61,10 @@ is_attribute_of n node = is_nearest n node.above && is_attribute node
 -- The node of that number is one of its ancestors.
 abbrev pub is_inside : ℕ → Node → Bool
 is_inside n node = is_among n node.above
+
+-- The number is behind the first one, and at most the last.
+abbrev pub is_between : ℕ → ℕ → ℕ → Bool
+is_between n last k = nat_lt n k && nat_le k last
 
 -- the number of the first node of a sort
 abbrev pub first_that : (Node → Bool) → List Node → Option ℕ
@@ -103,3 +120,14 @@ first_named nodes name = nearest (chain nodes name)
 -- the next of the chain that a node is on
 abbrev pub next_named : List Placed → ℕ → Option ℕ
 next_named nodes n = elim (node_at nodes n).name [ None ↦ None | Some name ↦ first_named (drop (n + 1) nodes) name ]
+
+-- The element or attribute has the number that a search for a name found, where it found one.
+abbrev pub has_found : Option ℕ → Placed → Bool
+has_found None node = false
+has_found (Some name) node = is_named name node
+
+-- A move from a node leads where it is said to, always to a node behind it, and takes one step.
+pub record Leads (document : Document) (n : ℕ) (where_to answer : Option ℕ) (before after : ℕ) : Type 0 where
+  pub node : answer ≡ where_to
+  pub behind : IfSome answer (λ m. (n < m) × (m < length document.nodes))
+  pub step : after ≡ before + 1

@@ -52,8 +52,8 @@ last_among n last (node ∷ nodes) = last_among n (if is_among n node.above then
 unfoldable pub last_kept : List Placed → ℕ → ℕ
 last_kept nodes n = last_among n n (drop (n + 1) nodes)
 
--- Nodes while they are built, beside the last node inside each: of one that is still open that is the last so far, of any
--- other it is kept. The node of the number is the innermost that is open.
+-- Nodes while they are built, beside the last node inside each: of one that is still open that is the last so far, of
+-- any other it is kept. The node of the number is the innermost that is open.
 pub record IsGrowing (slots : List Slot) (ends : List ℕ) (current : ℕ) : Type 0 where
   pub here : current < length slots
   pub below : AreBelow 0 slots

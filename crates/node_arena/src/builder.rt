@@ -1,11 +1,12 @@
 ghost use Rattle.std.specs.Prelude.{◌≡◌, ℕ, ◌<◌, List, map, chars, length, false, IfOk, OnSome, string_bytes};
 ghost use Rattle.inv_base.specs.declared.tree.Kind.TheVariants as kinds;
 ghost use Rattle.xml_state.specs.Events.{Event, starts, has_attribute, has_text, ends, Takes};
-ghost use Rattle.node_arena.specs.Document.{Built, begun, after, built, last_place, IsNumbered};
+ghost use Rattle.node_arena.specs.Document.{Built, begun, after, built, last_place};
+ghost use Rattle.node_arena.specs.Moves.{IsWhole};
 ghost use Rattle.node_arena.specs.Slots.{kept};
 
 use crate::doc::Doc;
-use crate::growing::{close, close_all, make_room, push_text, push_within};
+use crate::growing::{close, close_all, push_within, settle_text};
 use crate::slot::Slot;
 use bumpalo::Bump;
 use inv_base::{Kind, Place};
@@ -69,10 +70,9 @@ impl<'a> Builder<'a> {
         })
     }
 
-    /// The document that was built, with its names.
+    /// The document that was built, with its names, where the events were those of a whole one.
     pub fn finish(self, names: NameTable) -> Result<Doc<'a>, AllocError>
-        requires ended { self.in_text ≡ false }
-        requires numbered { IsNumbered self.nodes names }
+        requires { IsWhole names self }
         ensures { IfOk result (λ doc. doc ≡ record { nodes = self.entry.nodes; names = names }) }
     {
         let mut ends = self.ends;
@@ -85,15 +85,14 @@ impl<'a> Events for Builder<'a> {
     ghost taken = { λ builder events. builder ≡ built events };
 
     fn start(&mut self, name: NameId, place: Place) -> Result<(), AllocError> {
-        let text = lent_text(self.bump, &self.text, self.text_place)?;
-        make_room(&mut self.nodes, &mut self.ends)?;
-        push_text(
+        settle_text(
+            self.bump,
             &mut self.nodes,
             &mut self.ends,
             self.current,
-            text,
+            &self.text,
             self.text_place,
-        );
+        )?;
         let number = self.nodes.len() as u32;
         let element = Slot {
             kind: Kind::Element,
@@ -111,15 +110,14 @@ impl<'a> Events for Builder<'a> {
 
     fn attribute(&mut self, name: NameId, value: &str) -> Result<(), AllocError> {
         let value = self.bump.try_alloc_str(value)?;
-        let text = lent_text(self.bump, &self.text, self.text_place)?;
-        make_room(&mut self.nodes, &mut self.ends)?;
-        push_text(
+        settle_text(
+            self.bump,
             &mut self.nodes,
             &mut self.ends,
             self.current,
-            text,
+            &self.text,
             self.text_place,
-        );
+        )?;
         let number = self.nodes.len() as u32;
         let attribute = Slot {
             kind: Kind::Attribute,
@@ -147,28 +145,17 @@ impl<'a> Events for Builder<'a> {
     }
 
     fn end(&mut self) -> Result<(), AllocError> {
-        let text = lent_text(self.bump, &self.text, self.text_place)?;
-        make_room(&mut self.nodes, &mut self.ends)?;
-        push_text(
+        settle_text(
+            self.bump,
             &mut self.nodes,
             &mut self.ends,
             self.current,
-            text,
+            &self.text,
             self.text_place,
-        );
+        )?;
         self.current = close(&self.nodes, &mut self.ends, self.current);
         self.text_place = None;
         Ok(())
-    }
-}
-
-/// The text that was going on, placed in the arena.
-fn lent_text<'a>(bump: &'a Bump, text: &String, place: Option<Place>) -> Result<&'a str, AllocError>
-    ensures { IfOk result (λ lent. OnSome place (lent.now ≡ string_bytes text.now)) }
-{
-    match place {
-        Some(_) => bump.try_alloc_str(text.as_str()),
-        None => Ok(""),
     }
 }
 

@@ -16,8 +16,8 @@ pub(crate) enum Family {
     Named,
 }
 
-/// The links along the chains: of each node to its first child and its first attribute, to the next child or attribute of
-/// the same parent, and to the next node of its name; of each name to the first node that has it.
+/// The links along the chains: of each node to its first child and its first attribute, to the next child or attribute
+/// of the same parent, and to the next node of its name; of each name to the first node that has it.
 #[derive(Drop)]
 pub(crate) struct Links {
     pub(crate) first_child: Vec<Link>,

@@ -1,6 +1,7 @@
-ghost use Rattle.std.specs.Prelude.{◌≡◌, ℕ, ◌<◌, length, take, chars, IfSome, IfOk};
+ghost use Rattle.std.specs.Prelude.{◌≡◌, ℕ, ◌^◌, ◌<◌, length, take, chars, IfSome, IfOk};
 ghost use Rattle.node_arena.specs.Document.{node_at, IsNumbered, AreNumbered, AreNamed};
 ghost use Rattle.node_arena.specs.Linked.{AreEnds};
+ghost use Rattle.node_arena.specs.Moves.{IsOfATree};
 ghost use Rattle.node_arena.specs.Slots.{placed, kept, AreBelow};
 ghost use Rattle.xml_state.specs.Names.{AreDistinct};
 
@@ -26,6 +27,7 @@ impl Model for NodeId {
 }
 
 impl NodeId {
+    /// The number itself.
     pub fn number(self) -> u32
         ensures { result ≡ self }
     {
@@ -66,6 +68,7 @@ impl<'a> Doc<'a> {
         names: NameTable,
     ) -> Result<Doc<'a>, AllocError>
         requires numbered { IsNumbered (kept nodes.items) names }
+        requires of_a_tree { IsOfATree (record { nodes = kept nodes.items; names = names }) }
         requires below { AreBelow 0 nodes.items }
         requires ends { AreEnds nodes.items ends.items }
         requires long { length ends.items ≡ length nodes.items }
@@ -80,14 +83,24 @@ impl<'a> Doc<'a> {
         })
     }
 
-    /// The document's own node, which is around the root element.
-    pub fn document(&self) -> NodeId
-        ensures number { result ≡ 0 }
+    /// What callers may know of every document, however it came about. It has no code.
+    pub fn is_of_a_tree(&self)
+        ensures tree { IsOfATree self.now }
+        ensures rooted { 1 < length self.now.nodes }
+        ensures few { length self.now.nodes < 2 ^ 32 }
         ensures numbers { AreNumbered 0 self.now.nodes }
         ensures named { AreNamed (length self.now.names) self.now.nodes }
         ensures distinct { AreDistinct self.now.names }
     {
         self.names.names_differ();
+    }
+
+    /// The document's own node, which is around the root element.
+    pub fn document(&self) -> NodeId
+        ensures number { result ≡ 0 }
+        ensures within { result < length self.now.nodes }
+    {
+        let _ = &self.nodes;
         NodeId { number: 0 }
     }
 
@@ -100,6 +113,7 @@ impl<'a> Doc<'a> {
         NodeId { number: 1 }
     }
 
+    /// What a node is.
     #[tactic(auto, using(crate::proofs::KeptLemmas::kept_length))]
     pub fn kind(&self, n: NodeId) -> Kind
         requires { n < length self.now.nodes }

@@ -1,15 +1,52 @@
 //! Nodes while they are built, beside the number of the last node inside each.
-ghost use Rattle.std.specs.Prelude.{◌≡◌, ◌+◌, ◌^◌, ◌<◌, ◌≤◌, true, [], ◌∷◌, ◌++◌, length, chars, vec_len, vec_capacity, OnOk};
+ghost use Rattle.std.specs.Prelude.{◌≡◌, ◌+◌, ◌^◌, ◌<◌, ◌≤◌, true, [], ◌∷◌, ◌++◌, length, chars, string_bytes, vec_len, vec_capacity, IfOk, OnOk, OnErr, OnSome};
 ghost use Rattle.node_arena.specs.Document.{ended};
 ghost use Rattle.node_arena.specs.Slots.{path, kept, text_nodes, IsGrowing};
 ghost use Rattle.node_arena.specs.Linked.{AreEnds};
 
 use crate::slot::{Slot, parent_at};
+use bumpalo::Bump;
 use inv_base::{Kind, Place};
 use std::alloc::AllocError;
 
+/// Adds the text that was going on, if one was, as a node, its characters placed in the arena; behind it there is room
+/// for one node more. Where memory runs out, nothing is added.
+pub(crate) fn settle_text<'a>(
+    bump: &'a Bump,
+    nodes: &mut Vec<Slot<'a>>,
+    ends: &mut Vec<u32>,
+    current: u32,
+    text: &String,
+    place: Option<Place>,
+) -> Result<(), AllocError>
+    requires { IsGrowing nodes.old.items ends.old.items current }
+    ensures growing { OnOk result (IsGrowing nodes.new.items ends.new.items current) }
+    ensures nodes { OnOk result (kept nodes.new.items ≡ kept nodes.old.items ++ text_nodes (kept nodes.old.items) (path (kept nodes.old.items) current) (chars (string_bytes text.now)) place) }
+    ensures around { OnOk result (path (kept nodes.new.items) current ≡ path (kept nodes.old.items) current) }
+    ensures nodes_room { OnOk result (vec_len nodes.new < vec_capacity nodes.new) }
+    ensures ends_room { OnOk result (vec_len ends.new < vec_capacity ends.new) }
+    ensures few { OnOk result (vec_len nodes.new + 1 < 2 ^ 32) }
+    ensures nodes_same { OnErr result (nodes.new.items ≡ nodes.old.items) }
+    ensures ends_same { OnErr result (ends.new.items ≡ ends.old.items) }
+{
+    let text = lent_text(bump, text, place)?;
+    make_room(nodes, ends)?;
+    push_text(nodes, ends, current, text, place);
+    Ok(())
+}
+
+/// The text that was going on, placed in the arena.
+fn lent_text<'a>(bump: &'a Bump, text: &String, place: Option<Place>) -> Result<&'a str, AllocError>
+    ensures { IfOk result (λ lent. OnSome place (lent.now ≡ string_bytes text.now)) }
+{
+    match place {
+        Some(_) => bump.try_alloc_str(text.as_str()),
+        None => Ok(""),
+    }
+}
+
 /// Room for two nodes more, which have numbers of 32 bits. Where there is none, memory runs out.
-pub(crate) fn make_room(nodes: &mut Vec<Slot<'_>>, ends: &mut Vec<u32>) -> Result<(), AllocError>
+fn make_room(nodes: &mut Vec<Slot<'_>>, ends: &mut Vec<u32>) -> Result<(), AllocError>
     ensures nodes { nodes.new.items ≡ nodes.old.items }
     ensures ends { ends.new.items ≡ ends.old.items }
     ensures nodes_room { OnOk result (vec_len nodes.new + 2 ≤ vec_capacity nodes.new) }
@@ -25,7 +62,7 @@ pub(crate) fn make_room(nodes: &mut Vec<Slot<'_>>, ends: &mut Vec<u32>) -> Resul
 }
 
 /// Adds the text that was going on, if one was, as a node.
-pub(crate) fn push_text<'a>(
+fn push_text<'a>(
     nodes: &mut Vec<Slot<'a>>,
     ends: &mut Vec<u32>,
     current: u32,

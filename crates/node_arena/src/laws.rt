@@ -1,10 +1,10 @@
-ghost use Rattle.std.specs.Prelude.{◌≡◌, ℕ, List, ◌<◌, ◌^◌, false, length, map, filter, ◌+◌, Some};
+ghost use Rattle.std.specs.Prelude.{◌≡◌, ℕ, List, ◌<◌, ◌^◌, length, map, filter, ◌+◌, Some};
 ghost use Rattle.inv_base.specs.Tree.{Name, Node, Forest, IsDocument, size};
 ghost use Rattle.xml_state.specs.Events.{Event, name_at};
 ghost use Rattle.xml_state.specs.Documents.{Tells};
-ghost use Rattle.xml_state.specs.Names.{AreDistinct};
-ghost use Rattle.node_arena.specs.Document.{Document, built, node_at, AreNamed, IsNumbered};
-ghost use Rattle.node_arena.specs.Moves.{tree_nodes, HasNodesOf, behind, first_that, has_name, chain, first_named, next_named};
+ghost use Rattle.xml_state.specs.Names.{AreDistinct, find_name};
+ghost use Rattle.node_arena.specs.Document.{Document, built, node_at, AreNamed};
+ghost use Rattle.node_arena.specs.Moves.{tree_nodes, tree_node, HasNodesOf, IsWhole, behind, is_inside, last_inside, is_between, first_that, has_name, has_found, chain, first_named, next_named};
 ghost use Rattle.node_arena.specs.Walks.{LeadsOn};
 
 /// The events of a document build the nodes of its tree one for one, with the numbers of all their
@@ -17,7 +17,7 @@ pub fn events_build_the_nodes_of_their_tree()
 /// The events of a document of fewer than 2^32 nodes build one that can be finished.
 pub fn events_build_a_whole_document()
     ensures { (names : List Name) (tree : Forest) (events : List Event) → IsDocument tree → Tells names tree events → size tree + 1 < 2 ^ 32
-        → IsNumbered (built events).nodes names × ((built events).in_text ≡ false) }
+        → IsWhole names (built events) }
 {}
 
 /// In a document's tree the moves lead from each node to the next in document order.
@@ -26,9 +26,26 @@ pub fn moves_lead_on()
         → (n : ℕ) → n < length document.nodes → LeadsOn (tree_nodes document) n }
 {}
 
+/// What is inside a node at any depth stands right behind it, up to the last that is.
+pub fn insides_are_intervals()
+    ensures { (document : Document) (tree : Forest) → HasNodesOf document tree
+        → (n k : ℕ) → n < length document.nodes → k < length document.nodes
+        → is_inside n (tree_node (tree_nodes document) k) ≡ is_between n (last_inside (tree_nodes document) n) k }
+{}
+
+/// An element or attribute has a name exactly where its name's number is the one that the table of names
+/// finds for it. `Doc::is_of_a_tree` says the premises of every document.
+pub fn names_are_found_by_number()
+    ensures { (document : Document) (name : Name) (n : ℕ)
+        → AreDistinct document.names → AreNamed (length document.names) document.nodes
+        → n < length document.nodes
+        → has_name name (tree_node (tree_nodes document) n)
+        ≡ has_found (find_name name document.names) (node_at document.nodes n) }
+{}
+
 /// The chain of a name is of its expanded name: it has the numbers of all elements and attributes that
 /// have that name, in document order. So its first and its next are the first of the tree's nodes that
-/// have the name. `Doc::document` says the premises of every document.
+/// have the name. `Doc::is_of_a_tree` says the premises of every document.
 pub fn chains_are_of_expanded_names()
     ensures chain { (document : Document) (name : ℕ)
         → AreDistinct document.names → AreNamed (length document.names) document.nodes

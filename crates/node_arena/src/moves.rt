@@ -1,6 +1,6 @@
 //! Moves from node to node of a document.
-ghost use Rattle.std.specs.Prelude.{◌≡◌, ◌+◌, ◌<◌, ◌≤◌, length, get_or, slice_index, None, IfSome};
-ghost use Rattle.node_arena.specs.Moves.{tree_nodes, parent, first_child, next_sibling, last_inside, first_attribute, next_attribute, first_named, next_named};
+ghost use Rattle.std.specs.Prelude.{◌≡◌, ◌+◌, ◌<◌, ◌≤◌, length, get_or, slice_index, None, IfSome, SomeIff};
+ghost use Rattle.node_arena.specs.Moves.{Leads, tree_nodes, parent, first_child, next_sibling, last_inside, first_attribute, next_attribute, first_named, next_named};
 
 use crate::doc::{Doc, NodeId};
 use crate::link::Link;
@@ -28,9 +28,7 @@ impl<'a> Doc<'a> {
     /// The first element or text right inside a node.
     pub fn first_child<L: Ledger>(&self, n: NodeId, steps: &mut Steps<L>) -> Option<NodeId>
         requires { n < length self.now.nodes }
-        ensures node { result ≡ first_child (tree_nodes self.now) n }
-        ensures behind { IfSome result (λ m. (n < m) × (m < length self.now.nodes)) }
-        ensures step { steps.new ≡ steps.old + 1 }
+        ensures { Leads self.now n (first_child (tree_nodes self.now) n) result steps.old steps.new }
     {
         steps.tick();
         linked(&self.links.first_child, n)
@@ -39,9 +37,7 @@ impl<'a> Doc<'a> {
     /// The next element or text right inside the same node. An attribute has none.
     pub fn next_sibling<L: Ledger>(&self, n: NodeId, steps: &mut Steps<L>) -> Option<NodeId>
         requires { n < length self.now.nodes }
-        ensures node { result ≡ next_sibling (tree_nodes self.now) n }
-        ensures behind { IfSome result (λ m. (n < m) × (m < length self.now.nodes)) }
-        ensures step { steps.new ≡ steps.old + 1 }
+        ensures { Leads self.now n (next_sibling (tree_nodes self.now) n) result steps.old steps.new }
     {
         steps.tick();
         match self.kind(n) {
@@ -65,9 +61,7 @@ impl<'a> Doc<'a> {
     /// The first attribute of an element.
     pub fn first_attribute<L: Ledger>(&self, n: NodeId, steps: &mut Steps<L>) -> Option<NodeId>
         requires { n < length self.now.nodes }
-        ensures node { result ≡ first_attribute (tree_nodes self.now) n }
-        ensures behind { IfSome result (λ m. (n < m) × (m < length self.now.nodes)) }
-        ensures step { steps.new ≡ steps.old + 1 }
+        ensures { Leads self.now n (first_attribute (tree_nodes self.now) n) result steps.old steps.new }
     {
         steps.tick();
         linked(&self.links.first_attribute, n)
@@ -76,9 +70,7 @@ impl<'a> Doc<'a> {
     /// The next attribute of an attribute's element.
     pub fn next_attribute<L: Ledger>(&self, n: NodeId, steps: &mut Steps<L>) -> Option<NodeId>
         requires { n < length self.now.nodes }
-        ensures node { result ≡ next_attribute (tree_nodes self.now) n }
-        ensures behind { IfSome result (λ m. (n < m) × (m < length self.now.nodes)) }
-        ensures step { steps.new ≡ steps.old + 1 }
+        ensures { Leads self.now n (next_attribute (tree_nodes self.now) n) result steps.old steps.new }
     {
         steps.tick();
         match self.kind(n) {
@@ -101,12 +93,31 @@ impl<'a> Doc<'a> {
     /// The next element or attribute of a node's name.
     pub fn next_named<L: Ledger>(&self, n: NodeId, steps: &mut Steps<L>) -> Option<NodeId>
         requires { n < length self.now.nodes }
-        ensures node { result ≡ next_named self.now.nodes n }
-        ensures behind { IfSome result (λ m. (n < m) × (m < length self.now.nodes)) }
-        ensures step { steps.new ≡ steps.old + 1 }
+        ensures { Leads self.now n (next_named self.now.nodes n) result steps.old steps.new }
     {
         steps.tick();
         linked(&self.links.next_named, n)
+    }
+}
+
+impl<'a> Doc<'a> {
+    /// The next node in document order, where a node comes before its attributes and these before its
+    /// children. A walk over all nodes goes by it from the document's own.
+    #[tactic(auto, using(crate::proofs::KeptLemmas::kept_length))]
+    pub fn next_node<L: Ledger>(&self, n: NodeId, steps: &mut Steps<L>) -> Option<NodeId>
+        requires { n < length self.now.nodes }
+        ensures node { SomeIff result (n + 1 < length self.now.nodes) (n + 1) }
+        ensures step { steps.new ≡ steps.old + 1 }
+    {
+        steps.tick();
+        let next = n.number as usize + 1;
+        if next < self.nodes.len() {
+            Some(NodeId {
+                number: next as u32,
+            })
+        } else {
+            None
+        }
     }
 }
 

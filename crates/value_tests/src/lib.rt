@@ -1,9 +1,5 @@
-//! The tests of numbers, days, code lists and tokens of expressions, on values from outside.
+//! The tests of tokens of expressions.
 #![tactic(auto)]
 
-#[cfg(test)]
-mod code_lists_cases;
-#[cfg(test)]
-mod inv_decimal_cases;
 #[cfg(test)]
 mod xpath_tokens_cases;

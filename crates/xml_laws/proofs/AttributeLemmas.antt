@@ -16,7 +16,8 @@ use Rattle.xml_tokens.proofs.CharacterLemmas.{chosen, passed}
 use Rattle.xml_laws.proofs.SplitLemmas.{before-front, after-front, any-front, any-none}
 use Rattle.xml_laws.proofs.ValueLemmas.{value-back, value-chars, bytes_of_value, value-unquoted, value-no_tag}
 
--- A byte that may stand in a name as it is written: none that ends a name or a tag, that quotes, or that begins other markup.
+-- A byte that may stand in a name as it is written: none that ends a name or a tag, that quotes, or that begins other
+-- markup.
 abbrev pub may_name : ℕ → Bool
 may_name b = not (ends_name b) && (not (is_quote b) && (not (b == 0x3E) && (not (b == 0x21) && not (b == 0x3F))))
 

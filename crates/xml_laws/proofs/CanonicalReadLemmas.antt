@@ -7,11 +7,12 @@ use Rattle.std.proofs.lemmas.Str.{encodes-append}
 use lib.Utf8.{encode}
 use Rattle.inv_base.specs.Characters.{is_char, is_white_space, is_name_start, is_name_char}
 use Rattle.inv_base.specs.Tree.{Name, Attribute, Forest, no_more, an_element, is_joined}
-use Rattle.xml_tokens.specs.Faults.{Fault}
+use Rattle.xml_state.specs.declared.fault.XmlFault.{XmlFault}
 use Rattle.xml_tokens.specs.Encoding.{character_at}
 use Rattle.xml_tokens.specs.Markup.{a_character, an_aside, instruction, is_declaration}
-use Rattle.xml_tokens.specs.Beginnings.{at_start, farther, good, beginning, extent}
-use Rattle.xml_state.specs.Limits.{Limits}
+use Rattle.xml_tokens.specs.Beginnings.{good, beginning, extent}
+use Rattle.xml_tokens.specs.declared.beginning.Position.TheVariants.{AtStart, Farther}
+use Rattle.xml_state.specs.declared.limits.Limits.{Limits}
 use Rattle.xml_state.specs.Events.{Event, with_events}
 use Rattle.xml_state.specs.Documents.{Tells}
 use Rattle.xml_state.specs.States.{State, begin, with_names, state_behind, events_of}
@@ -37,27 +38,27 @@ line = codes "<?xml version=\"1.0\" encoding=\"UTF-8\"?>"
 
 -- behind the first line
 abbrev behind_line : State
-behind_line = record { position = farther; open_elements = []; root_seen = false; in_text = false; nodes = 1; names = [] }
+behind_line = record { position = Farther; open_elements = []; root_seen = false; in_text = false; nodes = 1; names = [] }
 
-line-begins : (rest : List ℕ) → beginning at_start true (line ++ rest) ≡ good an_aside (length line)
+line-begins : (rest : List ℕ) → beginning AtStart true (line ++ rest) ≡ good an_aside (length line)
 unfolding beginning extent instruction is_declaration is_utf8 chars encode is_char is_white_space is_name_start is_name_char
 line-begins rest = refl
 
-feed-begins : (rest : List ℕ) → beginning farther true ((0xA ∷ []) ++ rest) ≡ good (a_character 0xA) 1
+feed-begins : (rest : List ℕ) → beginning Farther true ((0xA ∷ []) ++ rest) ≡ good (a_character 0xA) 1
 unfolding beginning character_at is_char
 feed-begins rest = refl
 
 module _ (limits : Limits) where
-  line-read : length line ≤ limits.bytes → ReadsAny limits begin (record begin { position = farther }) 0 line []
+  line-read : length line ≤ limits.bytes → ReadsAny limits begin (record begin { position = Farther }) 0 line []
   unfolding fault_of state_behind events_of
   line-read fits = record { is = λ rest. read-token limits begin 0 line rest an_aside (line-begins rest) (omega arith) (omega arith) refl }
 
   -- a line end outside the root
   feed-read : (seen : Bool) (nodes : ℕ) (names : List Name) (place : ℕ) → place + 1 ≤ limits.bytes
-      → ReadsAny limits (record { position = farther; open_elements = []; root_seen = seen; in_text = false; nodes = nodes; names = names }) (record { position = farther; open_elements = []; root_seen = seen; in_text = false; nodes = nodes; names = names }) place (0xA ∷ []) []
+      → ReadsAny limits (record { position = Farther; open_elements = []; root_seen = seen; in_text = false; nodes = nodes; names = names }) (record { position = Farther; open_elements = []; root_seen = seen; in_text = false; nodes = nodes; names = names }) place (0xA ∷ []) []
   unfolding fault_of state_behind events_of is_white_space
   feed-read seen nodes names place fits =
-      let s : State = record { position = farther; open_elements = []; root_seen = seen; in_text = false; nodes = nodes; names = names } in
+      let s : State = record { position = Farther; open_elements = []; root_seen = seen; in_text = false; nodes = nodes; names = names } in
       record { is = λ rest. read-token limits s place (0xA ∷ []) rest (a_character 0xA) (feed-begins rest) (omega arith) fits refl }
 
 line-encoded : encode_utf8_all declaration_line ≡ line ++ (0xA ∷ [])
@@ -92,7 +93,7 @@ ends-well limits bytes nodes names events tree r told =
       tells = sym (told-tree names tree (with_events [] events) (subst (Tells names tree) (sym (with_events-back events)) told));
     }
   where
-    answer : Limits → List ℕ → Option Fault → Result Document Fault
+    answer : Limits → List ℕ → Option XmlFault → Result Document XmlFault
     answer limits bytes f = elim f [ (Some fault) ↦ Err fault | None ↦ Ok (record { events = with_events [] (read_whole limits bytes).events; names = names_of (read_whole limits bytes).stands }) ]
 
 module _ (limits : Limits) (declarations : List Declaration) (name : Name) (attributes : List Attribute) (f : Forest) (joined : is_joined f ≡ true) (w : IsWritable limits declarations (an_element name attributes f no_more)) where
@@ -124,7 +125,7 @@ module _ (limits : Limits) (declarations : List Declaration) (name : Name) (attr
       let names : length (with_names [] (tag_names name attributes ++ names_in f)) ≤ limits.names = subst (λ x. length (with_names [] (tag_names name attributes ++ x)) ≤ limits.names) (append-nil (names_in f)) w.within.names in
       let first = line-read limits (omega arith) in
       let feed = feed-read limits false 1 [] (length line) (omega arith) in
-      let e = any-element limits declarations w.declarable declarations root-own name attributes of-root.tag behind_line refl refl of-root.deep f joined
+      let e = any-element limits declarations w.declarable declarations root-own name attributes of-root.tag behind_line refl refl of-root.deep f of-root.sized joined
       (forest-read limits declarations w.declarable f (0 + 1) of-root.inside joined) (length L) (omega arith) names (omega arith) in
       let seen = with_names [] (tag_names name attributes ++ names_in f) in
       let last = feed-read limits true e.after seen (length L + length P) (omega arith) in

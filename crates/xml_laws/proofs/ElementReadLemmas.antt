@@ -1,30 +1,30 @@
 -- An element that canonical text writes is read, where what is inside it is.
-use Rattle.std.proofs.Common.{◌≡◌, ℕ, suc, ◌+◌, ◌≤◌, Bool, true, false, not, ◌&&◌, List, [], ◌∷◌, ◌++◌, map, length, refl, sym, ap, ◌∙◌, arith, subst, encode_utf8_all}
+use Rattle.std.proofs.Common.{◌≡◌, ℕ, suc, ◌+◌, ◌≤◌, nat_le, Bool, true, false, not, ◌&&◌, List, [], ◌∷◌, ◌++◌, map, length, refl, sym, ap, ◌∙◌, arith, subst, encode_utf8_all}
 use Rattle.std.specs.List.{list_all}
 use Rattle.std.proofs.lemmas.List.{append_assoc, append-nil, length-append}
 use Rattle.std.proofs.lemmas.Slice.Eq.{bytes_eq-Decides}
 use Rattle.std.proofs.lemmas.Str.{encodes-append}
 use Rattle.inv_base.specs.Tree.{Name, Attribute, Forest, no_more, size}
+use Rattle.inv_base.proofs.TextLemmas.{both}
 use Rattle.xml_tokens.specs.Markup.{Written, an_end_tag}
 use Rattle.xml_tokens.specs.Beginnings.{good, beginning, greatest_tag}
-use Rattle.xml_state.specs.Limits.{Limits}
+use Rattle.xml_state.specs.declared.limits.Limits.{Limits}
 use Rattle.xml_state.specs.Names.{number_of, with_name}
 use Rattle.xml_state.specs.Events.{Event, starts, ends}
 use Rattle.xml_state.specs.Documents.{IsNumberOf, Tells, TellsAttributes}
-use Rattle.xml_state.specs.States.{Open, State, is_outside, bindings_here, with_names, attribute_event, state_behind, events_of}
-use Rattle.xml_state.specs.Admission.{fault_of, is_long_name, closes_innermost}
+use Rattle.xml_state.specs.States.{Open, State, is_outside, is_innermost, bindings_here, with_names, attribute_event, state_behind, events_of}
+use Rattle.xml_state.specs.Admission.{fault_of, is_long_name, end_tag_causes}
 use Rattle.xml_profile.specs.TokenByToken.{telling, read}
 use Rattle.xml_write.specs.Canonical.{Declaration, element_name, declarations_text, attributes_text, element_text, is_childless, forest_text}
-use Rattle.xml_laws.specs.Writable.{is_declarable, names_in}
+use Rattle.xml_laws.specs.Writable.{is_declarable, names_in, tags_fit}
 use Rattle.xml_laws.proofs.JoinLemmas.{joined_back, before-start, before-end, attributes-back}
 use Rattle.xml_laws.proofs.NameLemmas.{Extends, extends-more, extends-with_names, have-with_names, number-extends, attributes-told}
 use Rattle.xml_laws.proofs.RestLemmas.{begins_text}
-use Rattle.xml_laws.proofs.ReadLemmas.{end_causes}
 use Rattle.xml_laws.proofs.AttributeLemmas.{IsWrittenName, written_bytes, tag_close}
 use Rattle.xml_laws.proofs.TagTokenLemmas.{start_bytes, end-begins}
 use Rattle.xml_laws.proofs.BindingLemmas.{binding, bindings_of, element-read}
 use Rattle.xml_laws.proofs.TagStateLemmas.{tag_attributes, long-not}
-use Rattle.xml_laws.proofs.WritableLemmas.{IsTag}
+use Rattle.xml_laws.proofs.WritableLemmas.{IsTag, at_most}
 use Rattle.xml_laws.proofs.StartTagLemmas.{none-holds, AreOwn, tag_names, start_piece, start-read}
 use Rattle.xml_laws.proofs.StepLemmas.{read-token}
 use Rattle.xml_laws.proofs.TextReadLemmas.{inside, ReadsPiece}
@@ -50,8 +50,8 @@ end-read limits e outer inner nodes names place written long short fits = record
         let s = inside (e ∷ outer) inner nodes names in
         let l : length (end_piece e.name) ≡ length e.name + 3 = let k = length-append e.name (0x3E ∷ []) in omega arith in
         let begins = ap (λ x. beginning s.position true (0x3C ∷ (0x2F ∷ x))) (append_assoc e.name (0x3E ∷ []) rest) ∙ (end-begins e.name written short s.position rest ∙ ap (good (an_end_tag e.name)) (sym l)) in
-        let closes : not (closes_innermost s e.name) ≡ false = ap not ((bytes_eq-Decides e.name e.name).1 refl) in
-        read-token limits s place (end_piece e.name) rest (an_end_tag e.name) begins (omega arith) fits (none-holds (end_causes limits s e.name) (long, (closes, tt)))
+        let closes : not (is_innermost s.open_elements e.name) ≡ false = ap not ((bytes_eq-Decides e.name e.name).1 refl) in
+        read-token limits s place (end_piece e.name) rest (an_end_tag e.name) begins (omega arith) fits (none-holds (end_tag_causes limits s e.name) (long, (closes, tt)))
 
 -- Events that tell an element once joined.
 pub record AreElement (final : List Name) (name : Name) (attributes : List Attribute) (inside : Forest) (events more : List Event) : Type 0 where
@@ -118,21 +118,25 @@ module _ (limits : Limits) (declarations : List Declaration) (declarable : list_
       ap length (encodes-append (element_name declarations name) (declarations_text own ++ attributes_text declarations attributes))
       ∙ (length-append N (encode_utf8_all (declarations_text own ++ attributes_text declarations attributes)) ∙ ap (λ x. length N + length x) (attributes-encoded declarations own attributes))
 
-  tag-short : (is_empty : Bool) → length (start_bytes N W is_empty) + 2 ≤ greatest_tag
-  tag-short is_empty =
-      let small = parts.small in
+  abbrev T : List ℕ
+  T = encode_utf8_all (element_name declarations name ++ (declarations_text own ++ attributes_text declarations attributes))
+
+  start-length : (is_empty : Bool) → length (start_bytes N W is_empty) ≡ length T + length (tag_close is_empty)
+  start-length is_empty =
       let t = text-length in
       let l = length-append N (written_bytes W ++ tag_close is_empty) in
       let k = length-append (written_bytes W) (tag_close is_empty) in
-      let c = close-length is_empty in
       omega arith
-    where
-      close-length : (b : Bool) → length (tag_close b) ≤ 1
-      close-length true = omega arith
-      close-length false = omega arith
 
-  end-short : length N + 3 ≤ greatest_tag
-  end-short = let small = parts.small in let t = text-length in omega arith
+  empty-short : tags_fit true N T ≡ true → length (start_bytes N W true) + 2 ≤ greatest_tag
+  empty-short sized = let small = at_most (length T + 3) greatest_tag sized in let l = start-length true in omega arith
+
+  filled-short : tags_fit false N T ≡ true → (length (start_bytes N W false) + 2 ≤ greatest_tag) × (length N + 3 ≤ greatest_tag)
+  filled-short sized =
+      let p = both (nat_le (length T + 2) greatest_tag) (nat_le (length N + 3) greatest_tag) sized in
+      let small = at_most (length T + 2) greatest_tag p.0 in
+      let l = start-length false in
+      (omega arith, at_most (length N + 3) greatest_tag p.1)
 
   attributes-told-by : (final : List Name) → Extends seen final → TellsAttributes final attributes (map (attribute_event seen) attributes)
   attributes-told-by final e = attributes-told seen final attributes e (have-with_names s.names (tag_names name attributes)).1
@@ -141,12 +145,12 @@ module _ (limits : Limits) (declarations : List Declaration) (declarable : list_
   number-by final e = number-extends seen final name e (have-with_names s.names (tag_names name attributes)).0
 
   -- an element with nothing inside
-  pub empty-read : (place : ℕ) → s.nodes + (1 + length attributes) ≤ limits.nodes → length seen ≤ limits.names → place + length (element_bytes declarations own name attributes no_more) ≤ limits.bytes
+  pub empty-read : tags_fit true N T ≡ true → (place : ℕ) → s.nodes + (1 + length attributes) ≤ limits.nodes → length seen ≤ limits.names → place + length (element_bytes declarations own name attributes no_more) ≤ limits.bytes
       → ElementReads limits declarations own s place name attributes no_more
-  empty-read place nodes names fits =
+  empty-read sized place nodes names fits =
       let is = element-empty (element_name declarations name) (declarations_text own ++ attributes_text declarations attributes) N W refl (attributes-encoded declarations own attributes) [] in
       let fits' : place + length (start_piece N W true) ≤ limits.bytes = subst (λ x. place + length x ≤ limits.bytes) is fits in
-      let r = start-read limits declarations declarable own are_own name attributes parts s bound true first deep names nodes (tag-short true) place fits' in
+      let r = start-read limits declarations declarable own are_own name attributes parts s bound true first deep names nodes (empty-short sized) place fits' in
       let all : seen ≡ with_names s.names (tag_names name attributes ++ []) = ap (with_names s.names) (sym (append-nil (tag_names name attributes))) in
       record {
         events = starts (number_of name seen) place ∷ (map (attribute_event seen) attributes ++ (ends ∷ []));
@@ -172,9 +176,9 @@ module _ (limits : Limits) (declarations : List Declaration) (declarable : list_
     abbrev here : Open
     here = record { name = N; bindings = bindings_of declarations }
 
-    pub filled-read : (place : ℕ) → s.nodes + (1 + (length attributes + size f)) ≤ limits.nodes → length (with_names s.names (tag_names name attributes ++ names_in f)) ≤ limits.names
+    pub filled-read : tags_fit false N T ≡ true → (place : ℕ) → s.nodes + (1 + (length attributes + size f)) ≤ limits.nodes → length (with_names s.names (tag_names name attributes ++ names_in f)) ≤ limits.names
         → place + length (element_bytes declarations own name attributes f) ≤ limits.bytes → ElementReads limits declarations own s place name attributes f
-    filled-read place nodes names fits =
+    filled-read sized place nodes names fits =
         let text = declarations_text own ++ attributes_text declarations attributes in
         let P = start_piece N W false in
         let F = encode_utf8_all (forest_text declarations f) in
@@ -187,10 +191,10 @@ module _ (limits : Limits) (declarations : List Declaration) (declarable : list_
         let many : length (with_names seen (names_in f)) ≤ limits.names = subst (λ x. length x ≤ limits.names) all names in
         let grown : length seen ≤ length (with_names seen (names_in f)) = extends-length seen (with_names seen (names_in f)) (extends-with_names seen (names_in f)) in
         let n1 = s.nodes + (1 + length attributes) in
-        let r = start-read limits declarations declarable own are_own name attributes parts s bound false first deep (omega arith) (omega arith) (tag-short false) place (omega arith) in
+        let r = start-read limits declarations declarable own are_own name attributes parts s bound false first deep (omega arith) (omega arith) (filled-short sized).0 place (omega arith) in
         let i = inside-read here s.open_elements refl (let e : suc (length s.open_elements) ≡ length s.open_elements + 1 = omega arith in e) false n1 seen (place + length P) (omega arith) many (omega arith) in
         let z = end-read limits here s.open_elements i.after_text i.after (with_names seen (names_in f)) (place + length P + length F)
-        (element-read declarations name declarable parts.named).written (long-not limits (element_name declarations name) parts.short) end-short (omega arith) in
+        (element-read declarations name declarable parts.named).written (long-not limits (element_name declarations name) parts.short) (filled-short sized).1 (omega arith) in
         let E = starts (number_of name seen) place ∷ (map (attribute_event seen) attributes ++ []) in
         let Z = i.events ++ (ends ∷ []) in
         let few = i.few in

@@ -11,14 +11,11 @@ use lib.Utf8.{scalar, scalars, encode, encodes}
 use Rattle.inv_base.specs.Characters.{is_char, is_within, is_name_char, is_name_start}
 use Rattle.inv_base.proofs.TextLemmas.{both}
 use Rattle.xml_tokens.specs.WrittenNames.{is_ncname}
+use Rattle.xml_tokens.proofs.RunLemmas.{char-scalar}
 
 -- The list is of Chars.
 abbrev pub are_chars : List ℕ → Bool
 are_chars characters = list_all is_char characters
-
-pub char-scalar : (c : ℕ) → is_char c ≡ true → scalar c ≡ true
-unfolding is_char
-char-scalar c h = grind (arith, nat_tests)
 
 pub chars-scalars : (cs : List ℕ) → are_chars cs ≡ true → scalars cs ≡ true
 chars-scalars [] h = refl

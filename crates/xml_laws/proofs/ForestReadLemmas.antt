@@ -6,13 +6,13 @@ use Rattle.std.proofs.lemmas.Str.{encodes-append}
 use Rattle.inv_base.specs.Characters.{is_char}
 use Rattle.inv_base.specs.Tree.{Name, Attribute, Forest, no_more, a_text, an_element, begins_with_text, is_joined, size}
 use Rattle.inv_base.proofs.TextLemmas.{both}
-use Rattle.xml_state.specs.Limits.{Limits}
+use Rattle.xml_state.specs.declared.limits.Limits.{Limits}
 use Rattle.xml_state.specs.Events.{Event, starts, has_text, ends}
 use Rattle.xml_state.specs.Documents.{Tells}
 use Rattle.xml_state.specs.States.{State, is_outside, bindings_here, with_names}
 use Rattle.xml_write.specs.Escapes.{in_text}
-use Rattle.xml_write.specs.Canonical.{Declaration, element_name, attributes_text, element_text, is_childless, forest_text}
-use Rattle.xml_laws.specs.Writable.{is_declarable, names_in}
+use Rattle.xml_write.specs.Canonical.{Declaration, element_name, declarations_text, attributes_text, element_text, is_childless, forest_text}
+use Rattle.xml_laws.specs.Writable.{is_declarable, names_in, tags_fit}
 use Rattle.xml_laws.proofs.JoinLemmas.{joined_back}
 use Rattle.xml_laws.proofs.NameLemmas.{Extends, extends-more, extends-with_names}
 use Rattle.xml_laws.proofs.RestLemmas.{begins_text, not_none}
@@ -85,27 +85,30 @@ module _ (limits : Limits) (declarations : List Declaration) (declarable : list_
   -- an element, by what is inside it
   pub any-element : (own : List Declaration) (are_own : AreOwn limits own) (name : Name) (attributes : List Attribute) (parts : IsTag limits declarations own name attributes) (s : State)
       (bound : map binding own ++ bindings_here s ≡ bindings_of declarations) (first : (is_outside s && s.root_seen) ≡ false) (deep : length s.open_elements + 1 ≤ limits.depth)
-      (f : Forest) → is_joined f ≡ true → IsRead limits declarations (length s.open_elements + 1) f
+      (f : Forest) → tags_fit (is_childless f) (encode_utf8_all (element_name declarations name)) (encode_utf8_all (element_name declarations name ++ (declarations_text own ++ attributes_text declarations attributes))) ≡ true → is_joined f ≡ true → IsRead limits declarations (length s.open_elements + 1) f
       → (place : ℕ) → s.nodes + (1 + (length attributes + size f)) ≤ limits.nodes → length (with_names s.names (tag_names name attributes ++ names_in f)) ≤ limits.names
       → place + length (element_bytes declarations own name attributes f) ≤ limits.bytes → ElementReads limits declarations own s place name attributes f
-  any-element own are_own name attributes parts s bound first deep f joined inside_read place nodes names fits = by (is_childless f) refl
+  any-element own are_own name attributes parts s bound first deep f sized joined inside_read place nodes names fits = by (is_childless f) refl
     where
-      none : f ≡ no_more → ElementReads limits declarations own s place name attributes f
-      none e =
+      fit : (t : Bool) → is_childless f ≡ t → tags_fit t (encode_utf8_all (element_name declarations name)) (encode_utf8_all (element_name declarations name ++ (declarations_text own ++ attributes_text declarations attributes))) ≡ true
+      fit t e = subst (λ b. tags_fit b (encode_utf8_all (element_name declarations name)) (encode_utf8_all (element_name declarations name ++ (declarations_text own ++ attributes_text declarations attributes))) ≡ true) e sized
+
+      none : f ≡ no_more → is_childless f ≡ true → ElementReads limits declarations own s place name attributes f
+      none e childless =
           let empty : s.nodes + (1 + (length attributes + size no_more)) ≤ limits.nodes = subst (λ x. s.nodes + (1 + (length attributes + size x)) ≤ limits.nodes) e nodes in
           let seen : length (with_names s.names (tag_names name attributes ++ [])) ≤ limits.names = subst (λ x. length (with_names s.names (tag_names name attributes ++ names_in x)) ≤ limits.names) e names in
           let short : place + length (element_bytes declarations own name attributes no_more) ≤ limits.bytes = subst (λ x. place + length (element_bytes declarations own name attributes x) ≤ limits.bytes) e fits in
           subst (ElementReads limits declarations own s place name attributes) (sym e)
-          (empty-read limits declarations declarable own are_own name attributes parts s bound first deep place (omega arith) (subst (λ x. length (with_names s.names x) ≤ limits.names) (append-nil (tag_names name attributes)) seen) short)
+          (empty-read limits declarations declarable own are_own name attributes parts s bound first deep (fit true childless) place (omega arith) (subst (λ x. length (with_names s.names x) ≤ limits.names) (append-nil (tag_names name attributes)) seen) short)
 
       by : (t : Bool) → is_childless f ≡ t → ElementReads limits declarations own s place name attributes f
-      by true e = none (childless-none f joined e)
-      by false e = filled-read limits declarations declarable own are_own name attributes parts s bound first deep f e inside_read place nodes names fits
+      by true e = none (childless-none f joined e) e
+      by false e = filled-read limits declarations declarable own are_own name attributes parts s bound first deep f e inside_read (fit false e) place nodes names fits
 
   -- an element before others
-  element-then : (name : Name) (attributes : List Attribute) (f rest : Forest) (depth : ℕ) → IsTag limits declarations [] name attributes → depth + 1 ≤ limits.depth → is_joined f ≡ true
+  element-then : (name : Name) (attributes : List Attribute) (f rest : Forest) (depth : ℕ) → IsTag limits declarations [] name attributes → tags_fit (is_childless f) (encode_utf8_all (element_name declarations name)) (encode_utf8_all (element_name declarations name ++ (declarations_text [] ++ attributes_text declarations attributes))) ≡ true → depth + 1 ≤ limits.depth → is_joined f ≡ true
       → IsRead limits declarations (depth + 1) f → IsRead limits declarations depth rest → IsRead limits declarations depth (an_element name attributes f rest)
-  element-then name attributes f rest depth parts deeper joined inside_read rest_read o outer bound deep inner nodes names place few many fits =
+  element-then name attributes f rest depth parts sized deeper joined inside_read rest_read o outer bound deep inner nodes names place few many fits =
       let s = inside (o ∷ outer) inner nodes names in
       let P = element_bytes declarations [] name attributes f in
       let F = encode_utf8_all (forest_text declarations rest) in
@@ -119,7 +122,7 @@ module _ (limits : Limits) (declarations : List Declaration) (declarable : list_
       ap (with_names names) (sym (append_assoc (tag_names name attributes) (names_in f) (names_in rest))) ∙ names-append names one (names_in rest) in
       let all : length (with_names (with_names names one) (names_in rest)) ≤ limits.names = subst (λ x. length x ≤ limits.names) split many in
       let grown : length (with_names names one) ≤ length (with_names (with_names names one) (names_in rest)) = extends-length (with_names names one) (with_names (with_names names one) (names_in rest)) (extends-with_names (with_names names one) (names_in rest)) in
-      let e = any-element [] (no_declarations limits) name attributes parts s bound first (omega arith) f joined (subst (λ n. IsRead limits declarations n f) level inside_read) place (omega arith) (omega arith) (omega arith) in
+      let e = any-element [] (no_declarations limits) name attributes parts s bound first (omega arith) f sized joined (subst (λ n. IsRead limits declarations n f) level inside_read) place (omega arith) (omega arith) (omega arith) in
       let kept = e.few in
       let r = rest_read o outer bound deep false e.after (with_names names one) (place + length P) (omega arith) all (omega arith) in
       let last = r.few in
@@ -157,4 +160,4 @@ module _ (limits : Limits) (declarations : List Declaration) (declarable : list_
   forest-read (an_element name attributes f rest) depth w j =
       let p = of-element limits declarations [] depth name attributes f rest w in
       let i = both (is_joined f) (is_joined rest) j in
-      element-then name attributes f rest depth p.tag p.deep i.0 (forest-read f (depth + 1) p.inside i.0) (forest-read rest depth p.behind i.1)
+      element-then name attributes f rest depth p.tag p.sized p.deep i.0 (forest-read f (depth + 1) p.inside i.0) (forest-read rest depth p.behind i.1)

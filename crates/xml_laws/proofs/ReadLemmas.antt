@@ -5,19 +5,23 @@ use Rattle.std.proofs.lemmas.Option.{none-some}
 use Rattle.std.proofs.lemmas.Bool.Decides.{nat_tests}
 use Rattle.inv_base.specs.Tree.{Name, Attribute}
 use Rattle.inv_base.specs.Characters.{is_white_space}
-use Rattle.xml_tokens.specs.Faults.{FaultKind, Fault, Cause, first_cause, text_outside, too_many_attributes, name_too_long, mismatched, second_root, bad_namespace, undeclared_prefix, duplicate_attribute, too_deep, too_many_names, too_many_nodes, too_long, truncated, no_root}
+use Rattle.xml_tokens.specs.Faults.{Cause, first_cause}
+use Rattle.xml_tokens.specs.declared.kind.XmlKind.{XmlKind}
+use Rattle.xml_tokens.specs.declared.kind.XmlKind.TheVariants.{TextOutside, TooManyAttributes, NameTooLong, Mismatched, SecondRoot, BadNamespace, UndeclaredPrefix, DuplicateAttribute, TooDeep, TooManyNames, TooManyNodes, TooLong, Truncated, NoRoot}
+use Rattle.xml_state.specs.declared.fault.XmlFault.{XmlFault}
 use Rattle.xml_tokens.specs.Markup.{Tag, Token, a_mark, an_aside, a_character, a_reference, a_section, a_start_tag, an_end_tag}
 use Rattle.xml_tokens.specs.Beginnings.{Beginning, good, bad, later, beginning, sure_length}
-use Rattle.xml_state.specs.Limits.{Limits}
+use Rattle.xml_state.specs.declared.limits.Limits.{Limits}
+use Rattle.xml_state.specs.Faults.{fault_at}
 use Rattle.xml_state.specs.Events.{Event, starts, has_text, ends, with_events}
 use Rattle.xml_state.specs.Documents.{Tells}
 use Rattle.xml_state.specs.Names.{number_of}
 use Rattle.xml_state.specs.States.{Open, State, begin, is_outside, behind_aside, behind_text, behind_start_tag, behind_end_tag, state_behind, events_of, text_events, start_tag_events, names_behind, name_in, attributes_in, attribute_event, bindings_in}
-use Rattle.xml_state.specs.Admission.{text_fault, is_text_too_many, is_long_name, has_long_name, has_undeclared_prefix, has_duplicate, closes_innermost, start_tag_fault, end_tag_fault, fault_of}
+use Rattle.xml_state.specs.Admission.{text_fault, is_text_too_many, is_long_name, has_long_name, start_tag_causes, end_tag_causes, fault_of}
 use Rattle.xml_state.specs.Namespaces.{declared_bindings, is_bad_binding}
 use Rattle.std.specs.List.{list_any}
 use Rattle.std.specs.Str.{bytes_eq}
-use Rattle.xml_profile.specs.TokenByToken.{waits, Read, telling, fault_at, fault_within, unfinished, read, resume, read_whole}
+use Rattle.xml_profile.specs.TokenByToken.{waits, Read, telling, stops_at, fault_within, unfinished, read, resume, read_whole}
 use Rattle.xml_profile.specs.Profile.{Document, end_fault, fault_of_whole, names_of, first_fault, document, tree_of}
 use Rattle.xml_laws.proofs.JoinLemmas.{before, joined_back, before-start, before-end, attributes-back, with_events-back}
 use Rattle.xml_laws.specs.Told.{IsReadAs}
@@ -34,7 +38,8 @@ pub record IsSound (limits : Limits) (s : State) : Type 0 where
 abbrev pub counted_text : Bool → List Event → ℕ
 counted_text in_text events = if in_text && begins_text events then 1 else 0
 
--- What is told behind a state: the rest of its elements, by a table that goes on with its names, within the limit on nodes.
+-- What is told behind a state: the rest of its elements, by a table that goes on with its names, within the limit on
+-- nodes.
 pub record Goes (limits : Limits) (names : List Name) (open_elements : List Open) (root_seen in_text : Bool) (nodes : ℕ) (final : List Name) (events : List Event) : Type 0 where
   pub grown : Extends names final
   pub count : ℕ
@@ -55,24 +60,6 @@ causes-none (c ∷ causes) h = by c.holds h (causes-none causes)
     by : (t : Bool) → (if t then Some c.kind else first_cause causes) ≡ None → (first_cause causes ≡ None → NoneHolds causes) → (t ≡ false) × NoneHolds causes
     by true h rest = absurd (none-some c.kind (sym h))
     by false h rest = (refl, rest h)
-
--- the causes of the fault of a start tag, and of an end tag
-abbrev pub start_causes : Limits → State → Tag → List Cause
-start_causes limits s tag =
-    record { holds = nat_lt limits.attributes (length tag.attributes); kind = too_many_attributes }
-    ∷ record { holds = has_long_name limits tag; kind = name_too_long }
-    ∷ record { holds = is_outside s && s.root_seen; kind = second_root }
-    ∷ record { holds = list_any is_bad_binding (declared_bindings tag.attributes); kind = bad_namespace }
-    ∷ record { holds = has_undeclared_prefix s tag; kind = undeclared_prefix }
-    ∷ record { holds = has_duplicate s tag; kind = duplicate_attribute }
-    ∷ record { holds = nat_lt limits.depth (length s.open_elements + 1); kind = too_deep }
-    ∷ record { holds = nat_lt limits.names (length (names_behind s tag)); kind = too_many_names }
-    ∷ record { holds = nat_lt limits.nodes (s.nodes + (1 + length (attributes_in s tag))); kind = too_many_nodes }
-    ∷ []
-
-abbrev pub end_causes : Limits → State → List ℕ → List Cause
-end_causes limits s name =
-    record { holds = is_long_name limits name; kind = name_too_long } ∷ record { holds = not (closes_innermost s name); kind = mismatched } ∷ []
 
 or_true : (b : Bool) → (b || true) ≡ true
 or_true true = refl
@@ -120,25 +107,25 @@ module _ (limits : Limits) (s : State) where
   text-sound : (outside : Bool) → text_fault limits s outside ≡ None → IsSound limits s → IsSound limits (behind_text s)
   text-sound outside h sound = by (is_outside s) h
     where
-      by : (b : Bool) → (if b then (if outside then None else Some text_outside) else (if is_text_too_many limits s then Some too_many_nodes else None)) ≡ None
+      by : (b : Bool) → (if b then (if outside then None else Some TextOutside) else (if is_text_too_many limits s then Some TooManyNodes else None)) ≡ None
           → IsSound limits (if b then behind_aside s else record s { position = (behind_aside s).position; in_text = true; nodes = if s.in_text then s.nodes else s.nodes + 1 })
       by true h = record { rooted = sound.rooted; small = sound.small }
       by false h = record { rooted = sound.rooted; small = λ seen. within s.in_text h (sound.small seen) }
         where
-          within : (i : Bool) → (if (not i && nat_lt limits.nodes (s.nodes + 1)) then Some too_many_nodes else None) ≡ None → s.nodes ≤ limits.nodes → (if i then s.nodes else s.nodes + 1) ≤ limits.nodes
+          within : (i : Bool) → (if (not i && nat_lt limits.nodes (s.nodes + 1)) then Some TooManyNodes else None) ≡ None → s.nodes ≤ limits.nodes → (if i then s.nodes else s.nodes + 1) ≤ limits.nodes
           within true h n = n
           within false h n = room (nat_lt limits.nodes (s.nodes + 1)) refl h
             where
-              room : (t : Bool) → nat_lt limits.nodes (s.nodes + 1) ≡ t → (if t then Some too_many_nodes else None) ≡ None → s.nodes + 1 ≤ limits.nodes
-              room true e h = absurd (none-some too_many_nodes (sym h))
+              room : (t : Bool) → nat_lt limits.nodes (s.nodes + 1) ≡ t → (if t then Some TooManyNodes else None) ≡ None → s.nodes + 1 ≤ limits.nodes
+              room true e h = absurd (none-some TooManyNodes (sym h))
               room false e h = grind (arith, nat_tests)
 
   -- start tags
   module _ (tag : Tag) where
-    start-admitted : start_tag_fault limits s tag ≡ None → ((is_outside s && s.root_seen) ≡ false) × (nat_lt limits.nodes (s.nodes + (1 + length (attributes_in s tag))) ≡ false)
-    start-admitted h = let n = causes-none (start_causes limits s tag) h in (n.1.1.0, n.1.1.1.1.1.1.1.1.0)
+    start-admitted : first_cause (start_tag_causes limits s tag) ≡ None → ((is_outside s && s.root_seen) ≡ false) × (nat_lt limits.nodes (s.nodes + (1 + length (attributes_in s tag))) ≡ false)
+    start-admitted h = let n = causes-none (start_tag_causes limits s tag) h in (n.1.1.0, n.1.1.1.1.1.1.1.1.0)
 
-    start-sound : start_tag_fault limits s tag ≡ None → IsSound limits (behind_start_tag s tag)
+    start-sound : first_cause (start_tag_causes limits s tag) ≡ None → IsSound limits (behind_start_tag s tag)
     start-sound h = let n = (start-admitted h).1 in record { rooted = or_true _; small = λ seen. keeps _ _ n }
 
     here : Open
@@ -171,7 +158,7 @@ module _ (limits : Limits) (s : State) where
     start-filled true final events count r = end-rest final (Rest final s.open_elements true) events count r
     start-filled false final events count r = r
 
-    start-back : (place : ℕ) → start_tag_fault limits s tag ≡ None → IsSound limits s → (final : List Name) (events : List Event)
+    start-back : (place : ℕ) → first_cause (start_tag_causes limits s tag) ≡ None → IsSound limits s → (final : List Name) (events : List Event)
         → GoesOn limits (behind_start_tag s tag) final (joined_back events) → GoesOn limits s final (joined_back (start_tag_events s tag place ++ events))
     unfolding told here
     start-back place h sound final events g =
@@ -188,14 +175,14 @@ module _ (limits : Limits) (s : State) where
         })
 
   -- end tags
-  end-back : (name : List ℕ) → end_tag_fault limits s name ≡ None → IsSound limits s → (final : List Name) (events : List Event)
+  end-back : (name : List ℕ) → first_cause (end_tag_causes limits s name) ≡ None → IsSound limits s → (final : List Name) (events : List Event)
       → GoesOn limits (behind_end_tag s) final (joined_back events) → GoesOn limits s final (joined_back (ends ∷ events))
   end-back name h sound final events g = subst (GoesOn limits s final) (sym (before-end (joined_back events))) (by s.open_elements refl g)
     where
       by : (open_elements : List Open) → s.open_elements ≡ open_elements
           → GoesOn limits (elim open_elements [ [] ↦ behind_aside s | (element ∷ outer) ↦ record s { position = (behind_aside s).position; open_elements = outer; in_text = false } ]) final (joined_back events)
           → GoesOn limits s final (ends ∷ joined_back events)
-      by [] same g = absurd (true≢false (sym (ap (λ (x : List Open). not (elim x [ [] ↦ false | (element ∷ outer) ↦ bytes_eq element.name name ])) same) ∙ (causes-none (end_causes limits s name) h).1.0))
+      by [] same g = absurd (true≢false (sym (ap (λ (x : List Open). not (elim x [ [] ↦ false | (element ∷ outer) ↦ bytes_eq element.name name ])) same) ∙ (causes-none (end_tag_causes limits s name) h).1.0))
       by (o ∷ outer) same g = record {
         grown = g.grown;
         count = g.count;
@@ -254,8 +241,8 @@ module _ (limits : Limits) (s : State) where
   token-sound (an_end_tag name) h sound = end-sound sound
 
 -- the fault of an end behind a whole token
-abbrev at_end : Bool → Bool → ℕ → Option Fault
-at_end outside seen place = if outside then (if seen then None else Some (record { kind = no_root; place = place })) else Some (record { kind = truncated; place = place })
+abbrev at_end : Bool → Bool → ℕ → Option XmlFault
+at_end outside seen place = if outside then (if seen then None else Some (fault_at NoRoot place)) else Some (fault_at Truncated place)
 
 module _ (limits : Limits) (s : State) where
   -- the end of the bytes
@@ -271,14 +258,14 @@ module _ (limits : Limits) (s : State) where
           → at_end (length open_elements == 0) seen place ≡ None → (seen ≡ true) × Rest s.names open_elements seen [] 0
       at [] true h = (refl, record { is = refl; counted = refl })
       at [] false h = cc
-      at (o ∷ outer) seen h = absurd (none-some (record { kind = truncated; place = place }) (sym h ∙ ap (λ b. at_end b seen place) (not_none (length outer))))
+      at (o ∷ outer) seen h = absurd (none-some (fault_at Truncated place) (sym h ∙ ap (λ b. at_end b seen place) (not_none (length outer))))
 
 -- one turn of reading a token, by whether it keeps the limit and its fault
-abbrev pub good_turn : Limits → State → ℕ → ℕ → Token → List ℕ → Bool → Option FaultKind → Read
+abbrev pub good_turn : Limits → State → ℕ → ℕ → Token → List ℕ → Bool → Option XmlKind → Read
 good_turn limits s place n token bytes fits fault = elim fits [
-  | false ↦ fault_at too_long limits.bytes
+  | false ↦ stops_at TooLong limits.bytes
   | true ↦ elim fault [
-    | (Some kind) ↦ fault_at kind place
+    | (Some kind) ↦ stops_at kind place
     | None ↦ telling (events_of s token place) (read true limits (state_behind s token) (place + 1) (pred n) bytes)
   ]
 ]
@@ -291,10 +278,10 @@ turn limits s place b bytes x = elim x [
   | (good token n) ↦ good_turn limits s place n token bytes (nat_le (place + n) limits.bytes) (fault_of limits s token)
 ]
 
-abbrev answer : Document → Option Fault → Result Document Fault
+abbrev answer : Document → Option XmlFault → Result Document XmlFault
 answer d f = elim f [ (Some fault) ↦ Err fault | None ↦ Ok d ]
 
-ok-same : (a b : Document) → ◌≡◌ {A = Result Document Fault} (Ok a) (Ok b) → a ≡ b
+ok-same : (a b : Document) → ◌≡◌ {A = Result Document XmlFault} (Ok a) (Ok b) → a ≡ b
 ok-same a b h = cc
 
 -- Where bytes are read without a fault, what they tell is the rest.
@@ -306,20 +293,20 @@ turn-finishes : (limits : Limits) (s : State) (place b : ℕ) (bytes : List ℕ)
     → (x : Beginning) → Finishes limits s (turn limits s place b bytes x)
 turn-finishes limits s place b bytes rest later sound h = absurd (by (nat_le (place + sure_length b bytes) limits.bytes) h)
   where
-    by : (t : Bool) → fault_of_whole (if t then record { events = []; stands = waits s place (b ∷ bytes) } else fault_at too_long limits.bytes).stands ≡ None → ⊥
-    by true h = none-some _ (sym h ∙ ap (λ u. if u then Some (record { kind = truncated; place = place + length (b ∷ bytes) }) else at_end (is_outside s) s.root_seen place) (some_bytes (length bytes)))
+    by : (t : Bool) → fault_of_whole (if t then record { events = []; stands = waits s place (b ∷ bytes) } else stops_at TooLong limits.bytes).stands ≡ None → ⊥
+    by true h = none-some _ (sym h ∙ ap (λ u. if u then Some (fault_at Truncated (place + length (b ∷ bytes))) else at_end (is_outside s) s.root_seen place) (some_bytes (length bytes)))
       where
         some_bytes : (n : ℕ) → nat_lt 0 (suc n) ≡ true
         some_bytes n = grind (arith, nat_tests)
     by false h = none-some _ (sym h)
 turn-finishes limits s place b bytes rest (bad kind n) sound h = absurd (by (nat_le (place + n) limits.bytes) h)
   where
-    by : (t : Bool) → fault_of_whole (if t then fault_at kind place else fault_at too_long limits.bytes).stands ≡ None → ⊥
+    by : (t : Bool) → fault_of_whole (if t then stops_at kind place else stops_at TooLong limits.bytes).stands ≡ None → ⊥
     by true h = none-some _ (sym h)
     by false h = none-some _ (sym h)
 turn-finishes limits s place b bytes rest (good token n) sound h = by (nat_le (place + n) limits.bytes) (fault_of limits s token) refl h
   where
-    by : (t : Bool) (f : Option FaultKind) → fault_of limits s token ≡ f → fault_of_whole (good_turn limits s place n token bytes t f).stands ≡ None
+    by : (t : Bool) (f : Option XmlKind) → fault_of limits s token ≡ f → fault_of_whole (good_turn limits s place n token bytes t f).stands ≡ None
         → GoesOn limits s (names_of (good_turn limits s place n token bytes t f).stands) (joined_back (good_turn limits s place n token bytes t f).events)
     by false f e h = absurd (none-some _ (sym h))
     by true (Some kind) e h = absurd (none-some _ (sym h))
@@ -338,7 +325,7 @@ pub read-as : (limits : Limits) (bytes : List ℕ) (found : Document) → docume
 unfolding document first_fault resume
 read-as limits bytes found is = by (first_fault limits bytes) refl is
   where
-    by : (f : Option Fault) → first_fault limits bytes ≡ f
+    by : (f : Option XmlFault) → first_fault limits bytes ≡ f
         → answer (record { events = with_events [] (read_whole limits bytes).events; names = names_of (read_whole limits bytes).stands }) f ≡ Ok found
         → IsReadAs limits found (tree_of found)
     by (Some fault) e is = cc

@@ -6,14 +6,16 @@ use Rattle.std.specs.Str.{is_utf8, chars}
 use lib.Utf8.{encode}
 use Rattle.inv_base.specs.Characters.{is_char, is_white_space, is_name_start, is_name_char}
 use Rattle.inv_base.specs.Tree.{Name, Attribute, Forest, no_more, a_text, an_element, size}
-use Rattle.xml_tokens.specs.Faults.{Fault, bad_char}
+use Rattle.xml_tokens.specs.declared.kind.XmlKind.TheVariants.{BadChar}
+use Rattle.xml_state.specs.declared.fault.XmlFault.{XmlFault}
 use Rattle.xml_tokens.specs.Encoding.{character_at}
 use Rattle.xml_tokens.specs.References.{referred, reference_at}
 use Rattle.xml_tokens.specs.WrittenNames.{is_qname}
 use Rattle.xml_tokens.specs.Markup.{comment, section, is_declaration, instruction}
 use Rattle.xml_tokens.specs.Tags.{attribute_at, tag_inside, value_of, start_tag, end_tag}
 use Rattle.xml_tokens.specs.Beginnings.{extent, beginning}
-use Rattle.xml_state.specs.Limits.{Limits}
+use Rattle.xml_state.specs.declared.limits.Limits.{Limits}
+use Rattle.xml_state.specs.Faults.{fault_at}
 use Rattle.xml_state.specs.Events.{tree_of_events}
 use Rattle.xml_state.specs.States.{with_names, state_behind, events_of}
 use Rattle.xml_state.specs.Admission.{fault_of}
@@ -79,12 +81,12 @@ shorter_names = refl
 names : names_in tree ≡ named (codes "u") (codes "a") ∷ named [] (codes "k") ∷ named (codes "v") (codes "l") ∷ named (codes "v") (codes "b") ∷ named (codes "u") (codes "e") ∷ []
 names = refl
 
-abbrev tree_in : Result Document Fault → Option Forest
+abbrev tree_in : Result Document XmlFault → Option Forest
 tree_in (Ok d) = Some (tree_of d)
 tree_in (Err f) = None
 
 -- what canonical text of a tree is read as, with all definitions open
-abbrev read_back : List Declaration → Forest → Result Document Fault
+abbrev read_back : List Declaration → Forest → Result Document XmlFault
 unfolding document first_fault resume read beginning extent comment section is_declaration instruction attribute_at tag_inside value_of start_tag end_tag is_qname character_at reference_at referred fault_of state_behind events_of tree_of_events is_utf8 chars encode is_char is_white_space is_name_start is_name_char in_text in_value declaration_line
 read_back declarations t = document ample (encode_utf8_all (canonical_text declarations t))
 
@@ -157,8 +159,8 @@ attribute-xmlns : is_attribute_name declared (named [] (codes "xmlns")) ≡ fals
 unfolding is_name_start is_name_char
 attribute-xmlns = refl
 
--- what is read where a condition doesn't hold: an element falls into the default namespace, as does an undeclared one; an attribute
--- becomes a declaration; texts side by side are one; and a text has a character that no document may have
+-- what is read where a condition doesn't hold: an element falls into the default namespace, as does an undeclared one;
+-- an attribute becomes a declaration; texts side by side are one; and a text has a character that no document may have
 none-lost : tree_back declared (an_element (named [] (codes "f")) [] no_more no_more) ≡ Some (an_element (named (codes "u") (codes "f")) [] no_more no_more)
 unfolding tree_back
 none-lost = refl
@@ -179,6 +181,6 @@ no-char : all_texts (list_all is_char) (an_element (named [] (codes "f")) [] (a_
 unfolding is_char
 no-char = refl
 
-char-refused : read_back [] (an_element (named [] (codes "f")) [] (a_text (1 ∷ []) no_more) no_more) ≡ Err (record { kind = bad_char; place = 42 })
+char-refused : read_back [] (an_element (named [] (codes "f")) [] (a_text (1 ∷ []) no_more) no_more) ≡ Err (fault_at BadChar 42)
 unfolding read_back
 char-refused = refl

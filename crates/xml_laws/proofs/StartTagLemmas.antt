@@ -8,17 +8,17 @@ use Rattle.inv_base.specs.Tree.{Name, Attribute}
 use Rattle.xml_tokens.specs.Faults.{Cause, first_cause}
 use Rattle.xml_tokens.specs.Markup.{Written, Tag, a_start_tag}
 use Rattle.xml_tokens.specs.Beginnings.{good, beginning, greatest_tag}
-use Rattle.xml_state.specs.Limits.{Limits}
+use Rattle.xml_state.specs.declared.limits.Limits.{Limits}
 use Rattle.xml_state.specs.Names.{same_name, number_of}
 use Rattle.xml_state.specs.Events.{starts, ends}
 use Rattle.xml_state.specs.Namespaces.{Binding, bindings_inside, declared_bindings, is_bad_binding, is_undeclared, undeclaring, attributes_of}
 use Rattle.xml_state.specs.Namespaces as names
 use Rattle.xml_state.specs.States.{State, is_outside, bindings_here, bindings_in, name_in, attributes_in, names_behind, with_names, behind_start_tag, start_tag_events, attribute_event, state_behind, events_of}
-use Rattle.xml_state.specs.Admission.{has_twice, is_long_name, start_tag_fault, fault_of}
+use Rattle.xml_state.specs.Admission.{has_twice, is_long_name, start_tag_causes, fault_of}
 use Rattle.xml_profile.specs.TokenByToken.{telling, read}
 use Rattle.xml_write.specs.Canonical.{Declaration, element_name, declaring_name}
 use Rattle.xml_laws.specs.Writable.{is_declarable, is_short}
-use Rattle.xml_laws.proofs.ReadLemmas.{NoneHolds, start_causes}
+use Rattle.xml_laws.proofs.ReadLemmas.{NoneHolds}
 use Rattle.xml_laws.proofs.TagTokenLemmas.{start_bytes, start-begins}
 use Rattle.xml_laws.proofs.BindingLemmas.{binding, bindings_of, element-read}
 use Rattle.xml_laws.proofs.TagStateLemmas.{declaring, given, tag_attributes, attributes-written, bindings-good, names-short, long-not, tag-declared, tag-read, tag-bound, tag-apart}
@@ -71,14 +71,14 @@ module _ (limits : Limits) (declarations : List Declaration) (declarable : list_
       ap (λ n. with_names s.names (tag_names n (attributes_in s t))) name-is ∙ ap (λ a. with_names s.names (tag_names name a)) attributes-are
 
   admitted : (is_outside s && s.root_seen) ≡ false → length s.open_elements + 1 ≤ limits.depth → length (with_names s.names (tag_names name attributes)) ≤ limits.names
-      → s.nodes + (1 + length attributes) ≤ limits.nodes → start_tag_fault limits s (tag_of declarations own name attributes is_empty) ≡ None
+      → s.nodes + (1 + length attributes) ≤ limits.nodes → first_cause (start_tag_causes limits s (tag_of declarations own name attributes is_empty)) ≡ None
   admitted first deep many more =
       let t = tag_of declarations own name attributes is_empty in
       let B = bindings_of declarations in
       let l : length (tag_attributes declarations own attributes) ≡ length own + length attributes =
       length-append (map declaring own) (map (given declarations) attributes) ∙ (ap (λ n. n + length (map (given declarations) attributes)) (length-map own declaring) ∙ ap (λ n. length own + n) (length-map attributes (given declarations))) in
       let few = parts.few in
-      none-holds (start_causes limits s t) (
+      none-holds (start_tag_causes limits s t) (
         keeps limits.attributes (length (tag_attributes declarations own attributes)) (omega arith),
         (
           ap (λ b. b || list_any (λ (a : Written). is_long_name limits a.name) (tag_attributes declarations own attributes)) (long-not limits (element_name declarations name) parts.short)

@@ -9,12 +9,14 @@ use Rattle.std.proofs.lemmas.Str.{encodes-append, encode_ascii}
 use lib.Utf8.{encodes}
 use Rattle.inv_base.specs.Characters.{is_char, is_white_space}
 use Rattle.inv_base.proofs.TextLemmas.{both}
-use Rattle.xml_tokens.specs.Faults.{FaultKind, not_utf8, bad_char, bad_markup, bad_reference, tag_too_long}
+use Rattle.xml_tokens.specs.declared.kind.XmlKind.{XmlKind}
+use Rattle.xml_tokens.specs.declared.kind.XmlKind.TheVariants.{NotUtf8, BadChar, BadMarkup, BadReference, TagTooLong}
 use Rattle.xml_tokens.specs.Searches.{is_quote, TagEnd, behind, none_within, none_yet}
 use Rattle.xml_tokens.specs.WrittenNames.{is_qname, ends_name, name_at_front}
 use Rattle.xml_tokens.specs.Markup.{Written, Token, a_start_tag, an_end_tag, if_right}
 use Rattle.xml_tokens.specs.Tags.{Inside, tag_inside, tag_with, start_tag, end_tag, tag}
-use Rattle.xml_tokens.specs.Beginnings.{Position, Beginning, good, bad, later, beginning, tag_at, markup_at, extent, of_length, greatest_tag}
+use Rattle.xml_tokens.specs.Beginnings.{Beginning, good, bad, later, beginning, tag_at, markup_at, extent, of_length, greatest_tag}
+use Rattle.xml_tokens.specs.declared.beginning.Position.{Position}
 use Rattle.xml_write.specs.Escapes.{in_value}
 use Rattle.xml_laws.proofs.EncodedLemmas.{are_chars, chars-back, utf8-back}
 use Rattle.xml_laws.proofs.SplitLemmas.{before-front, before-all}
@@ -67,7 +69,7 @@ unfolding is_char
 text-close true = text-byte 0x2F [] (omega arith) refl text-none
 text-close false = text-none
 
-extent-text : (n : ℕ) (inside : List ℕ) (grammar : List ℕ → Result Token FaultKind) → IsText inside → extent n inside grammar ≡ of_length n (grammar inside)
+extent-text : (n : ℕ) (inside : List ℕ) (grammar : List ℕ → Result Token XmlKind) → IsText inside → extent n inside grammar ≡ of_length n (grammar inside)
 unfolding extent
 extent-text n inside grammar t =
     let utf8 : is_utf8 inside ≡ true = ap is_utf8 t.encoded ∙ utf8-back t.characters t.chars in
@@ -75,13 +77,13 @@ extent-text n inside grammar t =
     at (is_utf8 inside) (list_all is_char (chars inside)) utf8 all
   where
     at : (a b : Bool) → a ≡ true → b ≡ true
-        → (elim a [ false ↦ bad not_utf8 n | true ↦ elim b [ false ↦ bad bad_char n | true ↦ of_length n (grammar inside) ] ]) ≡ of_length n (grammar inside)
+        → (elim a [ false ↦ bad NotUtf8 n | true ↦ elim b [ false ↦ bad BadChar n | true ↦ of_length n (grammar inside) ] ]) ≡ of_length n (grammar inside)
     at a b p q =
-        ap (λ t. elim t [ false ↦ bad not_utf8 n | true ↦ elim b [ false ↦ bad bad_char n | true ↦ of_length n (grammar inside) ] ]) p
-        ∙ ap (λ t. elim t [ false ↦ bad bad_char n | true ↦ of_length n (grammar inside) ]) q
+        ap (λ t. elim t [ false ↦ bad NotUtf8 n | true ↦ elim b [ false ↦ bad BadChar n | true ↦ of_length n (grammar inside) ] ]) p
+        ∙ ap (λ t. elim t [ false ↦ bad BadChar n | true ↦ of_length n (grammar inside) ]) q
 
 abbrev at_end : List ℕ → TagEnd → Beginning
-at_end bytes e = elim e [ none_within ↦ bad tag_too_long greatest_tag | none_yet ↦ later | (behind n) ↦ extent (n + 2) (take n bytes) tag ]
+at_end bytes e = elim e [ none_within ↦ bad TagTooLong greatest_tag | none_yet ↦ later | (behind n) ↦ extent (n + 2) (take n bytes) tag ]
 
 -- What stands between `<` and `>`.
 pub record IsTagText (bytes : List ℕ) : Type 0 where
@@ -121,11 +123,11 @@ name-front name n (a ∷ attributes) is_empty =
     let more = a.name ++ (0x3D ∷ (0x22 ∷ (value ++ (0x22 ∷ [])))) in
     before-front ends_name name 0x20 ((more ++ written_bytes attributes) ++ tag_close is_empty) (name-ends name n.plain) refl
 
-abbrev start_with : List ℕ → Option Inside → Result Token FaultKind
-start_with name x = elim x [ None ↦ Err bad_markup | (Some inside) ↦ tag_with name inside ]
+abbrev start_with : List ℕ → Option Inside → Result Token XmlKind
+start_with name x = elim x [ None ↦ Err BadMarkup | (Some inside) ↦ tag_with name inside ]
 
-abbrev with_attributes : List ℕ → Bool → Option (List Written) → Result Token FaultKind
-with_attributes name is_empty x = elim x [ None ↦ Err bad_reference | (Some attributes) ↦ Ok (a_start_tag (record { name = name; attributes = attributes; is_empty = is_empty })) ]
+abbrev with_attributes : List ℕ → Bool → Option (List Written) → Result Token XmlKind
+with_attributes name is_empty x = elim x [ None ↦ Err BadReference | (Some attributes) ↦ Ok (a_start_tag (record { name = name; attributes = attributes; is_empty = is_empty })) ]
 
 start-grammar : (name : List ℕ) (n : IsWrittenName name) (attributes : List Written) (is_empty : Bool) → AreWritten attributes
     → start_tag (start_bytes name attributes is_empty) ≡ Ok (a_start_tag (record { name = name; attributes = attributes; is_empty = is_empty }))
@@ -133,8 +135,8 @@ unfolding start_tag
 start-grammar name n attributes is_empty w =
     let bytes = start_bytes name attributes is_empty in
     let r = reads-inside attributes is_empty w in
-    ap (λ x. elim (is_qname x) [ false ↦ Err bad_markup | true ↦ start_with x (tag_inside 0 (drop (length x) bytes)) ]) (name-front name n attributes is_empty)
-    ∙ (ap (λ t. elim t [ false ↦ Err bad_markup | true ↦ start_with name (tag_inside 0 (drop (length name) bytes)) ]) n.qname
+    ap (λ x. elim (is_qname x) [ false ↦ Err BadMarkup | true ↦ start_with x (tag_inside 0 (drop (length x) bytes)) ]) (name-front name n attributes is_empty)
+    ∙ (ap (λ t. elim t [ false ↦ Err BadMarkup | true ↦ start_with name (tag_inside 0 (drop (length name) bytes)) ]) n.qname
     ∙ (ap (λ x. start_with name (tag_inside 0 x)) (drop-append_seam name (written_bytes attributes ++ tag_close is_empty))
     ∙ (ap (start_with name) r.is ∙ ap (with_attributes name is_empty) r.says)))
 
@@ -175,9 +177,9 @@ end-grammar : (name : List ℕ) (n : IsWrittenName name) → end_tag name ≡ Ok
 unfolding end_tag
 end-grammar name n =
     let all : drop (length name) name ≡ [] = ap (drop (length name)) (sym (append-nil name)) ∙ drop-append_seam name [] in
-    ap (λ x. if_right (is_qname x && list_all is_white_space (drop (length x) name)) (an_end_tag x) bad_markup) (before-all ends_name name (name-ends name n.plain))
-    ∙ (ap (λ t. if_right (t && list_all is_white_space (drop (length name) name)) (an_end_tag name) bad_markup) n.qname
-    ∙ ap (λ x. if_right (list_all is_white_space x) (an_end_tag name) bad_markup) all)
+    ap (λ x. if_right (is_qname x && list_all is_white_space (drop (length x) name)) (an_end_tag x) BadMarkup) (before-all ends_name name (name-ends name n.plain))
+    ∙ (ap (λ t. if_right (t && list_all is_white_space (drop (length name) name)) (an_end_tag name) BadMarkup) n.qname
+    ∙ ap (λ x. if_right (list_all is_white_space x) (an_end_tag name) BadMarkup) all)
 
 pub end-begins : (name : List ℕ) (n : IsWrittenName name) → length name + 3 ≤ greatest_tag → (position : Position) (rest : List ℕ)
     → beginning position true (0x3C ∷ (0x2F ∷ (name ++ (0x3E ∷ rest)))) ≡ good (an_end_tag name) (length name + 3)

@@ -6,8 +6,8 @@ use Rattle.std.proofs.lemmas.Bool.Decides.{nat_tests}
 use Rattle.std.proofs.lemmas.Str.{encodes-append}
 use Rattle.inv_base.specs.Tree.{Name}
 use Rattle.inv_base.proofs.TextLemmas.{both}
-use Rattle.xml_tokens.specs.Beginnings.{farther}
-use Rattle.xml_state.specs.Limits.{Limits}
+use Rattle.xml_tokens.specs.declared.beginning.Position.TheVariants.{Farther}
+use Rattle.xml_state.specs.declared.limits.Limits.{Limits}
 use Rattle.xml_state.specs.Events.{Event, starts, has_attribute, has_text, ends}
 use Rattle.xml_state.specs.States.{Open, State, is_outside, state_behind, behind_text, text_events}
 use Rattle.xml_state.specs.Admission.{is_text_too_many}
@@ -23,7 +23,7 @@ use Rattle.xml_laws.proofs.TextTokenLemmas.{TextToken, text-token, text_bytes, t
 -- inside the root
 abbrev pub inside : List Open → Bool → ℕ → List Name → State
 inside open_elements in_text nodes names =
-    record { position = farther; open_elements = open_elements; root_seen = true; in_text = in_text; nodes = nodes; names = names }
+    record { position = Farther; open_elements = open_elements; root_seen = true; in_text = in_text; nodes = nodes; names = names }
 
 -- a text before others, where it has a character
 abbrev pub text_before : List ℕ → ℕ → List Event → List Event

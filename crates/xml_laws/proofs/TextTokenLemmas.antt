@@ -8,18 +8,21 @@ use Rattle.std.proofs.lemmas.Str.{encodes-append, length-encode, len_utf8_bounds
 use lib.Utf8.{encode, encodes}
 use Rattle.inv_base.specs.Characters.{is_char, is_white_space}
 use Rattle.inv_base.proofs.TextLemmas.{both}
-use Rattle.xml_tokens.specs.Faults.{too_many_nodes}
+use Rattle.xml_tokens.specs.declared.encoding.Begun.{Begun}
+use Rattle.xml_tokens.specs.declared.encoding.Begun.TheVariants as begun
+use Rattle.xml_tokens.specs.declared.kind.XmlKind.TheVariants.{TooManyNodes}
 use Rattle.xml_tokens.specs.Searches.{begins_with}
-use Rattle.xml_tokens.specs.Encoding.{Begun, character_at}
-use Rattle.xml_tokens.specs.Encoding as encoding
+use Rattle.xml_tokens.specs.Encoding.{character_at}
 use Rattle.xml_tokens.specs.References.{reference_at, referred}
 use Rattle.xml_tokens.specs.Markup.{Token, a_character, a_reference}
-use Rattle.xml_tokens.specs.Beginnings.{good, farther, beginning, character_token}
-use Rattle.xml_state.specs.Limits.{Limits}
+use Rattle.xml_tokens.specs.Beginnings.{good, beginning, character_token}
+use Rattle.xml_tokens.specs.declared.beginning.Position.TheVariants.{Farther}
+use Rattle.xml_state.specs.declared.limits.Limits.{Limits}
 use Rattle.xml_state.specs.States.{State, is_outside, state_behind, behind_text, events_of, text_events}
 use Rattle.xml_state.specs.Admission.{text_fault, fault_of, is_text_too_many}
 use Rattle.xml_write.specs.Escapes.{in_text}
-use Rattle.xml_laws.proofs.EncodedLemmas.{are_chars, char-scalar}
+use Rattle.xml_tokens.proofs.RunLemmas.{char-scalar}
+use Rattle.xml_laws.proofs.EncodedLemmas.{are_chars}
 use Rattle.xml_tokens.proofs.CharacterLemmas.{passed, same, other, begins}
 
 pub elim-false : {A : Type 0} (t : Bool) (x y : A) → t ≡ false → (elim t [ true ↦ x | false ↦ y ]) ≡ y
@@ -41,7 +44,7 @@ pub record IsCharacterToken (c : ℕ) (token : Token) : Type 0 where
 
 text-admitted : (limits : Limits) (s : State) (may : Bool) → is_outside s ≡ false → is_text_too_many limits s ≡ false → text_fault limits s may ≡ None
 text-admitted limits s may outside few =
-    passed (is_outside s) _ _ outside ∙ passed (is_text_too_many limits s) (Some too_many_nodes) None few
+    passed (is_outside s) _ _ outside ∙ passed (is_text_too_many limits s) (Some TooManyNodes) None few
 
 of_character : (c : ℕ) → IsCharacterToken c (a_character c)
 unfolding state_behind events_of fault_of
@@ -63,7 +66,7 @@ of_reference c = record {
 pub record TextToken (c : ℕ) (r : List ℕ) : Type 0 where
   pub token : Token
   pub is_character : IsCharacterToken c token
-  pub reads : beginning farther true (encode_utf8_all (in_text c) ++ r) ≡ good token (length (encode_utf8_all (in_text c)))
+  pub reads : beginning Farther true (encode_utf8_all (in_text c) ++ r) ≡ good token (length (encode_utf8_all (in_text c)))
   pub first : ℕ
   pub more : List ℕ
   pub is : encode_utf8_all (in_text c) ++ r ≡ first ∷ more
@@ -103,7 +106,7 @@ plain-bracket r h = record {
 }
 
 plain-begins : (first : ℕ) (more : List ℕ) (c n : ℕ) → ¬ (first ≡ 0x3C) → ¬ (first ≡ 0x26) → ¬ (first ≡ 0x5D) → ¬ (first ≡ 0xD)
-    → character_at first more ≡ encoding.a_character c n → is_char c ≡ true → beginning farther true (first ∷ more) ≡ good (a_character c) n
+    → character_at first more ≡ begun.Character c n → is_char c ≡ true → beginning Farther true (first ∷ more) ≡ good (a_character c) n
 unfolding beginning
 plain-begins first more c n a b d e reads char =
     elim-false (first == 0x3C) _ _ (other first 0x3C a)
@@ -123,7 +126,7 @@ plain-character c r char a b d e f =
     record {
       token = a_character c;
       is_character = of_character c;
-      reads = ap (beginning farther true) is
+      reads = ap (beginning Farther true) is
           ∙ (plain-begins g.first g.behind c (length (encode c)) (apart 0x3C (omega arith) b) (apart 0x26 (omega arith) a) (apart 0x5D (omega arith) f) (apart 0xD (omega arith) e) g.reads char
           ∙ ap (λ x. good (a_character c) (length x)) (sym written));
       first = g.first;

@@ -8,7 +8,8 @@ use Rattle.inv_base.specs.Characters.{is_char, is_white_space}
 use Rattle.inv_base.proofs.TextLemmas.{both}
 use Rattle.xml_tokens.specs.Searches.{begins_with}
 use Rattle.xml_tokens.specs.References.{reference_at, referred}
-use Rattle.xml_tokens.specs.Tags.{ValuePart, value_part, value_of}
+use Rattle.xml_tokens.specs.Tags.{value_part, value_of}
+use Rattle.xml_tokens.specs.declared.values.ValuePart.{ValuePart}
 use Rattle.xml_write.specs.Escapes.{in_text, in_value}
 use Rattle.xml_laws.proofs.EncodedLemmas.{are_chars, all-implied, passes-encodes}
 use Rattle.xml_tokens.proofs.CharacterLemmas.{passed, same, other}

@@ -5,16 +5,15 @@ use Rattle.std.proofs.lemmas.Bool.Decides.{nat_tests}
 use Rattle.inv_base.specs.Characters.{is_char}
 use Rattle.inv_base.specs.Tree.{Name, Attribute, Forest, a_text, an_element}
 use Rattle.inv_base.proofs.TextLemmas.{both}
-use Rattle.xml_tokens.specs.Beginnings.{greatest_tag}
-use Rattle.xml_state.specs.Limits.{Limits}
+use Rattle.xml_state.specs.declared.limits.Limits.{Limits}
 use Rattle.xml_state.specs.Names.{same_name}
 use Rattle.xml_state.specs.Admission.{has_twice}
-use Rattle.xml_write.specs.Canonical.{Declaration, element_name, attribute_name, declaring_name, declarations_text, attributes_text}
-use Rattle.xml_laws.specs.Writable.{is_element_name, is_attribute_name, all_elements, all_texts, depth_of, is_short, keeps_limits, keep_limits}
+use Rattle.xml_write.specs.Canonical.{Declaration, element_name, attribute_name, declaring_name, declarations_text, attributes_text, is_childless}
+use Rattle.xml_laws.specs.Writable.{is_element_name, is_attribute_name, all_elements, all_texts, depth_of, is_short, tags_fit, keeps_limits, keep_limits}
 use Rattle.xml_laws.proofs.AttributeLemmas.{not_false}
 use Rattle.xml_laws.proofs.TagStateLemmas.{is_given}
 
-at_most : (n limit : ℕ) → nat_le n limit ≡ true → n ≤ limit
+pub at_most : (n limit : ℕ) → nat_le n limit ≡ true → n ≤ limit
 at_most n limit h = grind (arith, nat_tests)
 
 -- What is written of a tag.
@@ -26,7 +25,6 @@ pub record IsTag (limits : Limits) (declarations own : List Declaration) (name :
   pub own_short : list_all (λ (d : Declaration). is_short limits (declaring_name d.prefix)) own ≡ true
   pub short : is_short limits (element_name declarations name) ≡ true
   pub all_short : list_all (λ (a : Attribute). is_short limits (attribute_name declarations a.name)) attributes ≡ true
-  pub small : length (encode_utf8_all (element_name declarations name ++ (declarations_text own ++ attributes_text declarations attributes))) + 3 ≤ greatest_tag
 
 -- What is written of a forest inside so many elements.
 pub record AreTags (limits : Limits) (declarations own : List Declaration) (depth : ℕ) (f : Forest) : Type 0 where
@@ -62,6 +60,7 @@ split test name attributes f rest h =
 
 pub record OfElement (limits : Limits) (declarations own : List Declaration) (depth : ℕ) (name : Name) (attributes : List Attribute) (f rest : Forest) : Type 0 where
   pub tag : IsTag limits declarations own name attributes
+  pub sized : tags_fit (is_childless f) (encode_utf8_all (element_name declarations name)) (encode_utf8_all (element_name declarations name ++ (declarations_text own ++ attributes_text declarations attributes))) ≡ true
   pub deep : depth + 1 ≤ limits.depth
   pub inside : AreTags limits declarations [] (depth + 1) f
   pub behind : AreTags limits declarations own depth rest
@@ -72,13 +71,13 @@ of-element limits declarations own depth name attributes f rest t =
     let text = element_name declarations name ++ (declarations_text own ++ attributes_text declarations attributes) in
     let own_short = list_all (λ (d : Declaration). is_short limits (declaring_name d.prefix)) own in
     let all_short = list_all (λ (a : Attribute). is_short limits (attribute_name declarations a.name)) attributes in
-    let small = nat_le (length (encode_utf8_all text) + 3) greatest_tag in
+    let small = tags_fit (is_childless f) (encode_utf8_all (element_name declarations name)) (encode_utf8_all text) in
     let e = split (λ name attributes. is_element_name declarations name) name attributes f rest t.elements in
     let g = split (λ name attributes. list_all (λ (a : Attribute). is_attribute_name declarations a.name) attributes) name attributes f rest t.attributes in
     let d = split (λ name attributes. not (has_twice (λ (a b : Attribute). same_name a.name b.name) attributes)) name attributes f rest t.distinct in
     let v = split (λ name attributes. list_all (λ (a : Attribute). list_all is_char a.value) attributes) name attributes f rest t.values in
     let x = both (all_texts (list_all is_char) f) (all_texts (list_all is_char) rest) t.texts in
-    let k = both (keeps_limits limits declarations own name attributes) (keep_limits limits declarations [] f && keep_limits limits declarations own rest) t.tags in
+    let k = both (keeps_limits limits declarations own name attributes (is_childless f)) (keep_limits limits declarations [] f && keep_limits limits declarations own rest) t.tags in
     let l = both (keep_limits limits declarations [] f) (keep_limits limits declarations own rest) k.1 in
     let a = both (nat_le (length own + length attributes) limits.attributes) (own_short && (is_short limits (element_name declarations name) && (all_short && small))) k.0 in
     let b = both own_short (is_short limits (element_name declarations name) && (all_short && small)) a.1 in
@@ -94,8 +93,8 @@ of-element limits declarations own depth name attributes f rest t =
         own_short = b.0;
         short = c.0;
         all_short = s.0;
-        small = at_most (length (encode_utf8_all text) + 3) greatest_tag s.1;
       };
+      sized = s.1;
       deep = omega arith;
       inside = record { elements = e.1; attributes = g.1; distinct = d.1; values = v.1; texts = x.0; deep = omega arith; tags = l.0 };
       behind = record { elements = e.2; attributes = g.2; distinct = d.2; values = v.2; texts = x.1; deep = omega arith; tags = l.1 };

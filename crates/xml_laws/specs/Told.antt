@@ -1,7 +1,7 @@
 -- What a document tells is a tree.
 use Rattle.std.specs.Prelude.{◌+◌, ◌≤◌}
 use Rattle.inv_base.specs.Tree.{Forest, IsDocument, size}
-use Rattle.xml_state.specs.Limits.{Limits}
+use Rattle.xml_state.specs.declared.limits.Limits.{Limits}
 use Rattle.xml_state.specs.Documents.{Tells}
 use Rattle.xml_profile.specs.Profile.{Document}
 

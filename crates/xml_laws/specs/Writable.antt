@@ -5,25 +5,26 @@ use Rattle.inv_base.specs.Characters.{is_char}
 use Rattle.inv_base.specs.Tree.{Name, Attribute, Forest, no_more, a_text, an_element, IsDocument, size}
 use Rattle.xml_tokens.specs.WrittenNames.{is_ncname}
 use Rattle.xml_tokens.specs.Beginnings.{greatest_tag}
-use Rattle.xml_state.specs.Limits.{Limits}
+use Rattle.xml_state.specs.declared.limits.Limits.{Limits}
 use Rattle.xml_state.specs.Names.{same_name}
 use Rattle.xml_state.specs.Namespaces.{xmlns, is_bad_binding}
 use Rattle.xml_state.specs.States.{with_names}
 use Rattle.xml_state.specs.Admission.{has_twice}
-use Rattle.xml_write.specs.Canonical.{Declaration, prefix_of, element_name, attribute_name, declaring_name, declarations_text, attributes_text, canonical_text}
+use Rattle.xml_write.specs.Canonical.{Declaration, prefix_of, element_name, attribute_name, declaring_name, declarations_text, attributes_text, is_childless, canonical_text}
 
 -- the namespace name that a prefix stands for, that of the first declaration of it; empty where there is none
 abbrev pub namespace_of : List Declaration → List ℕ → List ℕ
 namespace_of [] prefix = []
 namespace_of (declaration ∷ declarations) prefix = if bytes_eq declaration.prefix prefix then declaration.uri else namespace_of declarations prefix
 
--- A declaration that Namespaces in XML 1.0 allows, section 3: of an NCName or the default namespace, to a name of Chars.
+-- A declaration that Namespaces in XML 1.0 allows, section 3: of an NCName or the default namespace, to a name of
+-- Chars.
 abbrev pub is_declarable : Declaration → Bool
 is_declarable d =
     (length d.prefix == 0 || is_ncname d.prefix) && (list_all is_char d.uri && not (is_bad_binding (record { prefix = d.prefix; uri = d.uri })))
 
--- An element's local name is an NCName, and the prefix that is written stands for its namespace: where it is in none, no default
--- namespace is declared (section 6.2).
+-- An element's local name is an NCName, and the prefix that is written stands for its namespace: where it is in none,
+-- no default namespace is declared (section 6.2).
 abbrev pub is_element_name : List Declaration → Name → Bool
 is_element_name declarations name =
     is_ncname name.local && bytes_eq (namespace_of declarations (if length name.uri == 0 then [] else prefix_of declarations name.uri)) name.uri
@@ -32,8 +33,8 @@ is_element_name declarations name =
 abbrev pub of_prefixes : List Declaration → List Declaration
 of_prefixes declarations = filter (λ (d : Declaration). not (length d.prefix == 0)) declarations
 
--- The same of an attribute, which the default namespace doesn't reach: in no namespace it isn't named `xmlns`, and in another it is
--- written with a prefix.
+-- The same of an attribute, which the default namespace doesn't reach: in no namespace it isn't named `xmlns`, and in
+-- another it is written with a prefix.
 abbrev pub is_attribute_name : List Declaration → Name → Bool
 is_attribute_name declarations name =
     let prefix = prefix_of (of_prefixes declarations) name.uri in
@@ -68,23 +69,29 @@ names_in (an_element name attributes inside rest) = name ∷ (map (λ (a : Attri
 abbrev pub is_short : Limits → List ℕ → Bool
 is_short limits written = nat_le (length (encode_utf8_all written)) limits.name
 
--- A tag with declarations of its own keeps the limits on attributes, which declarations are too, on names as they are written, and on
--- the bytes of a tag, its `<` and `/>` among them.
-abbrev pub keeps_limits : Limits → List Declaration → List Declaration → Name → List Attribute → Bool
-keeps_limits limits declarations own name attributes =
+-- The tags of an element keep the limit on their bytes, by the name and by what stands in the start tag, in bytes: the
+-- one tag `<` .. `/>` of an element that nothing stands inside, else `<` .. `>` and `</` name `>`.
+abbrev pub tags_fit : Bool → List ℕ → List ℕ → Bool
+tags_fit childless name text =
+    if childless then nat_le (length text + 3) greatest_tag else (nat_le (length text + 2) greatest_tag && nat_le (length name + 3) greatest_tag)
+
+-- An element whose start tag has declarations of its own keeps the limits on attributes, which declarations are too, on
+-- names as they are written, and on the bytes of its tags.
+abbrev pub keeps_limits : Limits → List Declaration → List Declaration → Name → List Attribute → Bool → Bool
+keeps_limits limits declarations own name attributes childless =
     let text = element_name declarations name ++ (declarations_text own ++ attributes_text declarations attributes) in
     nat_le (length own + length attributes) limits.attributes
     && (list_all (λ (d : Declaration). is_short limits (declaring_name d.prefix)) own
     && (is_short limits (element_name declarations name)
     && (list_all (λ (a : Attribute). is_short limits (attribute_name declarations a.name)) attributes
-    && nat_le (length (encode_utf8_all text) + 3) greatest_tag)))
+    && tags_fit childless (encode_utf8_all (element_name declarations name)) (encode_utf8_all text))))
 
--- All tags do, where those of the outermost elements have declarations of their own.
+-- All elements do, where those of the outermost elements have declarations of their own.
 abbrev pub keep_limits : Limits → List Declaration → List Declaration → Forest → Bool
 keep_limits limits declarations own no_more = true
 keep_limits limits declarations own (a_text characters rest) = keep_limits limits declarations own rest
 keep_limits limits declarations own (an_element name attributes inside rest) =
-    keeps_limits limits declarations own name attributes && (keep_limits limits declarations [] inside && keep_limits limits declarations own rest)
+    keeps_limits limits declarations own name attributes (is_childless inside) && (keep_limits limits declarations [] inside && keep_limits limits declarations own rest)
 
 -- The canonical text of the tree keeps the limits.
 pub record IsWithin (limits : Limits) (declarations : List Declaration) (tree : Forest) : Type 0 where
@@ -97,8 +104,9 @@ pub record IsWithin (limits : Limits) (declarations : List Declaration) (tree : 
   -- the root has the declarations
   pub tags : keep_limits limits declarations declarations tree ≡ true
 
--- Canonical text writes the tree, with these declarations, as a document within the limits: of Chars (XML 1.0, production 2), with
--- names and declarations as Namespaces in XML 1.0 has them, and attributes that differ (XML 1.0, section 3.1; Namespaces, section 6.3).
+-- Canonical text writes the tree, with these declarations, as a document within the limits: of Chars (XML 1.0,
+-- production 2), with names and declarations as Namespaces in XML 1.0 has them, and attributes that differ (XML 1.0,
+-- section 3.1; Namespaces, section 6.3).
 pub record IsWritable (limits : Limits) (declarations : List Declaration) (tree : Forest) : Type 0 where
   -- one root, no empty text, and no two texts side by side
   pub document : IsDocument tree

@@ -1,23 +1,24 @@
 -- White space outside the root, read as a run.
-use Rattle.std.proofs.Common.{◌≡◌, ℕ, zero, suc, ◌+◌, ◌-◌, ◌<◌, ◌≤◌, Bool, true, false, ◌&&◌, ◌||◌, ◌==◌, not, nat_le, List, [], ◌∷◌, ◌++◌, length, take, drop, get_or, refl, sym, ap, ◌∙◌, subst, arith, Some, None, if◌then◌else◌}
+use Rattle.std.proofs.Common.{◌≡◌, ℕ, zero, suc, ◌+◌, ◌-◌, ◌<◌, ◌≤◌, Bool, true, nat_le, List, [], ◌∷◌, ◌++◌, length, take, drop, get_or, refl, sym, ap, ◌∙◌, arith, Some, None, if◌then◌else◌}
 use Rattle.std.specs.Char.{encode_utf8}
 use Rattle.std.proofs.lemmas.Bool.Decides.{nat_tests}
 use Rattle.std.proofs.lemmas.List.{take-append-drop, length-drop, length-append, get_or_append_left}
 use Rattle.std.proofs.lemmas.Str.{encode_ascii}
 use Rattle.inv_base.specs.Characters.{is_char, is_white_space}
-use Rattle.xml_tokens.specs.Faults.{text_outside, too_many_nodes}
+use Rattle.xml_tokens.specs.declared.kind.XmlKind.TheVariants.{TextOutside, TooManyNodes}
 use Rattle.xml_tokens.specs.Markup.{a_character}
-use Rattle.xml_tokens.specs.Beginnings.{beginning, good, farther}
+use Rattle.xml_tokens.specs.Beginnings.{beginning, good}
+use Rattle.xml_tokens.specs.declared.beginning.Position.TheVariants.{Farther}
 use Rattle.xml_tokens.specs.Runs.{is_plain}
-use Rattle.xml_tokens.specs.Searching.{Searched, fresh, Fits}
+use Rattle.xml_tokens.specs.Searching.{fresh}
 use Rattle.xml_tokens.proofs.SearchingLemmas.{fresh-fits}
 use Rattle.xml_tokens.proofs.RunLemmas.{plain-begins}
-use Rattle.xml_state.specs.Events.{Event, has_text, TakesAll}
-use Rattle.xml_state.specs.Limits.{Limits}
-use Rattle.xml_state.specs.States.{State, is_outside, behind_aside, behind_text, state_behind, events_of}
+use Rattle.xml_state.specs.Events.{Event, has_text}
+use Rattle.xml_state.specs.declared.limits.Limits.{Limits}
+use Rattle.xml_state.specs.States.{State, is_outside, behind_aside, state_behind, events_of}
 use Rattle.xml_state.specs.Admission.{is_text_too_many, fault_of}
 use Rattle.xml_profile.specs.TokenByToken.{telling, read}
-use Rattle.xml_profile.specs.Courses.{is_blank, IsAt, GoesOn}
+use Rattle.xml_profile.specs.Courses.{is_blank, GoesOn}
 use Rattle.xml_profile.specs.declared.cursor.Cursor.{Cursor}
 use Rattle.xml_profile.proofs.TokenLemmas.{read-good}
 
@@ -38,33 +39,33 @@ blank-white b h = grind (arith, nat_tests)
 
 -- A place between tokens outside the root.
 record Between (s : State) : Type 0 where
-  pub position : s.position ≡ farther
+  pub position : s.position ≡ Farther
   pub outside : is_outside s ≡ true
 
 white-admitted : (limits : Limits) (s : State) (b : ℕ) → is_outside s ≡ true → is_white_space b ≡ true → fault_of limits s (a_character b) ≡ None
 unfolding fault_of
 white-admitted limits s b outside white =
-    ap (λ t. if t then (if is_white_space b then None else Some text_outside) else (if is_text_too_many limits s then Some too_many_nodes else None)) outside
-    ∙ ap (λ t. if t then None else Some text_outside) white
+    ap (λ t. if t then (if is_white_space b then None else Some TextOutside) else (if is_text_too_many limits s then Some TooManyNodes else None)) outside
+    ∙ ap (λ t. if t then None else Some TextOutside) white
 
 white-told : (s : State) (b place : ℕ) → is_outside s ≡ true → events_of s (a_character b) place ≡ []
 unfolding events_of
 white-told s b place outside = ap (λ t. if t then [] else has_text (b ∷ []) place ∷ []) outside
 
-aside-stays : (s : State) → s.position ≡ farther → behind_aside s ≡ s
+aside-stays : (s : State) → s.position ≡ Farther → behind_aside s ≡ s
 aside-stays s position = ap (λ p. record s { position = p }) (sym position)
 
 white-behind : (s : State) (b : ℕ) → Between s → state_behind s (a_character b) ≡ s
 unfolding state_behind
-white-behind s b at = ap (λ t. if t then behind_aside s else record s { position = farther; in_text = true; nodes = if s.in_text then s.nodes else s.nodes + 1 }) at.outside ∙ aside-stays s at.position
+white-behind s b at = ap (λ t. if t then behind_aside s else record s { position = Farther; in_text = true; nodes = if s.in_text then s.nodes else s.nodes + 1 }) at.outside ∙ aside-stays s at.position
 
 module _ (e : Bool) (limits : Limits) (s : State) (at : Between s) where
   one : (b : ℕ) (bytes : List ℕ) (place : ℕ) → is_blank b ≡ true → place + 1 ≤ limits.bytes → read e limits s place 0 (b ∷ bytes) ≡ read e limits s (place + 1) 0 bytes
   one b bytes place blank within =
       let ascii : encode_utf8 b ≡ b ∷ [] = encode_ascii b (blank-ascii b blank) in
       let begun : beginning s.position e (b ∷ bytes) ≡ good (a_character b) 1 =
-      ap (λ p. beginning p e (b ∷ bytes)) at.position ∙ ap (λ x. beginning farther e (x ++ bytes)) (sym ascii)
-      ∙ plain-begins farther e b bytes refl (blank-plain b blank) ∙ ap (λ (x : List ℕ). good (a_character b) (length x)) ascii in
+      ap (λ p. beginning p e (b ∷ bytes)) at.position ∙ ap (λ x. beginning Farther e (x ++ bytes)) (sym ascii)
+      ∙ plain-begins Farther e b bytes refl (blank-plain b blank) ∙ ap (λ (x : List ℕ). good (a_character b) (length x)) ascii in
       let room : nat_le (place + 1) limits.bytes ≡ true = grind (arith, nat_tests) in
       read-good e limits s place (b ∷ bytes) (a_character b) 1 begun room (white-admitted limits s b at.outside (blank-white b blank))
       ∙ ap (λ events. telling events (read e limits (state_behind s (a_character b)) (place + 1) 0 bytes)) (white-told s b place at.outside)
@@ -84,11 +85,11 @@ front-blank n bytes within parts fits blank k h =
     ap is_blank (ap (λ l. get_or l k 0) parts ∙ get_or_append_left within (drop (length within) bytes) 0 k (omega arith)) ∙ blank k h
 
 -- White space was passed over.
-pub blank-passed : (e : Bool) (limits : Limits) (old : Cursor) (bytes within : List ℕ) (taken : List Event → Type 0) (n : ℕ) (nest : State) (search : Searched) (rest : List ℕ)
-    → old.nest.position ≡ farther → is_outside old.nest ≡ true → old.place ≤ limits.bytes → bytes ≡ within ++ drop (length within) bytes → length within ≤ limits.bytes - old.place
-    → 0 < n → n ≤ length within → AreBlank n within → nest ≡ behind_aside old.nest → search ≡ fresh → rest ≡ drop n bytes
-    → (length rest < length bytes) × GoesOn e limits old (record { nest = nest; place = old.place + n; search = search }) bytes rest taken taken
-blank-passed e limits old bytes within taken n nest search rest position outside sound parts room some fits blank passed anew behind =
+pub blank-passed : (e : Bool) (limits : Limits) (old : Cursor) (bytes within : List ℕ) (taken : List Event → Type 0) (n : ℕ) (nest : State) (rest : List ℕ)
+    → old.nest.position ≡ Farther → is_outside old.nest ≡ true → old.place ≤ limits.bytes → bytes ≡ within ++ drop (length within) bytes → length within ≤ limits.bytes - old.place
+    → 0 < n → n ≤ length within → AreBlank n within → nest ≡ behind_aside old.nest → rest ≡ drop n bytes
+    → (length rest < length bytes) × GoesOn e limits old (record { nest = nest; place = old.place + n; search = fresh }) bytes rest taken taken
+blank-passed e limits old bytes within taken n nest rest position outside sound parts room some fits blank passed behind =
     let lengths : length bytes ≡ length within + length (drop (length within) bytes) = ap length parts ∙ length-append within (drop (length within) bytes) in
     let len : length rest ≡ length bytes - n = ap length behind ∙ length-drop n bytes in
     let stays : nest ≡ old.nest = passed ∙ aside-stays old.nest position in
@@ -102,6 +103,6 @@ blank-passed e limits old bytes within taken n nest search rest position outside
             ∙ ap (λ s. read e limits s (old.place + n) 0 (drop n bytes)) (sym stays)
             ∙ ap (λ r. read e limits nest (old.place + n) 0 r) (sym behind);
         told = λ events t. t;
-        at = record { within = ends; fits = let P : Searched → Type 0 = λ s. Fits s rest in subst P (sym anew) (fresh-fits rest) };
+        at = record { within = ends; fits = fresh-fits rest };
       },
     )

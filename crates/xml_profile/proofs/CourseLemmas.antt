@@ -1,10 +1,10 @@
 -- Turn behind turn.
-use Rattle.std.proofs.Common.{◌≡◌, ℕ, ◌+◌, ◌≤◌, Bool, true, false, List, [], ◌∷◌, ◌++◌, length, refl, sym, ap, ◌∙◌, subst, arith}
+use Rattle.std.proofs.Common.{◌≡◌, ℕ, ◌≤◌, Bool, List, [], ◌∷◌, ◌++◌, length, refl, sym, ap, ◌∙◌, subst, arith}
 use Rattle.std.proofs.lemmas.List.{append_assoc, append-nil}
 use Rattle.xml_state.specs.Events.{Event, TakesAll, with_events}
-use Rattle.xml_state.specs.Limits.{Limits}
+use Rattle.xml_state.specs.declared.limits.Limits.{Limits}
 use Rattle.xml_state.specs.declared.fault.XmlFault.{XmlFault}
-use Rattle.xml_profile.specs.TokenByToken.{waits, stopped, Read, telling, read}
+use Rattle.xml_profile.specs.TokenByToken.{waits, Read, telling, read}
 use Rattle.xml_profile.specs.Courses.{IsAt, GoesOn, Reaches, Breaks, of_bytes, of_memory}
 use Rattle.xml_profile.specs.declared.cursor.Cursor.{Cursor}
 use Rattle.xml_profile.proofs.EventLemmas.{with_events-append}

@@ -1,13 +1,14 @@
 -- What begins where the input has ended: a token lies within the bytes, and a `]` is one.
-use Rattle.std.proofs.Common.{◌≡◌, ℕ, suc, ◌+◌, ◌<◌, ◌≤◌, ◌==◌, eqb, Bool, true, false, ◌&&◌, not, List, [], ◌∷◌, length, refl, sym, ap, ◌∙◌, arith}
+use Rattle.std.proofs.Common.{◌≡◌, ℕ, suc, ◌<◌, ◌≤◌, ◌==◌, Bool, true, false, List, [], ◌∷◌, length, refl, arith}
 use Rattle.std.specs.Prelude.{codes}
 use Rattle.std.proofs.lemmas.Bool.Decides.{nat_tests}
-use Rattle.xml_tokens.specs.Searches.{begins_with, ends_inside}
+use Rattle.xml_tokens.specs.Searches.{begins_with}
 use Rattle.xml_tokens.specs.Markup.{a_character, a_mark}
 use Rattle.xml_tokens.specs.References.{reference_at}
 use Rattle.xml_tokens.specs.Encoding as encoding
-use Rattle.xml_tokens.specs.Faults.{bad_markup}
-use Rattle.xml_tokens.specs.Beginnings.{Position, Beginning, good, bad, later, beginning, markup_at, reference_token, bracket_at, line_end_at, character_token, begins_with_mark}
+use Rattle.xml_tokens.specs.declared.kind.XmlKind.TheVariants.{BadMarkup}
+use Rattle.xml_tokens.specs.Beginnings.{Beginning, good, bad, later, beginning, markup_at, reference_token, bracket_at, line_end_at, character_token, begins_with_mark}
+use Rattle.xml_tokens.specs.declared.beginning.Position.{Position}
 use Rattle.xml_tokens.proofs.BeginningLemmas.{Within}
 use Rattle.xml_tokens.proofs.WithinLemmas.{beginning-within}
 
@@ -22,7 +23,7 @@ line-end-ends k (c ∷ a) h = by (c == 0xA)
 bracket-ends : (k : ℕ) (a : List ℕ) → suc (length a) ≤ k → Within k (bracket_at true a)
 bracket-ends k a h = by (begins_with (codes "]>") a)
   where
-    by : (t : Bool) → Within k (elim t [ true ↦ bad bad_markup 3 | false ↦ good (a_character 0x5D) 1 ])
+    by : (t : Bool) → Within k (elim t [ true ↦ bad BadMarkup 3 | false ↦ good (a_character 0x5D) 1 ])
     by true = tt
     by false = (omega arith, omega arith)
 
@@ -57,7 +58,7 @@ begins-within p true c a = by (c == 0x3C) (c == 0x26) (c == 0x5D) (c == 0xD) (be
 differs : (c d : ℕ) → (c == d) ≡ true → (c == 0x5D) ≡ true → d < 0x5D → ⊥
 differs c d h g l = grind (arith, nat_tests)
 
-bracket-whole : (t : Bool) → elim t [ true ↦ bad bad_markup 3 | false ↦ good (a_character 0x5D) 1 ] ≡ later → ⊥
+bracket-whole : (t : Bool) → elim t [ true ↦ bad BadMarkup 3 | false ↦ good (a_character 0x5D) 1 ] ≡ later → ⊥
 bracket-whole true h = cc
 bracket-whole false h = cc
 

@@ -1,21 +1,22 @@
 -- A piece behind the rest of those before, and the end.
-use Rattle.std.proofs.Common.{◌≡◌, ℕ, ◌+◌, ◌-◌, ◌<◌, ◌≤◌, nat_lt, Bool, true, false, List, [], ◌∷◌, ◌++◌, length, drop, refl, sym, ap, ◌∙◌, subst, arith, Option, Some, None, if◌then◌else◌}
+use Rattle.std.proofs.Common.{◌≡◌, ℕ, ◌+◌, ◌-◌, ◌<◌, ◌≤◌, nat_lt, Bool, true, false, List, [], length, drop, sym, ap, ◌∙◌, subst, arith, Option, Some, None, if◌then◌else◌}
 use Rattle.std.proofs.lemmas.Bool.Decides.{nat_tests}
 use Rattle.std.proofs.lemmas.List.{append-nil, length-append, drop_at}
-use Rattle.xml_tokens.specs.Faults.{Fault, truncated, no_root}
-use Rattle.xml_state.specs.Events.{Event, TakesAll}
-use Rattle.xml_state.specs.Limits.{Limits}
+use Rattle.xml_tokens.specs.declared.kind.XmlKind.TheVariants.{Truncated, NoRoot}
+use Rattle.xml_state.specs.Events.{Event}
+use Rattle.xml_state.specs.declared.limits.Limits.{Limits}
 use Rattle.xml_state.specs.States.{State, is_outside}
-use Rattle.xml_state.specs.Seen.{fault_for, want_of_memory}
+use Rattle.xml_state.specs.Faults.{fault_at}
+use Rattle.xml_state.specs.declared.fault.TheConstants.XmlFault.{WANT_OF_MEMORY}
 use Rattle.xml_state.specs.declared.fault.XmlFault.{XmlFault}
-use Rattle.xml_profile.specs.TokenByToken.{Read, read}
+use Rattle.xml_profile.specs.TokenByToken.{Read}
 use Rattle.xml_profile.specs.Profile.{end_fault}
 use Rattle.xml_profile.specs.Courses.{Reaches, Breaks, of_memory}
 use Rattle.xml_profile.specs.declared.cursor.Cursor.{Cursor}
 
 module _ (e : Bool) (limits : Limits) (old : Cursor) where
   -- Memory ran out behind what was told.
-  pub reaches-memory : (new : Cursor) (bytes rest : List ℕ) (before after : List Event → Type 0) → Reaches e limits old new bytes rest before after → Breaks e limits old bytes before after want_of_memory
+  pub reaches-memory : (new : Cursor) (bytes rest : List ℕ) (before after : List Event → Type 0) → Reaches e limits old new bytes rest before after → Breaks e limits old bytes before after WANT_OF_MEMORY
   reaches-memory new bytes rest before after a = of_memory a.events [] (ap (λ (r : Read). r.events) a.is ∙ sym (append-nil a.events)) a.told
 
   pub breaks-from : (bytes others : List ℕ) (before after : List Event → Type 0) (fault : XmlFault) → others ≡ bytes → Breaks e limits old bytes before after fault → Breaks e limits old others before after fault
@@ -41,15 +42,15 @@ module _ (e : Bool) (limits : Limits) (old : Cursor) where
       omega (arith, lengths)
 
 -- the fault of an end, by how many bytes are left, and whether the root has ended and begun
-abbrev end_by : ℕ → ℕ → Bool → Bool → Bool → Option Fault
+abbrev end_by : ℕ → ℕ → Bool → Bool → Bool → Option XmlFault
 end_by place left some outside seen =
-    if some then Some (record { kind = truncated; place = place + left })
-    else (if outside then (if seen then None else Some (record { kind = no_root; place = place })) else Some (record { kind = truncated; place = place }))
+    if some then Some (fault_at Truncated (place + left))
+    else (if outside then (if seen then None else Some (fault_at NoRoot place)) else Some (fault_at Truncated place))
 
 end-of : (s : State) (place : ℕ) (rest : List ℕ) (left : ℕ) → length rest ≡ left → end_fault s place rest ≡ end_by place left (nat_lt 0 left) (is_outside s) s.root_seen
 end-of s place rest left is = ap (λ n. end_by place n (nat_lt 0 n) (is_outside s) s.root_seen) is
 
-pub end-left : (s : State) (place : ℕ) (rest : List ℕ) (left : ℕ) → length rest ≡ left → 0 < left → end_fault s place rest ≡ Some (record { kind = truncated; place = place + left })
+pub end-left : (s : State) (place : ℕ) (rest : List ℕ) (left : ℕ) → length rest ≡ left → 0 < left → end_fault s place rest ≡ Some (fault_at Truncated (place + left))
 end-left s place rest left is some =
     let test : nat_lt 0 left ≡ true = grind (arith, nat_tests) in
     end-of s place rest left is ∙ ap (λ t. end_by place left t (is_outside s) s.root_seen) test
@@ -59,11 +60,11 @@ end-none s place rest left is none =
     let test : nat_lt 0 left ≡ false = grind (arith, nat_tests) in
     end-of s place rest left is ∙ ap (λ t. end_by place left t (is_outside s) s.root_seen) test
 
-pub end-inside : (s : State) (place : ℕ) (rest : List ℕ) (left : ℕ) → length rest ≡ left → left ≤ 0 → is_outside s ≡ false → end_fault s place rest ≡ Some (record { kind = truncated; place = place })
+pub end-inside : (s : State) (place : ℕ) (rest : List ℕ) (left : ℕ) → length rest ≡ left → left ≤ 0 → is_outside s ≡ false → end_fault s place rest ≡ Some (fault_at Truncated place)
 end-inside s place rest left is none inside = end-none s place rest left is none ∙ ap (λ t. end_by place left false t s.root_seen) inside
 
 pub end-unseen : (s : State) (place : ℕ) (rest : List ℕ) (left : ℕ) → length rest ≡ left → left ≤ 0 → is_outside s ≡ true → s.root_seen ≡ false
-    → end_fault s place rest ≡ Some (record { kind = no_root; place = place })
+    → end_fault s place rest ≡ Some (fault_at NoRoot place)
 end-unseen s place rest left is none outside unseen =
     end-none s place rest left is none ∙ ap (λ t. end_by place left false t s.root_seen) outside ∙ ap (end_by place left false true) unseen
 

@@ -1,12 +1,12 @@
 -- What bytes tell goes on with more bytes, and at their end.
-use Rattle.std.proofs.Common.{◌≡◌, ℕ, Bool, true, false, List, [], ◌∷◌, ◌++◌, length, refl, sym, ap, ◌∙◌, arith, Some, None}
+use Rattle.std.proofs.Common.{◌≡◌, ℕ, Bool, true, false, List, [], ◌++◌, sym, ap, ◌∙◌, arith, Some}
 use Rattle.std.proofs.lemmas.List.{append-nil}
 use Rattle.std.proofs.lemmas.Option.{none-some}
-use Rattle.xml_state.specs.Events.{Event, with_events}
-use Rattle.xml_state.specs.Limits.{Limits}
+use Rattle.xml_state.specs.Events.{Event}
+use Rattle.xml_state.specs.declared.limits.Limits.{Limits}
 use Rattle.xml_state.specs.States.{begin}
-use Rattle.xml_profile.specs.TokenByToken.{Standing, waits, stopped, Read, outset, read, resume, read_front, read_whole}
-use Rattle.xml_tokens.specs.Faults.{Fault}
+use Rattle.xml_profile.specs.TokenByToken.{Standing, waits, stopped, Read, outset, resume, read_front, read_whole}
+use Rattle.xml_state.specs.declared.fault.XmlFault.{XmlFault}
 use Rattle.xml_profile.specs.Profile.{settled_of, fault_of_whole, settled_fault, first_fault}
 use Rattle.xml_profile.specs.Readers.{MovesWithin}
 use Rattle.xml_profile.proofs.ReadCutLemmas.{going_on}
@@ -37,7 +37,7 @@ stays-whole limits a taken = record {
 }
 
 -- A fault that is settled is the first fault of whatever goes on.
-pub settled-first : (limits : Limits) (a b : List ℕ) (fault : Fault) → settled_fault limits a ≡ Some fault → first_fault limits (a ++ b) ≡ Some fault
+pub settled-first : (limits : Limits) (a b : List ℕ) (fault : XmlFault) → settled_fault limits a ≡ Some fault → first_fault limits (a ++ b) ≡ Some fault
 unfolding first_fault settled_fault resume
 settled-first limits a b fault h = ap (λ (r : Read). fault_of_whole r.stands) (front-grows true limits a b) ∙ by (read_front limits a).stands h
   where

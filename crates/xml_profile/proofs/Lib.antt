@@ -12,3 +12,4 @@ pub mod CourseLemmas
 pub mod FeedLemmas
 pub mod ReaderLemmas
 pub mod FinishLemmas
+pub mod MemoryLemmas

@@ -1,25 +1,26 @@
 -- Reading in two pieces.
-use Rattle.std.proofs.Common.{◌≡◌, ℕ, zero, suc, pred, ◌+◌, ◌<◌, ◌≤◌, ◌==◌, Bool, true, false, ◌||◌, ◌&&◌, not, nat_le, List, [], ◌∷◌, ◌++◌, length, refl, sym, ap, ◌∙◌, arith, Option, Some, None, if◌then◌else◌}
-use Rattle.std.proofs.lemmas.List.{append_assoc, append-nil, length-append}
+use Rattle.std.proofs.Common.{◌≡◌, ℕ, zero, suc, pred, ◌+◌, ◌≤◌, ◌==◌, Bool, true, false, nat_le, List, [], ◌∷◌, ◌++◌, length, refl, sym, ap, ◌∙◌, arith, Option, Some, None, if◌then◌else◌}
+use Rattle.std.proofs.lemmas.List.{append_assoc, length-append}
 use Rattle.std.proofs.lemmas.Bool.Decides.{nat_tests}
-use Rattle.xml_state.specs.Events.{Event}
-use Rattle.xml_tokens.specs.Faults.{FaultKind, Fault, too_long}
-use Rattle.xml_state.specs.Limits.{Limits}
+use Rattle.xml_tokens.specs.declared.kind.XmlKind.{XmlKind}
+use Rattle.xml_tokens.specs.declared.kind.XmlKind.TheVariants.{TooLong}
+use Rattle.xml_state.specs.declared.limits.Limits.{Limits}
 use Rattle.xml_tokens.specs.Markup.{Token}
-use Rattle.xml_tokens.specs.Beginnings.{Position, Beginning, good, bad, later, beginning, sure_length}
+use Rattle.xml_tokens.specs.Beginnings.{Beginning, good, bad, later, beginning, sure_length}
+use Rattle.xml_tokens.specs.declared.beginning.Position.{Position}
 use Rattle.xml_state.specs.States.{State, state_behind, events_of}
 use Rattle.xml_state.specs.Admission.{fault_of}
 use Rattle.xml_tokens.proofs.BeginningLemmas.{From, Stays, same, goes_on, Within}
-use Rattle.xml_profile.specs.TokenByToken.{Standing, waits, stopped, Read, telling, fault_at, fault_within, unfinished, read, resume}
+use Rattle.xml_profile.specs.TokenByToken.{waits, Read, telling, stops_at, fault_within, unfinished, read, resume}
 
 abbrev pub turn : Bool → Limits → State → ℕ → ℕ → List ℕ → Beginning → Read
 turn ended limits s place b bytes x = elim x [
   | later ↦ unfinished limits s place b bytes
   | (bad kind n) ↦ fault_within limits (place + n) kind place
   | (good token n) ↦ elim (nat_le (place + n) limits.bytes) [
-    | false ↦ fault_at too_long limits.bytes
+    | false ↦ stops_at TooLong limits.bytes
     | true ↦ elim (fault_of limits s token) [
-      | (Some kind) ↦ fault_at kind place
+      | (Some kind) ↦ stops_at kind place
       | None ↦ telling (events_of s token place) (read ended limits (state_behind s token) (place + 1) (pred n) bytes)
     ]
   ]
@@ -50,9 +51,9 @@ module _ (e : Bool) (limits : Limits) (a b : List ℕ)
   unfolding resume
   good-turn s place c token n w = by (nat_le (place + n) limits.bytes) (fault_of limits s token)
     where
-      by : (t : Bool) (f : Option FaultKind) →
-          (elim t [ false ↦ fault_at too_long limits.bytes | true ↦ elim f [ (Some kind) ↦ fault_at kind place | None ↦ telling (events_of s token place) (read e limits (state_behind s token) (place + 1) (pred n) (a ++ b)) ] ])
-          ≡ going_on e limits (elim t [ false ↦ fault_at too_long limits.bytes | true ↦ elim f [ (Some kind) ↦ fault_at kind place | None ↦ telling (events_of s token place) (read false limits (state_behind s token) (place + 1) (pred n) a) ] ]) b
+      by : (t : Bool) (f : Option XmlKind) →
+          (elim t [ false ↦ stops_at TooLong limits.bytes | true ↦ elim f [ (Some kind) ↦ stops_at kind place | None ↦ telling (events_of s token place) (read e limits (state_behind s token) (place + 1) (pred n) (a ++ b)) ] ])
+          ≡ going_on e limits (elim t [ false ↦ stops_at TooLong limits.bytes | true ↦ elim f [ (Some kind) ↦ stops_at kind place | None ↦ telling (events_of s token place) (read false limits (state_behind s token) (place + 1) (pred n) a) ] ]) b
       by false f = refl
       by true (Some kind) = refl
       by true None =
@@ -61,12 +62,12 @@ module _ (e : Bool) (limits : Limits) (a b : List ℕ)
           ap (telling (events_of s token place)) (rest (state_behind s token) (place + 1) (pred n) fits)
           ∙ ap (λ es. record { events = es; stands = (resume e limits r.stands b).stands }) (sym (append_assoc (events_of s token place) r.events (resume e limits r.stands b).events))
 
-  bad-turn : (s : State) (place c : ℕ) (kind : FaultKind) (n : ℕ)
+  bad-turn : (s : State) (place c : ℕ) (kind : XmlKind) (n : ℕ)
       → turn e limits s place c (a ++ b) (bad kind n) ≡ going_on e limits (turn false limits s place c a (bad kind n)) b
   unfolding resume
   bad-turn s place c kind n = by (nat_le (place + n) limits.bytes)
     where
-      by : (t : Bool) → (if t then fault_at kind place else fault_at too_long limits.bytes) ≡ going_on e limits (if t then fault_at kind place else fault_at too_long limits.bytes) b
+      by : (t : Bool) → (if t then stops_at kind place else stops_at TooLong limits.bytes) ≡ going_on e limits (if t then stops_at kind place else stops_at TooLong limits.bytes) b
       by true = refl
       by false = refl
 
@@ -76,13 +77,13 @@ module _ (e : Bool) (limits : Limits) (a b : List ℕ)
   unfolding resume
   later-turn s place c m from is = by (nat_le (place + sure_length c a) limits.bytes) refl
     where
-      past : (m : Beginning) → From (sure_length c a) m → nat_le (place + sure_length c a) limits.bytes ≡ false → turn e limits s place c (a ++ b) m ≡ fault_at too_long limits.bytes
-      past (good token n) from h = ap (λ t. elim t [ false ↦ fault_at too_long limits.bytes | true ↦ elim (fault_of limits s token) [ (Some kind) ↦ fault_at kind place | None ↦ telling (events_of s token place) (read e limits (state_behind s token) (place + 1) (pred n) (a ++ b)) ] ]) (exceeds place (sure_length c a) n limits.bytes h from)
-      past (bad kind n) from h = ap (λ t. if t then fault_at kind place else fault_at too_long limits.bytes) (exceeds place (sure_length c a) n limits.bytes h from)
-      past later from h = ap (λ t. if t then record { events = []; stands = waits s place (c ∷ (a ++ b)) } else fault_at too_long limits.bytes) (exceeds place (sure_length c a) (sure_length c (a ++ b)) limits.bytes h (sure-grows c a b))
+      past : (m : Beginning) → From (sure_length c a) m → nat_le (place + sure_length c a) limits.bytes ≡ false → turn e limits s place c (a ++ b) m ≡ stops_at TooLong limits.bytes
+      past (good token n) from h = ap (λ t. elim t [ false ↦ stops_at TooLong limits.bytes | true ↦ elim (fault_of limits s token) [ (Some kind) ↦ stops_at kind place | None ↦ telling (events_of s token place) (read e limits (state_behind s token) (place + 1) (pred n) (a ++ b)) ] ]) (exceeds place (sure_length c a) n limits.bytes h from)
+      past (bad kind n) from h = ap (λ t. if t then stops_at kind place else stops_at TooLong limits.bytes) (exceeds place (sure_length c a) n limits.bytes h from)
+      past later from h = ap (λ t. if t then record { events = []; stands = waits s place (c ∷ (a ++ b)) } else stops_at TooLong limits.bytes) (exceeds place (sure_length c a) (sure_length c (a ++ b)) limits.bytes h (sure-grows c a b))
 
       by : (t : Bool) → nat_le (place + sure_length c a) limits.bytes ≡ t
-          → turn e limits s place c (a ++ b) m ≡ going_on e limits (if t then record { events = []; stands = waits s place (c ∷ a) } else fault_at too_long limits.bytes) b
+          → turn e limits s place c (a ++ b) m ≡ going_on e limits (if t then record { events = []; stands = waits s place (c ∷ a) } else stops_at TooLong limits.bytes) b
       by true h = ap (turn e limits s place c (a ++ b)) is ∙ sym (read-turn e limits s place c (a ++ b))
       by false h = past m from h
 

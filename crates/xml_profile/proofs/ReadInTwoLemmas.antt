@@ -1,6 +1,6 @@
 -- Reading in two pieces is reading in one, wherever the bytes are cut.
 use Rattle.std.proofs.Common.{◌≡◌, ℕ, ◌≤◌, Bool, false, List, ◌++◌, length}
-use Rattle.xml_state.specs.Limits.{Limits}
+use Rattle.xml_state.specs.declared.limits.Limits.{Limits}
 use Rattle.xml_state.specs.States.{State}
 use Rattle.xml_profile.specs.TokenByToken.{read}
 use Rattle.xml_tokens.proofs.BeginningLemmas.{beginning-stays}

@@ -1,12 +1,16 @@
--- Inputs with their first fault, the fault that is settled, or the document, as the rules give them: the definitions compute these.
+-- Inputs with their first fault, the fault that is settled, or the document, as the rules give them: the definitions
+-- compute these.
 use Rattle.std.specs.Prelude.{ℕ, ◌≡◌, true, List, [], ◌∷◌, ◌++◌, Option, Some, None, Result, Ok, Err, codes, refl}
 use Rattle.std.specs.Str.{is_utf8, chars}
 use Rattle.std.specs.Char.{encode_utf8}
 use Rattle.inv_base.specs.Characters.{is_char, is_white_space, is_name_start, is_name_char}
 use Rattle.inv_base.specs.Tree.{Name, Forest, no_more, a_text, an_element}
+use Rattle.xml_state.specs.Faults.{fault_at}
 use Rattle.xml_state.specs.Events.{Event, starts, has_attribute, has_text, ends, tree_of_events}
-use Rattle.xml_tokens.specs.Faults.{Fault, FaultKind, not_utf8, bad_char, doctype, bad_declaration, bad_markup, bad_reference, text_outside, too_many_attributes, name_too_long, mismatched, second_root, bad_namespace, undeclared_prefix, duplicate_attribute, too_deep, too_many_names, too_many_nodes, too_long, truncated, no_root}
-use Rattle.xml_state.specs.Limits.{Limits}
+use Rattle.xml_tokens.specs.declared.kind.XmlKind.{XmlKind}
+use Rattle.xml_tokens.specs.declared.kind.XmlKind.TheVariants.{NotUtf8, BadChar, Doctype, BadDeclaration, BadMarkup, BadReference, TextOutside, TooManyAttributes, NameTooLong, Mismatched, SecondRoot, BadNamespace, UndeclaredPrefix, DuplicateAttribute, TooDeep, TooManyNames, TooManyNodes, TooLong, Truncated, NoRoot}
+use Rattle.xml_state.specs.declared.fault.XmlFault.{XmlFault}
+use Rattle.xml_state.specs.declared.limits.Limits.{Limits}
 use Rattle.xml_tokens.specs.Encoding.{character_at}
 use Rattle.xml_tokens.specs.References.{referred, reference_at}
 use Rattle.xml_tokens.specs.WrittenNames.{is_qname}
@@ -25,10 +29,10 @@ ample = record { bytes = 16777216; nodes = 1000000; depth = 100; attributes = 64
 abbrev small : Limits
 small = record { bytes = 32; nodes = 5; depth = 2; attributes = 2; name = 8; names = 3 }
 
-abbrev fault : FaultKind → ℕ → Option Fault
-fault kind place = Some (record { kind = kind; place = place })
+abbrev fault : XmlKind → ℕ → Option XmlFault
+fault kind place = Some (fault_at kind place)
 
-abbrev tree_in : Result Document Fault → Option Forest
+abbrev tree_in : Result Document XmlFault → Option Forest
 tree_in (Ok d) = Some (tree_of d)
 tree_in (Err f) = None
 
@@ -40,15 +44,15 @@ abbrev in_space : List ℕ → List ℕ → Name
 in_space uri local = record { uri = uri; local = local }
 
 -- the answers, with all definitions open
-abbrev first : Limits → List ℕ → Option Fault
+abbrev first : Limits → List ℕ → Option XmlFault
 unfolding document first_fault settled_fault resume read beginning extent comment section is_declaration instruction attribute_at tag_inside value_of start_tag end_tag is_qname character_at reference_at referred fault_of state_behind events_of tree_of_events is_utf8 chars encode_utf8 is_char is_white_space is_name_start is_name_char
 first limits bytes = first_fault limits bytes
 
-abbrev settled : Limits → List ℕ → Option Fault
+abbrev settled : Limits → List ℕ → Option XmlFault
 unfolding document first_fault settled_fault resume read beginning extent comment section is_declaration instruction attribute_at tag_inside value_of start_tag end_tag is_qname character_at reference_at referred fault_of state_behind events_of tree_of_events is_utf8 chars encode_utf8 is_char is_white_space is_name_start is_name_char
 settled limits bytes = settled_fault limits bytes
 
-abbrev read_as : Limits → List ℕ → Result Document Fault
+abbrev read_as : Limits → List ℕ → Result Document XmlFault
 unfolding document first_fault settled_fault resume read beginning extent comment section is_declaration instruction attribute_at tag_inside value_of start_tag end_tag is_qname character_at reference_at referred fault_of state_behind events_of tree_of_events is_utf8 chars encode_utf8 is_char is_white_space is_name_start is_name_char
 read_as limits bytes = document limits bytes
 
@@ -61,7 +65,7 @@ abbrev events_in_two : Limits → List ℕ → List ℕ → List Event
 unfolding document first_fault settled_fault resume read beginning extent comment section is_declaration instruction attribute_at tag_inside value_of start_tag end_tag is_qname character_at reference_at referred fault_of state_behind events_of tree_of_events is_utf8 chars encode_utf8 is_char is_white_space is_name_start is_name_char
 events_in_two limits bytes piece = (read_front limits bytes).events ++ (resume true limits (read_front limits bytes).stands piece).events
 
-abbrev fault_in_two : Limits → List ℕ → List ℕ → Option Fault
+abbrev fault_in_two : Limits → List ℕ → List ℕ → Option XmlFault
 unfolding document first_fault settled_fault resume read beginning extent comment section is_declaration instruction attribute_at tag_inside value_of start_tag end_tag is_qname character_at reference_at referred fault_of state_behind events_of tree_of_events is_utf8 chars encode_utf8 is_char is_white_space is_name_start is_name_char
 fault_in_two limits bytes piece = fault_of_whole (resume true limits (read_front limits bytes).stands piece).stands
 
@@ -97,95 +101,95 @@ row_8 : read_as ample (((0xEF ∷ 0xBB ∷ 0xBF ∷ [])) ++ ((codes "<?xml versi
 unfolding read_as
 row_8 = refl
 
-row_9 : first ample (codes "<a>&#x20AC;]]></a>") ≡ fault bad_markup 11
+row_9 : first ample (codes "<a>&#x20AC;]]></a>") ≡ fault BadMarkup 11
 unfolding first
 row_9 = refl
 
-row_10 : first ample ((codes "<a>") ++ (((0xED ∷ 0xA0 ∷ 0x80 ∷ [])) ++ (codes "</a>"))) ≡ fault not_utf8 3
+row_10 : first ample ((codes "<a>") ++ (((0xED ∷ 0xA0 ∷ 0x80 ∷ [])) ++ (codes "</a>"))) ≡ fault NotUtf8 3
 unfolding first
 row_10 = refl
 
-row_11 : first ample ((codes "<a>") ++ (((0xEF ∷ 0xBF ∷ 0xBE ∷ [])) ++ (codes "</a>"))) ≡ fault bad_char 3
+row_11 : first ample ((codes "<a>") ++ (((0xEF ∷ 0xBF ∷ 0xBE ∷ [])) ++ (codes "</a>"))) ≡ fault BadChar 3
 unfolding first
 row_11 = refl
 
-row_12 : first ample (codes "<!DOCTYPE a><a/>") ≡ fault doctype 0
+row_12 : first ample (codes "<!DOCTYPE a><a/>") ≡ fault Doctype 0
 unfolding first
 row_12 = refl
 
-row_13 : first ample (codes "<a/><?xml version=\"1.0\"?>") ≡ fault bad_declaration 4
+row_13 : first ample (codes "<a/><?xml version=\"1.0\"?>") ≡ fault BadDeclaration 4
 unfolding first
 row_13 = refl
 
-row_14 : first ample (codes "<a b=\"&x;\" c/>") ≡ fault bad_markup 0
+row_14 : first ample (codes "<a b=\"&x;\" c/>") ≡ fault BadMarkup 0
 unfolding first
 row_14 = refl
 
-row_15 : first ample (codes "<a b=\"&#xD800;\"/>") ≡ fault bad_reference 0
+row_15 : first ample (codes "<a b=\"&#xD800;\"/>") ≡ fault BadReference 0
 unfolding first
 row_15 = refl
 
-row_16 : first ample (codes "<a/>&#x20;") ≡ fault text_outside 4
+row_16 : first ample (codes "<a/>&#x20;") ≡ fault TextOutside 4
 unfolding first
 row_16 = refl
 
-row_17 : first ample (codes "<p:a xmlns:p=\"u\" xmlns:q=\"u\"></q:a>") ≡ fault mismatched 29
+row_17 : first ample (codes "<p:a xmlns:p=\"u\" xmlns:q=\"u\"></q:a>") ≡ fault Mismatched 29
 unfolding first
 row_17 = refl
 
-row_18 : first ample (codes "<a/><b/>") ≡ fault second_root 4
+row_18 : first ample (codes "<a/><b/>") ≡ fault SecondRoot 4
 unfolding first
 row_18 = refl
 
-row_19 : first ample (codes "<a xmlns:p=\"\"/>") ≡ fault bad_namespace 0
+row_19 : first ample (codes "<a xmlns:p=\"\"/>") ≡ fault BadNamespace 0
 unfolding first
 row_19 = refl
 
-row_20 : first ample (codes "<a p:b=\"\" p:b=\"\"/>") ≡ fault undeclared_prefix 0
+row_20 : first ample (codes "<a p:b=\"\" p:b=\"\"/>") ≡ fault UndeclaredPrefix 0
 unfolding first
 row_20 = refl
 
-row_21 : first ample (codes "<a xmlns:p=\"u\" xmlns:q=\"u\" p:x=\"\" q:x=\"\"/>") ≡ fault duplicate_attribute 0
+row_21 : first ample (codes "<a xmlns:p=\"u\" xmlns:q=\"u\" p:x=\"\" q:x=\"\"/>") ≡ fault DuplicateAttribute 0
 unfolding first
 row_21 = refl
 
-row_22 : first small (codes "<a b=\"\" c=\"\" xmlns=\"\"/>") ≡ fault too_many_attributes 0
+row_22 : first small (codes "<a b=\"\" c=\"\" xmlns=\"\"/>") ≡ fault TooManyAttributes 0
 unfolding first
 row_22 = refl
 
-row_23 : first small (codes "<abcdefghi>") ≡ fault name_too_long 0
+row_23 : first small (codes "<abcdefghi>") ≡ fault NameTooLong 0
 unfolding first
 row_23 = refl
 
-row_24 : first small (codes "<a><b><c>") ≡ fault too_deep 6
+row_24 : first small (codes "<a><b><c>") ≡ fault TooDeep 6
 unfolding first
 row_24 = refl
 
-row_25 : first small (codes "<a b=\"\"><a c=\"\"/><d/>") ≡ fault too_many_names 17
+row_25 : first small (codes "<a b=\"\"><a c=\"\"/><d/>") ≡ fault TooManyNames 17
 unfolding first
 row_25 = refl
 
-row_26 : first small (codes "<a b=\"\"><a/>x<!---->y<a/>") ≡ fault too_many_nodes 21
+row_26 : first small (codes "<a b=\"\"><a/>x<!---->y<a/>") ≡ fault TooManyNodes 21
 unfolding first
 row_26 = refl
 
-row_27 : first small (codes "<a/>                           ]x") ≡ fault text_outside 31
+row_27 : first small (codes "<a/>                           ]x") ≡ fault TextOutside 31
 unfolding first
 row_27 = refl
 
-row_28 : first small (codes "<a/>                           \r\n") ≡ fault too_long 32
+row_28 : first small (codes "<a/>                           \r\n") ≡ fault TooLong 32
 unfolding first
 row_28 = refl
 
-row_29 : first ample [] ≡ fault no_root 0
+row_29 : first ample [] ≡ fault NoRoot 0
 unfolding first
 row_29 = refl
 
-row_30 : first ample (codes "<a>&#x20") ≡ fault truncated 8
+row_30 : first ample (codes "<a>&#x20") ≡ fault Truncated 8
 unfolding first
 row_30 = refl
 
-row_31 : first ample (codes "<!--->") ≡ fault truncated 6
+row_31 : first ample (codes "<!--->") ≡ fault Truncated 6
 unfolding first
 row_31 = refl
 
@@ -197,7 +201,7 @@ row_33 : settled ample (codes "<a/>]]") ≡ None
 unfolding settled
 row_33 = refl
 
-row_34 : settled ample (codes "<a/>]x") ≡ fault text_outside 4
+row_34 : settled ample (codes "<a/>]x") ≡ fault TextOutside 4
 unfolding settled
 row_34 = refl
 
@@ -209,10 +213,10 @@ row_36 : events_in_two ample ((codes "<a>") ++ ((0xE2 ∷ 0x82 ∷ []))) (((0xAC
 unfolding events_in_two
 row_36 = refl
 
-row_37 : fault_in_two ample (codes "<a>\r") (codes "\n]]></a>") ≡ fault bad_markup 5
+row_37 : fault_in_two ample (codes "<a>\r") (codes "\n]]></a>") ≡ fault BadMarkup 5
 unfolding fault_in_two
 row_37 = refl
 
-row_38 : fault_in_two ample (codes "<a>&#x20AC;]") (codes "]></a>") ≡ fault bad_markup 11
+row_38 : fault_in_two ample (codes "<a>&#x20AC;]") (codes "]></a>") ≡ fault BadMarkup 11
 unfolding fault_in_two
 row_38 = refl

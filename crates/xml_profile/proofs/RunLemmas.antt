@@ -1,27 +1,29 @@
 -- Characters that are tokens one by one, read as a run.
-use Rattle.std.proofs.Common.{◌≡◌, ℕ, ◌+◌, ◌-◌, ◌<◌, ◌≤◌, Bool, true, false, ◌&&◌, nat_le, List, [], ◌∷◌, ◌++◌, length, drop, refl, sym, ap, ◌∙◌, subst, arith, Some, None, if◌then◌else◌}
+use Rattle.std.proofs.Common.{◌≡◌, ℕ, ◌+◌, ◌-◌, ◌<◌, ◌≤◌, Bool, true, false, nat_le, List, [], ◌∷◌, ◌++◌, length, drop, refl, sym, ap, ◌∙◌, subst, arith, Some, None, if◌then◌else◌}
 use Rattle.std.specs.List.{list_all}
 use Rattle.std.specs.Char.{encode_utf8}
 use Rattle.std.specs.Prelude.{encode_utf8_all}
 use Rattle.std.specs.Str.{chars, IsUtf8}
 use Rattle.std.proofs.lemmas.Bool.Decides.{nat_tests}
-use Rattle.std.proofs.lemmas.List.{append_assoc, append-nil, length-append, length-drop, drop_at}
+use Rattle.std.proofs.lemmas.List.{append_assoc, length-append, drop_at}
 use Rattle.inv_base.proofs.TextLemmas.{both, encode-chars}
 use Rattle.inv_base.specs.Characters.{is_white_space}
-use Rattle.xml_tokens.specs.Faults.{text_outside, too_many_nodes}
+use Rattle.xml_tokens.specs.declared.kind.XmlKind.TheVariants.{TextOutside, TooManyNodes}
 use Rattle.xml_tokens.specs.Markup.{a_character}
-use Rattle.xml_tokens.specs.Beginnings.{beginning, good, farther}
+use Rattle.xml_tokens.specs.Beginnings.{beginning, good}
+use Rattle.xml_tokens.specs.declared.beginning.Position.TheVariants.{Farther}
 use Rattle.xml_tokens.specs.Runs.{is_plain}
-use Rattle.xml_tokens.specs.Searching.{Searched, fresh, Fits}
+use Rattle.xml_tokens.specs.Searching.{fresh}
 use Rattle.xml_tokens.proofs.SearchingLemmas.{fresh-fits}
-use Rattle.xml_state.specs.Events.{Event, has_text, with_event, TakesAll}
-use Rattle.xml_state.specs.Limits.{Limits}
-use Rattle.xml_state.specs.States.{State, is_outside, behind_aside, behind_text, state_behind, text_events, events_of}
-use Rattle.xml_state.specs.Admission.{is_text_too_many, text_fault, fault_of}
+use Rattle.xml_state.specs.Faults.{fault_at}
+use Rattle.xml_state.specs.Events.{Event, has_text}
+use Rattle.xml_state.specs.declared.limits.Limits.{Limits}
+use Rattle.xml_state.specs.States.{State, is_outside, behind_aside, behind_text, state_behind, events_of}
+use Rattle.xml_state.specs.Admission.{is_text_too_many, fault_of}
 use Rattle.xml_state.specs.Taking.{AdvancesText, RefusedText, text_of_memory, text_too_many}
 use Rattle.xml_state.specs.declared.fault.XmlFault.{XmlFault}
-use Rattle.xml_profile.specs.TokenByToken.{telling, read, fault_at}
-use Rattle.xml_profile.specs.Courses.{IsAt, GoesOn, Breaks}
+use Rattle.xml_profile.specs.TokenByToken.{telling, read}
+use Rattle.xml_profile.specs.Courses.{GoesOn, Breaks}
 use Rattle.xml_profile.specs.declared.cursor.Cursor.{Cursor}
 use Rattle.xml_tokens.proofs.RunLemmas.{plain-begins}
 use Rattle.xml_profile.proofs.TokenLemmas.{read-good, read-refused}
@@ -30,21 +32,21 @@ use Rattle.xml_profile.proofs.TurnLemmas.{breaks-at-once, breaks-at}
 
 -- A text may go on or begin in the state.
 record MayHaveText (limits : Limits) (s : State) : Type 0 where
-  pub position : s.position ≡ farther
+  pub position : s.position ≡ Farther
   pub inside : is_outside s ≡ false
   pub room : is_text_too_many limits s ≡ false
 
 text-admitted : (limits : Limits) (s : State) (c : ℕ) → MayHaveText limits s → fault_of limits s (a_character c) ≡ None
 unfolding fault_of
 text-admitted limits s c may =
-    ap (λ t. if t then (if is_white_space c then None else Some text_outside) else (if is_text_too_many limits s then Some too_many_nodes else None)) may.inside
-    ∙ ap (λ t. if t then Some too_many_nodes else None) may.room
+    ap (λ t. if t then (if is_white_space c then None else Some TextOutside) else (if is_text_too_many limits s then Some TooManyNodes else None)) may.inside
+    ∙ ap (λ t. if t then Some TooManyNodes else None) may.room
 
-text-refused : (limits : Limits) (s : State) (c : ℕ) → is_outside s ≡ false → is_text_too_many limits s ≡ true → fault_of limits s (a_character c) ≡ Some too_many_nodes
+text-refused : (limits : Limits) (s : State) (c : ℕ) → is_outside s ≡ false → is_text_too_many limits s ≡ true → fault_of limits s (a_character c) ≡ Some TooManyNodes
 unfolding fault_of
 text-refused limits s c inside full =
-    ap (λ t. if t then (if is_white_space c then None else Some text_outside) else (if is_text_too_many limits s then Some too_many_nodes else None)) inside
-    ∙ ap (λ t. if t then Some too_many_nodes else None) full
+    ap (λ t. if t then (if is_white_space c then None else Some TextOutside) else (if is_text_too_many limits s then Some TooManyNodes else None)) inside
+    ∙ ap (λ t. if t then Some TooManyNodes else None) full
 
 text-behind : (s : State) (c : ℕ) → state_behind s (a_character c) ≡ behind_text s
 unfolding state_behind
@@ -56,7 +58,7 @@ text-told s c place inside = ap (λ t. if t then [] else has_text (c ∷ []) pla
 
 -- the state behind a text inside an element
 abbrev in_text : State → State
-in_text s = record s { position = farther; in_text = true; nodes = if s.in_text then s.nodes else s.nodes + 1 }
+in_text s = record s { position = Farther; in_text = true; nodes = if s.in_text then s.nodes else s.nodes + 1 }
 
 behind-inside : (s : State) → is_outside s ≡ false → behind_text s ≡ in_text s
 behind-inside s inside = ap (λ t. if t then behind_aside s else in_text s) inside
@@ -72,7 +74,7 @@ module _ (e : Bool) (limits : Limits) where
       → read e limits s place 0 (encode_utf8 c ++ rest) ≡ telling (has_text (c ∷ []) place ∷ []) (read e limits (behind_text s) (place + length (encode_utf8 c)) 0 rest)
   one s may c place rest plain within =
       let n = length (encode_utf8 c) in
-      let begun : beginning s.position e (encode_utf8 c ++ rest) ≡ good (a_character c) n = ap (λ p. beginning p e (encode_utf8 c ++ rest)) may.position ∙ plain-begins farther e c rest refl plain in
+      let begun : beginning s.position e (encode_utf8 c ++ rest) ≡ good (a_character c) n = ap (λ p. beginning p e (encode_utf8 c ++ rest)) may.position ∙ plain-begins Farther e c rest refl plain in
       let room : nat_le (place + n) limits.bytes ≡ true = grind (arith, nat_tests) in
       read-good e limits s place (encode_utf8 c ++ rest) (a_character c) n begun room (text-admitted limits s c may)
       ∙ ap (λ events. telling events (read e limits (state_behind s (a_character c)) (place + n) 0 (drop n (encode_utf8 c ++ rest)))) (text-told s c place may.inside)
@@ -136,13 +138,13 @@ run-at limits place bytes within text utf8 some plain outer room inner fits =
     record { utf8 = utf8; some = some; plain = plain; parts = front-of-front bytes within text outer inner; within = omega (arith, lengths) }
 
 module _ (e : Bool) (limits : Limits) (old : Cursor) (bytes : List ℕ) (before after : List Event → Type 0) where
-  text-taken : (nest : State) (search : Searched) (rest text characters : List ℕ) → old.nest.position ≡ farther → is_outside old.nest ≡ false → encode_utf8_all characters ≡ text
-      → list_all is_plain characters ≡ true → 0 < length text → bytes ≡ text ++ rest → old.place + length text ≤ limits.bytes → search ≡ fresh
+  text-taken : (nest : State) (rest text characters : List ℕ) → old.nest.position ≡ Farther → is_outside old.nest ≡ false → encode_utf8_all characters ≡ text
+      → list_all is_plain characters ≡ true → 0 < length text → bytes ≡ text ++ rest → old.place + length text ≤ limits.bytes
       → AdvancesText limits old.nest nest characters old.place before after
-      → (length rest < length bytes) × GoesOn e limits old (record { nest = nest; place = old.place + length text; search = search }) bytes rest before after
-  text-taken nest search rest text [] position inside spells plain some parts within anew advances =
+      → (length rest < length bytes) × GoesOn e limits old (record { nest = nest; place = old.place + length text; search = fresh }) bytes rest before after
+  text-taken nest rest text [] position inside spells plain some parts within advances =
       let none : 0 ≡ length text = ap length spells in absurd (omega arith)
-  text-taken nest search rest text (c ∷ characters) position inside spells plain some parts within anew advances =
+  text-taken nest rest text (c ∷ characters) position inside spells plain some parts within advances =
       let lengths : length bytes ≡ length text + length rest = ap length parts ∙ length-append text rest in
       let whole = c ∷ characters in
       let fits : old.place + length (encode_utf8_all whole) ≤ limits.bytes = omega (arith, within, ap length spells) in (
@@ -156,18 +158,18 @@ module _ (e : Bool) (limits : Limits) (old : Cursor) (bytes : List ℕ) (before 
               ∙ ap (λ s. telling (run_events whole old.place) (read e limits s (old.place + length (encode_utf8_all whole)) 0 rest)) (sym advances.behind)
               ∙ ap (λ t. telling (run_events whole old.place) (read e limits nest (old.place + length t) 0 rest)) spells;
           told = λ events taken. subst after (sym (run-told events c characters old.place)) (advances.told events taken);
-          at = record { within = within; fits = let P : Searched → Type 0 = λ s. Fits s rest in subst P (sym anew) (fresh-fits rest) };
+          at = record { within = within; fits = fresh-fits rest };
         },
       )
 
   -- A run of characters was taken.
-  pub run-taken : (nest : State) (search : Searched) (rest text : List ℕ) → old.nest.position ≡ farther → is_outside old.nest ≡ false → IsRun limits old.place bytes text
-      → search ≡ fresh → AdvancesText limits old.nest nest (chars text) old.place before after → rest ≡ drop (length text) bytes
-      → (length rest < length bytes) × GoesOn e limits old (record { nest = nest; place = old.place + length text; search = search }) bytes rest before after
-  run-taken nest search rest text position inside run anew advances behind =
-      text-taken nest search rest text (chars text) position inside (encode-chars text run.utf8) run.plain run.some (run.parts ∙ ap (λ r. text ++ r) (sym behind)) run.within anew advances
+  pub run-taken : (nest : State) (rest text : List ℕ) → old.nest.position ≡ Farther → is_outside old.nest ≡ false → IsRun limits old.place bytes text
+      → AdvancesText limits old.nest nest (chars text) old.place before after → rest ≡ drop (length text) bytes
+      → (length rest < length bytes) × GoesOn e limits old (record { nest = nest; place = old.place + length text; search = fresh }) bytes rest before after
+  run-taken nest rest text position inside run advances behind =
+      text-taken nest rest text (chars text) position inside (encode-chars text run.utf8) run.plain run.some (run.parts ∙ ap (λ r. text ++ r) (sym behind)) run.within advances
 
-  text-refused-at : (rest text characters : List ℕ) (fault : XmlFault) → old.nest.position ≡ farther → is_outside old.nest ≡ false → encode_utf8_all characters ≡ text
+  text-refused-at : (rest text characters : List ℕ) (fault : XmlFault) → old.nest.position ≡ Farther → is_outside old.nest ≡ false → encode_utf8_all characters ≡ text
       → list_all is_plain characters ≡ true → 0 < length text → bytes ≡ text ++ rest → old.place + length text ≤ limits.bytes
       → RefusedText limits old.nest old.place before after fault → Breaks e limits old bytes before after fault
   text-refused-at rest text characters fault position inside spells plain some parts within (text_of_memory told) = breaks-at-once e limits old bytes before after told
@@ -184,12 +186,12 @@ module _ (e : Bool) (limits : Limits) (old : Cursor) (bytes : List ℕ) (before 
       parts ∙ ap (λ t. t ++ rest) (sym spells) ∙ append_assoc (encode_utf8 c) (encode_utf8_all characters) rest in
       let begun : beginning old.nest.position e bytes ≡ good (a_character c) n =
       ap (beginning old.nest.position e) here ∙ ap (λ p. beginning p e (encode_utf8 c ++ (encode_utf8_all characters ++ rest))) position
-      ∙ plain-begins farther e c (encode_utf8_all characters ++ rest) refl tests.0 in
-      breaks-at e limits old bytes before after (record { kind = too_many_nodes; place = old.place })
-      (read-refused e limits old.nest old.place bytes (a_character c) n too_many_nodes begun room (text-refused limits old.nest c inside full)) told
+      ∙ plain-begins Farther e c (encode_utf8_all characters ++ rest) refl tests.0 in
+      breaks-at e limits old bytes before after (fault_at TooManyNodes old.place)
+      (read-refused e limits old.nest old.place bytes (a_character c) n TooManyNodes begun room (text-refused limits old.nest c inside full)) told
 
   -- A run of characters was refused.
-  pub run-refused : (text : List ℕ) (fault : XmlFault) → old.nest.position ≡ farther → is_outside old.nest ≡ false → IsRun limits old.place bytes text
+  pub run-refused : (text : List ℕ) (fault : XmlFault) → old.nest.position ≡ Farther → is_outside old.nest ≡ false → IsRun limits old.place bytes text
       → RefusedText limits old.nest old.place before after fault → Breaks e limits old bytes before after fault
   run-refused text fault position inside run refused =
       text-refused-at (drop (length text) bytes) text (chars text) fault position inside (encode-chars text run.utf8) run.plain run.some run.parts run.within refused

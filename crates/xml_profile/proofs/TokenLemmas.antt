@@ -1,14 +1,15 @@
 -- Reading one token.
-use Rattle.std.proofs.Common.{◌≡◌, ℕ, zero, suc, pred, ◌+◌, ◌<◌, ◌≤◌, ◌==◌, Bool, true, false, nat_le, List, [], ◌∷◌, ◌++◌, length, drop, refl, sym, ap, ◌∙◌, subst, arith, Option, Some, None, if◌then◌else◌}
+use Rattle.std.proofs.Common.{◌≡◌, ℕ, zero, suc, pred, ◌+◌, ◌≤◌, ◌==◌, Bool, true, false, nat_le, List, [], ◌∷◌, length, drop, sym, ap, ◌∙◌, subst, arith, Option, Some, None, if◌then◌else◌}
 use Rattle.std.proofs.lemmas.Bool.Decides.{nat_tests}
-use Rattle.xml_tokens.specs.Faults.{FaultKind, too_long}
+use Rattle.xml_tokens.specs.declared.kind.XmlKind.{XmlKind}
+use Rattle.xml_tokens.specs.declared.kind.XmlKind.TheVariants.{TooLong}
 use Rattle.xml_tokens.specs.Markup.{Token}
 use Rattle.xml_tokens.specs.Beginnings.{Beginning, good, bad, later, beginning, sure_length}
 use Rattle.xml_tokens.proofs.BeginningLemmas.{Within}
-use Rattle.xml_state.specs.Limits.{Limits}
+use Rattle.xml_state.specs.declared.limits.Limits.{Limits}
 use Rattle.xml_state.specs.States.{State, state_behind, events_of}
 use Rattle.xml_state.specs.Admission.{fault_of}
-use Rattle.xml_profile.specs.TokenByToken.{Standing, waits, Read, telling, fault_at, fault_within, unfinished, read}
+use Rattle.xml_profile.specs.TokenByToken.{Read, telling, stops_at, fault_within, unfinished, read}
 use Rattle.xml_profile.proofs.ReadCutLemmas.{turn, read-turn}
 use Rattle.xml_profile.proofs.EndedLemmas.{begins-within, bracket-begins}
 
@@ -34,11 +35,11 @@ token-within s e [] token n is = absurd (later-nil token n is)
 token-within s e (c ∷ a) token n is = within-at (suc (length a)) (beginning s.position e (c ∷ a)) token n is (begins-within s.position e c a)
 
 -- a token, by whether it ends within the limit, and its fault
-abbrev by_room : Bool → Limits → State → ℕ → Token → ℕ → List ℕ → Bool → Option FaultKind → Read
+abbrev pub by_room : Bool → Limits → State → ℕ → Token → ℕ → List ℕ → Bool → Option XmlKind → Read
 by_room e limits s place token n a t f = elim t [
-  | false ↦ fault_at too_long limits.bytes
+  | false ↦ stops_at TooLong limits.bytes
   | true ↦ elim f [
-    | (Some kind) ↦ fault_at kind place
+    | (Some kind) ↦ stops_at kind place
     | None ↦ telling (events_of s token place) (read e limits (state_behind s token) (place + 1) (pred n) a)
   ]
 ]
@@ -62,8 +63,8 @@ read-good e limits s place (c ∷ a) token (suc k) is room admitted =
     ∙ ap (by_room e limits s place token (suc k) a true) admitted
     ∙ ap (telling (events_of s token place)) (read-drop e limits (state_behind s token) (place + 1) k a fits ∙ ap (λ p. read e limits (state_behind s token) p 0 (drop k a)) same)
 
-pub read-refused : (e : Bool) (limits : Limits) (s : State) (place : ℕ) (bytes : List ℕ) (token : Token) (n : ℕ) (kind : FaultKind) → beginning s.position e bytes ≡ good token n
-    → nat_le (place + n) limits.bytes ≡ true → fault_of limits s token ≡ Some kind → read e limits s place 0 bytes ≡ fault_at kind place
+pub read-refused : (e : Bool) (limits : Limits) (s : State) (place : ℕ) (bytes : List ℕ) (token : Token) (n : ℕ) (kind : XmlKind) → beginning s.position e bytes ≡ good token n
+    → nat_le (place + n) limits.bytes ≡ true → fault_of limits s token ≡ Some kind → read e limits s place 0 bytes ≡ stops_at kind place
 unfolding beginning
 read-refused e limits s place [] token n kind is room refused = absurd (later-nil token n is)
 read-refused e limits s place (c ∷ a) token n kind is room refused =
@@ -72,16 +73,16 @@ read-refused e limits s place (c ∷ a) token n kind is room refused =
     ∙ ap (by_room e limits s place token n a true) refused
 
 pub read-beyond : (e : Bool) (limits : Limits) (s : State) (place : ℕ) (bytes : List ℕ) (token : Token) (n : ℕ) → beginning s.position e bytes ≡ good token n
-    → nat_le (place + n) limits.bytes ≡ false → read e limits s place 0 bytes ≡ fault_at too_long limits.bytes
+    → nat_le (place + n) limits.bytes ≡ false → read e limits s place 0 bytes ≡ stops_at TooLong limits.bytes
 unfolding beginning
 read-beyond e limits s place [] token n is room = absurd (later-nil token n is)
 read-beyond e limits s place (c ∷ a) token n is room =
     read-begun e limits s place c a token n is ∙ ap (λ t. by_room e limits s place token n a t (fault_of limits s token)) room
 
-bad-nil : (kind : FaultKind) (n : ℕ) → later ≡ bad kind n → ⊥
+bad-nil : (kind : XmlKind) (n : ℕ) → later ≡ bad kind n → ⊥
 bad-nil kind n h = cc
 
-pub read-bad : (e : Bool) (limits : Limits) (s : State) (place : ℕ) (bytes : List ℕ) (kind : FaultKind) (n : ℕ) → beginning s.position e bytes ≡ bad kind n
+pub read-bad : (e : Bool) (limits : Limits) (s : State) (place : ℕ) (bytes : List ℕ) (kind : XmlKind) (n : ℕ) → beginning s.position e bytes ≡ bad kind n
     → read e limits s place 0 bytes ≡ fault_within limits (place + n) kind place
 unfolding beginning
 read-bad e limits s place [] kind n is = absurd (bad-nil kind n is)

@@ -1,10 +1,9 @@
 -- What reading a slice does to where reading stands, by the definition of reading from there.
-use Rattle.std.specs.Prelude.{◌≡◌, ℕ, ◌+◌, ◌<◌, ◌≤◌, Bool, true, ◌==◌, ◌||◌, List, [], ◌++◌, length, Result, MatchResult}
-use Rattle.xml_tokens.specs.Faults.{Fault}
+use Rattle.std.specs.Prelude.{◌≡◌, ℕ, ◌+◌, ◌<◌, ◌≤◌, Bool, true, ◌==◌, ◌||◌, List, ◌++◌, length}
 use Rattle.xml_tokens.specs.Searching.{Fits}
 use Rattle.xml_state.specs.Events.{Event, TakesAll}
-use Rattle.xml_state.specs.Limits.{Limits}
-use Rattle.xml_state.specs.Seen.{fault_for, want_of_memory}
+use Rattle.xml_state.specs.declared.limits.Limits.{Limits}
+use Rattle.xml_state.specs.declared.fault.TheConstants.XmlFault.{WANT_OF_MEMORY}
 use Rattle.xml_state.specs.declared.fault.XmlFault.{XmlFault}
 use Rattle.xml_profile.specs.TokenByToken.{waits, stopped, telling, read}
 use Rattle.xml_profile.specs.declared.cursor.Cursor.{Cursor}
@@ -39,12 +38,13 @@ pub record Reaches (ended : Bool) (limits : Limits) (old new : Cursor) (bytes re
   pub at : IsAt limits new rest
   pub ends_within : ended ≡ true → new.place + length rest ≤ limits.bytes
 
--- The bytes have this fault, and what stands before it was taken; or memory ran out, and a front of what they tell was taken.
+-- The bytes have this fault, and what stands before it was taken; or memory ran out, and a front of what they tell was
+-- taken.
 pub data Breaks (ended : Bool) (limits : Limits) (old : Cursor) (bytes : List ℕ) (before after : List Event → Type 0) : XmlFault → Type 0 where
-  of_bytes : (fault : Fault) (events : List Event) → read ended limits old.nest old.place 0 bytes ≡ record { events = events; stands = stopped fault }
-      → TakesAll events before after → Breaks ended limits old bytes before after (fault_for fault)
+  of_bytes : (fault : XmlFault) (events : List Event) → read ended limits old.nest old.place 0 bytes ≡ record { events = events; stands = stopped fault }
+      → TakesAll events before after → Breaks ended limits old bytes before after fault
   of_memory : (front others : List Event) → (read ended limits old.nest old.place 0 bytes).events ≡ front ++ others
-      → TakesAll front before after → Breaks ended limits old bytes before after want_of_memory
+      → TakesAll front before after → Breaks ended limits old bytes before after WANT_OF_MEMORY
 
 -- what one turn does
 abbrev pub Turns : Turn → Bool → Limits → Cursor → Cursor → List ℕ → (List Event → Type 0) → (List Event → Type 0) → Type 0

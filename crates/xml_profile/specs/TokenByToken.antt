@@ -1,8 +1,11 @@
 -- Reading token by token: what tokens tell, and where reading stands behind them.
-use Rattle.std.specs.Prelude.{ℕ, ◌+◌, zero, suc, pred, Bool, true, false, ◌==◌, nat_le, List, [], ◌∷◌, ◌++◌, length, Some, None, if◌then◌else◌}
+use Rattle.std.specs.Prelude.{ℕ, ◌+◌, zero, suc, pred, Bool, true, false, nat_le, List, [], ◌∷◌, ◌++◌, Some, None, if◌then◌else◌}
+use Rattle.xml_state.specs.Faults.{fault_at}
 use Rattle.xml_state.specs.Events.{Event}
-use Rattle.xml_tokens.specs.Faults.{FaultKind, Fault, too_long}
-use Rattle.xml_state.specs.Limits.{Limits}
+use Rattle.xml_tokens.specs.declared.kind.XmlKind.{XmlKind}
+use Rattle.xml_tokens.specs.declared.kind.XmlKind.TheVariants.{TooLong}
+use Rattle.xml_state.specs.declared.fault.XmlFault.{XmlFault}
+use Rattle.xml_state.specs.declared.limits.Limits.{Limits}
 use Rattle.xml_tokens.specs.Beginnings.{good, bad, later, beginning, sure_length}
 use Rattle.xml_state.specs.States.{State, begin, state_behind, events_of}
 use Rattle.xml_state.specs.Admission.{fault_of}
@@ -10,7 +13,7 @@ use Rattle.xml_state.specs.Admission.{fault_of}
 -- Where reading stands: behind so many bytes in a state, with the bytes of what isn't a token yet, or at a fault.
 pub data Standing : Type 0 where
   waits : State → ℕ → List ℕ → Standing
-  stopped : Fault → Standing
+  stopped : XmlFault → Standing
 
 -- what tokens tell, a text in as many pieces as it has tokens, and where reading stands behind them
 pub record Read : Type 0 where
@@ -22,19 +25,20 @@ abbrev pub telling : List Event → Read → Read
 telling events r = record { events = events ++ r.events; stands = r.stands }
 
 -- a fault at a place, where reading stops
-abbrev pub fault_at : FaultKind → ℕ → Read
-fault_at kind place = record { events = []; stands = stopped (record { kind = kind; place = place }) }
+abbrev pub stops_at : XmlKind → ℕ → Read
+stops_at kind place = record { events = []; stands = stopped (fault_at kind place) }
 
 -- a fault of what ends at a place, where that is within the limit; else the input is too long
-abbrev pub fault_within : Limits → ℕ → FaultKind → ℕ → Read
-fault_within limits end kind place = if nat_le end limits.bytes then fault_at kind place else fault_at too_long limits.bytes
+abbrev pub fault_within : Limits → ℕ → XmlKind → ℕ → Read
+fault_within limits end kind place = if nat_le end limits.bytes then stops_at kind place else stops_at TooLong limits.bytes
 
 -- a place at which nothing begins yet
 abbrev pub unfinished : Limits → State → ℕ → ℕ → List ℕ → Read
 unfinished limits s place b bytes =
-    if nat_le (place + sure_length b bytes) limits.bytes then record { events = []; stands = waits s place (b ∷ bytes) } else fault_at too_long limits.bytes
+    if nat_le (place + sure_length b bytes) limits.bytes then record { events = []; stands = waits s place (b ∷ bytes) } else stops_at TooLong limits.bytes
 
--- what the bytes tell from a place on, behind so many bytes that belong to the token before, in an input that has ended or may go on
+-- what the bytes tell from a place on, behind so many bytes that belong to the token before, in an input that has ended
+-- or may go on
 unfoldable pub read : Bool → Limits → State → ℕ → ℕ → List ℕ → Read
 read ended limits s place skip [] = record { events = []; stands = waits s place [] }
 read ended limits s place (suc skip) (b ∷ bytes) = read ended limits s (place + 1) skip bytes
@@ -42,9 +46,9 @@ read ended limits s place zero (b ∷ bytes) = elim (beginning s.position ended 
   | later ↦ unfinished limits s place b bytes
   | (bad kind n) ↦ fault_within limits (place + n) kind place
   | (good token n) ↦ elim (nat_le (place + n) limits.bytes) [
-    | false ↦ fault_at too_long limits.bytes
+    | false ↦ stops_at TooLong limits.bytes
     | true ↦ elim (fault_of limits s token) [
-      | (Some kind) ↦ fault_at kind place
+      | (Some kind) ↦ stops_at kind place
       | None ↦ telling (events_of s token place) (read ended limits (state_behind s token) (place + 1) (pred n) bytes)
     ]
   ]

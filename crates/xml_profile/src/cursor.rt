@@ -1,26 +1,36 @@
-//! Where reading stands as long as nothing is wrong, and one turn of it: a token, or a run of characters that are tokens one by one.
-ghost use Rattle.std.specs.Prelude.{◌≡◌, ℕ, ◌∷◌, List, ◌<◌, ◌≤◌, ◌+◌, ◌≢◌, ◌==◌, ◌++◌, ◌-◌, [], Some, None, drop, length, vec_len, slice_index, nat_le, true, false, IfOk, MatchResult, if◌then◌else◌, chars};
-ghost use Rattle.std.specs.List.{list_all};
-ghost use Rattle.xml_tokens.specs.Beginnings.{farther, sure_length};
+//! Where reading stands as long as nothing is wrong, and one turn of it: a token, or a run of characters that are
+//! tokens one by one.
+ghost use Rattle.std.specs.Prelude.{◌≡◌, ℕ, ◌∷◌, List, ◌<◌, ◌≤◌, ◌+◌, ◌++◌, ◌-◌, [], ◌^◌, Some, None, drop, length, vec_len, slice_index, nat_le, true, false, MatchResult, if◌then◌else◌};
+ghost use Rattle.xml_tokens.specs.Beginnings.{beginning, good, sure_length};
 ghost use Rattle.xml_tokens.specs.Searching.{fresh};
-ghost use Rattle.xml_tokens.specs.Runs.{is_plain};
-ghost use Rattle.xml_tokens.specs.Faults.{Fault, too_long};
+ghost use Rattle.xml_tokens.specs.Seen.{seen_token};
+ghost use Rattle.xml_tokens.specs.declared.beginning.Position.TheVariants.{Farther};
+ghost use Rattle.xml_tokens.specs.declared.kind.XmlKind.TheVariants as kinds;
+ghost use Rattle.xml_state.specs.Faults.{fault_at};
 ghost use Rattle.xml_state.specs.States.{begin, is_outside};
-ghost use Rattle.xml_state.specs.Seen.{seen_limits, fault_for};
 ghost use Rattle.xml_profile.specs.Profile.{end_fault};
 ghost use Rattle.xml_profile.specs.Courses.{is_blank, IsAt, Turns, Reaches, Breaks};
 
 use inv_base::Place;
 use std::alloc::{AllocError, Global};
 use xml_state::{Events, Limits, NameTable, Nest, XmlFault};
-use xml_tokens::{Beginning, Position, Search, XmlKind, run_at_front, what_begins};
+use xml_tokens::{Beginning, Position, Search, Token, XmlKind, run_at_front, what_begins};
 
-/// Where reading stands: what stands behind the tokens before, how many bytes they take, and how far the next one was searched.
+/// Where reading stands: what stands behind the tokens before, how many bytes they take, and how far the next one was
+/// searched.
 #[derive(Drop)]
 pub(crate) struct Cursor {
     pub nest: Nest,
     pub place: u64,
     pub search: Search,
+}
+
+/// How bytes are read: with memory of this allocator, within these limits, and as the last ones or not.
+#[derive(Clone, Copy)]
+pub(crate) struct Reading {
+    pub alloc: Global,
+    pub limits: Limits,
+    pub ended: bool,
 }
 
 /// What a turn finds.
@@ -29,11 +39,12 @@ pub(crate) enum Turn<'b> {
     Behind(&'b [u8]),
     /// What begins here isn't whole.
     Unfinished,
+    /// A fault, or want of memory.
     Stopped(XmlFault),
 }
 
 fn fault_at(kind: XmlKind, byte: u64) -> XmlFault
-    ensures { result ≡ record { kind = kind; place = record { byte = byte } } }
+    ensures { result ≡ fault_at kind byte }
 {
     XmlFault {
         kind,
@@ -42,7 +53,7 @@ fn fault_at(kind: XmlKind, byte: u64) -> XmlFault
 }
 
 fn too_long(limit: u64) -> XmlFault
-    ensures { result ≡ fault_for (record { kind = too_long; place = limit }) }
+    ensures { result ≡ fault_at kinds.TooLong limit }
 {
     fault_at(XmlKind::TooLong, limit)
 }
@@ -121,7 +132,7 @@ impl Cursor {
     /// The fault that so many bytes show, or that they end beyond the limit.
     fn fault_within(&self, limit: u64, kind: XmlKind, len: usize) -> XmlFault
         requires { self.now.place ≤ limit }
-        ensures { result ≡ (if nat_le (self.now.place + len) limit then record { kind = kind; place = record { byte = self.now.place } } else fault_for (record { kind = too_long; place = limit })) }
+        ensures { result ≡ (if nat_le (self.now.place + len) limit then fault_at kind self.now.place else fault_at kinds.TooLong limit) }
     {
         if self.has_room(limit, len) {
             fault_at(kind, self.place)
@@ -130,151 +141,157 @@ impl Cursor {
         }
     }
 
-    /// Takes a token, or finds that none is whole.
-    fn token<'b, E: Events>(
+    /// Passes so many bytes. Answers those behind.
+    fn advance<'b>(&mut self, bytes: &'b [u8], len: usize) -> &'b [u8]
+        requires within { len ≤ length bytes.now }
+        requires room { self.old.place + len < 2 ^ 64 }
+        ensures behind { result.now ≡ drop len bytes.now }
+        ensures cursor { self.new ≡ record { nest = self.old.nest; place = self.old.place + len; search = fresh } }
+    {
+        self.place += len as u64;
+        self.search = Search::new();
+        bytes.split_at(len).1
+    }
+
+    /// Takes the token of so many bytes that begins here.
+    fn take<'b, E: Events>(
         &mut self,
-        alloc: Global,
-        limits: &Limits,
-        ended: bool,
+        reading: Reading,
+        token: &Token<'b>,
+        len: usize,
         bytes: &'b [u8],
         events: &mut E,
     ) -> Turn<'b>
-        requires at { IsAt (seen_limits limits.now) self.old bytes.now }
-        requires some { 0 < length bytes.now }
-        ensures { Turns result ended (seen_limits limits.now) self.old self.new bytes.now (E.taken events.old) (E.taken events.new) }
+        requires within { self.old.place ≤ reading.limits.bytes }
+        requires begins { beginning self.old.nest.position reading.ended bytes.now ≡ good (seen_token token.now) len }
+        ensures { Turns result reading.ended reading.limits self.old self.new bytes.now (E.taken events.old) (E.taken events.new) }
     {
-        let limit = limits.bytes;
+        if !self.has_room(reading.limits.bytes, len) {
+            return Turn::Stopped(too_long(reading.limits.bytes));
+        }
+        let place = Place { byte: self.place };
+        match self
+            .nest
+            .take(reading.alloc, &reading.limits, token, place, events)
+        {
+            Ok(()) => Turn::Behind(self.advance(bytes, len)),
+            Err(fault) => Turn::Stopped(fault),
+        }
+    }
+
+    /// Takes a token, or finds that none is whole.
+    fn token<'b, E: Events>(
+        &mut self,
+        reading: Reading,
+        bytes: &'b [u8],
+        events: &mut E,
+    ) -> Turn<'b>
+        requires at { IsAt reading.limits self.old bytes.now }
+        requires some { 0 < length bytes.now }
+        ensures { Turns result reading.ended reading.limits self.old self.new bytes.now (E.taken events.old) (E.taken events.new) }
+    {
         let position = self.nest.position();
-        let found = match what_begins(alloc, position, ended, bytes, &mut self.search) {
-            Ok(found) => found,
-            Err(AllocError) => return Turn::Stopped(XmlFault::WANT_OF_MEMORY),
-        };
-        match found {
-            Beginning::Good(token, len) => {
-                if !self.has_room(limit, len) {
-                    return Turn::Stopped(too_long(limit));
-                }
-                let place = Place { byte: self.place };
-                match self.nest.take(alloc, limits, &token, place, events) {
-                    Ok(()) => {
-                        self.place += len as u64;
-                        let (_, behind) = bytes.split_at(len);
-                        Turn::Behind(behind)
-                    }
-                    Err(fault) => Turn::Stopped(fault),
-                }
-            }
-            Beginning::Bad(kind, len) => Turn::Stopped(self.fault_within(limit, kind, len)),
-            Beginning::Later => {
-                if self.has_room(limit, sure_len(bytes)) {
+        match what_begins(
+            reading.alloc,
+            position,
+            reading.ended,
+            bytes,
+            &mut self.search,
+        ) {
+            Ok(Beginning::Good(token, len)) => self.take(reading, &token, len, bytes, events),
+            Ok(Beginning::Bad(kind, len)) => Turn::Stopped(self.fault_within(
+                reading.limits.bytes,
+                kind,
+                len,
+            )),
+            Ok(Beginning::Later) => {
+                if self.has_room(reading.limits.bytes, sure_len(bytes)) {
                     Turn::Unfinished
                 } else {
-                    Turn::Stopped(too_long(limit))
+                    Turn::Stopped(too_long(reading.limits.bytes))
                 }
             }
+            Err(AllocError) => Turn::Stopped(XmlFault::WANT_OF_MEMORY),
         }
     }
 
     /// Passes over white space outside the root, or else takes one token.
     fn outside<'b, E: Events>(
         &mut self,
-        alloc: Global,
-        limits: &Limits,
-        ended: bool,
+        reading: Reading,
         bytes: &'b [u8],
         events: &mut E,
     ) -> Turn<'b>
-        requires at { IsAt (seen_limits limits.now) self.old bytes.now }
+        requires at { IsAt reading.limits self.old bytes.now }
         requires some { 0 < length bytes.now }
         requires outside { is_outside self.old.nest ≡ true }
-        requires position { self.old.nest.position ≡ farther }
-        ensures { Turns result ended (seen_limits limits.now) self.old self.new bytes.now (E.taken events.old) (E.taken events.new) }
+        requires position { self.old.nest.position ≡ Farther }
+        ensures { Turns result reading.ended reading.limits self.old self.new bytes.now (E.taken events.old) (E.taken events.new) }
     {
-        let len = blank_len(front_within(bytes, limits.bytes - self.place));
+        let len = blank_len(front_within(bytes, reading.limits.bytes - self.place));
         if len == 0 {
-            return self.token(alloc, limits, ended, bytes, events);
+            return self.token(reading, bytes, events);
         }
         self.nest.pass();
-        self.place += len as u64;
-        self.search = Search::new();
-        let (_, behind) = bytes.split_at(len);
-        Turn::Behind(behind)
+        Turn::Behind(self.advance(bytes, len))
     }
 
     /// Takes characters inside an element that are tokens one by one, or else one token.
     fn inside<'b, E: Events>(
         &mut self,
-        alloc: Global,
-        limits: &Limits,
-        ended: bool,
+        reading: Reading,
         bytes: &'b [u8],
         events: &mut E,
     ) -> Turn<'b>
-        requires at { IsAt (seen_limits limits.now) self.old bytes.now }
+        requires at { IsAt reading.limits self.old bytes.now }
         requires some { 0 < length bytes.now }
         requires inside { is_outside self.old.nest ≡ false }
-        requires position { self.old.nest.position ≡ farther }
-        ensures { Turns result ended (seen_limits limits.now) self.old self.new bytes.now (E.taken events.old) (E.taken events.new) }
+        requires position { self.old.nest.position ≡ Farther }
+        ensures { Turns result reading.ended reading.limits self.old self.new bytes.now (E.taken events.old) (E.taken events.new) }
     {
-        let text = run_at_front(front_within(bytes, limits.bytes - self.place));
+        let text = run_at_front(front_within(bytes, reading.limits.bytes - self.place));
         if text.is_empty() {
-            return self.token(alloc, limits, ended, bytes, events);
+            return self.token(reading, bytes, events);
         }
         let place = Place { byte: self.place };
-        match self.nest.tell(limits, text, place, events) {
-            Ok(()) => {
-                self.place += text.len() as u64;
-                self.search = Search::new();
-                let (_, behind) = bytes.split_at(text.len());
-                Turn::Behind(behind)
-            }
+        match self.nest.tell(&reading.limits, text, place, events) {
+            Ok(()) => Turn::Behind(self.advance(bytes, text.len())),
             Err(fault) => Turn::Stopped(fault),
         }
     }
 
     /// Takes a token or a run of characters, or finds that none is whole.
-    fn turn<'b, E: Events>(
-        &mut self,
-        alloc: Global,
-        limits: &Limits,
-        ended: bool,
-        bytes: &'b [u8],
-        events: &mut E,
-    ) -> Turn<'b>
-        requires at { IsAt (seen_limits limits.now) self.old bytes.now }
+    fn turn<'b, E: Events>(&mut self, reading: Reading, bytes: &'b [u8], events: &mut E) -> Turn<'b>
+        requires at { IsAt reading.limits self.old bytes.now }
         requires some { 0 < length bytes.now }
-        ensures { Turns result ended (seen_limits limits.now) self.old self.new bytes.now (E.taken events.old) (E.taken events.new) }
+        ensures { Turns result reading.ended reading.limits self.old self.new bytes.now (E.taken events.old) (E.taken events.new) }
     {
         match self.nest.position() {
-            Position::AtStart | Position::BehindMark => return self.token(
-                alloc, limits, ended, bytes, events,
-            ),
+            Position::AtStart | Position::BehindMark => return self.token(reading, bytes, events),
             Position::Farther => {}
         }
         if self.nest.is_outside() {
-            self.outside(alloc, limits, ended, bytes, events)
+            self.outside(reading, bytes, events)
         } else {
-            self.inside(alloc, limits, ended, bytes, events)
+            self.inside(reading, bytes, events)
         }
     }
 
     /// Takes token behind token. Answers the bytes of what isn't one yet.
     pub fn read<'b, E: Events>(
         &mut self,
-        alloc: Global,
-        limits: &Limits,
-        ended: bool,
+        reading: Reading,
         bytes: &'b [u8],
         events: &mut E,
     ) -> Result<&'b [u8], XmlFault>
-        requires { IsAt (seen_limits limits.now) self.old bytes.now }
+        requires { IsAt reading.limits self.old bytes.now }
         ensures { MatchResult result
-            (λ rest. Reaches ended (seen_limits limits.now) self.old self.new bytes.now rest.now (E.taken events.old) (E.taken events.new))
-            (λ fault. Breaks ended (seen_limits limits.now) self.old bytes.now (E.taken events.old) (E.taken events.new) fault) }
+            (λ rest. Reaches reading.ended reading.limits self.old self.new bytes.now rest.now (E.taken events.old) (E.taken events.new))
+            (λ fault. Breaks reading.ended reading.limits self.old bytes.now (E.taken events.old) (E.taken events.new) fault) }
     {
         let mut rest = bytes;
         'turns: while !rest.is_empty() {
-            match self.turn(alloc, limits, ended, rest, events) {
+            match self.turn(reading, rest, events) {
                 Turn::Behind(behind) => rest = behind,
                 Turn::Unfinished => return Ok(rest),
                 Turn::Stopped(fault) => return Err(fault),
@@ -286,24 +303,23 @@ impl Cursor {
     /// Reads a further piece behind the rest of those before. The bytes of what isn't a token yet are the new rest.
     pub fn feed<E: Events>(
         &mut self,
-        alloc: Global,
-        limits: &Limits,
+        reading: Reading,
         rest: &mut Vec<u8>,
         piece: &[u8],
         events: &mut E,
     ) -> Result<(), XmlFault>
-        requires { IsAt (seen_limits limits.now) self.old rest.old.items }
+        requires { IsAt reading.limits self.old rest.old.items }
         ensures { MatchResult result
-            (λ _. Reaches false (seen_limits limits.now) self.old self.new (rest.old.items ++ piece.now) rest.new.items (E.taken events.old) (E.taken events.new))
-            (λ fault. Breaks false (seen_limits limits.now) self.old (rest.old.items ++ piece.now) (E.taken events.old) (E.taken events.new) fault) }
+            (λ _. Reaches reading.ended reading.limits self.old self.new (rest.old.items ++ piece.now) rest.new.items (E.taken events.old) (E.taken events.new))
+            (λ fault. Breaks reading.ended reading.limits self.old (rest.old.items ++ piece.now) (E.taken events.old) (E.taken events.new) fault) }
     {
         if rest.is_empty() {
-            return self.feed_anew(alloc, limits, rest, piece, events);
+            return self.feed_anew(reading, rest, piece, events);
         }
         if rest.extend_from_slice(piece).is_err() {
             return Err(XmlFault::WANT_OF_MEMORY);
         }
-        match self.read(alloc, limits, false, rest, events) {
+        match self.read(reading, rest, events) {
             Ok(left) => {
                 let len = left.len();
                 keep_back(rest, len);
@@ -316,19 +332,18 @@ impl Cursor {
     /// Reads a piece where there is no rest: of its bytes only the rest is kept.
     fn feed_anew<E: Events>(
         &mut self,
-        alloc: Global,
-        limits: &Limits,
+        reading: Reading,
         rest: &mut Vec<u8>,
         piece: &[u8],
         events: &mut E,
     ) -> Result<(), XmlFault>
-        requires at { IsAt (seen_limits limits.now) self.old rest.old.items }
+        requires at { IsAt reading.limits self.old rest.old.items }
         requires empty { rest.old.items ≡ [] }
         ensures { MatchResult result
-            (λ _. Reaches false (seen_limits limits.now) self.old self.new (rest.old.items ++ piece.now) rest.new.items (E.taken events.old) (E.taken events.new))
-            (λ fault. Breaks false (seen_limits limits.now) self.old (rest.old.items ++ piece.now) (E.taken events.old) (E.taken events.new) fault) }
+            (λ _. Reaches reading.ended reading.limits self.old self.new (rest.old.items ++ piece.now) rest.new.items (E.taken events.old) (E.taken events.new))
+            (λ fault. Breaks reading.ended reading.limits self.old (rest.old.items ++ piece.now) (E.taken events.old) (E.taken events.new) fault) }
     {
-        match self.read(alloc, limits, false, piece, events) {
+        match self.read(reading, piece, events) {
             Ok(left) => {
                 if rest.extend_from_slice(left).is_err() {
                     return Err(XmlFault::WANT_OF_MEMORY);
@@ -344,7 +359,7 @@ impl Cursor {
         requires { self.place + left ≤ limit }
         ensures { (rest : List ℕ) → length rest ≡ left → MatchResult result
             (λ table. (end_fault self.nest self.place rest ≡ None) × (table ≡ self.nest.names))
-            (λ fault. (f : Fault) × (fault ≡ fault_for f) × (end_fault self.nest self.place rest ≡ Some f)) }
+            (λ fault. end_fault self.nest self.place rest ≡ Some fault) }
     {
         let Cursor {
             nest,

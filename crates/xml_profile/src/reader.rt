@@ -1,16 +1,15 @@
-ghost use Rattle.std.specs.Prelude.{◌≡◌, ◌≢◌, ◌++◌, List, [], ℕ, None, Err, true, false, IfOk};
+ghost use Rattle.std.specs.Prelude.{◌≡◌, ◌≢◌, ◌++◌, List, [], ℕ, Some, None, Err, IfOk};
 ghost use Rattle.xml_state.specs.Events.{TakesAll};
-ghost use Rattle.xml_state.specs.Seen.{seen_limits, want_of_memory};
-ghost use Rattle.xml_profile.specs.Readers.{Progress, HasRead, Answers, Tells, Ends, unread, fault_of_reader};
+ghost use Rattle.xml_profile.specs.Readers.{HasRead, HasMemory, Answers, Tells, Ends, unread, fault_of_reader};
 ghost use Rattle.xml_profile.specs.Fields.{Feeds, EndsAt};
 
-use crate::cursor::Cursor;
+use crate::cursor::{Cursor, Reading};
 use std::alloc::{AllocError, Global};
 use std::marker::Model;
 use xml_state::{Events, Limits, NameTable, XmlFault};
 
-/// Reads a document, in pieces, and tells a receiver what it holds. It keeps the bytes of the unfinished token and nothing else of
-/// the input.
+/// Reads a document, in pieces, and tells a receiver what it holds. It keeps the bytes of the unfinished token and
+/// nothing else of the input.
 #[derive(Drop)]
 pub struct Reader {
     alloc: Global,
@@ -23,22 +22,21 @@ pub struct Reader {
 }
 
 impl Model for Reader {
-    ghost use Rattle.xml_state.specs.Seen.{seen_limits};
     ghost use Rattle.xml_profile.specs.Readers.{Progress};
 
     ghost Value = { Progress };
 
     ghost use Rattle.xml_profile.specs.Fields.{progress_of, IsSound};
 
-    ghost view = { λ reader. progress_of (seen_limits reader.limits) reader.fault reader.cursor reader.rest.items };
+    ghost view = { λ reader. progress_of reader.limits reader.fault reader.cursor reader.rest.items };
 
-    ghost invariant = { λ reader. IsSound (seen_limits reader.limits) reader.fault reader.cursor reader.rest.items };
+    ghost invariant = { λ reader. IsSound reader.limits reader.fault reader.cursor reader.rest.items };
 }
 
 impl Reader {
     /// A reader that was given nothing.
     pub fn new(alloc: Global, limits: Limits) -> Result<Reader, AllocError>
-        ensures { IfOk result (λ reader. reader ≡ unread (seen_limits limits)) }
+        ensures { IfOk result (λ reader. reader ≡ unread limits) }
     {
         Ok(Reader {
             alloc,
@@ -49,12 +47,12 @@ impl Reader {
         })
     }
 
-    /// Takes a further piece of the document. A fault is answered as soon as no further byte can change it, and then at each
-    /// call. `NoRoot` and `Truncated` come from `finish` alone.
+    /// Takes a further piece of the document. A fault is answered as soon as no further byte can change it, and then at
+    /// each call. `NoRoot` and `Truncated` come from `finish` alone.
     pub fn feed<E: Events>(&mut self, piece: &[u8], events: &mut E) -> Result<(), XmlFault>
         ensures limits { self.new.limits ≡ self.old.limits }
         ensures answer { Answers result (fault_of_reader self.new) }
-        ensures read { self.new.lacks_memory ≡ false → (fed : List ℕ) → HasRead self.old fed → HasRead self.new (fed ++ piece.now) }
+        ensures read { HasMemory self.new → (fed : List ℕ) → HasRead self.old fed → HasRead self.new (fed ++ piece.now) }
         ensures told { (fed : List ℕ) → HasRead self.old fed → Tells self.new fed (fed ++ piece.now) (E.taken events.old) (E.taken events.new) }
         ensures stopped { fault_of_reader self.old ≢ None → (self.new ≡ self.old) × TakesAll [] (E.taken events.old) (E.taken events.new) }
     {
@@ -67,10 +65,12 @@ impl Reader {
         if let Some(fault) = self.fault {
             return Err(fault);
         }
-        match self
-            .cursor
-            .feed(self.alloc, &self.limits, &mut self.rest, piece, events)
-        {
+        let reading = Reading {
+            alloc: self.alloc,
+            limits: self.limits,
+            ended: false,
+        };
+        match self.cursor.feed(reading, &mut self.rest, piece, events) {
             Ok(()) => Ok(()),
             Err(fault) => {
                 self.fault = Some(fault);
@@ -79,10 +79,10 @@ impl Reader {
         }
     }
 
-    /// Ends the document: its names, or its first fault.
+    /// Ends the document: its names, or its first fault. Where `feed` has answered a fault, it is answered again.
     pub fn finish<E: Events>(self, events: &mut E) -> Result<NameTable, XmlFault>
         ensures ended { (fed : List ℕ) → HasRead self fed → Ends (λ table. table) result self.limits fed (E.taken events.old) (E.taken events.new) }
-        ensures stopped { self.lacks_memory ≡ true → (result ≡ Err want_of_memory) × TakesAll [] (E.taken events.old) (E.taken events.new) }
+        ensures stopped { (fault : _) → fault_of_reader self ≡ Some fault → (result ≡ Err fault) × TakesAll [] (E.taken events.old) (E.taken events.new) }
     {
         self.end(events)
     }
@@ -100,7 +100,12 @@ impl Reader {
         if let Some(fault) = fault {
             return Err(fault);
         }
-        match cursor.read(alloc, &limits, true, &rest, events) {
+        let reading = Reading {
+            alloc,
+            limits,
+            ended: true,
+        };
+        match cursor.read(reading, &rest, events) {
             Ok(left) => cursor.end(limits.bytes, left.len()),
             Err(fault) => Err(fault),
         }

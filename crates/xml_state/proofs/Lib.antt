@@ -5,6 +5,7 @@ pub mod ScopeLemmas
 pub mod WrittenLemmas
 pub mod DuplicateLemmas
 pub mod NumberLemmas
+pub mod NamingLemmas
 pub mod TellingLemmas
 pub mod NestLemmas
 pub mod StartLemmas

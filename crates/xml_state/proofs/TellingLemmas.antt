@@ -39,6 +39,9 @@ front-more events more others before middle after upto front = record {
   told = λ taken h. subst after (sym (with_events-append taken upto.front front.front)) (front.told (with_events taken upto.front) (upto.told taken h));
 }
 
+pub all-is-front : (events : List Event) (before after : List Event → Type 0) → TakesAll events before after → TakesFront events before after
+all-is-front events before after told = record { front = events; others = []; is = sym (append-nil events); told = told }
+
 pub front-still : (events others : List Event) (before middle after : List Event → Type 0) → TakesUpTo events others before middle → ((taken : List Event) → middle taken → after taken) → TakesFront events before after
 front-still events others before middle after upto still = record {
   front = upto.front;

@@ -2,8 +2,8 @@
 use Rattle.std.specs.Prelude.{ℕ, zero, suc, List, [], ◌∷◌, ◌++◌, Result, MatchResult}
 use Rattle.inv_base.specs.Tree.{Name, Attribute, Forest, no_more, a_text, an_element}
 
--- An element begins, by the number of its name and the place of its tag; it has an attribute, by the number of its name and
--- its value; a text begins at a place; the innermost element ends. Values and texts are characters.
+-- An element begins, by the number of its name and the place of its tag; it has an attribute, by the number of its name
+-- and its value; a text begins at a place; the innermost element ends. Values and texts are characters.
 pub data Event : Type 0 where
   starts : ℕ → ℕ → Event
   has_attribute : ℕ → List ℕ → Event
@@ -36,8 +36,8 @@ Takes result e before after = MatchResult result
 abbrev pub TakesAll : List Event → (List Event → Type 0) → (List Event → Type 0) → Type 0
 TakesAll more before after = (events : List Event) → before events → after (with_events events more)
 
--- The trees that events leave, read from the last event back: what stands side by side in each element that is still open
--- towards the end, from the innermost. An attribute belongs to the element that started last before it.
+-- The trees that events leave, read from the last event back: what stands side by side in each element that is still
+-- open towards the end, from the innermost. An attribute belongs to the element that started last before it.
 pub record Trees : Type 0 where
   pub attributes : List Attribute
   pub inside : Forest

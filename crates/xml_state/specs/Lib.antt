@@ -2,11 +2,10 @@ pub mod Events
 pub mod Names
 pub mod NameTables
 pub mod Documents
-pub mod Limits
+pub mod Faults
 pub mod Namespaces
 pub mod States
 pub mod Admission
-pub mod Seen
 pub mod Taking
 pub mod Scopes
 pub mod StartTags

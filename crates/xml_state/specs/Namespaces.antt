@@ -50,8 +50,8 @@ declared_bindings attributes = filter_map declared_binding attributes
 abbrev pub undeclaring : List Written → List Written
 undeclaring attributes = filter (λ (attribute : Written). is_none (declared_prefix attribute.name)) attributes
 
--- A binding that may not be declared, section 3: of `xmlns`, of `xml` to another name, of another prefix or the default namespace
--- to its name, to the name of xmlns, or of a prefix to no name.
+-- A binding that may not be declared, section 3: of `xmlns`, of `xml` to another name, of another prefix or the default
+-- namespace to its name, to the name of xmlns, or of a prefix to no name.
 abbrev pub is_bad_binding : Binding → Bool
 is_bad_binding binding =
     bytes_eq binding.prefix xmlns
@@ -75,10 +75,13 @@ is_undeclared bindings name = is_none (bound_uri (prefix_of name) bindings)
 abbrev pub element_name : List Binding → List ℕ → Name
 element_name bindings name = record { uri = uri_of bindings (prefix_of name); local = chars (local_of name) }
 
--- the expanded name of an attribute, which the default namespace doesn't reach
+-- the name that the prefix of an attribute stands for, which the default namespace doesn't reach
+abbrev pub attribute_uri : List Binding → List ℕ → List ℕ
+attribute_uri bindings prefix = if length prefix == 0 then [] else uri_of bindings prefix
+
+-- the expanded name of an attribute
 abbrev pub attribute_name : List Binding → List ℕ → Name
-attribute_name bindings name =
-    record { uri = if length (prefix_of name) == 0 then [] else uri_of bindings (prefix_of name); local = chars (local_of name) }
+attribute_name bindings name = record { uri = attribute_uri bindings (prefix_of name); local = chars (local_of name) }
 
 -- the attributes of a tag in the tree
 abbrev pub attributes_of : List Binding → List Written → List Attribute

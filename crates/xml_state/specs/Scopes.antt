@@ -1,5 +1,5 @@
 -- The open elements as they are kept: their names as written on one stack of bytes, and the bindings on another.
-use Rattle.std.specs.Prelude.{◌≡◌, ◌++◌, ℕ, ◌≤◌, Bool, false, List, [], ◌∷◌, take, drop, chars, string_bytes, bytes_eq}
+use Rattle.std.specs.Prelude.{◌≡◌, ◌++◌, ℕ, ◌≤◌, List, [], ◌∷◌, take, drop, chars, string_bytes}
 use Rattle.xml_state.specs.Namespaces.{Binding, first_bindings}
 use Rattle.xml_state.specs.States.{Open}
 use Rattle.xml_state.specs.declared.scopes.Bound.{Bound}
@@ -22,7 +22,8 @@ bound_in outer (bound ∷ more) = bound_in (seen_bound bound ∷ outer) more
 abbrev pub bindings_of : List Bound → List Binding
 bindings_of stack = bound_in first_bindings stack
 
--- The open elements of frames, the innermost first: of each, its name stands behind those outside, and so many bindings stand inside it.
+-- The open elements of frames, the innermost first: of each, its name stands behind those outside, and so many bindings
+-- stand inside it.
 abbrev pub opened : List Frame → List ℕ → List Bound → List Open
 opened [] written stack = []
 opened (frame ∷ frames) written stack =
@@ -38,14 +39,6 @@ inside_innermost (frame ∷ frames) = frame.bindings
 abbrev pub AreNested : List Frame → ℕ → ℕ → Type 0
 AreNested [] written bindings = Unit {0}
 AreNested (frame ∷ frames) written bindings = (frame.name_at ≤ written) × (frame.bindings ≤ bindings) × AreNested frames frame.name_at frame.bindings
-
--- what is bound inside the innermost open element
-abbrev pub bindings_inside_innermost : List Open → List Binding
-bindings_inside_innermost elements = elim elements [ [] ↦ first_bindings | (element ∷ outer) ↦ element.bindings ]
-
--- The innermost element has this name as written.
-abbrev pub is_innermost : List Open → List ℕ → Bool
-is_innermost elements name = elim elements [ [] ↦ false | (element ∷ outer) ↦ bytes_eq element.name name ]
 
 -- the elements around the innermost
 abbrev pub around_innermost : List Open → List Open

@@ -1,5 +1,5 @@
-//! What stands behind the tokens of a document: the open elements with their namespaces, the names, and counts; which tokens may stand
-//! there, and what they tell (XML 1.0, fifth edition; Namespaces in XML 1.0).
+//! What stands behind the tokens of a document: the open elements with their namespaces, the names, and counts; which
+//! tokens may stand there, and what they tell (XML 1.0, fifth edition; Namespaces in XML 1.0).
 #![tactic(auto)]
 
 mod duplicates;
@@ -7,6 +7,7 @@ mod events;
 mod fault;
 mod limits;
 mod names;
+mod naming;
 mod nest;
 mod numbering;
 mod scopes;

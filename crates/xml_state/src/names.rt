@@ -28,8 +28,8 @@ impl NameId {
         self.number
     }
 
-    // A number of 32 bits serves 4,294,967,296 names. A document of 16,777,216 bytes has fewer; one under a far greater limit that
-    // has more is refused as where memory runs out, and no number wraps.
+    // A number of 32 bits serves 4,294,967,296 names. A document of 16,777,216 bytes has fewer; one under a far greater
+    // limit that has more is refused as where memory runs out, and no number wraps.
     fn at(index: usize) -> Result<NameId, AllocError>
         ensures { IfOk result (λ id. id ≡ index) }
     {
@@ -120,6 +120,7 @@ impl NameTable {
         self.names.len()
     }
 
+    /// Whether the table has no name.
     pub fn is_empty(&self) -> bool
         ensures { IsTrue result ↔ (self.now ≡ []) }
     {

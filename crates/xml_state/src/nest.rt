@@ -1,22 +1,21 @@
 //! What stands behind tokens: the open elements, the bindings of namespaces, the names and the counts.
-ghost use Rattle.std.specs.Prelude.{◌≡◌, ◌∷◌, [], ◌+◌, ◌<◌, ◌==◌, ◌&&◌, nat_lt, false, chars, option_map};
-ghost use Rattle.xml_tokens.specs.Faults as faults;
+ghost use Rattle.std.specs.Prelude.{◌≡◌, ◌+◌, ◌<◌, ◌&&◌, nat_lt, false, chars};
+ghost use Rattle.inv_base.specs.Characters as characters;
+ghost use Rattle.xml_tokens.specs.Faults.{first_cause};
 ghost use Rattle.xml_tokens.specs.Markup as markup;
-ghost use Rattle.xml_tokens.specs.Seen.{kind_of, seen_position, seen_tag, seen_token};
+ghost use Rattle.xml_tokens.specs.Seen.{seen_tag, seen_token};
+ghost use Rattle.xml_state.specs.Admission.{early_causes, late_causes};
 ghost use Rattle.xml_state.specs.States as spec;
-ghost use Rattle.xml_state.specs.Seen.{seen_limits};
-ghost use Rattle.xml_state.specs.StartTags as tags;
 ghost use Rattle.xml_state.specs.Taking.{TakesToken, TakesText};
 
-use crate::duplicates::is_duplicated;
 use crate::events::Events;
 use crate::fault::XmlFault;
 use crate::limits::Limits;
 use crate::names::{NameId, NameTable};
-use crate::numbering::number_tag;
+use crate::naming::read_names;
 use crate::scopes::Scopes;
-use crate::tags::{has_bad_namespace, has_long_name, has_undeclared_prefix, is_long};
-use crate::telling::tell_tag;
+use crate::tags::{has_bad_namespace, has_long_name, is_long};
+use crate::telling::tell_and_open;
 use crate::text::{end_lines, has_carriage_return};
 use crate::written::says_nothing;
 use inv_base::{Place, is_white_space};
@@ -38,12 +37,11 @@ pub struct Nest {
 }
 
 impl Model for Nest {
-    ghost use Rattle.xml_tokens.specs.Seen.{seen_position};
     ghost use Rattle.xml_state.specs.States.{State};
 
     ghost Value = { State };
 
-    ghost view = { λ nest. record { position = seen_position nest.position; open_elements = nest.scopes.open_elements; root_seen = nest.root_seen; in_text = nest.in_text; nodes = nest.nodes; names = nest.names } };
+    ghost view = { λ nest. record { position = nest.position; open_elements = nest.scopes.open_elements; root_seen = nest.root_seen; in_text = nest.in_text; nodes = nest.nodes; names = nest.names } };
 }
 
 impl Nest {
@@ -64,7 +62,7 @@ impl Nest {
 
     /// Where the next place is.
     pub fn position(&self) -> Position
-        ensures { seen_position result ≡ self.now.position }
+        ensures { result ≡ self.now.position }
     {
         self.position
     }
@@ -115,7 +113,7 @@ impl Nest {
         events: &mut E,
     ) -> Result<(), XmlFault>
         requires { spec.is_outside self.old ≡ false }
-        ensures { TakesText result (seen_limits limits.now) self.old self.new (chars text.now) place.byte (E.taken events.old) (E.taken events.new) }
+        ensures { TakesText result limits.now self.old self.new (chars text.now) place.byte (E.taken events.old) (E.taken events.new) }
     {
         if !self.in_text && is_beyond(limits.nodes, self.nodes, 1) {
             return Err(XmlFault {
@@ -135,7 +133,8 @@ impl Nest {
         Ok(())
     }
 
-    /// Takes a token behind those before, and tells what it holds. Behind an `Err` the nest is as it comes, and of no more use.
+    /// Takes a token behind those before, and tells what it holds. Behind an `Err` the nest is as it comes, and of no
+    /// more use.
     pub fn take<E: Events>(
         &mut self,
         alloc: Global,
@@ -144,7 +143,7 @@ impl Nest {
         place: Place,
         events: &mut E,
     ) -> Result<(), XmlFault>
-        ensures { TakesToken result (seen_limits limits.now) self.old self.new (seen_token token.now) place.byte (E.taken events.old) (E.taken events.new) }
+        ensures { TakesToken result limits.now self.old self.new (seen_token token.now) place.byte (E.taken events.old) (E.taken events.new) }
     {
         match token {
             Token::Mark => {
@@ -169,6 +168,14 @@ impl Nest {
         self.position = Position::BehindMark;
     }
 
+    // Whether the character is white space outside the root.
+    fn is_blank_here(&self, c: char) -> bool
+        ensures { result ≡ (spec.is_outside self.now && characters.is_white_space c) }
+    {
+        self.is_outside() && is_white_space(c)
+    }
+
+    // Takes a character, which outside the root may be white space.
     fn character<E: Events>(
         &mut self,
         limits: &Limits,
@@ -176,21 +183,16 @@ impl Nest {
         place: Place,
         events: &mut E,
     ) -> Result<(), XmlFault>
-        ensures { TakesToken result (seen_limits limits.now) self.old self.new (markup.a_character c) place.byte (E.taken events.old) (E.taken events.new) }
+        ensures { TakesToken result limits.now self.old self.new (markup.a_character c) place.byte (E.taken events.old) (E.taken events.new) }
     {
-        if !self.is_outside() {
-            return self.tell_character(limits, c, place, events);
+        if self.is_blank_here(c) {
+            self.pass();
+            return Ok(());
         }
-        if !is_white_space(c) {
-            return Err(XmlFault {
-                kind: XmlKind::TextOutside,
-                place,
-            });
-        }
-        self.pass();
-        Ok(())
+        self.reference(limits, c, place, events)
     }
 
+    // Takes a character that may stand inside an element alone.
     fn reference<E: Events>(
         &mut self,
         limits: &Limits,
@@ -198,30 +200,16 @@ impl Nest {
         place: Place,
         events: &mut E,
     ) -> Result<(), XmlFault>
-        ensures { TakesToken result (seen_limits limits.now) self.old self.new (markup.a_reference c) place.byte (E.taken events.old) (E.taken events.new) }
+        ensures { TakesToken result limits.now self.old self.new (markup.a_reference c) place.byte (E.taken events.old) (E.taken events.new) }
     {
-        if !self.is_outside() {
-            return self.tell_character(limits, c, place, events);
+        if self.is_outside() {
+            return Err(XmlFault {
+                kind: XmlKind::TextOutside,
+                place,
+            });
         }
-        Err(XmlFault {
-            kind: XmlKind::TextOutside,
-            place,
-        })
-    }
-
-    fn tell_character<E: Events>(
-        &mut self,
-        limits: &Limits,
-        c: char,
-        place: Place,
-        events: &mut E,
-    ) -> Result<(), XmlFault>
-        requires { spec.is_outside self.old ≡ false }
-        ensures { TakesText result (seen_limits limits.now) self.old self.new (c ∷ []) place.byte (E.taken events.old) (E.taken events.new) }
-    {
         let mut bytes = [0; 4];
-        let text = c.encode_utf8(&mut bytes);
-        self.tell(limits, text, place, events)
+        self.tell(limits, c.encode_utf8(&mut bytes), place, events)
     }
 
     // Takes a CDATA section, whose line ends become LF.
@@ -233,7 +221,7 @@ impl Nest {
         place: Place,
         events: &mut E,
     ) -> Result<(), XmlFault>
-        ensures { TakesToken result (seen_limits limits.now) self.old self.new (markup.a_section (markup.with_line_feeds (chars written.now))) place.byte (E.taken events.old) (E.taken events.new) }
+        ensures { TakesToken result limits.now self.old self.new (markup.a_section (markup.with_line_feeds (chars written.now))) place.byte (E.taken events.old) (E.taken events.new) }
     {
         if self.is_outside() {
             return Err(XmlFault {
@@ -261,7 +249,7 @@ impl Nest {
         place: Place,
         events: &mut E,
     ) -> Result<(), XmlFault>
-        ensures { TakesToken result (seen_limits limits.now) self.old self.new (markup.an_end_tag name.now) place.byte (E.taken events.old) (E.taken events.new) }
+        ensures { TakesToken result limits.now self.old self.new (markup.an_end_tag name.now) place.byte (E.taken events.old) (E.taken events.new) }
     {
         if is_long(limits, name) {
             return Err(XmlFault {
@@ -287,7 +275,7 @@ impl Nest {
 
     // The kinds of fault that a start tag shows before its declarations are taken.
     fn early_kind(&self, limits: &Limits, tag: &StartTag<'_>) -> Option<XmlKind>
-        ensures { result ≡ option_map kind_of (faults.first_cause (tags.early_causes (seen_limits limits.now) self.now (seen_tag tag.now))) }
+        ensures { result ≡ first_cause (early_causes limits.now self.now (seen_tag tag.now)) }
     {
         if tag.attributes.len() > limits.attributes as usize {
             return Some(XmlKind::TooManyAttributes);
@@ -313,7 +301,7 @@ impl Nest {
     // The limits that a start tag passes, whose names are among the names already; it has so many nodes.
     fn late_kind(&self, limits: &Limits, nodes: usize) -> Option<XmlKind>
         requires { 0 < nodes }
-        ensures { result ≡ option_map kind_of (faults.first_cause (tags.late_causes (seen_limits limits.now) self.now nodes)) }
+        ensures { result ≡ first_cause (late_causes limits.now self.now.open_elements self.now.names (self.now.nodes + nodes)) }
     {
         if is_full(limits.depth, self.scopes.depth()) {
             return Some(XmlKind::TooDeep);
@@ -335,47 +323,30 @@ impl Nest {
         place: Place,
         events: &mut E,
     ) -> Result<(), XmlFault>
-        ensures { TakesToken result (seen_limits limits.now) self.old self.new (markup.a_start_tag (seen_tag tag.now)) place.byte (E.taken events.old) (E.taken events.new) }
+        ensures { TakesToken result limits.now self.old self.new (markup.a_start_tag (seen_tag tag.now)) place.byte (E.taken events.old) (E.taken events.new) }
     {
         if let Some(kind) = self.early_kind(limits, tag) {
             return Err(XmlFault { kind, place });
         }
-        match self.scopes.declare(alloc, &tag.attributes) {
-            Ok(()) => {}
+        let fault = match read_names(
+            alloc,
+            &mut self.scopes,
+            &mut self.names,
+            &mut self.numbers,
+            tag,
+        ) {
+            Ok(fault) => fault,
             Err(_) => return Err(XmlFault::WANT_OF_MEMORY),
-        }
-        if has_undeclared_prefix(&self.scopes, tag) {
-            return Err(XmlFault {
-                kind: XmlKind::UndeclaredPrefix,
-                place,
-            });
-        }
-        match number_tag(&mut self.names, alloc, &self.scopes, tag, &mut self.numbers) {
-            Ok(()) => {}
-            Err(_) => return Err(XmlFault::WANT_OF_MEMORY),
-        }
-        match is_duplicated(alloc, tag, &self.numbers) {
-            Ok(false) => {}
-            Ok(true) => {
-                return Err(XmlFault {
-                    kind: XmlKind::DuplicateAttribute,
-                    place,
-                });
-            }
-            Err(_) => return Err(XmlFault::WANT_OF_MEMORY),
+        };
+        if let Some(kind) = fault {
+            return Err(XmlFault { kind, place });
         }
         if let Some(kind) = self.late_kind(limits, self.numbers.len()) {
             return Err(XmlFault { kind, place });
         }
-        match tell_tag(tag, &self.numbers, place, events) {
+        match tell_and_open(&mut self.scopes, tag, &self.numbers, place, events) {
             Ok(()) => {}
             Err(_) => return Err(XmlFault::WANT_OF_MEMORY),
-        }
-        if !tag.is_empty {
-            match self.scopes.open(tag.name) {
-                Ok(()) => {}
-                Err(_) => return Err(XmlFault::WANT_OF_MEMORY),
-            }
         }
         self.nodes += self.numbers.len() as u32;
         self.root_seen = true;

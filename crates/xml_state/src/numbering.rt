@@ -1,7 +1,6 @@
-//! The numbers of the names of a start tag, and whether two of its attributes are one.
-ghost use Rattle.std.specs.Prelude.{◌≡◌, [], ◌∷◌, ◌++◌, map, chars, OnOk, IfOk};
+//! The numbers of the names of a start tag.
+ghost use Rattle.std.specs.Prelude.{◌≡◌, [], ◌∷◌, ◌++◌, map, chars, OnOk};
 ghost use Rattle.xml_tokens.specs.Seen.{seen_attribute, seen_tag};
-ghost use Rattle.xml_state.specs.Names.{number_of, with_name};
 ghost use Rattle.xml_state.specs.Namespaces as namespaces;
 ghost use Rattle.xml_state.specs.StartTags as spec;
 ghost use Rattle.xml_state.specs.States.{with_names};
@@ -24,39 +23,13 @@ fn uri_of<'a>(scopes: &'a Scopes, prefix: &str) -> &'a str
 
 // The name that the prefix of an attribute stands for: the default namespace doesn't reach attributes.
 fn attribute_uri<'a>(scopes: &'a Scopes, prefix: &str) -> &'a str
-    ensures { chars result.now ≡ spec.attribute_uri scopes.now.bound prefix.now }
+    ensures { chars result.now ≡ namespaces.attribute_uri scopes.now.bound prefix.now }
 {
     if prefix.is_empty() {
         ""
     } else {
         uri_of(scopes, prefix)
     }
-}
-
-fn number_element(
-    names: &mut NameTable,
-    alloc: Global,
-    scopes: &Scopes,
-    name: &str,
-) -> Result<NameId, AllocError>
-    ensures number { IfOk result (λ id. id ≡ number_of (namespaces.element_name scopes.now.bound name.now) names.old) }
-    ensures names { OnOk result (names.new ≡ with_name names.old (namespaces.element_name scopes.now.bound name.now)) }
-{
-    let (prefix, local) = parts_of(name);
-    names.number(alloc, uri_of(scopes, prefix), local)
-}
-
-fn number_attribute(
-    names: &mut NameTable,
-    alloc: Global,
-    scopes: &Scopes,
-    name: &str,
-) -> Result<NameId, AllocError>
-    ensures number { IfOk result (λ id. id ≡ number_of (namespaces.attribute_name scopes.now.bound name.now) names.old) }
-    ensures names { OnOk result (names.new ≡ with_name names.old (namespaces.attribute_name scopes.now.bound name.now)) }
-{
-    let (prefix, local) = parts_of(name);
-    names.number(alloc, attribute_uri(scopes, prefix), local)
 }
 
 // Numbers the name of an attribute, unless it is a declaration.
@@ -73,7 +46,8 @@ fn number_one(
     if !is_plain(attribute.name) {
         return Ok(());
     }
-    let number = number_attribute(names, alloc, scopes, attribute.name)?;
+    let (prefix, local) = parts_of(attribute.name);
+    let number = names.number(alloc, attribute_uri(scopes, prefix), local)?;
     numbers.push(number)?;
     Ok(())
 }
@@ -106,7 +80,8 @@ pub(crate) fn number_tag(
     ensures numbers { OnOk result (numbers.new.items ≡ spec.numbers_from names.old (spec.tag_names scopes.now.bound (seen_tag tag.now))) }
 {
     numbers.clear();
-    let number = number_element(names, alloc, scopes, tag.name)?;
+    let (prefix, local) = parts_of(tag.name);
+    let number = names.number(alloc, uri_of(scopes, prefix), local)?;
     numbers.push(number)?;
     number_attributes(names, alloc, scopes, &tag.attributes, numbers)
 }

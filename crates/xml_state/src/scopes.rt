@@ -4,6 +4,7 @@ ghost use Rattle.std.proofs.Common.{reverse};
 ghost use Rattle.xml_tokens.specs.Seen.{seen_attribute};
 ghost use Rattle.xml_state.specs.Namespaces as namespaces;
 ghost use Rattle.xml_state.specs.Scopes as spec;
+ghost use Rattle.xml_state.specs.States as states;
 
 use crate::written::{declared_prefix, text_of};
 use std::alloc::{AllocError, Global};
@@ -47,6 +48,7 @@ impl Model for Scopes {
 }
 
 impl Scopes {
+    // No element is open.
     pub fn new(alloc: Global) -> Self
         ensures { result ≡ record { open_elements = []; bound = namespaces.first_bindings } }
     {
@@ -66,7 +68,7 @@ impl Scopes {
 
     // Whether the innermost open element has this name.
     pub fn is_innermost(&self, name: &str) -> bool
-        ensures { result ≡ spec.is_innermost self.now.open_elements name.now }
+        ensures { result ≡ states.is_innermost self.now.open_elements name.now }
     {
         match self.frames.last() {
             Some(frame) => stands_at(&self.written, frame.name_at, name.as_bytes()),
@@ -84,7 +86,7 @@ impl Scopes {
     // Binds what the attributes of a tag declare, inside the innermost open element.
     pub fn declare(&mut self, alloc: Global, attributes: &[Attribute<'_>]) -> Result<(), AllocError>
         ensures open { OnOk result (self.new.open_elements ≡ self.old.open_elements) }
-        ensures bound { OnOk result (self.new.bound ≡ namespaces.declared_bindings (map seen_attribute attributes.now) ++ spec.bindings_inside_innermost self.old.open_elements) }
+        ensures bound { OnOk result (self.new.bound ≡ namespaces.declared_bindings (map seen_attribute attributes.now) ++ states.bindings_inside_innermost self.old.open_elements) }
     {
         let inside = bindings_inside(&self.frames);
         self.bindings.truncate(inside);

@@ -1,36 +1,35 @@
-//! The tests by which a start tag is admitted, and the numbers of its names.
-ghost use Rattle.std.specs.Prelude.{◌≡◌, ◌==◌, ◌&&◌, not, length, if◌then◌else◌, ◌||◌, map, chars, is_none, bytes_eq};
+//! The tests by which a start tag is admitted.
+ghost use Rattle.std.specs.Prelude.{◌≡◌, ◌==◌, ◌&&◌, not, length, if◌then◌else◌, map, chars, bytes_eq};
 ghost use Rattle.std.specs.List.{list_any};
 ghost use Rattle.xml_tokens.specs.Markup.{Written};
 ghost use Rattle.xml_tokens.specs.Seen.{seen_attribute, seen_tag};
 ghost use Rattle.xml_state.specs.Admission as spec;
 ghost use Rattle.xml_state.specs.Namespaces as namespaces;
-ghost use Rattle.xml_state.specs.Seen.{seen_limits};
 ghost use Rattle.xml_state.specs.StartTags as tags;
 
 use crate::limits::Limits;
-use crate::names::{NameId, NameTable};
 use crate::scopes::{Scopes, XML_URI};
 use crate::written::{declared_prefix, is_plain, parts_of, says_nothing, text_of};
-use std::alloc::{AllocError, Global};
 use xml_tokens::{Attribute, StartTag};
 
 const XMLNS_URI: &str = "http://www.w3.org/2000/xmlns/";
 
+// Whether the name takes more bytes than the limit.
 pub(crate) fn is_long(limits: &Limits, name: &str) -> bool
-    ensures { result ≡ spec.is_long_name (seen_limits limits.now) name.now }
+    ensures { result ≡ spec.is_long_name limits.now name.now }
 {
     name.len() > limits.name as usize
 }
 
+// Whether some name of the tag does.
 pub(crate) fn has_long_name(limits: &Limits, tag: &StartTag<'_>) -> bool
-    ensures { result ≡ spec.has_long_name (seen_limits limits.now) (seen_tag tag.now) }
+    ensures { result ≡ spec.has_long_name limits.now (seen_tag tag.now) }
 {
     is_long(limits, tag.name) || has_long_attribute(limits, &tag.attributes)
 }
 
 fn has_long_attribute(limits: &Limits, attributes: &[Attribute<'_>]) -> bool
-    ensures { result ≡ list_any (λ (attribute : Written). spec.is_long_name (seen_limits limits.now) attribute.name) (map seen_attribute attributes.now) }
+    ensures { result ≡ list_any (λ (attribute : Written). spec.is_long_name limits.now attribute.name) (map seen_attribute attributes.now) }
 {
     for attribute in attributes {
         if is_long(limits, attribute.name) {
@@ -118,7 +117,7 @@ fn has_undeclared_attribute(scopes: &Scopes, attributes: &[Attribute<'_>]) -> bo
 
 // Whether some prefix of the tag isn't bound.
 pub(crate) fn has_undeclared_prefix(scopes: &Scopes, tag: &StartTag<'_>) -> bool
-    ensures { result ≡ tags.has_undeclared scopes.now.bound (seen_tag tag.now) }
+    ensures { result ≡ spec.has_undeclared_prefix scopes.now.bound (seen_tag tag.now) }
 {
     is_undeclared(scopes, tag.name) || has_undeclared_attribute(scopes, &tag.attributes)
 }

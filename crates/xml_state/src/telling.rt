@@ -1,11 +1,13 @@
-//! What a start tag tells, by the numbers of its names.
-ghost use Rattle.std.specs.Prelude.{map};
+//! What a start tag tells, by the numbers of its names, and the element that it opens.
+ghost use Rattle.std.specs.Prelude.{◌≡◌, map, OnOk};
 ghost use Rattle.xml_tokens.specs.Seen.{seen_attribute, seen_tag};
 ghost use Rattle.xml_state.specs.StartTags.{attribute_events, tag_events};
+ghost use Rattle.xml_state.specs.States.{elements_behind};
 ghost use Rattle.xml_state.specs.Taking.{Tells};
 
 use crate::events::Events;
 use crate::names::NameId;
+use crate::scopes::Scopes;
 use crate::written::{is_plain, text_of};
 use inv_base::Place;
 use std::alloc::AllocError;
@@ -33,7 +35,7 @@ fn tell_attributes<E: Events>(
 }
 
 // Tells the element, its attributes, and its end where it is empty. The first number is that of the element.
-pub(crate) fn tell_tag<E: Events>(
+fn tell_tag<E: Events>(
     tag: &StartTag<'_>,
     numbers: &[NameId],
     place: Place,
@@ -48,6 +50,24 @@ pub(crate) fn tell_tag<E: Events>(
     tell_attributes(&tag.attributes, others, events)?;
     if tag.is_empty {
         events.end()?;
+    }
+    Ok(())
+}
+
+// Tells a tag whose declarations are bound, and opens its element unless it is empty.
+pub(crate) fn tell_and_open<E: Events>(
+    scopes: &mut Scopes,
+    tag: &StartTag<'_>,
+    numbers: &[NameId],
+    place: Place,
+    events: &mut E,
+) -> Result<(), AllocError>
+    ensures told { Tells result (tag_events numbers.now (seen_tag tag.now) place.byte) (E.taken events.old) (E.taken events.new) }
+    ensures open { OnOk result (scopes.new.open_elements ≡ elements_behind scopes.old.open_elements scopes.old.bound (seen_tag tag.now)) }
+{
+    tell_tag(tag, numbers, place, events)?;
+    if !tag.is_empty {
+        scopes.open(tag.name)?;
     }
     Ok(())
 }

@@ -6,6 +6,7 @@ ghost use Rattle.xml_state.specs.LineEnds as spec;
 
 use std::alloc::{AllocError, Global};
 
+// Whether line ends of the text may have to change.
 pub(crate) fn has_carriage_return(text: &str) -> bool
     ensures { result ≡ list_any (λ c. c == 0xD) (chars text.now) }
 {

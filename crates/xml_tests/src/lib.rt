@@ -1,5 +1,7 @@
-//! The tests of the tokens of documents, on texts and answers from outside.
+//! The tests of tokens and of reading in pieces.
 #![tactic(auto)]
 
+#[cfg(test)]
+mod reader_cases;
 #[cfg(test)]
 mod xml_tokens_cases;

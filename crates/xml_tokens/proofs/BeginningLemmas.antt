@@ -1,4 +1,5 @@
--- What begins at a front of the bytes stays where the bytes go on, and what is nothing yet ends no earlier than they do.
+-- What begins at a front of the bytes stays where the bytes go on, and what is nothing yet ends no earlier than they
+-- do.
 use Rattle.std.proofs.Common.{◌≡◌, ℕ, suc, pred, max, ◌+◌, ◌≤◌, ◌==◌, Bool, true, false, ◌||◌, ◌&&◌, not, List, [], ◌∷◌, ◌++◌, length, take, drop, refl, sym, ap, ◌∙◌, arith, Option, Some, None, Result, Ok, Err, if◌then◌else◌, subst, true≢false, chars}
 use Rattle.std.specs.List.{list_all}
 use Rattle.std.specs.Str.{is_utf8}
@@ -7,13 +8,18 @@ use Rattle.std.proofs.lemmas.List.{take-append-le}
 use Rattle.std.proofs.Math.Nat.{le-max_left, le-max_right}
 use Rattle.std.proofs.lemmas.Bool.Decides.{nat_tests}
 use Rattle.inv_base.specs.Characters.{is_char}
-use Rattle.xml_tokens.specs.Faults.{FaultKind, tag_too_long, not_utf8, bad_char, doctype, bad_markup}
+use Rattle.xml_tokens.specs.declared.encoding.Begun.{Begun}
+use Rattle.xml_tokens.specs.declared.encoding.Begun.TheVariants as begun
+use Rattle.xml_tokens.specs.declared.kind.XmlKind.{XmlKind}
+use Rattle.xml_tokens.specs.declared.kind.XmlKind.TheVariants.{TagTooLong, NotUtf8, BadChar, Doctype, BadMarkup}
 use Rattle.xml_tokens.specs.Searches.{begins_with, ends_inside, shared_front, place_of, TagEnd, behind, none_within, none_yet, tag_end}
 use Rattle.xml_tokens.specs.Encoding as encoding
 use Rattle.xml_tokens.specs.References.{reference_at}
 use Rattle.xml_tokens.specs.Markup.{Token, a_mark, a_character, comment, section, instruction}
 use Rattle.xml_tokens.specs.Tags.{tag}
-use Rattle.xml_tokens.specs.Beginnings.{Position, at_start, behind_mark, farther, Beginning, good, bad, later, may_declare, of_length, extent, extent_through, tag_at, comment_or_section_at, markup_at, reference_token, bracket_at, line_end_at, character_token, begins_with_mark, beginning, greatest_tag, sure_length}
+use Rattle.xml_tokens.specs.Beginnings.{Beginning, good, bad, later, may_declare, of_length, extent, extent_through, tag_at, comment_or_section_at, markup_at, reference_token, bracket_at, line_end_at, character_token, begins_with_mark, beginning, greatest_tag, sure_length}
+use Rattle.xml_tokens.specs.declared.beginning.Position.{Position}
+use Rattle.xml_tokens.specs.declared.beginning.Position.TheVariants.{AtStart, BehindMark, Farther}
 use Rattle.xml_tokens.proofs.ScannerLemmas as scan
 use Rattle.xml_tokens.proofs.ReferenceLemmas.{reference-stays}
 
@@ -40,20 +46,20 @@ stays-weaker : (k l : ℕ) → k ≤ l → (x y : Beginning) → Stays l x y →
 stays-weaker k l h x y (same l' z) = same k x
 stays-weaker k l h x y (goes_on l' m f) = goes_on k y (from-weaker k l h y f)
 
-of-length-from : (k n : ℕ) → k ≤ n → (r : Result Token FaultKind) → From k (of_length n r)
+of-length-from : (k n : ℕ) → k ≤ n → (r : Result Token XmlKind) → From k (of_length n r)
 of-length-from k n h (Ok token) = h
 of-length-from k n h (Err kind) = h
 
-pub extent-from : (k n : ℕ) (inside : List ℕ) (grammar : List ℕ → Result Token FaultKind) → k ≤ n → From k (extent n inside grammar)
+pub extent-from : (k n : ℕ) (inside : List ℕ) (grammar : List ℕ → Result Token XmlKind) → k ≤ n → From k (extent n inside grammar)
 unfolding extent
 extent-from k n inside grammar h = by (is_utf8 inside) (list_all is_char (chars inside))
   where
-    by : (t u : Bool) → From k (elim t [ false ↦ bad not_utf8 n | true ↦ elim u [ false ↦ bad bad_char n | true ↦ of_length n (grammar inside) ] ])
+    by : (t u : Bool) → From k (elim t [ false ↦ bad NotUtf8 n | true ↦ elim u [ false ↦ bad BadChar n | true ↦ of_length n (grammar inside) ] ])
     by false u = h
     by true false = h
     by true true = of-length-from k n h (grammar inside)
 
-module _ (c : ℕ) (string : List ℕ) (opening : ℕ) (grammar : List ℕ → Result Token FaultKind) where
+module _ (c : ℕ) (string : List ℕ) (opening : ℕ) (grammar : List ℕ → Result Token XmlKind) where
   through : Option ℕ → List ℕ → Beginning
   through x bytes = elim x [ None ↦ later | (Some n) ↦ extent (opening + (n + length (c ∷ string))) (take n bytes) grammar ]
 
@@ -79,17 +85,17 @@ pub tag-stays : (a b : List ℕ) → Stays (1 + length a) (tag_at a) (tag_at (a 
 tag-stays a b = by (tag_end a None (pred greatest_tag)) (tag_end (a ++ b) None (pred greatest_tag)) (scan.end-stays a b None (pred greatest_tag))
   where
     by : (x y : TagEnd) → scan.EndStays (length a) (pred greatest_tag) x y
-        → Stays (1 + length a) (elim x [ none_within ↦ bad tag_too_long greatest_tag | none_yet ↦ later | (behind n) ↦ extent (n + 2) (take n a) tag ])
-        (elim y [ none_within ↦ bad tag_too_long greatest_tag | none_yet ↦ later | (behind n) ↦ extent (n + 2) (take n (a ++ b)) tag ])
+        → Stays (1 + length a) (elim x [ none_within ↦ bad TagTooLong greatest_tag | none_yet ↦ later | (behind n) ↦ extent (n + 2) (take n a) tag ])
+        (elim y [ none_within ↦ bad TagTooLong greatest_tag | none_yet ↦ later | (behind n) ↦ extent (n + 2) (take n (a ++ b)) tag ])
     by x y (scan.end_found k room n h) =
         let front : take n (a ++ b) ≡ take n a = take-append-le n a b (omega arith) in
         subst (λ inside. Stays (1 + length a) (extent (n + 2) (take n a) tag) (extent (n + 2) inside tag)) (sym front) (same (1 + length a) (extent (n + 2) (take n a) tag))
-    by x y (scan.end_too_far k room) = same (1 + length a) (bad tag_too_long greatest_tag)
+    by x y (scan.end_too_far k room) = same (1 + length a) (bad TagTooLong greatest_tag)
     by x y (scan.end_goes_on k room (behind n) f) = let g : length a ≤ n = f in goes_on (1 + length a) (extent (n + 2) (take n (a ++ b)) tag) (extent-from (1 + length a) (n + 2) (take n (a ++ b)) tag (omega arith))
-    by x y (scan.end_goes_on k room none_within f) = let g : length a ≤ 262143 = f in goes_on (1 + length a) (bad tag_too_long greatest_tag) (omega arith)
+    by x y (scan.end_goes_on k room none_within f) = let g : length a ≤ 262143 = f in goes_on (1 + length a) (bad TagTooLong greatest_tag) (omega arith)
     by x y (scan.end_goes_on k room none_yet f) = same (1 + length a) later
 
-bracket-from : (t u : Bool) → From 1 (elim t [ true ↦ bad bad_markup 3 | false ↦ elim u [ true ↦ later | false ↦ good (a_character 0x5D) 1 ] ])
+bracket-from : (t u : Bool) → From 1 (elim t [ true ↦ bad BadMarkup 3 | false ↦ elim u [ true ↦ later | false ↦ good (a_character 0x5D) 1 ] ])
 bracket-from true u = omega arith
 bracket-from false true = tt
 bracket-from false false = omega arith
@@ -102,8 +108,8 @@ bracket-stays e a b = by (begins_with (codes "]>") a) (begins_with (codes "]>") 
     last false = same 1 (good (a_character 0x5D) 1)
 
     by : (t t' u u' : Bool) → (t ≡ true → t' ≡ true) → (t ≡ false → u ≡ false → (t' ≡ false) × (u' ≡ false))
-        → Stays 1 (elim t [ true ↦ bad bad_markup 3 | false ↦ elim u [ true ↦ later | false ↦ good (a_character 0x5D) 1 ] ]) (elim t' [ true ↦ bad bad_markup 3 | false ↦ elim (not e && u') [ true ↦ later | false ↦ good (a_character 0x5D) 1 ] ])
-    by true true u u' h g = same 1 (bad bad_markup 3)
+        → Stays 1 (elim t [ true ↦ bad BadMarkup 3 | false ↦ elim u [ true ↦ later | false ↦ good (a_character 0x5D) 1 ] ]) (elim t' [ true ↦ bad BadMarkup 3 | false ↦ elim (not e && u') [ true ↦ later | false ↦ good (a_character 0x5D) 1 ] ])
+    by true true u u' h g = same 1 (bad BadMarkup 3)
     by true false u u' h g = absurd (true≢false (sym (h refl)))
     by false t' true u' h g = goes_on 1 _ (bracket-from t' (not e && u'))
     by false false false false h g = last e
@@ -126,27 +132,27 @@ line-end-stays e (c ∷ a) b = same (1 + length (c ∷ a)) (line_end_at false (c
 pub reference-token-stays : (a b : List ℕ) → Stays (1 + length a) (reference_token (reference_at a)) (reference_token (reference_at (a ++ b)))
 reference-token-stays a b = by (reference_at a) (reference_at (a ++ b)) (reference-stays a b)
   where
-    by : (x y : encoding.Begun) → scan.BegunStays (1 + length a) x y → Stays (1 + length a) (reference_token x) (reference_token y)
+    by : (x y : Begun ℕ) → scan.BegunStays (1 + length a) x y → Stays (1 + length a) (reference_token x) (reference_token y)
     by x y (scan.same k z) = same (1 + length a) (reference_token x)
-    by x y (scan.goes_on k (encoding.a_character c n) f) = goes_on (1 + length a) (reference_token y) f
-    by x y (scan.goes_on k (encoding.broken n) f) = goes_on (1 + length a) (reference_token y) f
-    by x y (scan.goes_on k encoding.unfinished f) = same (1 + length a) later
+    by x y (scan.goes_on k (begun.Character c n) f) = goes_on (1 + length a) (reference_token y) f
+    by x y (scan.goes_on k (begun.Broken n) f) = goes_on (1 + length a) (reference_token y) f
+    by x y (scan.goes_on k begun.Unfinished f) = same (1 + length a) later
 
 pub character-token-stays : (c : ℕ) (a b : List ℕ) → Stays (1 + length a) (character_token (encoding.character_at c a)) (character_token (encoding.character_at c (a ++ b)))
 character-token-stays c a b = by (encoding.character_at c a) (encoding.character_at c (a ++ b)) (scan.character-stays c a b)
   where
-    of : (c n k : ℕ) → k ≤ n → From k (character_token (encoding.a_character c n))
+    of : (c n k : ℕ) → k ≤ n → From k (character_token (begun.Character c n))
     of c n k h = by_char (is_char c)
       where
-        by_char : (t : Bool) → From k (elim t [ true ↦ good (a_character c) n | false ↦ bad bad_char n ])
+        by_char : (t : Bool) → From k (elim t [ true ↦ good (a_character c) n | false ↦ bad BadChar n ])
         by_char true = h
         by_char false = h
 
-    by : (x y : encoding.Begun) → scan.BegunStays (1 + length a) x y → Stays (1 + length a) (character_token x) (character_token y)
+    by : (x y : Begun ℕ) → scan.BegunStays (1 + length a) x y → Stays (1 + length a) (character_token x) (character_token y)
     by x y (scan.same k z) = same (1 + length a) (character_token x)
-    by x y (scan.goes_on k (encoding.a_character c n) f) = goes_on (1 + length a) (character_token y) (of c n (1 + length a) f)
-    by x y (scan.goes_on k (encoding.broken n) f) = goes_on (1 + length a) (character_token y) f
-    by x y (scan.goes_on k encoding.unfinished f) = same (1 + length a) later
+    by x y (scan.goes_on k (begun.Character c n) f) = goes_on (1 + length a) (character_token y) (of c n (1 + length a) f)
+    by x y (scan.goes_on k (begun.Broken n) f) = goes_on (1 + length a) (character_token y) f
+    by x y (scan.goes_on k begun.Unfinished f) = same (1 + length a) later
 
 -- What begins with `<!`.
 drop-append : (string a b : List ℕ) → begins_with string a ≡ true → drop (length string) (a ++ b) ≡ drop (length string) a ++ b
@@ -182,7 +188,7 @@ choice t1 t2 t3 inside n bytes = elim t1 [
   | true ↦ extent_through (codes "-->") 4 (drop 2 bytes) comment
   | false ↦ elim t2 [
     | true ↦ extent_through (codes "]]>") 9 (drop 7 bytes) section
-    | false ↦ elim t3 [ true ↦ bad doctype 9 | false ↦ elim inside [ true ↦ later | false ↦ bad bad_markup (3 + n) ] ]
+    | false ↦ elim t3 [ true ↦ bad Doctype 9 | false ↦ elim inside [ true ↦ later | false ↦ bad BadMarkup (3 + n) ] ]
   ]
 ]
 
@@ -262,11 +268,11 @@ opened-stays a b = by (begins_with front_1 a) (begins_with front_2 a) (begins_wi
         let not_first : begins_with front_1 (a ++ b) ≡ false = never_of front_1 a b (omega arith) h1 in
         let not_second : begins_with front_2 (a ++ b) ≡ false = never_of front_2 a b (omega arith) h2 in
         let is : begins_with front_3 (a ++ b) ≡ true = scan.begins-append front_3 a b h3 in
-        let right : comment_or_section_at (a ++ b) ≡ bad doctype 9
+        let right : comment_or_section_at (a ++ b) ≡ bad Doctype 9
         = ap (λ t. choice t (begins_with front_2 (a ++ b)) (begins_with front_3 (a ++ b)) (inside_one (a ++ b)) (shared (a ++ b)) (a ++ b)) not_first
         ∙ (ap (λ t. choice false t (begins_with front_3 (a ++ b)) (inside_one (a ++ b)) (shared (a ++ b)) (a ++ b)) not_second
         ∙ ap (λ t. choice false false t (inside_one (a ++ b)) (shared (a ++ b)) (a ++ b)) is) in
-        subst (λ y. Stays (2 + length a) (bad doctype 9) y) (sym right) (same (2 + length a) (bad doctype 9))
+        subst (λ y. Stays (2 + length a) (bad Doctype 9) y) (sym right) (same (2 + length a) (bad Doctype 9))
     by false false false true h1 h2 h3 hi =
         goes_on (2 + length a) (comment_or_section_at (a ++ b)) (choice-from a (begins_with front_1 (a ++ b)) (begins_with front_2 (a ++ b)) (begins_with front_3 (a ++ b)) (inside_one (a ++ b)) (shared (a ++ b)) (a ++ b)
         (scan.begins-longer front_1 a b h1) (scan.begins-longer front_2 a b h2) (scan.begins-longer front_3 a b h3) (shared-long a b hi))
@@ -275,22 +281,22 @@ opened-stays a b = by (begins_with front_1 a) (begins_with front_2 a) (begins_wi
         let n1 = scan.begins-never front_1 a b h1 none.0 in
         let n2 = scan.begins-never front_2 a b h2 none.1 in
         let n3 = scan.begins-never front_3 a b h3 none.2 in
-        let right : comment_or_section_at (a ++ b) ≡ bad bad_markup (3 + shared a)
+        let right : comment_or_section_at (a ++ b) ≡ bad BadMarkup (3 + shared a)
         = ap (λ t. choice t (begins_with front_2 (a ++ b)) (begins_with front_3 (a ++ b)) (inside_one (a ++ b)) (shared (a ++ b)) (a ++ b)) n1.0
         ∙ (ap (λ t. choice false t (begins_with front_3 (a ++ b)) (inside_one (a ++ b)) (shared (a ++ b)) (a ++ b)) n2.0
         ∙ (ap (λ t. choice false false t (inside_one (a ++ b)) (shared (a ++ b)) (a ++ b)) n3.0
         ∙ (ap (λ t. choice false false false (t || (ends_inside front_2 (a ++ b) || ends_inside front_3 (a ++ b))) (shared (a ++ b)) (a ++ b)) n1.1
         ∙ (ap (λ t. choice false false false (t || ends_inside front_3 (a ++ b)) (shared (a ++ b)) (a ++ b)) n2.1
         ∙ (ap (λ t. choice false false false t (shared (a ++ b)) (a ++ b)) n3.1
-        ∙ (ap (λ n. bad bad_markup (3 + max n (max (shared_front front_2 (a ++ b)) (shared_front front_3 (a ++ b))))) n1.2
-        ∙ (ap (λ n. bad bad_markup (3 + max (shared_front front_1 a) (max n (shared_front front_3 (a ++ b))))) n2.2
-        ∙ ap (λ n. bad bad_markup (3 + max (shared_front front_1 a) (max (shared_front front_2 a) n))) n3.2))))))) in
-        subst (λ y. Stays (2 + length a) (bad bad_markup (3 + shared a)) y) (sym right) (same (2 + length a) (bad bad_markup (3 + shared a)))
+        ∙ (ap (λ n. bad BadMarkup (3 + max n (max (shared_front front_2 (a ++ b)) (shared_front front_3 (a ++ b))))) n1.2
+        ∙ (ap (λ n. bad BadMarkup (3 + max (shared_front front_1 a) (max n (shared_front front_3 (a ++ b))))) n2.2
+        ∙ ap (λ n. bad BadMarkup (3 + max (shared_front front_1 a) (max (shared_front front_2 a) n))) n3.2))))))) in
+        subst (λ y. Stays (2 + length a) (bad BadMarkup (3 + shared a)) y) (sym right) (same (2 + length a) (bad BadMarkup (3 + shared a)))
 
 tag-from : (bytes : List ℕ) → From 1 (tag_at bytes)
 tag-from bytes = by (tag_end bytes None (pred greatest_tag))
   where
-    by : (x : TagEnd) → From 1 (elim x [ none_within ↦ bad tag_too_long greatest_tag | none_yet ↦ later | (behind n) ↦ extent (n + 2) (take n bytes) tag ])
+    by : (x : TagEnd) → From 1 (elim x [ none_within ↦ bad TagTooLong greatest_tag | none_yet ↦ later | (behind n) ↦ extent (n + 2) (take n bytes) tag ])
     by none_within = omega arith
     by none_yet = tt
     by (behind n) = extent-from 1 (n + 2) (take n bytes) tag (omega arith)
@@ -326,7 +332,7 @@ abbrev pub the_mark : List ℕ
 the_mark = 0xEF ∷ 0xBB ∷ 0xBF ∷ []
 
 -- a front of the mark is no character yet
-mark-unfinished : (c : ℕ) (a b : List ℕ) → suc (length (c ∷ a)) ≤ 3 → begins_with the_mark (c ∷ (a ++ b)) ≡ true → encoding.character_at c a ≡ encoding.unfinished
+mark-unfinished : (c : ℕ) (a b : List ℕ) → suc (length (c ∷ a)) ≤ 3 → begins_with the_mark (c ∷ (a ++ b)) ≡ true → encoding.character_at c a ≡ begun.Unfinished
 unfolding encoding.character_at
 mark-unfinished c [] b l h = ap (λ x. encoding.character_at x []) (same_number c 0xEF (both (c == 0xEF) _ h).0)
   where
@@ -350,9 +356,9 @@ mark-unfinished c (d ∷ []) b l h =
 mark-unfinished c (d ∷ (d' ∷ a)) b l h = absurd (omega arith)
 
 mark-stays : (p : Position) (c : ℕ) (a b : List ℕ) → Stays (1 + length a) (mark_or (begins_with_mark p (c ∷ a)) c a) (mark_or (begins_with_mark p (c ∷ (a ++ b))) c (a ++ b))
-mark-stays behind_mark c a b = character-token-stays c a b
-mark-stays farther c a b = character-token-stays c a b
-mark-stays at_start c a b = by (begins_with the_mark (c ∷ a)) (begins_with the_mark (c ∷ (a ++ b))) refl refl
+mark-stays BehindMark c a b = character-token-stays c a b
+mark-stays Farther c a b = character-token-stays c a b
+mark-stays AtStart c a b = by (begins_with the_mark (c ∷ a)) (begins_with the_mark (c ∷ (a ++ b))) refl refl
   where
     by : (t u : Bool) → begins_with the_mark (c ∷ a) ≡ t → begins_with the_mark (c ∷ (a ++ b)) ≡ u → Stays (1 + length a) (mark_or t c a) (mark_or u c (a ++ b))
     by true true g h = same (1 + length a) (good a_mark 3)

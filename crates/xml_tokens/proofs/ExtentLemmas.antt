@@ -7,16 +7,18 @@ use Rattle.std.proofs.lemmas.List.{take_all, length-append}
 use Rattle.std.proofs.lemmas.Bool.{cases_lt}
 use Rattle.std.proofs.lemmas.Str.{IsUtf8-from_is_utf8, is_utf8-from_IsUtf8}
 use Rattle.inv_base.specs.Characters.{is_char}
-use Rattle.xml_tokens.specs.Faults.{FaultKind, not_utf8, bad_char, tag_too_long, doctype, bad_markup}
+use Rattle.xml_tokens.specs.declared.kind.XmlKind.{XmlKind}
+use Rattle.xml_tokens.specs.declared.kind.XmlKind.TheVariants.{NotUtf8, BadChar, TagTooLong, Doctype, BadMarkup}
 use Rattle.xml_tokens.specs.Searches.{begins_with, place_of, TagEnd, behind, none_within, none_yet, tag_end}
 use Rattle.xml_tokens.specs.Markup as markup
 use Rattle.xml_tokens.specs.Tags.{tag}
-use Rattle.xml_tokens.specs.Beginnings.{Position, farther, Beginning, bad, later, of_length, extent, extent_through, tag_at, comment_or_section_at, may_declare, markup_at, beginning, greatest_tag}
-use Rattle.xml_tokens.specs.Seen.{kind_of, Shows, shows_good, shows_bad, shows_later}
+use Rattle.xml_tokens.specs.Beginnings.{Beginning, bad, later, of_length, extent, extent_through, tag_at, comment_or_section_at, may_declare, markup_at, beginning, greatest_tag}
+use Rattle.xml_tokens.specs.declared.beginning.Position.{Position}
+use Rattle.xml_tokens.specs.declared.beginning.Position.TheVariants.{Farther}
+use Rattle.xml_tokens.specs.Seen.{Shows, shows_good, shows_bad, shows_later}
 use Rattle.xml_tokens.specs.Searching.{Searched, Fits, open_quote, quote_after}
 use Rattle.xml_tokens.specs.Told.{Tells, tells_token, tells_kind, IsRight, IsWrong, no_utf8, no_chars, beginning_of, are_chars, BeginsTag, begins_tag, ShowsTag, shows_tag, Ends, ends_behind, ends_not_within, ends_not_yet, shared_with_any, ends_inside_any}
 use Rattle.xml_tokens.specs.declared.scanning.TagEnd.TheVariants.{Behind, NoneWithin, NoneYet}
-use Rattle.xml_tokens.specs.declared.kind.XmlKind.{XmlKind}
 use Rattle.xml_tokens.specs.declared.token.Token.{Token}
 use Rattle.xml_tokens.specs.declared.beginning.Beginning as code
 use Rattle.xml_tokens.specs.declared.beginning.Beginning.TheVariants.{Bad, Later}
@@ -25,10 +27,10 @@ use Rattle.xml_tokens.specs.declared.beginning.Beginning.TheVariants.{Bad, Later
 pub right-text : (inside text : List ℕ) → text ≡ inside → IsUtf8 inside → are_chars text ≡ true → IsRight inside text
 right-text inside text e u h = record { same = e; utf8 = is_utf8-from_IsUtf8 inside u; characters = ap are_chars (sym e) ∙ h }
 
-pub wrong-chars : (inside text : List ℕ) → text ≡ inside → IsUtf8 inside → are_chars text ≡ false → IsWrong inside (kind_of bad_char)
+pub wrong-chars : (inside text : List ℕ) → text ≡ inside → IsUtf8 inside → are_chars text ≡ false → IsWrong inside BadChar
 wrong-chars inside text e u h = no_chars (is_utf8-from_IsUtf8 inside u) (ap are_chars (sym e) ∙ h)
 
-pub wrong-bytes : (inside : List ℕ) → ¬ (IsUtf8 inside) → IsWrong inside (kind_of not_utf8)
+pub wrong-bytes : (inside : List ℕ) → ¬ (IsUtf8 inside) → IsWrong inside NotUtf8
 wrong-bytes inside n = no_utf8 (by (is_utf8 inside) refl)
   where
     by : (t : Bool) → is_utf8 inside ≡ t → t ≡ false
@@ -36,33 +38,33 @@ wrong-bytes inside n = no_utf8 (by (is_utf8 inside) refl)
     by true e = absurd (n (IsUtf8-from_is_utf8 inside e))
 
 -- What is read of an extent.
-abbrev judged : ℕ → Bool → Bool → Result markup.Token FaultKind → Beginning
-judged n t u r = elim t [ false ↦ bad not_utf8 n | true ↦ elim u [ false ↦ bad bad_char n | true ↦ of_length n r ] ]
+abbrev judged : ℕ → Bool → Bool → Result markup.Token XmlKind → Beginning
+judged n t u r = elim t [ false ↦ bad NotUtf8 n | true ↦ elim u [ false ↦ bad BadChar n | true ↦ of_length n r ] ]
 
-pub extent-right : (n : ℕ) (inside text : List ℕ) (grammar : List ℕ → Result markup.Token FaultKind) (r : Result Token XmlKind) → IsRight inside text → Tells r (grammar text) → Shows (beginning_of n r) (extent n inside grammar)
+pub extent-right : (n : ℕ) (inside text : List ℕ) (grammar : List ℕ → Result markup.Token XmlKind) (r : Result Token XmlKind) → IsRight inside text → Tells r (grammar text) → Shows (beginning_of n r) (extent n inside grammar)
 unfolding extent
 extent-right n inside text grammar r right told =
     subst (λ t. Shows (beginning_of n r) (judged n t (list_all is_char (chars inside)) (grammar inside))) (sym right.utf8)
     (subst (λ u. Shows (beginning_of n r) (judged n true u (grammar inside))) (sym right.characters)
     (by r (grammar inside) (subst (λ x. Tells r (grammar x)) right.same told)))
   where
-    by : (r : Result Token XmlKind) (x : Result markup.Token FaultKind) → Tells r x → Shows (beginning_of n r) (of_length n x)
+    by : (r : Result Token XmlKind) (x : Result markup.Token XmlKind) → Tells r x → Shows (beginning_of n r) (of_length n x)
     by r x (tells_token token) = shows_good token n
     by r x (tells_kind kind) = shows_bad kind n
 
-pub extent-wrong : (n : ℕ) (inside : List ℕ) (grammar : List ℕ → Result markup.Token FaultKind) (kind : XmlKind) → IsWrong inside kind → Shows (Bad kind n) (extent n inside grammar)
+pub extent-wrong : (n : ℕ) (inside : List ℕ) (grammar : List ℕ → Result markup.Token XmlKind) (kind : XmlKind) → IsWrong inside kind → Shows (Bad kind n) (extent n inside grammar)
 unfolding extent
-extent-wrong n inside grammar kind (no_utf8 e) = subst (λ t. Shows (Bad (kind_of not_utf8) n) (judged n t (list_all is_char (chars inside)) (grammar inside))) (sym e) (shows_bad not_utf8 n)
+extent-wrong n inside grammar kind (no_utf8 e) = subst (λ t. Shows (Bad NotUtf8 n) (judged n t (list_all is_char (chars inside)) (grammar inside))) (sym e) (shows_bad NotUtf8 n)
 extent-wrong n inside grammar kind (no_chars e f) =
-    subst (λ t. Shows (Bad (kind_of bad_char) n) (judged n t (list_all is_char (chars inside)) (grammar inside))) (sym e)
-    (subst (λ u. Shows (Bad (kind_of bad_char) n) (judged n true u (grammar inside))) (sym f) (shows_bad bad_char n))
+    subst (λ t. Shows (Bad BadChar n) (judged n t (list_all is_char (chars inside)) (grammar inside))) (sym e)
+    (subst (λ u. Shows (Bad BadChar n) (judged n true u (grammar inside))) (sym f) (shows_bad BadChar n))
 
 -- an extent is never unfinished
-never-later : (n : ℕ) (r : Result markup.Token FaultKind) → of_length n r ≡ later → ⊥
+never-later : (n : ℕ) (r : Result markup.Token XmlKind) → of_length n r ≡ later → ⊥
 never-later n (Ok token) e = cc
 never-later n (Err kind) e = cc
 
-extent-ended : (n : ℕ) (inside : List ℕ) (grammar : List ℕ → Result markup.Token FaultKind) → extent n inside grammar ≡ later → ⊥
+extent-ended : (n : ℕ) (inside : List ℕ) (grammar : List ℕ → Result markup.Token XmlKind) → extent n inside grammar ≡ later → ⊥
 unfolding extent
 extent-ended n inside grammar e = by (is_utf8 inside) (list_all is_char (chars inside)) e
   where
@@ -72,7 +74,7 @@ extent-ended n inside grammar e = by (is_utf8 inside) (list_all is_char (chars i
     by true true e = never-later n (grammar inside) e
 
 -- Extents that end with a string.
-module _ (string : List ℕ) (opening : ℕ) (grammar : List ℕ → Result markup.Token FaultKind) where
+module _ (string : List ℕ) (opening : ℕ) (grammar : List ℕ → Result markup.Token XmlKind) where
   abbrev pub through : Option ℕ → List ℕ → Beginning
   through x bytes = elim x [ None ↦ later | (Some n) ↦ extent (opening + (n + length string)) (take n bytes) grammar ]
 
@@ -104,12 +106,12 @@ take-behind (b ∷ front) bytes (suc n) h =
     ap (λ x. b ∷ x) (take-behind front bytes n (omega arith) ∙ ap (λ k. front ++ take k bytes) e)
 
 -- How far such an extent was searched.
-module _ (front string : List ℕ) (grammar : List ℕ → Result markup.Token FaultKind) (computes : (bytes : List ℕ) → beginning farther false (front ++ bytes) ≡ extent_through string (length front) bytes grammar) (unquoted : (bytes : List ℕ) → open_quote (front ++ bytes) ≡ None) where
+module _ (front string : List ℕ) (grammar : List ℕ → Result markup.Token XmlKind) (computes : (bytes : List ℕ) → beginning Farther false (front ++ bytes) ≡ extent_through string (length front) bytes grammar) (unquoted : (bytes : List ℕ) → open_quote (front ++ bytes) ≡ None) where
   vain-in : (s : Searched) (bytes : List ℕ) → Fits s (front ++ bytes) → place_of string (take (s.searched - length front) bytes) ≡ None
   vain-in s bytes fits = elim (cases_lt s.searched (length front)) [
     | inl short ↦ (let none : s.searched - length front ≡ 0 = omega arith in ap (λ n. place_of string (take n bytes)) none)
     | inr long ↦ through-vain string (length front) grammar (take (s.searched - length front) bytes)
-        (sym (computes (take (s.searched - length front) bytes)) ∙ (ap (beginning farther false) (sym (take-behind front bytes s.searched long)) ∙ fits.in_vain))
+        (sym (computes (take (s.searched - length front) bytes)) ∙ (ap (beginning Farther false) (sym (take-behind front bytes s.searched long)) ∙ fits.in_vain))
   ]
 
   within-in : (s : Searched) (bytes : List ℕ) → Fits s (front ++ bytes) → s.searched - length front ≤ length bytes
@@ -120,14 +122,14 @@ module _ (front string : List ℕ) (grammar : List ℕ → Result markup.Token F
       let all : take s.searched (front ++ bytes) ≡ front ++ bytes = take_all s.searched (front ++ bytes) (omega (arith, length-append front bytes)) in
       record {
         within = omega (arith, length-append front bytes);
-        in_vain = ap (beginning farther false) all ∙ (computes bytes ∙ through-open string (length front) grammar bytes none);
+        in_vain = ap (beginning Farther false) all ∙ (computes bytes ∙ through-open string (length front) grammar bytes none);
         quote = q ∙ sym (ap open_quote all ∙ unquoted bytes);
       }
 
 abbrev comment_front : List ℕ
 comment_front = 0x3C ∷ (0x21 ∷ (0x2D ∷ (0x2D ∷ [])))
 
-comment-computes : (bytes : List ℕ) → beginning farther false (comment_front ++ bytes) ≡ extent_through (codes "-->") 4 bytes markup.comment
+comment-computes : (bytes : List ℕ) → beginning Farther false (comment_front ++ bytes) ≡ extent_through (codes "-->") 4 bytes markup.comment
 unfolding beginning
 comment-computes bytes = refl
 
@@ -146,7 +148,7 @@ comment-out = fits-out comment_front (codes "-->") markup.comment comment-comput
 abbrev section_front : List ℕ
 section_front = 0x3C ∷ (0x21 ∷ (0x5B ∷ (0x43 ∷ (0x44 ∷ (0x41 ∷ (0x54 ∷ (0x41 ∷ (0x5B ∷ []))))))))
 
-section-computes : (bytes : List ℕ) → beginning farther false (section_front ++ bytes) ≡ extent_through (codes "]]>") 9 bytes markup.section
+section-computes : (bytes : List ℕ) → beginning Farther false (section_front ++ bytes) ≡ extent_through (codes "]]>") 9 bytes markup.section
 unfolding beginning
 section-computes bytes = refl
 
@@ -165,7 +167,7 @@ section-out = fits-out section_front (codes "]]>") markup.section section-comput
 abbrev instruction_front : List ℕ
 instruction_front = 0x3C ∷ (0x3F ∷ [])
 
-instruction-computes : (bytes : List ℕ) → beginning farther false (instruction_front ++ bytes) ≡ extent_through (codes "?>") 2 bytes (markup.instruction false)
+instruction-computes : (bytes : List ℕ) → beginning Farther false (instruction_front ++ bytes) ≡ extent_through (codes "?>") 2 bytes (markup.instruction false)
 unfolding beginning
 instruction-computes bytes = refl
 
@@ -183,7 +185,7 @@ instruction-out = fits-out instruction_front (codes "?>") (markup.instruction fa
 
 -- How far a tag was searched.
 abbrev tagged : TagEnd → List ℕ → Beginning
-tagged x bytes = elim x [ none_within ↦ bad tag_too_long greatest_tag | none_yet ↦ later | (behind n) ↦ extent (n + 2) (take n bytes) tag ]
+tagged x bytes = elim x [ none_within ↦ bad TagTooLong greatest_tag | none_yet ↦ later | (behind n) ↦ extent (n + 2) (take n bytes) tag ]
 
 not-yet : (bytes : List ℕ) → tag_at bytes ≡ later → tag_end bytes None 262143 ≡ none_yet
 not-yet bytes e = by (tag_end bytes None 262143) e
@@ -202,9 +204,9 @@ by_first t u position rest whole = elim t [
 pub markup-tag : (position : Position) (c : ℕ) (rest : List ℕ) → (c == 0x21) ≡ false → (c == 0x3F) ≡ false → markup_at position (c ∷ rest) ≡ tag_at (c ∷ rest)
 markup-tag position c rest e f = ap (λ t. by_first t (c == 0x3F) position rest (c ∷ rest)) e ∙ ap (λ u. by_first false u position rest (c ∷ rest)) f
 
-tag-computes : (c : ℕ) (rest : List ℕ) → (c == 0x21) ≡ false → (c == 0x3F) ≡ false → beginning farther false (0x3C ∷ (c ∷ rest)) ≡ tag_at (c ∷ rest)
+tag-computes : (c : ℕ) (rest : List ℕ) → (c == 0x21) ≡ false → (c == 0x3F) ≡ false → beginning Farther false (0x3C ∷ (c ∷ rest)) ≡ tag_at (c ∷ rest)
 unfolding beginning
-tag-computes c rest e f = markup-tag farther c rest e f
+tag-computes c rest e f = markup-tag Farther c rest e f
 
 tag-quote : (c : ℕ) (rest : List ℕ) → (c == 0x21) ≡ false → (c == 0x3F) ≡ false → open_quote (0x3C ∷ (c ∷ rest)) ≡ quote_after None (c ∷ rest)
 tag-quote c rest e f = ap (λ t. if t || c == 0x3F then None else quote_after None (c ∷ rest)) e ∙ ap (λ t. if t then None else quote_after None (c ∷ rest)) f
@@ -237,7 +239,7 @@ tag-in s bytes (begins_tag c rest e f) fits = by s.searched refl
         let within : s.searched ≤ suc (suc (length rest)) = fits.within in
         record {
           within = omega arith;
-          in_vain = ap (λ n. tag_end (take n (c ∷ rest)) None 262143) some ∙ not-yet (c ∷ take k rest) (sym (tag-computes c (take k rest) e f) ∙ (ap (λ n. beginning farther false (take n (0x3C ∷ (c ∷ rest)))) (sym h) ∙ fits.in_vain));
+          in_vain = ap (λ n. tag_end (take n (c ∷ rest)) None 262143) some ∙ not-yet (c ∷ take k rest) (sym (tag-computes c (take k rest) e f) ∙ (ap (λ n. beginning Farther false (take n (0x3C ∷ (c ∷ rest)))) (sym h) ∙ fits.in_vain));
           quote = fits.quote ∙ (ap (λ n. open_quote (take n (0x3C ∷ (c ∷ rest)))) h ∙ (tag-quote c (take k rest) e f ∙ sym (ap (λ n. quote_after None (take n (c ∷ rest))) some)));
         }
 
@@ -246,7 +248,7 @@ tag-out s bytes (begins_tag c rest e f) h q none =
     let all : take s.searched (0x3C ∷ (c ∷ rest)) ≡ 0x3C ∷ (c ∷ rest) = take_all s.searched (0x3C ∷ (c ∷ rest)) (omega arith) in
     record {
       within = omega arith;
-      in_vain = ap (beginning farther false) all ∙ (tag-computes c rest e f ∙ ap (λ x. tagged x (c ∷ rest)) none);
+      in_vain = ap (beginning Farther false) all ∙ (tag-computes c rest e f ∙ ap (λ x. tagged x (c ∷ rest)) none);
       quote = q ∙ sym (ap open_quote all ∙ tag-quote c rest e f);
     }
 
@@ -254,8 +256,8 @@ tag-out s bytes (begins_tag c rest e f) h q none =
 pub tag-shown : (found : code.Beginning) (bytes inside : List ℕ) (n : ℕ) → tag_end bytes None 262143 ≡ behind n → inside ≡ take n bytes → ShowsTag found (n + 2) inside → Shows found (tag_at bytes)
 tag-shown found bytes inside n e f (shows_tag found' n' inside' shows) = subst (λ x. Shows found (tagged x bytes)) (sym e) (subst (λ x. Shows found (extent (n + 2) x tag)) f shows)
 
-pub tag-too-far : (bytes : List ℕ) → tag_end bytes None 262143 ≡ none_within → Shows (Bad (kind_of tag_too_long) 262144) (tag_at bytes)
-tag-too-far bytes e = subst (λ x. Shows (Bad (kind_of tag_too_long) 262144) (tagged x bytes)) (sym e) (shows_bad tag_too_long 262144)
+pub tag-too-far : (bytes : List ℕ) → tag_end bytes None 262143 ≡ none_within → Shows (Bad TagTooLong 262144) (tag_at bytes)
+tag-too-far bytes e = subst (λ x. Shows (Bad TagTooLong 262144) (tagged x bytes)) (sym e) (shows_bad TagTooLong 262144)
 
 pub tag-open : (bytes : List ℕ) → tag_end bytes None 262143 ≡ none_yet → Shows Later (tag_at bytes)
 tag-open bytes e = subst (λ x. Shows Later (tagged x bytes)) (sym e) shows_later
@@ -279,7 +281,7 @@ chosen t1 t2 t3 inside n bytes = elim t1 [
   | true ↦ extent_through (codes "-->") 4 (drop 2 bytes) markup.comment
   | false ↦ elim t2 [
     | true ↦ extent_through (codes "]]>") 9 (drop 7 bytes) markup.section
-    | false ↦ elim t3 [ true ↦ bad doctype 9 | false ↦ elim inside [ true ↦ later | false ↦ bad bad_markup (3 + n) ] ]
+    | false ↦ elim t3 [ true ↦ bad Doctype 9 | false ↦ elim inside [ true ↦ later | false ↦ bad BadMarkup (3 + n) ] ]
   ]
 ]
 
@@ -291,13 +293,13 @@ chosen-by bytes t1 t2 t3 inside e1 e2 e3 e4 =
     ∙ (ap (λ t. chosen t1 t2 t (ends_inside_any bytes) (shared_with_any bytes) bytes) e3
     ∙ ap (λ t. chosen t1 t2 t3 t (shared_with_any bytes) bytes) e4))
 
-pub doctype-shown : (bytes : List ℕ) → begins_with (codes "--") bytes ≡ false → begins_with (codes "[CDATA[") bytes ≡ false → begins_with (codes "DOCTYPE") bytes ≡ true → Shows (Bad (kind_of doctype) 9) (comment_or_section_at bytes)
-doctype-shown bytes e1 e2 e3 = subst (λ x. Shows (Bad (kind_of doctype) 9) x) (sym (chosen-by bytes false false true _ e1 e2 e3 refl)) (shows_bad doctype 9)
+pub doctype-shown : (bytes : List ℕ) → begins_with (codes "--") bytes ≡ false → begins_with (codes "[CDATA[") bytes ≡ false → begins_with (codes "DOCTYPE") bytes ≡ true → Shows (Bad Doctype 9) (comment_or_section_at bytes)
+doctype-shown bytes e1 e2 e3 = subst (λ x. Shows (Bad Doctype 9) x) (sym (chosen-by bytes false false true _ e1 e2 e3 refl)) (shows_bad Doctype 9)
 
 pub inside-shown : (bytes : List ℕ) → begins_with (codes "--") bytes ≡ false → begins_with (codes "[CDATA[") bytes ≡ false → begins_with (codes "DOCTYPE") bytes ≡ false → ends_inside_any bytes ≡ true → Shows Later (comment_or_section_at bytes)
 inside-shown bytes e1 e2 e3 e4 = subst (λ x. Shows Later x) (sym (chosen-by bytes false false false true e1 e2 e3 e4)) shows_later
 
 pub other-shown : (bytes : List ℕ) (n : ℕ) → begins_with (codes "--") bytes ≡ false → begins_with (codes "[CDATA[") bytes ≡ false → begins_with (codes "DOCTYPE") bytes ≡ false → ends_inside_any bytes ≡ false → n ≡ shared_with_any bytes
-    → Shows (Bad (kind_of bad_markup) (3 + n)) (comment_or_section_at bytes)
-other-shown bytes n e1 e2 e3 e4 e5 = subst (λ x. Shows (Bad (kind_of bad_markup) (3 + n)) x) (sym (chosen-by bytes false false false false e1 e2 e3 e4))
-    (subst (λ m. Shows (Bad (kind_of bad_markup) (3 + n)) (bad bad_markup (3 + m))) e5 (shows_bad bad_markup (3 + n)))
+    → Shows (Bad BadMarkup (3 + n)) (comment_or_section_at bytes)
+other-shown bytes n e1 e2 e3 e4 e5 = subst (λ x. Shows (Bad BadMarkup (3 + n)) x) (sym (chosen-by bytes false false false false e1 e2 e3 e4))
+    (subst (λ m. Shows (Bad BadMarkup (3 + n)) (bad BadMarkup (3 + m))) e5 (shows_bad BadMarkup (3 + n)))

@@ -2,6 +2,7 @@ pub mod ScannerLemmas
 pub mod ReferenceLemmas
 pub mod BeginningLemmas
 pub mod WithinLemmas
+pub mod KindLemmas
 pub mod SearchingLemmas
 pub mod StringLemmas
 pub mod TagEndLemmas

@@ -10,19 +10,20 @@ use Rattle.inv_base.specs.Characters.{is_white_space}
 use Rattle.xml_tokens.specs.Literals.{behind_white_space}
 use Rattle.xml_tokens.proofs.NameLemmas.{xml-told}
 use Rattle.std.specs.Prelude.{codes}
-use Rattle.xml_tokens.specs.Faults.{FaultKind, bad_markup, bad_declaration}
+use Rattle.xml_tokens.specs.declared.kind.XmlKind.{XmlKind}
+use Rattle.xml_tokens.specs.declared.kind.XmlKind.TheVariants.{BadMarkup, BadDeclaration}
 use Rattle.xml_tokens.specs.Markup as markup
 use Rattle.xml_tokens.specs.Searches.{begins_with, place_of}
-use Rattle.xml_tokens.specs.Seen.{kind_of, seen_token}
+use Rattle.xml_tokens.specs.Seen.{seen_token}
 use Rattle.xml_tokens.specs.Told.{Tells, tells_token, tells_kind, IsTarget, aside_if}
 use Rattle.xml_tokens.specs.declared.token.Token.{Token}
 use Rattle.xml_tokens.specs.declared.token.Token.TheVariants.{Aside}
 
-pub tells-right : (token : Token) (r : Result markup.Token FaultKind) → Ok (seen_token token) ≡ r → Tells (Ok token) r
+pub tells-right : (token : Token) (r : Result markup.Token XmlKind) → Ok (seen_token token) ≡ r → Tells (Ok token) r
 tells-right token r e = subst (λ x. Tells (Ok token) x) e (tells_token token)
 
-pub tells-wrong : (kind : FaultKind) (r : Result markup.Token FaultKind) → Err kind ≡ r → Tells (Err (kind_of kind)) r
-tells-wrong kind r e = subst (λ x. Tells (Err (kind_of kind)) x) e (tells_kind kind)
+pub tells-wrong : (kind : XmlKind) (r : Result markup.Token XmlKind) → Err kind ≡ r → Tells (Err kind) r
+tells-wrong kind r e = subst (λ x. Tells (Err kind) x) e (tells_kind kind)
 
 abbrev no_place : Bool → Option ℕ → Bool
 no_place t x = is_none {T = ℕ} (elim t [ true ↦ Some 0 | false ↦ option_map (λ n. 1 + n) x ])
@@ -50,41 +51,41 @@ comment-told (b ∷ (d ∷ rest)) =
     by true false e h = cc
     by false true e h = cc
 
-pub tells-if : (right : Bool) (kind : FaultKind) → Tells (aside_if right (kind_of kind)) (markup.if_right right markup.an_aside kind)
+pub tells-if : (right : Bool) (kind : XmlKind) → Tells (aside_if right kind) (markup.if_right right markup.an_aside kind)
 tells-if true kind = tells_token Aside
 tells-if false kind = tells_kind kind
 
 -- a comment
-pub tells-comment : (inside : List ℕ) (right : Bool) → right ≡ is_none (place_of (codes "--") (inside ++ codes "-")) → Tells (aside_if right (kind_of bad_markup)) (markup.comment inside)
+pub tells-comment : (inside : List ℕ) (right : Bool) → right ≡ is_none (place_of (codes "--") (inside ++ codes "-")) → Tells (aside_if right BadMarkup) (markup.comment inside)
 unfolding markup.comment
-tells-comment inside right e = subst (λ t. Tells (aside_if right (kind_of bad_markup)) (markup.if_right t markup.an_aside bad_markup)) e (tells-if right bad_markup)
+tells-comment inside right e = subst (λ t. Tells (aside_if right BadMarkup) (markup.if_right t markup.an_aside BadMarkup)) e (tells-if right BadMarkup)
 
 -- an instruction by its target
-abbrev by_target : Bool → Bool → Bool → Result markup.Token FaultKind
-by_target t u v = if t then markup.if_right u markup.an_aside bad_declaration else markup.if_right v markup.an_aside bad_markup
+abbrev by_target : Bool → Bool → Bool → Result markup.Token XmlKind
+by_target t u v = if t then markup.if_right u markup.an_aside BadDeclaration else markup.if_right v markup.an_aside BadMarkup
 
 pub tells-declaration : (may_declare : Bool) (inside target rest : List ℕ) (right : Bool) → IsUtf8 target → IsTarget inside target rest → bytes_eq target (codes "xml") ≡ true → right ≡ (may_declare && markup.is_declaration rest)
-    → Tells (aside_if right (kind_of bad_declaration)) (markup.instruction may_declare inside)
+    → Tells (aside_if right BadDeclaration) (markup.instruction may_declare inside)
 unfolding markup.instruction
 tells-declaration may_declare inside target rest right u is e f =
     let whole_target = markup.target_of (chars inside) in
     let long : length target ≡ 3 = pointwise_long nat_eq target (codes "xml") e in
     let behind : drop 3 inside ≡ rest = ap (drop 3) is.whole ∙ drop_at target rest 3 long in
     let spelled : bytes_eq whole_target (codes "xml") ≡ true = ap (λ x. bytes_eq x (codes "xml")) (sym is.target) ∙ (xml-told target u ∙ e) in
-    subst (λ t. Tells (aside_if right (kind_of bad_declaration)) (by_target t (may_declare && markup.is_declaration (drop 3 inside)) (markup.is_target whole_target && markup.ends_target (drop (length whole_target) (chars inside))))) (sym spelled)
-    (subst (λ x. Tells (aside_if right (kind_of bad_declaration)) (markup.if_right (may_declare && markup.is_declaration x) markup.an_aside bad_declaration)) (sym behind)
-    (subst (λ t. Tells (aside_if right (kind_of bad_declaration)) (markup.if_right t markup.an_aside bad_declaration)) f (tells-if right bad_declaration)))
+    subst (λ t. Tells (aside_if right BadDeclaration) (by_target t (may_declare && markup.is_declaration (drop 3 inside)) (markup.is_target whole_target && markup.ends_target (drop (length whole_target) (chars inside))))) (sym spelled)
+    (subst (λ x. Tells (aside_if right BadDeclaration) (markup.if_right (may_declare && markup.is_declaration x) markup.an_aside BadDeclaration)) (sym behind)
+    (subst (λ t. Tells (aside_if right BadDeclaration) (markup.if_right t markup.an_aside BadDeclaration)) f (tells-if right BadDeclaration)))
 
 pub tells-instruction : (may_declare : Bool) (inside target rest : List ℕ) (right : Bool) → IsUtf8 target → IsTarget inside target rest → bytes_eq target (codes "xml") ≡ false → right ≡ (markup.is_target (chars target) && markup.ends_target (chars rest))
-    → Tells (aside_if right (kind_of bad_markup)) (markup.instruction may_declare inside)
+    → Tells (aside_if right BadMarkup) (markup.instruction may_declare inside)
 unfolding markup.instruction
 tells-instruction may_declare inside target rest right u is e f =
     let whole_target = markup.target_of (chars inside) in
     let spelled : bytes_eq whole_target (codes "xml") ≡ false = ap (λ x. bytes_eq x (codes "xml")) (sym is.target) ∙ (xml-told target u ∙ e) in
     let same : right ≡ (markup.is_target whole_target && markup.ends_target (drop (length whole_target) (chars inside))) =
     f ∙ (ap (λ x. markup.is_target x && markup.ends_target (chars rest)) is.target ∙ ap (λ x. markup.is_target whole_target && markup.ends_target x) is.behind) in
-    subst (λ t. Tells (aside_if right (kind_of bad_markup)) (by_target t (may_declare && markup.is_declaration (drop 3 inside)) (markup.is_target whole_target && markup.ends_target (drop (length whole_target) (chars inside))))) (sym spelled)
-    (subst (λ t. Tells (aside_if right (kind_of bad_markup)) (markup.if_right t markup.an_aside bad_markup)) same (tells-if right bad_markup))
+    subst (λ t. Tells (aside_if right BadMarkup) (by_target t (may_declare && markup.is_declaration (drop 3 inside)) (markup.is_target whole_target && markup.ends_target (drop (length whole_target) (chars inside))))) (sym spelled)
+    (subst (λ t. Tells (aside_if right BadMarkup) (markup.if_right t markup.an_aside BadMarkup)) same (tells-if right BadMarkup))
 
 pub ends-nothing : (rest : List ℕ) → rest ≡ [] → true ≡ markup.ends_target (chars rest)
 ends-nothing rest e = ap (λ x. markup.ends_target x) (sym (ap chars e ∙ chars-nil))

@@ -1,18 +1,19 @@
 -- What is found of a reference stays.
 use Rattle.std.proofs.Common.{◌≡◌, ℕ, zero, suc, ◌+◌, ◌≤◌, ◌==◌, Bool, true, false, List, [], ◌∷◌, ◌++◌, length, drop, refl, sym, ap, ◌∙◌, arith, Option, Some, None, subst}
-use Rattle.xml_tokens.specs.Encoding.{Begun, broken, unfinished}
+use Rattle.xml_tokens.specs.declared.encoding.Begun.{Begun}
+use Rattle.xml_tokens.specs.declared.encoding.Begun.TheVariants.{Broken, Unfinished}
 use Rattle.xml_tokens.proofs.ScannerLemmas.{BegunFrom, BegunStays, same, goes_on}
 use Rattle.xml_tokens.specs.References.{is_reference_byte, reference_body, refers, referred, reference_at, greatest_reference}
 
 -- the reference of a body and what stands behind it
-abbrev of_body : List ℕ → List ℕ → Begun
-of_body body rest = elim rest [ [] ↦ unfinished | (b ∷ more) ↦ elim (b == 0x3B) [ true ↦ refers (length body + 2) (referred body) | false ↦ broken (length body + 2) ] ]
+abbrev of_body : List ℕ → List ℕ → Begun ℕ
+of_body body rest = elim rest [ [] ↦ Unfinished | (b ∷ more) ↦ elim (b == 0x3B) [ true ↦ refers (length body + 2) (referred body) | false ↦ Broken (length body + 2) ] ]
 
 of_body-from : (body rest : List ℕ) (k : ℕ) → k ≤ length body + 2 → BegunFrom k (of_body body rest)
 of_body-from body [] k h = tt
 of_body-from body (b ∷ rest) k h = by (b == 0x3B) (referred body)
   where
-    by : (t : Bool) (x : Option ℕ) → BegunFrom k (elim t [ true ↦ refers (length body + 2) x | false ↦ broken (length body + 2) ])
+    by : (t : Bool) (x : Option ℕ) → BegunFrom k (elim t [ true ↦ refers (length body + 2) x | false ↦ Broken (length body + 2) ])
     by true None = h
     by true (Some c) = h
     by false x = h

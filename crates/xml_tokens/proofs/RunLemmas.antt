@@ -5,17 +5,19 @@ use Rattle.std.proofs.lemmas.Bool.Decides.{nat_tests}
 use lib.Utf8.{scalar, encode}
 use Rattle.inv_base.specs.Characters.{is_char}
 use Rattle.inv_base.proofs.TextLemmas.{both}
-use Rattle.xml_tokens.specs.Encoding as encoding
+use Rattle.xml_tokens.specs.declared.encoding.Begun.TheVariants as begun
 use Rattle.xml_tokens.specs.Encoding.{character_at}
 use Rattle.xml_tokens.specs.Markup.{a_character}
 use Rattle.xml_tokens.specs.Runs.{is_plain}
-use Rattle.xml_tokens.specs.Beginnings.{Position, at_start, behind_mark, farther, good, beginning, character_token, begins_with_mark}
+use Rattle.xml_tokens.specs.Beginnings.{good, beginning, character_token, begins_with_mark}
+use Rattle.xml_tokens.specs.declared.beginning.Position.{Position}
+use Rattle.xml_tokens.specs.declared.beginning.Position.TheVariants.{AtStart, BehindMark, Farther}
 use Rattle.xml_tokens.proofs.CharacterLemmas.{begins, other}
 
 abbrev pub is_start : Position → Bool
-is_start at_start = true
-is_start behind_mark = false
-is_start farther = false
+is_start AtStart = true
+is_start BehindMark = false
+is_start Farther = false
 
 pub char-scalar : (c : ℕ) → is_char c ≡ true → scalar c ≡ true
 unfolding is_char
@@ -38,7 +40,7 @@ elim-true : {A : Type 0} (t : Bool) (x y : A) → t ≡ true → (elim t [ true 
 elim-true t x y h = ap (λ t. elim t [ true ↦ x | false ↦ y ]) h
 
 begins-plain : (p : Position) (ended : Bool) (first : ℕ) (more : List ℕ) (c n : ℕ) → is_start p ≡ false → ¬ (first ≡ 0x3C) → ¬ (first ≡ 0x26) → ¬ (first ≡ 0x5D) → ¬ (first ≡ 0xD)
-    → character_at first more ≡ encoding.a_character c n → is_char c ≡ true → beginning p ended (first ∷ more) ≡ good (a_character c) n
+    → character_at first more ≡ begun.Character c n → is_char c ≡ true → beginning p ended (first ∷ more) ≡ good (a_character c) n
 unfolding beginning
 begins-plain p ended first more c n s a b d e reads char =
     elim-false (first == 0x3C) _ _ (other first 0x3C a)
@@ -49,9 +51,9 @@ begins-plain p ended first more c n s a b d e reads char =
     ∙ (ap character_token reads ∙ elim-true (is_char c) _ _ char)))))
   where
     unmarked : (p : Position) → is_start p ≡ false → begins_with_mark p (first ∷ more) ≡ false
-    unmarked at_start h = absurd (true≢false h)
-    unmarked behind_mark h = refl
-    unmarked farther h = refl
+    unmarked AtStart h = absurd (true≢false h)
+    unmarked BehindMark h = refl
+    unmarked Farther h = refl
 
 pub plain-begins : (p : Position) (ended : Bool) (c : ℕ) (more : List ℕ) → is_start p ≡ false → is_plain c ≡ true
     → beginning p ended (encode_utf8 c ++ more) ≡ good (a_character c) (length (encode_utf8 c))

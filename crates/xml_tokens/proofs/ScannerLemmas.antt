@@ -1,24 +1,27 @@
--- What is found at a front of the bytes stays where the bytes go on, and what isn't found yet ends no earlier than they do.
+-- What is found at a front of the bytes stays where the bytes go on, and what isn't found yet ends no earlier than they
+-- do.
 use Rattle.std.proofs.Common.{◌≡◌, ℕ, zero, suc, ◌+◌, ◌-◌, ◌*◌, ◌<◌, ◌≤◌, ◌==◌, Bool, true, false, ◌&&◌, nat_lt, List, [], ◌∷◌, ◌++◌, length, refl, sym, ap, ◌∙◌, arith, Option, Some, None, option_map, if◌then◌else◌, subst, true≢false}
 use Rattle.inv_base.specs.Characters.{is_within}
+use Rattle.xml_tokens.specs.declared.encoding.Begun.{Begun}
 use Rattle.xml_tokens.specs.Searches.{begins_with, ends_inside, shared_front, place_of, TagEnd, behind, none_within, none_yet, one_farther, quote_behind, ends_tag, tag_end}
-use Rattle.xml_tokens.specs.Encoding.{Begun, a_character, broken, unfinished, continued, behind_lead, character_at}
+use Rattle.xml_tokens.specs.Encoding.{continued, behind_lead, character_at}
+use Rattle.xml_tokens.specs.declared.encoding.Begun.TheVariants.{Character, Broken, Unfinished}
 
-abbrev pub BegunFrom : ℕ → Begun → Type 0
-BegunFrom k (a_character c n) = k ≤ n
-BegunFrom k (broken n) = k ≤ n
-BegunFrom k unfinished = Unit {0}
+abbrev pub BegunFrom : ℕ → Begun ℕ → Type 0
+BegunFrom k (Character c n) = k ≤ n
+BegunFrom k (Broken n) = k ≤ n
+BegunFrom k Unfinished = Unit {0}
 
-pub data BegunStays : ℕ → Begun → Begun → Type 0 where
-  same : (k : ℕ) (x : Begun) → BegunStays k x x
-  goes_on : (k : ℕ) (m : Begun) → BegunFrom k m → BegunStays k unfinished m
+pub data BegunStays : ℕ → Begun ℕ → Begun ℕ → Type 0 where
+  same : (k : ℕ) (x : Begun ℕ) → BegunStays k x x
+  goes_on : (k : ℕ) (m : Begun ℕ) → BegunFrom k m → BegunStays k Unfinished m
 
-begun_weaker : (k l : ℕ) → k ≤ l → (x : Begun) → BegunFrom l x → BegunFrom k x
-begun_weaker k l h (a_character c n) f = let g : l ≤ n = f in omega arith
-begun_weaker k l h (broken n) f = let g : l ≤ n = f in omega arith
-begun_weaker k l h unfinished f = tt
+begun_weaker : (k l : ℕ) → k ≤ l → (x : Begun ℕ) → BegunFrom l x → BegunFrom k x
+begun_weaker k l h (Character c n) f = let g : l ≤ n = f in omega arith
+begun_weaker k l h (Broken n) f = let g : l ≤ n = f in omega arith
+begun_weaker k l h Unfinished f = tt
 
-begun_if : (k : ℕ) (t : Bool) (x x' y y' : Begun) → BegunStays k x x' → BegunStays k y y' → BegunStays k (if t then x else y) (if t then x' else y')
+begun_if : (k : ℕ) (t : Bool) (x x' y y' : Begun ℕ) → BegunStays k x x' → BegunStays k y y' → BegunStays k (if t then x else y) (if t then x' else y')
 begun_if k true x x' y y' h g = h
 begun_if k false x x' y y' h g = g
 
@@ -27,19 +30,19 @@ continued-from zero low high c n bytes = omega arith
 continued-from (suc more) low high c n [] = tt
 continued-from (suc more) low high c n (b ∷ bytes) = by (is_within low high b) (continued-from more 0x80 0xBF (c * 64 + (b - 0x80)) (n + 1) bytes)
   where
-    by : (t : Bool) → BegunFrom (n + 1) (continued more 0x80 0xBF (c * 64 + (b - 0x80)) (n + 1) bytes) → BegunFrom n (if t then continued more 0x80 0xBF (c * 64 + (b - 0x80)) (n + 1) bytes else broken (n + 1))
+    by : (t : Bool) → BegunFrom (n + 1) (continued more 0x80 0xBF (c * 64 + (b - 0x80)) (n + 1) bytes) → BegunFrom n (if t then continued more 0x80 0xBF (c * 64 + (b - 0x80)) (n + 1) bytes else Broken (n + 1))
     by true f = begun_weaker n (n + 1) (omega arith) (continued more 0x80 0xBF (c * 64 + (b - 0x80)) (n + 1) bytes) f
     by false f = omega arith
 
 continued-stays : (more low high c n : ℕ) (a b : List ℕ) → BegunStays (n + length a) (continued more low high c n a) (continued more low high c n (a ++ b))
-continued-stays zero low high c n a b = same (n + length a) (a_character c n)
+continued-stays zero low high c n a b = same (n + length a) (Character c n)
 continued-stays (suc more) low high c n [] b =
     goes_on (n + 0) (continued (suc more) low high c n b) (begun_weaker (n + 0) n (omega arith) (continued (suc more) low high c n b) (continued-from (suc more) low high c n b))
 continued-stays (suc more) low high c n (d ∷ a) b =
     let e : n + 1 + length a ≡ n + length (d ∷ a) = omega arith in
-    begun_if (n + length (d ∷ a)) (is_within low high d) (continued more 0x80 0xBF (c * 64 + (d - 0x80)) (n + 1) a) (continued more 0x80 0xBF (c * 64 + (d - 0x80)) (n + 1) (a ++ b)) (broken (n + 1)) (broken (n + 1))
+    begun_if (n + length (d ∷ a)) (is_within low high d) (continued more 0x80 0xBF (c * 64 + (d - 0x80)) (n + 1) a) (continued more 0x80 0xBF (c * 64 + (d - 0x80)) (n + 1) (a ++ b)) (Broken (n + 1)) (Broken (n + 1))
     (subst (λ k. BegunStays k (continued more 0x80 0xBF (c * 64 + (d - 0x80)) (n + 1) a) (continued more 0x80 0xBF (c * 64 + (d - 0x80)) (n + 1) (a ++ b))) e (continued-stays more 0x80 0xBF (c * 64 + (d - 0x80)) (n + 1) a b))
-    (same (n + length (d ∷ a)) (broken (n + 1)))
+    (same (n + length (d ∷ a)) (Broken (n + 1)))
 
 pub lead-stays : (c : ℕ) (a b : List ℕ) → BegunStays (1 + length a) (behind_lead c a) (behind_lead c (a ++ b))
 lead-stays c a b =
@@ -50,14 +53,14 @@ lead-stays c a b =
     (begun_if _ (c == 0xF0) _ _ _ _ (continued-stays 3 0x90 0xBF 0 1 a b)
     (begun_if _ (is_within 0xF1 0xF3 c) _ _ _ _ (continued-stays 3 0x80 0xBF (c - 0xF0) 1 a b)
     (begun_if _ (c == 0xF4) _ _ _ _ (continued-stays 3 0x80 0x8F 4 1 a b)
-    (same (1 + length a) (broken 1))))))))
+    (same (1 + length a) (Broken 1))))))))
 
 pub character-stays : (c : ℕ) (a b : List ℕ) → BegunStays (1 + length a) (character_at c a) (character_at c (a ++ b))
 unfolding character_at
 character-stays c a b = by (nat_lt c 0x80)
   where
-    by : (t : Bool) → BegunStays (1 + length a) (elim t [ true ↦ a_character c 1 | false ↦ behind_lead c a ]) (elim t [ true ↦ a_character c 1 | false ↦ behind_lead c (a ++ b) ])
-    by true = same (1 + length a) (a_character c 1)
+    by : (t : Bool) → BegunStays (1 + length a) (elim t [ true ↦ Character c 1 | false ↦ behind_lead c a ]) (elim t [ true ↦ Character c 1 | false ↦ behind_lead c (a ++ b) ])
+    by true = same (1 + length a) (Character c 1)
     by false = lead-stays c a b
 
 -- The end of a tag.

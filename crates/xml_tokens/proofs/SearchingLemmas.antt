@@ -1,7 +1,8 @@
 -- What was searched of an unfinished token.
 use Rattle.std.proofs.Common.{◌≡◌, ℕ, false, List, ◌++◌, take, refl, sym, ap, ◌∙◌, arith}
 use Rattle.std.proofs.lemmas.List.{take-append-le, length-append}
-use Rattle.xml_tokens.specs.Beginnings.{beginning, farther}
+use Rattle.xml_tokens.specs.Beginnings.{beginning}
+use Rattle.xml_tokens.specs.declared.beginning.Position.TheVariants.{Farther}
 use Rattle.xml_tokens.specs.Searching.{Searched, fresh, Fits, open_quote}
 
 -- Nothing was searched of any bytes.
@@ -15,6 +16,6 @@ fits-goes-on s a b fits =
     let same : take s.searched (a ++ b) ≡ take s.searched a = take-append-le s.searched a b fits.within in
     record {
       within = omega (arith, fits.within, length-append a b);
-      in_vain = ap (beginning farther false) same ∙ fits.in_vain;
+      in_vain = ap (beginning Farther false) same ∙ fits.in_vain;
       quote = fits.quote ∙ sym (ap open_quote same);
     }

@@ -6,14 +6,14 @@ use Rattle.std.specs.List.{list_all}
 use Rattle.std.proofs.lemmas.Str.{chars-nil}
 use Rattle.std.proofs.lemmas.List.{append-nil}
 use Rattle.inv_base.specs.Characters.{is_white_space}
-use Rattle.xml_tokens.specs.Faults.{FaultKind, bad_markup, bad_reference}
+use Rattle.xml_tokens.specs.declared.kind.XmlKind.{XmlKind}
+use Rattle.xml_tokens.specs.declared.kind.XmlKind.TheVariants.{BadMarkup, BadReference}
 use Rattle.xml_tokens.specs.Searches.{behind_string}
 use Rattle.xml_tokens.specs.WrittenNames.{is_qname, is_ncname, name_at_front}
 use Rattle.xml_tokens.specs.Markup as markup
 use Rattle.xml_tokens.specs.Tags as tags
-use Rattle.xml_tokens.specs.Seen.{kind_of, seen_attribute}
+use Rattle.xml_tokens.specs.Seen.{seen_attribute}
 use Rattle.xml_tokens.specs.Told.{Tells, tells_token, tells_kind, AreAttributes, with_all, without_attributes}
-use Rattle.xml_tokens.specs.declared.kind.XmlKind.{XmlKind}
 use Rattle.xml_tokens.specs.declared.token.Token.{Token}
 use Rattle.xml_tokens.specs.declared.token.Token.TheVariants.{StartTag, EndTag}
 use Rattle.xml_tokens.specs.declared.tags.Attributes.{Attributes}
@@ -25,24 +25,24 @@ unfolding tags.end_tag
 tells-end inside name behind e f h =
     let right : (is_qname (name_at_front inside) && list_all is_white_space (drop (length (name_at_front inside)) inside)) ≡ true =
     ap (λ x. is_qname x && list_all is_white_space (drop (length (name_at_front inside)) inside)) (sym e) ∙ (ap (λ x. is_qname name.now && list_all is_white_space x) (sym f) ∙ h) in
-    subst (λ t. Tells (Ok (EndTag name)) (markup.if_right t (markup.an_end_tag (name_at_front inside)) bad_markup)) (sym right)
+    subst (λ t. Tells (Ok (EndTag name)) (markup.if_right t (markup.an_end_tag (name_at_front inside)) BadMarkup)) (sym right)
     (subst (λ x. Tells (Ok (EndTag name)) (Ok (markup.an_end_tag x))) e (tells_token (EndTag name)))
 
-pub tells-no-end : (inside name behind : List ℕ) → name ≡ name_at_front inside → behind ≡ drop (length (name_at_front inside)) inside → (is_qname name && list_all is_white_space behind) ≡ false → Tells (Err (kind_of bad_markup)) (tags.end_tag inside)
+pub tells-no-end : (inside name behind : List ℕ) → name ≡ name_at_front inside → behind ≡ drop (length (name_at_front inside)) inside → (is_qname name && list_all is_white_space behind) ≡ false → Tells (Err BadMarkup) (tags.end_tag inside)
 unfolding tags.end_tag
 tells-no-end inside name behind e f h =
     let wrong : (is_qname (name_at_front inside) && list_all is_white_space (drop (length (name_at_front inside)) inside)) ≡ false =
     ap (λ x. is_qname x && list_all is_white_space (drop (length (name_at_front inside)) inside)) (sym e) ∙ (ap (λ x. is_qname name && list_all is_white_space x) (sym f) ∙ h) in
-    subst (λ t. Tells (Err (kind_of bad_markup)) (markup.if_right t (markup.an_end_tag (name_at_front inside)) bad_markup)) (sym wrong) (tells_kind bad_markup)
+    subst (λ t. Tells (Err BadMarkup) (markup.if_right t (markup.an_end_tag (name_at_front inside)) BadMarkup)) (sym wrong) (tells_kind BadMarkup)
 
 -- A start tag.
-abbrev pub started : Bool → List ℕ → Option tags.Inside → Result markup.Token FaultKind
-started t name x = elim t [ false ↦ Err bad_markup | true ↦ elim x [ None ↦ Err bad_markup | (Some inside) ↦ tags.tag_with name inside ] ]
+abbrev pub started : Bool → List ℕ → Option tags.Inside → Result markup.Token XmlKind
+started t name x = elim t [ false ↦ Err BadMarkup | true ↦ elim x [ None ↦ Err BadMarkup | (Some inside) ↦ tags.tag_with name inside ] ]
 
-pub tells-no-name : (inside name : List ℕ) → name ≡ name_at_front inside → is_qname name ≡ false → Tells (Err (kind_of bad_markup)) (tags.start_tag inside)
+pub tells-no-name : (inside name : List ℕ) → name ≡ name_at_front inside → is_qname name ≡ false → Tells (Err BadMarkup) (tags.start_tag inside)
 unfolding tags.start_tag
 tells-no-name inside name e h =
-    subst (λ t. Tells (Err (kind_of bad_markup)) (started t (name_at_front inside) (tags.tag_inside 0 (drop (length (name_at_front inside)) inside)))) (sym (ap (λ x. is_qname x) (sym e) ∙ h)) (tells_kind bad_markup)
+    subst (λ t. Tells (Err BadMarkup) (started t (name_at_front inside) (tags.tag_inside 0 (drop (length (name_at_front inside)) inside)))) (sym (ap (λ x. is_qname x) (sym e) ∙ h)) (tells_kind BadMarkup)
 
 -- by the name and what stands behind it
 tells-started : (inside name behind : List ℕ) (x : Option tags.Inside) (r : Result Token XmlKind) → name ≡ name_at_front inside → behind ≡ drop (length (name_at_front inside)) inside → is_qname name ≡ true → tags.tag_inside 0 behind ≡ x
@@ -58,22 +58,22 @@ inside-of : (behind : List ℕ) (attributes : Attributes) (x : Option tags.Insid
 inside-of behind attributes x are e = are.whole ∙ ap (option_map (with_all are.stand)) (inside-last attributes.rest.now are.last ∙ sym e)
 
 pub tells-no-rest : (inside name behind : List ℕ) (attributes : Attributes) → name ≡ name_at_front inside → behind ≡ drop (length (name_at_front inside)) inside → is_qname name ≡ true → AreAttributes behind attributes → None ≡ tags.tag_rest attributes.rest.now
-    → Tells (Err (kind_of bad_markup)) (tags.start_tag inside)
-tells-no-rest inside name behind attributes e f h are g = tells-started inside name behind None _ e f h (inside-of behind attributes None are g) (tells_kind bad_markup)
+    → Tells (Err BadMarkup) (tags.start_tag inside)
+tells-no-rest inside name behind attributes e f h are g = tells-started inside name behind None _ e f h (inside-of behind attributes None are g) (tells_kind BadMarkup)
 
 -- the attributes with their values
 valued : (stand : List tags.Found) (attributes : Attributes) (t : Bool) → attributes.are_right ≡ t → tags.with_values stand ≡ (if attributes.are_right then Some (map seen_attribute attributes.found.items) else None)
     → tags.with_values (stand ++ []) ≡ (if t then Some (map seen_attribute attributes.found.items) else None)
 valued stand attributes t e f = ap tags.with_values (append-nil stand) ∙ (f ∙ ap (λ u. if u then Some (map seen_attribute attributes.found.items) else None) e)
 
-abbrev with_valued : List ℕ → Bool → Option (List markup.Written) → Result markup.Token FaultKind
-with_valued name is_empty x = elim x [ None ↦ Err bad_reference | (Some attributes) ↦ Ok (markup.a_start_tag (record { name = name; attributes = attributes; is_empty = is_empty })) ]
+abbrev with_valued : List ℕ → Bool → Option (List markup.Written) → Result markup.Token XmlKind
+with_valued name is_empty x = elim x [ None ↦ Err BadReference | (Some attributes) ↦ Ok (markup.a_start_tag (record { name = name; attributes = attributes; is_empty = is_empty })) ]
 
 pub tells-bad-reference : (inside name behind : List ℕ) (attributes : Attributes) (is_empty : Bool) → name ≡ name_at_front inside → behind ≡ drop (length (name_at_front inside)) inside → is_qname name ≡ true → AreAttributes behind attributes
-    → Some (without_attributes is_empty) ≡ tags.tag_rest attributes.rest.now → attributes.are_right ≡ false → Tells (Err (kind_of bad_reference)) (tags.start_tag inside)
+    → Some (without_attributes is_empty) ≡ tags.tag_rest attributes.rest.now → attributes.are_right ≡ false → Tells (Err BadReference) (tags.start_tag inside)
 tells-bad-reference inside name behind attributes is_empty e f h are g r =
     tells-started inside name behind (Some (with_all are.stand (without_attributes is_empty))) _ e f h (inside-of behind attributes (Some (without_attributes is_empty)) are g)
-    (subst (λ x. Tells (Err (kind_of bad_reference)) (with_valued name is_empty x)) (sym (valued are.stand attributes false r are.values)) (tells_kind bad_reference))
+    (subst (λ x. Tells (Err BadReference) (with_valued name is_empty x)) (sym (valued are.stand attributes false r are.values)) (tells_kind BadReference))
 
 pub tells-start : (inside : List ℕ) (name : Bor (List ℕ)) (behind : List ℕ) (attributes : Attributes) (is_empty : Bool) → name.now ≡ name_at_front inside → behind ≡ drop (length (name_at_front inside)) inside → is_qname name.now ≡ true → AreAttributes behind attributes
     → Some (without_attributes is_empty) ≡ tags.tag_rest attributes.rest.now → attributes.are_right ≡ true → Tells (Ok (StartTag (record { name = name; attributes = attributes.found; is_empty = is_empty }))) (tags.start_tag inside)
@@ -86,7 +86,7 @@ no-name : is_qname [] ≡ false
 unfolding is_qname
 no-name = ap is_ncname chars-nil
 
-tag-nothing : tags.start_tag [] ≡ Err bad_markup
+tag-nothing : tags.start_tag [] ≡ Err BadMarkup
 unfolding tags.start_tag
 tag-nothing = ap (λ t. started t [] (tags.tag_inside 0 [])) no-name
 

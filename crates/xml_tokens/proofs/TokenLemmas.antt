@@ -4,13 +4,15 @@ use Rattle.std.specs.Prelude.{codes}
 use Rattle.std.proofs.lemmas.Bool.Decides.{nat_tests}
 use Rattle.std.proofs.lemmas.List.{nil_from_length, take_rest}
 use Rattle.inv_base.specs.Characters.{is_char}
-use Rattle.xml_tokens.specs.Faults.{bad_markup, bad_char, not_utf8, bad_reference}
+use Rattle.xml_tokens.specs.declared.encoding.Begun.TheVariants as found
+use Rattle.xml_tokens.specs.declared.kind.XmlKind.TheVariants.{BadMarkup, BadChar, NotUtf8, BadReference}
 use Rattle.xml_tokens.specs.Searches.{begins_with, ends_inside}
 use Rattle.xml_tokens.specs.Encoding as encoding
 use Rattle.xml_tokens.specs.References.{reference_at, if_char}
 use Rattle.xml_tokens.specs.Markup as markup
 use Rattle.xml_tokens.specs.Beginnings as spec
-use Rattle.xml_tokens.specs.Seen.{kind_of, Shows, shows_good, shows_bad, shows_later}
+use Rattle.xml_tokens.specs.declared.beginning.Position.{Position}
+use Rattle.xml_tokens.specs.Seen.{Shows, shows_good, shows_bad, shows_later}
 use Rattle.xml_tokens.specs.Told.{BeginsTag, begins_tag}
 use Rattle.xml_tokens.specs.declared.token.Token.TheVariants as tokens
 use Rattle.xml_tokens.specs.declared.beginning.Beginning.{Beginning}
@@ -26,15 +28,15 @@ begins-tag (b ∷ bytes) h e f =
     let y : (b == 0x3F) ≡ false = grind (arith, nat_tests) in
     begins_tag b bytes x y
 
-pub no-markup : (p : spec.Position) (bytes : List ℕ) → length bytes ≡ 0 → Shows Later (spec.markup_at p bytes)
+pub no-markup : (p : Position) (bytes : List ℕ) → length bytes ≡ 0 → Shows Later (spec.markup_at p bytes)
 no-markup p bytes e = shows-same Later spec.later (spec.markup_at p bytes) (sym (ap (spec.markup_at p) (nil_from_length bytes e))) shows_later
 
 -- `]`
 abbrev bracketed : Bool → Bool → spec.Beginning
-bracketed t u = elim t [ true ↦ spec.bad bad_markup 3 | false ↦ elim u [ true ↦ spec.later | false ↦ spec.good (markup.a_character 0x5D) 1 ] ]
+bracketed t u = elim t [ true ↦ spec.bad BadMarkup 3 | false ↦ elim u [ true ↦ spec.later | false ↦ spec.good (markup.a_character 0x5D) 1 ] ]
 
-pub bracket-bad : (ended : Bool) (bytes : List ℕ) → begins_with (codes "]>") bytes ≡ true → Shows (Bad (kind_of bad_markup) 3) (spec.bracket_at ended bytes)
-bracket-bad ended bytes e = shows-same _ _ _ (sym (ap (λ t. bracketed t (not ended && ends_inside (codes "]>") bytes)) e)) (shows_bad bad_markup 3)
+pub bracket-bad : (ended : Bool) (bytes : List ℕ) → begins_with (codes "]>") bytes ≡ true → Shows (Bad BadMarkup 3) (spec.bracket_at ended bytes)
+bracket-bad ended bytes e = shows-same _ _ _ (sym (ap (λ t. bracketed t (not ended && ends_inside (codes "]>") bytes)) e)) (shows_bad BadMarkup 3)
 
 pub bracket-later : (ended : Bool) (bytes : List ℕ) → begins_with (codes "]>") bytes ≡ false → (not ended && ends_inside (codes "]>") bytes) ≡ true → Shows Later (spec.bracket_at ended bytes)
 bracket-later ended bytes e f = shows-same Later spec.later _ (sym (ap (λ t. bracketed t (not ended && ends_inside (codes "]>") bytes)) e ∙ ap (λ u. bracketed false u) f)) shows_later
@@ -67,18 +69,18 @@ pub line-end-later : (bytes : List ℕ) → length bytes ≡ 0 → Shows Later (
 line-end-later bytes e = shows-same _ _ _ (sym (ap (spec.line_end_at false) (nil_from_length bytes e))) shows_later
 
 -- References.
-pub reference-to : (bytes : List ℕ) (c n : ℕ) → encoding.a_character c n ≡ reference_at bytes → Shows (Good (tokens.Reference c) n) (spec.reference_token (reference_at bytes))
+pub reference-to : (bytes : List ℕ) (c n : ℕ) → found.Character c n ≡ reference_at bytes → Shows (Good (tokens.Reference c) n) (spec.reference_token (reference_at bytes))
 reference-to bytes c n e = shows-same _ _ _ (ap spec.reference_token e) (shows_good (tokens.Reference c) n)
 
-pub reference-broken : (bytes : List ℕ) (n : ℕ) → encoding.broken n ≡ reference_at bytes → Shows (Bad (kind_of bad_reference) n) (spec.reference_token (reference_at bytes))
-reference-broken bytes n e = shows-same _ _ _ (ap spec.reference_token e) (shows_bad bad_reference n)
+pub reference-broken : (bytes : List ℕ) (n : ℕ) → found.Broken n ≡ reference_at bytes → Shows (Bad BadReference n) (spec.reference_token (reference_at bytes))
+reference-broken bytes n e = shows-same _ _ _ (ap spec.reference_token e) (shows_bad BadReference n)
 
-pub reference-later : (bytes : List ℕ) → encoding.unfinished ≡ reference_at bytes → Shows Later (spec.reference_token (reference_at bytes))
+pub reference-later : (bytes : List ℕ) → found.Unfinished ≡ reference_at bytes → Shows Later (spec.reference_token (reference_at bytes))
 reference-later bytes e = shows-same _ _ _ (ap spec.reference_token e) shows_later
 
 -- Characters.
 abbrev charred : Bool → ℕ → ℕ → spec.Beginning
-charred t c n = elim t [ true ↦ spec.good (markup.a_character c) n | false ↦ spec.bad bad_char n ]
+charred t c n = elim t [ true ↦ spec.good (markup.a_character c) n | false ↦ spec.bad BadChar n ]
 
 char-some : (t : Bool) (c d : ℕ) → Some d ≡ (if t then Some c else None) → (t ≡ true) × (d ≡ c)
 char-some true c d e = (refl, (let f : d ≡ c = cc in f))
@@ -88,22 +90,22 @@ char-none : (t : Bool) (c : ℕ) → None ≡ (if t then Some c else None) → t
 char-none true c e = cc
 char-none false c e = refl
 
-pub character-good : (b : ℕ) (bytes : List ℕ) (c n d : ℕ) → encoding.a_character c n ≡ encoding.character_at b bytes → Some d ≡ if_char c → Shows (Good (tokens.Character d) n) (spec.character_token (encoding.character_at b bytes))
+pub character-good : (b : ℕ) (bytes : List ℕ) (c n d : ℕ) → found.Character c n ≡ encoding.character_at b bytes → Some d ≡ if_char c → Shows (Good (tokens.Character d) n) (spec.character_token (encoding.character_at b bytes))
 character-good b bytes c n d e f =
     let is = char-some (is_char c) c d f in
     shows-same _ _ _ (ap (λ x. spec.good (markup.a_character x) n) is.1 ∙ (sym (ap (λ t. charred t c n) is.0) ∙ ap spec.character_token e)) (shows_good (tokens.Character d) n)
 
-pub character-bad : (b : ℕ) (bytes : List ℕ) (c n : ℕ) → encoding.a_character c n ≡ encoding.character_at b bytes → None ≡ if_char c → Shows (Bad (kind_of bad_char) n) (spec.character_token (encoding.character_at b bytes))
-character-bad b bytes c n e f = shows-same _ _ _ (sym (ap (λ t. charred t c n) (char-none (is_char c) c f)) ∙ ap spec.character_token e) (shows_bad bad_char n)
+pub character-bad : (b : ℕ) (bytes : List ℕ) (c n : ℕ) → found.Character c n ≡ encoding.character_at b bytes → None ≡ if_char c → Shows (Bad BadChar n) (spec.character_token (encoding.character_at b bytes))
+character-bad b bytes c n e f = shows-same _ _ _ (sym (ap (λ t. charred t c n) (char-none (is_char c) c f)) ∙ ap spec.character_token e) (shows_bad BadChar n)
 
-pub character-broken : (b : ℕ) (bytes : List ℕ) (n : ℕ) → encoding.broken n ≡ encoding.character_at b bytes → Shows (Bad (kind_of not_utf8) n) (spec.character_token (encoding.character_at b bytes))
-character-broken b bytes n e = shows-same _ _ _ (ap spec.character_token e) (shows_bad not_utf8 n)
+pub character-broken : (b : ℕ) (bytes : List ℕ) (n : ℕ) → found.Broken n ≡ encoding.character_at b bytes → Shows (Bad NotUtf8 n) (spec.character_token (encoding.character_at b bytes))
+character-broken b bytes n e = shows-same _ _ _ (ap spec.character_token e) (shows_bad NotUtf8 n)
 
-pub character-later : (b : ℕ) (bytes : List ℕ) → encoding.unfinished ≡ encoding.character_at b bytes → Shows Later (spec.character_token (encoding.character_at b bytes))
+pub character-later : (b : ℕ) (bytes : List ℕ) → found.Unfinished ≡ encoding.character_at b bytes → Shows Later (spec.character_token (encoding.character_at b bytes))
 character-later b bytes e = shows-same _ _ _ (ap spec.character_token e) shows_later
 
 -- What begins with a byte.
-abbrev begun : Bool → Bool → Bool → Bool → Bool → spec.Position → Bool → ℕ → List ℕ → spec.Beginning
+abbrev begun : Bool → Bool → Bool → Bool → Bool → Position → Bool → ℕ → List ℕ → spec.Beginning
 begun t1 t2 t3 t4 t5 p ended b bytes = elim t1 [
   | true ↦ spec.markup_at p bytes
   | false ↦ elim t2 [
@@ -118,27 +120,27 @@ begun t1 t2 t3 t4 t5 p ended b bytes = elim t1 [
   ]
 ]
 
-pub begin-nothing : (p : spec.Position) (ended : Bool) (bytes : List ℕ) → length bytes ≡ 0 → Shows Later (spec.beginning p ended bytes)
+pub begin-nothing : (p : Position) (ended : Bool) (bytes : List ℕ) → length bytes ≡ 0 → Shows Later (spec.beginning p ended bytes)
 unfolding spec.beginning
 begin-nothing p ended bytes e = shows-same Later spec.later (spec.beginning p ended bytes) (sym (ap (spec.beginning p ended) (nil_from_length bytes e))) shows_later
 
-pub begin-markup : (p : spec.Position) (ended : Bool) (bytes rest : List ℕ) (b : ℕ) → bytes ≡ b ∷ rest → b ≡ 0x3C → spec.markup_at p rest ≡ spec.beginning p ended bytes
+pub begin-markup : (p : Position) (ended : Bool) (bytes rest : List ℕ) (b : ℕ) → bytes ≡ b ∷ rest → b ≡ 0x3C → spec.markup_at p rest ≡ spec.beginning p ended bytes
 unfolding spec.beginning
 begin-markup p ended bytes rest b e f = sym (ap (spec.beginning p ended) e ∙ ap (λ c. spec.beginning p ended (c ∷ rest)) f)
 
-pub begin-reference : (p : spec.Position) (ended : Bool) (bytes rest : List ℕ) (b : ℕ) → bytes ≡ b ∷ rest → b ≡ 38 → spec.reference_token (reference_at rest) ≡ spec.beginning p ended bytes
+pub begin-reference : (p : Position) (ended : Bool) (bytes rest : List ℕ) (b : ℕ) → bytes ≡ b ∷ rest → b ≡ 38 → spec.reference_token (reference_at rest) ≡ spec.beginning p ended bytes
 unfolding spec.beginning
 begin-reference p ended bytes rest b e f = sym (ap (spec.beginning p ended) e ∙ ap (λ c. spec.beginning p ended (c ∷ rest)) f)
 
-pub begin-bracket : (p : spec.Position) (ended : Bool) (bytes rest : List ℕ) (b : ℕ) → bytes ≡ b ∷ rest → b ≡ 93 → spec.bracket_at ended rest ≡ spec.beginning p ended bytes
+pub begin-bracket : (p : Position) (ended : Bool) (bytes rest : List ℕ) (b : ℕ) → bytes ≡ b ∷ rest → b ≡ 93 → spec.bracket_at ended rest ≡ spec.beginning p ended bytes
 unfolding spec.beginning
 begin-bracket p ended bytes rest b e f = sym (ap (spec.beginning p ended) e ∙ ap (λ c. spec.beginning p ended (c ∷ rest)) f)
 
-pub begin-line-end : (p : spec.Position) (ended : Bool) (bytes rest : List ℕ) (b : ℕ) → bytes ≡ b ∷ rest → b ≡ 13 → spec.line_end_at ended rest ≡ spec.beginning p ended bytes
+pub begin-line-end : (p : Position) (ended : Bool) (bytes rest : List ℕ) (b : ℕ) → bytes ≡ b ∷ rest → b ≡ 13 → spec.line_end_at ended rest ≡ spec.beginning p ended bytes
 unfolding spec.beginning
 begin-line-end p ended bytes rest b e f = sym (ap (spec.beginning p ended) e ∙ ap (λ c. spec.beginning p ended (c ∷ rest)) f)
 
-pub begin-other : (p : spec.Position) (ended : Bool) (bytes rest : List ℕ) (b : ℕ) (mark : Bool) → bytes ≡ b ∷ rest → b ≢ 0x3C → b ≢ 38 → b ≢ 93 → b ≢ 13 → spec.begins_with_mark p bytes ≡ mark
+pub begin-other : (p : Position) (ended : Bool) (bytes rest : List ℕ) (b : ℕ) (mark : Bool) → bytes ≡ b ∷ rest → b ≢ 0x3C → b ≢ 38 → b ≢ 93 → b ≢ 13 → spec.begins_with_mark p bytes ≡ mark
     → begun false false false false mark p ended b rest ≡ spec.beginning p ended bytes
 unfolding spec.beginning
 begin-other p ended bytes rest b mark e n1 n2 n3 n4 m =

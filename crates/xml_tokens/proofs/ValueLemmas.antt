@@ -7,7 +7,9 @@ use Rattle.std.proofs.lemmas.Str.{chars-nil, encode_ascii, length-encode, len_ut
 use Rattle.std.proofs.lemmas.List.{append-nil, append_assoc, take_at, drop_at, length-append}
 use Rattle.std.proofs.lemmas.Bool.Decides.{nat_tests}
 use Rattle.inv_base.specs.Characters.{is_white_space}
-use Rattle.xml_tokens.specs.Encoding as encoding
+use Rattle.xml_tokens.specs.declared.values.ValuePart.{ValuePart}
+use Rattle.xml_tokens.specs.declared.encoding.Begun.{Begun}
+use Rattle.xml_tokens.specs.declared.encoding.Begun.TheVariants as begun
 use Rattle.xml_tokens.specs.Searches.{begins_with}
 use Rattle.xml_tokens.specs.References.{is_reference_byte, reference_body, refers, referred, reference_at, greatest_reference}
 use Rattle.xml_tokens.specs.Tags as tags
@@ -124,12 +126,12 @@ body-same (c ∷ cs) (suc room) = by (is_reference_byte c) (nat_lt c 128) refl r
         let high = high-first c (is_high f) in
         body-stops (c ∷ cs) (suc room) (ap (λ xs. reference_body (xs ++ encode_utf8_all cs) (suc room)) high.is ∙ body-none high.first (high.others ++ encode_utf8_all cs) (suc room) (reference-high high.first high.high)) (body-none c cs (suc room) e)
 
-abbrev of_end : List ℕ → Bool → encoding.Begun
-of_end body t = elim t [ true ↦ refers (length body + 2) (referred body) | false ↦ encoding.broken (length body + 2) ]
+abbrev of_end : List ℕ → Bool → Begun ℕ
+of_end body t = elim t [ true ↦ refers (length body + 2) (referred body) | false ↦ begun.Broken (length body + 2) ]
 
 -- the reference of a body and what stands behind it
-abbrev pub of_body : List ℕ → List ℕ → encoding.Begun
-of_body body rest = elim rest [ [] ↦ encoding.unfinished | (b ∷ more) ↦ elim (b == 0x3B) [ true ↦ refers (length body + 2) (referred body) | false ↦ encoding.broken (length body + 2) ] ]
+abbrev pub of_body : List ℕ → List ℕ → Begun ℕ
+of_body body rest = elim rest [ [] ↦ begun.Unfinished | (b ∷ more) ↦ elim (b == 0x3B) [ true ↦ refers (length body + 2) (referred body) | false ↦ begun.Broken (length body + 2) ] ]
 
 of-heads : (body xs ys : List ℕ) → HeadSame xs ys → of_body body xs ≡ of_body body ys
 of-heads body xs ys both_end = refl
@@ -175,25 +177,25 @@ pub pred-is : (n : ℕ) → pred n ≡ n - 1
 pred-is zero = refl
 pred-is (suc n) = omega arith
 
-refers-some : (k n c : ℕ) (x : Option ℕ) → refers k x ≡ encoding.a_character c n → k ≡ n
+refers-some : (k n c : ℕ) (x : Option ℕ) → refers k x ≡ begun.Character c n → k ≡ n
 refers-some k n c None e = cc
 refers-some k n c (Some d) e = cc
 
-pub reference-front : (bytes : List ℕ) (c n : ℕ) → reference_at bytes ≡ encoding.a_character c n → LowFront bytes (pred n) × (1 ≤ n)
+pub reference-front : (bytes : List ℕ) (c n : ℕ) → reference_at bytes ≡ begun.Character c n → LowFront bytes (pred n) × (1 ≤ n)
 unfolding reference_at
 reference-front bytes c n e = by (drop (length body) bytes) refl e
   where
     body : List ℕ
     body = reference_body bytes greatest_reference
 
-    by : (rest : List ℕ) → drop (length (reference_body bytes greatest_reference)) bytes ≡ rest → of_body (reference_body bytes greatest_reference) rest ≡ encoding.a_character c n → LowFront bytes (pred n) × (1 ≤ n)
+    by : (rest : List ℕ) → drop (length (reference_body bytes greatest_reference)) bytes ≡ rest → of_body (reference_body bytes greatest_reference) rest ≡ begun.Character c n → LowFront bytes (pred n) × (1 ≤ n)
     by [] h e = cc
     by (b ∷ more) h e = by_end (b == 0x3B) refl e
       where
         end : (b == 0x3B) ≡ true → b < 128
         end t = grind (arith, nat_tests)
 
-        by_end : (t : Bool) → (b == 0x3B) ≡ t → of_end (reference_body bytes greatest_reference) t ≡ encoding.a_character c n → LowFront bytes (pred n) × (1 ≤ n)
+        by_end : (t : Bool) → (b == 0x3B) ≡ t → of_end (reference_body bytes greatest_reference) t ≡ begun.Character c n → LowFront bytes (pred n) × (1 ≤ n)
         by_end false t e = cc
         by_end true t e =
             let count : length (reference_body bytes greatest_reference) + 2 ≡ n = refers-some _ n c (referred (reference_body bytes greatest_reference)) e in
@@ -257,14 +259,14 @@ said-more : (own : List ℕ) (c : ℕ) (x : Option (List ℕ)) → option_map (�
 said-more own c None = refl
 said-more own c (Some said) = ap Some (sym (append_assoc own (c ∷ []) said))
 
-abbrev with_part : Option tags.ValuePart → List ℕ → Option (List ℕ)
+abbrev with_part : Option ValuePart → List ℕ → Option (List ℕ)
 with_part x cs = elim x [ None ↦ None | (Some part) ↦ option_map (λ value. part.character ∷ value) (tags.value_of part.more cs) ]
 
-value-step : (c : ℕ) (cs : List ℕ) (part : tags.ValuePart) → tags.value_part c cs ≡ Some part → tags.value_of 0 (c ∷ cs) ≡ option_map (λ said. part.character ∷ said) (tags.value_of part.more cs)
+value-step : (c : ℕ) (cs : List ℕ) (part : ValuePart) → tags.value_part c cs ≡ Some part → tags.value_of 0 (c ∷ cs) ≡ option_map (λ said. part.character ∷ said) (tags.value_of part.more cs)
 unfolding tags.value_of
 value-step c cs part e = by (tags.value_part c cs) e
   where
-    by : (x : Option tags.ValuePart) → x ≡ Some part → with_part x cs ≡ option_map (λ said. part.character ∷ said) (tags.value_of part.more cs)
+    by : (x : Option ValuePart) → x ≡ Some part → with_part x cs ≡ option_map (λ said. part.character ∷ said) (tags.value_of part.more cs)
     by None e = cc
     by (Some p) e = let same : p ≡ part = cc in ap (λ q. option_map (λ said. q.character ∷ said) (tags.value_of q.more cs)) same
 
@@ -272,7 +274,7 @@ value-stop : (c : ℕ) (cs : List ℕ) → tags.value_part c cs ≡ None → tag
 unfolding tags.value_of
 value-stop c cs e = ap (λ x. with_part x cs) e
 
-pub saying-step : (value own new rest behind back : List ℕ) (c : ℕ) (part : tags.ValuePart) → chars rest ≡ c ∷ chars behind → rest ≡ encode_utf8 c ++ behind → tags.value_part c (chars behind) ≡ Some part → LowFront behind part.more → back ≡ drop part.more behind
+pub saying-step : (value own new rest behind back : List ℕ) (c : ℕ) (part : ValuePart) → chars rest ≡ c ∷ chars behind → rest ≡ encode_utf8 c ++ behind → tags.value_part c (chars behind) ≡ Some part → LowFront behind part.more → back ≡ drop part.more behind
     → IsUtf8 own → new ≡ own ++ encode_utf8 part.character → IsUtf8 new → Saying value own rest → Saying value new back
 saying-step value own new rest behind back c part e f g low b u n w known =
     let v : IsUtf8 behind = IsUtf8-past_char rest behind c known.utf8 f in
@@ -343,10 +345,10 @@ newline-front c text u e = by text (ap (λ t. t) (sym (newline-told text u)) ∙
 pub nothing-front : (text : List ℕ) → LowFront text 0
 nothing-front text = record { front = []; rest = text; whole = refl; long = refl; low = tt }
 
-pub part-reference : (c : ℕ) (behind : List ℕ) (x : Option tags.ValuePart) → c ≡ 38 → IsUtf8 behind → x ≡ tags.referred_part (reference_at behind) → x ≡ tags.value_part c (chars behind)
+pub part-reference : (c : ℕ) (behind : List ℕ) (x : Option ValuePart) → c ≡ 38 → IsUtf8 behind → x ≡ tags.referred_part (reference_at behind) → x ≡ tags.value_part c (chars behind)
 part-reference c behind x e u f = f ∙ (ap tags.referred_part (sym (reference-told behind u)) ∙ sym (ap (λ d. tags.value_part d (chars behind)) e))
 
-abbrev pub part_of : ℕ → ℕ → tags.ValuePart
+abbrev pub part_of : ℕ → ℕ → ValuePart
 part_of c n = record { character = c; more = n }
 
 -- a text without such a byte has no such character

@@ -4,13 +4,18 @@ use Rattle.std.specs.List.{list_all}
 use Rattle.std.specs.Str.{is_utf8}
 use Rattle.std.specs.Prelude.{codes}
 use Rattle.inv_base.specs.Characters.{is_char, is_within}
-use Rattle.xml_tokens.specs.Faults.{FaultKind, tag_too_long, not_utf8, bad_char, bad_markup}
+use Rattle.xml_tokens.specs.declared.encoding.Begun.{Begun}
+use Rattle.xml_tokens.specs.declared.encoding.Begun.TheVariants as begun
+use Rattle.xml_tokens.specs.declared.kind.XmlKind.{XmlKind}
+use Rattle.xml_tokens.specs.declared.kind.XmlKind.TheVariants.{TagTooLong, NotUtf8, BadChar, BadMarkup}
 use Rattle.xml_tokens.specs.Searches.{begins_with, ends_inside, place_of, TagEnd, behind, none_within, none_yet, tag_end}
 use Rattle.xml_tokens.specs.Encoding as encoding
 use Rattle.xml_tokens.specs.References.{reference_body, refers, referred, reference_at, greatest_reference}
 use Rattle.xml_tokens.specs.Markup.{Token, a_character, comment, section, instruction}
 use Rattle.xml_tokens.specs.Tags.{tag}
-use Rattle.xml_tokens.specs.Beginnings.{Position, at_start, behind_mark, farther, Beginning, good, bad, later, may_declare, of_length, extent, extent_through, tag_at, comment_or_section_at, markup_at, reference_token, bracket_at, line_end_at, character_token, begins_with_mark, beginning, greatest_tag}
+use Rattle.xml_tokens.specs.Beginnings.{Beginning, good, bad, later, may_declare, of_length, extent, extent_through, tag_at, comment_or_section_at, markup_at, reference_token, bracket_at, line_end_at, character_token, begins_with_mark, beginning, greatest_tag}
+use Rattle.xml_tokens.specs.declared.beginning.Position.{Position}
+use Rattle.xml_tokens.specs.declared.beginning.Position.TheVariants.{AtStart, BehindMark, Farther}
 use Rattle.xml_tokens.proofs.ScannerLemmas as scan
 use Rattle.xml_tokens.proofs.BeginningLemmas.{Within, choice, front_1, front_2, front_3, inside_one, shared, drop-length, mark_or, the_mark}
 
@@ -19,20 +24,20 @@ within-more k l h (good token n) w = let g : n ≤ k = w.1 in (w.0, omega arith)
 within-more k l h (bad kind n) w = tt
 within-more k l h later w = tt
 
-of-length-within : (k n : ℕ) → 1 ≤ n → n ≤ k → (r : Result Token FaultKind) → Within k (of_length n r)
+of-length-within : (k n : ℕ) → 1 ≤ n → n ≤ k → (r : Result Token XmlKind) → Within k (of_length n r)
 of-length-within k n h g (Ok token) = (h, g)
 of-length-within k n h g (Err kind) = tt
 
-extent-within : (k n : ℕ) (inside : List ℕ) (grammar : List ℕ → Result Token FaultKind) → 1 ≤ n → n ≤ k → Within k (extent n inside grammar)
+extent-within : (k n : ℕ) (inside : List ℕ) (grammar : List ℕ → Result Token XmlKind) → 1 ≤ n → n ≤ k → Within k (extent n inside grammar)
 unfolding extent
 extent-within k n inside grammar h g = by (is_utf8 inside) (list_all is_char (chars inside))
   where
-    by : (t u : Bool) → Within k (elim t [ false ↦ bad not_utf8 n | true ↦ elim u [ false ↦ bad bad_char n | true ↦ of_length n (grammar inside) ] ])
+    by : (t u : Bool) → Within k (elim t [ false ↦ bad NotUtf8 n | true ↦ elim u [ false ↦ bad BadChar n | true ↦ of_length n (grammar inside) ] ])
     by false u = tt
     by true false = tt
     by true true = of-length-within k n h g (grammar inside)
 
-through-within : (c : ℕ) (string : List ℕ) (opening : ℕ) (grammar : List ℕ → Result Token FaultKind) (bytes : List ℕ) → Within (opening + length bytes) (extent_through (c ∷ string) opening bytes grammar)
+through-within : (c : ℕ) (string : List ℕ) (opening : ℕ) (grammar : List ℕ → Result Token XmlKind) (bytes : List ℕ) → Within (opening + length bytes) (extent_through (c ∷ string) opening bytes grammar)
 through-within c string opening grammar bytes = by (place_of (c ∷ string) bytes) (place_of (c ∷ string) (bytes ++ [])) (scan.place-stays c string bytes [])
   where
     by : (x y : Option ℕ) → scan.PlaceStays (c ∷ string) (length bytes) x y → Within (opening + length bytes) (elim x [ None ↦ later | (Some n) ↦ extent (opening + (n + length (c ∷ string))) (take n bytes) grammar ])
@@ -43,7 +48,7 @@ through-within c string opening grammar bytes = by (place_of (c ∷ string) byte
 tag-within : (bytes : List ℕ) → Within (1 + length bytes) (tag_at bytes)
 tag-within bytes = by (tag_end bytes None (pred greatest_tag)) (tag_end (bytes ++ []) None (pred greatest_tag)) (scan.end-stays bytes [] None (pred greatest_tag))
   where
-    by : (x y : TagEnd) → scan.EndStays (length bytes) (pred greatest_tag) x y → Within (1 + length bytes) (elim x [ none_within ↦ bad tag_too_long greatest_tag | none_yet ↦ later | (behind n) ↦ extent (n + 2) (take n bytes) tag ])
+    by : (x y : TagEnd) → scan.EndStays (length bytes) (pred greatest_tag) x y → Within (1 + length bytes) (elim x [ none_within ↦ bad TagTooLong greatest_tag | none_yet ↦ later | (behind n) ↦ extent (n + 2) (take n bytes) tag ])
     by x y (scan.end_found k room n h) = extent-within (1 + length bytes) (n + 2) (take n bytes) tag (omega arith) (omega arith)
     by x y (scan.end_too_far k room) = tt
     by x y (scan.end_goes_on k room m f) = tt
@@ -67,21 +72,21 @@ markup-within p (d ∷ a) = by (d == 0x21) (d == 0x3F)
     by false true = within-more (2 + length a) (1 + length (d ∷ a)) (omega arith) _ (through-within 0x3F (codes ">") 2 (instruction (may_declare p)) a)
     by false false = tag-within (d ∷ a)
 
-abbrev BegunWithin : ℕ → encoding.Begun → Type 0
-BegunWithin k (encoding.a_character c n) = (1 ≤ n) × (n ≤ k)
-BegunWithin k (encoding.broken n) = Unit {0}
-BegunWithin k encoding.unfinished = Unit {0}
+abbrev BegunWithin : ℕ → Begun ℕ → Type 0
+BegunWithin k (begun.Character c n) = (1 ≤ n) × (n ≤ k)
+BegunWithin k (begun.Broken n) = Unit {0}
+BegunWithin k begun.Unfinished = Unit {0}
 
 continued-within : (more low high c n : ℕ) (a : List ℕ) (k : ℕ) → 1 ≤ n → n + length a ≤ k → BegunWithin k (encoding.continued more low high c n a)
 continued-within zero low high c n a k h g = (h, omega arith)
 continued-within (suc more) low high c n [] k h g = tt
 continued-within (suc more) low high c n (d ∷ a) k h g = by (is_within low high d) (continued-within more 0x80 0xBF (c * 64 + (d - 0x80)) (n + 1) a k (omega arith) (omega arith))
   where
-    by : (t : Bool) → BegunWithin k (encoding.continued more 0x80 0xBF (c * 64 + (d - 0x80)) (n + 1) a) → BegunWithin k (if t then encoding.continued more 0x80 0xBF (c * 64 + (d - 0x80)) (n + 1) a else encoding.broken (n + 1))
+    by : (t : Bool) → BegunWithin k (encoding.continued more 0x80 0xBF (c * 64 + (d - 0x80)) (n + 1) a) → BegunWithin k (if t then encoding.continued more 0x80 0xBF (c * 64 + (d - 0x80)) (n + 1) a else begun.Broken (n + 1))
     by true w = w
     by false w = tt
 
-within_if : (k : ℕ) (t : Bool) (x y : encoding.Begun) → BegunWithin k x → BegunWithin k y → BegunWithin k (if t then x else y)
+within_if : (k : ℕ) (t : Bool) (x y : Begun ℕ) → BegunWithin k x → BegunWithin k y → BegunWithin k (if t then x else y)
 within_if k true x y h g = h
 within_if k false x y h g = g
 
@@ -92,7 +97,7 @@ character-within c a = by (nat_lt c 0x80)
     part : (more low high v : ℕ) → BegunWithin (1 + length a) (encoding.continued more low high v 1 a)
     part more low high v = continued-within more low high v 1 a (1 + length a) (omega arith) (omega arith)
 
-    by : (t : Bool) → BegunWithin (1 + length a) (elim t [ true ↦ encoding.a_character c 1 | false ↦ encoding.behind_lead c a ])
+    by : (t : Bool) → BegunWithin (1 + length a) (elim t [ true ↦ begun.Character c 1 | false ↦ encoding.behind_lead c a ])
     by true = (omega arith, omega arith)
     by false =
         within_if _ (is_within 0xC2 0xDF c) _ _ (part 1 0x80 0xBF (c - 0xC0))
@@ -117,34 +122,34 @@ reference-within a = by (drop (length (reference_body a greatest_reference)) a) 
     n = length (reference_body a greatest_reference)
 
     by : (rest : List ℕ) → drop (length (reference_body a greatest_reference)) a ≡ rest
-        → BegunWithin (1 + length a) (elim rest [ [] ↦ encoding.unfinished | (b ∷ more) ↦ elim (b == 0x3B) [ true ↦ refers (length (reference_body a greatest_reference) + 2) (referred (reference_body a greatest_reference)) | false ↦ encoding.broken (length (reference_body a greatest_reference) + 2) ] ])
+        → BegunWithin (1 + length a) (elim rest [ [] ↦ begun.Unfinished | (b ∷ more) ↦ elim (b == 0x3B) [ true ↦ refers (length (reference_body a greatest_reference) + 2) (referred (reference_body a greatest_reference)) | false ↦ begun.Broken (length (reference_body a greatest_reference) + 2) ] ])
     by [] h = tt
     by (b ∷ more) h = by_end (b == 0x3B) (referred (reference_body a greatest_reference)) (drop-left (length (reference_body a greatest_reference)) a b more h)
       where
         by_end : (t : Bool) (x : Option ℕ) → suc (length (reference_body a greatest_reference)) ≤ length a
-            → BegunWithin (1 + length a) (elim t [ true ↦ refers (length (reference_body a greatest_reference) + 2) x | false ↦ encoding.broken (length (reference_body a greatest_reference) + 2) ])
+            → BegunWithin (1 + length a) (elim t [ true ↦ refers (length (reference_body a greatest_reference) + 2) x | false ↦ begun.Broken (length (reference_body a greatest_reference) + 2) ])
         by_end true None l = tt
         by_end true (Some c) l = (omega arith, omega arith)
         by_end false x l = tt
 
-reference-token-within : (k : ℕ) (x : encoding.Begun) → BegunWithin k x → Within k (reference_token x)
-reference-token-within k (encoding.a_character c n) w = w
-reference-token-within k (encoding.broken n) w = tt
-reference-token-within k encoding.unfinished w = tt
+reference-token-within : (k : ℕ) (x : Begun ℕ) → BegunWithin k x → Within k (reference_token x)
+reference-token-within k (begun.Character c n) w = w
+reference-token-within k (begun.Broken n) w = tt
+reference-token-within k begun.Unfinished w = tt
 
-character-token-within : (k : ℕ) (x : encoding.Begun) → BegunWithin k x → Within k (character_token x)
-character-token-within k (encoding.a_character c n) w = by (is_char c)
+character-token-within : (k : ℕ) (x : Begun ℕ) → BegunWithin k x → Within k (character_token x)
+character-token-within k (begun.Character c n) w = by (is_char c)
   where
-    by : (t : Bool) → Within k (elim t [ true ↦ good (a_character c) n | false ↦ bad bad_char n ])
+    by : (t : Bool) → Within k (elim t [ true ↦ good (a_character c) n | false ↦ bad BadChar n ])
     by true = w
     by false = tt
-character-token-within k (encoding.broken n) w = tt
-character-token-within k encoding.unfinished w = tt
+character-token-within k (begun.Broken n) w = tt
+character-token-within k begun.Unfinished w = tt
 
 bracket-within : (a : List ℕ) → Within (1 + length a) (bracket_at false a)
 bracket-within a = by (begins_with (codes "]>") a) (ends_inside (codes "]>") a)
   where
-    by : (t u : Bool) → Within (1 + length a) (elim t [ true ↦ bad bad_markup 3 | false ↦ elim u [ true ↦ later | false ↦ good (a_character 0x5D) 1 ] ])
+    by : (t u : Bool) → Within (1 + length a) (elim t [ true ↦ bad BadMarkup 3 | false ↦ elim u [ true ↦ later | false ↦ good (a_character 0x5D) 1 ] ])
     by true u = tt
     by false true = tt
     by false false = (omega arith, omega arith)
@@ -158,9 +163,9 @@ line-end-within (c ∷ a) = by (c == 0xA)
     by false = (omega arith, omega arith)
 
 mark-within : (p : Position) (c : ℕ) (a : List ℕ) → Within (1 + length a) (mark_or (begins_with_mark p (c ∷ a)) c a)
-mark-within behind_mark c a = character-token-within _ _ (character-within c a)
-mark-within farther c a = character-token-within _ _ (character-within c a)
-mark-within at_start c a = by (begins_with the_mark (c ∷ a)) refl
+mark-within BehindMark c a = character-token-within _ _ (character-within c a)
+mark-within Farther c a = character-token-within _ _ (character-within c a)
+mark-within AtStart c a = by (begins_with the_mark (c ∷ a)) refl
   where
     by : (t : Bool) → begins_with the_mark (c ∷ a) ≡ t → Within (1 + length a) (mark_or t c a)
     by true h = let l : 3 ≤ length (c ∷ a) = scan.begins-length the_mark (c ∷ a) h in (omega arith, omega arith)

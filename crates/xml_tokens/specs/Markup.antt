@@ -1,10 +1,11 @@
--- The tokens of a document; comments, CDATA sections, processing instructions and the declaration, by the bytes that stand
--- inside them: the token, or the kind of its fault.
+-- The tokens of a document; comments, CDATA sections, processing instructions and the declaration, by the bytes that
+-- stand inside them: the token, or the kind of its fault.
 use Rattle.std.specs.Prelude.{ℕ, Bool, false, not, ◌&&◌, ◌||◌, ◌==◌, List, [], ◌∷◌, ◌++◌, map, length, take, drop, Option, Some, None, is_none, option_and_then, unwrap_or, Result, Ok, Err, if◌then◌else◌, bytes_eq, codes, chars}
 use Rattle.std.specs.List.{list_all, prefix_len}
 use Rattle.std.specs.Char.{to_ascii_lowercase}
 use Rattle.inv_base.specs.Characters.{is_white_space, is_name_char}
-use Rattle.xml_tokens.specs.Faults.{FaultKind, bad_declaration, bad_markup}
+use Rattle.xml_tokens.specs.declared.kind.XmlKind.{XmlKind}
+use Rattle.xml_tokens.specs.declared.kind.XmlKind.TheVariants.{BadDeclaration, BadMarkup}
 use Rattle.xml_tokens.specs.Searches.{begins_with, behind_string, place_of}
 use Rattle.xml_tokens.specs.WrittenNames.{is_colon, is_ncname}
 use Rattle.xml_tokens.specs.Literals.{behind_white_space, begins_with_space, Literal, literal_at}
@@ -14,14 +15,15 @@ pub record Written : Type 0 where
   pub name : List ℕ
   pub value : List ℕ
 
--- A start tag or an empty-element tag, by its name as written and its attributes, the declarations of namespaces among them.
+-- A start tag or an empty-element tag, by its name as written and its attributes, the declarations of namespaces among
+-- them.
 pub record Tag : Type 0 where
   pub name : List ℕ
   pub attributes : List Written
   pub is_empty : Bool
 
--- the byte order mark; the declaration, a comment or a processing instruction; a character; a reference to a character; a CDATA
--- section by its characters; a start tag or empty-element tag; an end tag by its name as written
+-- the byte order mark; the declaration, a comment or a processing instruction; a character; a reference to a character;
+-- a CDATA section by its characters; a start tag or empty-element tag; an end tag by its name as written
 pub data Token : Type 0 where
   a_mark : Token
   an_aside : Token
@@ -32,12 +34,12 @@ pub data Token : Type 0 where
   an_end_tag : List ℕ → Token
 
 -- the token where the test holds, else the kind of fault
-abbrev pub if_right : Bool → Token → FaultKind → Result Token FaultKind
+abbrev pub if_right : Bool → Token → XmlKind → Result Token XmlKind
 if_right right token kind = if right then Ok token else Err kind
 
 -- a comment, production 15: no `--` stands inside, also not with the first `-` of its end
-unfoldable pub comment : List ℕ → Result Token FaultKind
-comment inside = if_right (is_none (place_of (codes "--") (inside ++ codes "-"))) an_aside bad_markup
+unfoldable pub comment : List ℕ → Result Token XmlKind
+comment inside = if_right (is_none (place_of (codes "--") (inside ++ codes "-"))) an_aside BadMarkup
 
 -- CR LF and CR become LF, section 2.11
 abbrev pub with_line_feeds : List ℕ → List ℕ
@@ -47,7 +49,7 @@ with_line_feeds (c ∷ characters) =
     else c ∷ with_line_feeds characters
 
 -- a CDATA section, production 18
-unfoldable pub section : List ℕ → Result Token FaultKind
+unfoldable pub section : List ℕ → Result Token XmlKind
 section inside = Ok (a_section (with_line_feeds (chars inside)))
 
 -- what stands behind a literal that passes the test
@@ -77,7 +79,8 @@ is_encoding value = bytes_eq (map to_ascii_lowercase value) (codes "utf-8")
 abbrev pub is_yes_or_no : List ℕ → Bool
 is_yes_or_no value = bytes_eq value (codes "yes") || bytes_eq value (codes "no")
 
--- the declaration, production 23, by what stands behind `<?xml`: the version, and perhaps the encoding and whether it stands alone
+-- the declaration, production 23, by what stands behind `<?xml`: the version, and perhaps the encoding and whether it
+-- stands alone
 unfoldable pub is_declaration : List ℕ → Bool
 is_declaration bytes = elim (behind_declared (codes "version") is_version bytes) [
   | None ↦ false
@@ -97,8 +100,8 @@ abbrev pub ends_target : List ℕ → Bool
 ends_target characters = length characters == 0 || begins_with_space characters
 
 -- a processing instruction, production 16, or with the target `xml` the declaration, where it may stand
-unfoldable pub instruction : Bool → List ℕ → Result Token FaultKind
+unfoldable pub instruction : Bool → List ℕ → Result Token XmlKind
 instruction may_declare inside =
     let target = target_of (chars inside) in
-    if bytes_eq target (codes "xml") then if_right (may_declare && is_declaration (drop 3 inside)) an_aside bad_declaration
-    else if_right (is_target target && ends_target (drop (length target) (chars inside))) an_aside bad_markup
+    if bytes_eq target (codes "xml") then if_right (may_declare && is_declaration (drop 3 inside)) an_aside BadDeclaration
+    else if_right (is_target target && ends_target (drop (length target) (chars inside))) an_aside BadMarkup

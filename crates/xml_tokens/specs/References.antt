@@ -1,9 +1,11 @@
--- References (XML 1.0, productions 66 and 68): by number to a character, or by name to one of the five predefined entities.
+-- References (XML 1.0, productions 66 and 68): by number to a character, or by name to one of the five predefined
+-- entities.
 use Rattle.std.specs.Prelude.{ℕ, ◌+◌, ◌*◌, zero, suc, Bool, true, false, ◌||◌, ◌==◌, List, [], ◌∷◌, length, drop, Option, Some, None, option_and_then, if◌then◌else◌, bytes_eq, codes}
 use Rattle.std.specs.Char.{is_digit, digit_value}
 use Rattle.inv_base.specs.Characters.{is_within, is_char}
+use Rattle.xml_tokens.specs.declared.encoding.Begun.{Begun}
 use Rattle.xml_tokens.specs.Searches.{begins_with}
-use Rattle.xml_tokens.specs.Encoding.{Begun, a_character, broken, unfinished}
+use Rattle.xml_tokens.specs.declared.encoding.Begun.TheVariants.{Character, Broken, Unfinished}
 
 -- A letter or digit of ASCII, or `#`: what may stand between `&` and `;`.
 abbrev pub is_reference_byte : ℕ → Bool
@@ -47,21 +49,21 @@ referred body =
     else entity body)
 
 -- a reference of so many bytes
-abbrev pub refers : ℕ → Option ℕ → Begun
-refers n None = broken n
-refers n (Some c) = a_character c n
+abbrev pub refers : ℕ → Option ℕ → Begun ℕ
+refers n None = Broken n
+refers n (Some c) = Character c n
 
 -- the greatest number of bytes between `&` and `;`, a limit that the standard has not
 abbrev pub greatest_reference : ℕ
 greatest_reference = 12
 
--- The reference that begins with a `&` before these bytes. One that refers to nothing shows it at its `;`, one that has no `;` at
--- the byte in its place.
-unfoldable pub reference_at : List ℕ → Begun
+-- The reference that begins with a `&` before these bytes. One that refers to nothing shows it at its `;`, one that has
+-- no `;` at the byte in its place.
+unfoldable pub reference_at : List ℕ → Begun ℕ
 reference_at bytes =
     let body = reference_body bytes greatest_reference in
     let n = length body + 2 in
     elim (drop (length body) bytes) [
-      | [] ↦ unfinished
-      | (b ∷ rest) ↦ elim (b == 0x3B) [ true ↦ refers n (referred body) | false ↦ broken n ]
+      | [] ↦ Unfinished
+      | (b ∷ rest) ↦ elim (b == 0x3B) [ true ↦ refers n (referred body) | false ↦ Broken n ]
     ]

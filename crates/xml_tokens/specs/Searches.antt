@@ -35,8 +35,8 @@ place_of string (b ∷ list) = elim (begins_with string (b ∷ list)) [
 abbrev pub is_quote : ℕ → Bool
 is_quote b = b == 0x22 || b == 0x27
 
--- Where a tag ends: the first `>` outside quotes stands behind so many bytes, or none stands within the room, or none stands in
--- the bytes, which have fewer.
+-- Where a tag ends: the first `>` outside quotes stands behind so many bytes, or none stands within the room, or none
+-- stands in the bytes, which have fewer.
 pub data TagEnd : Type 0 where
   behind : ℕ → TagEnd
   none_within : TagEnd

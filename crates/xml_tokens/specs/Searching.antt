@@ -1,7 +1,8 @@
 -- How far an unfinished token was searched for its end.
 use Rattle.std.specs.Prelude.{◌≡◌, ℕ, ◌≤◌, ◌||◌, ◌==◌, false, List, [], ◌∷◌, length, take, Option, None, if◌then◌else◌}
 use Rattle.xml_tokens.specs.Searches.{quote_behind}
-use Rattle.xml_tokens.specs.Beginnings.{beginning, farther, later}
+use Rattle.xml_tokens.specs.Beginnings.{beginning, later}
+use Rattle.xml_tokens.specs.declared.beginning.Position.TheVariants.{Farther}
 use Rattle.xml_tokens.specs.declared.beginning.Beginning.{Beginning}
 use Rattle.xml_tokens.specs.declared.beginning.Beginning.TheVariants.{Good, Bad, Later}
 
@@ -25,10 +26,11 @@ open_quote [] = None
 open_quote (b ∷ []) = None
 open_quote (b ∷ (c ∷ bytes)) = if c == 0x21 || c == 0x3F then None else quote_after None (c ∷ bytes)
 
--- What was searched is a front of these bytes that isn't a token or a fault yet, and the quote is the one that is open behind it.
+-- What was searched is a front of these bytes that isn't a token or a fault yet, and the quote is the one that is open
+-- behind it.
 pub record Fits (s : Searched) (bytes : List ℕ) : Type 0 where
   pub within : s.searched ≤ length bytes
-  pub in_vain : beginning farther false (take s.searched bytes) ≡ later
+  pub in_vain : beginning Farther false (take s.searched bytes) ≡ later
   pub quote : s.quote ≡ open_quote (take s.searched bytes)
 
 -- behind a token or a fault nothing was searched of what follows; behind an unfinished token its bytes were

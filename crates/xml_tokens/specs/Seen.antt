@@ -1,46 +1,17 @@
 -- What contracts see of the tokens of the code.
 use Rattle.std.specs.Prelude.{ℕ, List, map, chars, string_bytes}
-use Rattle.xml_tokens.specs.Faults.{FaultKind}
-use Rattle.xml_tokens.specs.Faults as faults
 use Rattle.xml_tokens.specs.Markup.{with_line_feeds}
 use Rattle.xml_tokens.specs.Markup as markup
 use Rattle.xml_tokens.specs.Beginnings as beginnings
 use Rattle.xml_tokens.specs.declared.kind.XmlKind.{XmlKind}
-use Rattle.xml_tokens.specs.declared.kind.XmlKind.TheVariants as kinds
 use Rattle.xml_tokens.specs.declared.token.Value.{Value}
 use Rattle.xml_tokens.specs.declared.token.Value.TheVariants.{Lent, Own}
 use Rattle.xml_tokens.specs.declared.token.Attribute.{Attribute}
 use Rattle.xml_tokens.specs.declared.token.StartTag.{StartTag}
 use Rattle.xml_tokens.specs.declared.token.Token.{Token}
 use Rattle.xml_tokens.specs.declared.token.Token.TheVariants as tokens
-use Rattle.xml_tokens.specs.declared.beginning.Position.{Position}
-use Rattle.xml_tokens.specs.declared.beginning.Position.TheVariants.{AtStart, BehindMark, Farther}
 use Rattle.xml_tokens.specs.declared.beginning.Beginning.{Beginning}
 use Rattle.xml_tokens.specs.declared.beginning.Beginning.TheVariants.{Good, Bad, Later}
-
--- the kind of the code for a kind of fault
-abbrev pub kind_of : FaultKind → XmlKind
-kind_of faults.tag_too_long = kinds.TagTooLong
-kind_of faults.not_utf8 = kinds.NotUtf8
-kind_of faults.bad_char = kinds.BadChar
-kind_of faults.doctype = kinds.Doctype
-kind_of faults.bad_declaration = kinds.BadDeclaration
-kind_of faults.bad_markup = kinds.BadMarkup
-kind_of faults.bad_reference = kinds.BadReference
-kind_of faults.text_outside = kinds.TextOutside
-kind_of faults.too_many_attributes = kinds.TooManyAttributes
-kind_of faults.name_too_long = kinds.NameTooLong
-kind_of faults.mismatched = kinds.Mismatched
-kind_of faults.second_root = kinds.SecondRoot
-kind_of faults.bad_namespace = kinds.BadNamespace
-kind_of faults.undeclared_prefix = kinds.UndeclaredPrefix
-kind_of faults.duplicate_attribute = kinds.DuplicateAttribute
-kind_of faults.too_deep = kinds.TooDeep
-kind_of faults.too_many_names = kinds.TooManyNames
-kind_of faults.too_many_nodes = kinds.TooManyNodes
-kind_of faults.too_long = kinds.TooLong
-kind_of faults.truncated = kinds.Truncated
-kind_of faults.no_root = kinds.NoRoot
 
 -- what a value says
 abbrev pub seen_value : Value → List ℕ
@@ -62,13 +33,8 @@ seen_token (tokens.Section section) = markup.a_section (with_line_feeds (chars s
 seen_token (tokens.StartTag tag) = markup.a_start_tag (seen_tag tag)
 seen_token (tokens.EndTag name) = markup.an_end_tag name.now
 
-abbrev pub seen_position : Position → beginnings.Position
-seen_position AtStart = beginnings.at_start
-seen_position BehindMark = beginnings.behind_mark
-seen_position Farther = beginnings.farther
-
--- The two say the same, a kind as that of the code.
+-- The two say the same.
 pub data Shows : Beginning → beginnings.Beginning → Type 0 where
   shows_good : (token : Token) (n : ℕ) → Shows (Good token n) (beginnings.good (seen_token token) n)
-  shows_bad : (kind : FaultKind) (n : ℕ) → Shows (Bad (kind_of kind) n) (beginnings.bad kind n)
+  shows_bad : (kind : XmlKind) (n : ℕ) → Shows (Bad kind n) (beginnings.bad kind n)
   shows_later : Shows Later beginnings.later

@@ -2,12 +2,15 @@
 use Rattle.std.specs.Prelude.{ℕ, ◌-◌, zero, suc, pred, Bool, true, false, ◌&&◌, ◌==◌, List, [], ◌∷◌, length, drop, Option, Some, None, option_map, option_and_then, Result, Ok, Err, if◌then◌else◌, bytes_eq, codes, chars}
 use Rattle.std.specs.List.{list_all, list_any}
 use Rattle.inv_base.specs.Characters.{is_white_space}
-use Rattle.xml_tokens.specs.Faults.{FaultKind, bad_markup, bad_reference}
+use Rattle.xml_tokens.specs.declared.encoding.Begun.{Begun}
+use Rattle.xml_tokens.specs.declared.encoding.Begun.TheVariants as begun
+use Rattle.xml_tokens.specs.declared.kind.XmlKind.{XmlKind}
+use Rattle.xml_tokens.specs.declared.kind.XmlKind.TheVariants.{BadMarkup, BadReference}
 use Rattle.xml_tokens.specs.Searches.{begins_with}
-use Rattle.xml_tokens.specs.Encoding as encoding
 use Rattle.xml_tokens.specs.References.{reference_at}
 use Rattle.xml_tokens.specs.WrittenNames.{is_qname, name_at_front}
 use Rattle.xml_tokens.specs.Literals.{behind_white_space, begins_with_space, Literal, literal_at}
+use Rattle.xml_tokens.specs.declared.values.ValuePart.{ValuePart}
 use Rattle.xml_tokens.specs.Markup.{Written, Token, a_start_tag, an_end_tag, if_right}
 
 -- An attribute as it stands, its name and its value in bytes, and what is behind it.
@@ -53,16 +56,11 @@ tag_inside zero (b ∷ bytes) = elim (attribute_at (b ∷ bytes)) [
   | (Some found) ↦ option_map (with_attribute found) (tag_inside (pred (length (b ∷ bytes) - length found.rest)) bytes)
 ]
 
--- What a value has at its front: a character, and how many of what follows belong to it.
-pub record ValuePart : Type 0 where
-  pub character : ℕ
-  pub more : ℕ
-
 -- a reference in a value, of which all but its `&` follows
-abbrev pub referred_part : encoding.Begun → Option ValuePart
-referred_part (encoding.a_character c n) = Some (record { character = c; more = pred n })
-referred_part (encoding.broken n) = None
-referred_part encoding.unfinished = None
+abbrev pub referred_part : Begun ℕ → Option ValuePart
+referred_part (begun.Character c n) = Some (record { character = c; more = pred n })
+referred_part (begun.Broken n) = None
+referred_part begun.Unfinished = None
 
 -- A reference is its character; CR LF, CR, LF and TAB are one space, section 3.3.3.
 abbrev pub value_part : ℕ → List ℕ → Option ValuePart
@@ -90,25 +88,25 @@ with_values (found ∷ more) = elim (value_of 0 (chars found.value)) [
 ]
 
 -- the tag of a name and of what stands behind it
-abbrev pub tag_with : List ℕ → Inside → Result Token FaultKind
+abbrev pub tag_with : List ℕ → Inside → Result Token XmlKind
 tag_with name inside = elim (with_values inside.attributes) [
-  | None ↦ Err bad_reference
+  | None ↦ Err BadReference
   | (Some attributes) ↦ Ok (a_start_tag (record { name = name; attributes = attributes; is_empty = inside.is_empty }))
 ]
 
 -- a start tag or an empty-element tag
-unfoldable pub start_tag : List ℕ → Result Token FaultKind
+unfoldable pub start_tag : List ℕ → Result Token XmlKind
 start_tag bytes = let name = name_at_front bytes in elim (is_qname name) [
-  | false ↦ Err bad_markup
-  | true ↦ elim (tag_inside 0 (drop (length name) bytes)) [ None ↦ Err bad_markup | (Some inside) ↦ tag_with name inside ]
+  | false ↦ Err BadMarkup
+  | true ↦ elim (tag_inside 0 (drop (length name) bytes)) [ None ↦ Err BadMarkup | (Some inside) ↦ tag_with name inside ]
 ]
 
 -- an end tag, by what stands behind its `/`
-unfoldable pub end_tag : List ℕ → Result Token FaultKind
+unfoldable pub end_tag : List ℕ → Result Token XmlKind
 end_tag bytes = let name = name_at_front bytes in
-    if_right (is_qname name && list_all is_white_space (drop (length name) bytes)) (an_end_tag name) bad_markup
+    if_right (is_qname name && list_all is_white_space (drop (length name) bytes)) (an_end_tag name) BadMarkup
 
 -- a tag of any kind
-abbrev pub tag : List ℕ → Result Token FaultKind
-tag [] = Err bad_markup
+abbrev pub tag : List ℕ → Result Token XmlKind
+tag [] = Err BadMarkup
 tag (b ∷ bytes) = elim (b == 0x2F) [ true ↦ end_tag bytes | false ↦ start_tag (b ∷ bytes) ]

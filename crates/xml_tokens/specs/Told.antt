@@ -5,28 +5,22 @@ use Rattle.std.specs.Global.{Global}
 use Rattle.std.specs.List.{list_all, list_any, before_first, after_first}
 use Rattle.std.specs.Str.{is_utf8}
 use Rattle.inv_base.specs.Characters.{is_char}
-use Rattle.xml_tokens.specs.Faults.{FaultKind, not_utf8, bad_char}
+use Rattle.xml_tokens.specs.declared.kind.XmlKind.{XmlKind}
+use Rattle.xml_tokens.specs.declared.kind.XmlKind.TheVariants.{NotUtf8, BadChar}
 use Rattle.xml_tokens.specs.Searches as searches
 use Rattle.xml_tokens.specs.Searching.{quote_after}
-use Rattle.xml_tokens.specs.Encoding as encoding
 use Rattle.xml_tokens.specs.Literals as literals
 use Rattle.xml_tokens.specs.Markup as markup
 use Rattle.xml_tokens.specs.Tags as tags
 use Rattle.xml_tokens.specs.Beginnings as beginnings
-use Rattle.xml_tokens.specs.Seen.{kind_of, seen_token, seen_attribute, Shows}
-use Rattle.xml_tokens.specs.declared.kind.XmlKind.{XmlKind}
+use Rattle.xml_tokens.specs.Seen.{seen_token, seen_attribute, Shows}
 use Rattle.xml_tokens.specs.declared.token.Token.{Token}
 use Rattle.xml_tokens.specs.declared.token.Token.TheVariants.{Aside}
 use Rattle.xml_tokens.specs.declared.beginning.Beginning.{Beginning}
 use Rattle.xml_tokens.specs.declared.beginning.Beginning.TheVariants.{Good, Bad}
 use Rattle.xml_tokens.specs.declared.scanning.TagEnd.{TagEnd}
 use Rattle.xml_tokens.specs.declared.scanning.TagEnd.TheVariants.{Behind, NoneWithin, NoneYet}
-use Rattle.xml_tokens.specs.declared.encoding.Sequence.{Sequence}
-use Rattle.xml_tokens.specs.declared.encoding.Sequence.TheVariants as sequences
-use Rattle.xml_tokens.specs.declared.references.Reference.{Reference}
-use Rattle.xml_tokens.specs.declared.references.Reference.TheVariants as references
 use Rattle.xml_tokens.specs.declared.literals.Literal.{Literal}
-use Rattle.xml_tokens.specs.declared.values.ValuePart.{ValuePart}
 use Rattle.xml_tokens.specs.declared.tags.Found.{Found}
 use Rattle.xml_tokens.specs.declared.tags.Attributes.{Attributes}
 
@@ -36,9 +30,9 @@ beginning_of n (Ok token) = Good token n
 beginning_of n (Err kind) = Bad kind n
 
 -- The two say the same of an inside.
-pub data Tells : Result Token XmlKind → Result markup.Token FaultKind → Type 0 where
+pub data Tells : Result Token XmlKind → Result markup.Token XmlKind → Type 0 where
   tells_token : (token : Token) → Tells (Ok token) (Ok (seen_token token))
-  tells_kind : (kind : FaultKind) → Tells (Err (kind_of kind)) (Err kind)
+  tells_kind : (kind : XmlKind) → Tells (Err kind) (Err kind)
 
 -- an aside, or the kind
 abbrev pub aside_if : Bool → XmlKind → Result Token XmlKind
@@ -56,8 +50,8 @@ pub record IsRight (inside text : List ℕ) : Type 0 where
 
 -- It is no text of Chars, and the kind says why.
 pub data IsWrong (inside : List ℕ) : XmlKind → Type 0 where
-  no_utf8 : is_utf8 inside ≡ false → IsWrong inside (kind_of not_utf8)
-  no_chars : is_utf8 inside ≡ true → list_all is_char (chars inside) ≡ false → IsWrong inside (kind_of bad_char)
+  no_utf8 : is_utf8 inside ≡ false → IsWrong inside NotUtf8
+  no_chars : is_utf8 inside ≡ true → list_all is_char (chars inside) ≡ false → IsWrong inside BadChar
 
 -- where a tag ends, of which so many bytes may be searched
 pub data Ends (bytes : List ℕ) (room : ℕ) : TagEnd → Type 0 where
@@ -78,16 +72,6 @@ shared_with_any bytes = max (searches.shared_front (codes "--") bytes) (max (sea
 
 abbrev pub ends_inside_any : List ℕ → Bool
 ends_inside_any bytes = searches.ends_inside (codes "--") bytes || (searches.ends_inside (codes "[CDATA[") bytes || searches.ends_inside (codes "DOCTYPE") bytes)
-
-abbrev pub seen_sequence : Sequence → encoding.Begun
-seen_sequence (sequences.Whole c n) = encoding.a_character c n
-seen_sequence (sequences.Broken n) = encoding.broken n
-seen_sequence sequences.Unfinished = encoding.unfinished
-
-abbrev pub seen_reference : Reference → encoding.Begun
-seen_reference (references.To c n) = encoding.a_character c n
-seen_reference (references.Broken n) = encoding.broken n
-seen_reference references.Unfinished = encoding.unfinished
 
 -- the first character of a text, and what is behind it
 abbrev pub IsFirst : List ℕ → Option (ℕ × Bor (List ℕ)) → Type 0
@@ -123,9 +107,6 @@ pub record IsTarget (inside front rest : List ℕ) : Type 0 where
 -- `&`, TAB, LF and CR in a value say something else than they show
 abbrev pub says_more : ℕ → Bool
 says_more b = b == 0x26 || (b == 0x9 || (b == 0xA || b == 0xD))
-
-abbrev pub seen_part : ValuePart → tags.ValuePart
-seen_part part = record { character = part.character; more = part.more }
 
 -- all of these are ASCII
 abbrev pub AllLow : List ℕ → Type 0

@@ -1,5 +1,5 @@
--- Names as they are written, by their bytes in UTF-8 (Namespaces in XML 1.0, productions 4 and 7): an NCName, or two with a colon
--- between them.
+-- Names as they are written, by their bytes in UTF-8 (Namespaces in XML 1.0, productions 4 and 7): an NCName, or two
+-- with a colon between them.
 use Rattle.std.specs.Prelude.{ℕ, Bool, false, ◌&&◌, ◌||◌, ◌==◌, List, [], ◌∷◌, if◌then◌else◌, chars}
 use Rattle.std.specs.List.{list_all, list_any, before_first, after_first}
 use Rattle.inv_base.specs.Characters.{is_name_start, is_name_char, is_white_space}

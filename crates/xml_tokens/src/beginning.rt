@@ -1,25 +1,28 @@
 ghost use Rattle.std.specs.Prelude.{◌≡◌, ◌≢◌, ◌∷◌, ◌&&◌, not, codes, IfOk};
 ghost use Rattle.xml_tokens.specs.Beginnings as spec;
-ghost use Rattle.xml_tokens.specs.Seen.{Shows, seen_position};
+ghost use Rattle.xml_tokens.specs.Seen.{Shows};
 ghost use Rattle.xml_tokens.specs.References.{reference_at};
 ghost use Rattle.xml_tokens.specs.Encoding.{character_at};
 ghost use Rattle.xml_tokens.specs.Searching.{Fits, Continues, Keeps};
 ghost use Rattle.xml_tokens.specs.Searches.{ends_inside};
 
-use crate::encoding::{Sequence, character_at};
+use crate::encoding::{Begun, character_at};
 use crate::extents::markup_at;
 use crate::kind::XmlKind;
-use crate::references::{Reference, if_char, reference_at};
+use crate::references::{if_char, reference_at};
 use crate::scanning::{begins_with, ends_inside};
 use crate::search::Search;
 use crate::token::Token;
 use std::alloc::{AllocError, Global};
 
-/// Where a place is: at the start of the bytes, right behind the byte order mark, or farther on.
+/// Where a place is, which decides whether the byte order mark and the declaration may stand there.
 #[derive(Clone, Copy, Debug, PartialEq, Eq)]
 pub enum Position {
+    /// At the start of the bytes.
     AtStart,
+    /// Right behind the byte order mark.
     BehindMark,
+    /// Farther on.
     Farther,
 }
 
@@ -39,9 +42,9 @@ fn reference_token<'b>(bytes: &'b [u8]) -> Beginning<'b>
     ensures { Shows result (spec.reference_token (reference_at bytes.now)) }
 {
     match reference_at(bytes) {
-        Reference::To(c, length) => Beginning::Good(Token::Reference(c), length),
-        Reference::Broken(length) => Beginning::Bad(XmlKind::BadReference, length),
-        Reference::Unfinished => Beginning::Later,
+        Begun::Character(c, length) => Beginning::Good(Token::Reference(c), length),
+        Begun::Broken(length) => Beginning::Bad(XmlKind::BadReference, length),
+        Begun::Unfinished => Beginning::Later,
     }
 }
 
@@ -82,18 +85,18 @@ fn character_token<'b>(byte: u8, bytes: &'b [u8]) -> Beginning<'b>
     ensures { Shows result (spec.character_token (character_at byte bytes.now)) }
 {
     match character_at(byte, bytes) {
-        Sequence::Whole(number, length) => match if_char(number) {
+        Begun::Character(number, length) => match if_char(number) {
             Some(c) => Beginning::Good(Token::Character(c), length),
             None => Beginning::Bad(XmlKind::BadChar, length),
         },
-        Sequence::Broken(length) => Beginning::Bad(XmlKind::NotUtf8, length),
-        Sequence::Unfinished => Beginning::Later,
+        Begun::Broken(length) => Beginning::Bad(XmlKind::NotUtf8, length),
+        Begun::Unfinished => Beginning::Later,
     }
 }
 
 /// Whether the bytes begin with the byte order mark, at their start.
 fn begins_with_mark(position: Position, bytes: &[u8]) -> bool
-    ensures { result ≡ spec.begins_with_mark (seen_position position) bytes.now }
+    ensures { result ≡ spec.begins_with_mark position bytes.now }
 {
     match position {
         Position::AtStart => begins_with(b"\xEF\xBB\xBF", bytes),
@@ -111,7 +114,7 @@ fn text_at<'b>(
 ) -> Beginning<'b>
     requires whole { bytes.now ≡ first ∷ behind.now }
     requires no_markup { first ≢ 0x3C }
-    ensures { Shows result (spec.beginning (seen_position position) ended bytes.now) }
+    ensures { Shows result (spec.beginning position ended bytes.now) }
 {
     match first {
         b'&' => reference_token(behind),
@@ -122,6 +125,7 @@ fn text_at<'b>(
     }
 }
 
+/// What begins at the front of the bytes; behind `Later` the search is for the next call.
 fn found_at<'b>(
     alloc: Global,
     position: Position,
@@ -130,7 +134,7 @@ fn found_at<'b>(
     search: &mut Search,
 ) -> Result<Beginning<'b>, AllocError>
     requires { Fits search.old bytes.now }
-    ensures answer { IfOk result (λ found. Shows found (spec.beginning (seen_position position) ended bytes.now)) }
+    ensures answer { IfOk result (λ found. Shows found (spec.beginning position ended bytes.now)) }
     ensures search { IfOk result (λ found. Keeps found search.new bytes.now) }
 {
     match bytes {
@@ -140,8 +144,8 @@ fn found_at<'b>(
     }
 }
 
-/// What begins at the front of the bytes, behind which the input has ended or may go on. The search is that of the calls before
-/// for the same beginning, with fewer of its bytes; behind `Later` it is for the next call.
+/// What begins at the front of the bytes, behind which the input has ended or may go on. The search is that of the
+/// calls before for the same beginning, with fewer of its bytes; behind `Later` it is for the next call.
 pub fn what_begins<'b>(
     alloc: Global,
     position: Position,
@@ -150,7 +154,7 @@ pub fn what_begins<'b>(
     search: &mut Search,
 ) -> Result<Beginning<'b>, AllocError>
     requires { Fits search.old bytes.now }
-    ensures answer { IfOk result (λ found. Shows found (spec.beginning (seen_position position) ended bytes.now)) }
+    ensures answer { IfOk result (λ found. Shows found (spec.beginning position ended bytes.now)) }
     ensures search { IfOk result (λ found. Continues found search.new bytes.now) }
 {
     match found_at(alloc, position, ended, bytes, search) {

@@ -2,13 +2,12 @@
 ghost use Rattle.std.specs.Prelude.{◌≡◌, ◌<◌, ◌≤◌, ◌+◌};
 ghost use Rattle.inv_base.specs.Characters.{is_within};
 ghost use Rattle.xml_tokens.specs.Encoding as spec;
-ghost use Rattle.xml_tokens.specs.Told.{seen_sequence};
 
-/// What begins with a byte: a character by its number, and how many bytes it takes; bytes that can't become one, and how many of
-/// them show that; or the bytes end before they do either.
+/// What begins at a place: a character, and how many bytes it takes; bytes that can't become one, and how many of them
+/// show that; or the bytes end before they do either.
 #[derive(Clone, Copy)]
-pub enum Sequence {
-    Whole(u32, usize),
+pub enum Begun<C> {
+    Character(C, usize),
     Broken(usize),
     Unfinished,
 }
@@ -19,32 +18,33 @@ fn is_within(low: u8, high: u8, byte: u8) -> bool
     low <= byte && byte <= high
 }
 
-/// A character of which so many bytes are still to come, the next one within these bounds: the bytes that came have this value and number.
-fn continued(more: u8, low: u8, high: u8, value: u32, length: usize, bytes: &[u8]) -> Sequence
+/// A character of which so many bytes are still to come, the next one within these bounds: the bytes that came have
+/// this value and number.
+fn continued(more: u8, low: u8, high: u8, value: u32, length: usize, bytes: &[u8]) -> Begun<u32>
     requires most { more ≤ 3 }
     requires low { 0x80 ≤ low }
     requires three { more ≡ 3 → value < 6 }
     requires two { more ≡ 2 → value < 510 }
     requires one { more ≡ 1 → value < 32768 }
     requires length { length + more ≤ 4 }
-    ensures { seen_sequence result ≡ spec.continued more low high value length bytes.now }
+    ensures { result ≡ spec.continued more low high value length bytes.now }
 {
     if more == 0 {
-        return Sequence::Whole(value, length);
+        return Begun::Character(value, length);
     }
     match bytes {
-        [] => Sequence::Unfinished,
+        [] => Begun::Unfinished,
         [byte, rest @ ..] if is_within(low, high, *byte) => {
             let next = value * 64 + u32::from(*byte - 0x80);
             continued(more - 1, 0x80, 0xBF, next, length + 1, rest)
         }
-        _ => Sequence::Broken(length + 1),
+        _ => Begun::Broken(length + 1),
     }
 }
 
 /// A character of more than one byte, by its first byte and what follows it.
-fn behind_lead(byte: u8, bytes: &[u8]) -> Sequence
-    ensures { seen_sequence result ≡ spec.behind_lead byte bytes.now }
+fn behind_lead(byte: u8, bytes: &[u8]) -> Begun<u32>
+    ensures { result ≡ spec.behind_lead byte bytes.now }
 {
     match byte {
         0xC2..=0xDF => continued(1, 0x80, 0xBF, u32::from(byte - 0xC0), 1, bytes),
@@ -54,17 +54,17 @@ fn behind_lead(byte: u8, bytes: &[u8]) -> Sequence
         0xF0 => continued(3, 0x90, 0xBF, 0, 1, bytes),
         0xF1..=0xF3 => continued(3, 0x80, 0xBF, u32::from(byte - 0xF0), 1, bytes),
         0xF4 => continued(3, 0x80, 0x8F, 4, 1, bytes),
-        _ => Sequence::Broken(1),
+        _ => Begun::Broken(1),
     }
 }
 
-/// What begins with the byte.
+/// The character that begins with the byte, by its number.
 #[tactic(auto, unfolding(crate::specs::Encoding::character_at))]
-pub fn character_at(byte: u8, bytes: &[u8]) -> Sequence
-    ensures { seen_sequence result ≡ spec.character_at byte bytes.now }
+pub fn character_at(byte: u8, bytes: &[u8]) -> Begun<u32>
+    ensures { result ≡ spec.character_at byte bytes.now }
 {
     if byte < 0x80 {
-        Sequence::Whole(u32::from(byte), 1)
+        Begun::Character(u32::from(byte), 1)
     } else {
         behind_lead(byte, bytes)
     }

@@ -3,7 +3,7 @@ ghost use Rattle.std.specs.Prelude.{◌≡◌, ◌≢◌, ◌+◌, ◌-◌, ◌�
 ghost use Rattle.xml_tokens.specs.Searches as searches;
 ghost use Rattle.xml_tokens.specs.Markup as markup;
 ghost use Rattle.xml_tokens.specs.Beginnings as spec;
-ghost use Rattle.xml_tokens.specs.Seen.{Shows, seen_position};
+ghost use Rattle.xml_tokens.specs.Seen.{Shows};
 ghost use Rattle.xml_tokens.specs.Searching.{Fits, Keeps};
 ghost use Rattle.xml_tokens.specs.Told as told;
 
@@ -56,8 +56,8 @@ fn beginning_of<'b>(length: usize, read: Result<Token<'b>, XmlKind>) -> Beginnin
     }
 }
 
-/// How much stands before the string that ends an extent, by what is behind the bytes that begin it; where it isn't there yet, that was
-/// searched.
+/// How much stands before the string that ends an extent, by what is behind the bytes that begin it; where it isn't
+/// there yet, that was searched.
 fn end_of(string: &[u8], opening: usize, behind: &[u8], search: &mut Search) -> Option<usize>
     requires some { 0 < length string.now }
     requires opening { opening ≤ 9 }
@@ -192,7 +192,7 @@ fn tag_at<'b>(
 
 /// Whether the declaration may stand there.
 fn may_declare(position: Position) -> bool
-    ensures { result ≡ spec.may_declare (seen_position position) }
+    ensures { result ≡ spec.may_declare position }
 {
     match position {
         Position::AtStart | Position::BehindMark => true,
@@ -208,7 +208,7 @@ pub fn markup_at<'b>(
     search: &mut Search,
 ) -> Result<Beginning<'b>, AllocError>
     requires { Fits search.old (0x3C ∷ bytes.now) }
-    ensures answer { IfOk result (λ found. Shows found (spec.markup_at (seen_position position) bytes.now)) }
+    ensures answer { IfOk result (λ found. Shows found (spec.markup_at position bytes.now)) }
     ensures search { IfOk result (λ found. Keeps found search.new (0x3C ∷ bytes.now)) }
 {
     match bytes {

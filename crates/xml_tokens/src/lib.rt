@@ -1,7 +1,7 @@
 //! What begins at a place of a document's bytes: a token, a bad token, or nothing yet (XML 1.0, fifth edition).
 //!
-//! A token is the byte order mark, the declaration, a comment, a processing instruction, a CDATA section, a tag, a reference, a line end or one
-//! character. Whether it may stand where it stands is no matter of this crate.
+//! A token is the byte order mark, the declaration, a comment, a processing instruction, a CDATA section, a tag, a
+//! reference, a line end or one character. Whether it may stand where it stands is no matter of this crate.
 #![tactic(auto)]
 
 mod ascii;

@@ -1,22 +1,14 @@
-//! References (XML 1.0, productions 66 and 68): by number to a character, or by name to one of the five predefined entities.
+//! References (XML 1.0, productions 66 and 68): by number to a character, or by name to one of the five predefined
+//! entities.
 ghost use Rattle.std.specs.Prelude.{◌≡◌, ◌≤◌, ◌⊎◌, length, take, option_and_then, Some, None};
 ghost use Rattle.std.specs.Str.{bytes_eq};
 ghost use Rattle.xml_tokens.specs.References as spec;
-ghost use Rattle.xml_tokens.specs.Told.{seen_reference};
 
+use crate::encoding::Begun;
 use inv_base::is_char;
 
 /// The greatest number of bytes between `&` and `;`.
 const GREATEST_REFERENCE: usize = 12;
-
-/// What begins with a `&`: a reference to a character, and how many bytes it takes; bytes that are none, and how many of them show
-/// that; or the bytes end before they do either.
-#[derive(Clone, Copy)]
-pub enum Reference {
-    To(char, usize),
-    Broken(usize),
-    Unfinished,
-}
 
 fn is_reference_byte(byte: u8) -> bool
     ensures { result ≡ spec.is_reference_byte byte }
@@ -108,18 +100,19 @@ fn referred(body: &[u8]) -> Option<char>
     }
 }
 
-/// The reference that begins with a `&` before these bytes.
+/// The reference that begins with a `&` before these bytes: the character that it refers to, and how many bytes it
+/// takes.
 #[tactic(auto, unfolding(crate::specs::References::reference_at))]
-pub fn reference_at(bytes: &[u8]) -> Reference
-    ensures { seen_reference result ≡ spec.reference_at bytes.now }
+pub fn reference_at(bytes: &[u8]) -> Begun<char>
+    ensures { result ≡ spec.reference_at bytes.now }
 {
     let (body, rest) = bytes.split_at(body_length(bytes));
     match rest {
-        [] => Reference::Unfinished,
+        [] => Begun::Unfinished,
         [b';', ..] => match referred(body) {
-            Some(c) => Reference::To(c, body.len() + 2),
-            None => Reference::Broken(body.len() + 2),
+            Some(c) => Begun::Character(c, body.len() + 2),
+            None => Begun::Broken(body.len() + 2),
         },
-        _ => Reference::Broken(body.len() + 2),
+        _ => Begun::Broken(body.len() + 2),
     }
 }

@@ -74,8 +74,8 @@ fn chars_front(text: &str) -> &str
     }
 }
 
-/// Characters at the front of the bytes that are tokens one by one: up to a `<`, `&`, `]` or CR, up to bytes that are no
-/// character, or to the end.
+/// Characters at the front of the bytes that are tokens one by one: up to a `<`, `&`, `]` or CR, up to bytes that are
+/// no character, or to the end.
 pub fn run_at_front<'b>(bytes: &'b [u8]) -> &'b str
     ensures front { bytes.now ≡ result.now ++ drop (length result.now) bytes.now }
     ensures plain { list_all spec.is_plain (chars result.now) ≡ true }

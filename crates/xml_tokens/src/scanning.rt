@@ -7,8 +7,8 @@ ghost use Rattle.xml_tokens.specs.Told.{Ends};
 /// How many bytes behind the `<` of a tag may be searched for its end.
 const ROOM: usize = 262_143;
 
-/// Where a tag ends: the first `>` outside quotes stands behind so many bytes, or none stands within the room, or none stands
-/// in the bytes, behind which this quote is open.
+/// Where a tag ends: the first `>` outside quotes stands behind so many bytes, or none stands within the room, or none
+/// stands in the bytes, behind which this quote is open.
 #[derive(Clone, Copy)]
 pub enum TagEnd {
     Behind(usize),
@@ -45,7 +45,8 @@ pub fn shared_front(string: &[u8], bytes: &[u8]) -> usize
     end
 }
 
-/// How much stands before the first place at which the string stands, given that so many bytes at the front were searched in vain.
+/// How much stands before the first place at which the string stands, given that so many bytes at the front were
+/// searched in vain.
 pub fn place_after(string: &[u8], bytes: &[u8], searched: usize) -> Option<usize>
     requires some { 0 < length string.now }
     requires within { searched ≤ length bytes.now }
@@ -64,6 +65,7 @@ pub fn place_after(string: &[u8], bytes: &[u8], searched: usize) -> Option<usize
     None
 }
 
+/// Whether the byte is a quote: `"` or `'`.
 pub fn is_quote(byte: u8) -> bool
     ensures { result ≡ spec.is_quote byte }
 {
@@ -99,7 +101,8 @@ fn is_passed(quote: Option<u8>, byte: u8) -> bool
     quote.is_none() && byte > b'>'
 }
 
-/// Where the tag ends, by the bytes behind its `<`, given that so many of them were searched in vain, behind which this quote is open.
+/// Where the tag ends, by the bytes behind its `<`, given that so many of them were searched in vain, behind which this
+/// quote is open.
 pub fn tag_end(bytes: &[u8], searched: usize, open_quote: Option<u8>) -> TagEnd
     requires within { searched ≤ length bytes.now }
     requires in_vain { spec.tag_end (take searched bytes.now) None 262143 ≡ spec.none_yet }

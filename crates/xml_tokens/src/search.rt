@@ -3,7 +3,8 @@ ghost use Rattle.xml_tokens.specs.Searching.{fresh};
 
 use std::marker::Model;
 
-/// How far the unfinished token at the front of the bytes was searched for its end in vain, so that no byte is searched twice.
+/// How far the unfinished token at the front of the bytes was searched for its end in vain, so that no byte is searched
+/// twice.
 #[derive(Debug, Drop)]
 pub struct Search {
     searched: usize,

@@ -23,8 +23,8 @@ pub struct Found<'b> {
     pub rest: &'b str,
 }
 
-/// The attributes at the front of what stands behind the name of a tag, whether each `&` in their values begins a reference, and
-/// what is behind them.
+/// The attributes at the front of what stands behind the name of a tag, whether each `&` in their values begins a
+/// reference, and what is behind them.
 #[derive(Drop)]
 pub struct Attributes<'b> {
     pub found: Vec<Attribute<'b>>,

@@ -1,32 +1,41 @@
-//! The tokens as the code has them: they lend the document's bytes, and hold a text of their own only where a value says something
-//! else than it shows.
+//! The tokens as the code has them: they lend the document's bytes, and hold a text of their own only where a value
+//! says something else than it shows.
 ghost use Rattle.std.specs.Prelude.{◌≡◌};
 
-/// What a value says: the bytes as they stand, or another text, where it has references or white space that isn't a space.
+/// What a value says: the bytes as they stand, or another text, where it has references or white space that isn't a
+/// space.
 #[derive(Debug, Drop)]
 pub enum Value<'b> {
+    /// The value as it is written.
     Lent(&'b str),
+    /// What it says, made anew.
     Own(String),
 }
 
-/// An attribute: its name as written, and what its value says.
+/// An attribute of a tag.
 #[derive(Debug, Drop)]
 pub struct Attribute<'b> {
+    /// The name as written, its prefix and colon among it.
     pub name: &'b str,
+    /// What the value says, its references resolved and its white space normalised (XML 1.0, section 3.3.3).
     pub value: Value<'b>,
 }
 
-/// A start tag or an empty-element tag: its name as written, its attributes in the order written, the declarations of namespaces among them.
+/// A start tag or an empty-element tag.
 #[derive(Debug, Drop)]
 pub struct StartTag<'b> {
+    /// The name as written, its prefix and colon among it.
     pub name: &'b str,
+    /// In the order written, with the declarations of namespaces.
     pub attributes: Vec<Attribute<'b>>,
+    /// Whether it is an empty-element tag.
     pub is_empty: bool,
 }
 
 /// What stands inside a CDATA section, as written: its line ends aren't LF yet.
 #[derive(Clone, Copy, Debug)]
 pub struct Section<'b> {
+    /// The text between `<![CDATA[` and `]]>`.
     pub written: &'b str,
 }
 

@@ -5,10 +5,11 @@ ghost use Rattle.xml_tokens.specs.References.{reference_at};
 ghost use Rattle.xml_tokens.specs.Searches.{begins_with};
 ghost use Rattle.xml_tokens.specs.Tags as spec;
 ghost use Rattle.xml_tokens.specs.Seen.{seen_value};
-ghost use Rattle.xml_tokens.specs.Told.{seen_part, says_more, says_own, LowFront};
+ghost use Rattle.xml_tokens.specs.Told.{says_more, says_own, LowFront};
 
+use crate::encoding::Begun;
 use crate::names::first_of;
-use crate::references::{Reference, reference_at};
+use crate::references::reference_at;
 use crate::scanning::begins_with;
 use crate::token::Value;
 use inv_base::is_white_space;
@@ -35,11 +36,11 @@ fn any_says_more(bytes: &[u8]) -> bool
 }
 
 fn referred_part(bytes: &[u8]) -> Option<ValuePart>
-    ensures exact { option_map seen_part result ≡ spec.referred_part (reference_at bytes.now) }
+    ensures exact { result ≡ spec.referred_part (reference_at bytes.now) }
     ensures low { IfSome result (λ part. LowFront bytes.now part.more) }
 {
     match reference_at(bytes) {
-        Reference::To(character, length) => Some(ValuePart {
+        Begun::Character(character, length) => Some(ValuePart {
             character,
             more: length - 1,
         }),
@@ -56,7 +57,7 @@ fn begins_line_end(c: char, behind: &str) -> bool
 
 /// A reference is its character; CR LF, CR, LF and TAB are one space.
 fn value_part(c: char, behind: &str) -> Option<ValuePart>
-    ensures exact { option_map seen_part result ≡ spec.value_part c (chars behind.now) }
+    ensures exact { result ≡ spec.value_part c (chars behind.now) }
     ensures low { IfSome result (λ part. LowFront behind.now part.more) }
 {
     if c == '&' {

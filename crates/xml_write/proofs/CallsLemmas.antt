@@ -9,7 +9,7 @@ use Rattle.xml_write.specs.declared.pen.PenState.{PenState}
 use Rattle.xml_write.specs.declared.pen.PenState.TheVariants.{Fresh, InsideTag, PastTag}
 use Rattle.xml_write.specs.Escapes.{in_text}
 use Rattle.xml_write.specs.Canonical.{Declaration, declaration_line, attribute_text, attributes_text, declarations_text, declaring_name, attribute_name, element_name, element_text, is_childless, forest_text, canonical_text}
-use Rattle.xml_write.specs.Calls.{Call, call_start, call_attribute, call_end, call_close, lead_in, end_text, appended_by, state_behind, appended_by_all, behind_all, attribute_calls, calls_inside, calls_of, are_allowed}
+use Rattle.xml_write.specs.Calls.{Call, call_start, call_attribute, call_end, call_close, lead_in, end_text, appended_by, state_behind, appended_by_all, behind_all, attribute_calls, declare_calls, calls_inside, calls_of, are_allowed}
 
 -- calls, and then more
 pub appended_by_all-append : (state : PenState) (calls more : List Call) → appended_by_all state (calls ++ more) ≡ appended_by_all state calls ++ appended_by_all (behind_all state calls) more
@@ -71,6 +71,13 @@ attribute_calls-append name value (x ∷ xs) more =
     ap (λ t. attribute_text (name x) (value x) ++ t) (attribute_calls-append name value xs more)
     ∙ sym (append_assoc (attribute_text (name x) (value x)) (flat_map (λ x. attribute_text (name x) (value x)) xs) (appended_by_all InsideTag more))
 
+declare_calls-append : (declarations : List Declaration) (more : List Call)
+    → appended_by_all InsideTag (declare_calls declarations ++ more) ≡ declarations_text declarations ++ appended_by_all InsideTag more
+declare_calls-append [] more = refl
+declare_calls-append (d ∷ declarations) more =
+    ap (λ t. attribute_text (declaring_name d.prefix) d.uri ++ t) (declare_calls-append declarations more)
+    ∙ sym (append_assoc (attribute_text (declaring_name d.prefix) d.uri) (declarations_text declarations) (appended_by_all InsideTag more))
+
 element_text-by_parts : (name attributes inside : List ℕ) (b : Bool) (more : List ℕ)
     → 0x3C ∷ (name ++ (attributes ++ (inside_text InsideTag b inside ++ (end_text (behind_inside InsideTag b) name ++ more)))) ≡ element_text name attributes b inside ++ more
 element_text-by_parts name attributes inside true more = simp append_assoc
@@ -117,14 +124,14 @@ calls_of-append declarations no_more = refl
 calls_of-append declarations (a_text characters rest) = refl
 calls_of-append declarations (an_element name attributes inside rest) =
     let n = element_name declarations name in
-    let declaring : List Call = map (λ (d : Declaration). call_attribute (declaring_name d.prefix) d.uri) declarations in
+    let declaring : List Call = declare_calls declarations in
     let given : List Call = attribute_calls declarations attributes in
     let end : List Call = call_end n ∷ call_close ∷ [] in
     ap (λ calls. appended_by_all Fresh (call_start n ∷ calls)) (sym (append_assoc declaring given (calls_inside declarations inside ++ end)))
     ∙ (element_calls-append declarations inside Fresh n (declarations_text declarations ++ attributes_text declarations attributes) (declaring ++ given) (call_close ∷ [])
     (λ after.
     ap (appended_by_all InsideTag) (append_assoc declaring given after)
-    ∙ (attribute_calls-append (λ (d : Declaration). declaring_name d.prefix) (λ (d : Declaration). d.uri) declarations (given ++ after)
+    ∙ (declare_calls-append declarations (given ++ after)
     ∙ (ap (λ x. declarations_text declarations ++ x) (attribute_calls-append (λ (a : Attribute). attribute_name declarations a.name) (λ (a : Attribute). a.value) attributes after)
     ∙ sym (append_assoc (declarations_text declarations) (attributes_text declarations attributes) (appended_by_all InsideTag after)))))
     (calls_inside-append declarations inside InsideTag)
@@ -136,6 +143,10 @@ attribute_calls-allowed : {X : Type 0} (name value : X → List ℕ) (xs : List 
     → are_allowed InsideTag (map (λ x. call_attribute (name x) (value x)) xs ++ more) ≡ are_allowed InsideTag more
 attribute_calls-allowed name value [] more = refl
 attribute_calls-allowed name value (x ∷ xs) more = attribute_calls-allowed name value xs more
+
+declare_calls-allowed : (declarations : List Declaration) (more : List Call) → are_allowed InsideTag (declare_calls declarations ++ more) ≡ are_allowed InsideTag more
+declare_calls-allowed [] more = refl
+declare_calls-allowed (d ∷ declarations) more = declare_calls-allowed declarations more
 
 end-allowed : (b : Bool) (name : List ℕ) (more : List Call) → are_allowed (behind_inside InsideTag b) (call_end name ∷ more) ≡ are_allowed PastTag more
 end-allowed true name more = refl
@@ -168,7 +179,7 @@ calls_of-allowed declarations (a_text characters rest) = refl
 calls_of-allowed declarations (an_element name attributes inside rest) =
     let n = element_name declarations name in
     let end : List Call = call_end n ∷ call_close ∷ [] in
-    attribute_calls-allowed (λ (d : Declaration). declaring_name d.prefix) (λ (d : Declaration). d.uri) declarations (attribute_calls declarations attributes ++ (calls_inside declarations inside ++ end))
+    declare_calls-allowed declarations (attribute_calls declarations attributes ++ (calls_inside declarations inside ++ end))
     ∙ (attribute_calls-allowed (λ (a : Attribute). attribute_name declarations a.name) (λ (a : Attribute). a.value) attributes (calls_inside declarations inside ++ end)
     ∙ ((inside_tag-allowed declarations inside end).0
     ∙ end-allowed (is_childless inside) n (call_close ∷ [])))

@@ -9,8 +9,8 @@ use Rattle.inv_base.proofs.EscapeLemmas.{IsAsciiEscape, encodes-one, flat_map-en
 use Rattle.xml_write.specs.declared.pen.PenState.{PenState}
 use Rattle.xml_write.specs.declared.pen.PenState.TheVariants.{Fresh, InsideTag, PastTag}
 use Rattle.xml_write.specs.Escapes.{in_text, in_value}
-use Rattle.xml_write.specs.Canonical.{declaration_line, attribute_text}
-use Rattle.xml_write.specs.Calls.{Call, call_start, call_attribute, call_text, call_end, call_close, lead_in, start_text, content_text, end_tag, end_text, behind_text, appended_by, state_behind, appended_by_all, encoded}
+use Rattle.xml_write.specs.Canonical.{declaration_line, qualified, declaring_name, attribute_text}
+use Rattle.xml_write.specs.Calls.{Call, call_start, call_attribute, call_declare, call_text, call_end, call_close, lead_in, start_text, content_text, end_tag, end_text, behind_text, appended_by, state_behind, appended_by_all, encoded}
 
 -- a text that isn't empty
 pub content_text-some : (state : PenState) (t : List ℕ) → (length t == 0) ≡ false → content_text state t ≡ lead_in state ++ flat_map in_text t
@@ -55,11 +55,36 @@ encodes-lead_in Fresh = refl
 encodes-lead_in InsideTag = refl
 encodes-lead_in PastTag = refl
 
-encodes-end_tag : (name : List ℕ) → encodes (end_tag name) ≡ end_tag (encodes name)
+pub encodes-end_tag : (name : List ℕ) → encodes (end_tag name) ≡ end_tag (encodes name)
 unfolding encode
 encodes-end_tag name = ap (λ x. 0x3C ∷ 0x2F ∷ x) (encodes-append name (0x3E ∷ []))
 
-encodes-attribute_text : (name value : List ℕ) → encodes (attribute_text name value) ≡ attribute_text (encodes name) (encodes value)
+-- a text with a character has a byte
+pub encodes-some : (c : ℕ) (characters : List ℕ) → (length (encodes (c ∷ characters)) == 0) ≡ false
+encodes-some c characters =
+    let long : length (encode c ++ encodes characters) ≡ length (encode c) + length (encodes characters) = length-append (encode c) (encodes characters) in
+    ne_eqb _ 0 (λ e. omega (arith, length-encode c, (len_utf8_bounds c).0))
+
+pub declaring_name-some : (t : List ℕ) → (length t == 0) ≡ false → declaring_name t ≡ 0x78 ∷ 0x6D ∷ 0x6C ∷ 0x6E ∷ 0x73 ∷ 0x3A ∷ t
+declaring_name-some [] e = cc
+declaring_name-some (c ∷ t) e = refl
+
+pub qualified-some : (t local : List ℕ) → (length t == 0) ≡ false → qualified t local ≡ t ++ 0x3A ∷ local
+qualified-some [] local e = cc
+qualified-some (c ∷ t) local e = refl
+
+pub encodes-declaring_name : (prefix : List ℕ) → encodes (declaring_name prefix) ≡ declaring_name (encodes prefix)
+unfolding encode
+encodes-declaring_name [] = refl
+encodes-declaring_name (c ∷ prefix) = sym (declaring_name-some (encodes (c ∷ prefix)) (encodes-some c prefix))
+
+pub encodes-qualified : (prefix local : List ℕ) → encodes (qualified prefix local) ≡ qualified (encodes prefix) (encodes local)
+unfolding encode
+encodes-qualified [] local = refl
+encodes-qualified (c ∷ prefix) local =
+    encodes-append (c ∷ prefix) (0x3A ∷ local) ∙ sym (qualified-some (encodes (c ∷ prefix)) (encodes local) (encodes-some c prefix))
+
+pub encodes-attribute_text : (name value : List ℕ) → encodes (attribute_text name value) ≡ attribute_text (encodes name) (encodes value)
 unfolding encode
 encodes-attribute_text name value =
     ap (λ x. 0x20 ∷ x)
@@ -72,12 +97,6 @@ encodes-start_text : (state : PenState) (name : List ℕ) → encodes (start_tex
 unfolding encode
 encodes-start_text state name =
     encodes-append (lead_in state) (0x3C ∷ name) ∙ ap (λ x. x ++ 0x3C ∷ encodes name) (encodes-lead_in state)
-
--- a text with a character has a byte
-encodes-some : (c : ℕ) (characters : List ℕ) → (length (encodes (c ∷ characters)) == 0) ≡ false
-encodes-some c characters =
-    let long : length (encode c ++ encodes characters) ≡ length (encode c) + length (encodes characters) = length-append (encode c) (encodes characters) in
-    ne_eqb _ 0 (λ e. omega (arith, length-encode c, (len_utf8_bounds c).0))
 
 encodes-content_text : (state : PenState) (characters : List ℕ) → encodes (content_text state characters) ≡ content_text state (encodes characters)
 encodes-content_text state [] = refl
@@ -98,6 +117,8 @@ pub encodes-appended_by : (state : PenState) (call : Call) → encodes (appended
 unfolding encode
 encodes-appended_by state (call_start name) = encodes-start_text state name
 encodes-appended_by state (call_attribute name value) = encodes-attribute_text name value
+encodes-appended_by state (call_declare prefix uri) =
+    encodes-attribute_text (declaring_name prefix) uri ∙ ap (λ name. attribute_text name (encodes uri)) (encodes-declaring_name prefix)
 encodes-appended_by state (call_text characters) = encodes-content_text state characters
 encodes-appended_by state (call_end name) = encodes-end_text state name
 encodes-appended_by state call_close = refl
@@ -113,6 +134,7 @@ behind_text-encodes state (c ∷ characters) = behind_text-some state (encodes (
 state_behind-encoded : (state : PenState) (call : Call) → state_behind state (encoded call) ≡ state_behind state call
 state_behind-encoded state (call_start name) = refl
 state_behind-encoded state (call_attribute name value) = refl
+state_behind-encoded state (call_declare prefix uri) = refl
 state_behind-encoded state (call_text characters) = behind_text-encodes state characters
 state_behind-encoded state (call_end name) = refl
 state_behind-encoded state call_close = refl

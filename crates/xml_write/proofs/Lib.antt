@@ -1,3 +1,5 @@
 pub mod EncodingLemmas
 pub mod CallsLemmas
 mod Tried
+pub mod SizeLemmas
+pub mod WriterLemmas

@@ -34,10 +34,12 @@ abbrev pub behind_text : PenState → List ℕ → PenState
 behind_text state [] = state
 behind_text state (c ∷ characters) = PastTag
 
--- a call and the texts that it is given
+-- A call and the texts that it is given: of an attribute its name and its value, of a namespace declaration the prefix, empty for
+-- the default namespace, and the namespace name.
 pub data Call : Type 0 where
   call_start : List ℕ → Call
   call_attribute : List ℕ → List ℕ → Call
+  call_declare : List ℕ → List ℕ → Call
   call_text : List ℕ → Call
   call_end : List ℕ → Call
   call_close : Call
@@ -46,6 +48,7 @@ pub data Call : Type 0 where
 abbrev pub appended_by : PenState → Call → List ℕ
 appended_by state (call_start name) = start_text state name
 appended_by state (call_attribute name value) = attribute_text name value
+appended_by state (call_declare prefix uri) = attribute_text (declaring_name prefix) uri
 appended_by state (call_text characters) = content_text state characters
 appended_by state (call_end name) = end_text state name
 appended_by state call_close = 0xA ∷ []
@@ -54,6 +57,7 @@ appended_by state call_close = 0xA ∷ []
 abbrev pub state_behind : PenState → Call → PenState
 state_behind state (call_start name) = InsideTag
 state_behind state (call_attribute name value) = InsideTag
+state_behind state (call_declare prefix uri) = InsideTag
 state_behind state (call_text characters) = behind_text state characters
 state_behind state (call_end name) = PastTag
 state_behind state call_close = PastTag
@@ -64,6 +68,9 @@ is_allowed state (call_start name) = true
 is_allowed Fresh (call_attribute name value) = false
 is_allowed InsideTag (call_attribute name value) = true
 is_allowed PastTag (call_attribute name value) = false
+is_allowed Fresh (call_declare prefix uri) = false
+is_allowed InsideTag (call_declare prefix uri) = true
+is_allowed PastTag (call_declare prefix uri) = false
 is_allowed Fresh (call_text characters) = false
 is_allowed InsideTag (call_text characters) = true
 is_allowed PastTag (call_text characters) = true
@@ -93,6 +100,7 @@ are_allowed state (call ∷ calls) = is_allowed state call && are_allowed (state
 abbrev pub encoded : Call → Call
 encoded (call_start name) = call_start (encode_utf8_all name)
 encoded (call_attribute name value) = call_attribute (encode_utf8_all name) (encode_utf8_all value)
+encoded (call_declare prefix uri) = call_declare (encode_utf8_all prefix) (encode_utf8_all uri)
 encoded (call_text characters) = call_text (encode_utf8_all characters)
 encoded (call_end name) = call_end (encode_utf8_all name)
 encoded call_close = call_close
@@ -110,13 +118,16 @@ calls_inside declarations (an_element name attributes inside rest) =
     ++ (calls_inside declarations inside
     ++ call_end (element_name declarations name) ∷ calls_inside declarations rest))
 
--- the calls for a document: the root has the declarations as attributes before its own
+abbrev pub declare_calls : List Declaration → List Call
+declare_calls declarations = map (λ (d : Declaration). call_declare d.prefix d.uri) declarations
+
+-- the calls for a document: the root has the declarations before its attributes
 abbrev pub calls_of : List Declaration → Forest → List Call
 calls_of declarations no_more = []
 calls_of declarations (a_text characters rest) = []
 calls_of declarations (an_element name attributes inside rest) =
     call_start (element_name declarations name)
-    ∷ (map (λ (d : Declaration). call_attribute (declaring_name d.prefix) d.uri) declarations
+    ∷ (declare_calls declarations
     ++ (attribute_calls declarations attributes
     ++ (calls_inside declarations inside
     ++ call_end (element_name declarations name) ∷ call_close ∷ [])))

@@ -1,3 +1,5 @@
 pub mod Escapes
 pub mod Canonical
 pub mod Calls
+pub mod Sizes
+pub mod Writers

@@ -39,7 +39,7 @@ fn reference_in_value(byte: u8) -> Option<&'static str>
     }
 }
 
-fn reference(byte: u8, within: Within) -> Option<&'static str>
+pub(crate) fn reference(byte: u8, within: Within) -> Option<&'static str>
     ensures { MatchOption result (escape_of within byte ≡ byte ∷ []) (λ reference. escape_of within byte ≡ reference.now) }
 {
     match within {

@@ -1,9 +1,11 @@
-ghost use Rattle.std.specs.Prelude.{◌≡◌, ◌≢◌, [], ◌∷◌};
+ghost use Rattle.std.specs.Prelude.{◌≡◌, ◌≢◌, [], ◌∷◌, ◌++◌, flat_map};
 ghost use Rattle.inv_base.specs.Writing.{Writes};
-ghost use Rattle.xml_write.specs.Canonical.{attribute_text};
+ghost use Rattle.xml_write.specs.Canonical.{qualified, declaring_name, attribute_text};
+ghost use Rattle.xml_write.specs.Escapes.{in_value};
 ghost use Rattle.xml_write.specs.Calls.{lead_in, start_text, content_text, end_tag, end_text, behind_text};
 
 use crate::escape::{Within, put_escaped};
+use crate::writer::Writer;
 use crate::writing::{WriteFault, put};
 use inv_base::Sink;
 use std::marker::Model;
@@ -22,7 +24,7 @@ pub enum PenState {
 impl PenState {
     /// What a start or a text writes first.
     #[tactic(auto, unfolding(crate::specs::Canonical::declaration_line))]
-    fn lead_in(self) -> &'static str
+    pub(crate) fn lead_in(self) -> &'static str
         ensures { result.now ≡ lead_in self }
     {
         match self {
@@ -65,14 +67,27 @@ impl Pen {
         ensures writes { Writes result (start_text self.old name.now) (K.view out.old) (K.view out.new) }
         ensures state { self.new ≡ PenState.InsideTag }
     {
+        self.start_qualified(out, "", name)
+    }
+
+    /// Begins an element whose name is a prefix and a local name, or the local name alone where the prefix is empty.
+    pub fn start_qualified<K: Sink>(
+        &mut self,
+        out: &mut K,
+        prefix: &str,
+        local: &str,
+    ) -> Result<(), WriteFault>
+        ensures writes { Writes result (start_text self.old (qualified prefix.now local.now)) (K.view out.old) (K.view out.new) }
+        ensures state { self.new ≡ PenState.InsideTag }
+    {
         let lead_in = self.state.lead_in();
         self.state = PenState::InsideTag;
         put(out, lead_in)?;
         put(out, "<")?;
-        put(out, name)
+        put_qualified(out, prefix, local)
     }
 
-    /// Writes an attribute, or a namespace declaration, of the element that was begun last.
+    /// Writes an attribute of the element that was begun last.
     pub fn attribute<K: Sink>(
         &mut self,
         out: &mut K,
@@ -85,9 +100,23 @@ impl Pen {
     {
         put(out, " ")?;
         put(out, name)?;
-        put(out, "=\"")?;
-        put_escaped(out, value, Within::Value)?;
-        put(out, "\"")
+        put_value(out, value)
+    }
+
+    /// Declares a namespace in the element that was begun last: for the prefix, or as the default one where the prefix is empty.
+    pub fn declare<K: Sink>(
+        &mut self,
+        out: &mut K,
+        prefix: &str,
+        uri: &str,
+    ) -> Result<(), WriteFault>
+        requires { self.old ≡ PenState.InsideTag }
+        ensures writes { Writes result (attribute_text (declaring_name prefix.now) uri.now) (K.view out.old) (K.view out.new) }
+        ensures state { self.new ≡ PenState.InsideTag }
+    {
+        put(out, " ")?;
+        put_declaring_name(out, prefix)?;
+        put_value(out, uri)
     }
 
     /// Writes a text, or a further part of one.
@@ -111,11 +140,25 @@ impl Pen {
         ensures writes { Writes result (end_text self.old name.now) (K.view out.old) (K.view out.new) }
         ensures state { self.new ≡ PenState.PastTag }
     {
+        self.end_qualified(out, "", name)
+    }
+
+    /// The same of an element whose name is a prefix and a local name.
+    pub fn end_qualified<K: Sink>(
+        &mut self,
+        out: &mut K,
+        prefix: &str,
+        local: &str,
+    ) -> Result<(), WriteFault>
+        requires { self.old ≢ PenState.Fresh }
+        ensures writes { Writes result (end_text self.old (qualified prefix.now local.now)) (K.view out.old) (K.view out.new) }
+        ensures state { self.new ≡ PenState.PastTag }
+    {
         let state = self.state;
         self.state = PenState::PastTag;
         match state {
             PenState::InsideTag => put(out, "/>"),
-            PenState::Fresh | PenState::PastTag => put_end_tag(out, name),
+            PenState::Fresh | PenState::PastTag => put_end_tag(out, prefix, local),
         }
     }
 
@@ -128,10 +171,89 @@ impl Pen {
     }
 }
 
-fn put_end_tag<K: Sink>(out: &mut K, name: &str) -> Result<(), WriteFault>
-    ensures { Writes result (end_tag name.now) (K.view out.old) (K.view out.new) }
+impl Writer for Pen {
+    ghost use Rattle.xml_write.specs.Writers.{writing};
+
+    ghost view = { writing };
+
+    fn start<K: Sink>(&mut self, out: &mut K, name: &str) -> Result<(), WriteFault> {
+        Pen::start(self, out, name)
+    }
+
+    fn start_qualified<K: Sink>(
+        &mut self,
+        out: &mut K,
+        prefix: &str,
+        local: &str,
+    ) -> Result<(), WriteFault> {
+        Pen::start_qualified(self, out, prefix, local)
+    }
+
+    fn attribute<K: Sink>(
+        &mut self,
+        out: &mut K,
+        name: &str,
+        value: &str,
+    ) -> Result<(), WriteFault> {
+        Pen::attribute(self, out, name, value)
+    }
+
+    fn declare<K: Sink>(&mut self, out: &mut K, prefix: &str, uri: &str) -> Result<(), WriteFault> {
+        Pen::declare(self, out, prefix, uri)
+    }
+
+    fn text<K: Sink>(&mut self, out: &mut K, t: &str) -> Result<(), WriteFault> {
+        Pen::text(self, out, t)
+    }
+
+    fn end<K: Sink>(&mut self, out: &mut K, name: &str) -> Result<(), WriteFault> {
+        Pen::end(self, out, name)
+    }
+
+    fn end_qualified<K: Sink>(
+        &mut self,
+        out: &mut K,
+        prefix: &str,
+        local: &str,
+    ) -> Result<(), WriteFault> {
+        Pen::end_qualified(self, out, prefix, local)
+    }
+}
+
+fn put_end_tag<K: Sink>(out: &mut K, prefix: &str, local: &str) -> Result<(), WriteFault>
+    ensures { Writes result (end_tag (qualified prefix.now local.now)) (K.view out.old) (K.view out.new) }
 {
     put(out, "</")?;
-    put(out, name)?;
+    put_qualified(out, prefix, local)?;
     put(out, ">")
+}
+
+fn put_qualified<K: Sink>(out: &mut K, prefix: &str, local: &str) -> Result<(), WriteFault>
+    ensures { Writes result (qualified prefix.now local.now) (K.view out.old) (K.view out.new) }
+{
+    if prefix.is_empty() {
+        return put(out, local);
+    }
+    put(out, prefix)?;
+    put(out, ":")?;
+    put(out, local)
+}
+
+fn put_declaring_name<K: Sink>(out: &mut K, prefix: &str) -> Result<(), WriteFault>
+    ensures { Writes result (declaring_name prefix.now) (K.view out.old) (K.view out.new) }
+{
+    if prefix.is_empty() {
+        return put(out, "xmlns");
+    }
+    put(out, "xmlns:")?;
+    put(out, prefix)
+}
+
+/// Writes what stands behind an attribute's name: `=` and the value between quotes.
+fn put_value<K: Sink>(out: &mut K, value: &str) -> Result<(), WriteFault>
+    ensures { Writes result (0x3D ∷ 0x22 ∷ (flat_map in_value value.now ++ 0x22 ∷ [])) (K.view out.old) (K.view out.new) }
+{
+    put(out, "=\"")?;
+    put_escaped(out, value, Within::Value)?;
+    put(out, "\"")
 }

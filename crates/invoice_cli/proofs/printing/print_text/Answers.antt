@@ -1,8 +1,7 @@
 use Rattle.std.proofs.Common.{[], ◌∷◌}
 use Rattle.node_arena.specs.Document.{node_at}
 use Rattle.inv_base.proofs.PrintingLemmas.{Prints-append, Prints-same}
-use Rattle.invoice_cli.proofs.OutlineLemmas.{text_line-bytes}
-use Rattle.invoice_cli.proofs.WalkingLemmas.{deep}
+use Rattle.invoice_cli.proofs.OutlineLemmas.{text_line-bytes, deep}
 use Rattle.invoice_cli.proofs.printing.print_text.Goals as goal
 
 pub returns : goal.returns

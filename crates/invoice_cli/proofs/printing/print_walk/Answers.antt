@@ -11,7 +11,6 @@ nodes-preserved g c =
     let more = lines_of-more doc.names doc.nodes c.nodes.at.node c.nodes.invariant.stands.within ∙ ap (λ (n : ℕ). lines_of doc.names (take n doc.nodes)) (sym went.next) in
     record {
       stands = went.stands;
-      bounded = omega (arith, went.bounded, went.next, c.nodes.invariant.bounded);
       printed = subst (λ text. Printed c.print_node.new.printer.failed text (g.K.Sink.view c.args.out.now) (g.K.Sink.view c.print_node.new.out)) more (c.print_node.ensures _ _ c.nodes.invariant.printed);
     }
 

@@ -1,6 +1,6 @@
-use Rattle.std.proofs.Common.{◌-◌, ◌≤◌, take, length}
+use Rattle.std.proofs.Common.{◌-◌, take, length}
 use Rattle.inv_base.specs.Printing.{Printed}
-use Rattle.invoice_cli.specs.Walking.{StandsIn}
+use Rattle.xml_document.specs.Walking.{StandsIn}
 use Rattle.invoice_cli.proofs.OutlineLemmas.{lines_of}
 use Rattle.invoice_cli.proofs.printing.print_walk.Given as goal
 
@@ -8,7 +8,6 @@ use Rattle.invoice_cli.proofs.printing.print_walk.Given as goal
 abbrev pub invariant-nodes : goal.invariant-nodes
 invariant-nodes g l = record {
   stands : StandsIn l.doc l.at;
-  bounded : l.at.level ≤ l.at.node;
   printed : Printed l.printer.failed (lines_of l.doc.names (take l.at.node l.doc.nodes)) (g.K.Sink.view l.initial.out) (g.K.Sink.view l.out);
 }
 

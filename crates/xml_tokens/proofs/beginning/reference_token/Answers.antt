@@ -1,8 +1,8 @@
 use Rattle.xml_tokens.proofs.TokenLemmas.{reference-to, reference-broken, reference-later}
 use Rattle.xml_tokens.proofs.beginning.reference_token.Goals as goal
 
-pub returns-in-To : goal.returns-in-To
-returns-in-To c = reference-to c.args.bytes.now c.in-To.c c.in-To.length c.in-To.ensures
+pub returns-in-Character : goal.returns-in-Character
+returns-in-Character c = reference-to c.args.bytes.now c.in-Character.c c.in-Character.length c.in-Character.ensures
 
 pub returns-in-Broken : goal.returns-in-Broken
 returns-in-Broken c = reference-broken c.args.bytes.now c.in-Broken.length c.in-Broken.ensures

@@ -1,5 +1,4 @@
 use Rattle.std.proofs.Common.{arith}
-use Rattle.xml_tokens.specs.Seen.{seen_position}
 use Rattle.xml_tokens.proofs.TokenLemmas.{begins-tag, no-markup}
 use Rattle.xml_tokens.proofs.extents.markup_at.Goals as goal
 
@@ -7,4 +6,4 @@ pub tag_at-requires-clause-is_tag : goal.tag_at-requires-clause-is_tag
 tag_at-requires-clause-is_tag c = begins-tag c.args.bytes.now (omega arith) (omega arith) (omega arith)
 
 pub returns-in-empty-clause-answer : goal.returns-in-empty-clause-answer
-returns-in-empty-clause-answer c = no-markup (seen_position c.args.position) c.args.bytes.now (omega arith)
+returns-in-empty-clause-answer c = no-markup c.args.position c.args.bytes.now (omega arith)

@@ -5,13 +5,13 @@ use Rattle.xml_write.proofs.pen.put_end_tag.Goals as goal
 pub returns-in_err-put : goal.returns-in_err-put
 returns-in_err-put g c = Writes-at_err _ _ _ _ c.from_residual.ensures.0 (WritesFront-more (0x3C ∷ 0x2F ∷ []) _ _ _ c.in_err-put.ensures)
 
-pub returns-in_err-put-2 : goal.returns-in_err-put-2
-returns-in_err-put-2 g c =
-    Writes-at_err _ _ _ _ c.from_residual-in_err-put-2.ensures.0
+pub returns-in_err-put_qualified : goal.returns-in_err-put_qualified
+returns-in_err-put_qualified g c =
+    Writes-at_err _ _ _ _ c.from_residual-in_err-put_qualified.ensures.0
     (WritesFront-append (0x3C ∷ 0x2F ∷ []) _ _ _ _ c.in_ok-put.ensures
-    (WritesFront-more _ _ _ _ c.in_err-put-2.ensures))
+    (WritesFront-more _ _ _ _ c.in_err-put_qualified.ensures))
 
 pub returns : goal.returns
 returns g c =
     Writes-append _ (0x3C ∷ 0x2F ∷ []) _ _ _ _ c.in_ok-put.ensures
-    (Writes-append _ _ _ _ _ _ c.in_ok-put-2.ensures c.put-3.ensures)
+    (Writes-append _ _ _ _ _ _ c.in_ok-put_qualified.ensures c.put-2.ensures)

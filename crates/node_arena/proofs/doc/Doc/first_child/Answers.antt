@@ -1,12 +1,7 @@
-use Rattle.std.proofs.Common.{get_or, None, IfSome, subst, ap, sym, ◌∙◌, ◌<◌, length}
-use Rattle.node_arena.proofs.MoveLemmas.{answers_child}
+use Rattle.node_arena.proofs.MoveLemmas.{answers_child, moved}
 use Rattle.node_arena.proofs.doc.Doc.first_child.Goals as goal
 
-pub returns-clause-node : goal.returns-clause-node
-returns-clause-node g c =
-    c.linked.ensures ∙ (ap (λ links. get_or links c.args.n None) c.deref.ensures.value ∙ (answers_child _ _ _ _ _ c.self.invariant c.self.view_is c.args.n c.requires).node)
-
-pub returns-clause-behind : goal.returns-clause-behind
-returns-clause-behind g c =
-    subst (λ o. IfSome o (λ m. (c.args.n < m) × (m < length c.args.self.now.nodes))) (sym (c.linked.ensures ∙ ap (λ links. get_or links c.args.n None) c.deref.ensures.value))
-    (answers_child _ _ _ _ _ c.self.invariant c.self.view_is c.args.n c.requires).behind_it
+pub returns : goal.returns
+returns g c =
+    let leads = answers_child _ _ _ _ _ c.self.invariant c.self.view_is c.args.n c.requires in
+    moved _ _ _ _ _ _ _ _ c.linked.ensures c.deref.ensures.value leads.node leads.behind_it c.tick.ensures

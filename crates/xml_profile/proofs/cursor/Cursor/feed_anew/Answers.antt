@@ -1,5 +1,5 @@
-use Rattle.std.proofs.Common.{◌≡◌, ◌++◌, ap, sym, ◌∙◌}
-use Rattle.xml_profile.proofs.FeedLemmas.{reaches-memory, breaks-from, reaches-from}
+use Rattle.std.proofs.Common.{◌++◌, ap}
+use Rattle.xml_profile.proofs.FeedLemmas.{reaches-memory, breaks-from}
 use Rattle.xml_profile.proofs.cursor.Cursor.feed_anew.Goals as goal
 
 pub returns-then-is_err : goal.returns-then-is_err

@@ -1,6 +1,5 @@
 use Rattle.std.proofs.Common.{List, false, ap, sym}
-use Rattle.xml_tokens.specs.Beginnings.{farther}
-use Rattle.xml_tokens.specs.Seen.{seen_position}
+use Rattle.xml_tokens.specs.declared.beginning.Position.TheVariants.{Farther}
 use Rattle.xml_state.specs.States.{State, Open}
 use Rattle.xml_state.proofs.NestLemmas.{end_too_long, end_mismatched, nothing_told, end_told}
 use Rattle.xml_state.proofs.nest.Nest.end_tag.Goals as goal
@@ -19,7 +18,7 @@ pub returns : goal.returns
 returns g c =
     let nest = c.self.inside in
     let s : State = record {
-      position = seen_position nest.position;
+      position = nest.position;
       open_elements = nest.scopes.open_elements;
       root_seen = nest.root_seen;
       in_text = nest.in_text;
@@ -28,4 +27,4 @@ returns g c =
     } in
     rw (← c.self.view_is)
     (end_told _ s _ _ c.args.place.byte _ _ (sym c.if-is_long.ensures) (sym c.if-not-is_innermost.ensures)
-    (ap (λ (elements : List Open). record s { position = farther; open_elements = elements; in_text = false }) c.close.ensures) c.in-Ok.ensures)
+    (ap (λ (elements : List Open). record s { position = Farther; open_elements = elements; in_text = false }) c.close.ensures) c.in-Ok.ensures)

@@ -1,6 +1,5 @@
 use Rattle.std.proofs.Common.{sym, subst, ◌∙◌, ap, chars}
 use Rattle.xml_tokens.specs.Markup.{with_line_feeds}
-use Rattle.xml_state.specs.Seen.{seen_limits}
 use Rattle.xml_state.specs.Taking.{TakesText}
 use Rattle.xml_state.proofs.NestLemmas.{text_told, section_tells, section_outside, section_empty, nothing_told}
 use Rattle.xml_state.proofs.TextLemmas.{no_returns, empty_lines}
@@ -18,14 +17,14 @@ pub returns-then-not-has_carriage_return : goal.returns-then-not-has_carriage_re
 returns-then-not-has_carriage_return g c =
     text_told _ _ _ _ _ _ _ _ _
     (section_tells _ _ (with_line_feeds (chars c.args.written.now)) (sym c.if-is_outside.ensures) (empty_lines (chars c.args.written.now) ∙ sym c.if-says_nothing.ensures))
-    (subst (λ x. TakesText c.tell.result (seen_limits c.args.limits.now) c.args.self.now c.tell.new.self x c.args.place.byte (g.E.Events.taken c.args.events.now) (g.E.Events.taken c.tell.new.events))
+    (subst (λ x. TakesText c.tell.result c.args.limits.now c.args.self.now c.tell.new.self x c.args.place.byte (g.E.Events.taken c.args.events.now) (g.E.Events.taken c.tell.new.events))
     (sym (no_returns (chars c.args.written.now) (sym c.if-not-has_carriage_return.ensures))) c.tell.ensures)
 
 pub returns-in-Ok : goal.returns-in-Ok
 returns-in-Ok g c =
     text_told _ _ _ _ _ _ _ _ _
     (section_tells _ _ (with_line_feeds (chars c.args.written.now)) (sym c.if-is_outside.ensures) (empty_lines (chars c.args.written.now) ∙ sym c.if-says_nothing.ensures))
-    (subst (λ x. TakesText c.tell-in-Ok.result (seen_limits c.args.limits.now) c.args.self.now c.tell-in-Ok.new.self x c.args.place.byte (g.E.Events.taken c.args.events.now) (g.E.Events.taken c.tell-in-Ok.new.events))
+    (subst (λ x. TakesText c.tell-in-Ok.result c.args.limits.now c.args.self.now c.tell-in-Ok.new.self x c.args.place.byte (g.E.Events.taken c.args.events.now) (g.E.Events.taken c.tell-in-Ok.new.events))
     (ap chars c.as_str.ensures.value ∙ c.in-Ok.ensures) c.tell-in-Ok.ensures)
 
 pub returns-in-Err : goal.returns-in-Err

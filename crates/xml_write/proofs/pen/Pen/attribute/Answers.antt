@@ -12,24 +12,7 @@ returns-in_err-put-2-clause-writes g c =
     (WritesFront-append (0x20 ∷ []) _ _ _ _ c.in_ok-put.ensures
     (WritesFront-more _ _ _ _ c.in_err-put-2.ensures))
 
-pub returns-in_err-put-3-clause-writes : goal.returns-in_err-put-3-clause-writes
-returns-in_err-put-3-clause-writes g c =
-    Writes-at_err _ _ _ _ c.from_residual-in_err-put-3.ensures.0
-    (WritesFront-append (0x20 ∷ []) _ _ _ _ c.in_ok-put.ensures
-    (WritesFront-append _ _ _ _ _ c.in_ok-put-2.ensures
-    (WritesFront-more (0x3D ∷ 0x22 ∷ []) _ _ _ c.in_err-put-3.ensures)))
-
-pub returns-in_err-put_escaped-clause-writes : goal.returns-in_err-put_escaped-clause-writes
-returns-in_err-put_escaped-clause-writes g c =
-    Writes-at_err _ _ _ _ c.from_residual-in_err-put_escaped.ensures.0
-    (WritesFront-append (0x20 ∷ []) _ _ _ _ c.in_ok-put.ensures
-    (WritesFront-append _ _ _ _ _ c.in_ok-put-2.ensures
-    (WritesFront-append (0x3D ∷ 0x22 ∷ []) _ _ _ _ c.in_ok-put-3.ensures
-    (WritesFront-more _ _ _ _ c.in_err-put_escaped.ensures))))
-
 pub returns-clause-writes : goal.returns-clause-writes
 returns-clause-writes g c =
     Writes-append _ (0x20 ∷ []) _ _ _ _ c.in_ok-put.ensures
-    (Writes-append _ _ _ _ _ _ c.in_ok-put-2.ensures
-    (Writes-append _ (0x3D ∷ 0x22 ∷ []) _ _ _ _ c.in_ok-put-3.ensures
-    (Writes-append _ _ _ _ _ _ c.in_ok-put_escaped.ensures c.put-4.ensures)))
+    (Writes-append _ _ _ _ _ _ c.in_ok-put-2.ensures c.put_value.ensures)

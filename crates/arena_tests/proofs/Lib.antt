@@ -1,2 +1,0 @@
-mod WalkingLemmas
-mod DocumentLemmas

@@ -1,0 +1,16 @@
+//! What the tests share.
+
+use std::test::Fail;
+
+/// Fails with the row, or the word, where it isn't so.
+pub(crate) fn check(holds: bool, row: &'static str) -> Result<(), Fail> {
+    holds.then_some(()).ok_or(row)?;
+    Ok(())
+}
+
+/// What of a text fits in a room.
+pub(crate) fn room_for(text: &str, room: usize) -> &[u8] {
+    let bytes = text.as_bytes();
+    let room = room.min(bytes.len());
+    &bytes[..room]
+}

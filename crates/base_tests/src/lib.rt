@@ -1,0 +1,13 @@
+//! The tests of files and outputs in memory, of texts and characters, of canonical text, of numbers and days, and of code lists.
+#![tactic(auto)]
+
+#[cfg(test)]
+mod checks;
+#[cfg(test)]
+mod code_lists_cases;
+#[cfg(test)]
+mod inv_base_cases;
+#[cfg(test)]
+mod inv_decimal_cases;
+#[cfg(test)]
+mod xml_write_cases;

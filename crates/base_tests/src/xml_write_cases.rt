@@ -1,0 +1,335 @@
+//! Documents that a pen writes and a gauge measures, compared with texts that were written by hand.
+
+ghost use Rattle.std.specs.Prelude.{◌≡◌, IfOk};
+ghost use Rattle.xml_write.specs.Writers.{state_of};
+
+use crate::checks::{check, room_for};
+use inv_base::{MemSink, Place, Sink};
+use std::alloc::{AllocError, Global};
+use std::test::Fail;
+use xml_profile::Reader;
+use xml_state::{Events, Limits, NameId};
+use xml_write::{Gauge, Nowhere, Pen, PenState, WriteFault, Writer};
+
+const FIRST_LINE: &str = "<?xml version=\"1.0\" encoding=\"UTF-8\"?>\n";
+
+/// The calls of documents, what is written of each between the first line and the last line feed, and how many nodes it has. A row ends
+/// with `§`. Of a call the first word says what it is: `<` starts an element, `>` ends one, `@` is an attribute, `^` a declaration of a
+/// prefix, `#` a text.
+const DOCUMENTS: &str = "\
+< a|> a⇒<a/>⇒2§\
+< a|# |> a⇒<a/>⇒2§\
+< a|@ k=|> a⇒<a k=\"\"/>⇒3§\
+< a|#  \t|> a⇒<a> \t</a>⇒3§\
+< a|# |# x|# |# y|> a⇒<a>xy</a>⇒3§\
+< a|# &<>\"'\t\n\r|> a⇒<a>&amp;&lt;&gt;\"'\t\n&#xD;</a>⇒3§\
+< a|@ k=&<>\"'\t\n\r|> a⇒<a k=\"&amp;&lt;&gt;&quot;'&#x9;&#xA;&#xD;\"/>⇒3§\
+< a|# R&D, a<b && c]]>d\r\n&amp;|> a⇒<a>R&amp;D, a&lt;b &amp;&amp; c]]&gt;d&#xD;\n&amp;amp;</a>⇒3§\
+< a|@ k=1 \"2\"|@ l=\n3|# 4|> a⇒<a k=\"1 &quot;2&quot;\" l=\"&#xA;3\">4</a>⇒5§\
+< größe|@ ü=ß€|# 日本 😀|> größe⇒<größe ü=\"ß€\">日本 😀</größe>⇒4§\
+< a|< b|> b|< c|< d|# 1|> d|> c|> a⇒<a><b/><c><d>1</d></c></a>⇒6§\
+< p|# one |< b|# two|> b|# three|# , four|< br|> br|> p⇒<p>one <b>two</b>three, four<br/></p>⇒7§\
+< q:a|^ q=urn:x?a&b|@ q:k=v|< q:b|@ l=w|> q:b|> q:a⇒<q:a xmlns:q=\"urn:x?a&amp;b\" q:k=\"v\"><q:b l=\"w\"/></q:a>⇒5§\
+< Invoice|^ =urn:oasis:ubl:Invoice-2|^ cbc=urn:oasis:ubl:Basic-2|< cbc:ID|# A1|> cbc:ID|< cbc:Amount|@ currencyID=EUR|# 10.00|> cbc:Amount|> Invoice\
+⇒<Invoice xmlns=\"urn:oasis:ubl:Invoice-2\" xmlns:cbc=\"urn:oasis:ubl:Basic-2\"><cbc:ID>A1</cbc:ID><cbc:Amount currencyID=\"EUR\">10.00</cbc:Amount></Invoice>⇒7";
+
+/// A name by its prefix and its local name.
+fn halves_of(name: &str) -> (&str, &str) {
+    name.split_once(':').unwrap_or(("", name))
+}
+
+fn end<W: Writer, K: Sink>(
+    writer: &mut W,
+    out: &mut K,
+    name: &str,
+    state: PenState,
+) -> Result<PenState, WriteFault>
+    requires { state_of (W.view writer.old) ≡ state }
+    ensures { IfOk result (λ behind. state_of (W.view writer.new) ≡ behind) }
+{
+    if state == PenState::Fresh {
+        return Ok(state);
+    }
+    let (prefix, local) = halves_of(name);
+    writer.end_qualified(out, prefix, local)?;
+    Ok(PenState::PastTag)
+}
+
+fn text<W: Writer, K: Sink>(
+    writer: &mut W,
+    out: &mut K,
+    t: &str,
+    state: PenState,
+) -> Result<PenState, WriteFault>
+    requires { state_of (W.view writer.old) ≡ state }
+    ensures { IfOk result (λ behind. state_of (W.view writer.new) ≡ behind) }
+{
+    if state == PenState::Fresh {
+        return Ok(state);
+    }
+    writer.text(out, t)?;
+    Ok(if t.is_empty() {
+        state
+    } else {
+        PenState::PastTag
+    })
+}
+
+/// An attribute, or a declaration of a prefix.
+fn attribute<W: Writer, K: Sink>(
+    writer: &mut W,
+    out: &mut K,
+    declares: bool,
+    given: &str,
+    state: PenState,
+) -> Result<PenState, WriteFault>
+    requires { state_of (W.view writer.old) ≡ state }
+    ensures { IfOk result (λ behind. state_of (W.view writer.new) ≡ behind) }
+{
+    if state != PenState::InsideTag {
+        return Ok(state);
+    }
+    let (name, value) = given.split_once('=').unwrap_or((given, ""));
+    if declares {
+        writer.declare(out, name, value)?;
+    } else {
+        writer.attribute(out, name, value)?;
+    }
+    Ok(state)
+}
+
+/// Makes a call in this state, and answers the state behind it. What may not be called there is left out.
+fn make<W: Writer, K: Sink>(
+    writer: &mut W,
+    out: &mut K,
+    call: &str,
+    state: PenState,
+) -> Result<PenState, WriteFault>
+    requires { state_of (W.view writer.old) ≡ state }
+    ensures { IfOk result (λ behind. state_of (W.view writer.new) ≡ behind) }
+{
+    let (kind, given) = call.split_once(' ').unwrap_or((call, ""));
+    match kind {
+        "<" => {
+            let (prefix, local) = halves_of(given);
+            writer.start_qualified(out, prefix, local)?;
+            Ok(PenState::InsideTag)
+        }
+        ">" => end(writer, out, given, state),
+        "@" => attribute(writer, out, false, given, state),
+        "^" => attribute(writer, out, true, given, state),
+        _ => text(writer, out, given, state),
+    }
+}
+
+/// Makes the calls in order, until one fails.
+fn make_all<W: Writer, K: Sink>(
+    writer: &mut W,
+    out: &mut K,
+    calls: &str,
+) -> Result<PenState, WriteFault>
+    requires { state_of (W.view writer.old) ≡ PenState.Fresh }
+    ensures { IfOk result (λ behind. state_of (W.view writer.new) ≡ behind) }
+{
+    let mut state = PenState::Fresh;
+    'calls: for call in calls.split('|') {
+        state = make(writer, out, call, state)?;
+    }
+    Ok(state)
+}
+
+fn write<K: Sink>(out: &mut K, calls: &str) -> Result<(), WriteFault> {
+    let mut pen = Pen::new();
+    match make_all(&mut pen, out, calls)? {
+        PenState::PastTag => pen.close(out),
+        PenState::Fresh | PenState::InsideTag => Ok(()),
+    }
+}
+
+fn measure(calls: &str) -> Gauge {
+    let mut gauge = Gauge::new();
+    let _ = make_all(&mut gauge, &mut Nowhere, calls);
+    gauge.close()
+}
+
+/// The calls of a row, its root, and how many nodes it has.
+fn fields_of(row: &'static str) -> (&'static str, &'static str, u64) {
+    let (calls, rest) = row.split_once('⇒').unwrap_or((row, ""));
+    let (root, nodes) = rest.split_once('⇒').unwrap_or((rest, ""));
+    (calls, root, nodes.parse().unwrap_or(0))
+}
+
+/// Whether a document in this room whose write of that number fails is all written, and what the sink took.
+fn written(
+    alloc: Global,
+    calls: &str,
+    room: usize,
+    failing: u64,
+) -> Result<(bool, Vec<u8>), AllocError> {
+    let mut sink = MemSink::new(alloc, room)?;
+    sink.fail_at(failing)?;
+    let whole = write(&mut sink, calls).is_ok();
+    Ok((whole, sink.bytes().to_vec(alloc)?))
+}
+
+/// The bytes of the longest tag. No `>` stands in a value.
+fn longest_in(text: &str) -> u64 {
+    let mut longest = 0;
+    for piece in text.split('<').skip(1) {
+        let (tag, _) = piece.split_once('>').unwrap_or((piece, ""));
+        longest = longest.max(tag.len().saturating_add(2));
+    }
+    longest as u64
+}
+
+/// In a room of each size the sink holds what fits.
+#[test]
+fn documents_are_written(rt: HostRuntime) -> Result<(), Fail> {
+    for row in DOCUMENTS.split('§') {
+        let (calls, root, _) = fields_of(row);
+        let text = format!(in rt.alloc(); "{FIRST_LINE}{root}\n")?;
+        for room in 0..=text.len() {
+            let (whole, bytes) = written(rt.alloc(), calls, room, 0)?;
+            check(whole == (room == text.len()), row)?;
+            check(bytes.as_slice() == room_for(text.as_str(), room), row)?;
+        }
+    }
+    Ok(())
+}
+
+#[test]
+fn documents_are_measured() -> Result<(), Fail> {
+    for row in DOCUMENTS.split('§') {
+        let (calls, root, nodes) = fields_of(row);
+        let gauge = measure(calls);
+        let bytes = FIRST_LINE
+            .len()
+            .saturating_add(root.len())
+            .saturating_add(1);
+        let sizes = [gauge.bytes, gauge.longest_tag, gauge.nodes];
+        check(sizes == [bytes as u64, longest_in(root), nodes], row)?;
+    }
+    Ok(())
+}
+
+/// Each write fails in turn, up to the first number that no write has.
+#[test]
+fn a_failed_write_is_a_fault(rt: HostRuntime) -> Result<(), Fail> {
+    for row in DOCUMENTS.split('§') {
+        let (calls, root, _) = fields_of(row);
+        let text = format!(in rt.alloc(); "{FIRST_LINE}{root}\n")?;
+        let mut last = 0u64;
+        for failing in 1..150u64 {
+            let (whole, bytes) = written(rt.alloc(), calls, 1000, failing)?;
+            check(text.as_bytes().starts_with(bytes.as_slice()), row)?;
+            if whole {
+                break;
+            }
+            last = failing;
+        }
+        check((5..149).contains(&last), row)?;
+    }
+    Ok(())
+}
+
+/// A fault leaves the pen as if the call had written all, and the next call writes again.
+#[test]
+fn a_pen_goes_on_behind_a_fault(rt: HostRuntime) -> Result<(), Fail> {
+    let mut sink = MemSink::new(rt.alloc(), 100)?;
+    for failing in [1, 2, 7, 9, 11, 14] {
+        sink.fail_at(failing)?;
+    }
+    let mut pen = Pen::new();
+    let failed = [
+        pen.start(&mut sink, "a").is_err(),
+        pen.attribute(&mut sink, "k", "1").is_err(),
+        pen.attribute(&mut sink, "l", "2").is_err(),
+        pen.text(&mut sink, "3&4").is_err(),
+        pen.text(&mut sink, "").is_ok(),
+        pen.start(&mut sink, "b").is_err(),
+        pen.end(&mut sink, "b").is_ok(),
+        pen.end(&mut sink, "a").is_err(),
+        pen.close(&mut sink).is_ok(),
+    ];
+    check(failed == [true; 9], "faults")?;
+    check(sink.bytes() == b" l=\"2></></\n".as_slice(), "written")
+}
+
+/// What takes a document and forgets it.
+#[derive(Drop)]
+struct Ignoring;
+
+impl Events for Ignoring {
+    ghost taken = { λ _ _. Unit {0} };
+
+    fn start(&mut self, _name: NameId, _place: Place) -> Result<(), AllocError> {
+        Ok(())
+    }
+
+    fn attribute(&mut self, _name: NameId, _value: &str) -> Result<(), AllocError> {
+        Ok(())
+    }
+
+    fn text(&mut self, _piece: &str, _place: Place) -> Result<(), AllocError> {
+        Ok(())
+    }
+
+    fn end(&mut self) -> Result<(), AllocError> {
+        Ok(())
+    }
+}
+
+/// The kind of the fault of a document, or `read`.
+fn read(alloc: Global, document: &[u8]) -> Result<String, Fail> {
+    let limits = Limits {
+        bytes: 16_777_216,
+        nodes: 1_000_000,
+        depth: 100,
+        attributes: 64,
+        name: 200,
+        names: 10_000,
+    };
+    let mut reader = Reader::new(alloc, limits)?;
+    let answer = match reader.feed(document, &mut Ignoring) {
+        Ok(()) => reader.finish(&mut Ignoring).map(|_| ()),
+        Err(fault) => Err(fault),
+    };
+    Ok(match answer {
+        Ok(()) => String::from_str(alloc, "read")?,
+        Err(fault) => format!(in alloc; "{:?} {}", fault.kind, fault.place.byte)?,
+    })
+}
+
+/// The bytes of a start tag, what stands behind the attribute in the document, and what reading answers. A tag of the greatest length is
+/// read, be it of an element with or without children.
+const LONG_TAGS: &str = "\
+262143||read
+262144||read
+262145||TagTooLong 39
+262143|# x|read
+262144|# x|read
+262145|# x|TagTooLong 39";
+
+/// The calls of a document whose start tag has this length.
+fn calls_of_length(alloc: Global, length: usize, inside: &str) -> Result<String, Fail> {
+    let around = if inside.is_empty() { 9 } else { 8 };
+    let value = vec![in alloc; b'x'; length.saturating_sub(around)]?;
+    let value = std::str::from_utf8(value.as_slice())?;
+    Ok(format!(in alloc; "< a|@ k={value}|{inside}|> a")?)
+}
+
+#[test]
+fn the_longest_tag_is_written_and_read(rt: HostRuntime) -> Result<(), Fail> {
+    for row in LONG_TAGS.lines() {
+        let (length, rest) = row.split_once('|').ok_or("length")?;
+        let (inside, want) = rest.split_once('|').ok_or("inside")?;
+        let length = length.parse().unwrap_or(0);
+        let calls = calls_of_length(rt.alloc(), length, inside)?;
+        let (whole, bytes) = written(rt.alloc(), calls.as_str(), 300_000, 0)?;
+        let gauge = measure(calls.as_str());
+        let sizes = [gauge.longest_tag, gauge.bytes];
+        check(whole & (sizes == [length as u64, bytes.len() as u64]), row)?;
+        check(read(rt.alloc(), bytes.as_slice())?.as_str() == want, row)?;
+    }
+    Ok(())
+}

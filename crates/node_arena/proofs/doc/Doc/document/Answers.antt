@@ -1,8 +1,0 @@
-use Rattle.std.proofs.Common.{subst}
-use Rattle.node_arena.specs.Document.{Document, AreNumbered}
-use Rattle.node_arena.proofs.KeptLemmas.{kept_numbers}
-use Rattle.node_arena.proofs.doc.Doc.document.Goals as goal
-
-pub returns-clause-numbers : goal.returns-clause-numbers
-returns-clause-numbers c =
-    subst (λ (document : Document). AreNumbered 0 document.nodes) c.self.view_is (kept_numbers c.self.inside.nodes.items)

@@ -1,0 +1,5 @@
+mod ReadingLemmas
+mod LengthLemmas
+mod LoadLemmas
+mod WholeLemmas
+mod WalkingLemmas

@@ -1,0 +1,219 @@
+-- The reader that is given a file's pieces, and the document that it tells.
+use Rattle.std.proofs.Common.{◌≡◌, ℕ, ◌+◌, ◌-◌, ◌<◌, List, [], ◌++◌, length, length-append, append-nil, refl, ap, sym, subst, ◌∙◌, arith, Option, Some, None, Ok, Err}
+use Rattle.std.specs.Prelude.{Result, ◌≢◌, ◌≤◌}
+use Rattle.inv_base.specs.Outside.{ShelfView, WhereTold, ahead_of}
+use Rattle.inv_base.specs.Tree.{Name}
+use Rattle.xml_state.specs.Events.{Event, with_events}
+use Rattle.xml_state.specs.declared.limits.Limits.{Limits}
+use Rattle.xml_state.specs.declared.fault.TheConstants.XmlFault.{WANT_OF_MEMORY}
+use Rattle.xml_state.specs.declared.fault.XmlFault.{XmlFault}
+use Rattle.xml_profile.specs.Profile.{settled_of, settled_fault, first_fault, document, names_of, tree_of}
+use Rattle.xml_profile.specs.Profile as profile
+use Rattle.xml_profile.specs.Readers.{Progress, HasRead, HasMemory, Moves, Tells, Finishes, Fails, of_document, of_memory, unread, fault_of_reader}
+use Rattle.xml_profile.specs.TokenByToken.{read, resume, read_front, read_whole}
+use Rattle.node_arena.specs.Document.{Built, Document, built}
+use Rattle.node_arena.specs.Document as arena
+use Rattle.node_arena.specs.Moves.{HasNodesOf, IsWhole}
+use Rattle.xml_document.specs.Loading.{HasFed, IsRefused, StopsInTime, IsLoaded, IsBuilt}
+use Rattle.xml_document.proofs.LengthLemmas.{bytes_read, short_front}
+use Rattle.xml_document.proofs.ReadingLemmas.{ahead_of-nil, ahead_of-append, read_all}
+
+-- What a reader's fault says of it.
+pub going_reader : (reader : Progress) → fault_of_reader reader ≡ None → HasMemory reader
+going_reader reader is = λ lacks. let other : ◌≡◌ {A = Option XmlFault} None (Some WANT_OF_MEMORY) = sym is ∙ lacks in cc
+
+pub stopped_reader : (reader : Progress) (told : XmlFault) → fault_of_reader reader ≡ Some told → told ≢ WANT_OF_MEMORY → HasMemory reader
+stopped_reader reader told is found = λ lacks. found (let same : ◌≡◌ {A = Option XmlFault} (Some told) (Some WANT_OF_MEMORY) = sym is ∙ lacks in cc)
+
+-- Behind some pieces: what was fed stands before what is left, no fault is settled, and a receiver has taken what was
+-- told.
+pub record Feeding (begun now : ShelfView) (limits : Limits) (reader : Progress) (before after : List Event → Type 0) : Type 0 where
+  pub held : now.held ≡ begun.held
+  pub opens : now.opens ≡ begun.opens
+  pub faults : now.faults ≡ begun.faults
+  pub fed : List ℕ
+  pub content : begun.left ≡ ahead_of fed now.left
+  pub kept : reader.limits ≡ limits
+  pub read : HasRead reader fed
+  pub going : settled_of reader.stands ≡ None
+  pub events : Moves [] (read_front limits fed).events before after
+
+pub feeding_nothing : (begun : ShelfView) (reader : Progress) (before : List Event → Type 0) → HasRead reader [] → Feeding begun begun reader.limits reader before before
+unfolding read resume
+feeding_nothing begun reader before read = record {
+  held = refl;
+  opens = refl;
+  faults = refl;
+  fed = [];
+  content = ahead_of-nil begun.left [] refl;
+  kept = refl;
+  read = read;
+  going = ap settled_of read.stands;
+  events = λ first taken. taken;
+}
+
+-- Behind one more piece.
+pub feeding_more : (begun now after : ShelfView) (limits : Limits) (old new : Progress) (piece : List ℕ) (before mid behind : List Event → Type 0)
+    → (so_far : Feeding begun now limits old before mid) → after.held ≡ now.held → after.opens ≡ now.opens → after.faults ≡ now.faults → now.left ≡ ahead_of piece after.left
+    → new.limits ≡ old.limits → fault_of_reader new ≡ None
+    → (HasMemory new → (fed : List ℕ) → HasRead old fed → HasRead new (fed ++ piece))
+    → ((fed : List ℕ) → HasRead old fed → Tells new fed (fed ++ piece) mid behind)
+    → Feeding begun after limits new before behind
+feeding_more begun now after limits old new piece before mid behind so_far held opens faults left kept none read told =
+    let going = going_reader new none in
+    let same : new.limits ≡ limits = kept ∙ so_far.kept in
+    let tells : Moves (read_front new.limits so_far.fed).events (read_front new.limits (so_far.fed ++ piece)).events mid behind = (told so_far.fed so_far.read).all going in
+    let moves : Moves (read_front limits so_far.fed).events (read_front limits (so_far.fed ++ piece)).events mid behind =
+    subst (λ l. Moves (read_front l so_far.fed).events (read_front l (so_far.fed ++ piece)).events mid behind) same tells in
+    record {
+      held = held ∙ so_far.held;
+      opens = opens ∙ so_far.opens;
+      faults = faults ∙ so_far.faults;
+      fed = so_far.fed ++ piece;
+      content = ahead_of-append so_far.fed piece (so_far.fed ++ piece) begun.left now.left after.left so_far.content left refl;
+      kept = same;
+      read = read going so_far.fed so_far.read;
+      going = none;
+      events = λ first taken. moves first (so_far.events first taken);
+    }
+
+-- The measure falls: the piece isn't empty, and what isn't refused is short.
+pub feeding_falls : (limits : Limits) (old new : Progress) (fed piece : List ℕ) → old.limits ≡ limits → HasRead old fed → settled_of old.stands ≡ None
+    → new.limits ≡ old.limits → HasRead new (fed ++ piece) → settled_of new.stands ≡ None → 0 < length piece
+    → new.limits.bytes + 2 - bytes_read new.stands < old.limits.bytes + 2 - bytes_read old.stands
+feeding_falls limits old new fed piece kept read going same more goes some =
+    let a = short old fed read going in
+    let b = short new (fed ++ piece) more goes in
+    let long : length (fed ++ piece) ≡ length fed + length piece = length-append fed piece in
+    let bytes : new.limits.bytes ≡ old.limits.bytes = ap (λ (l : Limits). l.bytes) same in
+    omega (arith, a.0, a.1, b.0, b.1)
+  where
+    short : (reader : Progress) (fed : List ℕ) → HasRead reader fed → settled_of reader.stands ≡ None
+        → (bytes_read reader.stands ≡ length fed) × (length fed ≤ reader.limits.bytes + 1)
+    short reader fed read = subst (λ s. settled_of s ≡ None → (bytes_read s ≡ length fed) × (length fed ≤ reader.limits.bytes + 1)) (sym read.stands) (short_front reader.limits fed)
+
+-- At the end of the input all was fed.
+pub fed_whole : (begun now after : ShelfView) (limits : Limits) (reader : Progress) (front : List ℕ) (before behind : List Event → Type 0)
+    → (so_far : Feeding begun now limits reader before behind) → now.left ≡ ahead_of front after.left → front ≡ [] → WhereTold after.left (λ rest. length rest ≡ 0)
+    → HasFed begun.left after.left reader before behind
+unfolding settled_fault
+fed_whole begun now after limits reader front before behind so_far left none end = record {
+  fed = so_far.fed;
+  read = so_far.read;
+  events = subst (λ l. Moves [] (read_front l so_far.fed).events before behind) (sym so_far.kept) so_far.events;
+  whole = read_all begun.left now.left after.left so_far.fed front so_far.content left none end;
+  content = ahead_of-append so_far.fed front so_far.fed begun.left now.left after.left so_far.content left (sym (ap (λ x. so_far.fed ++ x) none ∙ append-nil so_far.fed));
+  going = sym (ap settled_of so_far.read.stands) ∙ so_far.going;
+}
+
+-- Reading stops with the piece that settles a fault ..
+pub stops_with_piece : (begun now after : ShelfView) (limits : Limits) (reader : Progress) (piece : List ℕ) (before behind : List Event → Type 0)
+    → Feeding begun now limits reader before behind → now.left ≡ ahead_of piece after.left → length piece ≤ 65536 → StopsInTime limits begun.left after.left
+unfolding settled_fault
+stops_with_piece begun now after limits reader piece before behind so_far left short = record {
+  front = so_far.fed;
+  last = piece;
+  read = ahead_of-append so_far.fed piece (so_far.fed ++ piece) begun.left now.left after.left so_far.content left refl;
+  going = sym (ap settled_of (so_far.read.stands ∙ ap (λ l. (read_front l so_far.fed).stands) so_far.kept)) ∙ so_far.going;
+  short = short;
+}
+
+-- .. or at the end.
+pub stops_at_end : (limits : Limits) (told left : Option (List ℕ)) (reader : Progress) (before behind : List Event → Type 0) → reader.limits ≡ limits
+    → HasFed told left reader before behind → StopsInTime limits told left
+stops_at_end limits told left reader before behind kept fed = record {
+  front = fed.fed;
+  last = [];
+  read = fed.content ∙ ap (λ bytes. ahead_of bytes left) (sym (append-nil fed.fed));
+  going = ap (λ l. settled_fault l fed.fed) (sym kept) ∙ fed.going;
+  short = omega arith;
+}
+
+-- A fault that is settled is the first of what was fed and what is left.
+pub refused_settled : (limits : Limits) (told left : Option (List ℕ)) (reader : Progress) (fed : List ℕ) (fault : XmlFault) → told ≡ ahead_of fed left
+    → reader.limits ≡ limits → HasRead reader fed → settled_of reader.stands ≡ Some fault
+    → ((limits : Limits) (bytes more : List ℕ) (fault : XmlFault) → settled_fault limits bytes ≡ Some fault → first_fault limits (bytes ++ more) ≡ Some fault)
+    → IsRefused limits told fault
+unfolding settled_fault
+refused_settled limits told left reader fed fault content kept read settled law = by left content
+  where
+    now : settled_fault limits fed ≡ Some fault
+    now = ap settled_of (ap (λ l. (read_front l fed).stands) (sym kept) ∙ sym read.stands) ∙ settled
+
+    by : (left : Option (List ℕ)) → told ≡ ahead_of fed left → IsRefused limits told fault
+    by None content = record { content = fed; is = ap (first_fault limits) (sym (append-nil fed)) ∙ law limits fed [] fault now; whole = λ bytes is. cc }
+    by (Some rest) content = record { content = fed ++ rest; is = law limits fed rest fault now; whole = λ bytes is. cc }
+
+-- The first fault of a whole input.
+pub refused_whole : (limits : Limits) (told : Option (List ℕ)) (fed : List ℕ) (before after : List Event → Type 0) (answer : XmlFault) → Fails limits fed before after answer
+    → answer ≢ WANT_OF_MEMORY → WhereTold told (λ content. fed ≡ content) → IsRefused limits told answer
+refused_whole limits told fed before after answer (of_document fault first moves) other whole = record { content = fed; is = first; whole = whole }
+refused_whole limits told fed before after answer (of_memory moves) other whole = absurd (other refl)
+
+-- The same of a reader that has these limits.
+pub refused_at_end : (limits l : Limits) (told : Option (List ℕ)) (fed : List ℕ) (before after : List Event → Type 0) (fault answer : XmlFault) → l ≡ limits → Fails l fed before after fault
+    → fault ≢ WANT_OF_MEMORY → answer ≡ fault → WhereTold told (λ content. fed ≡ content) → IsRefused limits told answer
+refused_at_end limits l told fed before after fault answer kept fails other same whole =
+    subst (λ x. IsRefused x told answer) kept (subst (λ x. IsRefused l told x) (sym same) (refused_whole l told fed before after fault fails other whole))
+
+-- A document that was read and has built its nodes.
+abbrev by_fault : Limits → List ℕ → Option XmlFault → Result profile.Document XmlFault
+by_fault limits bytes f = elim f [
+  | (Some fault) ↦ Err fault
+  | None ↦ Ok (record { events = with_events [] (read_whole limits bytes).events; names = names_of (read_whole limits bytes).stands })
+]
+
+abbrev pub told_whole : Limits → List ℕ → profile.Document
+told_whole limits bytes = record { events = with_events [] (read_whole limits bytes).events; names = names_of (read_whole limits bytes).stands }
+
+-- The events of a whole document were taken, and have built it.
+pub record Wholly (limits : Limits) (told : Option (List ℕ)) (names : List Name) (b : Built) : Type 0 where
+  pub fed : List ℕ
+  pub whole : WhereTold told (λ content. fed ≡ content)
+  pub is : document limits fed ≡ Ok (told_whole limits fed)
+  pub named : names ≡ (told_whole limits fed).names
+  pub events : b ≡ built (told_whole limits fed).events
+  pub made : IsBuilt (told_whole limits fed) (built (told_whole limits fed).events)
+
+pub read_wholly : (limits : Limits) (told left : Option (List ℕ)) (reader : Progress) (first mid last : Built) (names : List Name) → reader.limits ≡ limits → first ≡ arena.begun
+    → (all : HasFed told left reader (λ events. first ≡ built events) (λ events. mid ≡ built events))
+    → Finishes reader.limits all.fed names (λ events. mid ≡ built events) (λ events. last ≡ built events)
+    → ((found : profile.Document) → document limits all.fed ≡ Ok found → IsBuilt found (built found.events))
+    → Wholly limits told names last
+unfolding built document
+read_wholly limits told left reader first mid last names kept is all ends law =
+    let none : first_fault limits all.fed ≡ None = ap (λ l. first_fault l all.fed) (sym kept) ∙ ends.document in
+    let document_is : document limits all.fed ≡ Ok (told_whole limits all.fed) = ap (by_fault limits all.fed) none in
+    let behind : last ≡ built (told_whole reader.limits all.fed).events = ends.told [] (all.events [] is) in
+    record {
+      fed = all.fed;
+      whole = all.whole;
+      is = document_is;
+      named = ends.named ∙ ap (λ l. (told_whole l all.fed).names) kept;
+      events = behind ∙ ap (λ l. built (told_whole l all.fed).events) kept;
+      made = law (told_whole limits all.fed) document_is;
+    }
+
+pub wholly_built : (limits : Limits) (told : Option (List ℕ)) (names : List Name) (b : Built) → Wholly limits told names b → IsWhole names b
+wholly_built limits told names b wholly =
+    subst (λ all. IsWhole all b) (sym wholly.named) (subst (IsWhole (told_whole limits wholly.fed).names) (sym wholly.events) wholly.made.whole)
+
+pub wholly_loaded : (limits : Limits) (told : Option (List ℕ)) (names : List Name) (b : Built) (doc : Document) → Wholly limits told names b → doc ≡ record { nodes = b.nodes; names = names }
+    → IsLoaded limits told doc
+wholly_loaded limits told names b doc wholly is =
+    let found = told_whole limits wholly.fed in
+    let as_built : Built → List Name → Document = λ c all. record { nodes = c.nodes; names = all } in
+    let made : doc ≡ as_built (built found.events) found.names = is ∙ (ap (as_built b) wholly.named ∙ ap (λ c. as_built c found.names) wholly.events) in
+    record {
+      content = wholly.fed;
+      found = found;
+      is = wholly.is;
+      exactly = made;
+      of_tree = subst (λ (d : Document). HasNodesOf d (tree_of found)) (sym made) wholly.made.of_tree;
+      whole = wholly.whole;
+    }
+
+-- A reader that was given nothing has read nothing.
+pub read_nothing : (limits : Limits) (reader : Progress) → reader ≡ unread limits → HasRead reader []
+unfolding read resume
+read_nothing limits reader is = subst (λ (r : Progress). HasRead r []) (sym is) (record { stands = refl })

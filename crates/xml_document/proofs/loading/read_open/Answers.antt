@@ -1,0 +1,41 @@
+use Rattle.std.proofs.Common.{◌≡◌, ap, ◌∙◌, arith}
+use Rattle.xml_profile.specs.Readers.{Progress}
+use Rattle.xml_document.proofs.LoadLemmas.{read_nothing, read_wholly, refused_at_end, stops_at_end, wholly_built, wholly_loaded}
+use Rattle.xml_document.proofs.loading.read_open.Goals as goal
+
+pub feed_all-requires-clause-unread : goal.feed_all-requires-clause-unread
+feed_all-requires-clause-unread g c = read_nothing (c.args.limits) c.in_ok-reader.reader c.in_ok-reader.ensures
+
+pub finish-requires-in-Ok-finish : goal.finish-requires-in-Ok-finish
+finish-requires-in-Ok-finish g c =
+    let limits = c.args.limits in
+    let fed = c.in-Ok.ensures.fed in
+    let kept : c.feed_all.new.reader.limits ≡ limits = c.feed_all.ensures.limits ∙ ap (λ (p : Progress). p.limits) c.in_ok-reader.ensures in
+    wholly_built limits (g.S.Shelf.view c.args.shelf.now).left c.in-Ok-finish.names c.finish.new.events
+    (read_wholly limits (g.S.Shelf.view c.args.shelf.now).left _ c.feed_all.new.reader c.in_ok-builder.builder c.feed_all.new.events c.finish.new.events c.in-Ok-finish.names kept c.in_ok-builder.ensures fed
+    (c.in-Ok-finish.ensures.ended fed.fed fed.read) (λ found is. c.read_builds_its_tree.ensures limits fed.fed found (omega arith) is))
+
+pub returns-in-Ok-finish-clause-loaded : goal.returns-in-Ok-finish-clause-loaded
+returns-in-Ok-finish-clause-loaded g c =
+    let limits = c.args.limits in
+    let fed = c.in-Ok.ensures.fed in
+    let kept : c.feed_all.new.reader.limits ≡ limits = c.feed_all.ensures.limits ∙ ap (λ (p : Progress). p.limits) c.in_ok-reader.ensures in
+    wholly_loaded limits (g.S.Shelf.view c.args.shelf.now).left c.in-Ok-finish.names c.finish.new.events c.in_ok-finish-in-Ok-finish.field-0
+    (read_wholly limits (g.S.Shelf.view c.args.shelf.now).left _ c.feed_all.new.reader c.in_ok-builder.builder c.feed_all.new.events c.finish.new.events c.in-Ok-finish.names kept c.in_ok-builder.ensures fed
+    (c.in-Ok-finish.ensures.ended fed.fed fed.read) (λ found is. c.read_builds_its_tree.ensures limits fed.fed found (omega arith) is))
+    c.in_ok-finish-in-Ok-finish.ensures
+
+pub returns-clause-refused : goal.returns-clause-refused
+returns-clause-refused g c = λ told is.
+    let limits = c.args.limits in
+    let fed = c.in-Ok.ensures.fed in
+    let kept : c.feed_all.new.reader.limits ≡ limits = c.feed_all.ensures.limits ∙ ap (λ (p : Progress). p.limits) c.in_ok-reader.ensures in
+    let found = c.fault_of_reader.ensures.refused told cc in
+    refused_at_end limits c.feed_all.new.reader.limits (g.S.Shelf.view c.args.shelf.now).left fed.fed _ _ c.in-Err-finish.fault told kept (c.in-Err-finish.ensures.ended fed.fed fed.read)
+    found.1 found.0 fed.whole
+
+pub returns-clause-stops : goal.returns-clause-stops
+returns-clause-stops g c = λ told is.
+    let limits = c.args.limits in
+    let kept : c.feed_all.new.reader.limits ≡ limits = c.feed_all.ensures.limits ∙ ap (λ (p : Progress). p.limits) c.in_ok-reader.ensures in
+    stops_at_end limits (g.S.Shelf.view c.args.shelf.now).left _ c.feed_all.new.reader _ _ kept c.in-Ok.ensures.fed

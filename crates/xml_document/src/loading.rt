@@ -1,0 +1,161 @@
+//! A file of a shelf as a document.
+ghost use Rattle.std.specs.Prelude.{◌≡◌, ◌≢◌, ℕ, ◌<◌, ◌^◌, List, [], length, option_map, Ok, Err, IfOk};
+ghost use Rattle.inv_base.specs.Files.{bytes_under};
+ghost use Rattle.node_arena.specs.Document.{built};
+ghost use Rattle.node_arena.specs.Moves.{IsWhole, HasNodesOf};
+ghost use Rattle.xml_profile.specs.Profile as profile;
+ghost use Rattle.xml_profile.specs.Profile.{document, tree_of};
+ghost use Rattle.xml_profile.specs.Readers.{HasRead};
+ghost use Rattle.xml_state.specs.declared.limits.Limits.{Limits};
+ghost use Rattle.xml_tokens.specs.declared.kind.XmlKind.TheVariants as kinds;
+ghost use Rattle.xml_document.specs.Loading.{HasFed, IsBuilt, IsLoaded, IsRefused, StopsInTime, ReadsFrom, ReadsOn};
+ghost use Rattle.xml_document.specs.declared.loading.LoadFault.TheVariants as faults;
+
+use bumpalo::Bump;
+use inv_base::Shelf;
+use node_arena::{
+    Builder, Doc, events_build_a_whole_document, events_build_the_nodes_of_their_tree,
+};
+use std::alloc::{AllocError, AllocFailed, Global};
+use xml_laws::read_tells_its_tree;
+use xml_profile::{Reader, settled_is_first};
+use xml_state::{Events, Limits, XmlFault};
+use xml_tokens::XmlKind;
+
+/// How many bytes are read at a time.
+const PIECE: usize = 65_536;
+
+/// Why a file can't be had as a document.
+#[derive(Debug, Drop)]
+pub enum LoadFault {
+    /// The file couldn't be opened, or a read failed.
+    Read,
+    /// The file is no document under the limits, for this first fault.
+    Refused(XmlFault),
+    /// Memory ran out.
+    Memory,
+}
+
+impl From<AllocError> for LoadFault {
+    ghost from_gives = { λ _ fault. fault ≡ faults.Memory };
+
+    fn from(_error: AllocError) -> LoadFault {
+        LoadFault::Memory
+    }
+}
+
+impl<T: Drop> From<AllocFailed<T>> for LoadFault {
+    ghost from_gives = { λ _ fault. fault ≡ faults.Memory };
+
+    fn from(_error: AllocFailed<T>) -> LoadFault {
+        LoadFault::Memory
+    }
+}
+
+/// The file of that name as a document under these limits, its texts placed in the arena. The file is
+/// opened once and read in pieces, up to the piece that settles its first fault.
+pub fn load<'a, S: Shelf>(
+    alloc: Global,
+    bump: &'a Bump,
+    shelf: &mut S,
+    name: &str,
+    limits: Limits,
+) -> Result<Doc<'a>, LoadFault>
+    ensures reads { ReadsFrom result faults.Read (S.view shelf.old) (S.view shelf.new) }
+    ensures loaded { IfOk result (λ doc. IsLoaded limits (option_map (bytes_under name.now) (S.view shelf.old).held) doc) }
+    ensures refused { (fault : _) → result ≡ Err (faults.Refused fault)
+        → IsRefused limits (option_map (bytes_under name.now) (S.view shelf.old).held) fault }
+    ensures stops { (fault : _) → result ≡ Err (faults.Refused fault)
+        → StopsInTime limits (option_map (bytes_under name.now) (S.view shelf.old).held) (S.view shelf.new).left }
+{
+    match shelf.open(name) {
+        Ok(()) => {}
+        Err(_) => return Err(LoadFault::Read),
+    }
+    let mut piece = vec![in alloc; 0u8; PIECE]?;
+    read_open(alloc, bump, &mut piece, shelf, limits)
+}
+
+/// The document that is left of the open input, read by pieces of some length.
+fn read_open<'a, S: Shelf>(
+    alloc: Global,
+    bump: &'a Bump,
+    piece: &mut [u8],
+    shelf: &mut S,
+    limits: Limits,
+) -> Result<Doc<'a>, LoadFault>
+    requires some { 0 < length piece.old }
+    requires few { length piece.old < 65537 }
+    ensures reads { ReadsOn result faults.Read (S.view shelf.old) (S.view shelf.new) }
+    ensures loaded { IfOk result (λ doc. IsLoaded limits (S.view shelf.old).left doc) }
+    ensures refused { (fault : _) → result ≡ Err (faults.Refused fault) → IsRefused limits (S.view shelf.old).left fault }
+    ensures stops { (fault : _) → result ≡ Err (faults.Refused fault) → StopsInTime limits (S.view shelf.old).left (S.view shelf.new).left }
+{
+    read_builds_its_tree();
+    let mut builder = Builder::new(alloc, bump)?;
+    let mut reader = Reader::new(alloc, limits)?;
+    match feed_all(&mut reader, &mut builder, piece, shelf) {
+        Ok(()) => {}
+        Err(fault) => return Err(fault),
+    }
+    match reader.finish(&mut builder) {
+        Ok(names) => Ok(builder.finish(names)?),
+        Err(fault) => Err(fault_of_reader(fault)),
+    }
+}
+
+/// Gives the reader what is left of the open input, by pieces of some length, up to the first fault that is settled:
+/// then the rest of the input isn't read.
+fn feed_all<S: Shelf, E: Events>(
+    reader: &mut Reader,
+    events: &mut E,
+    piece: &mut [u8],
+    shelf: &mut S,
+) -> Result<(), LoadFault>
+    requires some { 0 < length piece.old }
+    requires few { length piece.old < 65537 }
+    requires unread { HasRead reader.old [] }
+    ensures reads { ReadsOn result faults.Read (S.view shelf.old) (S.view shelf.new) }
+    ensures fed { IfOk result (λ _. HasFed (S.view shelf.old).left (S.view shelf.new).left reader.new (E.taken events.old) (E.taken events.new)) }
+    ensures refused { (fault : _) → result ≡ Err (faults.Refused fault) → IsRefused reader.old.limits (S.view shelf.old).left fault }
+    ensures stops { (fault : _) → result ≡ Err (faults.Refused fault) → StopsInTime reader.old.limits (S.view shelf.old).left (S.view shelf.new).left }
+    ensures limits { reader.new.limits ≡ reader.old.limits }
+{
+    // A law, which has no code: what stands behind a settled fault can't change it.
+    settled_is_first();
+    'pieces: loop {
+        let count = match shelf.read(piece) {
+            Ok(count) => count,
+            Err(_) => return Err(LoadFault::Read),
+        };
+        if count == 0 {
+            return Ok(());
+        }
+        match reader.feed(piece.split_at(count).0, events) {
+            Ok(()) => {}
+            Err(fault) => return Err(fault_of_reader(fault)),
+        }
+    }
+}
+
+/// A reader's fault as one of loading.
+fn fault_of_reader(fault: XmlFault) -> LoadFault
+    ensures refused { (told : _) → result ≡ faults.Refused told → (told ≡ fault) × (fault ≢ XmlFault.WANT_OF_MEMORY) }
+    ensures memory { result ≡ faults.Memory → fault.kind ≡ kinds.Memory }
+    ensures read { result ≢ faults.Read }
+{
+    match fault.kind {
+        XmlKind::Memory => LoadFault::Memory,
+        _ => LoadFault::Refused(fault),
+    }
+}
+
+/// What is read builds a whole document, of its tree: laws of the crates below, which have no code, in one.
+fn read_builds_its_tree()
+    ensures { (limits : Limits) (bytes : List ℕ) (found : profile.Document) → limits.nodes < 2 ^ 32 → document limits bytes ≡ Ok found
+        → IsBuilt found (built found.events) }
+{
+    read_tells_its_tree();
+    events_build_the_nodes_of_their_tree();
+    events_build_a_whole_document();
+}

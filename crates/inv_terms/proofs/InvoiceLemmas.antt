@@ -6,16 +6,17 @@ use Rattle.std.proofs.lemmas.Bool.{eqb-true}
 use Rattle.std.proofs.lemmas.Bool.Decides.{nat_tests}
 use Rattle.std.proofs.lemmas.List.Folds.{list_all-append, list_any-append}
 use Rattle.std.proofs.lemmas.List.Elements.{All-append}
-use Rattle.inv_terms.specs.declared.groups.Group.{Group}
-use Rattle.inv_terms.specs.declared.entries.Slot.{Slot}
-use Rattle.inv_terms.specs.declared.entries.Context.{Context}
+use Rattle.term_table.specs.declared.groups.Group.{Group}
+use Rattle.term_table.specs.declared.contexts.Slot.{Slot}
+use Rattle.term_table.specs.declared.contexts.Context.{Context}
 use Rattle.inv_terms.specs.declared.entries.Entry.{Entry}
 use Rattle.inv_terms.specs.declared.listing.Refusal.TheVariants as refusals
-use Rattle.inv_terms.specs.Groups.{same_group}
-use Rattle.inv_terms.specs.Contexts.{same_slot, is_inside}
+use Rattle.term_table.specs.Groups.{same_group}
+use Rattle.term_table.specs.Contexts.{same_slot, is_inside}
 use Rattle.inv_terms.specs.Listing.{comes_before, index_in, last_outer, last_inner, is_listed, is_last_or_next, is_next, is_behind, is_behind_last, last_entry, is_placed, refusal, occurs, is_counted, in_outer, in_inner, is_numbered, IsInvoice, Fits}
-use Rattle.inv_terms.proofs.GroupLemmas.{same_group_is}
-use Rattle.inv_terms.proofs.ListingLemmas.{both, comes_before-trans}
+use Rattle.term_table.proofs.GroupLemmas.{same_group_is}
+use Rattle.term_table.proofs.GroupLemmas.{both}
+use Rattle.inv_terms.proofs.ListingLemmas.{comes_before-trans}
 use Rattle.inv_terms.proofs.PushLemmas.{same_slot_is, same_slot_itself, slot_is, index_inside, by_last, and_pair, last_behind, last_entry-append}
 
 -- ---- the order
@@ -86,11 +87,11 @@ slot_with (Some t) g n e k = go (same_group t.group g) refl
     go true h = (t, refl, same_group_is _ _ h, sym (ap (λ b. if b then t.index else 0) h) ∙ e)
     go false h = absurd (let z : 0 ≡ n = sym (ap (λ b. if b then t.index else 0) h) ∙ e in omega arith)
 
-either : (a b : Bool) → (a || b) ≡ true → (a ≡ true) ⊎ (b ≡ true)
+pub either : (a b : Bool) → (a || b) ≡ true → (a ≡ true) ⊎ (b ≡ true)
 either true b h = inl refl
 either false b h = inr h
 
-one_or_more : (i : ℕ) → 1 ≤ i → (i ≡ 1) ⊎ (2 ≤ i)
+pub one_or_more : (i : ℕ) → 1 ≤ i → (i ≡ 1) ⊎ (2 ≤ i)
 one_or_more i h = grind arith
 
 -- a slot from the second on, which is counted, has one before it

@@ -1,10 +1,9 @@
-pub mod TermLemmas
 pub mod TrimLemmas
-pub mod GroupLemmas
 pub mod ListingLemmas
 pub mod PushLemmas
 pub mod InvoiceLemmas
-pub mod RunLemmas
 pub mod AttachmentLemmas
 mod Rows
-pub mod LetterLemmas
+pub mod OrderLemmas
+pub mod SpellLemmas
+pub mod GapLemmas

@@ -7,16 +7,17 @@ use Rattle.std.proofs.lemmas.Bool.Decides.{nat_tests}
 use Rattle.std.proofs.lemmas.List.Sums.{fold-append}
 use Rattle.std.proofs.lemmas.List.{map-append}
 use Rattle.std.proofs.lemmas.List.Folds.{list_all-append}
-use Rattle.inv_terms.specs.declared.groups.Group.{Group}
-use Rattle.inv_terms.specs.declared.entries.Slot.{Slot}
+use Rattle.term_table.specs.declared.groups.Group.{Group}
+use Rattle.term_table.specs.declared.contexts.Slot.{Slot}
 use Rattle.inv_terms.specs.declared.entries.Entry.{Entry}
 use Rattle.inv_terms.specs.declared.listing.Refusal.TheVariants as refusals
-use Rattle.inv_terms.specs.Groups.{same_group}
-use Rattle.inv_terms.specs.Contexts.{same_slot}
+use Rattle.term_table.specs.Groups.{same_group}
+use Rattle.term_table.specs.Contexts.{same_slot}
 use Rattle.inv_terms.specs.Listing.{comes_before, index_in, last_outer, last_inner, is_listed, is_last_or_next, is_next, is_behind, is_behind_last, last_entry, is_placed, refusal}
 use Rattle.inv_terms.specs.LastEntry.{outer_behind, inner_behind, is_next_behind}
-use Rattle.inv_terms.proofs.GroupLemmas.{same_group_is, same_group_itself}
-use Rattle.inv_terms.proofs.ListingLemmas.{both, Orders, outer_slot, outer-between, inner-between, orders-from}
+use Rattle.term_table.proofs.GroupLemmas.{same_group_is, same_group_itself}
+use Rattle.term_table.proofs.GroupLemmas.{both}
+use Rattle.inv_terms.proofs.ListingLemmas.{Orders, outer_slot, outer-between, inner-between, orders-from}
 
 -- ---- numbers of slots
 
@@ -40,7 +41,7 @@ same_slot_is (Some a) (Some b) h =
     let i : a.index ≡ b.index = grind (arith, nat_tests, k.1) in
     ap Some (slot_is a b (same_group_is _ _ k.0) i)
 
-index_in_le : (o : Option Slot) (g : Group) (m : ℕ) → ((t : Slot) → o ≡ Some t → t.group ≡ g → t.index ≤ m) → index_in g o ≤ m
+pub index_in_le : (o : Option Slot) (g : Group) (m : ℕ) → ((t : Slot) → o ≡ Some t → t.group ≡ g → t.index ≤ m) → index_in g o ≤ m
 index_in_le None g m h = omega arith
 index_in_le (Some t) g m h = go (same_group t.group g) refl
   where
@@ -48,7 +49,7 @@ index_in_le (Some t) g m h = go (same_group t.group g) refl
     go true e = h t refl (same_group_is _ _ e)
     go false e = omega arith
 
-index_in_slot : (o : Option Slot) (g : Group) (u : Slot) → o ≡ Some u → u.group ≡ g → index_in g o ≡ u.index
+pub index_in_slot : (o : Option Slot) (g : Group) (u : Slot) → o ≡ Some u → u.group ≡ g → index_in g o ≡ u.index
 index_in_slot o g u e f = rw (e, f, same_group_itself g) refl
 
 outer_bound : (f l e : Entry) → Orders f l e → (s : Slot) → e.context.outer ≡ Some s → index_in s.group f.context.outer ≤ index_in s.group l.context.outer
@@ -79,7 +80,7 @@ inner_bound f l e o s es = go (same_slot f.context.outer e.context.outer) refl
 
 -- ---- the greatest of a list that ends with it
 
-fold_le : (h : Entry → ℕ) (l : Entry) (es : List Entry) (a m : ℕ) → a ≤ m → ((f : Entry) → comes_before f l ≡ true → h f ≤ m)
+pub fold_le : (h : Entry → ℕ) (l : Entry) (es : List Entry) (a m : ℕ) → a ≤ m → ((f : Entry) → comes_before f l ≡ true → h f ≤ m)
     → list_all (λ (f : Entry). comes_before f l) es ≡ true → fold max a (map h es) ≤ m
 fold_le h l [] a m k p b = k
 fold_le h l (f ∷ es) a m k p b =

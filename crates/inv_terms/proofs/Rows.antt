@@ -1,27 +1,19 @@
 -- The definitions on cases with known answers.
-use Rattle.std.proofs.Common.{◌≡◌, ℕ, List, [], ◌∷◌, ◌++◌, Option, Some, None, codes, refl}
-use Rattle.std.specs.Prelude.{map}
-use Rattle.std.specs.Option.{option_map}
-use Rattle.code_lists.specs.CodeFiles.{built_in_lists}
+use Rattle.std.proofs.Common.{◌≡◌, ℕ, [], ◌∷◌, Some, None, codes, refl}
 use Rattle.inv_base.specs.Characters.{is_char, is_white_space}
 use Rattle.inv_decimal.specs.WrittenNumber.{read_scaled, written_units}
-use Rattle.inv_terms.specs.declared.groups.Group.{Group}
-use Rattle.inv_terms.specs.declared.groups.Group.TheVariants as groups
-use Rattle.inv_terms.specs.declared.terms.Letter.TheVariants as letters
-use Rattle.inv_terms.specs.declared.terms.Term.{Term}
+use Rattle.term_table.specs.declared.groups.Group.TheVariants as groups
+use Rattle.term_table.specs.declared.terms.Letter.TheVariants as letters
+use Rattle.term_table.specs.declared.terms.Term.{Term}
 use Rattle.inv_terms.specs.declared.values.Value.TheVariants as values
 use Rattle.inv_terms.specs.declared.entries.Entry.{Entry}
 use Rattle.inv_terms.specs.declared.listing.Refusal.TheVariants as refusals
-use Rattle.inv_terms.specs.declared.names.Name.TheVariants as names
-use Rattle.inv_terms.specs.declared.names.TermFault.{TermFault}
-use Rattle.inv_terms.specs.declared.names.TermFault.TheVariants as faults
-use Rattle.inv_terms.specs.declared.names.Lack.{Lack}
-use Rattle.inv_terms.specs.SemanticModel.{terms}
-use Rattle.inv_terms.specs.Groups.{parent_of, occurrence_of}
-use Rattle.inv_terms.specs.Contexts.{root_context}
+use Rattle.term_table.specs.SemanticModel.{terms}
+use Rattle.term_table.specs.Groups.{parent_of, occurrence_of}
+use Rattle.term_table.specs.Contexts.{root_context}
+use Rattle.term_table.specs.Places.{first_row}
 use Rattle.inv_terms.specs.Values.{value_of}
 use Rattle.inv_terms.specs.Listing.{refusal, in_outer}
-use Rattle.inv_terms.specs.Validity.{first_lack}
 
 bt : ℕ → Term
 bt n = record { number = n; part = 0 }
@@ -32,9 +24,6 @@ entry n = record { context = root_context; term = bt n; value = values.Text [] }
 
 note : ℕ → ℕ → Entry
 note index n = record { context = in_outer (record { group = groups.InvoiceNote; index = index }); term = bt n; value = values.Text [] }
-
-fault : List Entry → Option TermFault
-fault es = option_map (λ (lack : Lack). lack.fault) (first_lack es built_in_lists)
 
 identifier : value_of letters.I (codes " a ") ≡ Some (values.Identifier (codes "a"))
 unfolding value_of is_char is_white_space
@@ -54,89 +43,26 @@ no_amount = refl
 
 -- BT-1 behind BT-2
 out_of_order : refusal (entry 2 ∷ []) (entry 1) ≡ Some refusals.OutOfOrder
-unfolding entry bt terms parent_of occurrence_of
+unfolding entry bt terms parent_of occurrence_of first_row
 out_of_order = refl
 
 in_order : refusal (entry 1 ∷ []) (entry 2) ≡ None
-unfolding entry bt terms parent_of occurrence_of
+unfolding entry bt terms parent_of occurrence_of first_row
 in_order = refl
 
 twice : refusal (entry 1 ∷ []) (entry 1) ≡ Some refusals.OutOfOrder
-unfolding entry bt terms parent_of occurrence_of
+unfolding entry bt terms parent_of occurrence_of first_row
 twice = refl
 
 -- the second note without a first
 gap : refusal (entry 1 ∷ []) (note 2 22) ≡ Some refusals.BadContext
-unfolding entry note bt terms parent_of occurrence_of
+unfolding entry note bt terms parent_of occurrence_of first_row
 gap = refl
 
 next_note : refusal (note 1 22 ∷ []) (note 2 22) ≡ None
-unfolding note bt terms parent_of occurrence_of
+unfolding note bt terms parent_of occurrence_of first_row
 next_note = refl
 
 no_note_zero : refusal [] (note 0 22) ≡ Some refusals.BadContext
-unfolding note bt terms parent_of occurrence_of
+unfolding note bt terms parent_of occurrence_of first_row
 no_note_zero = refl
-
--- an invoice without entries, and with the first
-nothing : fault [] ≡ Some (faults.Missing (names.Term (bt 1)))
-unfolding fault bt terms parent_of occurrence_of
-nothing = refl
-
-number_alone : fault (entry 1 ∷ []) ≡ Some (faults.Missing (names.Term (bt 2)))
-unfolding fault entry bt terms parent_of occurrence_of
-number_alone = refl
-
--- ---- the smallest invoice
-
-within : Group → ℕ → ℕ → Entry
-within group index n = record { context = in_outer (record { group = group; index = index }); term = bt n; value = values.Text [] }
-
-category : List ℕ → Entry
-category code = record { context = in_outer (record { group = groups.InvoiceLine; index = 1 }); term = bt 151; value = values.Code code }
-
-front : List Entry
-front = map entry (1 ∷ 2 ∷ 3 ∷ 5 ∷ 24 ∷ 27 ∷ 40 ∷ 44 ∷ 55 ∷ [])
-
-totals : List Entry
-totals = map entry (106 ∷ 109 ∷ 112 ∷ 115 ∷ [])
-
-breakdown : List Entry
-breakdown = map (within groups.VatBreakdown 1) (116 ∷ 117 ∷ 118 ∷ [])
-
-line : List ℕ → List Entry
-line code = map (within groups.InvoiceLine 1) (126 ∷ 129 ∷ 130 ∷ 131 ∷ 146 ∷ []) ++ (category code ∷ within groups.InvoiceLine 1 153 ∷ [])
-
-whole : List Entry → Option TermFault
-whole middle = fault (front ++ (middle ++ (totals ++ (breakdown ++ line (codes "S")))))
-
-smallest : whole [] ≡ None
-unfolding whole front totals breakdown line category within fault entry bt terms parent_of occurrence_of
-smallest = refl
-
--- BT-83, BT-89 and BT-90 alone, and BT-91
-remittance_alone : whole (map entry (83 ∷ 89 ∷ 90 ∷ [])) ≡ None
-unfolding whole front totals breakdown line category within fault entry bt terms parent_of occurrence_of
-remittance_alone = refl
-
-debited_account : whole (map entry (83 ∷ 89 ∷ 90 ∷ 91 ∷ [])) ≡ Some (faults.Missing (names.Term (bt 81)))
-unfolding whole front totals breakdown line category within fault entry bt terms parent_of occurrence_of
-debited_account = refl
-
--- a term of a group in a group
-representative_country : whole (entry 69 ∷ []) ≡ Some (faults.Missing (names.Term (bt 62)))
-unfolding whole front totals breakdown line category within fault entry bt terms parent_of occurrence_of
-representative_country = refl
-
--- no breakdown and no line; a breakdown and no line; no line and BT-115 gone
-no_breakdown : fault (front ++ totals) ≡ Some (faults.Missing (names.Group groups.VatBreakdown))
-unfolding front totals fault entry bt terms parent_of occurrence_of
-no_breakdown = refl
-
-no_line : fault (front ++ (totals ++ breakdown)) ≡ Some (faults.Missing (names.Group groups.InvoiceLine))
-unfolding front totals breakdown within fault entry bt terms parent_of occurrence_of
-no_line = refl
-
-other_category : fault (front ++ (totals ++ (breakdown ++ line (codes "X")))) ≡ Some (faults.CodeNotListed (bt 151))
-unfolding front totals breakdown line category within fault entry bt terms parent_of occurrence_of
-other_category = refl

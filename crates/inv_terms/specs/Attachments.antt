@@ -1,5 +1,5 @@
--- The attached documents of an invoice (BT-125), which stand in it as base64 (RFC 4648, section 4). What base64 is, is what the crate
--- `base64` encodes and decodes by its standard engine.
+-- The attached documents of an invoice (BT-125), which stand in it as base64 (RFC 4648, section 4). What base64 is, is
+-- what the crate `base64` encodes and decodes by its standard engine.
 use Rattle.std.specs.Prelude.{◌≡◌, ℕ, zero, suc, not, List, Option, Some, None, Result, Ok, Err, filter, slice_get, encode_utf8_all, bytes_eq, if◌then◌else◌}
 use Rattle.std.specs.List.{filter_map}
 use Rattle.base64.specs.GeneralPurpose.{encode_of, decode_of}
@@ -7,13 +7,13 @@ use Rattle.base64.specs.Engines.{standard}
 use Rattle.inv_base.specs.Characters.{is_white_space}
 use Rattle.inv_base.specs.Outside.{SinkView}
 use Rattle.inv_base.specs.Writing.{WritesAll, WritesFront}
-use Rattle.inv_terms.specs.declared.terms.Term.{Term}
+use Rattle.term_table.specs.declared.terms.Term.{Term}
 use Rattle.inv_terms.specs.declared.values.Value.{Value}
 use Rattle.inv_terms.specs.declared.values.Value.TheVariants as values
 use Rattle.inv_terms.specs.declared.entries.Entry.{Entry}
 use Rattle.inv_terms.specs.declared.attachments.AttachFault.{AttachFault}
 use Rattle.inv_terms.specs.declared.attachments.AttachFault.TheVariants as faults
-use Rattle.inv_terms.specs.Listing.{same_term}
+use Rattle.term_table.specs.SemanticModel.{same_term}
 
 abbrev pub attached_document : Term
 attached_document = record { number = 125; part = 0 }
@@ -54,7 +54,8 @@ bytes_of text = elim (decoded (encode_utf8_all (without_white_space text))) [ No
 abbrev pub attached : List Entry → ℕ → Result (List ℕ) AttachFault
 attached es k = elim (document es k) [ None ↦ Err faults.NoSuch | Some text ↦ bytes_of text ]
 
--- The sink took the bytes of the document, or a front of them and then failed, or nothing where there is no such document.
+-- The sink took the bytes of the document, or a front of them and then failed, or nothing where there is no such
+-- document.
 abbrev pub Attaches : Result (Unit {0}) AttachFault → Result (List ℕ) AttachFault → SinkView → SinkView → Type 0
 Attaches (Ok _) wanted before after = (bytes : List ℕ) × (wanted ≡ Ok bytes) × WritesAll bytes before after
 Attaches (Err faults.NoSuch) wanted before after = (wanted ≡ Err faults.NoSuch) × (after ≡ before)

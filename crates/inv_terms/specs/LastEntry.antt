@@ -1,9 +1,9 @@
 -- Private functions that look at the last entry alone: what they answer. No public clause cites it.
 use Rattle.std.specs.Prelude.{Bool, ◌&&◌, Option, Some, None, ℕ, if◌then◌else◌}
-use Rattle.inv_terms.specs.declared.groups.Group.{Group}
-use Rattle.inv_terms.specs.declared.entries.Context.{Context}
+use Rattle.term_table.specs.declared.groups.Group.{Group}
+use Rattle.term_table.specs.declared.contexts.Context.{Context}
 use Rattle.inv_terms.specs.declared.entries.Entry.{Entry}
-use Rattle.inv_terms.specs.Contexts.{same_slot}
+use Rattle.term_table.specs.Contexts.{same_slot}
 use Rattle.inv_terms.specs.Listing.{index_in, is_last_or_next}
 
 -- the number of the group's last occurrence, if the last entry stands in one

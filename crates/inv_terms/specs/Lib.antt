@@ -1,10 +1,6 @@
-pub mod SemanticModel
-pub mod Groups
-pub mod Contexts
 pub mod Values
 pub mod Listing
 pub mod LastEntry
 pub mod Refusals
-pub mod Validity
-pub mod Runs
+pub mod Looking
 pub mod Attachments

@@ -1,77 +1,45 @@
 -- An invoice as a list of entries in the order of the semantic model, and which entry may be added to it.
-use Rattle.std.specs.Prelude.{◌≡◌, ℕ, ◌+◌, ◌-◌, Bool, true, false, ◌&&◌, ◌||◌, ◌==◌, nat_le, List, [], ◌∷◌, ◌++◌, Option, Some, None, is_some, find, fold, max, map, position, length, slice_get, unwrap_or, if◌then◌else◌, All}
+use Rattle.std.specs.Prelude.{◌≡◌, ℕ, ◌+◌, ◌-◌, Bool, true, ◌&&◌, ◌||◌, ◌==◌, nat_le, List, [], ◌∷◌, Option, Some, None, is_some, find, fold, max, map, length, slice_get, option_map, if◌then◌else◌, All}
 use Rattle.std.specs.List.{list_all, list_any}
-use Rattle.std.specs.Option.{option_map}
-use Rattle.std.specs.Ordering.{nat_cmp, is_lt}
-use Rattle.std.specs.Cmp.Lexicographic.{slice_cmp}
-use Rattle.inv_terms.specs.declared.groups.Group.{Group}
-use Rattle.inv_terms.specs.declared.terms.Letter.{Letter}
-use Rattle.inv_terms.specs.declared.terms.Term.{Term}
-use Rattle.inv_terms.specs.declared.terms.TermRow.{TermRow}
+use Rattle.term_table.specs.declared.groups.Group.{Group}
+use Rattle.term_table.specs.declared.terms.Letter.{Letter}
+use Rattle.term_table.specs.declared.terms.Term.{Term}
+use Rattle.term_table.specs.declared.contexts.Slot.{Slot}
+use Rattle.term_table.specs.declared.contexts.Context.{Context}
+use Rattle.term_table.specs.declared.contexts.Seat.{Seat}
+use Rattle.term_table.specs.SemanticModel.{same_term}
+use Rattle.term_table.specs.Groups.{same_group}
+use Rattle.term_table.specs.Contexts.{same_slot, same_context, is_inside}
+use Rattle.term_table.specs.Rows.{HasType}
+use Rattle.term_table.specs.Places as places
 use Rattle.inv_terms.specs.declared.values.Value.{Value}
-use Rattle.inv_terms.specs.declared.entries.Slot.{Slot}
-use Rattle.inv_terms.specs.declared.entries.Context.{Context}
 use Rattle.inv_terms.specs.declared.entries.Entry.{Entry}
 use Rattle.inv_terms.specs.declared.listing.Refusal.{Refusal}
 use Rattle.inv_terms.specs.declared.listing.Refusal.TheVariants as refusals
-use Rattle.inv_terms.specs.SemanticModel.{terms}
-use Rattle.inv_terms.specs.Groups.{same_group}
-use Rattle.inv_terms.specs.Contexts.{has_context, same_slot, is_inside}
 use Rattle.inv_terms.specs.Values.{value_of}
 
-abbrev pub same_term : Term → Term → Bool
-same_term a b = (a.number == b.number) && (a.part == b.part)
+-- the term and the context of an entry
+abbrev pub seat_of : Entry → Seat
+seat_of e = record { term = e.term; context = e.context }
 
 -- ---- values that fit
 
--- the type of a term
-abbrev pub letter_of : Term → Option Letter
-letter_of term = option_map (λ (row : TermRow). row.letter) (find (λ (row : TermRow). same_term row.term term) terms)
-
--- The value is one that some string has by the term's type.
+-- The value is one that some string has by a type of the term.
 pub record Fits (term : Term) (value : Value) : Type 0 where
   pub letter : Letter
   pub text : List ℕ
-  pub typed : letter_of term ≡ Some letter
+  pub typed : HasType term letter
   pub read : value_of letter text ≡ Some value
 
--- ---- where an entry is listed
-
-abbrev pub is_row_of : Term → Context → TermRow → Bool
-is_row_of term context row = same_term row.term term && has_context row.group context
-
--- the number of the row of a term in a context
-abbrev pub row_of : Term → Context → Option ℕ
-row_of term context = position (is_row_of term context) terms
+-- ---- listing order
 
 -- The entry's term has such a context.
 abbrev pub is_placed : Entry → Bool
-is_placed e = is_some (row_of e.term e.context)
-
--- where a group begins: the number of its first row
-abbrev pub first_row : Group → ℕ
-first_row group = unwrap_or (position (λ (row : TermRow). same_group row.group group) terms) 0
-
--- where the group of the slot begins and the number of the occurrence; without a slot the row itself
-abbrev pub slot_place : ℕ → Option Slot → List ℕ
-slot_place row None = row ∷ 0 ∷ []
-slot_place row (Some slot) = first_row slot.group ∷ slot.index ∷ []
-
--- The place of a row in a context: each occurrence of a group is listed whole where the group begins, one occurrence
--- behind the other, and inside it the same goes for the groups in it.
-abbrev pub place : ℕ → Context → List ℕ
-place row context = slot_place row context.outer ++ (slot_place row context.inner ++ row ∷ [])
-
-abbrev pub precedes : List ℕ → List ℕ → Bool
-precedes a b = is_lt (slice_cmp nat_cmp a b)
-
--- the place of an entry, where its term has such a context
-abbrev pub place_of : Entry → Option (List ℕ)
-place_of e = option_map (λ row. place row e.context) (row_of e.term e.context)
+is_placed e = is_some (places.seat_place (seat_of e))
 
 -- Both have a place, and that of the first comes before that of the second.
 abbrev pub comes_before : Entry → Entry → Bool
-comes_before a b = elim (place_of a) [ None ↦ false | Some p ↦ elim (place_of b) [ None ↦ false | Some q ↦ precedes p q ] ]
+comes_before a b = places.comes_before (seat_of a) (seat_of b)
 
 -- The entries are in strictly rising order.
 abbrev pub is_listed : List Entry → Bool
@@ -84,7 +52,8 @@ is_listed (e ∷ es) = list_all (comes_before e) es && is_listed es
 abbrev pub occurs : List Entry → Context → Bool
 occurs es context = list_any (λ (e : Entry). is_inside context e.context) es
 
--- The slot's number is 1, or there is an occurrence with the number before it, in the context that `around` makes of a slot.
+-- The slot's number is 1, or there is an occurrence with the number before it, in the context that `around` makes of a
+-- slot.
 abbrev pub is_counted : List Entry → (Slot → Context) → Option Slot → Bool
 is_counted es around None = true
 is_counted es around (Some slot) = nat_le 1 slot.index && ((slot.index == 1) || occurs es (around (record slot { index = slot.index - 1 })))
@@ -107,6 +76,16 @@ pub record IsInvoice (es : List Entry) : Type 0 where
   pub fit : All (λ (e : Entry). Fits e.term e.value) es
   pub listed : is_listed es ≡ true
   pub numbered : is_numbered es ≡ true
+
+-- ---- what stands in it
+
+-- It is the entry of the term in the context.
+abbrev pub is_at : Term → Context → Entry → Bool
+is_at term context e = same_term e.term term && same_context e.context context
+
+-- the value of a term in a context
+abbrev pub value_in : List Entry → Term → Context → Option Value
+value_in es term context = option_map (λ (e : Entry). e.value) (find (is_at term context) es)
 
 -- ---- which entry may be added
 

@@ -1,13 +1,16 @@
--- Values of business terms: which value a string has by the type of its term (EN 16931-1, section 6.5), and which values fit a type.
-use Rattle.std.specs.Prelude.{ℕ, Bool, List, [], ◌∷◌, Option, Some, None, if◌then◌else◌}
+-- Values of business terms: which value a string has by the type of its term (EN 16931-1, section 6.5), and which
+-- values fit a type.
+use Rattle.std.specs.Prelude.{ℕ, Bool, false, List, [], ◌∷◌, Option, Some, None, bytes_eq, if◌then◌else◌}
 use Rattle.std.specs.List.{list_all}
 use Rattle.std.specs.Option.{option_map}
 use Rattle.inv_base.specs.Characters.{is_char, is_white_space}
 use Rattle.code_lists.specs.Codes.{is_code}
-use Rattle.inv_decimal.specs.WrittenNumber.{read_scaled}
-use Rattle.inv_decimal.specs.WrittenDay.{read_dashed_day}
-use Rattle.inv_terms.specs.declared.terms.Letter.{Letter}
-use Rattle.inv_terms.specs.declared.terms.Letter.TheVariants as letters
+use Rattle.std.specs.Ordering.{int_cmp, is_eq}
+use Rattle.inv_decimal.specs.CivilDay.{day_cmp}
+use Rattle.inv_decimal.specs.WrittenNumber.{read_scaled, scaled_text}
+use Rattle.inv_decimal.specs.WrittenDay.{read_dashed_day, dashed_day_text}
+use Rattle.term_table.specs.declared.terms.Letter.{Letter}
+use Rattle.term_table.specs.declared.terms.Letter.TheVariants as letters
 use Rattle.inv_terms.specs.declared.values.Value.{Value}
 use Rattle.inv_terms.specs.declared.values.Value.TheVariants as values
 
@@ -57,3 +60,28 @@ value_by letters.B text = option_map values.Base64 (text_of text)
 -- The value of a string: a string with a character that XML 1.0 doesn't have, has none.
 unfoldable pub value_of : Letter → List ℕ → Option Value
 value_of letter text = if list_all is_char text then value_by letter text else None
+
+-- ---- values spelled and compared
+
+-- the string that a value is written as
+abbrev pub spelled : Value → List ℕ
+spelled (values.Text text) = text
+spelled (values.Identifier text) = text
+spelled (values.Code text) = text
+spelled (values.Amount number) = scaled_text number
+spelled (values.Quantity number) = scaled_text number
+spelled (values.Percent number) = scaled_text number
+spelled (values.Date day) = dashed_day_text day
+spelled (values.Base64 text) = text
+
+-- Both are of one type and equal as values: 1.0 and 1.00 are.
+abbrev pub same_value : Value → Value → Bool
+same_value (values.Text a) (values.Text b) = bytes_eq a b
+same_value (values.Identifier a) (values.Identifier b) = bytes_eq a b
+same_value (values.Code a) (values.Code b) = bytes_eq a b
+same_value (values.Amount a) (values.Amount b) = is_eq (int_cmp a.value b.value)
+same_value (values.Quantity a) (values.Quantity b) = is_eq (int_cmp a.value b.value)
+same_value (values.Percent a) (values.Percent b) = is_eq (int_cmp a.value b.value)
+same_value (values.Date a) (values.Date b) = is_eq (day_cmp a b)
+same_value (values.Base64 a) (values.Base64 b) = bytes_eq a b
+same_value _ _ = false

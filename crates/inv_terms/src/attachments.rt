@@ -4,25 +4,27 @@ ghost use Rattle.inv_terms.specs.declared.attachments.AttachFault.TheVariants.{M
 
 use crate::entries::Entry;
 use crate::invoice::Invoice;
-use crate::listing::is_same_term;
-use crate::terms::Term;
 use crate::values::Value;
 use base64::DecodeAllocError;
 use base64::engine::general_purpose::STANDARD;
 use inv_base::{Sink, Txt, is_white_space, write_all};
 use std::alloc::{AllocError, Global};
+use term_table::Term;
 use thiserror::Error;
 
 /// Why an attached document wasn't written.
 #[derive(Debug, Drop, Error)]
 pub enum AttachFault {
+    /// It has no document of that number.
     #[error("no such attachment")]
     NoSuch,
     /// Its text, without white space, is the encoding of no bytes.
     #[error("not base64")]
     NotBase64,
+    /// The output failed.
     #[error("write fault")]
     WriteFault,
+    /// There is no memory for its bytes.
     #[error("out of memory")]
     Memory,
 }
@@ -50,7 +52,7 @@ fn base64_in(value: &Value) -> Option<&Txt>
 fn document_in(e: &Entry) -> Option<&Txt>
     ensures { option_copied result ≡ spec.document_in e.now }
 {
-    if is_same_term(e.term, ATTACHED_DOCUMENT) {
+    if e.term.is_same(ATTACHED_DOCUMENT) {
         base64_in(&e.value)
     } else {
         None
@@ -123,9 +125,9 @@ fn bytes_of(alloc: Global, text: &str) -> Result<Vec<u8>, AttachFault>
     }
 }
 
-/// Writes the bytes of the k-th attached document (BT-125), from 1. Its text, without white space, is base64 by the standard alphabet
-/// and with padding, and bits left over at its end are zero. Nothing is written where there is no such document, and nothing where its text
-/// isn't base64; behind a write fault a front of the bytes is.
+/// Writes the bytes of the k-th attached document (BT-125), from 1. Its text, without white space, is base64 by the
+/// standard alphabet and with padding, and bits left over at its end are zero. Nothing is written where there is no
+/// such document, and nothing where its text isn't base64; behind a write fault a front of the bytes is.
 pub fn attachment<K: Sink>(
     alloc: Global,
     i: &Invoice,

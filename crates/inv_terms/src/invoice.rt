@@ -1,11 +1,17 @@
-ghost use Rattle.std.specs.Prelude.{◌≡◌, [], ◌∷◌, ◌++◌, None, IfOk, OnOk, IfErr, OnErr, option_copied, slice_get};
-ghost use Rattle.inv_terms.specs.Listing.{IsInvoice, Fits, refusal};
+ghost use Rattle.std.specs.Prelude.{◌≡◌, [], ◌∷◌, ◌++◌, None, IfOk, OnOk, IfErr, OnErr, filter, option_copied, slice_get};
+ghost use Rattle.term_table.specs.Contexts.{is_inside};
+ghost use Rattle.term_table.specs.Runs.{IsNested};
+ghost use Rattle.inv_terms.specs.Listing.{IsInvoice, Fits, refusal, value_in};
 ghost use Rattle.inv_terms.specs.Refusals.{Refuses};
 
 use crate::entries::Entry;
+use crate::laws::invoices_are_in_listing_order;
 use crate::listing::{Refusal, why_refused};
+use crate::looking::value_in;
+use crate::values::Value;
 use std::alloc::{AllocError, Global};
 use std::marker::Model;
+use term_table::{Context, Term, run_in};
 
 /// Why an entry wasn't added to an invoice, with the entry.
 #[derive(Debug, Drop)]
@@ -14,11 +20,12 @@ pub enum PushFault {
     OutOfOrder(Entry),
     /// Its term has no such context, or an index is neither that of the last occurrence of its group nor the next.
     BadContext(Entry),
+    /// There is no memory for it.
     Memory(Entry),
 }
 
-/// An invoice: its entries in listing order, each with a context that its term has and a value that fits it, the occurrences of
-/// each group numbered from 1 without a gap. Contracts see the list of its entries.
+/// An invoice: its entries in listing order, each with a context that its term has and a value that fits it, the
+/// occurrences of each group numbered from 1 without a gap. Contracts see the list of its entries.
 #[derive(Drop)]
 pub struct Invoice {
     entries: Vec<Entry>,
@@ -44,6 +51,15 @@ impl Invoice {
         Ok(Invoice {
             entries: Vec::new(alloc),
         })
+    }
+
+    /// The invoice of these entries, which are one: in listing order, each with a context that its term has and a value
+    /// that fits it, the occurrences of each group numbered from 1 without a gap.
+    pub fn from_entries(entries: Vec<Entry>) -> Invoice
+        requires { IsInvoice entries.items }
+        ensures { result ≡ entries.items }
+    {
+        Invoice { entries }
     }
 
     /// Adds an entry behind the others. A refused entry is handed back, and nothing changes.
@@ -74,10 +90,28 @@ impl Invoice {
     }
 
     /// The entries in listing order.
-    pub(crate) fn entries(&self) -> &[Entry]
+    pub fn entries(&self) -> &[Entry]
         ensures entries { result.now ≡ self.now }
         ensures invoice { IsInvoice self.now }
     {
         self.entries.as_slice()
+    }
+
+    /// The value of a term in a context, if it stands there. It is found by halving.
+    pub fn value(&self, term: Term, context: Context) -> Option<&Value>
+        ensures { option_copied result ≡ value_in self.now term context }
+    {
+        invoices_are_in_listing_order();
+        value_in(self.entries(), term, context)
+    }
+
+    /// The entries in a context and in those inside it, which stand together. They are found by halving.
+    pub fn run(&self, context: Context) -> &[Entry]
+        requires { IsNested context }
+        ensures run { result.now ≡ filter (λ e. is_inside context e.context) self.now }
+        ensures invoice { IsInvoice self.now }
+    {
+        invoices_are_in_listing_order();
+        run_in(self.entries(), context)
     }
 }

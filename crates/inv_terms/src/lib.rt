@@ -1,25 +1,21 @@
-//! The semantic model of an electronic invoice (EN 16931-1): the business terms with their groups, and an invoice as
-//! a list of entries in the order of the model.
+//! An electronic invoice (EN 16931-1) as a list of entries, values of business terms in the order of the semantic
+//! model, and its attached documents.
 #![tactic(auto)]
 
 mod attachments;
 mod entries;
-mod groups;
 mod invoice;
 mod laws;
 mod listing;
-mod missing;
-mod names;
-mod terms;
-mod validity;
+mod looking;
 mod values;
 
 pub use attachments::{AttachFault, attachment};
-pub use entries::{Context, Entry, Slot};
-pub use groups::{Group, Occurrence};
+pub use entries::Entry;
 pub use invoice::{Invoice, PushFault};
-pub use laws::terms_have_one_type;
-pub use names::{Name, TermFault};
-pub use terms::{Letter, Mark, Term, TermRow, term_row};
-pub use validity::check;
+pub use laws::{
+    invoices_are_in_listing_order, invoices_with_the_same_entries_are_equal,
+    push_refuses_what_makes_no_invoice, spelled_values_are_read_back,
+};
+pub use looking::value_in;
 pub use values::Value;

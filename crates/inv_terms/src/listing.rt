@@ -1,106 +1,31 @@
-ghost use Rattle.std.specs.Prelude.{◌≡◌, ◌&&◌, ◌||◌, ◌==◌, ◌+◌, nat_le, [], ◌∷◌, Some, None, true, option_copied, position};
+ghost use Rattle.std.specs.Prelude.{◌≡◌, ◌&&◌, ◌||◌, ◌==◌, ◌+◌, nat_le, Some, option_copied};
 ghost use Rattle.inv_terms.specs.Listing as spec;
 ghost use Rattle.inv_terms.specs.LastEntry.{outer_behind, inner_behind, is_next_behind};
-ghost use Rattle.inv_terms.specs.Groups.{same_group};
 
-use crate::entries::{Context, Entry, Slot, has_context, is_same_slot};
-use crate::groups::Group;
-use crate::terms::{TERMS, Term, TermRow};
-use std::cmp::Ordering;
+use crate::entries::Entry;
+use term_table::{Context, Group, Slot, place_of};
 
 /// Why an entry may not be added to an invoice.
 #[derive(Clone, Copy, Debug)]
 pub(crate) enum Refusal {
+    /// It isn't listed behind the last one.
     OutOfOrder,
+    /// Its term has no such context, or an index is neither the last nor the next.
     BadContext,
-}
-
-pub(crate) fn is_same_term(a: Term, b: Term) -> bool
-    ensures { result ≡ spec.same_term a b }
-{
-    a.number == b.number && a.part == b.part
-}
-
-fn is_row_of(term: Term, context: Context, row: &TermRow) -> bool
-    ensures { result ≡ spec.is_row_of term context row.now }
-{
-    is_same_term(row.term, term) && has_context(row.group, context)
-}
-
-/// The number of the row of a term in a context.
-pub(crate) fn row_of(term: Term, context: Context) -> Option<usize>
-    ensures { result ≡ spec.row_of term context }
-{
-    row_among(&TERMS, term, context)
-}
-
-fn row_among(rows: &[TermRow], term: Term, context: Context) -> Option<usize>
-    ensures { result ≡ position (spec.is_row_of term context) rows.now }
-{
-    rows.iter().position(|row| is_row_of(term, context, row))
 }
 
 // Whether the term of the entry has such a context.
 fn is_placed(e: &Entry) -> bool
     ensures { result ≡ spec.is_placed e.now }
 {
-    row_of(e.term, e.context).is_some()
-}
-
-/// The number of the first row of a group.
-pub(crate) fn first_row(group: Group) -> usize
-    ensures { result ≡ spec.first_row group }
-{
-    first_among(&TERMS, group).unwrap_or(0)
-}
-
-fn first_among(rows: &[TermRow], group: Group) -> Option<usize>
-    ensures { result ≡ position (λ row. same_group row.group group) rows.now }
-{
-    rows.iter().position(|row| row.group.is_same(group))
-}
-
-// Where the group of the slot begins and the number of the occurrence; without a slot the row itself.
-fn slot_place(row: usize, slot: Option<Slot>) -> (usize, usize)
-    ensures { result.0 ∷ result.1 ∷ [] ≡ spec.slot_place row slot }
-{
-    match slot {
-        None => (row, 0),
-        Some(slot) => (first_row(slot.group), slot.index as usize),
-    }
-}
-
-/// The place of a row in a context, in the order in which an invoice is listed.
-pub(crate) fn place(row: usize, context: Context) -> [usize; 5]
-    ensures { result ≡ spec.place row context }
-{
-    let (outer, outer_index) = slot_place(row, context.outer);
-    let (inner, inner_index) = slot_place(row, context.inner);
-    [outer, outer_index, inner, inner_index, row]
-}
-
-/// The place of an entry, where its term has such a context.
-pub(crate) fn place_of(e: &Entry) -> Option<[usize; 5]>
-    ensures { result ≡ spec.place_of e.now }
-{
-    match row_of(e.term, e.context) {
-        Some(row) => Some(place(row, e.context)),
-        None => None,
-    }
-}
-
-/// Whether the first place comes before the second.
-pub(crate) fn precedes(a: &[usize; 5], b: &[usize; 5]) -> bool
-    ensures { result ≡ spec.precedes a.now b.now }
-{
-    a.cmp(b) == Ordering::Less
+    place_of(e.term, e.context).is_some()
 }
 
 fn comes_before(a: &Entry, b: &Entry) -> bool
     ensures { result ≡ spec.comes_before a.now b.now }
 {
-    match (place_of(a), place_of(b)) {
-        (Some(a), Some(b)) => precedes(&a, &b),
+    match (place_of(a.term, a.context), place_of(b.term, b.context)) {
+        (Some(a), Some(b)) => a.precedes(b),
         (Some(_), None) => false,
         (None, _) => false,
     }
@@ -146,7 +71,7 @@ fn is_next_outer(last: Option<&Entry>, context: Context) -> bool
 fn inner_behind(last: &Entry, context: Context, group: Group) -> u32
     ensures { result ≡ inner_behind (Some last.now) context group }
 {
-    if is_same_slot(last.context.outer, context.outer) {
+    if last.context.has_same_outer(context) {
         index_in(group, last.context.inner)
     } else {
         0

@@ -1,0 +1,5 @@
+pub mod SameLemmas
+pub mod PickLemmas
+pub mod EndLemmas
+pub mod NumberLemmas
+pub mod FrontLemmas

@@ -1,0 +1,4 @@
+pub mod Picks
+pub mod Ends
+pub mod Numbering
+pub mod Fronts

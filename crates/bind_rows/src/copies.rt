@@ -1,0 +1,90 @@
+ghost use Rattle.std.specs.Prelude.{◌≡◌, IfOk};
+
+use crate::guards::{Guard, Place, Test};
+use crate::many::Many;
+use crate::names::{ElementName, Leaf};
+use crate::rows::Step;
+use inv_base::Txt;
+use std::alloc::{AllocError, Global};
+
+/// Values that may be had twice, at the cost of memory.
+pub trait Copied {
+    /// The same value once more.
+    fn copied(&self, alloc: Global) -> Result<Self, AllocError>
+        ensures { IfOk result (λ x. x ≡ self.now) };
+}
+
+impl<T: Copied + Drop> Copied for Many<T> {
+    fn copied(&self, alloc: Global) -> Result<Many<T>, AllocError> {
+        let mut copies = Many::new(alloc);
+        'items: for item in self.as_slice() {
+            copies.push(item.copied(alloc)?)?;
+        }
+        Ok(copies)
+    }
+}
+
+impl Copied for Txt {
+    fn copied(&self, _alloc: Global) -> Result<Txt, AllocError> {
+        self.try_clone()
+    }
+}
+
+impl Copied for ElementName {
+    fn copied(&self, alloc: Global) -> Result<ElementName, AllocError> {
+        Ok(ElementName {
+            namespace: self.namespace,
+            local: self.local.copied(alloc)?,
+        })
+    }
+}
+
+impl Copied for Leaf {
+    fn copied(&self, alloc: Global) -> Result<Leaf, AllocError> {
+        match self {
+            Leaf::Element => Ok(Leaf::Element),
+            Leaf::Attribute(name) => Ok(Leaf::Attribute(name.copied(alloc)?)),
+        }
+    }
+}
+
+impl Copied for Place {
+    fn copied(&self, alloc: Global) -> Result<Place, AllocError> {
+        Ok(Place {
+            path: self.path.copied(alloc)?,
+            leaf: self.leaf.copied(alloc)?,
+        })
+    }
+}
+
+impl Copied for Test {
+    fn copied(&self, alloc: Global) -> Result<Test, AllocError> {
+        match self {
+            Test::OneOf(texts) => Ok(Test::OneOf(texts.copied(alloc)?)),
+            Test::NoneOf(texts) => Ok(Test::NoneOf(texts.copied(alloc)?)),
+            Test::Present => Ok(Test::Present),
+            Test::Absent => Ok(Test::Absent),
+        }
+    }
+}
+
+impl Copied for Guard {
+    fn copied(&self, alloc: Global) -> Result<Guard, AllocError> {
+        Ok(Guard {
+            place: self.place.copied(alloc)?,
+            test: self.test.copied(alloc)?,
+        })
+    }
+}
+
+impl Copied for Step {
+    fn copied(&self, alloc: Global) -> Result<Step, AllocError> {
+        Ok(Step {
+            name: self.name.copied(alloc)?,
+            number: self.number,
+            always: self.always,
+            group: self.group,
+            guards: self.guards.copied(alloc)?,
+        })
+    }
+}

@@ -1,0 +1,17 @@
+//! What a row of a binding table says: where a business term of an electronic invoice stands in a syntax, and how its
+//! value is spelled there (CEN/TS 16931-3-2 for UBL 2.1, CEN/TS 16931-3-3 for CII D16B).
+#![tactic(auto)]
+
+mod copies;
+mod guards;
+mod many;
+mod names;
+mod rows;
+mod same;
+
+pub use copies::Copied;
+pub use guards::{Guard, Place, Test};
+pub use many::Many;
+pub use names::{ElementName, Leaf, Namespace};
+pub use rows::{Check, Content, Filler, Form, Repeats, Row, Step, Written};
+pub use same::{Same, are_same, is_same_or_none};

@@ -1,0 +1,96 @@
+ghost use Rattle.std.specs.Prelude.{◌≡◌, ℕ, ◌+◌, ◌<◌, ◌^◌, ◌++◌, [], ◌∷◌, length, OnOk, OnErr, option_copied, slice_get};
+ghost use Rattle.bind_table.specs.Lines.{plan_of, flat};
+ghost use Rattle.bind_table.specs.Limits.{HasSteps, HasSmallNumbers};
+ghost use Rattle.bind_table.specs.WellFormed.{first_fault};
+
+use crate::growing::add_row;
+use crate::judging::{TableFault, first_fault};
+use crate::lines::Line;
+use bind_rows::Row;
+use std::alloc::{AllocError, Global};
+use std::marker::Model;
+
+/// A binding table. Contracts see the list of its rows. The same rows as a tree of lines are kept beside them.
+#[derive(Drop)]
+pub struct Binding {
+    alloc: Global,
+    rows: Vec<Row>,
+    lines: Vec<Line>,
+}
+
+impl Model for Binding {
+    ghost use Rattle.std.specs.Prelude.{List, ◌≡◌, ◌<◌, ◌^◌, length};
+    ghost use Rattle.bind_rows.specs.declared.rows.Row.{Row};
+    ghost use Rattle.bind_table.specs.Lines.{plan_of, flat};
+
+    ghost Value = { List Row };
+
+    ghost view = { λ b. b.rows.items };
+
+    ghost invariant = { λ b. (b.lines.items ≡ flat (plan_of b.rows.items)) × (length b.rows.items < 2 ^ 31) };
+}
+
+impl Binding {
+    /// A table without rows.
+    pub fn new(alloc: Global) -> Binding
+        ensures { result ≡ [] }
+    {
+        Binding {
+            alloc,
+            rows: Vec::new(alloc),
+            lines: Vec::new(alloc),
+        }
+    }
+
+    /// Puts a row behind the others. Without memory for it nothing changes.
+    pub fn push(&mut self, row: Row) -> Result<(), AllocError>
+        requires few { length self.old + 1 < 2 ^ 31 }
+        requires steps { HasSteps row }
+        requires numbers { HasSmallNumbers row }
+        ensures ok { OnOk result (self.new ≡ self.old ++ row ∷ []) }
+        ensures err { OnErr result (self.new ≡ self.old) }
+    {
+        self.rows.reserve(1)?;
+        add_row(
+            self.alloc,
+            &mut self.lines,
+            row.path.as_slice(),
+            self.rows.len(),
+        )?;
+        match self.rows.push(row) {
+            Ok(()) => return Ok(()),
+            Err(_) => unreachable!(),
+        }
+    }
+
+    /// The k-th row, from 0. None behind the last one.
+    pub fn part(&self, k: usize) -> Option<&Row>
+        ensures { option_copied result ≡ slice_get self.now k }
+    {
+        self.rows.get(k)
+    }
+
+    /// The rows in their order.
+    pub fn rows(&self) -> &[Row]
+        ensures { result.now ≡ self.now }
+    {
+        self.rows.as_slice()
+    }
+
+    /// The lines in preorder, siblings by the numbers of their elements.
+    pub fn lines(&self) -> &[Line]
+        ensures { result.now ≡ flat (plan_of self.now) }
+    {
+        self.lines.as_slice()
+    }
+}
+
+/// The first row of the table at which something is wrong, and what: a row that another row of the same path of names
+/// can't be told from (Ambiguous), a term that the semantic model doesn't have in the row's context (UnknownTerm), a
+/// context whose groups aren't carried by one element each of the row's path, the outer above the inner, or a path that
+/// begins with no root or another row's (OutsideContext).
+pub fn well_formed(b: &Binding) -> Result<(), TableFault>
+    ensures { result ≡ first_fault b.now }
+{
+    first_fault(b.rows.as_slice())
+}

@@ -1,0 +1,4 @@
+pub mod Lacking
+pub mod Validity
+pub mod Opened
+pub mod Whole

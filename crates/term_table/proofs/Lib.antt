@@ -1,0 +1,5 @@
+pub mod TermLemmas
+pub mod GroupLemmas
+pub mod LetterLemmas
+pub mod SeatLemmas
+pub mod RunLemmas

@@ -1,0 +1,11 @@
+use Rattle.std.proofs.Common.{◌≤◌, sym, subst, ap, ◌∙◌, length}
+use Rattle.term_table.specs.declared.terms.TheConstants.{TERMS}
+use Rattle.term_table.specs.Numbers.{row_from}
+use Rattle.term_table.proofs.TermLemmas.{first_fits, row_from-is}
+use Rattle.term_table.proofs.rows.row_in.Goals as goal
+
+pub row_from-requires : goal.row_from-requires
+row_from-requires c = subst (λ first. first ≤ length TERMS) (sym c.first_of.ensures) (first_fits c.args.term.number)
+
+pub returns : goal.returns
+returns c = c.row_from.ensures ∙ (ap (λ first. row_from TERMS first c.args.term c.args.outer c.args.inner) c.first_of.ensures ∙ row_from-is c.args.term c.args.outer c.args.inner)

@@ -1,0 +1,250 @@
+ghost use Rattle.std.specs.Prelude.{◌≡◌};
+ghost use Rattle.term_table.specs.Groups.{parent_of, occurrence_of, is_repeated, label_of, same_group};
+ghost use Rattle.term_table.specs.Contexts.{outer_group, inner_group};
+
+/// The groups of business terms of EN 16931-1, the invoice itself, and three groups of this program for the terms
+/// that the standard lets stand several times by themselves (BT-29 and BT-158).
+#[derive(Clone, Copy, Debug, PartialEq, Eq)]
+pub enum Group {
+    /// The invoice itself, which is no group of the standard.
+    Root,
+    /// BG-1.
+    InvoiceNote,
+    /// BG-2.
+    ProcessControl,
+    /// BG-3.
+    PrecedingInvoice,
+    /// BG-4.
+    Seller,
+    /// P-29: a seller identifier (BT-29) without a scheme.
+    SellerIdentifier,
+    /// P-29S: a seller identifier (BT-29) with its scheme.
+    SellerSchemedIdentifier,
+    /// BG-5.
+    SellerAddress,
+    /// BG-6.
+    SellerContact,
+    /// BG-7.
+    Buyer,
+    /// BG-8.
+    BuyerAddress,
+    /// BG-9.
+    BuyerContact,
+    /// BG-10.
+    Payee,
+    /// BG-11.
+    TaxRepresentative,
+    /// BG-12.
+    TaxRepresentativeAddress,
+    /// BG-13.
+    Delivery,
+    /// BG-14.
+    InvoicingPeriod,
+    /// BG-15.
+    DeliveryAddress,
+    /// BG-16.
+    PaymentInstructions,
+    /// BG-17.
+    CreditTransfer,
+    /// BG-18.
+    PaymentCard,
+    /// BG-19.
+    DirectDebit,
+    /// BG-20.
+    DocumentAllowance,
+    /// BG-21.
+    DocumentCharge,
+    /// BG-22.
+    DocumentTotals,
+    /// BG-23.
+    VatBreakdown,
+    /// BG-24.
+    SupportingDocument,
+    /// BG-25.
+    InvoiceLine,
+    /// BG-26.
+    LinePeriod,
+    /// BG-27.
+    LineAllowance,
+    /// BG-28.
+    LineCharge,
+    /// BG-29.
+    PriceDetails,
+    /// BG-30.
+    LineVat,
+    /// BG-31.
+    ItemInformation,
+    /// P-158: an item classification (BT-158).
+    ItemClassification,
+    /// BG-32.
+    ItemAttribute,
+}
+
+/// How often a group stands in the one around it.
+#[derive(Clone, Copy, Debug, PartialEq, Eq)]
+pub enum Occurrence {
+    /// 1: it is always there.
+    Once,
+    /// 0..1.
+    AtMostOnce,
+    /// 0..n.
+    AnyNumber,
+    /// 1..n.
+    AtLeastOnce,
+}
+
+impl Group {
+    /// The group around this one. The invoice is around itself.
+    #[tactic(auto, unfolding(crate::specs::Groups::parent_of))]
+    pub fn parent(self) -> Group
+        ensures { result ≡ parent_of self }
+    {
+        match self {
+            Group::SellerIdentifier
+            | Group::SellerSchemedIdentifier
+            | Group::SellerAddress
+            | Group::SellerContact => Group::Seller,
+            Group::BuyerAddress | Group::BuyerContact => Group::Buyer,
+            Group::TaxRepresentativeAddress => Group::TaxRepresentative,
+            Group::InvoicingPeriod | Group::DeliveryAddress => Group::Delivery,
+            Group::CreditTransfer | Group::PaymentCard | Group::DirectDebit => {
+                Group::PaymentInstructions
+            }
+            Group::LinePeriod
+            | Group::LineAllowance
+            | Group::LineCharge
+            | Group::PriceDetails
+            | Group::LineVat
+            | Group::ItemInformation => Group::InvoiceLine,
+            Group::ItemClassification | Group::ItemAttribute => Group::ItemInformation,
+            _ => Group::Root,
+        }
+    }
+
+    /// How often it stands in the group around it.
+    #[tactic(auto, unfolding(crate::specs::Groups::occurrence_of))]
+    pub fn occurrence(self) -> Occurrence
+        ensures { result ≡ occurrence_of self }
+    {
+        match self {
+            Group::VatBreakdown | Group::InvoiceLine => Occurrence::AtLeastOnce,
+            Group::InvoiceNote
+            | Group::PrecedingInvoice
+            | Group::SellerIdentifier
+            | Group::SellerSchemedIdentifier
+            | Group::CreditTransfer
+            | Group::DocumentAllowance
+            | Group::DocumentCharge
+            | Group::SupportingDocument
+            | Group::LineAllowance
+            | Group::LineCharge
+            | Group::ItemClassification
+            | Group::ItemAttribute => Occurrence::AnyNumber,
+            Group::SellerContact
+            | Group::BuyerContact
+            | Group::Payee
+            | Group::TaxRepresentative
+            | Group::Delivery
+            | Group::InvoicingPeriod
+            | Group::DeliveryAddress
+            | Group::PaymentInstructions
+            | Group::PaymentCard
+            | Group::DirectDebit
+            | Group::LinePeriod => Occurrence::AtMostOnce,
+            _ => Occurrence::Once,
+        }
+    }
+
+    /// Whether it may stand several times, so that its occurrences are contexts.
+    pub fn is_repeated(self) -> bool
+        ensures { result ≡ is_repeated self }
+    {
+        match self.occurrence() {
+            Occurrence::AnyNumber | Occurrence::AtLeastOnce => true,
+            Occurrence::Once | Occurrence::AtMostOnce => false,
+        }
+    }
+
+    /// Whether both are the same group.
+    pub fn is_same(self, other: Group) -> bool
+        ensures { result ≡ same_group self other }
+    {
+        self == other
+    }
+
+    /// The group of the outer slot in the contexts of its terms, if they have one.
+    #[tactic(auto, unfolding(crate::specs::Groups::parent_of, crate::specs::Groups::occurrence_of))]
+    pub fn outer(self) -> Option<Group>
+        ensures { result ≡ outer_group self }
+    {
+        match self {
+            Group::LinePeriod
+            | Group::LineAllowance
+            | Group::LineCharge
+            | Group::PriceDetails
+            | Group::LineVat
+            | Group::ItemInformation
+            | Group::ItemClassification
+            | Group::ItemAttribute => Some(Group::InvoiceLine),
+            _ => { if self.is_repeated() { Some(self) } else { None } }
+        }
+    }
+
+    /// The group of the inner slot in the contexts of its terms, if they have one.
+    #[tactic(auto, unfolding(crate::specs::Groups::parent_of, crate::specs::Groups::occurrence_of))]
+    pub fn inner(self) -> Option<Group>
+        ensures { result ≡ inner_group self }
+    {
+        match self {
+            Group::LineAllowance
+            | Group::LineCharge
+            | Group::ItemClassification
+            | Group::ItemAttribute => Some(self),
+            _ => None,
+        }
+    }
+
+    /// How it is printed: `BG-25`, `P-29S`; the invoice itself, which no line names, as `invoice`.
+    pub fn label(self) -> &'static str
+        ensures { result.now ≡ label_of self }
+    {
+        match self {
+            Group::Root => "invoice",
+            Group::InvoiceNote => "BG-1",
+            Group::ProcessControl => "BG-2",
+            Group::PrecedingInvoice => "BG-3",
+            Group::Seller => "BG-4",
+            Group::SellerIdentifier => "P-29",
+            Group::SellerSchemedIdentifier => "P-29S",
+            Group::SellerAddress => "BG-5",
+            Group::SellerContact => "BG-6",
+            Group::Buyer => "BG-7",
+            Group::BuyerAddress => "BG-8",
+            Group::BuyerContact => "BG-9",
+            Group::Payee => "BG-10",
+            Group::TaxRepresentative => "BG-11",
+            Group::TaxRepresentativeAddress => "BG-12",
+            Group::Delivery => "BG-13",
+            Group::InvoicingPeriod => "BG-14",
+            Group::DeliveryAddress => "BG-15",
+            Group::PaymentInstructions => "BG-16",
+            Group::CreditTransfer => "BG-17",
+            Group::PaymentCard => "BG-18",
+            Group::DirectDebit => "BG-19",
+            Group::DocumentAllowance => "BG-20",
+            Group::DocumentCharge => "BG-21",
+            Group::DocumentTotals => "BG-22",
+            Group::VatBreakdown => "BG-23",
+            Group::SupportingDocument => "BG-24",
+            Group::InvoiceLine => "BG-25",
+            Group::LinePeriod => "BG-26",
+            Group::LineAllowance => "BG-27",
+            Group::LineCharge => "BG-28",
+            Group::PriceDetails => "BG-29",
+            Group::LineVat => "BG-30",
+            Group::ItemInformation => "BG-31",
+            Group::ItemClassification => "P-158",
+            Group::ItemAttribute => "BG-32",
+        }
+    }
+}

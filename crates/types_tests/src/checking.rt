@@ -38,10 +38,11 @@ fn push_part(line: &mut String, part: &Part) -> Result<(), AllocError> {
     push_kind(line, part.kinds.untyped, "untyped")?;
     push_kind(line, part.kinds.date, "date")?;
     push_kind(line, part.uses_focus, "*")?;
+    push_kind(line, part.uses_position, "#")?;
     push_kind(line, part.depends_on_document_alone, "!")
 }
 
-/// The kinds of each part, `*` where it uses the focus, `!` where it depends on the document alone.
+/// The kinds of each part, `*` where it uses the focus, `#` where it uses a position in it, `!` where it depends on the document alone.
 fn parts(alloc: Global, typed: &Typed<'_>) -> Result<String, AllocError> {
     let mut line = String::new(alloc);
     for k in 0..20 {

@@ -24,8 +24,8 @@ a → node *
 / → node * !
 $v → node boolean number string untyped date
 $p:v → node boolean number string untyped date
-position() → number *
-last() → number *
+position() → number * #
+last() → number * #
 true() → boolean !
 string() → string *
 string-length() → number *
@@ -77,11 +77,15 @@ a[/b] → node * ; node * ; node * ! ; node *
 1[/b] → number ! ; number ! ; node * ; node *
 (a, 1)[/b] → node number * ; node number * ; node number * ; node * ; number ! ; node * ; node *
 (1, 'a')[. = 1] → number string ! ; number string ! ; number string ! ; number ! ; string ! ; boolean * ; number string * ; number !
-a[position() = last()] → node * ; node * ; boolean * ; number * ; number *
-//a[last()] → node * ! ; node * ; node * ; number *
+a[position() = last()] → node * ; node * ; boolean * # ; number * # ; number * #
+//a[last()] → node * ! ; node * ; node * ; number * #
+//l[. = 1] → node * ! ; node * ; node * ; boolean * ; node * ; number !
+//l[position() = 1] → node * ! ; node * ; node * ; boolean * # ; number * # ; number !
+a[b[last()]] → node * ; node * ; node * ; node * ; number * #
 //a[$v] → node * ; node * ; node * ; node boolean number string untyped date
 count(//l) → number * ! ; node * ! ; node *
 (1, 2)[count(//l) > 1] → number ! ; number ! ; number ! ; number ! ; number ! ; boolean * ; number * ; node * ; node * ; number !
+for $x in 1, $y in 'a' return (for $x in $y return $x, $x) → number string ! ; number ! ; string ! ; number string ; number string ; string ; string ; string ; number
 for $x in //a return $x/b → node * ! ; node * ! ; node * ; node ; node ; node *
 a/(for $x in . return $x) → node * ; node * ; node * ; node * ; node * ; node";
 
@@ -187,5 +191,25 @@ fn a_typed_expression_keeps_what_it_is_of(rt: HostRuntime) -> Result<(), Fail> {
     assert!(rt; matches!(typed.expr(), Expr::Node(Form::Chain(Production::Sum), _)));
     assert!(rt; typed.part(2).is_some());
     assert!(rt; typed.part(3).is_none());
+    Ok(())
+}
+
+/// What was declared last is taken back.
+#[test]
+fn a_scope_is_cut_back(rt: HostRuntime) -> Result<(), Fail> {
+    let mut scope = scope(rt.alloc())?;
+    let count = scope.count();
+    scope.variable(rt.alloc(), "w")?;
+    assert_eq!(rt; scope.count(), 4);
+    let declared = checked(rt.alloc(), "$w", &scope)?;
+    scope.truncate(count);
+    let cut = checked(rt.alloc(), "$w", &scope)?;
+    let kept = checked(rt.alloc(), "$v", &scope)?;
+    assert_eq!(rt;
+        declared.as_str(),
+        " node boolean number string untyped date"
+    );
+    assert_eq!(rt; cut.as_str(), " UndeclaredVariable 0");
+    assert_eq!(rt; kept.as_str(), " node boolean number string untyped date");
     Ok(())
 }

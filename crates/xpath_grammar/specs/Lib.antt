@@ -1,6 +1,8 @@
+pub mod Functions
 pub mod formers
 pub mod Comparisons
 pub mod Grammar
+pub mod Words
 pub mod Machine
 pub mod Productions
 pub mod Patterns

@@ -1,5 +1,5 @@
 -- The tree that an expression is.
-use Rattle.std.specs.Prelude.{List, [], ◌∷◌, ◌++◌}
+use Rattle.std.specs.Prelude.{List, [], ◌∷◌, ◌++◌, map}
 use Rattle.xpath_grammar.specs.Grammar as g
 use Rattle.xpath_grammar.specs.Grammar.{Leaf, Form, Label, Tree, Parts}
 use Rattle.xpath_grammar.specs.Machine.{Algebra}
@@ -18,6 +18,10 @@ view_step (Expr-F.Node form parts) = g.node form (parts_of parts)
 
 abbrev pub view : Expr → Tree
 view = fold-Expr Tree view_step
+
+-- the parts of an expression
+abbrev pub viewed : List (Label × Expr) → Parts
+viewed parts = parts_of (map (λ part. (part.0, view part.1)) parts)
 
 -- expressions as the machine's values
 abbrev pub expressions : Algebra Expr (List (Label × Expr))

@@ -9,3 +9,4 @@ pub mod many;
 pub mod operators;
 pub mod pattern;
 pub mod step;
+pub mod words;

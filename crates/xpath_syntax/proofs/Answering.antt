@@ -12,7 +12,7 @@ use Rattle.xpath_grammar.specs.Patterns as pa
 use Rattle.xpath_grammar.specs.View.{view, expressions}
 use Rattle.xpath_syntax.specs.declared.value.Value.{Value}
 use Rattle.xpath_syntax.specs.Answers.{Answers, PatternAnswers, Refused, within_levels, answer_of_tree, answer_of_pattern_tree, answer_of, pattern_answer_of}
-use Rattle.xpath_syntax.specs.Spelled.{kept_expression, expression_of, as_pattern, pattern_of}
+use Rattle.xpath_syntax.specs.Spelled.{kept_expression, expression_of, pattern_of, IsOfItsKind}
 use Rattle.xpath_syntax.specs.Stacks.{MayMake}
 use Rattle.xpath_syntax.specs.Values.{values}
 use Rattle.xpath_syntax.proofs.Cut.{kept_if, kept_of, whole-is}
@@ -57,7 +57,7 @@ expression-refused found f.TooDeep h = absurd h
 
 -- the same for patterns
 
-as_answered : (r : Result Expr SyntaxFault) (answer : Result g.Tree SyntaxFault) → Answers r answer → PatternAnswers (as_pattern r) answer
+as_answered : (r : Result Expr SyntaxFault) (answer : Result g.Tree SyntaxFault) → Answers r answer → PatternAnswers r answer
 as_answered (Ok x) answer h = h
 as_answered (Err fault) answer h = h
 
@@ -65,7 +65,7 @@ pattern_if : g.Tree → Bool → Result g.Tree SyntaxFault
 pattern_if x b = elim b [ true ↦ within_levels x | false ↦ Err f.Syntax ]
 
 made_if : Value → Bool → Result Pattern SyntaxFault
-made_if v b = elim b [ true ↦ as_pattern (expression_of v) | false ↦ Err f.Syntax ]
+made_if v b = elim b [ true ↦ expression_of v | false ↦ Err f.Syntax ]
 
 same_pattern : (x : g.Tree) (v : Value) (b : Bool) → AreExpressions → value x ≡ v → PatternAnswers (made_if v b) (pattern_if x b)
 unfolding pattern_if made_if
@@ -82,6 +82,17 @@ unfolding value pattern_if made_if
 pattern-found None v r law e q = absurd (cc)
 pattern-found (Some x) v r law e q = let same : value x ≡ v = cc in
     subst (λ (s : Result Pattern SyntaxFault). PatternAnswers s (pattern_if x (pa.is_pattern x))) (ap (made_if v) (sym (kind_same x v same)) ∙ sym q) (same_pattern x v (pa.is_pattern x) law same)
+
+-- the expression that is kept is the one of that kind
+kept-is : (x : g.Tree) (y : Expr) (b : Bool) → AreExpressions → kept_expression (kept_if b (record { expression = m.value_of expressions x; level = g.level x })) ≡ Ok y → view y ≡ x
+kept-is x y true law e = let same : m.value_of expressions x ≡ y = cc in ap view (sym same) ∙ law x
+kept-is x y false law e = absurd (cc)
+
+pub of_its_kind : (found : Option g.Tree) (v : Value) → AreExpressions → option_map (m.value_of values) found ≡ Some v → IsOfItsKind v
+unfolding value
+of_its_kind None v law e = absurd (cc)
+of_its_kind (Some x) v law e = λ y kept. let same : value x ≡ v = cc in
+    ap pa.is_pattern (kept-is x y (nat_le (g.level x) 256) law (ap (λ (w : Value). kept_expression w.kept) (sym (whole-is x) ∙ same) ∙ kept)) ∙ sym (kind_same x v same)
 
 pub pattern-refused : (found : Option g.Tree) (fault : SyntaxFault) → MayMake {X = Value} (Err fault) (option_map (m.value_of values) found) → Refused fault (answer_of_pattern_tree found)
 pattern-refused None f.Syntax h = refl

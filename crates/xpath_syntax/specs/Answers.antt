@@ -42,5 +42,5 @@ Answers (Ok found) answer = answer ≡ Ok (view found)
 Answers (Err fault) answer = Refused fault answer
 
 abbrev pub PatternAnswers : Result Pattern SyntaxFault → Result Tree SyntaxFault → Type 0
-PatternAnswers (Ok found) answer = answer ≡ Ok (view found.expression)
+PatternAnswers (Ok found) answer = answer ≡ Ok (view found)
 PatternAnswers (Err fault) answer = Refused fault answer

@@ -1,4 +1,3 @@
-pub mod Named
 pub mod Values
 pub mod Stacks
 pub mod Spelled

@@ -5,6 +5,7 @@ use Rattle.xpath_tokens.specs.declared.token.SyntaxFault.TheVariants as f
 use Rattle.xpath_grammar.specs.declared.machine.Frame.{Frame}
 use Rattle.xpath_grammar.specs.declared.machine.Frame.TheVariants.{Open}
 use Rattle.xpath_grammar.specs.declared.machine.Mode.{Mode}
+use Rattle.xpath_grammar.specs.declared.operators.Binder.{Binder}
 use Rattle.xpath_grammar.specs.declared.expr.Form.{Form}
 use Rattle.xpath_grammar.specs.declared.expr.Form.TheVariants as o
 use Rattle.xpath_grammar.specs.declared.expr.Label.{Label}
@@ -38,6 +39,16 @@ Pushes (Err fault) frame before after = fault ≡ f.Memory
 -- what was open, with the value as its last part
 abbrev pub node_of : Frame Parts → Value → Value
 node_of (Open form parts label) v = node_value form (and_then parts label v)
+
+-- what the value leaves that ends a binding, what is in parentheses, and the condition of an `if`
+abbrev pub bound : Binder → Parts → Label → Value → Mode Value Parts
+bound binder parts label v = d.Bind binder None (and_then parts label v)
+
+abbrev pub parenthesized : Form → Parts → Label → Value → Mode Value Parts
+parenthesized form parts label v = d.Have (node_value form (and_then parts label v))
+
+abbrev pub decided : Parts → Label → Value → Mode Value Parts
+decided parts label v = d.Decided (and_then parts label v)
 
 -- Where memory sufficed, the call leaves the value and the stack.
 abbrev pub Closes : Result Value SyntaxFault → Stack → Value × Stack → Type 0

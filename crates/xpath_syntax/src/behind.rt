@@ -1,6 +1,7 @@
 //! What a token does behind a whole expression.
 
-ghost use Rattle.std.specs.Prelude.{◌≡◌, Some};
+ghost use Rattle.std.specs.Prelude.{◌≡◌, ◌∷◌, Some};
+ghost use Rattle.xpath_grammar.specs.declared.expr.Label.TheVariants as commas;
 ghost use Rattle.xpath_grammar.specs.Machine as machine;
 ghost use Rattle.xpath_syntax.specs.Values.{values, Makes};
 ghost use Rattle.xpath_syntax.specs.Stacks as spec;
@@ -146,6 +147,32 @@ fn binder_in(form: &Form, label: &Label) -> Option<Binder>
     }
 }
 
+/// The variables so far, the last of which has the value.
+fn bound(
+    binder: Binder,
+    parts: Parts,
+    label: Label,
+    value: Value,
+) -> Result<Mode<Value, Parts>, SyntaxFault>
+    ensures { Makes result (spec.bound binder parts label value) }
+{
+    let parts = parts.and_then(label, value)?;
+    Ok(Mode::Bind(binder, None, parts))
+}
+
+/// A comma stands behind a part of what is open, or between the operands of a sequence.
+fn comma_behind(
+    alloc: Global,
+    frame: Frame<Parts>,
+    value: Value,
+    stack: &mut Stack,
+) -> Result<Mode<Value, Parts>, SyntaxFault>
+    ensures { spec.Gives result stack.new (machine.link values commas.Comma value (frame ∷ stack.old)) }
+{
+    stack.push(frame)?;
+    link(alloc, Label::Comma, value, stack)
+}
+
 fn comma_met(
     alloc: Global,
     value: Value,
@@ -156,14 +183,8 @@ fn comma_met(
     match stack.pop() {
         None => link(alloc, Label::Comma, value, stack),
         Some(Frame::Open(form, parts, label)) => match binder_in(&form, &label) {
-            Some(binder) => {
-                let parts = parts.and_then(label, value)?;
-                Ok(Mode::Bind(binder, None, parts))
-            }
-            None => {
-                stack.push(Frame::Open(form, parts, label))?;
-                link(alloc, Label::Comma, value, stack)
-            }
+            Some(binder) => bound(binder, parts, label, value),
+            None => comma_behind(alloc, Frame::Open(form, parts, label), value, stack),
         },
     }
 }
@@ -184,6 +205,27 @@ fn in_condition(form: &Form, label: &Label) -> bool
     }
 }
 
+/// What the parenthesis closes, with the value as its last part.
+fn parenthesized(
+    form: Form,
+    parts: Parts,
+    label: Label,
+    value: Value,
+) -> Result<Mode<Value, Parts>, SyntaxFault>
+    ensures { Makes result (spec.parenthesized form parts label value) }
+{
+    let parts = parts.and_then(label, value)?;
+    Ok(Mode::Have(parts.node(form)))
+}
+
+/// The condition of an `if`, which the parenthesis closes.
+fn decided(parts: Parts, label: Label, value: Value) -> Result<Mode<Value, Parts>, SyntaxFault>
+    ensures { Makes result (spec.decided parts label value) }
+{
+    let parts = parts.and_then(label, value)?;
+    Ok(Mode::Decided(parts))
+}
+
 fn parenthesis_met(value: Value, stack: &mut Stack) -> Result<Mode<Value, Parts>, SyntaxFault>
     ensures { spec.Gives result stack.new (machine.parenthesis_met values value stack.old) }
 {
@@ -191,11 +233,9 @@ fn parenthesis_met(value: Value, stack: &mut Stack) -> Result<Mode<Value, Parts>
         None => Err(SyntaxFault::Syntax),
         Some(Frame::Open(form, parts, label)) => {
             if is_parenthesized(&form) {
-                let parts = parts.and_then(label, value)?;
-                Ok(Mode::Have(parts.node(form)))
+                parenthesized(form, parts, label, value)
             } else if in_condition(&form, &label) {
-                let parts = parts.and_then(label, value)?;
-                Ok(Mode::Decided(parts))
+                decided(parts, label, value)
             } else {
                 Err(SyntaxFault::Syntax)
             }

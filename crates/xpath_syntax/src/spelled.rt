@@ -35,13 +35,14 @@ fn expression_of(value: Value) -> Result<Expr, SyntaxFault>
 }
 
 fn pattern_of(value: Value) -> Result<Pattern, SyntaxFault>
+    requires { spec.IsOfItsKind value }
     ensures { result ≡ spec.pattern_of value }
 {
     if matches!(value.kind, PatternKind::Other) {
         return Err(SyntaxFault::Syntax);
     }
     match expression_of(value) {
-        Ok(expression) => Ok(Pattern { expression }),
+        Ok(expression) => Ok(Pattern::new(expression)),
         Err(fault) => Err(fault),
     }
 }

@@ -5,6 +5,7 @@ pub mod CommentLaws
 pub mod Walks
 pub mod WordsLaws
 pub mod NumberLaws
+pub mod TextLemmas
 pub mod JudgingLaws
 pub mod AnswerLaws
 pub mod TableLaws

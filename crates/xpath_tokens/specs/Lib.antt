@@ -1,3 +1,4 @@
+pub mod Numbers
 pub mod Longest
 pub mod Words
 pub mod Tokens

@@ -8,6 +8,7 @@ mod numbers;
 mod pieces;
 mod scanning;
 mod spelled;
+pub mod texts;
 pub mod token;
 mod words;
 

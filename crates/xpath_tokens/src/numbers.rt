@@ -1,4 +1,4 @@
-ghost use Rattle.std.specs.Prelude.{◌≡◌, ◌≤◌, ◌<◌, ◌-◌, ◌^◌, length, replicate, ◌++◌};
+ghost use Rattle.std.specs.Prelude.{◌≡◌, ◌≤◌, ◌<◌, ◌-◌, ◌^◌, length, replicate, ◌++◌, IfSome};
 ghost use Rattle.xpath_tokens.specs.Tokens as spec;
 
 use crate::pieces::split;
@@ -25,6 +25,7 @@ fn digit_of(c: char) -> u64
 /// The value of the digits, where it is below the limit.
 fn value_of(digits: &[char]) -> Option<u64>
     ensures exact { result ≡ spec.below_limit (spec.value_of 0 digits.now) }
+    ensures within { IfSome result (λ value. value < 10 ^ 18) }
 {
     let mut value: u64 = 0;
     'digits: for (i, c) in digits.iter().enumerate() {
@@ -40,6 +41,7 @@ fn value_of(digits: &[char]) -> Option<u64>
 fn with_zeros(value: u64, zeros: usize) -> Option<u64>
     requires { value < 10 ^ 18 }
     ensures exact { result ≡ spec.below_limit (spec.value_of value (replicate zeros 48)) }
+    ensures within { IfSome result (λ filled. filled < 10 ^ 18) }
 {
     let mut filled = value;
     'zeros: for i in 0..zeros {
@@ -55,6 +57,7 @@ fn with_zeros(value: u64, zeros: usize) -> Option<u64>
 fn fraction_of(digits: &[char]) -> Option<u64>
     requires { length digits.now ≤ 18 }
     ensures exact { result ≡ spec.below_limit (spec.value_of 0 (digits.now ++ replicate (18 - length digits.now) 48)) }
+    ensures within { IfSome result (λ value. value < 10 ^ 18) }
 {
     match value_of(digits) {
         Some(value) => with_zeros(value, FRACTION_DIGITS - digits.len()),
@@ -72,5 +75,5 @@ pub fn number_of(word: &[char]) -> Option<Number>
     }
     let whole = value_of(whole)?;
     let fraction = fraction_of(fraction)?;
-    Some(Number { whole, fraction })
+    Some(Number::new(whole, fraction))
 }

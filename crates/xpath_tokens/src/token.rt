@@ -1,8 +1,9 @@
-ghost use Rattle.std.specs.Prelude.{◌≡◌};
+ghost use Rattle.std.specs.Prelude.{◌≡◌, ◌<◌, ◌^◌};
 ghost use Rattle.xpath_tokens.specs.declared.token.SyntaxFault.TheVariants.{Memory};
 
 use inv_base::Txt;
 use std::alloc::{AllocError, AllocFailed};
+use std::marker::Model;
 
 /// A sign or a word between operands, before one, or behind one. Spellings of one meaning stay apart.
 #[derive(Clone, Copy, Debug)]
@@ -76,12 +77,51 @@ pub enum Name {
     AnyPrefix(Txt),
 }
 
-/// A number below 10^18, exactly.
+/// A number below 10^18, exactly. Both of its halves are below 10^18.
 #[derive(Clone, Copy, Debug)]
 pub struct Number {
-    pub whole: u64,
-    /// How many times 10^-18 there is beside the whole, below 10^18.
-    pub fraction: u64,
+    whole: u64,
+    fraction: u64,
+}
+
+impl Model for Number {
+    ghost use Rattle.std.specs.Prelude.{◌<◌, ◌^◌};
+    ghost use Rattle.xpath_tokens.specs.Numbers.{Amount};
+
+    ghost Value = { Amount };
+
+    ghost view = { λ number. record { whole = number.whole; fraction = number.fraction } };
+
+    ghost inverse = { λ amount. record { whole = amount.whole; fraction = amount.fraction } };
+
+    ghost invariant = { λ number. (number.whole < 10 ^ 18) × (number.fraction < 10 ^ 18) };
+}
+
+impl Number {
+    /// The number with these halves.
+    pub fn new(whole: u64, fraction: u64) -> Number
+        requires whole { whole < 10 ^ 18 }
+        requires fraction { fraction < 10 ^ 18 }
+        ensures { result ≡ record { whole = whole; fraction = fraction } }
+    {
+        Number { whole, fraction }
+    }
+
+    /// What stands before the point.
+    pub fn whole(self) -> u64
+        ensures exact { result ≡ self.whole }
+        ensures within { result < 10 ^ 18 }
+    {
+        self.whole
+    }
+
+    /// How many times 10^-18 there is beside the whole.
+    pub fn fraction(self) -> u64
+        ensures exact { result ≡ self.fraction }
+        ensures within { result < 10 ^ 18 }
+    {
+        self.fraction
+    }
 }
 
 /// A token of the subset of XPath 2.0. What the grammar can tell apart is apart here.

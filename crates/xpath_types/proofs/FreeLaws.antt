@@ -14,7 +14,8 @@ use Rattle.xpath_types.specs.declared.variables.Reading.{Reading}
 use Rattle.xpath_types.specs.Scopes.{written_name}
 use Rattle.xpath_types.specs.Judging.{variables_behind}
 use Rattle.xpath_types.specs.Parts.{bound_behind, has_free, parts_have_free}
-use Rattle.xpath_types.specs.Walking.{innermost, height_of, lower, reads_within, leaf_lowest}
+use Rattle.xpath_types.specs.Variables.{innermost}
+use Rattle.xpath_types.specs.Walking.{height_of, lower, reads_within, leaf_lowest}
 
 -- how high the innermost variable of the name stands, 0 where there is none
 abbrev height_or : Bool → ℕ → ℕ → ℕ

@@ -10,7 +10,8 @@ use Rattle.xpath_types.specs.Scopes.{Declared, declares, written_name}
 use Rattle.xpath_types.specs.Refusals.{first_of}
 use Rattle.xpath_types.specs.Judging.{is_empty, standing_at, unless, prefix_refusals, variable_kinds, kinds_or_all}
 use Rattle.xpath_types.specs.Parts.{no_uses}
-use Rattle.xpath_types.specs.Walking.{innermost, height_of, facts_of, variable_facts, variable_refusals_in}
+use Rattle.xpath_types.specs.Variables.{innermost}
+use Rattle.xpath_types.specs.Walking.{height_of, facts_of, variable_facts, variable_refusals_in}
 use Rattle.xpath_types.proofs.RefusalLemmas.{first-standing, not-empty-append}
 use Rattle.xpath_types.proofs.VariableLemmas.{kinds-read, kinds-outside, kinds-declared}
 

@@ -1,6 +1,7 @@
 pub mod TextLemmas
 pub mod FunctionLemmas
 pub mod ScopeLemmas
+pub mod HeightLemmas
 pub mod VariableLemmas
 pub mod RefusalLemmas
 pub mod LeafLemmas

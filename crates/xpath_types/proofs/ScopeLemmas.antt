@@ -1,14 +1,14 @@
 -- Prefixes and names of variables, kept as texts, as the lists that contracts see.
-use Rattle.std.proofs.Common.{◌≡◌, ℕ, Bool, true, false, ◌||◌, List, [], ◌∷◌, ◌++◌, Option, Some, None, map, option_map, refl, sym, ap, ◌∙◌, String, string_bytes, if◌then◌else◌, is_some, true≢false}
+use Rattle.std.proofs.Common.{◌≡◌, ℕ, Bool, true, false, ◌||◌, List, [], ◌∷◌, ◌++◌, Option, Some, None, map, option_map, refl, sym, ap, ◌∙◌, String, string_bytes, if◌then◌else◌, is_some, true≢false, take}
 use Rattle.std.specs.Global.{Global}
 use Rattle.std.specs.Map.{lookup}
 use Rattle.std.specs.Str.{chars, bytes_eq, IsUtf8}
 use Rattle.std.specs.List.{list_any}
 use Rattle.std.proofs.lemmas.Str.{IsUtf8-string_bytes}
-use Rattle.std.proofs.lemmas.List.{map-append}
+use Rattle.std.proofs.lemmas.List.{map-append, take-map}
 use Rattle.indexmap.specs.IndexMap.{insert_entry}
 use Rattle.xpath_types.specs.Scopes.{Declared, functions_uri, types_uri, first_uri, uri_of, with_prefix, with_variable, declares, bindings_of, declared_by}
-use Rattle.xpath_types.proofs.TextLemmas.{same_text}
+use Rattle.xpath_tokens.proofs.TextLemmas.{same_text}
 
 abbrev Entries : Type 0
 Entries = List (String Global × String Global)
@@ -123,3 +123,8 @@ prefix-kept prefix uri declared e = ap (λ b. if b then declared else record dec
 pub is_some-map : {X Y : Type 0} (f : X → Y) (o : Option X) → is_some (option_map f o) ≡ is_some o
 is_some-map f None = refl
 is_some-map f (Some x) = refl
+
+pub variables-cut : (n : ℕ) (entries : Entries) (keys fewer : List (String Global)) (declared : Declared) → declared_by entries keys ≡ declared → fewer ≡ take n keys
+    → declared_by entries fewer ≡ record declared { variables = take n declared.variables }
+variables-cut n entries keys fewer declared view cut = ap (declared_by entries) cut ∙ (ap (λ variables. record { prefixes = bindings_of entries; variables = variables }) (sym (take-map text_of n keys))
+    ∙ ap (λ (declared : Declared). record declared { variables = take n declared.variables }) view)

@@ -31,7 +31,7 @@ Bound = List (List ℕ × Kinds)
 
 -- What the walk leaves of an expression, and of parts of one behind those so far
 
-abbrev told_facts : Declared → Kinds → Bound → ℕ → Tree → Facts
+abbrev pub told_facts : Declared → Kinds → Bound → ℕ → Tree → Facts
 told_facts declared focus bound token x = record {
   kinds = (judged (environment declared focus bound) token x).kinds;
   refused = not (is_empty (judged (environment declared focus bound) token x).refusals);
@@ -39,7 +39,7 @@ told_facts declared focus bound token x = record {
   lowest = lowest (names_of bound) x;
 }
 
-abbrev told : Declared → Kinds → Bound → ℕ → Seen → Tree → Walked × Seen
+abbrev pub told : Declared → Kinds → Bound → ℕ → Seen → Tree → Walked × Seen
 told declared focus bound token s x = (
   record { facts = told_facts declared focus bound token x; end = token + length (g.written x) },
   record {
@@ -94,6 +94,7 @@ part-told : (declared : Declared) (focus : Kinds) (bound : Bound) (token : ℕ) 
 part-told declared focus bound token x = ap (λ free. record {
   kinds = (judged (environment declared focus bound) token x).kinds;
   uses_focus = uses_any (uses declared x);
+  uses_position = (uses declared x).position;
   depends_on_document_alone = not free && is_document_alone focus (uses declared x);
 }) (sym (free-within bound x))
 

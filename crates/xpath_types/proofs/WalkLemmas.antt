@@ -1,27 +1,20 @@
 -- One step of the walk over the parts of an expression.
-use Rattle.std.proofs.Common.{◌≡◌, ℕ, ◌+◌, ◌<◌, ◌≤◌, ◌-◌, ◌==◌, Bool, true, false, List, [], ◌∷◌, length, get_or, map, take, drop, refl, sym, ap, ◌∙◌, arith}
-use Rattle.std.proofs.lemmas.List.{drop_more, at_drop_all, length-take, length-drop, take-take}
+use Rattle.std.proofs.Common.{◌≡◌, ℕ, ◌+◌, ◌<◌, ◌≤◌, ◌-◌, ◌==◌, Bool, true, false, List, [], ◌∷◌, length, get_or, map, drop, refl, sym, ap, ◌∙◌, arith}
+use Rattle.std.proofs.lemmas.List.{drop_more, at_drop_all, length-drop}
 use Rattle.std.proofs.lemmas.Bool.Decides.{nat_tests}
 use Rattle.std.proofs.Math.Dec.{eqb-suc-zero}
 use Rattle.xpath_grammar.specs.Grammar as g
 use Rattle.xpath_grammar.specs.Grammar.{Tree, Parts}
-use Rattle.xpath_grammar.specs.View.{view, view_step, parts_of}
-use Rattle.xpath_grammar.specs.declared.expr.Leaf.{Leaf}
-use Rattle.xpath_grammar.specs.declared.expr.Expr.{Expr, Expr-F, fold-roll-Expr}
-use Rattle.xpath_grammar.specs.declared.expr.Expr.TheVariants as e
+use Rattle.xpath_grammar.specs.View.{view, viewed}
+use Rattle.xpath_grammar.specs.declared.expr.Expr.{Expr}
 use Rattle.xpath_grammar.specs.declared.expr.Form.{Form}
 use Rattle.xpath_grammar.specs.declared.expr.Label.{Label}
 use Rattle.xpath_types.specs.declared.kinds.Kinds.{Kinds}
 use Rattle.xpath_types.specs.declared.part.Part.{Part}
-use Rattle.xpath_types.specs.declared.variables.Variable.{Variable}
 use Rattle.xpath_types.specs.declared.walk.Walked.{Walked}
 use Rattle.xpath_types.specs.Scopes.{Declared}
 use Rattle.xpath_types.specs.Judging.{labels, focus_inside, focus_behind, variables_behind, is_last}
 use Rattle.xpath_types.specs.Walking.{Seen, walked, walked_parts, part_ended, seen_ended, node_begun, seen_begun, node_ended}
-
--- the parts of a list
-abbrev pub viewed : List (Label × Expr) → Parts
-viewed items = parts_of (map (λ part. (part.0, view part.1)) items)
 
 pub labels-viewed : (items : List (Label × Expr)) → labels (viewed items) ≡ map (λ part. part.0) items
 labels-viewed [] = refl
@@ -78,29 +71,12 @@ module _ (declared : Declared) (form : Form) (items : List (Label × Expr)) (i :
         ap (walked_parts declared form inner bound (i == 0) so_far s) here
         ∙ (λ j. walked_parts declared form (focus j) (variables j) (first_after j) (ended j) (seen j) (viewed (drop (i + 1) items)))
 
--- a stack that only grows
-module _ (h : ℕ) (old new initial : List Variable) (kept : take (length old) new ≡ old) (high : h ≤ length old) where
-  longer : length old ≤ length new
-  longer = let e : length (take (length old) new) ≡ length old = ap length kept in omega (arith, length-take (length old) new)
-
-  pub still-high : h ≤ length new
-  still-high = omega (arith, longer)
-
-  pub still : take h old ≡ initial → take h new ≡ initial
-  still e = sym (take-take h (length old) new high) ∙ (ap (take h) kept ∙ e)
-
 -- what a turn of the loop keeps
-pub record Goes (rest whole : Walked × Seen) (height index : ℕ) (outer variables : List Variable) (begun parts : List Part) : Type 0 where
+pub record Goes (rest whole : Walked × Seen) (height index : ℕ) (outer variables : List (List ℕ × Kinds)) (begun parts : List Part) : Type 0 where
   pub same : rest ≡ whole
-  pub kept : take height variables ≡ outer
+  pub kept : drop (length variables - height) variables ≡ outer
   pub high : height ≤ length variables
   pub longer : length begun ≤ length parts
-
-pub view-leaf : (x : Leaf) → view (e.Leaf x) ≡ g.leaf x
-view-leaf x = ap view (sym (e.rolls-Leaf x)) ∙ fold-roll-Expr Tree view_step (Expr-F.Leaf x)
-
-pub view-node : (form : Form) (items : List (Label × Expr)) → view (e.Node form items) ≡ g.node form (viewed items)
-view-node form items = ap view (sym (e.rolls-Node form items)) ∙ fold-roll-Expr Tree view_step (Expr-F.Node form items)
 
 nothing_left : (items : List (Label × Expr)) (i : ℕ) → length items ≤ i → viewed (drop i items) ≡ g.none
 nothing_left items i h = at_drop_all viewed items i h

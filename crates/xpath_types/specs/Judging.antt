@@ -28,7 +28,8 @@ use Rattle.xpath_types.specs.declared.functions.Resolved.TheVariants as n
 use Rattle.xpath_types.specs.declared.refusals.Refusal.{Refusal}
 use Rattle.xpath_types.specs.Kinds.{Kinds, no_kinds, all_kinds, nodes, booleans, numbers, strings, united, all_united, has_no_node, has_no_number}
 use Rattle.xpath_types.specs.Scopes.{Declared, uri_of, prefix_of, written_name}
-use Rattle.xpath_types.specs.Functions.{function_called, type_named, takes, value_kinds}
+use Rattle.xpath_grammar.specs.Functions.{takes}
+use Rattle.xpath_types.specs.Functions.{function_called, type_named, value_kinds}
 
 -- What an expression is judged in: the kinds of the focus, the variables in scope with the kinds of their values, the innermost
 -- first, and what is declared.

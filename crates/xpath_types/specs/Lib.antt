@@ -5,4 +5,6 @@ pub mod Refusals
 pub mod Judging
 pub mod Parts
 pub mod Typing
+pub mod Heights
+pub mod Variables
 pub mod Walking

@@ -122,5 +122,6 @@ facts at = let used : Uses = uses at.environment.declared at.part in
     record {
       kinds = (judged at.environment at.token at.part).kinds;
       uses_focus = uses_any used;
+      uses_position = used.position;
       depends_on_document_alone = not (has_free [] at.part) && is_document_alone at.environment.focus used;
     }

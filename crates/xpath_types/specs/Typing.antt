@@ -31,6 +31,11 @@ unfoldable pub typing_of : Declared → Tree → Result Typing Refusal
 typing_of declared x = answer (first_of None (judged (outermost declared) 0 x).refusals)
     (record { expression = x; declared = declared; parts = map facts (placed (outermost declared) 0 x) })
 
+-- The parts are those of the expression, and nothing is refused in it.
+pub record AreStated (declared : Declared) (x : Tree) (parts : List Part) : Type 0 where
+  pub parts_are : parts ≡ map facts (placed (outermost declared) 0 x)
+  pub unrefused : first_of None (judged (outermost declared) 0 x).refusals ≡ None
+
 -- The call refused the expression so, unless memory ran out.
 abbrev pub Refuses : TypeFault → Result Typing Refusal → Type 0
 Refuses fault answer = elim fault as (λ _. Type 0) [ f.Memory ↦ Unit {0} | (f.Refused kind token) ↦ answer ≡ Err (record { token = token; kind = kind }) ]

@@ -1,7 +1,6 @@
 -- How an expression is judged by going through it once, from its first token to its last. proofs/ has the law that this leaves
 -- what Judging and Parts say.
-use Rattle.std.specs.Prelude.{ℕ, Bool, true, false, ◌+◌, ◌&&◌, ◌||◌, not, List, [], ◌∷◌, ◌++◌, Option, Some, None, length, map, nat_le, min, chars, string_bytes, if◌then◌else◌, slice_set}
-use Rattle.std.specs.Str.{bytes_eq}
+use Rattle.std.specs.Prelude.{ℕ, Bool, true, false, ◌+◌, ◌&&◌, ◌||◌, not, List, [], ◌∷◌, ◌++◌, Option, Some, None, length, map, nat_le, min, if◌then◌else◌, slice_set}
 use Rattle.xpath_tokens.specs.declared.token.Name.{Name}
 use Rattle.xpath_grammar.specs.declared.operators.Production.{Production}
 use Rattle.xpath_grammar.specs.declared.operators.Production.TheVariants as p
@@ -20,31 +19,18 @@ use Rattle.xpath_types.specs.declared.facts.Facts.{Facts}
 use Rattle.xpath_types.specs.declared.part.Part.{Part}
 use Rattle.xpath_types.specs.declared.refusals.Refusal.{Refusal}
 use Rattle.xpath_types.specs.declared.uses.Uses.{Uses}
-use Rattle.xpath_types.specs.declared.variables.Variable.{Variable}
 use Rattle.xpath_types.specs.declared.variables.Reading.{Reading}
 use Rattle.xpath_types.specs.declared.walk.State.{State}
 use Rattle.xpath_types.specs.declared.walk.Walked.{Walked}
 use Rattle.xpath_types.specs.Kinds.{Kinds, no_kinds, all_kinds, nodes, booleans, numbers, united}
 use Rattle.xpath_types.specs.Scopes.{Declared, written_name}
 use Rattle.xpath_types.specs.Functions.{function_called, type_named}
+use Rattle.xpath_types.specs.Variables.{innermost}
 use Rattle.xpath_types.specs.Refusals.{first_of}
 use Rattle.xpath_types.specs.Judging.{Environment, is_empty, standing_at, leaf_kinds, leaf_refusals, call_refusals, cast_kinds, labels, variables_behind, form_refusals, focus_inside, focus_behind, operand_refusals, is_sure_error, is_last, called_kinds}
 use Rattle.xpath_types.specs.Parts.{no_uses, joined, leaf_uses, has_outer_focus, begins_at_root, uses_any, is_document_alone}
 
--- Variables on a stack
-
-abbrev pub seen_variable : Variable → List ℕ × Kinds
-seen_variable variable = (chars (string_bytes variable.name), variable.kinds)
-
--- the variables of a stack within others, the innermost first
-abbrev pub stacked : List (List ℕ × Kinds) → List Variable → List (List ℕ × Kinds)
-stacked outer [] = outer
-stacked outer (variable ∷ more) = stacked (seen_variable variable ∷ outer) more
-
--- the innermost variable of the name: how high it stands, and its kinds
-abbrev pub innermost : List ℕ → List (List ℕ × Kinds) → Option Reading
-innermost name [] = None
-innermost name (variable ∷ outer) = elim (bytes_eq name variable.0) [ true ↦ Some (record { height = 1 + length outer; kinds = variable.1 }) | false ↦ innermost name outer ]
+-- Variables
 
 -- how high the variable stands that the name reads, 0 for one outside
 abbrev pub height_of : Option Reading → ℕ
@@ -107,6 +93,7 @@ abbrev pub part_of : Facts → Kinds → ℕ → Part
 part_of facts focus height = record {
   kinds = facts.kinds;
   uses_focus = uses_any facts.uses;
+  uses_position = facts.uses.position;
   depends_on_document_alone = not (reads_within height facts.lowest) && is_document_alone focus facts.uses;
 }
 
@@ -131,7 +118,7 @@ seen state = record { parts = state.parts.items; first = state.first }
 
 -- stands for a part until the parts in it are known
 abbrev pub unknown : Part
-unknown = record { kinds = no_kinds; uses_focus = false; depends_on_document_alone = false }
+unknown = record { kinds = no_kinds; uses_focus = false; uses_position = false; depends_on_document_alone = false }
 
 abbrev pub leaf_walked : Declared → Kinds → List (List ℕ × Kinds) → ℕ → Seen → Leaf → Walked × Seen
 leaf_walked declared focus bound token s x = (

@@ -36,6 +36,7 @@ impl Facts {
         Part {
             kinds: self.kinds,
             uses_focus: self.uses.is_any(),
+            uses_position: self.uses.position,
             depends_on_document_alone: !reads_within(height, self.lowest)
                 & self.uses.is_document_alone(focus),
         }

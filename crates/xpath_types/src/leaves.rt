@@ -1,5 +1,5 @@
 //! Expressions without parts.
-ghost use Rattle.std.specs.Prelude.{◌≡◌, [], not, IfOk, OnOk, length};
+ghost use Rattle.std.specs.Prelude.{◌≡◌, not, IfOk, OnOk, length};
 ghost use Rattle.xpath_grammar.specs.Grammar.{leaf_tokens, axis_tokens, test_tokens};
 ghost use Rattle.xpath_types.specs.Refusals.{first_of};
 ghost use Rattle.xpath_types.specs.Judging.{standing_at, leaf_refusals, test_refusals, is_empty};
@@ -15,7 +15,7 @@ use crate::refusals::{Refusal, refuse_unless};
 use crate::resolving::{function_called, refuse_call, refuse_prefix};
 use crate::scope::Scope;
 use crate::uses::{ITEM_USED, NO_USES, ROOT_USED, called_uses};
-use crate::variables::{Variable, innermost};
+use crate::variables::Variables;
 use std::alloc::{AllocError, Global};
 use xpath_grammar::expr::Leaf;
 use xpath_grammar::step::{AxisForm, Test};
@@ -57,14 +57,14 @@ fn test_length(test: &Test) -> usize
 pub(crate) fn judge_leaf(
     alloc: Global,
     scope: &Scope,
-    variables: &[Variable],
+    variables: &Variables,
     first: &mut Option<Refusal>,
     focus: Kinds,
     token: u32,
     leaf: &Leaf,
 ) -> Result<Facts, AllocError>
-    ensures facts { IfOk result (λ facts. facts ≡ spec.leaf_facts scope.now (spec.stacked [] variables.now) focus leaf.now) }
-    ensures first { OnOk result (first.new ≡ first_of first.old (standing_at token (leaf_refusals (spec.environment scope.now focus (spec.stacked [] variables.now)) leaf.now))) }
+    ensures facts { IfOk result (λ facts. facts ≡ spec.leaf_facts scope.now variables.now focus leaf.now) }
+    ensures first { OnOk result (first.new ≡ first_of first.old (standing_at token (leaf_refusals (spec.environment scope.now focus variables.now) leaf.now))) }
 {
     match leaf {
         Leaf::Literal(_) => Ok(Facts::of(STRINGS, false, NO_USES, None)),
@@ -85,17 +85,17 @@ pub(crate) fn judge_leaf(
 fn judge_variable(
     alloc: Global,
     scope: &Scope,
-    variables: &[Variable],
+    variables: &Variables,
     first: &mut Option<Refusal>,
     token: u32,
     name: &Name,
 ) -> Result<Facts, AllocError>
-    ensures facts { IfOk result (λ facts. facts ≡ spec.variable_facts scope.now (spec.stacked [] variables.now) name.now) }
-    ensures first { OnOk result (first.new ≡ first_of first.old (standing_at token (spec.variable_refusals_in scope.now (spec.stacked [] variables.now) name.now))) }
+    ensures facts { IfOk result (λ facts. facts ≡ spec.variable_facts scope.now variables.now name.now) }
+    ensures first { OnOk result (first.new ≡ first_of first.old (standing_at token (spec.variable_refusals_in scope.now variables.now name.now))) }
 {
     let unbound = refuse_prefix(first, token, scope, name);
     let name = written(alloc, name)?;
-    match innermost(variables, name.as_str()) {
+    match variables.reading(name.as_str()) {
         Some(reading) => Ok(Facts::of(reading.kinds, unbound, NO_USES, Some(reading.height))),
         None => {
             let is_declared = scope.declares(name.as_str());

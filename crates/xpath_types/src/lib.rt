@@ -4,12 +4,13 @@
 
 mod facts;
 mod fault;
+mod forms;
 mod functions;
+pub mod heights;
 mod kinds;
 pub mod laws;
 mod leaves;
 mod names;
-mod nodes;
 mod part;
 mod refusals;
 mod resolving;
@@ -22,7 +23,8 @@ mod walk;
 pub use fault::{TypeFault, TypeKind};
 pub use functions::Resolved;
 pub use kinds::Kinds;
+pub use names::{local, prefix, written};
 pub use part::Part;
-pub use resolving::{function_called, type_named};
+pub use resolving::{function_called, namespace, type_named};
 pub use scope::Scope;
 pub use typed::{Typed, check, check_pattern};

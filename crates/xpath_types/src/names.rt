@@ -1,20 +1,12 @@
 //! The parts of names.
 ghost use Rattle.std.specs.Prelude.{◌≡◌, chars, option_map, IfOk, string_bytes};
-ghost use Rattle.std.specs.Str.{bytes_eq};
 ghost use Rattle.xpath_types.specs.Scopes as spec;
 
 use std::alloc::{AllocError, Global};
 use xpath_tokens::token::Name;
 
-/// Whether two texts have the same characters.
-pub(crate) fn is_text(a: &str, b: &str) -> bool
-    ensures { result ≡ bytes_eq (chars a.now) (chars b.now) }
-{
-    a == b
-}
-
 /// The prefix that has to be bound.
-pub(crate) fn prefix(name: &Name) -> Option<&str>
+pub fn prefix(name: &Name) -> Option<&str>
     ensures { option_map (λ prefix. chars prefix.now) result ≡ spec.prefix_of name.now }
 {
     match name {
@@ -24,7 +16,7 @@ pub(crate) fn prefix(name: &Name) -> Option<&str>
 }
 
 /// What stands behind the prefix.
-pub(crate) fn local(name: &Name) -> &str
+pub fn local(name: &Name) -> &str
     ensures { chars result.now ≡ spec.local_of name.now }
 {
     match name {
@@ -34,7 +26,7 @@ pub(crate) fn local(name: &Name) -> &str
 }
 
 /// The name as it is written.
-pub(crate) fn written(alloc: Global, name: &Name) -> Result<String, AllocError>
+pub fn written(alloc: Global, name: &Name) -> Result<String, AllocError>
     ensures { IfOk result (λ text. chars (string_bytes text) ≡ spec.written_name name.now) }
 {
     match name {

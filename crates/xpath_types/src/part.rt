@@ -10,6 +10,9 @@ pub struct Part {
     /// Whether its value may depend on the focus that it is evaluated at: the item, its position or
     /// the last position.
     pub uses_focus: bool,
+    /// Whether its value may depend on the position in the focus or the last position, by
+    /// `position()` or `last()`.
+    pub uses_position: bool,
     /// Whether its value depends on the document alone: on no variable from outside, and on no
     /// focus but for its document.
     pub depends_on_document_alone: bool,

@@ -6,15 +6,15 @@ ghost use Rattle.xpath_types.specs.Refusals.{first_of};
 ghost use Rattle.xpath_types.specs.Judging as spec;
 
 use crate::fault::TypeKind;
-use crate::functions::{FUNCTIONS_URI, Resolved, function_in, takes, type_in};
+use crate::functions::{FUNCTIONS_URI, Resolved, function_in, type_in};
 use crate::names::{local, prefix};
 use crate::refusals::{Refusal, refuse_unless};
 use crate::scope::Scope;
-use xpath_grammar::functions::Function;
+use xpath_grammar::functions::{Function, takes};
 use xpath_tokens::token::Name;
 
 /// The namespace of a name, where a name without prefix is in the default one.
-fn namespace<'a>(scope: &'a Scope, default: &'a str, name: &Name) -> Option<&'a str>
+pub fn namespace<'a>(scope: &'a Scope, default: &'a str, name: &Name) -> Option<&'a str>
     ensures { option_map (λ uri. chars uri.now) result ≡ namespace_of scope.now (chars default.now) name.now }
 {
     match prefix(name) {

@@ -1,11 +1,11 @@
-ghost use Rattle.std.specs.Prelude.{◌≡◌, [], chars, option_map, OnOk, OnErr};
+ghost use Rattle.std.specs.Prelude.{◌≡◌, [], chars, option_map, OnOk, OnErr, length, take};
 ghost use Rattle.xpath_types.specs.Scopes as spec;
 
 use crate::functions::{FUNCTIONS_URI, TYPES_URI};
-use crate::names::is_text;
 use indexmap::{IndexMap, IndexSet};
 use std::alloc::{AllocError, Global};
 use std::marker::Model;
+use xpath_tokens::texts::is_text;
 
 /// What is declared outside an expression: prefixes with the namespaces that they are bound to, and
 /// names of variables. The prefixes `fn` and `xs` are always bound.
@@ -57,6 +57,20 @@ impl Scope {
     {
         self.variables.insert(String::from_str(alloc, name)?)?;
         Ok(())
+    }
+
+    /// How many variables are declared.
+    pub fn count(&self) -> usize
+        ensures { result ≡ length self.now.variables }
+    {
+        self.variables.len()
+    }
+
+    /// Takes back all variables but the first so many, as it was when it had so many.
+    pub fn truncate(&mut self, count: usize)
+        ensures { self.new ≡ record self.old { variables = take count self.old.variables } }
+    {
+        self.variables.truncate(count);
     }
 
     /// The namespace that the prefix is bound to.

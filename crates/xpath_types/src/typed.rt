@@ -1,4 +1,4 @@
-ghost use Rattle.std.specs.Prelude.{◌≡◌, option_copied, slice_get};
+ghost use Rattle.std.specs.Prelude.{◌≡◌, Ok, option_copied, slice_get};
 ghost use Rattle.xpath_grammar.specs.View.{view};
 ghost use Rattle.xpath_types.specs.Typing as spec;
 
@@ -6,6 +6,7 @@ use crate::fault::TypeFault;
 use crate::kinds::NODES;
 use crate::part::Part;
 use crate::scope::Scope;
+use crate::variables::Variables;
 use crate::walk::{State, walk};
 use std::alloc::Global;
 use std::marker::Model;
@@ -30,6 +31,11 @@ impl<'e> Model for Typed<'e> {
     ghost coded = { Prim.hlevel (codes, expr.the_row.coded) };
 
     ghost view = { λ typed. record { expression = typed.expression.now; declared = typed.scope.now; parts = typed.parts.items } };
+
+    ghost use Rattle.xpath_types.specs.Typing.{AreStated};
+    ghost use Rattle.xpath_grammar.specs.View as trees;
+
+    ghost invariant = { λ typed. AreStated typed.scope.now (trees.view typed.expression.now) typed.parts.items };
 }
 
 impl<'e> Typed<'e> {
@@ -46,6 +52,14 @@ impl<'e> Typed<'e> {
         ensures { result.now ≡ self.now.expression }
     {
         self.expression
+    }
+
+    /// The parts are those of the expression in its scope, and nothing is refused in it: what callers
+    /// may know of every typed expression. It has no code.
+    pub fn parts_are_stated(&self)
+        ensures { spec.typing_of self.now.declared (view self.now.expression) ≡ Ok (spec.typing self.now) }
+    {
+        let _ = &self.parts;
     }
 
     /// The scope that it is typed in.
@@ -66,7 +80,7 @@ pub fn check<'e>(
     ensures { spec.Answers result (spec.typing_of scope.now (view expression.now)) }
 {
     let mut state = State {
-        variables: Vec::new(alloc),
+        variables: Variables::new(alloc),
         parts: Vec::new(alloc),
         first: None,
     };
@@ -97,7 +111,7 @@ pub fn check_pattern<'e>(
     pattern: &'e Pattern,
     scope: &'e Scope,
 ) -> Result<Typed<'e>, TypeFault>
-    ensures { spec.Answers result (spec.typing_of scope.now (view pattern.now.expression)) }
+    ensures { spec.Answers result (spec.typing_of scope.now (view pattern.now)) }
 {
-    check(alloc, &pattern.expression, scope)
+    check(alloc, pattern.expression(), scope)
 }

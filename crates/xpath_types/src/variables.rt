@@ -1,57 +1,121 @@
-//! The variables that are bound around a part, on a stack.
-ghost use Rattle.std.specs.Prelude.{◌≡◌, ◌≤◌, [], ◌∷◌, ◌++◌, chars, OnOk, length, take};
+//! The variables that are bound around a part, with the kinds of their values.
+ghost use Rattle.std.specs.Prelude.{◌≡◌, ◌-◌, [], ◌∷◌, chars, string_bytes, OnOk, OnErr, length, drop, slice_get, unwrap_or};
+ghost use Rattle.xpath_types.specs.Kinds.{no_kinds};
 ghost use Rattle.xpath_types.specs.Judging.{variables_behind};
-ghost use Rattle.xpath_types.specs.Walking as spec;
+ghost use Rattle.xpath_types.specs.Variables.{innermost};
 
-use crate::kinds::Kinds;
-use crate::names::{is_text, written};
+use crate::heights::Heights;
+use crate::kinds::{Kinds, NO_KINDS};
+use crate::names::written;
 use std::alloc::{AllocError, Global};
+use std::marker::Model;
 use xpath_grammar::expr::Label;
 
-/// A variable, under its name as it is written, with the kinds of its value.
-#[derive(Drop)]
-pub(crate) struct Variable {
-    pub name: String,
-    pub kinds: Kinds,
-}
-
-/// A variable that is read: how high it stands on the stack, from 1, and its kinds.
+/// A variable that is read: how high it stands, from 1 for the outermost, and its kinds.
 #[derive(Clone, Copy)]
 pub(crate) struct Reading {
     pub height: usize,
     pub kinds: Kinds,
 }
 
-/// The innermost variable of the name.
-pub(crate) fn innermost(variables: &[Variable], name: &str) -> Option<Reading>
-    ensures { result ≡ spec.innermost (chars name.now) (spec.stacked [] variables.now) }
-{
-    let mut rest = variables;
-    'search: while let Some((variable, outer)) = rest.split_last() {
-        if is_text(name, variable.name.as_str()) {
-            return Some(Reading {
-                height: rest.len(),
-                kinds: variable.kinds,
-            });
+/// Bound variables. Contracts see their names and kinds, the innermost first.
+#[derive(Drop)]
+pub(crate) struct Variables {
+    names: Heights,
+    /// The innermost last.
+    kinds: Vec<Kinds>,
+}
+
+impl Model for Variables {
+    ghost use Rattle.std.specs.Prelude.{ℕ, List, length, ◌≡◌};
+    ghost use Rattle.xpath_types.specs.declared.kinds.Kinds.{Kinds};
+
+    ghost Value = { List (List ℕ × Kinds) };
+
+    ghost use Rattle.xpath_types.specs.Variables.{with_kinds};
+
+    ghost view = { λ variables. with_kinds variables.kinds.items variables.names };
+
+    ghost invariant = { λ variables. length variables.kinds.items ≡ length variables.names };
+}
+
+impl Variables {
+    pub fn new(alloc: Global) -> Variables
+        ensures { result ≡ [] }
+    {
+        Variables {
+            names: Heights::new(alloc),
+            kinds: Vec::new(alloc),
         }
-        rest = outer;
     }
-    None
+
+    pub fn len(&self) -> usize
+        ensures { result ≡ length self.now }
+    {
+        self.names.len()
+    }
+
+    /// The innermost variable of the name.
+    pub fn reading(&self, name: &str) -> Option<Reading>
+        ensures { result ≡ innermost (chars name.now) self.now }
+    {
+        match self.names.height(name) {
+            None => None,
+            Some(height) => {
+                // No sum wraps, since there are more names than that.
+                let _count = self.names.len();
+                let kinds = kinds_at(self.kinds.as_slice(), height);
+                Some(Reading {
+                    height: height + 1,
+                    kinds,
+                })
+            }
+        }
+    }
+
+    /// Binds a variable of the name, inside the others. Want of memory changes nothing.
+    pub fn push(&mut self, name: String, kinds: Kinds) -> Result<(), AllocError>
+        ensures ok { OnOk result (self.new ≡ (chars (string_bytes name), kinds) ∷ self.old) }
+        ensures err { OnErr result (self.new ≡ self.old) }
+    {
+        self.kinds.push(kinds)?;
+        let Ok(()) = self.names.push(name) else {
+            let _ = self.kinds.pop();
+            return Err(AllocError);
+        };
+        Ok(())
+    }
+
+    /// Lets the inner variables go, down to so many.
+    pub fn truncate(&mut self, height: usize)
+        ensures { self.new ≡ drop (length self.old - height) self.old }
+    {
+        self.names.truncate(height);
+        self.kinds.truncate(height);
+    }
+}
+
+/// The kinds at the place, none past the end.
+fn kinds_at(kinds: &[Kinds], place: usize) -> Kinds
+    ensures { result ≡ unwrap_or (slice_get kinds.now place) no_kinds }
+{
+    match kinds.get(place) {
+        Some(kinds) => *kinds,
+        None => NO_KINDS,
+    }
 }
 
 /// Binds the variable of the label, where it has one, with the kinds.
 pub(crate) fn bind(
     alloc: Global,
-    variables: &mut Vec<Variable>,
+    variables: &mut Variables,
     label: &Label,
     kinds: Kinds,
 ) -> Result<(), AllocError>
-    ensures bound { OnOk result (spec.stacked [] variables.new.items ≡ variables_behind label.now kinds (spec.stacked [] variables.old.items)) }
-    ensures kept { OnOk result (take (length variables.old.items) variables.new.items ≡ variables.old.items) }
+    ensures { OnOk result (variables.new ≡ variables_behind label.now kinds variables.old) }
 {
-    if let Label::Binding(_, name) = label {
-        let name = written(alloc, name)?;
-        variables.push(Variable { name, kinds })?;
+    match label {
+        Label::Binding(_, name) => variables.push(written(alloc, name)?, kinds),
+        _ => Ok(()),
     }
-    Ok(())
 }

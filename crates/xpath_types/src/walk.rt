@@ -1,28 +1,28 @@
 //! The walk over an expression that judges it.
-ghost use Rattle.std.specs.Prelude.{◌≡◌, ◌≤◌, ◌<◌, ◌+◌, [], ◌∷◌, ◌++◌, map, length, ◌==◌, IfOk, OnOk};
+ghost use Rattle.std.specs.Prelude.{◌≡◌, ◌≤◌, ◌<◌, ◌+◌, map, length, IfOk, OnOk};
 ghost use Rattle.xpath_grammar.specs.View.{view};
 ghost use Rattle.xpath_types.specs.Walking as spec;
 
 use crate::facts::Facts;
-use crate::kinds::{Kinds, NO_KINDS};
-use crate::leaves::{judge_leaf, leaf_length};
-use crate::nodes::{
+use crate::forms::{
     begins_at_root, closing_length, focus_behind, focus_inside, is_sure_error, kinds_concluded,
     label_length, refuse_names, refuse_operand, with_part,
 };
+use crate::kinds::{Kinds, NO_KINDS};
+use crate::leaves::{judge_leaf, leaf_length};
 use crate::part::Part;
 use crate::refusals::Refusal;
 use crate::scope::Scope;
 use crate::uses::Uses;
-use crate::variables::{Variable, bind};
+use crate::variables::{Variables, bind};
 use std::alloc::{AllocError, Global};
 use xpath_grammar::expr::{Expr, Form, Label, Leaf};
 
 /// What is kept along the walk.
 #[derive(Drop)]
 pub(crate) struct State {
-    /// The variables that are bound around the part, the innermost last.
-    pub variables: Vec<Variable>,
+    /// The variables that are bound around the part.
+    pub variables: Variables,
     /// The parts so far, in their order.
     pub parts: Vec<Part>,
     /// The first refusal so far.
@@ -41,6 +41,7 @@ pub(crate) struct Walked {
 const UNKNOWN: Part = Part {
     kinds: NO_KINDS,
     uses_focus: false,
+    uses_position: false,
     depends_on_document_alone: false,
 };
 
@@ -67,9 +68,9 @@ pub(crate) fn walk(
     token: u32,
     x: &Expr,
 ) -> Result<Walked, AllocError>
-    ensures walked { IfOk result (λ walked. walked ≡ (spec.walked scope.now focus (spec.stacked [] state.old.variables.items) token (spec.seen state.old) (view x.now)).0) }
-    ensures seen { OnOk result (spec.seen state.new ≡ (spec.walked scope.now focus (spec.stacked [] state.old.variables.items) token (spec.seen state.old) (view x.now)).1) }
-    ensures kept { OnOk result (state.new.variables.items ≡ state.old.variables.items) }
+    ensures walked { IfOk result (λ walked. walked ≡ (spec.walked scope.now focus state.old.variables token (spec.seen state.old) (view x.now)).0) }
+    ensures seen { OnOk result (spec.seen state.new ≡ (spec.walked scope.now focus state.old.variables token (spec.seen state.old) (view x.now)).1) }
+    ensures kept { OnOk result (state.new.variables ≡ state.old.variables) }
     ensures longer { OnOk result (length state.old.parts.items ≤ length state.new.parts.items) }
 {
     match x {
@@ -107,9 +108,9 @@ fn walk_leaf(
     token: u32,
     leaf: &Leaf,
 ) -> Result<Walked, AllocError>
-    ensures walked { IfOk result (λ walked. walked ≡ (spec.leaf_walked scope.now focus (spec.stacked [] state.old.variables.items) token (spec.seen state.old) leaf.now).0) }
-    ensures seen { OnOk result (spec.seen state.new ≡ (spec.leaf_walked scope.now focus (spec.stacked [] state.old.variables.items) token (spec.seen state.old) leaf.now).1) }
-    ensures kept { OnOk result (state.new.variables.items ≡ state.old.variables.items) }
+    ensures walked { IfOk result (λ walked. walked ≡ (spec.leaf_walked scope.now focus state.old.variables token (spec.seen state.old) leaf.now).0) }
+    ensures seen { OnOk result (spec.seen state.new ≡ (spec.leaf_walked scope.now focus state.old.variables token (spec.seen state.old) leaf.now).1) }
+    ensures kept { OnOk result (state.new.variables ≡ state.old.variables) }
     ensures longer { OnOk result (length state.old.parts.items ≤ length state.new.parts.items) }
 {
     let facts = judge_leaf(
@@ -136,7 +137,7 @@ fn begin(
 ) -> Result<Walked, AllocError>
     ensures walked { IfOk result (λ walked. walked ≡ spec.node_begun scope.now token form.now (map (λ part. part.0) parts.now)) }
     ensures seen { OnOk result (spec.seen state.new ≡ spec.seen_begun scope.now token form.now (map (λ part. part.0) parts.now) (spec.seen state.old)) }
-    ensures kept { OnOk result (state.new.variables.items ≡ state.old.variables.items) }
+    ensures kept { OnOk result (state.new.variables ≡ state.old.variables) }
 {
     state.parts.push(UNKNOWN)?;
     let refused = refuse_names(scope, &mut state.first, token, form, parts);
@@ -164,9 +165,9 @@ fn end(
     inner: Walked,
 ) -> Result<Walked, AllocError>
     requires { index < length state.old.parts.items }
-    ensures walked { IfOk result (λ walked. walked ≡ (spec.node_ended scope.now focus (length state.old.variables.items) index form.now (map (λ part. part.0) parts.now) (inner, spec.seen state.old)).0) }
-    ensures seen { OnOk result (spec.seen state.new ≡ (spec.node_ended scope.now focus (length state.old.variables.items) index form.now (map (λ part. part.0) parts.now) (inner, spec.seen state.old)).1) }
-    ensures kept { OnOk result (state.new.variables.items ≡ state.old.variables.items) }
+    ensures walked { IfOk result (λ walked. walked ≡ (spec.node_ended scope.now focus (length state.old.variables) index form.now (map (λ part. part.0) parts.now) (inner, spec.seen state.old)).0) }
+    ensures seen { OnOk result (spec.seen state.new ≡ (spec.node_ended scope.now focus (length state.old.variables) index form.now (map (λ part. part.0) parts.now) (inner, spec.seen state.old)).1) }
+    ensures kept { OnOk result (state.new.variables ≡ state.old.variables) }
     ensures long { OnOk result (length state.new.parts.items ≡ length state.old.parts.items) }
 {
     let facts = Facts::of(

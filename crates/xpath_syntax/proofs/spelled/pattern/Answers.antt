@@ -1,4 +1,4 @@
-use Rattle.xpath_syntax.proofs.Answering.{pattern-found, pattern-refused}
+use Rattle.xpath_syntax.proofs.Answering.{pattern-found, pattern-refused, of_its_kind}
 use Rattle.xpath_syntax.proofs.spelled.pattern.Goals as goal
 
 pub returns-in-Ok : goal.returns-in-Ok
@@ -6,3 +6,6 @@ returns-in-Ok c = pattern-found _ _ _ c.trees_are_expressions.ensures c.in-Ok.en
 
 pub returns-in-Err : goal.returns-in-Err
 returns-in-Err c = pattern-refused _ _ c.in-Err.ensures
+
+pub pattern_of-requires : goal.pattern_of-requires
+pattern_of-requires c = of_its_kind _ _ c.trees_are_expressions.ensures c.in-Ok.ensures

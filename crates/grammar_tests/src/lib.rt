@@ -1,5 +1,0 @@
-//! The tests of the types of expressions.
-#![tactic(auto)]
-
-#[cfg(test)]
-mod list_cases;

@@ -1,0 +1,12 @@
+//! What expressions evaluate to: items, sequences of items, and errors (XPath 2.0, sections 2.3 and 2.4).
+#![tactic(auto)]
+
+mod item;
+mod outcome;
+mod seq;
+mod text;
+
+pub use item::Item;
+pub use outcome::{DynError, Focus, Outcome};
+pub use seq::Seq;
+pub use text::Str;

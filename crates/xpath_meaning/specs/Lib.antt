@@ -1,0 +1,17 @@
+pub mod Values
+pub mod Items
+pub mod Reading
+pub mod Numbers
+pub mod Comparing
+pub mod Texts
+pub mod Collections
+pub mod Functions
+pub mod Expressions
+pub mod Resolving
+pub mod Axes
+pub mod Steps
+pub mod Meaning
+pub mod Patterns
+pub mod ItemKinds
+pub mod PartKinds
+pub mod Uses

@@ -1,0 +1,4 @@
+pub mod MadeLaws
+pub mod SeenLaws
+pub mod NameLaws
+pub mod VariableLaws

@@ -1,0 +1,123 @@
+//! What kind of work the forms are.
+ghost use Rattle.std.specs.Prelude.{◌≡◌, map, IfOk};
+ghost use Rattle.xpath_grammar.specs.View.{viewed};
+ghost use Rattle.xpath_meaning.specs.Resolving.{begins_with_step, is_step_leaf};
+ghost use Rattle.xpath_plan.specs.Kinds as spec;
+
+use crate::work::{Kind, Link};
+use std::alloc::{AllocError, Global};
+use xpath_grammar::expr::{Expr, Form, Label, Leaf};
+use xpath_grammar::many::Many;
+use xpath_grammar::operators::CastWord;
+use xpath_tokens::token::Operator;
+use xpath_types::{Resolved, Scope, function_called, type_named};
+
+/// What is kept of what leads to a part.
+pub(crate) fn link_of(label: &Label) -> Link
+    ensures { result ≡ spec.link_of label.now }
+{
+    match label {
+        Label::Link(operator) => Link::Operator(*operator),
+        Label::Comma => Link::Comma,
+        _ => Link::Other,
+    }
+}
+
+fn is_step_leaf(leaf: &Leaf) -> bool
+    ensures { result ≡ is_step_leaf leaf.now }
+{
+    match leaf {
+        Leaf::Step(_, _) | Leaf::Parent => true,
+        _ => false,
+    }
+}
+
+/// Whether the first part is a step.
+fn begins_with_step(parts: &[(Label, Expr)]) -> bool
+    ensures { result ≡ begins_with_step (viewed parts.now) }
+{
+    match parts {
+        [(_, Expr::Leaf(leaf)), ..] => is_step_leaf(leaf),
+        _ => false,
+    }
+}
+
+fn copied(alloc: Global, signs: &Many<Operator>) -> Result<Many<Operator>, AllocError>
+    ensures { IfOk result (λ copied. copied ≡ signs.now) }
+{
+    let signs = signs.as_slice();
+    let mut copied = Many::new(alloc);
+    'signs: for sign in signs {
+        copied.push(*sign)?;
+    }
+    Ok(copied)
+}
+
+fn cast_kind(word: CastWord, optional: bool, named: Resolved) -> Kind
+    ensures { result ≡ spec.cast_kind word optional named }
+{
+    match named {
+        Resolved::Known(function) => Kind::Cast(word, function, optional),
+        Resolved::Unbound | Resolved::Unknown => Kind::Nothing,
+    }
+}
+
+fn call_kind(called: Resolved) -> Kind
+    ensures { result ≡ spec.call_kind called }
+{
+    match called {
+        Resolved::Known(function) => Kind::Call(function),
+        Resolved::Unbound | Resolved::Unknown => Kind::Nothing,
+    }
+}
+
+fn signs_kind(alloc: Global, parts: &[(Label, Expr)]) -> Result<Kind, AllocError>
+    ensures { IfOk result (λ kind. kind ≡ spec.signs_kind (map (λ part. part.0) parts.now)) }
+{
+    match parts {
+        [(Label::Signed(signs), _), ..] => Ok(Kind::Signs(copied(alloc, signs)?)),
+        _ => Ok(Kind::Nothing),
+    }
+}
+
+fn called_kind(scope: &Scope, parts: &[(Label, Expr)]) -> Kind
+    ensures { result ≡ spec.called_kind scope.now (map (λ part. part.0) parts.now) }
+{
+    match parts {
+        [(Label::Calling(name), _), ..] => call_kind(function_called(scope, name)),
+        _ => Kind::Nothing,
+    }
+}
+
+fn filter_kind(is_step: bool) -> Kind
+    ensures { result ≡ spec.filter_kind is_step }
+{
+    if is_step {
+        Kind::FilteredStep
+    } else {
+        Kind::Filtered
+    }
+}
+
+/// What the form makes of its parts.
+pub(crate) fn kind_of(
+    alloc: Global,
+    scope: &Scope,
+    form: &Form,
+    parts: &[(Label, Expr)],
+) -> Result<Kind, AllocError>
+    ensures { IfOk result (λ kind. kind ≡ spec.kind_of scope.now form.now (begins_with_step (viewed parts.now)) (map (λ part. part.0) parts.now)) }
+{
+    match form {
+        Form::Chain(_) => Ok(Kind::Chain),
+        Form::Bound(binder) => Ok(Kind::Bound(*binder)),
+        Form::Conditional => Ok(Kind::Conditional),
+        Form::Cast(word, name, optional) => {
+            Ok(cast_kind(*word, *optional, type_named(scope, name)))
+        }
+        Form::Signs => signs_kind(alloc, parts),
+        Form::Filter => Ok(filter_kind(begins_with_step(parts))),
+        Form::Parentheses => Ok(Kind::Only),
+        Form::Call => Ok(called_kind(scope, parts)),
+    }
+}

@@ -1,0 +1,12 @@
+//! Plans: expressions whose names are looked up, which own all that they are made of.
+#![tactic(auto)]
+
+mod compiling;
+mod forms;
+mod leaves;
+mod names;
+mod plan;
+pub mod work;
+
+pub use names::NameTable;
+pub use plan::{Plan, compile};

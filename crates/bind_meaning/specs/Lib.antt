@@ -1,0 +1,10 @@
+pub mod Names
+pub mod Elements
+pub mod Picks
+pub mod Seats
+pub mod Currencies
+pub mod Values
+pub mod Judging
+pub mod Terms
+pub mod Writing
+pub mod Trees

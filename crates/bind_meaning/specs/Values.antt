@@ -1,0 +1,87 @@
+-- What the string of a picked node says: the value of the row's term, by the row's form.
+use Rattle.std.specs.Prelude.{ℕ, ◌==◌, Bool, true, false, not, ◌&&◌, ◌||◌, List, [], ◌∷◌, codes, Option, Some, None, find, option_map, option_and_then}
+use Rattle.std.specs.List.{list_all}
+use Rattle.std.specs.Str.{bytes_eq}
+use Rattle.inv_base.specs.Characters.{is_char, is_within}
+use Rattle.inv_decimal.specs.WrittenDay.{read_plain_day}
+use Rattle.term_table.specs.declared.terms.Term.{Term}
+use Rattle.inv_terms.specs.declared.values.Value.{Value}
+use Rattle.inv_terms.specs.declared.values.Value.TheVariants as values
+use Rattle.inv_terms.specs.Values.{is_blank, trimmed, value_of}
+use Rattle.term_table.specs.declared.terms.Letter.{Letter}
+use Rattle.term_table.specs.declared.terms.TermRow.{TermRow}
+use Rattle.term_table.specs.SemanticModel.{same_term, terms}
+use Rattle.bind_rows.specs.declared.rows.Form.{Form}
+use Rattle.bind_rows.specs.declared.rows.Form.TheVariants as forms
+
+-- A value that is told of a term: none where the string says none.
+pub record Said : Type 0 where
+  pub term : Term
+  pub value : Option Value
+
+-- the type of a term, which is one wherever it stands
+abbrev pub letter_of : Term → Option Letter
+letter_of term = option_map (λ (row : TermRow). row.letter) (find (λ (row : TermRow). same_term row.term term) terms)
+
+abbrev pub by_type : Term → List ℕ → Option Value
+by_type term string = option_and_then (λ letter. value_of letter string) (letter_of term)
+
+-- ---- dates without dashes (UN/CEFACT, format 102)
+
+abbrev pub plain_date : List ℕ → Option Value
+plain_date string = elim (list_all is_char string) [ true ↦ option_map values.Date (read_plain_day (trimmed string)) | false ↦ None ]
+
+-- ---- BT-8 by UNTDID 2475, for its codes in UNTDID 2005
+
+pub record Image : Type 0 where
+  pub written : List ℕ
+  pub code : List ℕ
+
+abbrev pub images : List Image
+images = record { written = codes "5"; code = codes "3" } ∷ record { written = codes "29"; code = codes "35" } ∷ record { written = codes "72"; code = codes "432" } ∷ []
+
+abbrev pub image_among : List Image → List ℕ → Option Value
+image_among [] string = None
+image_among (image ∷ images) string = elim (bytes_eq image.written string) [ true ↦ Some (values.Code image.code) | false ↦ image_among images string ]
+
+abbrev pub due_date_type : List ℕ → Option Value
+due_date_type string = image_among images (trimmed string)
+
+-- ---- notes with a subject code: `#`, three letters or digits, `#`, and a text that isn't blank
+
+abbrev pub subject_code : Term
+subject_code = record { number = 21; part = 0 }
+
+abbrev pub note : Term
+note = record { number = 22; part = 0 }
+
+abbrev pub is_subject_character : ℕ → Bool
+is_subject_character c = is_within 65 90 c || is_within 48 57 c
+
+abbrev pub plain_note : List ℕ → List Said
+plain_note string = record { term = note; value = by_type note string } ∷ []
+
+abbrev pub coded : List ℕ → List ℕ → List Said
+coded code text = record { term = subject_code; value = by_type subject_code code } ∷ (record { term = note; value = by_type note text } ∷ [])
+
+abbrev pub note_behind : List ℕ → ℕ → ℕ → ℕ → ℕ → ℕ → List ℕ → List Said
+note_behind string first a b c last text = elim ((first == 35) && (last == 35)) [
+  | true ↦ elim (list_all is_subject_character (a ∷ b ∷ c ∷ []) && not (is_blank text)) [ true ↦ coded (a ∷ b ∷ c ∷ []) text | false ↦ plain_note string ]
+  | false ↦ plain_note string
+]
+
+abbrev pub note_of : List ℕ → List Said
+note_of (first ∷ (a ∷ (b ∷ (c ∷ (last ∷ text))))) = note_behind (first ∷ (a ∷ (b ∷ (c ∷ (last ∷ text))))) first a b c last text
+note_of string = plain_note string
+
+-- ---- by the form
+
+-- A form that isn't one for the row's term counts for nothing.
+abbrev pub is_term : ℕ → Term → Bool
+is_term n term = (term.number == n) && (term.part == 0)
+
+abbrev pub said : Form → Term → List ℕ → List Said
+said forms.Model term string = record { term = term; value = by_type term string } ∷ []
+said forms.PlainDate term string = record { term = term; value = plain_date string } ∷ []
+said forms.DueDateTypeCode term string = record { term = term; value = due_date_type string } ∷ []
+said forms.CodedNote term string = note_of string

@@ -1,0 +1,34 @@
+use inv_lacks::Name;
+use node_arena::NodeId;
+
+/// Why a document isn't an invoice of a table. Of several kinds at one node and row the first of this order counts.
+#[derive(Clone, Copy, Debug, PartialEq, Eq)]
+pub enum BindKind {
+    /// The root element is that of no table.
+    UnknownRoot,
+    /// A term stands a second time in its context.
+    Excess,
+    /// A value has an element inside.
+    ElementInValue,
+    /// A string that isn't a value of its term.
+    BadValue,
+    /// A code that isn't in its list.
+    CodeNotListed,
+    /// An amount in another currency than the invoice.
+    CurrencyDiffers,
+    /// A term stands a second time with another value, where all have to agree.
+    Disagree,
+    /// A mandatory term or group isn't there.
+    Missing,
+    /// Memory ran out.
+    Memory,
+}
+
+/// The first fault of a document as an invoice: its kind, the term or group, and the node, which for a missing one is the element of
+/// its context.
+#[derive(Clone, Copy, Debug, PartialEq, Eq)]
+pub struct BindFault {
+    pub kind: BindKind,
+    pub name: Name,
+    pub node: NodeId,
+}

@@ -2,6 +2,7 @@ pub mod Names
 pub mod Elements
 pub mod Picks
 pub mod Seats
+pub mod Kept
 pub mod Currencies
 pub mod Values
 pub mod Judging

@@ -8,6 +8,7 @@ use Rattle.term_table.specs.declared.contexts.Slot.{Slot}
 use Rattle.term_table.specs.declared.contexts.Context.{Context}
 use Rattle.term_table.specs.Contexts.{same_context, root_context, outer_context}
 use Rattle.bind_rows.specs.Same.{same_or_none}
+use Rattle.bind_meaning.specs.declared.picked.Seated.{Seated}
 use Rattle.bind_meaning.specs.Picks.{Pick, carrier_in}
 
 -- The pick stands in an occurrence of the group, or of the group inside one of the other.
@@ -35,11 +36,6 @@ inner_elements picks outer n group = flat_map (λ pick. listed (carrier_in pick 
 -- the number of an element among others, from 1
 abbrev pub place_among : List Node → List ℕ → ℕ → ℕ
 place_among nodes elements n = 1 + length (filter (λ (node : Node). nat_lt node.number n && is_among node.number elements) nodes)
-
--- an occurrence with its element
-pub record Seated : Type 0 where
-  pub slot : Slot
-  pub element : ℕ
 
 abbrev pub outer_at : List Node → List Pick → Group → ℕ → Seated
 outer_at nodes picks group n = record { slot = record { group = group; index = place_among nodes (outer_elements picks group) n }; element = n }

@@ -1,6 +1,8 @@
-//! What a document says as an invoice by a table of rows, and what is wrong with it: definitions, and the types of faults.
+//! What a document says as an invoice by a table of rows, and what is wrong with it: definitions, and the types of picks and of faults.
 #![tactic(auto)]
 
 mod fault;
+mod picked;
 
 pub use fault::{BindFault, BindKind};
+pub use picked::{Picked, Seated, SeatedPick};

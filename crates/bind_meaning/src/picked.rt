@@ -1,0 +1,30 @@
+use node_arena::NodeId;
+use term_table::Slot;
+
+/// A node that a row of a table picks. In their order picks stand in document order, at one node by their rows.
+#[derive(Clone, Copy, Debug, PartialEq, Eq, PartialOrd, Ord)]
+pub struct Picked {
+    /// The node.
+    pub node: NodeId,
+    /// The number of the row in its table, from 1.
+    pub row: u32,
+    /// The element that is an occurrence of the row's outer group, for a row that has one.
+    pub outer: Option<NodeId>,
+    /// The element that is an occurrence of the row's inner group, for a row that has one.
+    pub inner: Option<NodeId>,
+}
+
+/// An occurrence of a group, and the element that is it.
+#[derive(Clone, Copy, Debug, PartialEq, Eq)]
+pub struct Seated {
+    pub slot: Slot,
+    pub element: NodeId,
+}
+
+/// A pick with the occurrences in which it stands.
+#[derive(Clone, Copy, Debug, PartialEq, Eq)]
+pub struct SeatedPick {
+    pub picked: Picked,
+    pub outer: Option<Seated>,
+    pub inner: Option<Seated>,
+}

@@ -2,8 +2,8 @@
 
 use crate::checks::{check, room_for};
 use inv_base::{
-    Buffered, Failed, Kind, MemShelf, MemSink, Place, Printer, Shelf, Sink, Txt, is_char,
-    is_name_char, is_name_start, is_white_space, write_all,
+    Buffered, Failed, Kind, Many, MemShelf, MemSink, Place, Printer, Shelf, Sink, Str, Txt,
+    is_char, is_name_char, is_name_start, is_same_text, is_white_space, write_all,
 };
 use std::test::Fail;
 
@@ -280,4 +280,26 @@ fn texts_are_kept(rt: HostRuntime) -> Result<(), Fail> {
         check(texts.iter().all(|held| *held == text), text)?;
     }
     Ok(())
+}
+
+#[test]
+fn texts_are_put_one_behind_another(rt: HostRuntime) -> Result<(), Fail> {
+    let mut string = Str::lent("");
+    for text in ["", "ä", "", "bc"] {
+        string = string.followed_by(rt.alloc(), text)?;
+    }
+    let own = Str::own(Txt::of(rt.alloc(), "äb")?).followed_by(rt.alloc(), "c")?;
+    check(is_same_text(string.as_str(), "äbc"), "lent")?;
+    check(is_same_text(own.as_str(), "äbc"), "own")?;
+    check(!is_same_text(own.as_str(), "äb"), "another")
+}
+
+#[test]
+fn items_are_kept_in_order(rt: HostRuntime) -> Result<(), Fail> {
+    let mut items = Many::new(rt.alloc());
+    for item in [7u32, 5, 7] {
+        items.push(item)?;
+    }
+    check(items.len() == 3, "length")?;
+    check(items.as_slice() == [7u32, 5, 7].as_slice(), "items")
 }

@@ -1,10 +1,9 @@
 ghost use Rattle.std.specs.Prelude.{◌≡◌, IfOk};
 
 use crate::guards::{Guard, Place, Test};
-use crate::many::Many;
 use crate::names::{ElementName, Leaf};
 use crate::rows::Step;
-use inv_base::Txt;
+use inv_base::{Many, Txt};
 use std::alloc::{AllocError, Global};
 
 /// Values that may be had twice, at the cost of memory.

@@ -1,6 +1,5 @@
-use crate::many::Many;
 use crate::names::{ElementName, Leaf};
-use inv_base::Txt;
+use inv_base::{Many, Txt};
 
 /// Nodes below an element: the path of names that leads to them from it, and the attribute at its end if they are
 /// attributes.

@@ -4,14 +4,13 @@
 
 mod copies;
 mod guards;
-mod many;
 mod names;
 mod rows;
 mod same;
 
 pub use copies::Copied;
 pub use guards::{Guard, Place, Test};
-pub use many::Many;
+pub use inv_base::Many;
 pub use names::{ElementName, Leaf, Namespace};
 pub use rows::{Check, Content, Filler, Form, Repeats, Row, Step, Written};
 pub use same::{Same, are_same, is_same_or_none};

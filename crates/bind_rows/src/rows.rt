@@ -1,7 +1,6 @@
 use crate::guards::Guard;
-use crate::many::Many;
 use crate::names::{ElementName, Leaf};
-use inv_base::Txt;
+use inv_base::{Many, Txt};
 use term_table::{Group, Term};
 
 /// An element on the path of a row.

@@ -6,7 +6,7 @@ ghost use Rattle.bind_rows.specs.Same as spec;
 use crate::guards::{Guard, Place, Test};
 use crate::names::{ElementName, Leaf, Namespace};
 use crate::rows::Step;
-use inv_base::Txt;
+use inv_base::{Txt, is_same_text};
 use term_table::Group;
 
 /// Values that are compared as contracts see them.
@@ -42,7 +42,7 @@ impl Same for Txt {
     ghost same = { bytes_eq };
 
     fn is_same(&self, other: &Txt) -> bool {
-        self.as_str() == other.as_str()
+        is_same_text(self.as_str(), other.as_str())
     }
 }
 

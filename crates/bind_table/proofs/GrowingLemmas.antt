@@ -1,14 +1,14 @@
 -- A row is added to lines that are kept in preorder.
-use Rattle.std.proofs.Common.{◌≡◌, ℕ, suc, Option, Some, None, ◌&&◌, set, ◌+◌, ◌<◌, ◌≤◌, Bool, true, false, List, [], ◌∷◌, ◌++◌, length, get_or, take, drop, refl, sym, ap, ◌∙◌, subst, arith, append_assoc, length-append, IsTrue}
-use Rattle.std.specs.Prelude.{nat_lt, ◌||◌, map, slice_get}
+use Rattle.std.proofs.Common.{◌≡◌, ℕ, suc, Some, ◌&&◌, set, ◌+◌, ◌<◌, ◌≤◌, Bool, true, false, List, [], ◌∷◌, ◌++◌, length, get_or, take, drop, refl, sym, ap, ◌∙◌, subst, arith, append_assoc, length-append}
+use Rattle.std.specs.Prelude.{nat_lt, ◌||◌, slice_get}
 use Rattle.std.proofs.lemmas.Bool.{lt-ltb, ltb-true}
-use Rattle.std.proofs.lemmas.List.{append-nil, get_or-append_right, map-append}
+use Rattle.std.proofs.lemmas.List.{append-nil, map-append}
 use Rattle.std.proofs.Math.Seq.{get_or-append_seam, set-append_seam, take-append_seam, drop-append_seam}
 use Rattle.bind_rows.specs.declared.rows.Step.{Step}
 use Rattle.bind_rows.specs.Same.{same_step, choose}
 use Rattle.bind_table.specs.declared.lines.Line.{Line}
 use Rattle.bind_table.specs.Lines.{Plan, nothing, a_line, Cell, flat, add, into, numbers, own_cells}
-use Rattle.bind_table.specs.Growing.{chain, last_row, beside, is_line_of, IsWithin, AreLinesWithin, Stops, Passes, Finds, Passing, Seeks, Adds}
+use Rattle.bind_table.specs.Growing.{chain, last_row, beside, is_line_of, IsWithin, AreLinesWithin, Stops, Passing, Seeks, Adds}
 
 pub flat-beside : (p q : Plan) → flat (beside p q) ≡ flat p ++ flat q
 flat-beside nothing q = refl

@@ -8,8 +8,7 @@ use Rattle.bind_rows.specs.declared.names.Namespace.TheVariants as spaces
 use Rattle.bind_rows.specs.declared.names.Leaf.{Leaf}
 use Rattle.bind_rows.specs.declared.names.Leaf.TheVariants as leaves
 use Rattle.bind_rows.specs.declared.rows.Row.{Row}
-use Rattle.bind_rows.specs.declared.rows.Step.{Step}
-use Rattle.bind_rows.specs.Same.{same_leaf, same_namespace, choose}
+use Rattle.bind_rows.specs.Same.{same_leaf, same_namespace}
 use Rattle.bind_table.specs.Lines.{Cell, Plan, nothing, a_line, plan_of}
 
 -- the numbers of the elements, one a line

@@ -1,5 +1,5 @@
 -- Which rows a table takes.
-use Rattle.std.specs.Prelude.{ℕ, ◌<◌, ◌^◌, All, length}
+use Rattle.std.specs.Prelude.{◌<◌, ◌^◌, All, length}
 use Rattle.bind_rows.specs.declared.rows.Row.{Row}
 use Rattle.bind_rows.specs.declared.rows.Step.{Step}
 

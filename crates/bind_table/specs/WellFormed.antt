@@ -1,7 +1,7 @@
 -- Which tables are well formed: no row is ambiguous, names a term that the semantic model doesn't have in its context,
 -- or stands outside its context.
 use Rattle.std.specs.Prelude.{ℕ, ◌+◌, ◌==◌, nat_lt, Bool, true, false, not, ◌&&◌, ◌||◌, List, [], ◌∷◌, ◌++◌, length, take, Option, Some, None, Result, Ok, Err, is_none, codes, bytes_eq}
-use Rattle.std.specs.List.{list_any, list_all}
+use Rattle.std.specs.List.{list_all}
 use Rattle.std.specs.Cmp.Lexicographic.{pointwise}
 use Rattle.term_table.specs.declared.groups.Group.{Group}
 use Rattle.term_table.specs.Rows.{row_in}

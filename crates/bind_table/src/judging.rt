@@ -4,7 +4,7 @@ ghost use Rattle.bind_table.specs.WellFormed as spec;
 
 use crate::parting::clash;
 use bind_rows::{Content, ElementName, Namespace, Row, Same, Step, are_same, is_same_or_none};
-use inv_base::Txt;
+use inv_base::{Txt, is_same_text};
 use term_table::{Group, row_in};
 
 /// What may be wrong with a row of a table.
@@ -119,18 +119,13 @@ fn is_root(name: &ElementName) -> bool
 fn is_root_of(namespace: Namespace, local: &Txt) -> bool
     ensures { result ≡ spec.is_root_of namespace local.now }
 {
+    let text = local.as_str();
     match namespace {
-        Namespace::UblInvoice => is_text(local, "Invoice"),
-        Namespace::UblCreditNote => is_text(local, "CreditNote"),
-        Namespace::CiiInvoice => is_text(local, "CrossIndustryInvoice"),
+        Namespace::UblInvoice => is_same_text(text, "Invoice"),
+        Namespace::UblCreditNote => is_same_text(text, "CreditNote"),
+        Namespace::CiiInvoice => is_same_text(text, "CrossIndustryInvoice"),
         _ => false,
     }
-}
-
-fn is_text(text: &Txt, word: &str) -> bool
-    ensures { result ≡ bytes_eq text.now (chars word.now) }
-{
-    text.as_str() == word
 }
 
 fn is_placed(rows: &[Row], row: &Row, group: Option<Group>) -> bool

@@ -4,3 +4,4 @@ pub mod EscapeLemmas
 pub mod TextLemmas
 pub mod PrintingLemmas
 pub mod BufferingLemmas
+pub mod CharacterLemmas

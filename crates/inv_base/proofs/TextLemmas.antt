@@ -1,11 +1,12 @@
 -- Texts and their characters.
 use Rattle.std.proofs.Common.{◌≡◌, ℕ, List, [], ◌∷◌, ◌++◌, true, ◌&&◌, Bool, false, ◌<◌, ◌≤◌, refl, ap, sym, ◌∙◌, arith}
-use Rattle.std.specs.Str.{chars, IsUtf8}
+use Rattle.std.specs.Str.{chars, IsUtf8, bytes_eq}
 use Rattle.std.specs.Prelude.{encode_utf8_all, encode_utf8, ◌==◌}
 use Rattle.std.specs.List.{flat_map}
-use Rattle.std.proofs.lemmas.Str.{chars-encodes, encodes-append, encode_ascii}
+use Rattle.std.proofs.lemmas.Str.{chars-encodes, encodes-append, encodes-chars, encode_ascii}
+use Rattle.std.proofs.lemmas.Slice.Eq.{bytes_eq-Decides}
 use Rattle.std.proofs.lemmas.Bool.{cond_both}
-use Rattle.std.proofs.lemmas.Bool.Decides.{nat_tests}
+use Rattle.std.proofs.lemmas.Bool.Decides.{nat_tests, same_from_decides, Decides-like}
 use Rattle.inv_base.specs.Text.{quoted, quoted_character}
 use Rattle.inv_base.proofs.EscapeLemmas.{IsAsciiEscape, encodes-one, flat_map-encodes}
 use lib.Utf8.{scalar, scalars, encodes, encode}
@@ -30,6 +31,11 @@ chars-append a b u v =
     ap chars (ap (λ t. t ++ b) (sym u.1.1) ∙ (ap (λ t. encode_utf8_all x ++ t) (sym v.1.1) ∙ sym (encodes-append x y)))
     ∙ (chars-encodes (x ++ y) (scalars-append x y u.1.0 v.1.0)
     ∙ (ap (λ t. t ++ y) (sym (chars-encodes x u.1.0) ∙ ap chars u.1.1) ∙ ap (λ t. chars a ++ t) (sym (chars-encodes y v.1.0) ∙ ap chars v.1.1)))
+
+-- Texts are the same where their characters are.
+pub same_chars : (a b : List ℕ) → IsUtf8 a → IsUtf8 b → bytes_eq a b ≡ bytes_eq (chars a) (chars b)
+same_chars a b u v = same_from_decides _ _ (bytes_eq-Decides a b)
+    (Decides-like _ (λ e. sym (encodes-chars a u) ∙ (ap encode_utf8_all e ∙ encodes-chars b v)) (ap chars) (bytes_eq-Decides (chars a) (chars b)))
 
 -- Quoted text, on the bytes.
 Same : List ℕ → Type 0

@@ -9,3 +9,5 @@ pub mod MemFiles
 pub mod Characters
 pub mod Text
 pub mod Tree
+pub mod Strings
+pub mod formers

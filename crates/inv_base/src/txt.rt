@@ -1,5 +1,5 @@
 ghost use Rattle.std.specs.Prelude.{◌≡◌, IfOk};
-ghost use Rattle.std.specs.Str.{chars};
+ghost use Rattle.std.specs.Str.{bytes_eq, chars};
 
 use std::alloc::{AllocError, Global};
 use std::fmt;
@@ -8,7 +8,7 @@ use std::marker::Model;
 /// A text of its own. Contracts see the list of its characters.
 #[derive(Drop)]
 pub struct Txt {
-    text: String,
+    pub(crate) text: String,
 }
 
 impl Model for Txt {
@@ -51,6 +51,13 @@ impl Txt {
         let text = self.text.clone()?;
         Ok(Txt { text })
     }
+}
+
+/// Whether two texts have the same characters.
+pub fn is_same_text(a: &str, b: &str) -> bool
+    ensures { result ≡ bytes_eq (chars a.now) (chars b.now) }
+{
+    a == b
 }
 
 impl fmt::Debug for Txt {

@@ -1,14 +1,8 @@
--- The string of a node: how it is kept, and the texts of kept nodes.
-use Rattle.std.specs.Prelude.{ℕ, List, [], flat_map, chars, string_bytes}
+-- The texts of kept nodes.
+use Rattle.std.specs.Prelude.{ℕ, List, [], flat_map, chars}
 use Rattle.inv_base.specs.declared.tree.Kind.{Kind}
 use Rattle.inv_base.specs.declared.tree.Kind.TheVariants as kinds
 use Rattle.node_arena.specs.declared.slot.Slot.{Slot}
-use Rattle.node_arena.specs.declared.strings.Kept.{Kept}
-use Rattle.node_arena.specs.declared.strings.Kept.TheVariants.{Lent, Joined}
-
-abbrev pub characters_of : Kept → List ℕ
-characters_of (Lent text) = chars text.now
-characters_of (Joined text) = chars (string_bytes text)
 
 -- these characters, where the node is a text
 abbrev pub if_text : Kind → List ℕ → List ℕ

@@ -13,10 +13,9 @@ mod strings;
 
 pub use builder::Builder;
 pub use doc::{Doc, NodeId};
-pub use inv_base::Kind;
+pub use inv_base::{Kind, Str};
 pub use laws::{
     chains_are_of_expanded_names, events_build_a_whole_document,
     events_build_the_nodes_of_their_tree, insides_are_intervals, moves_lead_on,
     names_are_found_by_number,
 };
-pub use strings::Str;

@@ -7,11 +7,11 @@ use Rattle.std.proofs.lemmas.List.Folds.{list_all-append}
 use Rattle.std.proofs.lemmas.Bool.{cases_lt}
 use Rattle.std.proofs.lemmas.Bool.Decides.{nat_tests}
 use Rattle.std.proofs.lemmas.Str.{chars-encodes, encode_ascii, inside_one, is_utf8-from_IsUtf8}
-use lib.Utf8.{scalar, scalars, encode, encodes}
+use lib.Utf8.{scalars, encode, encodes}
 use Rattle.inv_base.specs.Characters.{is_char, is_within, is_name_char, is_name_start}
 use Rattle.inv_base.proofs.TextLemmas.{both}
 use Rattle.xml_tokens.specs.WrittenNames.{is_ncname}
-use Rattle.xml_tokens.proofs.RunLemmas.{char-scalar}
+use Rattle.inv_base.proofs.CharacterLemmas.{char-scalar}
 
 -- The list is of Chars.
 abbrev pub are_chars : List ℕ → Bool

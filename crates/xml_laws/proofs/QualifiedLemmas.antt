@@ -12,7 +12,7 @@ use Rattle.inv_base.proofs.TextLemmas.{both}
 use Rattle.xml_tokens.specs.WrittenNames.{is_colon, is_ncname, prefix_of, local_of, is_qname}
 use Rattle.xml_state.specs.Namespaces.{xmlns, declared_prefix}
 use Rattle.xml_write.specs.Canonical.{qualified, declaring_name}
-use Rattle.xml_tokens.proofs.RunLemmas.{char-scalar}
+use Rattle.inv_base.proofs.CharacterLemmas.{char-scalar}
 use Rattle.xml_laws.proofs.EncodedLemmas.{all-implied, chars-back, passes-encodes, ncname-characters, ncname-chars}
 use Rattle.xml_tokens.proofs.CharacterLemmas.{chosen, passed, begins}
 use Rattle.xml_laws.proofs.SplitLemmas.{before-front, after-front, any-front, any-none}

@@ -7,7 +7,7 @@ use Rattle.inv_base.specs.Tree.{Name, Attribute}
 use Rattle.inv_base.specs.Characters.{is_white_space}
 use Rattle.xml_tokens.specs.Faults.{Cause, first_cause}
 use Rattle.xml_tokens.specs.declared.kind.XmlKind.{XmlKind}
-use Rattle.xml_tokens.specs.declared.kind.XmlKind.TheVariants.{TextOutside, TooManyAttributes, NameTooLong, Mismatched, SecondRoot, BadNamespace, UndeclaredPrefix, DuplicateAttribute, TooDeep, TooManyNames, TooManyNodes, TooLong, Truncated, NoRoot}
+use Rattle.xml_tokens.specs.declared.kind.XmlKind.TheVariants.{TextOutside, TooManyNodes, TooLong, Truncated, NoRoot}
 use Rattle.xml_state.specs.declared.fault.XmlFault.{XmlFault}
 use Rattle.xml_tokens.specs.Markup.{Tag, Token, a_mark, an_aside, a_character, a_reference, a_section, a_start_tag, an_end_tag}
 use Rattle.xml_tokens.specs.Beginnings.{Beginning, good, bad, later, beginning, sure_length}
@@ -17,9 +17,7 @@ use Rattle.xml_state.specs.Events.{Event, starts, has_text, ends, with_events}
 use Rattle.xml_state.specs.Documents.{Tells}
 use Rattle.xml_state.specs.Names.{number_of}
 use Rattle.xml_state.specs.States.{Open, State, begin, is_outside, behind_aside, behind_text, behind_start_tag, behind_end_tag, state_behind, events_of, text_events, start_tag_events, names_behind, name_in, attributes_in, attribute_event, bindings_in}
-use Rattle.xml_state.specs.Admission.{text_fault, is_text_too_many, is_long_name, has_long_name, start_tag_causes, end_tag_causes, fault_of}
-use Rattle.xml_state.specs.Namespaces.{declared_bindings, is_bad_binding}
-use Rattle.std.specs.List.{list_any}
+use Rattle.xml_state.specs.Admission.{text_fault, is_text_too_many, start_tag_causes, end_tag_causes, fault_of}
 use Rattle.std.specs.Str.{bytes_eq}
 use Rattle.xml_profile.specs.TokenByToken.{waits, Read, telling, stops_at, fault_within, unfinished, read, resume, read_whole}
 use Rattle.xml_profile.specs.Profile.{Document, end_fault, fault_of_whole, names_of, first_fault, document, tree_of}

@@ -8,7 +8,6 @@ use Rattle.std.proofs.lemmas.Str.{encodes-append, length-encode, len_utf8_bounds
 use lib.Utf8.{encode, encodes}
 use Rattle.inv_base.specs.Characters.{is_char, is_white_space}
 use Rattle.inv_base.proofs.TextLemmas.{both}
-use Rattle.xml_tokens.specs.declared.encoding.Begun.{Begun}
 use Rattle.xml_tokens.specs.declared.encoding.Begun.TheVariants as begun
 use Rattle.xml_tokens.specs.declared.kind.XmlKind.TheVariants.{TooManyNodes}
 use Rattle.xml_tokens.specs.Searches.{begins_with}
@@ -21,7 +20,7 @@ use Rattle.xml_state.specs.declared.limits.Limits.{Limits}
 use Rattle.xml_state.specs.States.{State, is_outside, state_behind, behind_text, events_of, text_events}
 use Rattle.xml_state.specs.Admission.{text_fault, fault_of, is_text_too_many}
 use Rattle.xml_write.specs.Escapes.{in_text}
-use Rattle.xml_tokens.proofs.RunLemmas.{char-scalar}
+use Rattle.inv_base.proofs.CharacterLemmas.{char-scalar}
 use Rattle.xml_laws.proofs.EncodedLemmas.{are_chars}
 use Rattle.xml_tokens.proofs.CharacterLemmas.{passed, same, other, begins}
 

@@ -1,142 +1,370 @@
--- A table of names, kept as pairs of texts, as the list of names that contracts see.
-use Rattle.std.proofs.Common.{◌≡◌, ℕ, zero, suc, ◌+◌, ◌<◌, Bool, true, false, ◌&&◌, ◌||◌, List, [], ◌∷◌, ◌++◌, length, get_or, refl, sym, ap, ◌∙◌, arith, string_bytes, chars, true≢false, Some, None, Result, Ok, Err, IfOk, option_map, position, if◌then◌else◌}
-use Rattle.std.specs.Str.{bytes_eq, IsUtf8, encode_utf8_all}
+-- A table of names, kept as namespace names and pairs, as the list of names that contracts see.
+use Rattle.std.proofs.Common.{◌≡◌, ℕ, zero, suc, ◌+◌, ◌<◌, ◌≤◌, Bool, true, false, not, cond, nat_lt, ◌&&◌, ◌||◌, ◌==◌, List, [], ◌∷◌, ◌++◌, length, get_or, refl, sym, ap, subst, ◌∙◌, arith, string_bytes, chars, true≢false, Some, None, Result, Ok, Err, IfOk, OnOk, OnErr, option_map, position, if◌then◌else◌, inl, inr}
+use Rattle.std.specs.Global.{Global}
+use Rattle.std.specs.Prelude.{String}
+use Rattle.std.specs.Str.{bytes_eq, IsUtf8}
 use Rattle.std.specs.List.{list_any, position_or_len, slice_get}
-use Rattle.std.proofs.lemmas.Str.{encodes-chars, IsUtf8-string_bytes}
-use Rattle.std.proofs.lemmas.List.{map-append}
-use Rattle.std.proofs.lemmas.List.Recursion.{is_position_or_len}
+use Rattle.std.proofs.lemmas.Str.{IsUtf8-string_bytes}
+use Rattle.std.proofs.lemmas.List.{map-append, length-append, append-nil}
+use Rattle.std.proofs.lemmas.List.Quantifiers.{position-Some}
 use Rattle.std.proofs.lemmas.Option.{slice_get_within, get_or_from_slice_get, cond_some}
-use Rattle.std.proofs.lemmas.Bool.Decides.{nat_tests, same_from_decides, Decides-like}
+use Rattle.std.proofs.lemmas.Bool.{cases_lt}
+use Rattle.std.proofs.lemmas.Bool.Decides.{nat_tests, same_from_decides, Decides-like, Decides-eqb}
 use Rattle.std.proofs.lemmas.Slice.Eq.{bytes_eq-Decides}
 use Rattle.inv_base.specs.Tree.{Name}
+use Rattle.inv_base.proofs.TextLemmas.{same_chars}
 use Rattle.xml_state.specs.declared.names.Kept.{Kept}
 use Rattle.xml_state.specs.Events.{name_at}
-use Rattle.xml_state.specs.Names.{same_name, find_name, number_of, with_name}
-use Rattle.xml_state.specs.NameTables.{name_of, names_of}
+use Rattle.xml_state.specs.Names.{same_name, find_name, number_of, with_name, AreDistinct}
+use Rattle.xml_state.specs.NameTables.{space_at, name_of, names_of, IsSpace, AreApart, AreWithin, AreKept, TakesSpace, is_kept, KeepsOne, known, added}
+use Rattle.xml_state.proofs.DistinctLemmas.{distinct_kept}
+use Rattle.xml_state.proofs.DuplicateLemmas.{bytes_eq-flips}
 
--- texts are equal where their characters are
-pub same_text : (a b : List ℕ) → IsUtf8 a → IsUtf8 b → bytes_eq (chars a) (chars b) ≡ bytes_eq b a
-same_text a b u v = same_from_decides _ _ (bytes_eq-Decides (chars a) (chars b))
-    (Decides-like _ (λ e. ap chars (sym e)) (λ e. sym (encodes-chars b v) ∙ (ap encode_utf8_all (sym e) ∙ encodes-chars a u)) (bytes_eq-Decides b a))
+-- texts are equal where their characters are, also the other way round
+same_text : (a b : List ℕ) → IsUtf8 a → IsUtf8 b → bytes_eq (chars a) (chars b) ≡ bytes_eq b a
+same_text a b u v = bytes_eq-flips (chars a) (chars b) ∙ sym (same_chars b a v u)
 
--- A test of kept names that says which are the name.
-pub record Finds (test : Kept → Bool) (name : Name) : Type 0 where
-  pub each : (kept : Kept) → test kept ≡ same_name (name_of kept) name
+or_false : (a b : Bool) → (a || b) ≡ false → (a ≡ false) × (b ≡ false)
+or_false true b h = absurd (true≢false h)
+or_false false b h = (refl, h)
 
--- the test of a kept name
-pub finds_sought : (test : Kept → Bool) (uri local : List ℕ) (sought : Kept) → IsUtf8 uri → IsUtf8 local
-    → string_bytes sought.uri ≡ uri → string_bytes sought.local ≡ local
-    → ((kept : Kept) → test kept ≡ (bytes_eq (string_bytes sought.uri) (string_bytes kept.uri) && bytes_eq (string_bytes sought.local) (string_bytes kept.local)))
-    → Finds test (record { uri = chars uri; local = chars local })
-finds_sought test uri local sought u v a b is = record {
-  each = λ kept.
-      is kept ∙ (ap (λ x. bytes_eq x (string_bytes kept.uri) && bytes_eq (string_bytes sought.local) (string_bytes kept.local)) a
-      ∙ (ap (λ x. bytes_eq uri (string_bytes kept.uri) && bytes_eq x (string_bytes kept.local)) b
-      ∙ (ap (λ x. x && bytes_eq local (string_bytes kept.local)) (sym (same_text (string_bytes kept.uri) uri (IsUtf8-string_bytes kept.uri) u))
-      ∙ ap (λ x. bytes_eq (chars (string_bytes kept.uri)) (chars uri) && x) (sym (same_text (string_bytes kept.local) local (IsUtf8-string_bytes kept.local) v)))));
-}
+-- Namespace names.
+pub space-front : (spaces more : List (String Global)) (n : ℕ) → n < length spaces → space_at (spaces ++ more) n ≡ space_at spaces n
+space-front [] more n h = absurd (omega arith)
+space-front (space ∷ spaces) more zero h = refl
+space-front (space ∷ spaces) more (suc n) h = space-front spaces more n (omega arith)
 
-module _ (test : Kept → Bool) (name : Name) (finds : Finds test name) where
-  -- the number of a name is where it is first found
-  pub number_of-at : (keys : List Kept) → number_of name (names_of keys) ≡ position_or_len test keys
-  number_of-at = is_position_or_len (λ keys. number_of name (names_of keys)) test refl (λ k keys. ap (λ b. if b then 0 else 1 + number_of name (names_of keys)) (sym (finds.each k)))
+space-last : (spaces : List (String Global)) (space : String Global) (n : ℕ) → n ≡ length spaces → space_at (spaces ++ space ∷ []) n ≡ chars (string_bytes space)
+space-last [] space n h = ap (space_at (space ∷ [])) h
+space-last (first ∷ spaces) space zero h = absurd (omega arith)
+space-last (first ∷ spaces) space (suc n) h = space-last spaces space n (omega arith)
 
+space-get : (spaces : List (String Global)) (n : ℕ) (d : String Global) → n < length spaces → space_at spaces n ≡ chars (string_bytes (get_or spaces n d))
+space-get [] n d h = absurd (omega arith)
+space-get (space ∷ spaces) zero d h = refl
+space-get (space ∷ spaces) (suc n) d h = space-get spaces n d (omega arith)
+
+nowhere : (test : String Global → Bool) (n : ℕ) → position test [] ≡ Some n → ⊥
+nowhere test n h = cc
+
+-- one that is found
+pub space-found : (spaces : List (String Global)) (uri : List ℕ) (n : ℕ) → Some n ≡ position (λ (s : String Global). bytes_eq uri (string_bytes s)) spaces → IsSpace spaces n (chars uri)
+space-found [] uri n h = absurd (nowhere (λ (s : String Global). bytes_eq uri (string_bytes s)) n (sym h))
+space-found (space ∷ spaces) uri n h =
+    let p = position-Some (λ (s : String Global). bytes_eq uri (string_bytes s)) (space ∷ spaces) n space (sym h) in
+    record {
+      within = p.0;
+      is = space-get (space ∷ spaces) n space p.0 ∙ ap chars (sym ((bytes_eq-Decides uri (string_bytes (get_or (space ∷ spaces) n space))).0 p.1));
+    }
+
+-- one that isn't there
+space-absent : (spaces : List (String Global)) (uri : List ℕ) → IsUtf8 uri → list_any (λ (s : String Global). bytes_eq uri (string_bytes s)) spaces ≡ false → (k : ℕ) → k < length spaces → space_at spaces k ≡ chars uri → ⊥
+space-absent [] uri u h k l e = omega arith
+space-absent (space ∷ spaces) uri u h zero l e =
+    let p = or_false (bytes_eq uri (string_bytes space)) _ h in
+    true≢false (sym ((bytes_eq-Decides (chars (string_bytes space)) (chars uri)).1 e) ∙ (same_text (string_bytes space) uri (IsUtf8-string_bytes space) u ∙ p.0))
+space-absent (space ∷ spaces) uri u h (suc k) l e =
+    let p = or_false (bytes_eq uri (string_bytes space)) _ h in space-absent spaces uri u p.1 k (omega arith) e
+
+apart-more : (spaces : List (String Global)) (space : String Global) → AreApart spaces → ((k : ℕ) → k < length spaces → space_at spaces k ≡ chars (string_bytes space) → ⊥) → AreApart (spaces ++ space ∷ [])
+apart-more spaces space apart new i j h k e =
+    let l : length (spaces ++ space ∷ []) ≡ length spaces + 1 = length-append spaces (space ∷ []) in
+    elim (cases_lt i (length spaces)) [
+      | inl a ↦ elim (cases_lt j (length spaces)) [
+        | inl b ↦ apart i j a b (sym (space-front spaces (space ∷ []) i a) ∙ (e ∙ space-front spaces (space ∷ []) j b))
+        | inr b ↦ absurd (new i a (sym (space-front spaces (space ∷ []) i a) ∙ (e ∙ space-last spaces space j (omega (arith, l, k)))))
+      ]
+      | inr a ↦ elim (cases_lt j (length spaces)) [
+        | inl b ↦ absurd (new j b (sym (space-front spaces (space ∷ []) j b) ∙ (sym e ∙ space-last spaces space i (omega (arith, l, h)))))
+        | inr b ↦ omega (arith, l, h, k)
+      ]
+    ]
+
+-- what a look-up says of a name that is there
+pub takes-found : {E : Type 0} (spaces : List (String Global)) (uri : List ℕ) (n : ℕ) → AreApart spaces → Some n ≡ position (λ (s : String Global). bytes_eq uri (string_bytes s)) spaces
+    → TakesSpace {E = E} (Ok n) (chars uri) spaces spaces
+takes-found spaces uri n apart h = record { apart = apart; more = []; grown = sym (append-nil spaces); number = space-found spaces uri n h }
+
+-- one that was added
+pub takes-new : {E : Type 0} (spaces after : List (String Global)) (uri : List ℕ) (space : String Global) (n : ℕ) (test : String Global → Bool) → AreApart spaces → IsUtf8 uri
+    → false ≡ list_any (λ (s : String Global). bytes_eq uri (string_bytes s)) spaces → string_bytes space ≡ uri → n ≡ length spaces
+    → ((s : String Global) → test s ≡ bytes_eq (string_bytes space) (string_bytes s)) → after ≡ (if list_any test spaces then spaces else spaces ++ space ∷ [])
+    → TakesSpace {E = E} (Ok n) (chars uri) spaces after
+takes-new {E} spaces after uri space n test apart u absent same at tests is =
+    let none : list_any test spaces ≡ false = tested spaces ∙ sym absent in
+    let grown : after ≡ spaces ++ space ∷ [] = is ∙ ap (λ b. if b then spaces else spaces ++ space ∷ []) none in
+    let l : length (spaces ++ space ∷ []) ≡ length spaces + 1 = length-append spaces (space ∷ []) in
+    subst (λ x. TakesSpace {E = E} (Ok n) (chars uri) spaces x) (sym grown) (record {
+      apart = apart-more spaces space apart (λ k h e. space-absent spaces uri u (sym absent) k h (e ∙ ap chars same));
+      more = space ∷ [];
+      grown = refl;
+      number = record { within = omega (arith, at, l); is = space-last spaces space n at ∙ ap chars same };
+    })
+  where
+    tested : (xs : List (String Global)) → list_any test xs ≡ list_any (λ (s : String Global). bytes_eq uri (string_bytes s)) xs
+    tested [] = refl
+    tested (x ∷ xs) = ap (λ b. b || list_any test xs) (tests x ∙ ap (λ y. bytes_eq y (string_bytes x)) same) ∙ ap (λ b. bytes_eq uri (string_bytes x) || b) (tested xs)
+
+pub takes-none : {E : Type 0} (spaces after : List (String Global)) (uri : List ℕ) (error : E) → AreApart spaces → after ≡ spaces → TakesSpace (Err error) uri spaces after
+takes-none {E} spaces after uri error apart is =
+    subst (λ x. TakesSpace {E = E} (Err error) uri spaces x) (sym is) (record { apart = apart; more = []; grown = sym (append-nil spaces); number = tt })
+
+-- Names in more namespaces.
+pub within-more : (n m : ℕ) (keys : List Kept) → n ≤ m → AreWithin n keys → AreWithin m keys
+within-more n m [] h w = tt
+within-more n m (kept ∷ keys) h w = (omega (arith, w.0), within-more n m keys h w.1)
+
+within-push : (n : ℕ) (keys : List Kept) (kept : Kept) → AreWithin n keys → kept.space < n → AreWithin n (keys ++ kept ∷ [])
+within-push n [] kept w h = (h, tt)
+within-push n (k ∷ keys) kept w h = (w.0, within-push n keys kept w.1 h)
+
+names-grown : (spaces more : List (String Global)) (keys : List Kept) → AreWithin (length spaces) keys → names_of (spaces ++ more) keys ≡ names_of spaces keys
+names-grown spaces more [] w = refl
+names-grown spaces more (kept ∷ keys) w =
+    let named : List ℕ → Name = λ uri. record { uri = uri; local = chars (string_bytes kept.local) } in
+    ap (λ uri. named uri ∷ names_of (spaces ++ more) keys) (space-front spaces more kept.space w.0) ∙ ap (λ names. name_of spaces kept ∷ names) (names-grown spaces more keys w.1)
+
+-- More namespaces change no name.
+pub kept-behind : (spaces grown more : List (String Global)) (keys : List Kept) → AreKept spaces keys → AreApart grown → grown ≡ spaces ++ more → AreKept grown keys × (names_of grown keys ≡ names_of spaces keys)
+kept-behind spaces grown more keys kept apart is =
+    let same : names_of grown keys ≡ names_of spaces keys = ap (λ x. names_of x keys) is ∙ names-grown spaces more keys kept.within in
+    let l : length grown ≡ length spaces + length more = ap length is ∙ length-append spaces more in (
+      record { apart = apart; within = within-more (length spaces) (length grown) keys (omega (arith, l)) kept.within; distinct = subst AreDistinct (sym same) kept.distinct },
+      same,
+    )
+
+pub kept-grown : {E : Type 0} (result : Result ℕ E) (uri : List ℕ) (spaces after : List (String Global)) (keys : List Kept) → AreKept spaces keys → TakesSpace result uri spaces after
+    → AreKept after keys × (names_of after keys ≡ names_of spaces keys)
+kept-grown result uri spaces after keys kept takes = kept-behind spaces after takes.more keys kept takes.apart takes.grown
+
+-- The test of kept names says which are the name.
+tests-name : (spaces : List (String Global)) (apart : AreApart spaces) (n : ℕ) (uri local : List ℕ) → IsSpace spaces n uri → IsUtf8 local
+    → (kept : Kept) → kept.space < length spaces → is_kept n local kept ≡ same_name (name_of spaces kept) (record { uri = uri; local = chars local })
+tests-name spaces apart n uri local space u kept within =
+    let numbers : (n == kept.space) ≡ bytes_eq (space_at spaces kept.space) uri =
+    same_from_decides _ _ (Decides-eqb n kept.space)
+    (Decides-like _ (λ e. apart n kept.space space.within within (space.is ∙ sym e)) (λ e. ap (space_at spaces) (sym e) ∙ space.is) (bytes_eq-Decides (space_at spaces kept.space) uri)) in
+    ap (λ b. b && bytes_eq local (string_bytes kept.local)) numbers
+    ∙ ap (λ b. bytes_eq (space_at spaces kept.space) uri && b) (sym (same_text (string_bytes kept.local) local (IsUtf8-string_bytes kept.local) u))
+
+module _ (spaces : List (String Global)) (test : Kept → Bool) (name : Name) (each : (kept : Kept) → kept.space < length spaces → test kept ≡ same_name (name_of spaces kept) name) where
   position-cons : (k : Kept) (keys : List Kept) → test k ≡ false → position test (k ∷ keys) ≡ option_map (λ n. n + 1) (position test keys)
   position-cons k keys e = grind (arith, nat_tests)
 
   position-first : (k : Kept) (keys : List Kept) → test k ≡ true → position test (k ∷ keys) ≡ Some 0
   position-first k keys e = grind (arith, nat_tests)
 
-  pub find_name-at : (keys : List Kept) → find_name name (names_of keys) ≡ position test keys
-  find_name-at [] = refl
-  find_name-at (k ∷ keys) = by (test k) refl (find_name-at keys)
+  place-cons : (k : Kept) (keys : List Kept) → test k ≡ false → position_or_len test (k ∷ keys) ≡ 1 + position_or_len test keys
+  place-cons k keys e = grind (arith, nat_tests)
+
+  place-first : (k : Kept) (keys : List Kept) → test k ≡ true → position_or_len test (k ∷ keys) ≡ 0
+  place-first k keys e = grind (arith, nat_tests)
+
+  -- the number of a name is where it is first found
+  pub number_of-at : (keys : List Kept) → AreWithin (length spaces) keys → number_of name (names_of spaces keys) ≡ position_or_len test keys
+  number_of-at [] w = refl
+  number_of-at (k ∷ keys) w = by (test k) refl (number_of-at keys w.1)
     where
-      by : (b : Bool) → test k ≡ b → find_name name (names_of keys) ≡ position test keys → find_name name (names_of (k ∷ keys)) ≡ position test (k ∷ keys)
-      by true e rest = ap (λ b. if b then Some 0 else option_map (λ n. n + 1) (find_name name (names_of keys))) (sym (finds.each k) ∙ e) ∙ sym (position-first k keys e)
-      by false e rest = ap (λ b. if b then Some 0 else option_map (λ n. n + 1) (find_name name (names_of keys))) (sym (finds.each k) ∙ e) ∙ (ap (option_map (λ n. n + 1)) rest ∙ sym (position-cons k keys e))
+      by : (b : Bool) → test k ≡ b → number_of name (names_of spaces keys) ≡ position_or_len test keys → number_of name (names_of spaces (k ∷ keys)) ≡ position_or_len test (k ∷ keys)
+      by true e rest = ap (λ b. if b then 0 else 1 + number_of name (names_of spaces keys)) (sym (each k w.0) ∙ e) ∙ sym (place-first k keys e)
+      by false e rest = ap (λ b. if b then 0 else 1 + number_of name (names_of spaces keys)) (sym (each k w.0) ∙ e) ∙ (ap (λ n. 1 + n) rest ∙ sym (place-cons k keys e))
+
+  find_name-at : (keys : List Kept) → AreWithin (length spaces) keys → find_name name (names_of spaces keys) ≡ position test keys
+  find_name-at [] w = refl
+  find_name-at (k ∷ keys) w = by (test k) refl (find_name-at keys w.1)
+    where
+      by : (b : Bool) → test k ≡ b → find_name name (names_of spaces keys) ≡ position test keys → find_name name (names_of spaces (k ∷ keys)) ≡ position test (k ∷ keys)
+      by true e rest = ap (λ b. if b then Some 0 else option_map (λ n. n + 1) (find_name name (names_of spaces keys))) (sym (each k w.0) ∙ e) ∙ sym (position-first k keys e)
+      by false e rest = ap (λ b. if b then Some 0 else option_map (λ n. n + 1) (find_name name (names_of spaces keys))) (sym (each k w.0) ∙ e) ∙ (ap (option_map (λ n. n + 1)) rest ∙ sym (position-cons k keys e))
 
   -- a name that is there leaves the table as it was
-  pub with_name-known : (keys : List Kept) → list_any test keys ≡ true → with_name (names_of keys) name ≡ names_of keys
-  with_name-known [] h = absurd (true≢false (sym h))
-  with_name-known (k ∷ keys) h = by (test k) refl (λ e. with_name-known keys (rw e at h))
+  with_name-known : (keys : List Kept) → AreWithin (length spaces) keys → list_any test keys ≡ true → with_name (names_of spaces keys) name ≡ names_of spaces keys
+  with_name-known [] w h = absurd (true≢false (sym h))
+  with_name-known (k ∷ keys) w h = by (test k) refl (λ e. with_name-known keys w.1 (rw e at h))
     where
-      by : (b : Bool) → test k ≡ b → (test k ≡ false → with_name (names_of keys) name ≡ names_of keys) → with_name (names_of (k ∷ keys)) name ≡ names_of (k ∷ keys)
-      by true e rest = rw (sym (finds.each k), e) refl
-      by false e rest = rw (sym (finds.each k), e) (ap (λ names. name_of k ∷ names) (rest e))
+      by : (b : Bool) → test k ≡ b → (test k ≡ false → with_name (names_of spaces keys) name ≡ names_of spaces keys) → with_name (names_of spaces (k ∷ keys)) name ≡ names_of spaces (k ∷ keys)
+      by true e rest = rw (sym (each k w.0), e) refl
+      by false e rest = rw (sym (each k w.0), e) (ap (λ names. name_of spaces k ∷ names) (rest e))
 
   -- a new one goes last
-  pub with_name-new : (keys : List Kept) → list_any test keys ≡ false → with_name (names_of keys) name ≡ names_of keys ++ name ∷ []
-  with_name-new [] h = refl
-  with_name-new (k ∷ keys) h = by (test k) refl (λ e. with_name-new keys (rw e at h))
+  with_name-new : (keys : List Kept) → AreWithin (length spaces) keys → list_any test keys ≡ false → with_name (names_of spaces keys) name ≡ names_of spaces keys ++ name ∷ []
+  with_name-new [] w h = refl
+  with_name-new (k ∷ keys) w h = by (test k) refl (λ e. with_name-new keys w.1 (rw e at h))
     where
-      by : (b : Bool) → test k ≡ b → (test k ≡ false → with_name (names_of keys) name ≡ names_of keys ++ name ∷ []) → with_name (names_of (k ∷ keys)) name ≡ names_of (k ∷ keys) ++ name ∷ []
+      by : (b : Bool) → test k ≡ b → (test k ≡ false → with_name (names_of spaces keys) name ≡ names_of spaces keys ++ name ∷ []) → with_name (names_of spaces (k ∷ keys)) name ≡ names_of spaces (k ∷ keys) ++ name ∷ []
       by true e rest = absurd (true≢false (rw e at h))
-      by false e rest = rw (sym (finds.each k), e) (ap (λ names. name_of k ∷ names) (rest e))
+      by false e rest = rw (sym (each k w.0), e) (ap (λ names. name_of spaces k ∷ names) (rest e))
 
-  -- and its number is the number of names before
-  pub number_of-new : (keys : List Kept) → list_any test keys ≡ false → number_of name (names_of keys) ≡ length keys
-  number_of-new [] h = refl
-  number_of-new (k ∷ keys) h = by (test k) refl (λ e. number_of-new keys (rw e at h))
-    where
-      by : (b : Bool) → test k ≡ b → (test k ≡ false → number_of name (names_of keys) ≡ length keys) → number_of name (names_of (k ∷ keys)) ≡ length (k ∷ keys)
-      by true e rest = absurd (true≢false (rw e at h))
-      by false e rest = rw (sym (finds.each k), e) (let r = rest e in omega arith)
+  pub found_sought : (keys : List Kept) (i j : ℕ) (names : List Name) → AreWithin (length spaces) keys → names_of spaces keys ≡ names → Some i ≡ position test keys → j ≡ i → Some j ≡ find_name name names
+  found_sought keys i j names w view at same = ap Some same ∙ (at ∙ (sym (find_name-at keys w) ∙ ap (find_name name) view))
 
-  any_same : (t : Kept → Bool) → ((k : Kept) → t k ≡ test k) → (keys : List Kept) → list_any t keys ≡ list_any test keys
-  any_same t ts [] = refl
-  any_same t ts (k ∷ keys) = ap (λ b. b || list_any t keys) (ts k) ∙ ap (λ b. test k || b) (any_same t ts keys)
+  pub not_found : (keys : List Kept) (names : List Name) → AreWithin (length spaces) keys → names_of spaces keys ≡ names → None ≡ position test keys → None ≡ find_name name names
+  not_found keys names w view at = at ∙ (sym (find_name-at keys w) ∙ ap (find_name name) view)
 
-  -- a name that is found, by what the look-up says
-  pub found_number : (keys : List Kept) (i : ℕ) (names : List Name) → names_of keys ≡ names → Some i ≡ position test keys → i ≡ number_of name names
-  found_number keys i names view at =
-      sym (cond_some _ _ _ (sym at)).1 ∙ (sym (number_of-at keys) ∙ ap (number_of name) view)
+-- The test of a name that is looked for, as it is kept.
+pub tests_kept : (test : Kept → Bool) (sought : Kept) (space : ℕ) (local : List ℕ) → sought.space ≡ space → string_bytes sought.local ≡ local
+    → ((k : Kept) → test k ≡ is_kept sought.space (string_bytes sought.local) k) → (k : Kept) → test k ≡ is_kept space local k
+tests_kept test sought space local a b tests k = tests k ∙ (ap (λ n. is_kept n (string_bytes sought.local) k) a ∙ ap (λ x. is_kept space x k) b)
 
-  pub found_names : (keys : List Kept) (names : List Name) → names_of keys ≡ names → true ≡ list_any test keys → names_of keys ≡ with_name names name
-  found_names keys names view found = sym (with_name-known keys (sym found)) ∙ ap (λ x. with_name x name) view
+module _ (test other : Kept → Bool) (same : (k : Kept) → test k ≡ other k) where
+  any_same : (keys : List Kept) → list_any test keys ≡ list_any other keys
+  any_same [] = refl
+  any_same (k ∷ keys) = ap (λ b. b || list_any test keys) (same k) ∙ ap (λ b. other k || b) (any_same keys)
 
-  -- one that is added
-  pub new_number : (keys : List Kept) (names : List Name) (i : ℕ) → names_of keys ≡ names → false ≡ list_any test keys → i ≡ length keys → i ≡ number_of name names
-  new_number keys names i view absent at = at ∙ (sym (number_of-new keys (sym absent)) ∙ ap (number_of name) view)
+  place_same : (keys : List Kept) → position_or_len test keys ≡ position_or_len other keys
+  place_same [] = refl
+  place_same (k ∷ keys) = ap (λ b. cond (not b) (1 + position_or_len test keys) 0) (same k) ∙ ap (λ n. cond (not (other k)) (1 + n) 0) (place_same keys)
 
-  pub new_names : (key : Kept) (keys more : List Kept) (names : List Name) → names_of keys ≡ names → false ≡ list_any test keys → name_of key ≡ name
-      → (t : Kept → Bool) → ((k : Kept) → t k ≡ test k) → more ≡ (if list_any t keys then keys else keys ++ key ∷ []) → names_of more ≡ with_name names name
-  new_names key keys more names view absent same t ts after =
-      ap names_of (after ∙ ap (λ b. if b then keys else keys ++ key ∷ []) (any_same t ts keys ∙ sym absent))
-      ∙ (map-append name_of keys (key ∷ [])
-      ∙ (ap (λ x. names_of keys ++ x ∷ []) same ∙ (sym (with_name-new keys (sym absent)) ∙ ap (λ x. with_name x name) view)))
+  find_same : (keys : List Kept) → position test keys ≡ position other keys
+  find_same keys = ap (λ n. cond (nat_lt n (length keys)) (Some n) None) (place_same keys)
 
-  -- the answer of a look-up
-  pub found_sought : (keys : List Kept) (i j : ℕ) (names : List Name) → names_of keys ≡ names → Some i ≡ position test keys → j ≡ i → Some j ≡ find_name name names
-  found_sought keys i j names view at same = ap Some same ∙ (at ∙ (sym (find_name-at keys) ∙ ap (find_name name) view))
+  pub found_place : (keys : List Kept) (i : ℕ) → Some i ≡ position test keys → i ≡ position_or_len other keys
+  found_place keys i at = sym (cond_some _ _ _ (sym at)).1 ∙ place_same keys
 
-  pub not_found : (keys : List Kept) (names : List Name) → names_of keys ≡ names → None ≡ position test keys → None ≡ find_name name names
-  not_found keys names view at = at ∙ (sym (find_name-at keys) ∙ ap (find_name name) view)
+  pub found_here : (keys : List Kept) (i : ℕ) → Some i ≡ position test keys → Some i ≡ position other keys
+  found_here keys i at = at ∙ find_same keys
 
--- a name of the table by its number
-pub name_at_key : (keys : List Kept) (n : ℕ) (d : Kept) → n < length keys → name_at (names_of keys) n ≡ name_of (get_or keys n d)
-name_at_key [] n d h = absurd (omega arith)
-name_at_key (k ∷ keys) zero d h = refl
-name_at_key (k ∷ keys) (suc n) d h = name_at_key keys n d (omega arith)
+  pub found_nowhere : (keys : List Kept) → None ≡ position test keys → None ≡ position other keys
+  found_nowhere keys at = at ∙ find_same keys
 
--- what a table says of the name at a number
-pub name_at-kept : (keys : List Kept) (i : ℕ) (key : Kept) (names : List Name) (n : ℕ) → slice_get keys i ≡ Some key → names_of keys ≡ names → i ≡ n → name_of key ≡ name_at names n
-name_at-kept keys i key names n at view same =
-    sym (ap (λ x. name_at x n) (sym view) ∙ (ap (name_at (names_of keys)) (sym same) ∙ (name_at_key keys i key (slice_get_within keys i key at) ∙ ap name_of (get_or_from_slice_get keys i key key at))))
+  pub still_known : (keys : List Kept) → true ≡ list_any test keys → list_any other keys ≡ true
+  still_known keys h = sym (h ∙ any_same keys)
 
-pub if_ok : {T E P : Type 0} (r : Result T E) → P → IfOk r (λ _. P)
+  pub still_new : (keys : List Kept) → false ≡ list_any test keys → list_any other keys ≡ false
+  still_new keys h = sym (h ∙ any_same keys)
+
+place_behind : (test : Kept → Bool) (keys : List Kept) → list_any test keys ≡ false → position_or_len test keys ≡ length keys
+place_behind test [] h = refl
+place_behind test (k ∷ keys) h =
+    let p = or_false (test k) (list_any test keys) h in ap (λ b. cond (not b) (1 + position_or_len test keys) 0) p.0 ∙ (ap (λ n. 1 + n) (place_behind test keys p.1) ∙ (let e : 1 + length keys ≡ suc (length keys) = omega arith in e))
+
+-- the number of a new name is how many there are
+pub new_place : (test : Kept → Bool) (keys : List Kept) (i : ℕ) → list_any test keys ≡ false → i ≡ length keys → i ≡ position_or_len test keys
+new_place test keys i absent at = at ∙ sym (place_behind test keys absent)
+
+-- a copy of what was looked for goes last
+pub added_behind : (space : ℕ) (local : List ℕ) (keys after : List Kept) (copy : Kept) (t : Kept → Bool) → list_any (is_kept space local) keys ≡ false → copy.space ≡ space → string_bytes copy.local ≡ local
+    → ((k : Kept) → t k ≡ is_kept copy.space (string_bytes copy.local) k) → after ≡ (if list_any t keys then keys else keys ++ copy ∷ []) → KeepsOne space local keys after
+added_behind space local keys after copy t absent a b tests is =
+    let none = any_same t (is_kept space local) (tests_kept t copy space local a b tests) keys ∙ absent in
+    subst (KeepsOne space local keys) (sym (is ∙ ap (λ x. if x then keys else keys ++ copy ∷ []) none)) (added copy absent a b)
+
+pub if_ok : {T E P : Type 0} (r : Result T E) → P → OnOk r P
 if_ok (Ok x) p = p
 if_ok (Err e) p = tt
 
--- a copy of a kept name
-pub same_name_of : (copy kept : Kept) (uri local : List ℕ) → string_bytes copy.uri ≡ string_bytes kept.uri → string_bytes copy.local ≡ string_bytes kept.local
-    → string_bytes kept.uri ≡ uri → string_bytes kept.local ≡ local → name_of copy ≡ record { uri = chars uri; local = chars local }
-same_name_of copy kept uri local a b u l =
-    let both : (x y : List ℕ) → Name = λ x y. record { uri = chars x; local = chars y } in
-    ap (λ x. both x (string_bytes copy.local)) (a ∙ u) ∙ ap (both uri) (b ∙ l)
+-- What is kept once a name is numbered.
+module _ (old : List Name) (spaces : List (String Global)) (keys : List Kept) (n : ℕ) (uri local : List ℕ) (kept : AreKept spaces keys) (view : names_of spaces keys ≡ old) (space : IsSpace spaces n uri)
+    (u : IsUtf8 local) where
+  abbrev sought : Name
+  sought = record { uri = uri; local = chars local }
 
-pub same_test : (copy kept other : Kept) → string_bytes copy.uri ≡ string_bytes kept.uri → string_bytes copy.local ≡ string_bytes kept.local
-    → (bytes_eq (string_bytes copy.uri) (string_bytes other.uri) && bytes_eq (string_bytes copy.local) (string_bytes other.local))
-    ≡ (bytes_eq (string_bytes kept.uri) (string_bytes other.uri) && bytes_eq (string_bytes kept.local) (string_bytes other.local))
-same_test copy kept other a b =
-    ap (λ x. bytes_eq x (string_bytes other.uri) && bytes_eq (string_bytes copy.local) (string_bytes other.local)) a
-    ∙ ap (λ x. bytes_eq (string_bytes kept.uri) (string_bytes other.uri) && bytes_eq x (string_bytes other.local)) b
+  each : (k : Kept) → k.space < length spaces → is_kept n local k ≡ same_name (name_of spaces k) sought
+  each = tests-name spaces kept.apart n uri local space u
+
+  pub numbered : (id : ℕ) → id ≡ position_or_len (is_kept n local) keys → id ≡ number_of sought old
+  numbered id is = is ∙ (sym (number_of-at spaces (is_kept n local) sought each keys kept.within) ∙ ap (number_of sought) view)
+
+  pub named : (all : List Kept) → KeepsOne n local keys all → names_of spaces all ≡ with_name old sought
+  named all (known h) = sym (with_name-known spaces (is_kept n local) sought each keys kept.within h) ∙ ap (λ x. with_name x sought) view
+  named all (added k h same text) =
+      map-append (name_of spaces) keys (k ∷ [])
+      ∙ (ap (λ x. names_of spaces keys ++ x ∷ []) (is k same text) ∙ (sym (with_name-new spaces (is_kept n local) sought each keys kept.within h) ∙ ap (λ x. with_name x sought) view))
+    where
+      is : (k : Kept) → k.space ≡ n → string_bytes k.local ≡ local → name_of spaces k ≡ sought
+      is k same text =
+          let both : List ℕ → List ℕ → Name = λ x y. record { uri = x; local = y } in
+          ap (λ x. both x (chars (string_bytes k.local))) (ap (space_at spaces) same ∙ space.is) ∙ ap (λ y. both uri (chars y)) text
+
+  pub still-kept : (all : List Kept) → KeepsOne n local keys all → AreKept spaces all
+  still-kept all k = record {
+    apart = kept.apart;
+    within = inside all k;
+    distinct = distinct_kept (names_of spaces keys) (names_of spaces all) old sought kept.distinct view (named all k);
+  }
+    where
+      inside : (all : List Kept) → KeepsOne n local keys all → AreWithin (length spaces) all
+      inside all (known h) = kept.within
+      inside all (added x h same text) = within-push (length spaces) keys x kept.within (subst (λ m. m < length spaces) (sym same) space.within)
+
+-- What is known of a table whose names were asked for one more, in more namespaces.
+module _ {E : Type 0} (result : Result ℕ E) (old : List Name) (spaces grown : List (String Global)) (keys after : List Kept) (n : ℕ) (uri local : List ℕ) (kept : AreKept spaces keys)
+    (view : names_of spaces keys ≡ old) (takes : TakesSpace {E = E} (Ok n) uri spaces grown) (u : IsUtf8 local) where
+  abbrev wanted : Name
+  wanted = record { uri = uri; local = chars local }
+
+  pub answers-number : IfOk result (λ id. id ≡ position_or_len (is_kept n local) keys) → IfOk result (λ id. id ≡ number_of wanted old)
+  answers-number = by result
+    where
+      by : (r : Result ℕ E) → IfOk r (λ id. id ≡ position_or_len (is_kept n local) keys) → IfOk r (λ id. id ≡ number_of wanted old)
+      by (Ok id) is =
+          let k = kept-grown (Ok n) uri spaces grown keys kept takes in numbered old grown keys n uri local k.0 (k.1 ∙ view) takes.number u id is
+      by (Err e) is = tt
+
+  pub answers-names : OnOk result (KeepsOne n local keys after) → OnOk result (names_of grown after ≡ with_name old wanted)
+  answers-names = by result
+    where
+      by : (r : Result ℕ E) → OnOk r (KeepsOne n local keys after) → OnOk r (names_of grown after ≡ with_name old wanted)
+      by (Ok id) is =
+          let k = kept-grown (Ok n) uri spaces grown keys kept takes in named old grown keys n uri local k.0 (k.1 ∙ view) takes.number u after is
+      by (Err e) is = tt
+
+  pub stays-kept : OnOk result (KeepsOne n local keys after) → OnErr result (after ≡ keys) → AreKept grown after
+  stays-kept = by result
+    where
+      by : (r : Result ℕ E) → OnOk r (KeepsOne n local keys after) → OnErr r (after ≡ keys) → AreKept grown after
+      by (Ok id) is same =
+          let k = kept-grown (Ok n) uri spaces grown keys kept takes in still-kept old grown keys n uri local k.0 (k.1 ∙ view) takes.number u after is
+      by (Err e) is same = let k = kept-grown (Ok n) uri spaces grown keys kept takes in subst (AreKept grown) (sym same) k.0
+
+-- What a look-up of a name says, by the number of its namespace name.
+module _ (spaces : List (String Global)) (keys : List Kept) (names : List Name) (n : ℕ) (uri : List ℕ) {local : List ℕ} (kept : AreKept spaces keys) (view : names_of spaces keys ≡ names)
+    (space : IsSpace spaces n uri) (u : IsUtf8 local) (test : Kept → Bool) (tests : (k : Kept) → test k ≡ is_kept n local k) where
+  pub sought-here : (i j : ℕ) → Some i ≡ position test keys → j ≡ i → Some j ≡ find_name (record { uri = uri; local = chars local }) names
+  sought-here i j at same =
+      found_sought spaces (is_kept n local) (record { uri = uri; local = chars local }) (tests-name spaces kept.apart n uri local space u) keys i j names kept.within view
+      (found_here test (is_kept n local) tests keys i at) same
+
+  pub sought-nowhere : None ≡ position test keys → None ≡ find_name (record { uri = uri; local = chars local }) names
+  sought-nowhere at =
+      not_found spaces (is_kept n local) (record { uri = uri; local = chars local }) (tests-name spaces kept.apart n uri local space u) keys names kept.within view
+      (found_nowhere test (is_kept n local) tests keys at)
+
+-- A name in a namespace that isn't kept isn't in the table.
+module _ (spaces : List (String Global)) (uri local : List ℕ) (u : IsUtf8 uri) (absent : false ≡ list_any (λ (s : String Global). bytes_eq uri (string_bytes s)) spaces) where
+  abbrev lacking : Name
+  lacking = record { uri = chars uri; local = chars local }
+
+  differs : (kept : Kept) → kept.space < length spaces → same_name (name_of spaces kept) lacking ≡ false
+  differs kept h = by (bytes_eq (space_at spaces kept.space) (chars uri)) refl
+    where
+      by : (b : Bool) → bytes_eq (space_at spaces kept.space) (chars uri) ≡ b → same_name (name_of spaces kept) lacking ≡ false
+      by true e = absurd (space-absent spaces uri u (sym absent) kept.space h ((bytes_eq-Decides (space_at spaces kept.space) (chars uri)).0 e))
+      by false e = ap (λ b. b && bytes_eq (chars (string_bytes kept.local)) (chars local)) e
+
+  none_there : (keys : List Kept) → AreWithin (length spaces) keys → find_name lacking (names_of spaces keys) ≡ None
+  none_there [] w = refl
+  none_there (k ∷ keys) w =
+      ap (λ b. if b then Some 0 else option_map (λ n. n + 1) (find_name lacking (names_of spaces keys))) (differs k w.0) ∙ ap (option_map (λ n. n + 1)) (none_there keys w.1)
+
+  pub not_in_space : (keys : List Kept) (names : List Name) → AreWithin (length spaces) keys → names_of spaces keys ≡ names → None ≡ find_name lacking names
+  not_in_space keys names w view = sym (none_there keys w) ∙ ap (find_name lacking) view
+
+-- a name of the table by its number
+name_at_key : (spaces : List (String Global)) (keys : List Kept) (n : ℕ) (d : Kept) → n < length keys → name_at (names_of spaces keys) n ≡ name_of spaces (get_or keys n d)
+name_at_key spaces [] n d h = absurd (omega arith)
+name_at_key spaces (k ∷ keys) zero d h = refl
+name_at_key spaces (k ∷ keys) (suc n) d h = name_at_key spaces keys n d (omega arith)
+
+pub name_at-kept : (spaces : List (String Global)) (keys : List Kept) (i : ℕ) (key : Kept) (names : List Name) (n : ℕ) → slice_get keys i ≡ Some key → names_of spaces keys ≡ names → i ≡ n → name_of spaces key ≡ name_at names n
+name_at-kept spaces keys i key names n at view same =
+    sym (ap (λ x. name_at x n) (sym view)
+    ∙ (ap (name_at (names_of spaces keys)) (sym same) ∙ (name_at_key spaces keys i key (slice_get_within keys i key at) ∙ ap (name_of spaces) (get_or_from_slice_get keys i key key at))))
+
+pub within-kept : (n : ℕ) (keys : List Kept) (i : ℕ) (key : Kept) → slice_get keys i ≡ Some key → AreWithin n keys → key.space < n
+within-kept n [] i key h w = cc
+within-kept n (k ∷ keys) zero key h w = let same : k ≡ key = cc in subst (λ (x : Kept). x.space < n) same w.0
+within-kept n (k ∷ keys) (suc i) key h w = within-kept n keys i key h w.1
+
+pub space-kept : (spaces : List (String Global)) (i : ℕ) (space : String Global) → slice_get spaces i ≡ Some space → chars (string_bytes space) ≡ space_at spaces i
+space-kept spaces i space h = sym (space-get spaces i space (slice_get_within spaces i space h) ∙ ap (λ s. chars (string_bytes s)) (get_or_from_slice_get spaces i space space h))

@@ -132,17 +132,17 @@ module _ (limits : Limits) (s : State) (tag : Tag) where
         ∙ ap (state (elements_behind s.open_elements (bindings_in s tag) tag) (s.nodes + (1 + length (attributes_in s tag)))) (names_are ∙ p.named.known))
 
 -- What reading the names answers, in a state whose elements and names these are.
-module _ (s : State) (tag : Tag) (old new : InScope) (kind : Option XmlKind) (names named : List Name) (numbers : List ℕ) (here : old.open_elements ≡ s.open_elements) (so_far : names ≡ s.names)
-    (reads : ReadsNames kind old new names tag named numbers) where
+module _ (s : State) (tag : Tag) (old new : InScope) (kind : Option XmlKind) (numbers : List ℕ) (here : old.open_elements ≡ s.open_elements) (so_far : old.names ≡ s.names)
+    (reads : ReadsNames kind old new tag numbers) where
   pub names-answered : first_cause (name_causes (bindings_in s tag) tag) ≡ kind
   names-answered = ap (λ x. first_cause (name_causes (bindings_inside (bindings_inside_innermost x) tag) tag)) (sym here) ∙ sym reads.fault
 
-  pub is-prepared : (limits : Limits) → None ≡ first_cause (early_causes limits s tag) → kind ≡ None → Prepared limits s tag new.bound named numbers
+  pub is-prepared : (limits : Limits) → None ≡ first_cause (early_causes limits s tag) → kind ≡ None → Prepared limits s tag new.bound new.names numbers
   is-prepared limits early none = record {
     early = sym early;
     fine = names-answered ∙ none;
     named =
-        let named_in : List Open → List Name → Type 0 = λ x y. AreNamed (bindings_inside (bindings_inside_innermost x) tag) y tag new.bound named numbers in
+        let named_in : List Open → List Name → Type 0 = λ x y. AreNamed (bindings_inside (bindings_inside_innermost x) tag) y tag new.bound new.names numbers in
         subst (λ x. named_in x s.names) here (subst (λ y. named_in old.open_elements y) so_far (reads.known none));
   }
 

@@ -1,11 +1,10 @@
 -- Names as they are written.
 use Rattle.std.proofs.Common.{◌≡◌, ℕ, suc, ◌+◌, Bool, true, false, List, [], ◌∷◌, length, refl, sym, ap, ◌∙◌, arith}
 use Rattle.std.specs.List.{list_any, position_or_len}
-use Rattle.std.specs.Str.{chars, IsUtf8, bytes_eq, encode_utf8_all}
+use Rattle.std.specs.Str.{chars, IsUtf8, encode_utf8_all}
 use Rattle.std.proofs.Common.{◌==◌}
 use Rattle.std.proofs.lemmas.Str.{encodes-chars, chars-nil}
-use Rattle.std.proofs.lemmas.Slice.Eq.{bytes_eq-Decides}
-use Rattle.std.proofs.lemmas.Bool.Decides.{same_from_decides, Decides-like, nat_tests}
+use Rattle.std.proofs.lemmas.Bool.Decides.{nat_tests}
 use Rattle.xml_tokens.specs.WrittenNames.{is_colon, prefix_of, local_of}
 
 pub lacks : {X : Type 0} (p : X → Bool) (xs : List X) → position_or_len p xs ≡ length xs → list_any p xs ≡ false
@@ -21,11 +20,6 @@ prefix_of-none name h = rw (lacks is_colon name h) refl
 
 pub local_of-none : (name : List ℕ) → position_or_len is_colon name ≡ length name → name ≡ local_of name
 local_of-none name h = rw (lacks is_colon name h) refl
-
--- a text is the same where its characters are
-pub same_chars : (a b : List ℕ) → IsUtf8 a → IsUtf8 b → bytes_eq a b ≡ bytes_eq (chars a) (chars b)
-same_chars a b u v = same_from_decides _ _ (bytes_eq-Decides a b)
-    (Decides-like _ (λ e. sym (encodes-chars a u) ∙ (ap encode_utf8_all e ∙ encodes-chars b v)) (ap chars) (bytes_eq-Decides (chars a) (chars b)))
 
 -- a text without characters has no bytes
 pub empty_chars : (a : List ℕ) → IsUtf8 a → (length a == 0) ≡ (length (chars a) == 0)

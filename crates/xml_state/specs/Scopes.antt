@@ -1,34 +1,67 @@
--- The open elements as they are kept: their names as written on one stack of bytes, and the bindings on another.
-use Rattle.std.specs.Prelude.{◌≡◌, ◌++◌, ℕ, ◌≤◌, List, [], ◌∷◌, take, drop, chars, string_bytes}
-use Rattle.xml_state.specs.Namespaces.{Binding, first_bindings}
+-- The open elements as they are kept: their names as written on one stack of bytes, and the bindings on another, of which
+-- each has the number of its namespace name.
+use Rattle.std.specs.Prelude.{◌≡◌, ◌++◌, ℕ, ◌<◌, ◌≤◌, List, [], ◌∷◌, length, reverse, take, drop, string_bytes, bytes_eq, String, Option, Some, None, if◌then◌else◌, Result, OnOk}
+use Rattle.std.specs.Global.{Global}
+use Rattle.inv_base.specs.Tree.{Name}
+use Rattle.xml_tokens.specs.Markup.{Written}
+use Rattle.xml_state.specs.Namespaces.{Binding, first_bindings, declared_bindings}
+use Rattle.xml_state.specs.NameTables.{space_at, names_of, AreApart, AreKept}
 use Rattle.xml_state.specs.States.{Open}
+use Rattle.xml_state.specs.declared.names.Kept.{Kept}
 use Rattle.xml_state.specs.declared.scopes.Bound.{Bound}
 use Rattle.xml_state.specs.declared.scopes.Frame.{Frame}
 
--- the open elements from the innermost, and what is bound where the next name is read, the innermost first
+-- the open elements from the innermost, what is bound where the next name is read, the innermost first, and the names
+-- that were seen
 pub record InScope : Type 0 where
   pub open_elements : List Open
   pub bound : List Binding
+  pub names : List Name
 
-abbrev pub seen_bound : Bound → Binding
-seen_bound bound = record { prefix = string_bytes bound.prefix; uri = chars (string_bytes bound.uri) }
+abbrev pub seen_bound : List (String Global) → Bound → Binding
+seen_bound spaces bound = record { prefix = string_bytes bound.prefix; uri = space_at spaces bound.space }
 
 -- the bindings and further ones, each inside those before
-abbrev pub bound_in : List Binding → List Bound → List Binding
-bound_in outer [] = outer
-bound_in outer (bound ∷ more) = bound_in (seen_bound bound ∷ outer) more
+abbrev pub bound_in : List (String Global) → List Binding → List Bound → List Binding
+bound_in spaces outer [] = outer
+bound_in spaces outer (bound ∷ more) = bound_in spaces (seen_bound spaces bound ∷ outer) more
 
 -- the bindings of a stack, the innermost first
-abbrev pub bindings_of : List Bound → List Binding
-bindings_of stack = bound_in first_bindings stack
+abbrev pub bindings_of : List (String Global) → List Bound → List Binding
+bindings_of spaces stack = bound_in spaces first_bindings stack
 
 -- The open elements of frames, the innermost first: of each, its name stands behind those outside, and so many bindings
 -- stand inside it.
-abbrev pub opened : List Frame → List ℕ → List Bound → List Open
-opened [] written stack = []
-opened (frame ∷ frames) written stack =
-    record { name = drop frame.name_at written; bindings = bindings_of (take frame.bindings stack) }
-    ∷ opened frames (take frame.name_at written) (take frame.bindings stack)
+abbrev pub opened : List (String Global) → List Frame → List ℕ → List Bound → List Open
+opened spaces [] written stack = []
+opened spaces (frame ∷ frames) written stack =
+    record { name = drop frame.name_at written; bindings = bindings_of spaces (take frame.bindings stack) }
+    ∷ opened spaces frames (take frame.name_at written) (take frame.bindings stack)
+
+-- what is seen of stacks and of the names
+abbrev pub in_scope : List Frame → List ℕ → List Bound → List (String Global) → List Kept → InScope
+in_scope frames written stack spaces keys =
+    record { open_elements = opened spaces (reverse frames) written stack; bound = bindings_of spaces stack; names = names_of spaces keys }
+
+-- the first of two numbers that is one
+abbrev pub or_else : Option ℕ → Option ℕ → Option ℕ
+or_else None other = other
+or_else (Some n) other = Some n
+
+-- the number that the innermost binding of a prefix has
+abbrev pub space_of : List ℕ → List Bound → Option ℕ
+space_of prefix [] = None
+space_of prefix (bound ∷ more) = or_else (space_of prefix more) (if bytes_eq (string_bytes bound.prefix) prefix then Some bound.space else None)
+
+-- The numbers of bindings are below.
+abbrev pub AreBelow : ℕ → List Bound → Type 0
+AreBelow n [] = Unit {0}
+AreBelow n (bound ∷ more) = (bound.space < n) × AreBelow n more
+
+-- No namespace name is kept twice, and each binding has the number of one.
+pub record AreBound (spaces : List (String Global)) (stack : List Bound) : Type 0 where
+  pub apart : AreApart spaces
+  pub below : AreBelow (length spaces) stack
 
 -- how many bindings stand inside the innermost
 abbrev pub inside_innermost : List Frame → ℕ
@@ -45,7 +78,26 @@ abbrev pub around_innermost : List Open → List Open
 around_innermost [] = []
 around_innermost (element ∷ outer) = outer
 
--- The new stack is the old one, and perhaps more upon it.
-pub record Keeps (old new : List Bound) : Type 0 where
+-- What holds of the stacks and of the names.
+pub record AreScoped (frames : List Frame) (written : List ℕ) (stack : List Bound) (spaces : List (String Global)) (keys : List Kept) : Type 0 where
+  pub nested : AreNested (reverse frames) (length written) (length stack)
+  pub below : AreBelow (length spaces) stack
+  pub kept : AreKept spaces keys
+
+-- The new stacks are the old ones, and perhaps more upon them.
+pub record Grows (spaces grown : List (String Global)) (old new : List Bound) : Type 0 where
+  pub bound : AreBound grown new
+  pub more_spaces : List (String Global)
+  pub spaces_are : grown ≡ spaces ++ more_spaces
   pub more : List Bound
-  pub is : new ≡ old ++ more
+  pub are : new ≡ old ++ more
+
+-- What attributes declare was bound inside all others.
+pub record Declares {T E : Type 0} (result : Result T E) (attributes : List Written) (spaces grown : List (String Global)) (old new : List Bound) : Type 0 where
+  pub grows : Grows spaces grown old new
+  pub declared : OnOk result (bindings_of grown new ≡ declared_bindings attributes ++ bindings_of spaces old)
+
+-- A binding was bound inside all others.
+pub record Binds {T E : Type 0} (result : Result T E) (binding : Binding) (spaces grown : List (String Global)) (old new : List Bound) : Type 0 where
+  pub grows : Grows spaces grown old new
+  pub bound : OnOk result (bindings_of grown new ≡ binding ∷ bindings_of spaces old)

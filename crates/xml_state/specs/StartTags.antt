@@ -69,7 +69,7 @@ pub record AreNamed (inside : List Binding) (names : List Name) (tag : Tag) (bou
 
 -- What reading the names of a tag answers inside these elements: the first cause of a fault of them, and where there is
 -- none they are known.
-pub record ReadsNames (kind : Option XmlKind) (old new : InScope) (names : List Name) (tag : Tag) (named : List Name) (numbers : List ℕ) : Type 0 where
+pub record ReadsNames (kind : Option XmlKind) (old new : InScope) (tag : Tag) (numbers : List ℕ) : Type 0 where
   pub fault : kind ≡ first_cause (name_causes (bindings_inside (bindings_inside_innermost old.open_elements) tag) tag)
   pub still : new.open_elements ≡ old.open_elements
-  pub known : kind ≡ None → AreNamed (bindings_inside (bindings_inside_innermost old.open_elements) tag) names tag new.bound named numbers
+  pub known : kind ≡ None → AreNamed (bindings_inside (bindings_inside_innermost old.open_elements) tag) old.names tag new.bound new.names numbers

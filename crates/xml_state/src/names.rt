@@ -1,6 +1,8 @@
 ghost use Rattle.std.specs.Prelude.{◌≡◌, ℕ, ◌<◌, [], length, chars, string_bytes, IfOk, OnOk, OnErr, IsTrue, ◌↔◌};
 ghost use Rattle.xml_state.specs.Events.{name_at};
-ghost use Rattle.xml_state.specs.Names.{find_name, number_of, with_name, AreDistinct};
+ghost use Rattle.std.specs.List.{position_or_len};
+ghost use Rattle.xml_state.specs.NameTables as spec;
+ghost use Rattle.xml_state.specs.Names.{find_name, AreDistinct};
 
 use indexmap::IndexSet;
 use std::alloc::{AllocError, Global};
@@ -40,41 +42,39 @@ impl NameId {
     }
 }
 
-// An expanded name: a namespace name, empty for none, and a local name.
+// An expanded name: the number of its namespace name, and its local name.
 #[derive(PartialEq, Eq, Hash, Drop)]
-struct Kept {
-    uri: String,
+pub(crate) struct Kept {
+    space: usize,
     local: String,
 }
 
 impl Kept {
-    fn new(alloc: Global) -> Kept
-        ensures uri { string_bytes result.uri ≡ [] }
-        ensures local { string_bytes result.local ≡ [] }
+    pub(crate) fn new(alloc: Global) -> Kept
+        ensures { string_bytes result.local ≡ [] }
     {
         Kept {
-            uri: String::new(alloc),
+            space: 0,
             local: String::new(alloc),
         }
     }
 
-    fn set(&mut self, uri: &str, local: &str) -> Result<(), AllocError>
-        ensures uri { OnOk result (string_bytes self.new.uri ≡ uri.now) }
+    fn set(&mut self, space: usize, local: &str) -> Result<(), AllocError>
+        ensures space { OnOk result (self.new.space ≡ space) }
         ensures local { OnOk result (string_bytes self.new.local ≡ local.now) }
     {
-        self.uri.clear();
-        self.uri.push_str(uri)?;
+        self.space = space;
         self.local.clear();
         self.local.push_str(local)?;
         Ok(())
     }
 
     fn copy(&self, alloc: Global) -> Result<Kept, AllocError>
-        ensures uri { IfOk result (λ kept. string_bytes kept.uri ≡ string_bytes self.now.uri) }
+        ensures space { IfOk result (λ kept. kept.space ≡ self.now.space) }
         ensures local { IfOk result (λ kept. string_bytes kept.local ≡ string_bytes self.now.local) }
     {
         Ok(Kept {
-            uri: String::from_str(alloc, self.uri.as_str())?,
+            space: self.space,
             local: String::from_str(alloc, self.local.as_str())?,
         })
     }
@@ -83,9 +83,9 @@ impl Kept {
 /// The expanded names of a document, numbered in first-seen order.
 #[derive(Drop)]
 pub struct NameTable {
+    // Each namespace name once, empty for none: it may be far longer than the names in it.
+    spaces: IndexSet<String>,
     names: IndexSet<Kept>,
-    // The name that is looked for, in place, so that a look-up takes no memory.
-    sought: Kept,
 }
 
 impl Model for NameTable {
@@ -94,23 +94,61 @@ impl Model for NameTable {
 
     ghost Value = { List Name };
 
-    ghost use Rattle.xml_state.specs.NameTables.{names_of};
+    ghost use Rattle.xml_state.specs.NameTables.{names_of, AreKept};
 
-    ghost view = { λ table. names_of table.names.keys };
+    ghost view = { λ table. names_of table.spaces.keys table.names.keys };
 
-    ghost use Rattle.xml_state.specs.Names.{AreDistinct};
+    ghost invariant = { λ table. AreKept table.spaces.keys table.names.keys };
+}
 
-    ghost invariant = { λ table. AreDistinct (names_of table.names.keys) };
+// The number of a namespace name, which is added where it is new.
+pub(crate) fn number_space(
+    spaces: &mut IndexSet<String>,
+    alloc: Global,
+    uri: &str,
+) -> Result<usize, AllocError>
+    requires { spec.AreApart spaces.old.keys }
+    ensures { spec.TakesSpace result (chars uri.now) spaces.old.keys spaces.new.keys }
+{
+    match spaces.get_index_of(uri) {
+        Some(n) => Ok(n),
+        None => {
+            let n = spaces.len();
+            spaces.insert(String::from_str(alloc, uri)?)?;
+            Ok(n)
+        }
+    }
+}
+
+// The number of a name by the number of its namespace, which is added where it is new.
+pub(crate) fn number_kept(
+    names: &mut IndexSet<Kept>,
+    sought: &mut Kept,
+    alloc: Global,
+    space: usize,
+    local: &str,
+) -> Result<NameId, AllocError>
+    ensures number { IfOk result (λ id. id ≡ position_or_len (spec.is_kept space local.now) names.old.keys) }
+    ensures names { OnOk result (spec.KeepsOne space local.now names.old.keys names.new.keys) }
+    ensures err { OnErr result (names.new.keys ≡ names.old.keys) }
+{
+    sought.set(space, local)?;
+    match names.get_index_of(&*sought) {
+        Some(index) => NameId::at(index),
+        None => {
+            let id = NameId::at(names.len())?;
+            names.insert(sought.copy(alloc)?)?;
+            Ok(id)
+        }
+    }
 }
 
 impl NameTable {
-    pub(crate) fn new(alloc: Global) -> Self
-        ensures { result ≡ [] }
+    pub(crate) fn of(spaces: IndexSet<String>, names: IndexSet<Kept>) -> NameTable
+        requires { spec.AreKept spaces.keys names.keys }
+        ensures { result ≡ spec.names_of spaces.keys names.keys }
     {
-        NameTable {
-            names: IndexSet::new(alloc),
-            sought: Kept::new(alloc),
-        }
+        NameTable { spaces, names }
     }
 
     /// How many names the table has. Names have the numbers below.
@@ -134,34 +172,15 @@ impl NameTable {
         let _ = &self.names;
     }
 
-    // The number of a name, which is added where it is new. Want of memory changes nothing.
-    pub(crate) fn number(
-        &mut self,
-        alloc: Global,
-        uri: &str,
-        local: &str,
-    ) -> Result<NameId, AllocError>
-        ensures number { IfOk result (λ id. id ≡ number_of (record { uri = chars uri.now; local = chars local.now }) self.old) }
-        ensures names { IfOk result (λ id. self.new ≡ with_name self.old (record { uri = chars uri.now; local = chars local.now })) }
-        ensures err { OnErr result (self.new ≡ self.old) }
-    {
-        self.sought.set(uri, local)?;
-        match self.names.get_index_of(&self.sought) {
-            Some(index) => NameId::at(index),
-            None => {
-                let id = NameId::at(self.names.len())?;
-                self.names.insert(self.sought.copy(alloc)?)?;
-                Ok(id)
-            }
-        }
-    }
-
     /// The number of a name, where it is in the table.
     pub fn find(&self, alloc: Global, uri: &str, local: &str) -> Result<Option<NameId>, AllocError>
         ensures { IfOk result (λ id. id ≡ find_name (record { uri = chars uri.now; local = chars local.now }) self.now) }
     {
+        let Some(space) = self.spaces.get_index_of(uri) else {
+            return Ok(None);
+        };
         let mut sought = Kept::new(alloc);
-        sought.set(uri, local)?;
+        sought.set(space, local)?;
         match self.names.get_index_of(&sought) {
             Some(index) => Ok(Some(NameId::at(index)?)),
             None => Ok(None),
@@ -173,7 +192,8 @@ impl NameTable {
         requires { id < length self.now }
         ensures { chars result.now ≡ (name_at self.now id).uri }
     {
-        self.names[id.number as usize].uri.as_str()
+        let kept = &self.names[id.number as usize];
+        self.spaces[kept.space].as_str()
     }
 
     /// The local name of a name of the table.

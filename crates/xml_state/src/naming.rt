@@ -4,7 +4,7 @@ ghost use Rattle.xml_tokens.specs.Seen.{seen_tag};
 ghost use Rattle.xml_state.specs.StartTags as spec;
 
 use crate::duplicates::is_duplicated;
-use crate::names::{NameId, NameTable};
+use crate::names::NameId;
 use crate::numbering::number_tag;
 use crate::scopes::Scopes;
 use crate::tags::has_undeclared_prefix;
@@ -16,17 +16,16 @@ use xml_tokens::{StartTag, XmlKind};
 pub(crate) fn read_names(
     alloc: Global,
     scopes: &mut Scopes,
-    names: &mut NameTable,
     numbers: &mut Vec<NameId>,
     tag: &StartTag<'_>,
 ) -> Result<Option<XmlKind>, AllocError>
-    ensures { IfOk result (λ kind. spec.ReadsNames kind scopes.old scopes.new names.old (seen_tag tag.now) names.new numbers.new.items) }
+    ensures { IfOk result (λ kind. spec.ReadsNames kind scopes.old scopes.new (seen_tag tag.now) numbers.new.items) }
 {
     scopes.declare(alloc, &tag.attributes)?;
     if has_undeclared_prefix(scopes, tag) {
         return Ok(Some(XmlKind::UndeclaredPrefix));
     }
-    number_tag(names, alloc, scopes, tag, numbers)?;
+    number_tag(alloc, scopes, tag, numbers)?;
     if is_duplicated(alloc, tag, numbers)? {
         return Ok(Some(XmlKind::DuplicateAttribute));
     }

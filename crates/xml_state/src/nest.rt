@@ -27,7 +27,6 @@ use xml_tokens::{Position, StartTag, Token, XmlKind};
 #[derive(Drop)]
 pub struct Nest {
     scopes: Scopes,
-    names: NameTable,
     // The numbers of the names of the tag that is read, in place, so that they take no memory at each tag.
     numbers: Vec<NameId>,
     position: Position,
@@ -41,7 +40,7 @@ impl Model for Nest {
 
     ghost Value = { State };
 
-    ghost view = { λ nest. record { position = nest.position; open_elements = nest.scopes.open_elements; root_seen = nest.root_seen; in_text = nest.in_text; nodes = nest.nodes; names = nest.names } };
+    ghost view = { λ nest. record { position = nest.position; open_elements = nest.scopes.open_elements; root_seen = nest.root_seen; in_text = nest.in_text; nodes = nest.nodes; names = nest.scopes.names } };
 }
 
 impl Nest {
@@ -51,7 +50,6 @@ impl Nest {
     {
         Nest {
             scopes: Scopes::new(alloc),
-            names: NameTable::new(alloc),
             numbers: Vec::new(alloc),
             position: Position::AtStart,
             root_seen: false,
@@ -86,15 +84,14 @@ impl Nest {
         ensures { result ≡ self.names }
     {
         let Nest {
-            scopes: _,
-            names,
+            scopes,
             numbers: _,
             position: _,
             root_seen: _,
             in_text: _,
             nodes: _,
         } = self;
-        names
+        scopes.into_names()
     }
 
     /// Passes over white space outside the root, or an aside.
@@ -306,7 +303,7 @@ impl Nest {
         if is_full(limits.depth, self.scopes.depth()) {
             return Some(XmlKind::TooDeep);
         }
-        if self.names.len() > limits.names as usize {
+        if self.scopes.count_names() > limits.names as usize {
             return Some(XmlKind::TooManyNames);
         }
         if is_beyond(limits.nodes, self.nodes, nodes) {
@@ -328,13 +325,7 @@ impl Nest {
         if let Some(kind) = self.early_kind(limits, tag) {
             return Err(XmlFault { kind, place });
         }
-        let fault = match read_names(
-            alloc,
-            &mut self.scopes,
-            &mut self.names,
-            &mut self.numbers,
-            tag,
-        ) {
+        let fault = match read_names(alloc, &mut self.scopes, &mut self.numbers, tag) {
             Ok(fault) => fault,
             Err(_) => return Err(XmlFault::WANT_OF_MEMORY),
         };

@@ -1,23 +1,28 @@
-//! The open elements: the names of their tags as written, and the namespaces that are bound inside them.
-ghost use Rattle.std.specs.Prelude.{◌≡◌, ◌≤◌, ◌==◌, [], ◌∷◌, ◌++◌, map, length, drop, chars, option_map, OnOk, bytes_eq};
+//! The open elements: the names of their tags as written, and the namespaces that are bound inside them. And the
+//! expanded names that were seen.
+ghost use Rattle.std.specs.Prelude.{◌≡◌, ◌≤◌, ◌==◌, [], ◌∷◌, ◌++◌, map, length, drop, chars, is_none, IfOk, OnOk, bytes_eq};
 ghost use Rattle.std.proofs.Common.{reverse};
 ghost use Rattle.xml_tokens.specs.Seen.{seen_attribute};
+ghost use Rattle.xml_state.specs.NameTables as tables;
+ghost use Rattle.xml_state.specs.Names.{number_of, with_name};
 ghost use Rattle.xml_state.specs.Namespaces as namespaces;
 ghost use Rattle.xml_state.specs.Scopes as spec;
 ghost use Rattle.xml_state.specs.States as states;
 
+use crate::names::{Kept, NameId, NameTable, number_kept, number_space};
 use crate::written::{declared_prefix, text_of};
+use indexmap::IndexSet;
 use std::alloc::{AllocError, Global};
 use std::marker::Model;
 use xml_tokens::Attribute;
 
 pub(crate) const XML_URI: &str = "http://www.w3.org/XML/1998/namespace";
 
-// A prefix, empty for the default namespace, and the name that it stands for, empty for none.
+// A prefix, empty for the default namespace, and the number of the name that it stands for, which is empty for none.
 #[derive(Drop)]
 struct Bound {
     prefix: String,
-    uri: String,
+    space: usize,
 }
 
 // An open element: where its name begins among those of all, and how many bindings there are inside it.
@@ -27,35 +32,41 @@ struct Frame {
     bindings: usize,
 }
 
-// The open elements, and what is bound in the tag that is read.
+// The open elements, what is bound in the tag that is read, and the names that were seen.
 #[derive(Drop)]
 pub(crate) struct Scopes {
     written: Vec<u8>,
     bindings: Vec<Bound>,
     frames: Vec<Frame>,
+    // Each namespace name once, since it may be far longer than the names in it. Bindings and names have its number.
+    spaces: IndexSet<String>,
+    names: IndexSet<Kept>,
+    // The name that is looked for, in place, so that a look-up takes no memory.
+    sought: Kept,
 }
 
 impl Model for Scopes {
-    ghost use Rattle.std.specs.Prelude.{length};
-    ghost use Rattle.std.proofs.Common.{reverse};
-    ghost use Rattle.xml_state.specs.Scopes.{InScope, bindings_of, opened, AreNested};
+    ghost use Rattle.xml_state.specs.Scopes.{InScope, in_scope, AreScoped};
 
     ghost Value = { InScope };
 
-    ghost view = { λ scopes. record { open_elements = opened (reverse scopes.frames.items) scopes.written.items scopes.bindings.items; bound = bindings_of scopes.bindings.items } };
+    ghost view = { λ scopes. in_scope scopes.frames.items scopes.written.items scopes.bindings.items scopes.spaces.keys scopes.names.keys };
 
-    ghost invariant = { λ scopes. AreNested (reverse scopes.frames.items) (length scopes.written.items) (length scopes.bindings.items) };
+    ghost invariant = { λ scopes. AreScoped scopes.frames.items scopes.written.items scopes.bindings.items scopes.spaces.keys scopes.names.keys };
 }
 
 impl Scopes {
-    // No element is open.
+    // No element is open, and no name was seen.
     pub fn new(alloc: Global) -> Self
-        ensures { result ≡ record { open_elements = []; bound = namespaces.first_bindings } }
+        ensures { result ≡ record { open_elements = []; bound = namespaces.first_bindings; names = [] } }
     {
         Scopes {
             written: Vec::new(alloc),
             bindings: Vec::new(alloc),
             frames: Vec::new(alloc),
+            spaces: IndexSet::new(alloc),
+            names: IndexSet::new(alloc),
+            sought: Kept::new(alloc),
         }
     }
 
@@ -76,26 +87,81 @@ impl Scopes {
         }
     }
 
-    // The name that a prefix stands for.
-    pub fn uri_of(&self, prefix: &str) -> Option<&str>
-        ensures { option_map (λ uri. chars uri.now) result ≡ namespaces.bound_uri prefix.now self.now.bound }
+    // How many names were seen.
+    pub fn count_names(&self) -> usize
+        ensures { result ≡ length self.now.names }
     {
-        bound_uri(&self.bindings, prefix)
+        self.names.len()
+    }
+
+    // Whether a prefix stands for no name.
+    pub fn is_unbound(&self, prefix: &str) -> bool
+        ensures { result ≡ is_none (namespaces.bound_uri prefix.now self.now.bound) }
+    {
+        match bound_space(&self.bindings, prefix) {
+            Some(_) => false,
+            None => is_unknown(prefix),
+        }
     }
 
     // Binds what the attributes of a tag declare, inside the innermost open element.
     pub fn declare(&mut self, alloc: Global, attributes: &[Attribute<'_>]) -> Result<(), AllocError>
         ensures open { OnOk result (self.new.open_elements ≡ self.old.open_elements) }
         ensures bound { OnOk result (self.new.bound ≡ namespaces.declared_bindings (map seen_attribute attributes.now) ++ states.bindings_inside_innermost self.old.open_elements) }
+        ensures names { OnOk result (self.new.names ≡ self.old.names) }
     {
         let inside = bindings_inside(&self.frames);
         self.bindings.truncate(inside);
-        declare_all(alloc, &mut self.bindings, attributes)
+        declare_all(alloc, &mut self.spaces, &mut self.bindings, attributes)
+    }
+
+    // The number of the name of an element, which is added where it is new.
+    pub fn number_element(
+        &mut self,
+        alloc: Global,
+        prefix: &str,
+        local: &str,
+    ) -> Result<NameId, AllocError>
+        ensures number { IfOk result (λ id. id ≡ number_of (record { uri = namespaces.uri_of self.old.bound prefix.now; local = chars local.now }) self.old.names) }
+        ensures names { OnOk result (self.new ≡ record self.old { names = with_name self.old.names (record { uri = namespaces.uri_of self.old.bound prefix.now; local = chars local.now }) }) }
+    {
+        let space = number_prefix(alloc, &mut self.spaces, &self.bindings, prefix)?;
+        number_kept(&mut self.names, &mut self.sought, alloc, space, local)
+    }
+
+    // The number of the name of an attribute, which the default namespace doesn't reach.
+    pub fn number_attribute(
+        &mut self,
+        alloc: Global,
+        prefix: &str,
+        local: &str,
+    ) -> Result<NameId, AllocError>
+        ensures number { IfOk result (λ id. id ≡ number_of (record { uri = namespaces.attribute_uri self.old.bound prefix.now; local = chars local.now }) self.old.names) }
+        ensures names { OnOk result (self.new ≡ record self.old { names = with_name self.old.names (record { uri = namespaces.attribute_uri self.old.bound prefix.now; local = chars local.now }) }) }
+    {
+        let space = number_attribute_prefix(alloc, &mut self.spaces, &self.bindings, prefix)?;
+        number_kept(&mut self.names, &mut self.sought, alloc, space, local)
+    }
+
+    // The names that were seen.
+    pub fn into_names(self) -> NameTable
+        ensures { result ≡ self.names }
+    {
+        let Scopes {
+            written: _,
+            bindings: _,
+            frames: _,
+            spaces,
+            names,
+            sought: _,
+        } = self;
+        NameTable::of(spaces, names)
     }
 
     // Opens an element, in which all is bound that was declared.
     pub fn open(&mut self, name: &str) -> Result<(), AllocError>
-        ensures { OnOk result (self.new.open_elements ≡ record { name = name.now; bindings = self.old.bound } ∷ self.old.open_elements) }
+        ensures open { OnOk result (self.new.open_elements ≡ record { name = name.now; bindings = self.old.bound } ∷ self.old.open_elements) }
+        ensures names { OnOk result (self.new.names ≡ self.old.names) }
     {
         let frame = Frame {
             name_at: self.written.len(),
@@ -108,7 +174,8 @@ impl Scopes {
 
     // Closes the innermost open element, where there is one.
     pub fn close(&mut self)
-        ensures { self.new.open_elements ≡ spec.around_innermost self.old.open_elements }
+        ensures open { self.new.open_elements ≡ spec.around_innermost self.old.open_elements }
+        ensures names { self.new.names ≡ self.old.names }
     {
         if let Some(frame) = self.frames.pop() {
             self.written.truncate(frame.name_at);
@@ -134,53 +201,116 @@ fn bindings_inside(frames: &[Frame]) -> usize
     }
 }
 
-// The name that a prefix stands for: that of the innermost binding, or what is bound outside all elements.
-fn bound_uri<'a>(bindings: &'a [Bound], prefix: &str) -> Option<&'a str>
-    ensures { option_map (λ uri. chars uri.now) result ≡ namespaces.bound_uri prefix.now (spec.bindings_of bindings.now) }
+// The number of the name that a prefix stands for by the innermost binding of it, where it has one.
+fn bound_space(bindings: &[Bound], prefix: &str) -> Option<usize>
+    ensures { result ≡ spec.space_of prefix.now bindings.now }
 {
     let mut outer = bindings;
     'search: while let Some((bound, others)) = outer.split_last() {
         if bound.prefix.as_str() == prefix {
-            return Some(bound.uri.as_str());
+            return Some(bound.space);
         }
         outer = others;
     }
+    None
+}
+
+// Whether a prefix stands for no name outside all elements.
+fn is_unknown(prefix: &str) -> bool
+    ensures { result ≡ is_none (namespaces.bound_uri prefix.now namespaces.first_bindings) }
+{
+    !matches!(prefix, "" | "xml")
+}
+
+// The name that a prefix stands for outside all elements.
+fn known_uri(prefix: &str) -> &'static str
+    ensures { chars result.now ≡ namespaces.uri_of namespaces.first_bindings prefix.now }
+{
     match prefix {
-        "" => Some(""),
-        "xml" => Some(XML_URI),
-        _ => None,
+        "xml" => XML_URI,
+        _ => "",
+    }
+}
+
+// The number of the name that a prefix stands for, empty where it isn't bound.
+fn number_prefix(
+    alloc: Global,
+    spaces: &mut IndexSet<String>,
+    bindings: &[Bound],
+    prefix: &str,
+) -> Result<usize, AllocError>
+    requires { spec.AreBound spaces.old.keys bindings.now }
+    ensures { tables.TakesSpace result (namespaces.uri_of (spec.bindings_of spaces.old.keys bindings.now) prefix.now) spaces.old.keys spaces.new.keys }
+{
+    match bound_space(bindings, prefix) {
+        Some(space) => Ok(space),
+        None => number_space(spaces, alloc, known_uri(prefix)),
+    }
+}
+
+// The number of the name that the prefix of an attribute stands for: the default namespace doesn't reach attributes.
+fn number_attribute_prefix(
+    alloc: Global,
+    spaces: &mut IndexSet<String>,
+    bindings: &[Bound],
+    prefix: &str,
+) -> Result<usize, AllocError>
+    requires { spec.AreBound spaces.old.keys bindings.now }
+    ensures { tables.TakesSpace result (namespaces.attribute_uri (spec.bindings_of spaces.old.keys bindings.now) prefix.now) spaces.old.keys spaces.new.keys }
+{
+    if prefix.is_empty() {
+        number_space(spaces, alloc, "")
+    } else {
+        number_prefix(alloc, spaces, bindings, prefix)
     }
 }
 
 // Binds what the attributes declare, the last first: the first of them is to be found first.
 fn declare_all(
     alloc: Global,
+    spaces: &mut IndexSet<String>,
     bindings: &mut Vec<Bound>,
     attributes: &[Attribute<'_>],
 ) -> Result<(), AllocError>
-    ensures all { OnOk result (spec.bindings_of bindings.new.items ≡ namespaces.declared_bindings (map seen_attribute attributes.now) ++ spec.bindings_of bindings.old.items) }
-    ensures kept { spec.Keeps bindings.old.items bindings.new.items }
+    requires { spec.AreBound spaces.old.keys bindings.old.items }
+    ensures { spec.Declares result (map seen_attribute attributes.now) spaces.old.keys spaces.new.keys bindings.old.items bindings.new.items }
 {
     for attribute in attributes.iter().rev() {
-        declare_one(alloc, bindings, attribute)?;
+        declare_one(alloc, spaces, bindings, attribute)?;
     }
     Ok(())
 }
 
 fn declare_one(
     alloc: Global,
+    spaces: &mut IndexSet<String>,
     bindings: &mut Vec<Bound>,
     attribute: &Attribute<'_>,
 ) -> Result<(), AllocError>
-    ensures one { OnOk result (spec.bindings_of bindings.new.items ≡ namespaces.declared_bindings (seen_attribute attribute.now ∷ []) ++ spec.bindings_of bindings.old.items) }
-    ensures kept { spec.Keeps bindings.old.items bindings.new.items }
+    requires { spec.AreBound spaces.old.keys bindings.old.items }
+    ensures { spec.Declares result (seen_attribute attribute.now ∷ []) spaces.old.keys spaces.new.keys bindings.old.items bindings.new.items }
 {
-    let Some(prefix) = declared_prefix(attribute.name) else {
-        return Ok(());
-    };
+    match declared_prefix(attribute.name) {
+        Some(prefix) => bind(alloc, spaces, bindings, prefix, text_of(&attribute.value)),
+        None => Ok(()),
+    }
+}
+
+// Binds a prefix to a name inside all others.
+fn bind(
+    alloc: Global,
+    spaces: &mut IndexSet<String>,
+    bindings: &mut Vec<Bound>,
+    prefix: &str,
+    uri: &str,
+) -> Result<(), AllocError>
+    requires { spec.AreBound spaces.old.keys bindings.old.items }
+    ensures { spec.Binds result (record { prefix = prefix.now; uri = chars uri.now }) spaces.old.keys spaces.new.keys bindings.old.items bindings.new.items }
+{
+    let space = number_space(spaces, alloc, uri)?;
     let bound = Bound {
         prefix: String::from_str(alloc, prefix)?,
-        uri: String::from_str(alloc, text_of(&attribute.value))?,
+        space,
     };
     bindings.push(bound)?;
     Ok(())

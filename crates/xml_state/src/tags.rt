@@ -10,6 +10,7 @@ ghost use Rattle.xml_state.specs.StartTags as tags;
 use crate::limits::Limits;
 use crate::scopes::{Scopes, XML_URI};
 use crate::written::{declared_prefix, is_plain, parts_of, says_nothing, text_of};
+use inv_base::is_same_text;
 use xml_tokens::{Attribute, StartTag};
 
 const XMLNS_URI: &str = "http://www.w3.org/2000/xmlns/";
@@ -42,13 +43,13 @@ fn has_long_attribute(limits: &Limits, attributes: &[Attribute<'_>]) -> bool
 fn is_xml_uri(uri: &str) -> bool
     ensures { result ≡ bytes_eq (chars uri.now) namespaces.xml_uri }
 {
-    uri == XML_URI
+    is_same_text(uri, XML_URI)
 }
 
 fn is_xmlns_uri(uri: &str) -> bool
     ensures { result ≡ bytes_eq (chars uri.now) namespaces.xmlns_uri }
 {
-    uri == XMLNS_URI
+    is_same_text(uri, XMLNS_URI)
 }
 
 // Whether `xml` would stand for another name, or another prefix for its name.
@@ -101,7 +102,7 @@ fn is_undeclared(scopes: &Scopes, name: &str) -> bool
     ensures { result ≡ namespaces.is_undeclared scopes.now.bound name.now }
 {
     let (prefix, _) = parts_of(name);
-    scopes.uri_of(prefix).is_none()
+    scopes.is_unbound(prefix)
 }
 
 fn has_undeclared_attribute(scopes: &Scopes, attributes: &[Attribute<'_>]) -> bool

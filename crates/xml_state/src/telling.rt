@@ -64,6 +64,7 @@ pub(crate) fn tell_and_open<E: Events>(
 ) -> Result<(), AllocError>
     ensures told { Tells result (tag_events numbers.now (seen_tag tag.now) place.byte) (E.taken events.old) (E.taken events.new) }
     ensures open { OnOk result (scopes.new.open_elements ≡ elements_behind scopes.old.open_elements scopes.old.bound (seen_tag tag.now)) }
+    ensures names { OnOk result (scopes.new.names ≡ scopes.old.names) }
 {
     tell_tag(tag, numbers, place, events)?;
     if !tag.is_empty {

@@ -1,19 +1,19 @@
 -- What begins has never want of memory as its fault.
-use Rattle.std.proofs.Common.{◌≡◌, ℕ, ◌+◌, pred, max, Bool, true, false, ◌&&◌, ◌||◌, ◌==◌, not, List, [], ◌∷◌, length, take, drop, refl, Option, Some, None, Result, Ok, Err, if◌then◌else◌, bytes_eq, chars}
+use Rattle.std.proofs.Common.{◌≡◌, ℕ, ◌+◌, pred, Bool, true, false, ◌&&◌, ◌==◌, not, List, [], ◌∷◌, length, take, drop, refl, Option, Some, None, Result, Ok, Err, if◌then◌else◌, bytes_eq, chars}
 use Rattle.std.specs.Prelude.{codes}
 use Rattle.std.specs.List.{list_all}
 use Rattle.std.specs.Str.{is_utf8}
-use Rattle.inv_base.specs.Characters.{is_char, is_white_space}
+use Rattle.inv_base.specs.Characters.{is_char}
 use Rattle.xml_tokens.specs.declared.kind.XmlKind.{XmlKind}
-use Rattle.xml_tokens.specs.declared.kind.XmlKind.TheVariants.{NotUtf8, BadChar, Doctype, BadDeclaration, BadMarkup, BadReference, TagTooLong, Memory}
+use Rattle.xml_tokens.specs.declared.kind.XmlKind.TheVariants.{NotUtf8, BadChar, BadDeclaration, BadMarkup, BadReference, TagTooLong, Memory}
 use Rattle.xml_tokens.specs.declared.beginning.Position.{Position}
 use Rattle.xml_tokens.specs.declared.encoding.Begun.{Begun}
 use Rattle.xml_tokens.specs.declared.encoding.Begun.TheVariants as found
-use Rattle.xml_tokens.specs.Searches.{begins_with, ends_inside, shared_front, place_of, TagEnd, behind, none_within, none_yet, tag_end}
+use Rattle.xml_tokens.specs.Searches.{begins_with, ends_inside, place_of, TagEnd, behind, none_within, none_yet, tag_end}
 use Rattle.xml_tokens.specs.Encoding as encoding
 use Rattle.xml_tokens.specs.References.{reference_at}
 use Rattle.xml_tokens.specs.WrittenNames.{is_qname, name_at_front}
-use Rattle.xml_tokens.specs.Markup.{Written, Token, a_mark, a_character, a_start_tag, an_end_tag, an_aside, if_right, comment, section, instruction, target_of, is_declaration, is_target, ends_target}
+use Rattle.xml_tokens.specs.Markup.{Written, Token, a_character, a_start_tag, an_end_tag, an_aside, if_right, comment, section, instruction, target_of, is_declaration, is_target, ends_target}
 use Rattle.xml_tokens.specs.Tags.{Inside, tag_inside, with_values, tag_with, start_tag, end_tag, tag}
 use Rattle.xml_tokens.specs.Beginnings.{Beginning, good, bad, later, may_declare, of_length, extent, extent_through, tag_at, comment_or_section_at, markup_at, reference_token, bracket_at, line_end_at, character_token, begins_with_mark, beginning, greatest_tag}
 use Rattle.xml_tokens.proofs.BeginningLemmas.{choice, inside_one, shared, mark_or}

@@ -1,9 +1,9 @@
 -- A plain character is a token by itself, wherever it stands but at the start.
 use Rattle.std.proofs.Common.{◌≡◌, ℕ, ◌<◌, Bool, true, false, not, ◌||◌, ◌==◌, List, ◌∷◌, ◌++◌, length, refl, sym, ap, ◌∙◌, arith, true≢false}
 use Rattle.std.specs.Char.{encode_utf8}
-use Rattle.std.proofs.lemmas.Bool.Decides.{nat_tests}
-use lib.Utf8.{scalar, encode}
+use lib.Utf8.{encode}
 use Rattle.inv_base.specs.Characters.{is_char}
+use Rattle.inv_base.proofs.CharacterLemmas.{char-scalar}
 use Rattle.inv_base.proofs.TextLemmas.{both}
 use Rattle.xml_tokens.specs.declared.encoding.Begun.TheVariants as begun
 use Rattle.xml_tokens.specs.Encoding.{character_at}
@@ -18,10 +18,6 @@ abbrev pub is_start : Position → Bool
 is_start AtStart = true
 is_start BehindMark = false
 is_start Farther = false
-
-pub char-scalar : (c : ℕ) → is_char c ≡ true → scalar c ≡ true
-unfolding is_char
-char-scalar c h = grind (arith, nat_tests)
 
 abbrev is_special : ℕ → Bool
 is_special c = c == 0x3C || (c == 0x26 || (c == 0x5D || c == 0xD))

@@ -1,5 +1,4 @@
 pub mod Functions
-pub mod formers
 pub mod Comparisons
 pub mod Grammar
 pub mod Words

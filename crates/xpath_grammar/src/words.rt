@@ -4,7 +4,7 @@ ghost use Rattle.std.specs.Prelude.{◌≡◌, ℕ, List};
 ghost use Rattle.std.specs.Str.{chars};
 ghost use Rattle.xpath_grammar.specs.Grammar.{named_in};
 
-use xpath_tokens::texts::is_text;
+use inv_base::is_same_text;
 
 /// What an expression names by a word.
 pub trait Worded: Copy {
@@ -22,7 +22,7 @@ pub fn named<T: Worded>(values: &[T], text: &str) -> Option<T>
     ensures { result ≡ named_in T.spelling values.now (chars text.now) }
 {
     'values: for value in values {
-        if is_text((*value).word(), text) {
+        if is_same_text((*value).word(), text) {
             return Some(*value);
         }
     }

@@ -1,4 +1,4 @@
-use crate::text::Str;
+use inv_base::Str;
 use inv_decimal::{Day, Dec};
 use node_arena::NodeId;
 

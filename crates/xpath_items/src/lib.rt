@@ -4,9 +4,8 @@
 mod item;
 mod outcome;
 mod seq;
-mod text;
 
+pub use inv_base::Str;
 pub use item::Item;
 pub use outcome::{DynError, Focus, Outcome};
 pub use seq::Seq;
-pub use text::Str;

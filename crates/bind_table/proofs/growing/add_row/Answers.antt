@@ -1,8 +1,8 @@
-use Rattle.std.proofs.Common.{◌≡◌, ℕ, ◌+◌, List, [], ◌∷◌, ◌++◌, length, refl, sym, ap, ◌∙◌, subst, arith}
+use Rattle.std.proofs.Common.{◌≡◌, ℕ, List, [], length, refl, sym, ap, ◌∙◌, arith}
 use Rattle.std.proofs.lemmas.List.{append-nil}
 use Rattle.bind_table.specs.declared.lines.Line.{Line}
-use Rattle.bind_table.specs.Lines.{Plan, Cell, flat}
-use Rattle.bind_table.specs.Growing.{IsWithin, AreLinesWithin}
+use Rattle.bind_table.specs.Lines.{Plan, flat}
+use Rattle.bind_table.specs.Growing.{IsWithin}
 use Rattle.bind_table.proofs.growing.add_row.Goals as goal
 
 all_lines : (lines : List Line) (plan : Plan) (n : ℕ) → lines ≡ flat plan → n ≡ length lines → IsWithin lines 0 n [] [] plan

@@ -1,5 +1,5 @@
 use Rattle.std.proofs.Common.{arith, sym, ◌∙◌}
-use Rattle.bind_table.proofs.GrowingLemmas.{line_fits, next_lines, passing_none, passing_more, seeks_end, seeks_here}
+use Rattle.bind_table.proofs.GrowingLemmas.{line_fits, next_lines, passing_more, seeks_end, seeks_here}
 use Rattle.bind_table.proofs.growing.seek.Goals as goal
 
 pub overflow_add-at : goal.overflow_add-at

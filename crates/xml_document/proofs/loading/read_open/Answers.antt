@@ -39,3 +39,13 @@ returns-clause-stops g c = λ told is.
     let limits = c.args.limits in
     let kept : c.feed_all.new.reader.limits ≡ limits = c.feed_all.ensures.limits ∙ ap (λ (p : Progress). p.limits) c.in_ok-reader.ensures in
     stops_at_end limits (g.S.Shelf.view c.args.shelf.now).left _ c.feed_all.new.reader _ _ kept c.in-Ok.ensures.fed
+
+pub returns-in-Ok-finish-clause-reads : goal.returns-in-Ok-finish-clause-reads
+returns-in-Ok-finish-clause-reads g c =
+    let reads = c.in-Ok.ensures.reads in
+    record { held = reads.held; opens = reads.opens; rose = λ is. cc; rises = reads.rises; quiet = λ other. reads.quiet (λ is. cc) }
+
+pub returns-clause-reads : goal.returns-clause-reads
+returns-clause-reads g c =
+    let reads = c.in-Ok.ensures.reads in
+    record { held = reads.held; opens = reads.opens; rose = λ is. absurd (c.fault_of_reader.ensures.read cc); rises = reads.rises; quiet = λ other. reads.quiet (λ is. cc) }

@@ -6,9 +6,12 @@ use Rattle.xml_state.proofs.numbering.number_attributes.Given as goal
 
 abbrev pub invariant-loop-attribute : goal.invariant-loop-attribute
 invariant-loop-attribute l =
-    let rest = attribute_names l.scopes.bound (map seen_attribute (drop l.attribute-index l.attributes)) in
-    let all = attribute_names l.scopes.bound (map seen_attribute l.attributes) in
+    let before = l.initial.scopes in
+    let rest = attribute_names before.bound (map seen_attribute (drop l.attribute-index l.attributes)) in
+    let all = attribute_names before.bound (map seen_attribute l.attributes) in
     record {
-      names : with_names l.names rest ≡ with_names l.initial.names all;
-      numbers : l.numbers.items ++ numbers_from l.names rest ≡ l.initial.numbers.items ++ numbers_from l.initial.names all;
+      same_open : l.scopes.open_elements ≡ before.open_elements;
+      same_bound : l.scopes.bound ≡ before.bound;
+      names : with_names l.scopes.names rest ≡ with_names before.names all;
+      numbers : l.numbers.items ++ numbers_from l.scopes.names rest ≡ l.initial.numbers.items ++ numbers_from before.names all;
     }

@@ -1,4 +1,6 @@
-use Rattle.std.proofs.Common.{List, false, ap, sym}
+use Rattle.std.proofs.Common.{List, false, ap, sym, ◌∙◌}
+use Rattle.inv_base.specs.Tree.{Name}
+use Rattle.xml_state.specs.Scopes.{around_innermost}
 use Rattle.xml_tokens.specs.declared.beginning.Position.TheVariants.{Farther}
 use Rattle.xml_state.specs.States.{State, Open}
 use Rattle.xml_state.proofs.NestLemmas.{end_too_long, end_mismatched, nothing_told, end_told}
@@ -23,8 +25,9 @@ returns g c =
       root_seen = nest.root_seen;
       in_text = nest.in_text;
       nodes = nest.nodes;
-      names = nest.names;
+      names = nest.scopes.names;
     } in
+    let behind : List Open → List Name → State = λ elements names. record s { position = Farther; open_elements = elements; in_text = false; names = names } in
     rw (← c.self.view_is)
     (end_told _ s _ _ c.args.place.byte _ _ (sym c.if-is_long.ensures) (sym c.if-not-is_innermost.ensures)
-    (ap (λ (elements : List Open). record s { position = Farther; open_elements = elements; in_text = false }) c.close.ensures) c.in-Ok.ensures)
+    (ap (λ x. behind x c.close.new.self.names) c.close.ensures.open ∙ ap (behind (around_innermost nest.scopes.open_elements)) c.close.ensures.names) c.in-Ok.ensures)

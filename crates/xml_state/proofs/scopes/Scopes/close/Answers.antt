@@ -4,7 +4,12 @@ use Rattle.xml_state.proofs.ScopeLemmas.{closed_nested, closed_opened}
 use Rattle.xml_state.proofs.scopes.Scopes.close.Goals as goal
 
 pub invariant_of-self : goal.invariant_of-self
-invariant_of-self c = rw c.truncate.ensures.items (closed_nested _ _ c.in-Some.frame _ _ c.in-Some.ensures.items c.self.invariant)
+invariant_of-self c = record {
+  nested = rw c.truncate.ensures.items (closed_nested _ _ c.in-Some.frame _ _ c.in-Some.ensures.items c.self.invariant.nested);
+  below = c.self.invariant.below;
+  kept = c.self.invariant.kept;
+}
 
-pub returns-in-Some : goal.returns-in-Some
-returns-in-Some c = rw c.truncate.ensures.items (closed_opened _ _ c.in-Some.frame _ _ _ c.in-Some.ensures.items c.self.invariant (ap (λ (s : InScope). s.open_elements) c.self.view_is))
+pub returns-in-Some-clause-open : goal.returns-in-Some-clause-open
+returns-in-Some-clause-open c =
+    rw c.truncate.ensures.items (closed_opened c.self.inside.spaces.keys _ _ c.in-Some.frame _ _ _ c.in-Some.ensures.items c.self.invariant.nested (ap (λ (s : InScope). s.open_elements) c.self.view_is))

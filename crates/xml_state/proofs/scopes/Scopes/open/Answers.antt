@@ -2,4 +2,8 @@ use Rattle.xml_state.proofs.ScopeLemmas.{nested_still}
 use Rattle.xml_state.proofs.scopes.Scopes.open.Goals as goal
 
 pub invariant_of-self-in_err-push : goal.invariant_of-self-in_err-push
-invariant_of-self-in_err-push c = nested_still _ _ _ _ _ _ c.in_err-push.ensures.items c.in_ok-extend_from_slice.ensures.items c.self.invariant
+invariant_of-self-in_err-push c = record {
+  nested = nested_still _ _ _ _ _ _ c.in_err-push.ensures.items c.in_ok-extend_from_slice.ensures.items c.self.invariant.nested;
+  below = c.self.invariant.below;
+  kept = c.self.invariant.kept;
+}

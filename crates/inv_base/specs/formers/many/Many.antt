@@ -14,10 +14,10 @@ use Rattle.std.specs.formers.vec.Vec as vec
 use Rattle.std.specs.declared.alloc.Global.{Global}
 use Rattle.std.specs.contracts.alloc.Global as global
 use Rattle.std.specs.contracts.impls.GlobalAllocator.TheImpl.{ghosts}
-use Rattle.xpath_grammar.specs.declared.many.Many.TheInside.{Inside}
-use Rattle.xpath_grammar.specs.declared.many.Many.TheView.{view, invariant}
-use Rattle.xpath_grammar.specs.contracts.many.Many as many
-use Rattle.xpath_grammar.specs.contracts.many.Many.TheInside as inside
+use Rattle.inv_base.specs.declared.many.Many.TheInside.{Inside}
+use Rattle.inv_base.specs.declared.many.Many.TheView.{view, invariant}
+use Rattle.inv_base.specs.contracts.many.Many as many
+use Rattle.inv_base.specs.contracts.many.Many.TheInside as inside
 
 -- as a list of the items
 abbrev pub the_former : Former {0} → Former {0}

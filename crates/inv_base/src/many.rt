@@ -3,7 +3,7 @@ ghost use Rattle.std.specs.Prelude.{◌≡◌, [], ◌∷◌, ◌++◌, length, 
 use std::alloc::{AllocError, Global};
 use std::marker::Model;
 
-/// A list that contracts see as its items alone, so that a row which holds such lists is plain data.
+/// A list that contracts see as its items alone, so that what holds such lists is plain data.
 #[derive(Debug, Drop)]
 pub struct Many<T> {
     items: Vec<T>,

@@ -3,3 +3,4 @@ pub mod PickLemmas
 pub mod EndLemmas
 pub mod NumberLemmas
 pub mod FrontLemmas
+pub mod PathLemmas

@@ -12,6 +12,7 @@ ghost use Rattle.bind_table.specs.WellFormed.{first_fault, is_carried};
 ghost use Rattle.bind_lines.specs.Ends.{ends, own_ends};
 ghost use Rattle.bind_lines.specs.Fronts.{HasGroup, front_of};
 ghost use Rattle.bind_lines.specs.Numbering.{rises, place_among};
+ghost use Rattle.bind_lines.specs.Paths.{line_paths};
 ghost use Rattle.bind_lines.specs.Picks.{Sight, picked_from, walked};
 
 /// Two steps that are compared as the same are equal.
@@ -31,6 +32,12 @@ pub fn rows_pick_what_lines_pick<X, C, P>()
 /// The tree of lines has the rows of the list, each once, and each at the line that has the steps of its path.
 pub fn lines_have_the_rows()
     ensures { (rows : List Row) → All (λ row. 0 < length row.path) rows → IsPermutation (own_ends 0 rows) (ends [] (plan_of rows)) }
+{}
+
+/// No two lines have one path: lines beside one another have different steps.
+pub fn lines_have_paths_of_their_own()
+    ensures { (rows : List Row) (i j : ℕ) (path : List Step) → slice_get (line_paths [] (plan_of rows)) i ≡ Some path
+        → slice_get (line_paths [] (plan_of rows)) j ≡ Some path → i ≡ j }
 {}
 
 /// The occurrences of a group are numbered from 1 without a gap, in document order, each number once: they are numbers

@@ -9,3 +9,4 @@ pub mod Judging
 pub mod Terms
 pub mod Writing
 pub mod Trees
+pub mod Tables

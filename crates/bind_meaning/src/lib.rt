@@ -3,6 +3,8 @@
 
 mod fault;
 mod picked;
+mod tables;
 
 pub use fault::{BindFault, BindKind};
 pub use picked::{Picked, Seated, SeatedPick};
+pub use tables::{Syntax, Which};

@@ -1,0 +1,103 @@
+ghost use Rattle.std.specs.Prelude.{◌≡◌, ◌<◌, ℕ, nat_lt, List, true};
+ghost use Rattle.inv_base.specs.Counts.{last_count};
+ghost use Rattle.xml_write.specs.Sizes.{stopped};
+ghost use Rattle.std.specs.List.{list_all};
+ghost use Rattle.inv_terms.specs.declared.entries.Entry.{Entry};
+ghost use Rattle.bind_rows.specs.declared.rows.Row.{Row};
+ghost use Rattle.bind_table.specs.Laid.{is_laid};
+ghost use Rattle.bind_write.specs.Documents.{HasSizes};
+ghost use Rattle.bind_write.specs.Sources.{has_plain_attribute};
+ghost use Rattle.bind_carrying.specs.Carrying as spec;
+
+use crate::conditions::{Condition, first_at};
+use crate::tables::which_of;
+use bind_meaning::Which;
+use bind_table::Binding;
+use bind_write::measure;
+use inv_terms::Invoice;
+use term_table::Term;
+use xml_write::Gauge;
+
+/// Why a table can't carry an invoice.
+#[derive(Clone, Copy, Debug, PartialEq, Eq)]
+pub struct NotCarried {
+    /// The least condition that fails, from 1 to 8.
+    pub condition: u8,
+    /// The term of the first entry at which it fails. None at condition 8, which is of the whole document.
+    pub term: Option<Term>,
+}
+
+/// How many bytes a document may have.
+const LARGEST_DOCUMENT: u64 = 16_777_216;
+
+/// How many bytes a tag may have.
+const LONGEST_TAG: u64 = 262_144;
+
+/// How many nodes a document may have.
+const MOST_NODES: u64 = 1_000_000;
+
+const CONDITIONS: [Condition; 7] = [
+    Condition::Part,
+    Condition::Creditor,
+    Condition::Filler,
+    Condition::Note,
+    Condition::Code,
+    Condition::Means,
+    Condition::Currency,
+];
+
+/// The least condition on entries that fails.
+fn first_failing(conditions: &[Condition], table: Which, i: &Invoice) -> Option<NotCarried>
+    ensures { result ≡ spec.first_failing conditions.now table i.now }
+{
+    'conditions: for condition in conditions {
+        match first_at(*condition, table, i) {
+            None => {}
+            Some(term) => {
+                return Some(NotCarried {
+                    condition: condition.number(),
+                    term: Some(term),
+                });
+            }
+        }
+    }
+    None
+}
+
+/// Whether a table can carry an invoice. Else the least condition that fails, with the term of the first entry at which it does; condition
+/// 8, on the size of the whole document, has no term. It takes no memory.
+pub fn carries(i: &Invoice, b: &Binding) -> Result<(), NotCarried>
+    requires laid { is_laid b.now ≡ true }
+    requires notes { list_all has_plain_attribute b.now ≡ true }
+    ensures { result ≡ spec.carrying b.now i.now }
+{
+    match first_failing(&CONDITIONS, which_of(b), i) {
+        Some(fault) => Err(fault),
+        None => size_carried(&measure(i, b)),
+    }
+}
+
+/// Whether a document of these sizes keeps the limits on documents that are read.
+fn size_carried(sizes: &Gauge) -> Result<(), NotCarried>
+    ensures { (rows : List Row) (es : List Entry) → HasSizes rows es sizes.now → result ≡ spec.size_carried (spec.is_too_large rows es) }
+{
+    if passes(sizes.bytes, LARGEST_DOCUMENT)
+        || passes(sizes.longest_tag, LONGEST_TAG)
+        || passes(sizes.nodes, MOST_NODES)
+    {
+        Err(NotCarried {
+            condition: 8,
+            term: None,
+        })
+    } else {
+        Ok(())
+    }
+}
+
+/// Whether a number that stops at the greatest of 64 bits passes a limit.
+fn passes(number: u64, limit: u64) -> bool
+    requires { limit < last_count }
+    ensures { (n : ℕ) → number ≡ stopped n → result ≡ nat_lt limit n }
+{
+    limit < number
+}

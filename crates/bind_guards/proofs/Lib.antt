@@ -1,0 +1,4 @@
+pub mod ChainLemmas
+pub mod TrimLemmas
+pub mod LoopLemmas
+pub mod NameLemmas

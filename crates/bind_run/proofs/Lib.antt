@@ -1,0 +1,5 @@
+pub mod NameLemmas
+pub mod WithinLemmas
+pub mod StepLemmas
+pub mod IndicatorLemmas
+pub mod TableLemmas

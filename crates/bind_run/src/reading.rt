@@ -1,0 +1,127 @@
+ghost use Rattle.std.specs.Prelude.{◌≡◌, ◌≢◌, ◌<◌, Ok, length, IfErr};
+ghost use Rattle.node_arena.specs.Moves.{tree_nodes};
+ghost use Rattle.bind_table.specs.WellFormed.{first_fault};
+ghost use Rattle.bind_meaning.specs.declared.fault.BindKind.TheVariants as kinds;
+ghost use Rattle.bind_meaning.specs.Terms.{terms_of};
+ghost use Rattle.bind_run.specs.Reading.{AreTables, Reads, invoice_of};
+ghost use Rattle.bind_meaning.specs.Tables.{rows_of};
+
+use crate::roots::binding_of;
+use crate::tables::Tables;
+use bind_meaning::{BindFault, BindKind, Which};
+use bind_seats::seat;
+use bind_table::Binding;
+use bind_terms::judge;
+use bind_walk::pick_all;
+use code_lists::CodeLists;
+use inv_base::{Steps, Txt};
+use inv_lacks::Name;
+use inv_terms::Invoice;
+use node_arena::Doc;
+use std::alloc::Global;
+use std::marker::Brand;
+use std::sync::ledger::{Blank, Ledger};
+
+/// An invoice that was read, and how many elements of its document its table passes over: those right inside an element of the table
+/// whose names lead no further, each with all that it holds.
+#[derive(Drop)]
+pub struct ReadInvoice {
+    pub invoice: Invoice,
+    pub passed_over: u32,
+}
+
+/// The invoice that a document is by a table, or its first fault. It goes over the document and the lines of the table once.
+pub fn read<L: Ledger>(
+    alloc: Global,
+    doc: &Doc<'_>,
+    table: &Binding,
+    lists: &CodeLists,
+    steps: &mut Steps<L>,
+) -> Result<ReadInvoice, BindFault>
+    requires { first_fault table.now ≡ Ok tt }
+    ensures { Reads (terms_of (tree_nodes doc.now) table.now lists.now) result }
+{
+    let picks = match pick_all(alloc, doc, table, steps) {
+        Ok(picks) => picks,
+        Err(_) => return Err(out_of_memory(doc)),
+    };
+    let seating = match seat(alloc, doc, table, picks.terms.as_slice(), steps) {
+        Ok(seating) => seating,
+        Err(_) => return Err(out_of_memory(doc)),
+    };
+    let currency = seating.invoice_currency.as_ref().map(Txt::as_str);
+    match judge(
+        alloc,
+        doc,
+        table,
+        lists,
+        currency,
+        seating.picks.as_slice(),
+        picks.indicators.as_slice(),
+        steps,
+    ) {
+        Ok(invoice) => Ok(ReadInvoice {
+            invoice,
+            passed_over: picks.passed_over,
+        }),
+        Err(fault) => Err(fault),
+    }
+}
+
+/// Want of memory, as a fault of the whole document.
+fn out_of_memory(doc: &Doc<'_>) -> BindFault
+    ensures { result.kind ≡ kinds.Memory }
+{
+    BindFault {
+        kind: BindKind::Memory,
+        name: Name::Nothing,
+        node: doc.document(),
+    }
+}
+
+/// The invoice that a document is by the table that its root element selects, or its first fault, which stands at a node of the document.
+pub fn read_document(
+    alloc: Global,
+    doc: &Doc<'_>,
+    tables: &Tables,
+    lists: &CodeLists,
+) -> Result<ReadInvoice, BindFault>
+    requires { AreTables tables.now }
+    ensures reads { Reads (invoice_of (tree_nodes doc.now) lists.now) result }
+    ensures within { IfErr result (λ fault. fault.kind ≢ kinds.Memory → fault.node < length doc.now.nodes) }
+{
+    doc.is_of_a_tree();
+    match binding_of(doc) {
+        Ok(which) => read_counted::<Brand>(alloc, doc, tables, which, lists, Blank::new(1)),
+        Err(fault) => Err(fault),
+    }
+}
+
+/// The same by one of the tables, with steps that nobody asks for.
+fn read_counted<L: Ledger>(
+    alloc: Global,
+    doc: &Doc<'_>,
+    tables: &Tables,
+    which: Which,
+    lists: &CodeLists,
+    ledger: Blank,
+) -> Result<ReadInvoice, BindFault>
+    requires tables { AreTables tables.now }
+    requires name { ledger.name ≡ L.name }
+    requires parts { ledger.parts ≡ L.parts }
+    requires some { 0 < ledger.parts }
+    ensures { Reads (terms_of (tree_nodes doc.now) (rows_of which) lists.now) result }
+{
+    are_well_formed();
+    let mut steps = Steps::<L>::new(ledger);
+    read(alloc, doc, tables.table(which), lists, &mut steps)
+}
+
+/// The three tables are well formed: laws of the crates below, which have no code, in one.
+fn are_well_formed()
+    ensures { (which : Which) → first_fault (rows_of which) ≡ Ok tt }
+{
+    ubl_binding::invoice_is_well_formed();
+    ubl_binding::credit_note_is_well_formed();
+    cii_binding::cii_is_well_formed();
+}

@@ -1,0 +1,74 @@
+ghost use Rattle.std.specs.Prelude.{◌≡◌, true, chars, bytes_eq};
+ghost use Rattle.node_arena.specs.Moves.{tree_nodes};
+ghost use Rattle.bind_names.specs.Namespaces as namespaces;
+ghost use Rattle.bind_meaning.specs.Names.{is_spelled};
+ghost use Rattle.bind_run.specs.Ascii.{is_ascii};
+ghost use Rattle.bind_run.specs.Roots as spec;
+
+use bind_meaning::{BindFault, BindKind, Which};
+use bind_names::uri_of;
+use bind_rows::Namespace;
+use inv_lacks::Name;
+use node_arena::{Doc, NodeId};
+
+fn is_word(text: &str, word: &str) -> bool
+    requires { is_ascii word.now ≡ true }
+    ensures { result ≡ bytes_eq word.now (chars text.now) }
+{
+    text == word
+}
+
+/// Whether an expanded name is that local name in that namespace.
+fn is_name(uri: &str, local: &str, namespace: Namespace, word: &str) -> bool
+    requires { is_ascii word.now ≡ true }
+    ensures { result ≡ is_spelled (namespaces.uri_of namespace) word.now (record { uri = chars uri.now; local = chars local.now }) }
+{
+    if is_word(local, word) {
+        is_word(uri, uri_of(namespace))
+    } else {
+        false
+    }
+}
+
+/// The syntax whose root has the expanded name.
+fn which_named(uri: &str, local: &str) -> Option<Which>
+    ensures { result ≡ spec.which_named (record { uri = chars uri.now; local = chars local.now }) }
+{
+    if is_name(uri, local, Namespace::UblInvoice, "Invoice") {
+        return Some(Which::Invoice);
+    }
+    if is_name(uri, local, Namespace::UblCreditNote, "CreditNote") {
+        return Some(Which::CreditNote);
+    }
+    if is_name(uri, local, Namespace::CiiInvoice, "CrossIndustryInvoice") {
+        return Some(Which::Cii);
+    }
+    None
+}
+
+fn which_of(doc: &Doc<'_>, root: NodeId) -> Option<Which>
+    requires { root ≡ 1 }
+    ensures { result ≡ spec.which_of (tree_nodes doc.now) }
+{
+    doc.is_of_a_tree();
+    match doc.name(root) {
+        None => None,
+        Some(id) => which_named(doc.names().uri(id), doc.names().local(id)),
+    }
+}
+
+/// The syntax in which a document is written, by the expanded name of its root. Any other root is UnknownRoot, at the root.
+/// It takes no memory.
+pub fn binding_of(doc: &Doc<'_>) -> Result<Which, BindFault>
+    ensures { result ≡ spec.known (spec.which_of (tree_nodes doc.now)) }
+{
+    let root = doc.root();
+    match which_of(doc, root) {
+        Some(which) => Ok(which),
+        None => Err(BindFault {
+            kind: BindKind::UnknownRoot,
+            name: Name::Nothing,
+            node: root,
+        }),
+    }
+}

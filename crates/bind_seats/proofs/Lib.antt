@@ -1,0 +1,14 @@
+pub mod MarkLemmas
+pub mod TrimLemmas
+pub mod ListLemmas
+pub mod WayLemmas
+pub mod RisingLemmas
+pub mod AttributeLemmas
+pub mod OrderLemmas
+pub mod TableLemmas
+pub mod NumberLemmas
+pub mod FillerLemmas
+pub mod GroupLemmas
+pub mod SeatLemmas
+pub mod KnownLemmas
+pub mod WholeLemmas

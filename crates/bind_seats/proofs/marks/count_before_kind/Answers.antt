@@ -1,0 +1,10 @@
+use Rattle.std.proofs.Common.{rules}
+use Rattle.std.proofs.lemmas.Fn.{always_returns_same}
+use Rattle.bind_seats.specs.Marks.{comes_before_kind}
+use Rattle.bind_seats.proofs.MarkLemmas.{before_kind_is_parted, counted}
+use Rattle.bind_seats.proofs.marks.count_before_kind.Goals as goal
+
+pub returns : goal.returns
+returns c =
+    counted (λ m. comes_before_kind m c.args.mark) c.args.marks.now _ c.partition_point.ensures.bound
+    (c.partition_point.ensures.partitioned (λ m. comes_before_kind m c.args.mark) (always_returns_same _ _ _ (λ a r q k. search rules)) (before_kind_is_parted c.args.marks.now c.args.mark c.requires))

@@ -1,0 +1,6 @@
+use Rattle.std.proofs.Common.{◌≡◌, ◌++◌, drop}
+use Rattle.bind_seats.specs.Occurrences.{outer_marks}
+use Rattle.bind_seats.proofs.occurrences.outer_marks.Given as goal
+
+abbrev pub invariant-picks : goal.invariant-picks
+invariant-picks l = l.marks.items ++ outer_marks l.rows (drop l.pick-index l.picks) ≡ outer_marks l.rows l.picks

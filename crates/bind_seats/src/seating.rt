@@ -1,0 +1,66 @@
+ghost use Rattle.std.specs.Prelude.{◌≡◌, IfOk, Ok};
+ghost use Rattle.node_arena.specs.Moves.{tree_nodes};
+ghost use Rattle.bind_table.specs.WellFormed.{first_fault};
+ghost use Rattle.bind_meaning.specs.Picks.{all_picked, rows_where, has_any_term};
+ghost use Rattle.bind_meaning.specs.Kept.{all_kept, all_kept_seats};
+ghost use Rattle.bind_meaning.specs.Currencies.{currencies};
+ghost use Rattle.bind_meaning.specs.Terms.{in_order, term_picks, place_all};
+
+use crate::currencies::Currencies;
+use crate::fillers::{marks_beside, staying};
+use crate::known::nodes_are_sound;
+use crate::occurrences::all_seated;
+use bind_lines::laws::same_steps_are_equal;
+use bind_meaning::{Picked, SeatedPick};
+use bind_table::Binding;
+use inv_base::{Steps, Txt};
+use node_arena::Doc;
+use std::alloc::{AllocError, Global};
+use std::sync::ledger::Ledger;
+
+/// The picks of a document's terms with the occurrences of groups in which they stand.
+#[derive(Drop)]
+pub struct Seating {
+    /// In document order, at one node by their rows.
+    pub picks: Vec<SeatedPick>,
+    /// The currency of the invoice, as its document names it (BT-5).
+    pub invoice_currency: Option<Txt>,
+}
+
+/// The picks of rows with a term, without fillers and without VAT totals of the other currency, each with the occurrences
+/// of groups in which it stands (EN 16931-1, section 6.2). Occurrences of a group are numbered from 1 in document order,
+/// those of an inner group in each occurrence of the outer one.
+pub fn seat<L: Ledger>(
+    alloc: Global,
+    doc: &Doc<'_>,
+    table: &Binding,
+    picks: &[Picked],
+    steps: &mut Steps<L>,
+) -> Result<Seating, AllocError>
+    requires formed { first_fault table.now ≡ Ok tt }
+    requires picks { picks.now
+        ≡ all_kept (in_order (tree_nodes doc.now) (all_picked (tree_nodes doc.now) (rows_where has_any_term table.now))) }
+    ensures picks { IfOk result (λ s. s.picks.items ≡ all_kept_seats (place_all (tree_nodes doc.now)
+        (term_picks (tree_nodes doc.now) (currencies (tree_nodes doc.now) table.now) table.now))) }
+    ensures currency { IfOk result (λ s. s.invoice_currency ≡ (currencies (tree_nodes doc.now) table.now).invoice) }
+{
+    nodes_are_sound(doc);
+    same_steps_are_equal();
+    let rows = table.rows();
+    let currencies = Currencies::named(alloc, doc, rows, picks, steps)?;
+    let marks = marks_beside(alloc, doc, rows, picks, steps)?;
+    let kept = staying(
+        alloc,
+        doc,
+        rows,
+        &currencies,
+        marks.as_slice(),
+        picks,
+        steps,
+    )?;
+    let seats = all_seated(alloc, rows, kept.as_slice())?;
+    Ok(Seating {
+        picks: seats,
+        invoice_currency: currencies.invoice,
+    })
+}

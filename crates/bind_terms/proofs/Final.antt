@@ -1,0 +1,254 @@
+-- What the passes leave is the invoice that the document is, or its first fault.
+use Rattle.std.proofs.Common.{◌≡◌, ℕ, zero, suc, ◌+◌, ◌<◌, Bool, true, false, not, ◌&&◌, ◌||◌, List, [], ◌∷◌, ◌++◌, length, get_or, map, flat_map, All, Option, Some, None, option_map, is_some, Result, Ok, Err, ◌⊎◌, inl, inr, refl, sym, ap, ◌∙◌, subst, append_assoc, arith, Ordering}
+use Rattle.std.specs.Prelude.{is_none}
+use Rattle.std.specs.List.{list_any, AllPairs, AllByRecursion}
+use Rattle.std.specs.List.Sorted.{IsStrictlySortedBy}
+use Rattle.std.specs.Ordering.{nat_cmp, is_lt, match_ordering}
+use Rattle.std.specs.declared.cmp.Ordering.TheVariants.{Less, Equal, Greater}
+use Rattle.std.specs.Cmp.Lexicographic.{slice_cmp}
+use Rattle.std.specs.BTreeMap.{insert_entry}
+use Rattle.std.proofs.lemmas.Bool.{false≢true}
+use Rattle.std.proofs.lemmas.List.Elements.{All-nil, All-cons, All-head, All-tail, All-map, All-weaker}
+use Rattle.inv_base.specs.Tree.{Node}
+use Rattle.code_lists.specs.CodeFiles.{Lists}
+use Rattle.term_table.specs.declared.contexts.Seat.{Seat}
+use Rattle.term_table.specs.Places.{seat_place}
+use Rattle.term_table.specs.Runs.{MayFollow, IsInOrder}
+use Rattle.term_table.proofs.RunLemmas.{not_both_ways}
+use Rattle.inv_terms.specs.declared.entries.Entry.{Entry}
+use Rattle.inv_terms.specs.declared.values.Value.{Value}
+use Rattle.bind_rows.specs.declared.rows.Row.{Row}
+use Rattle.bind_meaning.specs.declared.fault.BindKind.{BindKind}
+use Rattle.bind_meaning.specs.declared.fault.BindKind.TheVariants as kinds
+use Rattle.bind_meaning.specs.declared.fault.BindFault.{BindFault}
+use Rattle.bind_meaning.specs.declared.picked.Picked.{Picked}
+use Rattle.bind_meaning.specs.declared.picked.SeatedPick.{SeatedPick}
+use Rattle.bind_meaning.specs.Currencies.{Currencies, currencies}
+use Rattle.bind_meaning.specs.Kept.{all_kept, all_kept_seats}
+use Rattle.bind_meaning.specs.Picks.{Pick}
+use Rattle.bind_meaning.specs.Seats.{Placed, rooms}
+use Rattle.bind_meaning.specs.Judging.{Found, Told, seat_of, first_before, Cause, first_cause, causes, fault_of, faults_behind, wrong_word, missing_in, earlier, least, least_from, is_bad, is_excess, is_not_listed, is_foreign, is_disagreeing, breaks}
+use Rattle.bind_meaning.specs.Elements.{has_element_inside}
+use Rattle.bind_meaning.specs.Terms.{in_order, constant_picks, term_picks, place_all, told, all_faults, entries, passed_over, Read, read_placed, firsts_behind}
+use Rattle.node_arena.proofs.FoundLemmas.{AreInOrder}
+use Rattle.bind_values.specs.Sayings.{FitsIts}
+use Rattle.bind_terms.specs.declared.found.Found.{Found as Kept}
+use Rattle.bind_terms.specs.declared.firsts.First.{First}
+use Rattle.bind_terms.specs.Entries.{FitsFirst, entries_of}
+use Rattle.bind_terms.specs.Faults.{found_of, with_found, least_of}
+use Rattle.bind_terms.specs.Reading.{indicator_picks, term_places, reading, AreSorted}
+use Rattle.bind_terms.specs.Telling.{seat_of_first, first_of, Entries, told_place, arranged, is_placed, IsAtItsPlace, Holds}
+use Rattle.bind_terms.specs.Steps.{IsOfRow, IsPickOfRow, IsWithin, TellsAll}
+use Rattle.bind_terms.proofs.Tolds.{append-nil, least-append}
+use Rattle.bind_terms.proofs.Listing.{Each, each-first, IsWhole, arranged-listed}
+use Rattle.bind_terms.proofs.Missing.{rooms-same}
+use Rattle.bind_terms.proofs.Indicating.{words-same}
+use Rattle.bind_terms.proofs.Sound.{terms-sound, rows-sound, seated-within, seated-rows, kept-within, kept-rows}
+use Rattle.bind_terms.specs.Reading.{has_indicator}
+
+-- ---- the first of all
+
+least-from : (a : Found) (xs : List Found) → least_of (Some a) xs ≡ Some (least_from a xs)
+least-from a [] = refl
+least-from a (x ∷ xs) = least-from (earlier a x) xs
+
+least-is : (xs : List Found) → least_of None xs ≡ least xs
+least-is [] = refl
+least-is (x ∷ xs) = least-from x xs
+
+least-none : (xs : List Found) → least xs ≡ None → xs ≡ []
+least-none [] h = refl
+least-none (x ∷ xs) h = absurd (let k : ◌≡◌ {A = Option Found} (Some (least_from x xs)) None = h in cc)
+
+front-none : {X : Type 0} (xs ys : List X) → xs ++ ys ≡ [] → xs ≡ []
+front-none [] ys h = refl
+front-none (x ∷ xs) ys h = absurd (let k : x ∷ (xs ++ ys) ≡ [] = h in cc)
+
+back-none : {X : Type 0} (xs ys : List X) → xs ++ ys ≡ [] → ys ≡ []
+back-none [] ys h = h
+back-none (x ∷ xs) ys h = absurd (let k : x ∷ (xs ++ ys) ≡ [] = h in cc)
+
+-- ---- where there is no fault, each has a value
+
+no-bad : (excess inside bad : Bool) (rest : Option BindKind)
+    → ◌≡◌ {A = Option BindKind} (elim excess [ true ↦ Some kinds.Excess | false ↦ elim inside [ true ↦ Some kinds.ElementInValue | false ↦ elim bad [ true ↦ Some kinds.BadValue | false ↦ rest ] ] ]) None
+    → bad ≡ false
+no-bad true inside bad rest h = absurd (let k : ◌≡◌ {A = Option BindKind} (Some kinds.Excess) None = h in cc)
+no-bad false true bad rest h = absurd (let k : ◌≡◌ {A = Option BindKind} (Some kinds.ElementInValue) None = h in cc)
+no-bad false false true rest h = absurd (let k : ◌≡◌ {A = Option BindKind} (Some kinds.BadValue) None = h in cc)
+no-bad false false false rest h = refl
+
+no-kind : (o : Option BindKind) (f : BindKind → Found) → ◌≡◌ {A = List Found} (elim o [ None ↦ [] | Some kind ↦ f kind ∷ [] ]) [] → o ≡ None
+no-kind None f h = refl
+no-kind (Some k) f h = absurd (let e : f k ∷ [] ≡ [] = h in cc)
+
+first-false : (a b : Bool) → (a || b) ≡ false → a ≡ false
+first-false true b h = absurd (false≢true (sym h))
+first-false false b h = refl
+
+valued : (nodes : List Node) (lists : Lists) (c : Currencies) (before : Option Told) (t : Told) → fault_of nodes lists c before t ≡ [] → is_none t.said.value ≡ false
+valued nodes lists c before t h =
+    let none = no-kind (first_cause (causes nodes lists c before t)) _ h in
+    let rest : List Cause = record { kind = kinds.CodeNotListed; holds = λ _. is_not_listed lists t } ∷ (record { kind = kinds.CurrencyDiffers; holds = λ _. is_foreign nodes c t }
+    ∷ (record { kind = kinds.Disagree; holds = λ _. is_disagreeing before t } ∷ [])) in
+    first-false (is_none t.said.value) (breaks nodes t.placed.pick.row.check t.placed.pick.node)
+    (no-bad (is_excess before t) (has_element_inside nodes t.placed.pick.node) (is_bad nodes t) (first_cause rest) none)
+
+some-value : (o : Option Value) → is_none o ≡ false → (v : Value) × (o ≡ Some v)
+some-value None h = absurd (false≢true (sym h))
+some-value (Some v) h = (v, refl)
+
+some-place : (o : Option (List ℕ)) → is_some o ≡ true → (p : List ℕ) × (o ≡ Some p)
+some-place None h = absurd (false≢true h)
+some-place (Some p) h = (p, refl)
+
+all-valued : (nodes : List Node) (lists : Lists) (c : Currencies) (pre ts : List Told) → faults_behind nodes lists c pre ts ≡ [] → All (λ t. is_placed t ≡ true) ts → Each IsWhole ts
+all-valued nodes lists c pre [] h placed = tt
+all-valued nodes lists c pre (t ∷ ts) h placed =
+    let v = some-value t.said.value (valued nodes lists c (first_before pre t) t (front-none (fault_of nodes lists c (first_before pre t) t) (faults_behind nodes lists c (pre ++ t ∷ []) ts) h)) in
+    let p = some-place (seat_place (seat_of t)) (All-head (λ u. is_placed u ≡ true) t ts placed) in (
+      record { place = p.0; value = v.0; placed = p.1; valued = v.1 },
+      all-valued nodes lists c (pre ++ t ∷ []) ts (back-none (fault_of nodes lists c (first_before pre t) t) (faults_behind nodes lists c (pre ++ t ∷ []) ts) h) (All-tail (λ u. is_placed u ≡ true) t ts placed),
+    )
+
+-- ---- what is kept
+
+any-map : {X Y : Type 0} (f : X → Y) (p : Y → Bool) (xs : List X) → list_any p (map f xs) ≡ list_any (λ x. p (f x)) xs
+any-map f p [] = refl
+any-map f p (x ∷ xs) = ap (λ b. p (f x) || b) (any-map f p xs)
+
+abbrev kept_firsts : Entries → List First
+kept_firsts entries = map (λ (e : List ℕ × First). e.1) entries
+
+pairs-nil : {X : Type 0} (R : X → X → Type 0) → AllPairs R []
+pairs-nil R i j d lt below = absurd (omega arith)
+
+pairs-cons : {X : Type 0} (R : X → X → Type 0) (x : X) (xs : List X) → All (R x) xs → AllPairs R xs → AllPairs R (x ∷ xs)
+pairs-cons R x xs all pairs zero zero d lt below = absurd (omega arith)
+pairs-cons R x xs all pairs zero (suc j) d lt below = all j d (omega arith)
+pairs-cons R x xs all pairs (suc i) zero d lt below = absurd (omega arith)
+pairs-cons R x xs all pairs (suc i) (suc j) d lt below = pairs i j d (omega arith) (omega arith)
+
+follow : (e f : List ℕ × First) → IsAtItsPlace e → IsAtItsPlace f → slice_cmp nat_cmp e.0 f.0 ≡ Less → MayFollow (seat_of_first e.1) (seat_of_first f.1)
+follow e f at there less = record { first = e.0; second = f.0; first_is = at; second_is = there; order = not_both_ways e.0 f.0 (ap is_lt less) }
+
+follow-all : (e : List ℕ × First) (es : Entries) → IsAtItsPlace e → All IsAtItsPlace es → AllByRecursion (λ y. slice_cmp nat_cmp e.0 y ≡ Less) (map (λ (x : List ℕ × First). x.0) es)
+    → All (MayFollow (seat_of_first e.1)) (map seat_of_first (kept_firsts es))
+follow-all e [] at all less = All-nil (MayFollow (seat_of_first e.1))
+follow-all e (f ∷ es) at all less =
+    All-cons (MayFollow (seat_of_first e.1)) (seat_of_first f.1) (map seat_of_first (kept_firsts es)) (follow e f at (All-head IsAtItsPlace f es all) less.0)
+    (follow-all e es at (All-tail IsAtItsPlace f es all) less.1)
+
+pairs-follow : (es : Entries) → All IsAtItsPlace es → AreSorted es → AllPairs MayFollow (map seat_of_first (kept_firsts es))
+unfolding IsStrictlySortedBy
+pairs-follow [] all sorted = pairs-nil MayFollow
+pairs-follow (e ∷ es) all sorted =
+    pairs-cons MayFollow (seat_of_first e.1) (map seat_of_first (kept_firsts es)) (follow-all e es (All-head IsAtItsPlace e es all) (All-tail IsAtItsPlace e es all) sorted.0)
+    (pairs-follow es (All-tail IsAtItsPlace e es all) sorted.1)
+
+pub in-order : (es : Entries) (firsts : List First) → firsts ≡ map (λ (e : List ℕ × First). e.1) es → All IsAtItsPlace es → AreSorted es → IsInOrder (map seat_of_first firsts)
+in-order es firsts e all sorted = subst (λ l. IsInOrder (map seat_of_first l)) (sym e) (record {
+  placed = All-map (λ (seat : Seat). is_some (seat_place seat) ≡ true) seat_of_first (kept_firsts es)
+      (All-map (λ (f : First). is_some (seat_place (seat_of_first f)) ≡ true) (λ (x : List ℕ × First). x.1) es
+      (All-weaker IsAtItsPlace (λ (x : List ℕ × First). is_some (seat_place (seat_of_first x.1)) ≡ true) (λ x h. ap is_some h) es all));
+  order = pairs-follow es all sorted;
+})
+
+fits-step : (o : Ordering) (new e same : List ℕ × First) (es later : Entries) → FitsFirst new.1 → FitsFirst e.1 → FitsFirst same.1 → Each (λ (x : List ℕ × First). FitsFirst x.1) es
+    → Each (λ (x : List ℕ × First). FitsFirst x.1) later → Each (λ (x : List ℕ × First). FitsFirst x.1) (match_ordering o (new ∷ (e ∷ es)) (same ∷ es) (e ∷ later))
+fits-step Less new e same es later n h s k m = (n, (h, k))
+fits-step Equal new e same es later n h s k m = (s, k)
+fits-step Greater new e same es later n h s k m = (h, m)
+
+fits-insert : (es : Entries) (place : List ℕ) (f : First) → Each (λ (x : List ℕ × First). FitsFirst x.1) es → FitsFirst f → Each (λ (x : List ℕ × First). FitsFirst x.1) (insert_entry (slice_cmp nat_cmp) es place f)
+fits-insert [] place f h fits = (fits, tt)
+fits-insert (e ∷ es) place f h fits =
+    fits-step (slice_cmp nat_cmp place e.0) (place, f) e (e.0, f) es (insert_entry (slice_cmp nat_cmp) es place f) fits h.0 fits h.1 (fits-insert es place f h.1 fits)
+
+fits-arranged : (es : Entries) (ts : List Told) → Each (λ (x : List ℕ × First). FitsFirst x.1) es → Each (λ (t : Told). FitsIts t.said) ts → Each (λ (x : List ℕ × First). FitsFirst x.1) (arranged es ts)
+fits-arranged es [] h fits = h
+fits-arranged es (t ∷ ts) h fits = fits-arranged (insert_entry (slice_cmp nat_cmp) es (told_place t) (first_of t)) ts (fits-insert es (told_place t) (first_of t) h fits.0) fits.1
+
+each-of : {X : Type 0} (P : X → Type 0) (xs : List X) → All P xs → Each P xs
+each-of P [] h = tt
+each-of P (x ∷ xs) h = (All-head P x xs h, each-of P xs (All-tail P x xs h))
+
+all-of : (es : Entries) → Each (λ (x : List ℕ × First). FitsFirst x.1) es → All FitsFirst (kept_firsts es)
+all-of [] h = All-nil FitsFirst
+all-of (e ∷ es) h = All-cons FitsFirst e.1 (kept_firsts es) h.0 (all-of es h.1)
+
+pub firsts-fit : (nodes : List Node) (lists : Lists) (c : Currencies) (before : List Told) (es : Entries) (least : Option Found) (firsts : List First) → Holds nodes lists c before es least
+    → firsts ≡ map (λ (e : List ℕ × First). e.1) es → All FitsFirst firsts
+firsts-fit nodes lists c before es least firsts h e =
+    subst (All FitsFirst) (sym (e ∙ ap kept_firsts h.entries_are))
+    (all-of (arranged [] (firsts_behind [] before)) (fits-arranged [] (firsts_behind [] before) tt (each-first (λ (t : Told). FitsIts t.said) [] before (each-of (λ (t : Told). FitsIts t.said) before h.fit))))
+
+-- ---- the answer
+
+module _ (nodes : List Node) (order : AreInOrder nodes) (some : 0 < length nodes) (lists : Lists) (rows : List Row) where
+  pub picks-within : (count : ℕ) (picks : List SeatedPick) → length nodes ≡ count → picks ≡ all_kept_seats (term_places nodes rows) → All (IsWithin count) picks
+  picks-within count picks long e =
+      subst (λ n. All (IsWithin n) picks) long (subst (All (IsWithin (length nodes))) (sym e)
+      (seated-within nodes order some rows (term_picks nodes (currencies nodes rows) rows) (terms-sound nodes order some rows (currencies nodes rows))))
+
+  pub indicators-within : (count : ℕ) (indicators : List Picked) → length nodes ≡ count → indicators ≡ all_kept (in_order nodes (indicator_picks nodes rows)) → All (λ (p : Picked). p.node < count) indicators
+  indicators-within count indicators long e =
+      subst (λ n. All (λ (p : Picked). p.node < n) indicators) long (subst (All (λ (p : Picked). p.node < length nodes)) (sym e)
+      (kept-within nodes order some rows (in_order nodes (indicator_picks nodes rows)) (rows-sound nodes order some rows has_indicator)))
+
+  pub standing : (invoice : Option (List ℕ)) (picks : List SeatedPick) (es : Entries) (at_nodes : Option Found) → invoice ≡ (currencies nodes rows).invoice → picks ≡ all_kept_seats (term_places nodes rows)
+      → TellsAll nodes lists invoice picks rows es at_nodes → Holds nodes lists (currencies nodes rows) (told nodes (term_places nodes rows)) es at_nodes
+  standing invoice picks es at_nodes currency picks_are tells =
+      tells (term_places nodes rows) (currencies nodes rows) (sym currency) picks_are
+      (seated-rows nodes order some rows (term_picks nodes (currencies nodes rows) rows) (terms-sound nodes order some rows (currencies nodes rows)))
+
+  module _ (picks : List SeatedPick) (indicators : List Picked) (es : Entries) (at_nodes worded last : Option Found) (firsts : List First)
+      (h : Holds nodes lists (currencies nodes rows) (told nodes (term_places nodes rows)) es at_nodes)
+      (picks_are : picks ≡ all_kept_seats (term_places nodes rows)) (indicators_are : indicators ≡ all_kept (in_order nodes (indicator_picks nodes rows)))
+      (words : (qs : List Pick) → indicators ≡ all_kept qs → All (IsPickOfRow rows) qs → worded ≡ least_of at_nodes (flat_map (wrong_word nodes) qs))
+      (firsts_are : firsts ≡ map (λ (e : List ℕ × First). e.1) es)
+      (lacks : (qs : List Placed) → picks ≡ all_kept_seats qs → last ≡ least_of worded (flat_map (missing_in nodes (map seat_of_first firsts)) (rooms qs))) where
+    alike : (p : Seat → Bool) → list_any p (map seat_of_first firsts) ≡ list_any p (map seat_of (told nodes (term_places nodes rows)))
+    alike p =
+        any-map seat_of_first p firsts ∙ (ap (list_any (λ (f : First). p (seat_of_first f))) firsts_are
+        ∙ (any-map (λ (e : List ℕ × First). e.1) (λ (f : First). p (seat_of_first f)) es ∙ (h.same_seats p ∙ sym (any-map seat_of p (told nodes (term_places nodes rows))))))
+
+    a : List Found
+    a = faults_behind nodes lists (currencies nodes rows) [] (told nodes (term_places nodes rows))
+
+    b : List Found
+    b = flat_map (wrong_word nodes) (constant_picks nodes rows)
+
+    d : List Found
+    d = flat_map (missing_in nodes (map seat_of (told nodes (term_places nodes rows)))) (rooms (term_places nodes rows))
+
+    pub whole-least : last ≡ least (all_faults nodes lists (currencies nodes rows) rows (term_places nodes rows))
+    unfolding a b d
+    whole-least =
+        lacks (term_places nodes rows) picks_are
+        ∙ (ap (least_of worded) (rooms-same nodes (map seat_of_first firsts) (map seat_of (told nodes (term_places nodes rows))) (rooms (term_places nodes rows)) alike)
+        ∙ (ap (λ o. least_of o d) (words (in_order nodes (indicator_picks nodes rows)) indicators_are
+        (kept-rows nodes order some rows (in_order nodes (indicator_picks nodes rows)) (rows-sound nodes order some rows has_indicator))
+        ∙ (words-same nodes order some rows at_nodes ∙ ap (λ o. least_of o b) h.least_is))
+        ∙ (ap (λ o. least_of o d) (sym (least-append None a b))
+        ∙ (sym (least-append None (a ++ b) d) ∙ (ap (least_of None) (append_assoc a b d) ∙ least-is (a ++ (b ++ d)))))))
+
+    pub told-fault : (fault : Found) → last ≡ Some fault → reading nodes lists rows ≡ Err fault.fault
+    told-fault fault e =
+        ap (λ (o : Option Found). elim o [
+          | Some first ↦ Err first.fault
+          | None ↦ Ok (record { entries = entries (told nodes (term_places nodes rows)); passed_over = passed_over nodes rows })
+        ]) (sym whole-least ∙ e)
+
+    pub told-invoice : (invoice : List Entry) → last ≡ None → invoice ≡ flat_map entries_of firsts → reading nodes lists rows ≡ Ok (record { entries = invoice; passed_over = passed_over nodes rows })
+    told-invoice invoice e made =
+        let none : least (all_faults nodes lists (currencies nodes rows) rows (term_places nodes rows)) ≡ None = sym whole-least ∙ e in
+        let faultless = front-none (faults_behind nodes lists (currencies nodes rows) [] (told nodes (term_places nodes rows))) _ (least-none _ none) in
+        let whole = all-valued nodes lists (currencies nodes rows) [] (told nodes (term_places nodes rows)) faultless h.placed in
+        let entries_are : invoice ≡ entries (told nodes (term_places nodes rows)) =
+        made ∙ (ap (flat_map entries_of) (firsts_are ∙ ap kept_firsts h.entries_are) ∙ arranged-listed (told nodes (term_places nodes rows)) whole) in
+        ap (λ (o : Option Found). elim o [
+          | Some first ↦ Err first.fault
+          | None ↦ Ok (record { entries = entries (told nodes (term_places nodes rows)); passed_over = passed_over nodes rows })
+        ]) none
+        ∙ (λ i. Ok (record { entries = (sym entries_are) i; passed_over = passed_over nodes rows }))

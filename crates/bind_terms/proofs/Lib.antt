@@ -1,0 +1,12 @@
+pub mod Final
+pub mod Holding
+pub mod Indicating
+pub mod Listing
+pub mod Missing
+pub mod Once
+pub mod Order
+pub mod Pass
+pub mod Rooms
+pub mod Sound
+pub mod Tolds
+pub mod Words

@@ -1,0 +1,6 @@
+pub mod Entries
+pub mod Faults
+pub mod Reading
+pub mod Rooms
+pub mod Steps
+pub mod Telling

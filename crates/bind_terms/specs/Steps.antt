@@ -1,0 +1,93 @@
+-- What the steps of the pass over the picks do.
+use Rattle.std.specs.Prelude.{◌≡◌, ◌<◌, ℕ, zero, suc, Bool, true, ◌||◌, List, [], ◌∷◌, Option, Some, None, is_some, is_none, slice_get, cond, ◌++◌, map, All}
+use Rattle.std.specs.Option.{ForSome}
+use Rattle.std.specs.Ordering.{nat_cmp, is_eq}
+use Rattle.std.specs.Cmp.Lexicographic.{slice_cmp}
+use Rattle.std.specs.BTreeMap.{insert_entry}
+use Rattle.term_table.specs.declared.terms.Term.{Term}
+use Rattle.inv_lacks.specs.declared.lacks.Name.TheVariants as names
+use Rattle.bind_rows.specs.declared.rows.Row.{Row}
+use Rattle.bind_meaning.specs.declared.fault.BindKind.{BindKind}
+use Rattle.bind_meaning.specs.declared.picked.Picked.{Picked}
+use Rattle.bind_meaning.specs.declared.picked.Seated.{Seated}
+use Rattle.bind_meaning.specs.declared.picked.SeatedPick.{SeatedPick}
+use Rattle.bind_meaning.specs.Picks.{Pick}
+use Rattle.bind_meaning.specs.Seats.{Placed}
+use Rattle.bind_meaning.specs.Values.{Said}
+use Rattle.bind_meaning.specs.Currencies.{Currencies}
+use Rattle.bind_meaning.specs.Kept.{kept_seat, all_kept_seats}
+use Rattle.bind_meaning.specs.Judging.{Found, found, Told, told_by}
+use Rattle.bind_meaning.specs.Terms.{told}
+use Rattle.inv_base.specs.Tree.{Node}
+use Rattle.code_lists.specs.CodeFiles.{Lists}
+use Rattle.bind_values.specs.Sayings.{FitsIts}
+use Rattle.bind_terms.specs.declared.firsts.First.{First}
+use Rattle.bind_terms.specs.Telling.{Entries, kept_at, Holds}
+
+-- the row of a number, from 1
+abbrev pub row_numbered : List Row → ℕ → Option Row
+row_numbered rows zero = None
+row_numbered rows (suc k) = slice_get rows k
+
+-- The pick's number is that of its row.
+abbrev pub IsOfRow : List Row → Placed → Type 0
+IsOfRow rows p = row_numbered rows p.pick.place ≡ Some p.pick.row
+
+abbrev pub IsPickOfRow : List Row → Pick → Type 0
+IsPickOfRow rows pick = row_numbered rows pick.place ≡ Some pick.row
+
+-- The seat's element is a node of the document.
+abbrev pub IsSeatWithin : ℕ → Option Seated → Type 0
+IsSeatWithin count seat = ForSome seat (λ (s : Seated). s.element < count)
+
+-- The pick and its elements are nodes of the document, and an inner seat stands in an outer one.
+pub record IsWithin (count : ℕ) (pick : SeatedPick) : Type 0 where
+  pub node : pick.picked.node < count
+  pub outer : IsSeatWithin count pick.outer
+  pub inner : IsSeatWithin count pick.inner
+  pub nested : (is_some pick.outer || is_none pick.inner) ≡ true
+
+abbrev pub told_at : Placed → Said → Told
+told_at p said = record { placed = p; said = said }
+
+-- the entries with one more, where none of its place is among them
+abbrev pub put_entry : Entries → List ℕ → First → Entries
+put_entry entries place first = elim (kept_at place entries) [ None ↦ insert_entry (slice_cmp nat_cmp) entries place first | Some other ↦ entries ]
+
+-- what is kept at a place behind that
+abbrev pub kept_behind : List ℕ → Entries → List ℕ → First → Option First
+kept_behind q entries place first = elim (kept_at place entries) [
+  | None ↦ cond (is_eq (slice_cmp nat_cmp place q)) (Some first) (kept_at q entries)
+  | Some other ↦ kept_at q entries
+]
+
+abbrev pub fault_at : BindKind → Picked → Term → Found
+fault_at kind picked term = found (picked.node ∷ (0 ∷ (picked.row ∷ []))) kind (names.Term term) picked.node
+
+abbrev pub faults_at : Option BindKind → Picked → Term → List Found
+faults_at kind picked term = elim kind [ None ↦ [] | Some k ↦ fault_at k picked term ∷ [] ]
+
+-- ---- what each step of the pass leaves, behind whatever was told before
+
+-- the step tells these values of the pick
+abbrev pub Tells : List Node → Lists → Option (List ℕ) → SeatedPick → Row → List Said → Entries → Option Found → Entries → Option Found → Type 0
+Tells nodes lists invoice pick row said old least new later =
+    (before : List Told) (p : Placed) (c : Currencies) → c.invoice ≡ invoice → kept_seat p ≡ pick → p.pick.row ≡ row → All FitsIts said
+    → Holds nodes lists c before old least → Holds nodes lists c (before ++ map (told_at p) said) new later
+
+-- the step tells what the pick says, by its row
+abbrev pub TellsPick : List Node → Lists → Option (List ℕ) → SeatedPick → Row → Entries → Option Found → Entries → Option Found → Type 0
+TellsPick nodes lists invoice pick row old least new later =
+    (before : List Told) (p : Placed) (c : Currencies) → c.invoice ≡ invoice → kept_seat p ≡ pick → p.pick.row ≡ row
+    → Holds nodes lists c before old least → Holds nodes lists c (before ++ told_by nodes p) new later
+
+-- the same by its table
+abbrev pub TellsOf : List Node → Lists → Option (List ℕ) → SeatedPick → List Row → Entries → Option Found → Entries → Option Found → Type 0
+TellsOf nodes lists invoice pick rows old least new later =
+    (before : List Told) (p : Placed) (c : Currencies) → c.invoice ≡ invoice → kept_seat p ≡ pick → IsOfRow rows p
+    → Holds nodes lists c before old least → Holds nodes lists c (before ++ told_by nodes p) new later
+
+-- the pass tells what all picks say
+abbrev pub TellsAll : List Node → Lists → Option (List ℕ) → List SeatedPick → List Row → Entries → Option Found → Type 0
+TellsAll nodes lists invoice picks rows entries least =
+    (ps : List Placed) (c : Currencies) → c.invoice ≡ invoice → picks ≡ all_kept_seats ps → All (IsOfRow rows) ps → Holds nodes lists c (told nodes ps) entries least

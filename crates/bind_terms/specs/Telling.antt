@@ -1,0 +1,64 @@
+-- What was told so far, as the code keeps it: what the first pick of each term in each context said, by its place in
+-- listing order.
+use Rattle.std.specs.Prelude.{◌≡◌, ℕ, Bool, true, List, [], ◌∷◌, ◌++◌, map, All, Option, Some, None, is_some, option_map, unwrap_or}
+use Rattle.std.specs.List.{list_any}
+use Rattle.std.specs.Ordering.{nat_cmp, is_eq}
+use Rattle.std.specs.Cmp.Lexicographic.{slice_cmp}
+use Rattle.std.specs.Map.{lookup}
+use Rattle.std.specs.BTreeMap.{insert_entry}
+use Rattle.inv_base.specs.Tree.{Node}
+use Rattle.code_lists.specs.CodeFiles.{Lists}
+use Rattle.term_table.specs.declared.contexts.Seat.{Seat}
+use Rattle.term_table.specs.declared.contexts.Context.{Context}
+use Rattle.term_table.specs.Places.{seat_place}
+use Rattle.bind_meaning.specs.declared.picked.SeatedPick.{SeatedPick}
+use Rattle.bind_meaning.specs.Currencies.{Currencies}
+use Rattle.bind_meaning.specs.Seats.{Placed, context_of, slot_of}
+use Rattle.bind_meaning.specs.Judging.{Found, Told, seat_of, first_before, faults_behind}
+use Rattle.bind_meaning.specs.Terms.{firsts_behind}
+use Rattle.bind_values.specs.Sayings.{FitsIts}
+use Rattle.bind_terms.specs.declared.firsts.First.{First}
+use Rattle.bind_terms.specs.Faults.{least_of}
+
+abbrev pub seat_of_first : First → Seat
+seat_of_first f = record { term = f.said.term; context = f.context }
+
+-- what was told, as it is kept
+abbrev pub first_of : Told → First
+first_of t = record { context = context_of t.placed; said = record { term = t.said.term; value = t.said.value } }
+
+abbrev pub Entries : Type 0
+Entries = List (List ℕ × First)
+
+-- the context of a pick
+abbrev pub context_in : SeatedPick → Context
+context_in pick = record { outer = slot_of pick.outer; inner = slot_of pick.inner }
+
+-- what is kept at a place
+abbrev pub kept_at : List ℕ → Entries → Option First
+kept_at place entries = lookup (λ other. is_eq (slice_cmp nat_cmp place other)) entries
+
+-- the place of what was told
+abbrev pub told_place : Told → List ℕ
+told_place t = unwrap_or (seat_place (seat_of t)) []
+
+-- what was told first of each, in listing order, behind others
+abbrev pub arranged : Entries → List Told → Entries
+arranged entries [] = entries
+arranged entries (t ∷ ts) = arranged (insert_entry (slice_cmp nat_cmp) entries (told_place t) (first_of t)) ts
+
+abbrev pub is_placed : Told → Bool
+is_placed t = is_some (seat_place (seat_of t))
+
+abbrev pub IsAtItsPlace : List ℕ × First → Type 0
+IsAtItsPlace entry = seat_place (seat_of_first entry.1) ≡ Some entry.0
+
+-- Behind what was told before, these are the entries and the first fault.
+pub record Holds (nodes : List Node) (lists : Lists) (c : Currencies) (before : List Told) (entries : Entries) (least : Option Found) : Type 0 where
+  pub look_up : (t : Told) (place : List ℕ) → seat_place (seat_of t) ≡ Some place → kept_at place entries ≡ option_map first_of (first_before before t)
+  pub entries_are : entries ≡ arranged [] (firsts_behind [] before)
+  pub at_places : All IsAtItsPlace entries
+  pub same_seats : (p : Seat → Bool) → list_any (λ (e : List ℕ × First). p (seat_of_first e.1)) entries ≡ list_any (λ t. p (seat_of t)) before
+  pub least_is : least ≡ least_of None (faults_behind nodes lists c [] before)
+  pub fit : All (λ (t : Told). FitsIts t.said) before
+  pub placed : All (λ t. is_placed t ≡ true) before

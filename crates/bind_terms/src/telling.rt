@@ -1,0 +1,314 @@
+//! One pass over the picks: what each says, the first of each term in each context, and the first fault at a node.
+ghost use Rattle.std.specs.Prelude.{◌≡◌, ◌<◌, ◌++◌, [], ◌∷◌, List, ℕ, All, Some, length, map, chars, OnOk, IfOk, option_map, option_copied};
+ghost use Rattle.node_arena.specs.Moves.{tree_nodes};
+ghost use Rattle.bind_meaning.specs.Currencies.{Currencies};
+ghost use Rattle.bind_meaning.specs.Kept.{kept_seat, all_kept_seats};
+ghost use Rattle.bind_meaning.specs.Seats as seats;
+ghost use Rattle.bind_meaning.specs.Seats.{Placed};
+ghost use Rattle.bind_meaning.specs.Judging.{Told, told_by};
+ghost use Rattle.bind_meaning.specs.Terms.{told};
+ghost use Rattle.bind_values.specs.Sayings.{said_of, all_said, FitsIts};
+ghost use Rattle.bind_terms.specs.Faults.{found_of, least_of};
+ghost use Rattle.bind_terms.specs.Telling.{Holds, context_in, kept_at};
+ghost use Rattle.bind_terms.specs.Steps.{IsWithin, Tells, TellsPick, TellsOf, TellsAll, row_numbered, put_entry, kept_behind, faults_at, fault_at};
+
+use crate::firsts::First;
+use crate::found::{FaultPlace, Found, earlier};
+use bind_faults::first_cause;
+use bind_meaning::{BindFault, BindKind, Picked, Seated, SeatedPick};
+use bind_rows::{Content, Row};
+use bind_table::Binding;
+use bind_values::{Said, Sayings, said_values_fit_their_terms, suits, what_is_said};
+use code_lists::CodeLists;
+use inv_base::Steps;
+use inv_lacks::Name;
+use node_arena::Doc;
+use std::alloc::{AllocError, Global};
+use std::collections::BTreeMap;
+use std::sync::ledger::Ledger;
+use term_table::{Context, ListingPlace, Slot, Term, place_of};
+
+/// What the first pick of each term in each context said, by the place of the term there in listing order.
+pub(crate) type Firsts = BTreeMap<ListingPlace, First>;
+
+fn slot_of(seat: Option<Seated>) -> Option<Slot>
+    ensures { result ≡ seats.slot_of seat }
+{
+    match seat {
+        Some(seat) => Some(seat.slot),
+        None => None,
+    }
+}
+
+pub(crate) fn context_of(pick: &SeatedPick) -> Context
+    ensures { result ≡ context_in pick.now }
+{
+    Context {
+        outer: slot_of(pick.outer),
+        inner: slot_of(pick.inner),
+    }
+}
+
+/// The row of a number, from 1.
+pub(crate) fn row_at(table: &Binding, number: u32) -> Option<&Row>
+    ensures { option_copied result ≡ row_numbered table.now number }
+{
+    match number.checked_sub(1) {
+        Some(k) => table.part(k as usize),
+        None => None,
+    }
+}
+
+/// What all picks say, in document order: the first of each is put by, and the first fault at a node is answered.
+pub(crate) fn tell_picks<L: Ledger>(
+    alloc: Global,
+    doc: &Doc<'_>,
+    table: &Binding,
+    lists: &CodeLists,
+    invoice_currency: Option<&str>,
+    picks: &[SeatedPick],
+    firsts: &mut Firsts,
+    steps: &mut Steps<L>,
+) -> Result<Option<Found>, AllocError>
+    requires within { All (IsWithin (length doc.now.nodes)) picks.now }
+    requires none { firsts.old.entries ≡ [] }
+    ensures { IfOk result (λ least. TellsAll (tree_nodes doc.now) lists.now (option_map (λ text. chars text.now) invoice_currency.entry) picks.now table.now firsts.new.entries (option_map found_of least)) }
+{
+    let mut least = None;
+    'picks: for pick in picks {
+        least = tell_pick(
+            alloc,
+            doc,
+            table,
+            lists,
+            invoice_currency,
+            pick,
+            firsts,
+            least,
+            steps,
+        )?;
+    }
+    Ok(least)
+}
+
+// What one pick says, behind those before it.
+fn tell_pick<L: Ledger>(
+    alloc: Global,
+    doc: &Doc<'_>,
+    table: &Binding,
+    lists: &CodeLists,
+    invoice_currency: Option<&str>,
+    pick: &SeatedPick,
+    firsts: &mut Firsts,
+    least: Option<Found>,
+    steps: &mut Steps<L>,
+) -> Result<Option<Found>, AllocError>
+    requires { IsWithin (length doc.now.nodes) pick.now }
+    ensures { IfOk result (λ new. TellsOf (tree_nodes doc.now) lists.now (option_map (λ text. chars text.now) invoice_currency.entry) pick.now table.now firsts.old.entries (option_map found_of least) firsts.new.entries (option_map found_of new)) }
+{
+    match row_at(table, pick.picked.row) {
+        Some(row) => tell_row(
+            alloc,
+            doc,
+            lists,
+            invoice_currency,
+            row,
+            pick,
+            firsts,
+            least,
+            steps,
+        ),
+        None => Err(AllocError),
+    }
+}
+
+// The same by its row. A row whose form isn't one for its term can say what is no entry of any invoice: then there is no
+// answer. No built-in table has such a row.
+fn tell_row<L: Ledger>(
+    alloc: Global,
+    doc: &Doc<'_>,
+    lists: &CodeLists,
+    invoice_currency: Option<&str>,
+    row: &Row,
+    pick: &SeatedPick,
+    firsts: &mut Firsts,
+    least: Option<Found>,
+    steps: &mut Steps<L>,
+) -> Result<Option<Found>, AllocError>
+    requires { IsWithin (length doc.now.nodes) pick.now }
+    ensures { IfOk result (λ new. TellsPick (tree_nodes doc.now) lists.now (option_map (λ text. chars text.now) invoice_currency.entry) pick.now row.now firsts.old.entries (option_map found_of least) firsts.new.entries (option_map found_of new)) }
+{
+    match row.content {
+        Content::Term(term) => {
+            if !suits(row.form, term) {
+                return Err(AllocError);
+            }
+            said_values_fit_their_terms();
+            let string = doc.string(alloc, pick.picked.node, steps)?;
+            let sayings = what_is_said(alloc, row.form, term, string.as_str())?;
+            tell_all(
+                alloc,
+                doc,
+                lists,
+                invoice_currency,
+                row,
+                pick,
+                sayings,
+                firsts,
+                least,
+                steps,
+            )
+        }
+        Content::Constant(_) => Ok(least),
+    }
+}
+
+// All that a pick says.
+fn tell_all<L: Ledger>(
+    alloc: Global,
+    doc: &Doc<'_>,
+    lists: &CodeLists,
+    invoice_currency: Option<&str>,
+    row: &Row,
+    pick: &SeatedPick,
+    sayings: Sayings,
+    firsts: &mut Firsts,
+    least: Option<Found>,
+    steps: &mut Steps<L>,
+) -> Result<Option<Found>, AllocError>
+    requires { IsWithin (length doc.now.nodes) pick.now }
+    ensures { IfOk result (λ new. Tells (tree_nodes doc.now) lists.now (option_map (λ text. chars text.now) invoice_currency.entry) pick.now row.now (all_said sayings) firsts.old.entries (option_map found_of least) firsts.new.entries (option_map found_of new)) }
+{
+    match sayings {
+        Sayings::One(one) => tell(
+            alloc,
+            doc,
+            lists,
+            invoice_currency,
+            row,
+            pick,
+            one,
+            firsts,
+            least,
+            steps,
+        ),
+        Sayings::Two(one, other) => {
+            let first = tell(
+                alloc,
+                doc,
+                lists,
+                invoice_currency,
+                row,
+                pick,
+                one,
+                firsts,
+                least,
+                steps,
+            )?;
+            tell(
+                alloc,
+                doc,
+                lists,
+                invoice_currency,
+                row,
+                pick,
+                other,
+                firsts,
+                first,
+                steps,
+            )
+        }
+    }
+}
+
+// One value that a pick says.
+fn tell<L: Ledger>(
+    alloc: Global,
+    doc: &Doc<'_>,
+    lists: &CodeLists,
+    invoice_currency: Option<&str>,
+    row: &Row,
+    pick: &SeatedPick,
+    said: Said,
+    firsts: &mut Firsts,
+    least: Option<Found>,
+    steps: &mut Steps<L>,
+) -> Result<Option<Found>, AllocError>
+    requires { IsWithin (length doc.now.nodes) pick.now }
+    ensures { IfOk result (λ new. Tells (tree_nodes doc.now) lists.now (option_map (λ text. chars text.now) invoice_currency.entry) pick.now row.now (said_of said ∷ []) firsts.old.entries (option_map found_of least) firsts.new.entries (option_map found_of new)) }
+{
+    let term = said.term;
+    let context = context_of(pick);
+    match place_of(term, context) {
+        Some(place) => {
+            let kind = first_cause(
+                alloc,
+                doc,
+                lists,
+                invoice_currency,
+                row,
+                pick.picked.node,
+                context,
+                said_before(firsts, place),
+                &said,
+                steps,
+            )?;
+            put_first(firsts, place, First { context, said })?;
+            Ok(with_cause(least, kind, pick, term))
+        }
+        None => Err(AllocError),
+    }
+}
+
+// What the first of the place said.
+fn said_before(firsts: &Firsts, place: ListingPlace) -> Option<&Said>
+    ensures { option_copied result ≡ option_map (λ first. first.said) (kept_at place firsts.now.entries) }
+{
+    match firsts.get(&place) {
+        Some(first) => Some(&first.said),
+        None => None,
+    }
+}
+
+// Puts it by where none of its place is yet.
+fn put_first(firsts: &mut Firsts, place: ListingPlace, first: First) -> Result<(), AllocError>
+    ensures entries { OnOk result (firsts.new.entries ≡ put_entry firsts.old.entries place first) }
+    ensures look_up { OnOk result ((q : List ℕ) → kept_at q firsts.new.entries ≡ kept_behind q firsts.old.entries place first) }
+{
+    if firsts.contains_key(&place) {
+        return Ok(());
+    }
+    firsts.insert(place, first)?;
+    Ok(())
+}
+
+// The first of the faults so far and of a cause at the pick's node.
+fn with_cause(
+    least: Option<Found>,
+    kind: Option<BindKind>,
+    pick: &SeatedPick,
+    term: Term,
+) -> Option<Found>
+    ensures { option_map found_of result ≡ least_of (option_map found_of least) (faults_at kind pick.now.picked term) }
+{
+    match kind {
+        Some(kind) => Some(earlier(least, fault_at(kind, pick.picked, term))),
+        None => least,
+    }
+}
+
+pub(crate) fn fault_at(kind: BindKind, picked: Picked, term: Term) -> Found
+    ensures { found_of result ≡ fault_at kind picked term }
+{
+    Found {
+        place: FaultPlace::At {
+            node: picked.node.number(),
+            row: picked.row,
+        },
+        fault: BindFault {
+            kind,
+            name: Name::Term(term),
+            node: picked.node,
+        },
+    }
+}

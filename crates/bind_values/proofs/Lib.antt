@@ -1,0 +1,4 @@
+pub mod FitLemmas
+pub mod Fronts
+pub mod Images
+pub mod Trailing

@@ -1,0 +1,13 @@
+//! What strings of a document say as values of business terms, by the forms of a binding table.
+#![tactic(auto)]
+
+mod laws;
+mod notes;
+mod said;
+mod trimming;
+mod values;
+
+pub use laws::said_values_fit_their_terms;
+pub use said::{Said, Sayings, suits, what_is_said};
+pub use trimming::{is_blank, is_same_text, trimmed};
+pub use values::letter_of;

@@ -1,0 +1,81 @@
+//! Values by the type of a term, dates without dashes, and BT-8 by UNTDID 2475.
+ghost use Rattle.std.specs.Prelude.{◌≡◌, chars, find, IfOk, option_map};
+ghost use Rattle.term_table.specs.SemanticModel.{same_term};
+ghost use Rattle.bind_meaning.specs.Values as spec;
+ghost use Rattle.inv_terms.specs.declared.values.Value.TheVariants as values;
+
+use crate::trimming::{has_chars_alone, is_same_text, trimmed};
+use inv_base::Txt;
+use inv_decimal::Day;
+use inv_terms::Value;
+use std::alloc::{AllocError, Global};
+use term_table::{Letter, Term, TermRow, term_rows};
+
+/// The type of a term, which is one wherever the term stands. None of what is no business term.
+pub fn letter_of(term: Term) -> Option<Letter>
+    ensures { result ≡ spec.letter_of term }
+{
+    letter_among(term_rows(), term)
+}
+
+fn letter_among(rows: &[TermRow], term: Term) -> Option<Letter>
+    ensures { result ≡ option_map (λ row. row.letter) (find (λ row. same_term row.term term) rows.now) }
+{
+    'rows: for row in rows {
+        if row.term.is_same(term) {
+            return Some(row.letter);
+        }
+    }
+    None
+}
+
+/// The value that a string has by the type of the term.
+pub(crate) fn by_type(alloc: Global, term: Term, text: &str) -> Result<Option<Value>, AllocError>
+    ensures { IfOk result (λ value. value ≡ spec.by_type term (chars text.now)) }
+{
+    match letter_of(term) {
+        Some(letter) => Value::read(alloc, letter, text),
+        None => Ok(None),
+    }
+}
+
+/// The date that a string `YYYYMMDD` says, with white space around it or none.
+pub(crate) fn plain_date(text: &str) -> Option<Value>
+    ensures { result ≡ spec.plain_date (chars text.now) }
+{
+    if !has_chars_alone(text) {
+        return None;
+    }
+    match Day::read_plain(trimmed(text)) {
+        Some(day) => Some(Value::Date(day)),
+        None => None,
+    }
+}
+
+/// The code of BT-8 (UNTDID 2005) for one of UNTDID 2475, with white space around it or none.
+pub(crate) fn due_date_type(alloc: Global, text: &str) -> Result<Option<Value>, AllocError>
+    ensures { IfOk result (λ value. value ≡ spec.due_date_type (chars text.now)) }
+{
+    image_of(alloc, trimmed(text))
+}
+
+fn image_of(alloc: Global, written: &str) -> Result<Option<Value>, AllocError>
+    ensures { IfOk result (λ value. value ≡ spec.image_among spec.images (chars written.now)) }
+{
+    if is_same_text("5", written) {
+        return some_code(alloc, "3");
+    }
+    if is_same_text("29", written) {
+        return some_code(alloc, "35");
+    }
+    if is_same_text("72", written) {
+        return some_code(alloc, "432");
+    }
+    Ok(None)
+}
+
+fn some_code(alloc: Global, code: &str) -> Result<Option<Value>, AllocError>
+    ensures { IfOk result (λ value. value ≡ Some (values.Code (chars code.now))) }
+{
+    Ok(Some(Value::Code(Txt::of(alloc, code)?)))
+}

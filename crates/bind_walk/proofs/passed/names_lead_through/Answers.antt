@@ -1,0 +1,31 @@
+use Rattle.std.proofs.Common.{◌≡◌, ◌+◌, ◌-◌, ap, subst, Some, arith}
+use Rattle.std.proofs.lemmas.List.{length-map}
+use Rattle.node_arena.specs.Moves.{node_of, tree_nodes, tree_node, parent}
+use Rattle.bind_meaning.specs.Elements.{is_element}
+use Rattle.bind_walk.proofs.LinkLemmas.{IsRead, name-is}
+use Rattle.bind_walk.proofs.PassLemmas.{kinds-are, passed-is}
+use Rattle.bind_walk.proofs.passed.names_lead_through.Goals as goal
+
+pub returns : goal.returns
+returns c =
+    let d = c.args.doc.now in
+    let of = c.is_of_a_tree.ensures in
+    let read : IsRead d = record {
+      named = λ name n within. c.names_are_found_by_number.ensures d name n of.distinct of.named within;
+      numbers = c.chains_lead_on.ensures.numbers;
+    } in
+    record {
+      named = name-is d read;
+      rooted = of.rooted;
+      few = of.few;
+      numbers = c.chains_lead_on.ensures.numbers;
+      kinds_are = kinds-are d;
+      outermost = ap (λ nodes. (tree_node nodes 0).above) of.tree.has_nodes;
+      no_element = ap (λ nodes. is_element (tree_node nodes 0)) of.tree.has_nodes;
+      inside_one = λ m p within is. (c.moves_lead_on.ensures d of.tree.tree of.tree.has_nodes m within).around p is;
+      has_parent = λ m some within.
+          let long = length-map d.nodes (node_of d.names) in
+          let w = (c.moves_lead_on.ensures d of.tree.tree of.tree.has_nodes (m - 1) (omega (arith, some, within))).next_parent (omega (arith, some, within, long)) in
+          (w.0, subst (λ k. parent (tree_nodes d) k ≡ Some w.0) (let e : m - 1 + 1 ≡ m = omega (arith, some) in e) w.1);
+      passed_over = passed-is d c.same_steps_are_equal.ensures;
+    }

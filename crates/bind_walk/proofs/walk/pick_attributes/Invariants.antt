@@ -1,0 +1,16 @@
+use Rattle.std.proofs.Common.{◌≡◌, ◌++◌}
+use Rattle.std.specs.List.{flat_map}
+use Rattle.node_arena.specs.Moves.{is_attribute_of}
+use Rattle.bind_guards.specs.Chains.{numbers_from, IsAt, still}
+use Rattle.bind_walk.specs.Walks.{found_attribute, found_attributes}
+use Rattle.bind_walk.proofs.walk.pick_attributes.Given as goal
+
+abbrev pub invariant-attributes : goal.invariant-attributes
+invariant-attributes g l = record {
+  here : IsAt (is_attribute_of l.fn.n) l.doc l.at;
+  left : l.finds.items ++ flat_map (found_attribute l.doc l.around l.row) (numbers_from (is_attribute_of l.fn.n) l.doc l.at)
+      ≡ l.initial.finds.items ++ found_attributes l.doc l.around l.fn.n l.row;
+}
+
+abbrev pub decreases-attributes : goal.decreases-attributes
+decreases-attributes g l = still l.doc l.at

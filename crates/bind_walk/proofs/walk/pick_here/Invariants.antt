@@ -1,0 +1,8 @@
+use Rattle.std.proofs.Common.{◌≡◌, ◌++◌, drop}
+use Rattle.std.specs.List.{flat_map}
+use Rattle.bind_walk.specs.Walks.{found_in_row}
+use Rattle.bind_walk.proofs.walk.pick_here.Given as goal
+
+abbrev pub invariant-rows : goal.invariant-rows
+invariant-rows g l =
+    l.finds.items ++ flat_map (found_in_row l.doc l.around l.n) (drop l.row-index l.rows) ≡ l.initial.finds.items ++ flat_map (found_in_row l.doc l.around l.n) l.rows

@@ -1,0 +1,6 @@
+pub mod Lines
+pub mod Walks
+pub mod Sorting
+pub mod Picks
+pub mod Finding
+pub mod Passing

@@ -1,0 +1,135 @@
+-- Where names lead along the lines of a table, guards aside. No public clause cites it.
+use Rattle.std.specs.Prelude.{◌≡◌, ℕ, ◌+◌, ◌^◌, ◌<◌, Bool, true, false, not, ◌&&◌, List, [], ◌∷◌, ◌++◌, length, get_or, Some}
+use Rattle.std.specs.List.{flat_map}
+use Rattle.inv_base.specs.declared.tree.Kind.{Kind}
+use Rattle.inv_base.specs.declared.tree.Kind.TheVariants as kinds
+use Rattle.inv_base.specs.Tree.{Node}
+use Rattle.node_arena.specs.Document.{Document, node_at}
+use Rattle.node_arena.specs.Moves.{tree_nodes, tree_node, has_found, parent}
+use Rattle.bind_rows.specs.declared.rows.Row.{Row}
+use Rattle.bind_rows.specs.declared.names.ElementName.{ElementName}
+use Rattle.bind_table.specs.Lines.{Plan, nothing, a_line, plan_of}
+use Rattle.bind_guards.specs.Found.{found_element}
+use Rattle.bind_meaning.specs.Names.{has_element_name}
+use Rattle.bind_meaning.specs.Elements.{is_element}
+use Rattle.bind_meaning.specs.Terms.{is_passed_over, way_to}
+use Rattle.bind_walk.specs.declared.lines.FoundLine.{FoundLine}
+use Rattle.bind_walk.specs.declared.passed.Span.{Span}
+use Rattle.bind_walk.specs.declared.passed.Visit.{Visit}
+use Rattle.bind_walk.specs.Lines.{lined}
+
+abbrev pub is_element_kind : Kind → Bool
+is_element_kind kinds.Document = false
+is_element_kind kinds.Element = true
+is_element_kind kinds.Attribute = false
+is_element_kind kinds.Text = false
+
+-- ---- lines by their names
+
+-- the insides of those lines that stand beside one another and have the name of a node
+abbrev pub inside_named : Document → ℕ → Plan → List Plan
+inside_named d n nothing = []
+inside_named d n (a_line s cells inside rest) = (elim (has_element_name s.name (tree_node (tree_nodes d) n)) [ true ↦ inside ∷ [] | false ↦ [] ]) ++ inside_named d n rest
+
+abbrev pub insides : Document → ℕ → List Plan → List Plan
+insides d n plans = flat_map (inside_named d n) plans
+
+-- where a way leads
+abbrev pub led : Document → List Plan → List ℕ → List Plan
+led d plans [] = plans
+led d plans (n ∷ way) = led d (insides d n plans) way
+
+abbrev pub some_plan : List Plan → Bool
+some_plan [] = false
+some_plan (plan ∷ plans) = true
+
+abbrev pub path_of : Document → ℕ → List ℕ
+path_of d n = n ∷ (tree_node (tree_nodes d) n).above
+
+-- where the names of a node and of those around it lead
+abbrev pub state : Document → List Plan → ℕ → List Plan
+state d roots n = led d roots (way_to (path_of d n))
+
+abbrev pub is_passed : Document → List Plan → Node → Bool
+is_passed d roots node = elim (is_element node) [
+  | true ↦ some_plan (led d roots (way_to node.above)) && not (some_plan (led d roots (way_to (node.number ∷ node.above))))
+  | false ↦ false
+]
+
+-- the lines of a table that has a row
+abbrev pub roots_of : List Row → List Plan
+roots_of [] = []
+roots_of (row ∷ rows) = plan_of (row ∷ rows) ∷ []
+
+-- ---- spans of lines
+
+pub record IsSpan (d : Document) (lines : List FoundLine) (from to : ℕ) (plan : Plan) : Type 0 where
+  pub front : List FoundLine
+  pub back : List FoundLine
+  pub is : lines ≡ front ++ (lined d plan ++ back)
+  pub begins : length front ≡ from
+  pub ends : from + length (lined d plan) ≡ to
+
+pub record IsSomeSpan (d : Document) (lines : List FoundLine) (from to : ℕ) : Type 0 where
+  pub plan : Plan
+  pub span : IsSpan d lines from to plan
+
+abbrev pub SpansOf : Document → List FoundLine → List Span → List Plan → Type 0
+SpansOf d lines [] [] = Unit {0}
+SpansOf d lines [] (plan ∷ plans) = ⊥
+SpansOf d lines (span ∷ spans) [] = ⊥
+SpansOf d lines (span ∷ spans) (plan ∷ plans) = IsSpan d lines span.from span.to plan × SpansOf d lines spans plans
+
+pub record AreSpans (d : Document) (lines : List FoundLine) (spans : List Span) : Type 0 where
+  pub plans : List Plan
+  pub are : SpansOf d lines spans plans
+
+abbrev pub AddsNamed : Document → List FoundLine → ℕ → ℕ → ℕ → List Span → List Span → Type 0
+AddsNamed d lines from to m old new = (plan : Plan) (plans : List Plan) → IsSpan d lines from to plan → SpansOf d lines old plans → SpansOf d lines new (plans ++ inside_named d m plan)
+
+-- ---- the nodes so far
+
+-- Of each node before this one it is known where its names lead.
+pub record Reaches (d : Document) (lines : List FoundLine) (roots : List Plan) (reached : List (List Span)) (m : ℕ) : Type 0 where
+  pub long : length reached ≡ m
+  pub each : (k : ℕ) → k < m → SpansOf d lines (get_or reached k []) (state d roots k)
+
+pub record AreReached (d : Document) (lines : List FoundLine) (reached : List (List Span)) (m : ℕ) : Type 0 where
+  pub roots : List Plan
+  pub reaches : Reaches d lines roots reached m
+
+pub record Visits (d : Document) (lines : List FoundLine) (roots : List Plan) (m : ℕ) (visit : Visit) : Type 0 where
+  pub inside : SpansOf d lines visit.inside (state d roots m)
+  pub passed : visit.passed ≡ is_passed d roots (tree_node (tree_nodes d) m)
+
+abbrev pub no_span : List Span → Bool
+no_span [] = true
+no_span (span ∷ spans) = false
+
+abbrev pub is_left : List Span → List Span → Bool
+is_left around inside = not (no_span around) && no_span inside
+
+abbrev pub all_lines : List FoundLine → List Span
+all_lines lines = record { from = 0; to = length lines } ∷ []
+
+abbrev pub Begins : List Row → List FoundLine → List Span → Type 0
+Begins [] lines spans = spans ≡ []
+Begins (row ∷ rows) lines spans = spans ≡ all_lines lines
+
+abbrev pub one_if : Bool → ℕ
+one_if true = 1
+one_if false = 0
+
+-- ---- what holds of a document
+
+pub record LeadsThrough (d : Document) : Type 0 where
+  pub named : (name : ElementName) (n : ℕ) → n < length d.nodes → has_found (found_element d name) (node_at d.nodes n) ≡ has_element_name name (tree_node (tree_nodes d) n)
+  pub rooted : 1 < length d.nodes
+  pub few : length d.nodes < 2 ^ 32
+  pub numbers : (n : ℕ) → n < length d.nodes → (tree_node (tree_nodes d) n).number ≡ n
+  pub kinds_are : (n : ℕ) → n < length d.nodes → is_element (tree_node (tree_nodes d) n) ≡ is_element_kind (node_at d.nodes n).kind
+  pub outermost : (tree_node (tree_nodes d) 0).above ≡ []
+  pub no_element : is_element (tree_node (tree_nodes d) 0) ≡ false
+  pub inside_one : (m p : ℕ) → m < length d.nodes → parent (tree_nodes d) m ≡ Some p → (tree_node (tree_nodes d) m).above ≡ path_of d p
+  pub has_parent : (m : ℕ) → 0 < m → m < length d.nodes → (p : ℕ) × (parent (tree_nodes d) m ≡ Some p)
+  pub passed_over : (rows : List Row) (node : Node) → is_passed d (roots_of rows) node ≡ is_passed_over (tree_nodes d) rows node

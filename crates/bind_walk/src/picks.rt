@@ -1,0 +1,107 @@
+//! What the rows of a table pick in a document.
+
+ghost use Rattle.std.specs.Prelude.{◌≡◌, [], All, IfOk};
+ghost use Rattle.node_arena.specs.Moves.{tree_nodes};
+ghost use Rattle.bind_table.specs.Limits.{HasSteps};
+ghost use Rattle.bind_lines.specs.Picks.{walked};
+ghost use Rattle.bind_table.specs.Lines.{Plan, plan_of};
+ghost use Rattle.bind_meaning.specs.Kept.{all_kept};
+ghost use Rattle.bind_meaning.specs.Picks.{has_any_term, rows_where, all_picked};
+ghost use Rattle.bind_meaning.specs.Terms.{in_order, passed_over};
+ghost use Rattle.bind_walk.specs.Lines.{lined};
+ghost use Rattle.bind_walk.specs.Picks.{is_indicator};
+ghost use Rattle.bind_walk.specs.Walks.{sight, AreLined};
+ghost use Rattle.bind_walk.specs.Finding as spec;
+
+use crate::lines::{FoundLine, Wanted, find_lines};
+use crate::passed::count_passed;
+use crate::sorting::sorted;
+use crate::walk::{Carried, Find, walk};
+use bind_guards::chains_lead_on;
+use bind_lines::laws::{lines_have_the_rows, rows_pick_what_lines_pick};
+use bind_meaning::Picked;
+use bind_rows::Many;
+use bind_table::Binding;
+use inv_base::Steps;
+use node_arena::{Doc, NodeId, moves_lead_on, names_are_found_by_number};
+use std::alloc::{AllocError, Global};
+use std::sync::ledger::Ledger;
+
+/// What the rows of a table pick in a document, in document order and at one node by their rows.
+#[derive(Drop)]
+pub struct Picks {
+    /// What rows with a term pick, before any rule on fillers and currencies.
+    pub terms: Vec<Picked>,
+    /// What rows without a term pick, whose word is checked.
+    pub indicators: Vec<Picked>,
+    /// How many elements the table passes over: those whose names lead no further along any row, right inside one whose names do,
+    /// guards aside.
+    pub passed_over: u32,
+}
+
+/// What the rows of the table pick, each by itself over the whole document: one walk over the table's lines and the document finds it.
+/// Several rows may pick one node.
+pub fn pick_all<L: Ledger>(
+    alloc: Global,
+    doc: &Doc<'_>,
+    table: &Binding,
+    steps: &mut Steps<L>,
+) -> Result<Picks, AllocError>
+    requires { All HasSteps table.now }
+    ensures terms { IfOk result (λ picks. picks.terms.items ≡ all_kept (in_order (tree_nodes doc.now) (all_picked (tree_nodes doc.now) (rows_where has_any_term table.now)))) }
+    ensures indicators { IfOk result (λ picks. picks.indicators.items ≡ all_kept (in_order (tree_nodes doc.now) (all_picked (tree_nodes doc.now) (rows_where is_indicator table.now)))) }
+    ensures passed_over { IfOk result (λ picks. picks.passed_over ≡ passed_over (tree_nodes doc.now) table.now) }
+{
+    let lines = lines_of(alloc, doc, table)?;
+    let finds = find_all(alloc, doc, &lines, steps)?;
+    rows_are_walked();
+    picks_are_sorted_finds(doc);
+    Ok(Picks {
+        terms: sorted(alloc, &finds, Wanted::Term)?,
+        indicators: sorted(alloc, &finds, Wanted::Indicator)?,
+        passed_over: count_passed(alloc, doc, table.rows(), &lines, steps)?,
+    })
+}
+
+/// The lines of the table with their names as the document has them.
+fn lines_of(alloc: Global, doc: &Doc<'_>, table: &Binding) -> Result<Vec<FoundLine>, AllocError>
+    requires { All HasSteps table.now }
+    ensures { IfOk result (λ lines. lines.items ≡ lined doc.now (plan_of table.now)) }
+{
+    rows_are_walked();
+    let lines = find_lines(alloc, doc, table)?;
+    Ok(lines)
+}
+
+/// What is found by the lines, in the order of the walk.
+fn find_all<L: Ledger>(
+    alloc: Global,
+    doc: &Doc<'_>,
+    lines: &[FoundLine],
+    steps: &mut Steps<L>,
+) -> Result<Vec<Find>, AllocError>
+    requires { AreLined doc.now lines.now }
+    ensures { IfOk result (λ finds. (plan : Plan) → lines.now ≡ lined doc.now plan → finds.items ≡ walked (sight doc.now) plan [] 0) }
+{
+    let mut finds = Vec::new(alloc);
+    walk(alloc, doc, lines, doc.document(), &[], &mut finds, steps)?;
+    Ok(finds)
+}
+
+/// What is found by the lines of a table is what its rows pick, in another order. It has no code.
+fn rows_are_walked()
+    ensures { spec.RowsAreWalked }
+{
+    lines_have_the_rows();
+    rows_pick_what_lines_pick::<NodeId, Many<Carried>, Find>();
+}
+
+/// What was found for one reason, sorted, is what the rows of that sort pick in document order. It has no code.
+fn picks_are_sorted_finds(doc: &Doc<'_>)
+    ensures { spec.SortsPicks doc.now }
+{
+    doc.is_of_a_tree();
+    chains_lead_on(doc);
+    names_are_found_by_number();
+    moves_lead_on();
+}

@@ -1,0 +1,11 @@
+pub mod WordLemmas
+pub mod WriterSteps
+pub mod TextLemmas
+pub mod SourceLemmas
+pub mod SpotLemmas
+pub mod PlanLemmas
+pub mod HoldLemmas
+pub mod WalkLemmas
+pub mod RootLemmas
+pub mod DocumentLemmas
+pub mod SizeLemmas

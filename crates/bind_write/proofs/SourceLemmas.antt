@@ -1,0 +1,144 @@
+-- What is looked up among the entries of one occurrence is what all entries have.
+use Rattle.std.proofs.Common.{◌≡◌, ℕ, ◌+◌, ◌==◌, Bool, true, false, ◌&&◌, ◌||◌, cond, List, [], ◌∷◌, Option, Some, None, refl, ap, sym, ◌∙◌, subst, arith, fold, max, map, length, suc, ◌<◌, ◌≤◌, get_or, drop, drop-cons, add-one}
+use Rattle.std.specs.Prelude.{filter, find, option_map, is_none, is_some, nat_eq}
+use Rattle.std.proofs.lemmas.Bool.Decides.{nat_tests}
+use Rattle.std.proofs.lemmas.Grind.{common_steps}
+use Rattle.std.proofs.lemmas.List.Elements.{All-filter}
+use Rattle.std.proofs.lemmas.List.Kept.{AllPairs-filter}
+use Rattle.term_table.specs.declared.groups.Group.{Group}
+use Rattle.term_table.specs.declared.terms.Term.{Term}
+use Rattle.term_table.specs.declared.contexts.Slot.{Slot}
+use Rattle.term_table.specs.declared.contexts.Context.{Context}
+use Rattle.term_table.specs.declared.contexts.Seat.{Seat}
+use Rattle.term_table.specs.Contexts.{same_slot, same_context, is_inside, outer_context, root_context}
+use Rattle.term_table.specs.Groups.{number_of, same_group}
+use Rattle.term_table.specs.SemanticModel.{same_term}
+use Rattle.term_table.specs.Places.{seat_place}
+use Rattle.term_table.specs.Runs.{IsInOrder, MayFollow, is_in}
+use Rattle.inv_terms.specs.declared.entries.Entry.{Entry}
+use Rattle.inv_terms.specs.Listing.{seat_of, is_at}
+use Rattle.bind_meaning.specs.Trees.{index_in, inner_count}
+use Rattle.bind_write.specs.Sources.{run_of, HasSameValues}
+use Rattle.bind_write.specs.Spots.{inner_count_of}
+
+-- ---- lists that are filtered
+
+abbrev kept_or : {X : Type 0} → Bool → X → List X → List X
+kept_or b x xs = cond b (x ∷ xs) xs
+
+map-kept : {X Y : Type 0} (f : X → Y) (b : Bool) (x : X) (xs : List X) (ys : List Y) → map f xs ≡ ys → map f (kept_or b x xs) ≡ kept_or b (f x) ys
+map-kept f true x xs ys e = ap (λ z. f x ∷ z) e
+map-kept f false x xs ys e = e
+
+pub map-filter : {X Y : Type 0} (f : X → Y) (p : Y → Bool) (xs : List X) → map f (filter (λ x. p (f x)) xs) ≡ filter p (map f xs)
+map-filter f p [] = refl
+map-filter f p (x ∷ xs) = map-kept f (p (f x)) x (filter (λ y. p (f y)) xs) (filter p (map f xs)) (map-filter f p xs)
+
+not_it : {A : Type 0} (b : Bool) → (b ≡ true → false ≡ true) → (a c : A) → cond b a c ≡ c
+not_it true g a c = let h = g refl in cc
+not_it false g a c = refl
+
+find-kept : {X : Type 0} (q : X → Bool) (b : Bool) (x : X) (xs ys : List X) → (q x ≡ true → b ≡ true) → find q xs ≡ find q ys → find q (kept_or b x xs) ≡ cond (q x) (Some x) (find q ys)
+find-kept q true x xs ys h e = ap (λ z. cond (q x) (Some x) z) e
+find-kept q false x xs ys h e = e ∙ sym (not_it (q x) h (Some x) (find q ys))
+
+pub find-filter : {X : Type 0} (q p : X → Bool) → ((x : X) → q x ≡ true → p x ≡ true) → (xs : List X) → find q (filter p xs) ≡ find q xs
+find-filter q p h [] = refl
+find-filter q p h (x ∷ xs) = find-kept q (p x) x (filter p xs) xs (h x) (find-filter q p h xs)
+
+filter-all : {X : Type 0} (p : X → Bool) → ((x : X) → p x ≡ true) → (xs : List X) → filter p xs ≡ xs
+filter-all p h [] = refl
+filter-all p h (x ∷ xs) = ap (λ b. kept_or b x (filter p xs)) (h x) ∙ ap (λ z. x ∷ z) (filter-all p h xs)
+
+-- ---- runs
+
+pub whole_run : (es : List Entry) → es ≡ run_of es root_context
+whole_run es = sym (filter-all (λ (e : Entry). is_inside root_context e.context) (λ e. refl) es)
+
+pub run_order : (es : List Entry) (c : Context) → IsInOrder (map seat_of es) → IsInOrder (map seat_of (run_of es c))
+run_order es c o =
+    let e : filter (is_in (outer_context c)) (map seat_of es) ≡ map seat_of (run_of es c) = sym (map-filter seat_of (is_in (outer_context c)) es) in
+    subst IsInOrder e (record {
+      placed = All-filter (is_in (outer_context c)) (λ (x : Seat). is_some (seat_place x) ≡ true) (map seat_of es) o.placed;
+      order = AllPairs-filter MayFollow (is_in (outer_context c)) (map seat_of es) o.order;
+    })
+
+both : (a b : Bool) → (a && b) ≡ true → (a ≡ true) × (b ≡ true)
+both true b e = (refl, e)
+both false b e = cc
+
+nat_eq-sym : (m n : ℕ) → nat_eq m n ≡ true → nat_eq n m ≡ true
+nat_eq-sym m n e = grind (arith, nat_tests)
+
+and_both : (a b : Bool) → a ≡ true → b ≡ true → (a && b) ≡ true
+and_both a b e f = ap (λ x. x && b) e ∙ f
+
+pub same_slot-sym : (a b : Option Slot) → same_slot a b ≡ true → same_slot b a ≡ true
+same_slot-sym None None e = refl
+same_slot-sym None (Some b) e = cc
+same_slot-sym (Some a) None e = cc
+same_slot-sym (Some a) (Some b) e =
+    let h = both (same_group a.group b.group) (a.index == b.index) e in
+    and_both (same_group b.group a.group) (b.index == a.index) (nat_eq-sym (number_of a.group) (number_of b.group) h.0) (nat_eq-sym a.index b.index h.1)
+
+or_true : (a b : Bool) → b ≡ true → ((a || b) && true) ≡ true
+or_true true b e = refl
+or_true false b e = ap (λ x. x && true) e
+
+in_run : (c d : Context) (e : Entry) (term : Term) → d.outer ≡ c.outer → is_at term d e ≡ true → is_inside (outer_context c) e.context ≡ true
+in_run c d e term same at =
+    let h = both (same_slot e.context.outer d.outer) (same_slot e.context.inner d.inner) (both (same_term e.term term) (same_context e.context d) at).1 in
+    or_true (is_none c.outer) (same_slot c.outer e.context.outer) (same_slot-sym e.context.outer c.outer (ap (same_slot e.context.outer) (sym same) ∙ h.0))
+
+pub run_values : (es : List Entry) (c d : Context) → d.outer ≡ c.outer → HasSameValues es (run_of es c) d
+run_values es c d same = λ term.
+    ap (option_map (λ (e : Entry). e.value)) (find-filter (is_at term d) (λ (e : Entry). is_inside (outer_context c) e.context) (λ e at. in_run c d e term same at) es)
+
+-- ---- occurrences
+
+max-kept : (n v : ℕ) (b : Bool) (g : Entry → ℕ) (e : Entry) (es : List Entry) → (b ≡ true → v ≡ g e) → (b ≡ false → v ≡ 0) → fold max n (map g (kept_or b e es)) ≡ fold max (max n v) (map g es)
+max-kept n v true g e es h k = ap (λ x. fold max (max n x) (map g es)) (sym (h refl))
+max-kept n v false g e es h k = ap (λ x. fold max x (map g es)) (let z : n ≡ max n v = omega (arith, k refl) in z)
+
+max-filter : (f g : Entry → ℕ) (p : Entry → Bool) → ((e : Entry) → p e ≡ true → f e ≡ g e) → ((e : Entry) → p e ≡ false → f e ≡ 0)
+    → (es : List Entry) (n : ℕ) → fold max n (map f es) ≡ fold max n (map g (filter p es))
+max-filter f g p h k [] n = refl
+max-filter f g p h k (e ∷ es) n = max-filter f g p h k es (max n (f e)) ∙ sym (max-kept n (f e) (p e) g e (filter p es) (h e) (k e))
+
+abbrev inner_index : Group → Option Slot → Bool → ℕ
+inner_index group slot b = elim b [ true ↦ index_in group slot | false ↦ 0 ]
+
+not_true : (b : Bool) → (b ≡ true → ⊥) → b ≡ false
+not_true true h = absurd (h refl)
+not_true false h = refl
+
+from_run : (c : Context) (outer : Slot) (x : Entry) → c.outer ≡ Some outer → is_inside (outer_context c) x.context ≡ true → same_slot (Some outer) x.context.outer ≡ true
+from_run c outer x e p =
+    let P : Option Slot → Type 0 = λ y. ((is_none y || same_slot y x.context.outer) && true) ≡ true in
+    (both (same_slot (Some outer) x.context.outer) true (subst P e p)).0
+
+pub inner_counts : (es : List Entry) (outer : Slot) (c : Context) (group : Group) → c.outer ≡ Some outer → inner_count es outer group ≡ inner_count_of (run_of es c) group
+inner_counts es outer c group e =
+    let here : Entry → Bool = λ x. same_slot x.context.outer (Some outer) in
+    let run : Entry → Bool = λ x. is_inside (outer_context c) x.context in
+    let back : (x : Entry) → run x ≡ true → here x ≡ true = λ x p. same_slot-sym (Some outer) x.context.outer (from_run c outer x e p) in
+    let forth : (x : Entry) → here x ≡ true → run x ≡ true = λ x p. or_true (is_none c.outer) (same_slot c.outer x.context.outer) (ap (λ y. same_slot y x.context.outer) e ∙ same_slot-sym x.context.outer (Some outer) p) in
+    max-filter (λ x. inner_index group x.context.inner (here x)) (λ x. index_in group x.context.inner) run
+    (λ x p. ap (inner_index group x.context.inner) (back x p))
+    (λ x p. ap (inner_index group x.context.inner) (not_true (here x) (λ t. let q = forth x t in cc)))
+    es 0
+
+-- ---- entries one by one
+
+drop-next : (es : List Entry) (k : ℕ) (e : Entry) → k < length es → e ≡ get_or es k e → drop k es ≡ e ∷ drop (k + 1) es
+drop-next es k e h is = rw (add-one, drop-cons es k e h) (ap (λ x. x ∷ drop (suc k) es) (sym is))
+
+pub one_entry : (f : Entry → ℕ) (n : ℕ) (es : List Entry) (k : ℕ) (e : Entry) → k < length es → e ≡ get_or es k e
+    → fold max n (map f (drop k es)) ≡ fold max (max n (f e)) (map f (drop (k + 1) es))
+one_entry f n es k e h is = ap (λ x. fold max n (map f x)) (drop-next es k e h is)
+
+drop-past : (es : List Entry) (k : ℕ) → length es ≤ k → drop k es ≡ []
+drop-past es k h = grind (arith, common_steps)
+
+pub no_entry : (f : Entry → ℕ) (n : ℕ) (es : List Entry) (k : ℕ) → length es ≤ k → fold max n (map f (drop k es)) ≡ n
+no_entry f n es k h = ap (λ x. fold max n (map f x)) (drop-past es k h)

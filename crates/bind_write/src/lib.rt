@@ -1,0 +1,15 @@
+//! Invoices written as documents: straight from the entries through a pen, with no tree and no memory.
+#![tactic(auto)]
+
+mod cells;
+mod documents;
+mod holding;
+mod roots;
+mod sizes;
+mod source;
+mod spots;
+mod walking;
+mod wording;
+
+pub use documents::write;
+pub use sizes::measure;

@@ -1,0 +1,8 @@
+//! How an invoice is listed for a person: its entries, a line each, and the names of terms and groups.
+#![tactic(auto)]
+
+mod names;
+mod printing;
+
+pub use names::{print_name, print_term};
+pub use printing::print_listing;

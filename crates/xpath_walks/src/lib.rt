@@ -1,0 +1,17 @@
+//! The axes of a document by its links, tests of nodes by number, and order without duplicates.
+#![tactic(auto)]
+
+mod axes;
+mod forward;
+mod law;
+mod order;
+mod reverse;
+mod step;
+mod test;
+mod walk;
+
+pub use axes::axis_nodes;
+pub use law::documents_are_walkable;
+pub use order::in_order;
+pub use step::Step;
+pub use test::{is_passing, numbers_in};

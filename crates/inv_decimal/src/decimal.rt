@@ -13,9 +13,9 @@ use crate::wide;
 use std::cmp::Ordering;
 use std::marker::Model;
 
-const UNIT: i128 = 1_000_000_000_000_000_000;
+pub(crate) const UNIT: i128 = 1_000_000_000_000_000_000;
 
-const HALF: i128 = 500_000_000_000_000_000;
+pub(crate) const HALF: i128 = 500_000_000_000_000_000;
 
 const LIMIT: i128 = 1_000_000_000_000_000_000_000_000_000_000_000_000;
 
@@ -23,7 +23,7 @@ const LIMIT: i128 = 1_000_000_000_000_000_000_000_000_000_000_000_000;
 /// Contracts see it as a whole number, in units of `10^-18`.
 #[derive(Debug, Clone, Copy, PartialEq, Eq)]
 pub struct Dec {
-    units: i128,
+    pub(crate) units: i128,
 }
 
 impl Model for Dec {

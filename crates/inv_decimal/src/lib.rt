@@ -9,6 +9,7 @@ pub mod laws;
 mod printing;
 mod reading;
 mod scaled_decimal;
+mod whole;
 mod wide;
 
 pub use calendar::Day;

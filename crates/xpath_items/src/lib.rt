@@ -1,11 +1,14 @@
 //! What expressions evaluate to: items, sequences of items, and errors (XPath 2.0, sections 2.3 and 2.4).
 #![tactic(auto)]
 
+mod fault;
 mod item;
 mod outcome;
 mod seq;
+mod text;
 
-pub use inv_base::Str;
+pub use fault::Fault;
 pub use item::Item;
 pub use outcome::{DynError, Focus, Outcome};
 pub use seq::Seq;
+pub use text::Str;

@@ -1,4 +1,4 @@
-ghost use Rattle.std.specs.Prelude.{◌≡◌, [], ◌∷◌, ◌++◌, length, OnOk, OnErr};
+ghost use Rattle.std.specs.Prelude.{◌≡◌, [], ◌∷◌, ◌++◌, length, IfOk, OnOk, OnErr};
 ghost use Rattle.std.specs.Slice.{IsItemAt};
 
 use crate::item::Item;
@@ -29,6 +29,22 @@ impl<'a> Seq<'a> {
         }
     }
 
+    /// One item alone.
+    pub fn one(alloc: Global, item: Item<'a>) -> Result<Seq<'a>, AllocError>
+        ensures { IfOk result (λ s. s ≡ item.entry ∷ []) }
+    {
+        let mut items = Vec::new(alloc);
+        items.push(item)?;
+        Ok(Seq { items })
+    }
+
+    /// These items.
+    pub fn of_items(items: Vec<Item<'a>>) -> Seq<'a>
+        ensures { result ≡ items.entry.items }
+    {
+        Seq { items }
+    }
+
     /// Puts the item behind the others. Without memory for it nothing changes.
     pub fn push(&mut self, item: Item<'a>) -> Result<(), AllocError>
         ensures ok { OnOk result (self.new ≡ self.old ++ item.entry ∷ []) }
@@ -38,10 +54,33 @@ impl<'a> Seq<'a> {
         Ok(())
     }
 
+    /// Puts the other's items behind these. Without memory for them nothing changes.
+    pub fn append(&mut self, other: Seq<'a>) -> Result<(), AllocError>
+        ensures ok { OnOk result (self.new ≡ self.old ++ other.entry) }
+        ensures err { OnErr result (self.new ≡ self.old) }
+    {
+        let mut items = other.items;
+        self.items.append(&mut items)
+    }
+
     pub fn as_slice(&self) -> &[Item<'a>]
         ensures { result.now ≡ self.now }
     {
         self.items.as_slice()
+    }
+
+    /// The items themselves.
+    pub fn into_items(self) -> Vec<Item<'a>>
+        ensures { result.items ≡ self.entry }
+    {
+        self.items
+    }
+
+    /// How many items there are.
+    pub fn len(&self) -> usize
+        ensures { result ≡ length self.now }
+    {
+        self.items.len()
     }
 
     /// The item of that index, from 0 on.

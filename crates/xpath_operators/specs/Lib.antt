@@ -1,0 +1,5 @@
+pub mod Calculations
+pub mod Nodes
+pub mod Orders
+pub mod Ranges
+pub mod Spaces

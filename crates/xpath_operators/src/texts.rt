@@ -1,0 +1,92 @@
+//! The text of an item (Functions and Operators, sections 2.3 and 17.1.2).
+ghost use Rattle.std.specs.Prelude.{◌≡◌, ◌++◌, [], length, take, chars, string_bytes, IfOk, OnOk};
+ghost use Rattle.std.specs.Str.{IsAscii};
+ghost use Rattle.inv_decimal.specs.WrittenNumber.{decimal_text};
+ghost use Rattle.inv_decimal.specs.WrittenDay.{dashed_day_text};
+ghost use Rattle.node_arena.specs.Moves.{tree_nodes};
+ghost use Rattle.xpath_meaning.specs.Items as spec;
+ghost use Rattle.xpath_operators.specs.Nodes.{IsWithin};
+
+use crate::strings::string_at;
+use inv_decimal::laws::printed_texts_are_ascii;
+use inv_decimal::{Day, Dec};
+use node_arena::Doc;
+use std::alloc::{AllocError, Global};
+use xpath_items::{Item, Str};
+
+#[tactic(auto, using(crate::proofs::TextLemmas::words))]
+fn boolean_text(b: bool) -> &'static str
+    ensures { chars result.now ≡ spec.boolean_text b }
+{
+    if b { "true" } else { "false" }
+}
+
+/// Bytes that are ASCII as a text.
+fn ascii_text(bytes: &[u8]) -> &str
+    requires { IsAscii bytes.now }
+    ensures { chars result.now ≡ bytes.now }
+{
+    match str::from_utf8(bytes) {
+        Ok(text) => text,
+        Err(_) => unreachable!(),
+    }
+}
+
+fn number_text(alloc: Global, number: &Dec) -> Result<String, AllocError>
+    ensures { IfOk result (λ text. chars (string_bytes text) ≡ decimal_text number.now) }
+{
+    printed_texts_are_ascii();
+    let mut buffer = [0u8; 40];
+    let length = number.print(&mut buffer);
+    String::from_str(alloc, ascii_text(&buffer[..length]))
+}
+
+fn day_text(alloc: Global, day: &Day) -> Result<String, AllocError>
+    ensures { IfOk result (λ text. chars (string_bytes text) ≡ dashed_day_text day.now) }
+{
+    printed_texts_are_ascii();
+    let mut buffer = [0u8; 10];
+    day.print_dashed(&mut buffer);
+    String::from_str(alloc, ascii_text(&buffer))
+}
+
+/// The text of an item: a node's string, a text itself, `true` or `false`, a number at its shortest, a day as
+/// `YYYY-MM-DD`. It is lent where the document or the item lends it.
+pub fn text_of<'a>(alloc: Global, doc: &Doc<'a>, item: &Item<'a>) -> Result<Str<'a>, AllocError>
+    requires { IsWithin (length doc.now.nodes) item.now }
+    ensures { IfOk result (λ text. text ≡ spec.text_of (tree_nodes doc.now) item.now) }
+{
+    match item {
+        Item::Node(node) => string_at(alloc, doc, *node),
+        Item::Boolean(b) => Ok(Str::lent(boolean_text(*b))),
+        Item::Number(number) => Ok(Str::made(number_text(alloc, number)?)),
+        Item::String(text) => text.copied(alloc),
+        Item::Untyped(text) => text.copied(alloc),
+        Item::Date(day) => Ok(Str::made(day_text(alloc, day)?)),
+    }
+}
+
+/// Puts the text of an item behind another.
+pub fn push_text<'a>(
+    alloc: Global,
+    doc: &Doc<'a>,
+    item: &Item<'a>,
+    out: &mut String,
+) -> Result<(), AllocError>
+    requires { IsWithin (length doc.now.nodes) item.now }
+    ensures { OnOk result (chars (string_bytes out.new) ≡ chars (string_bytes out.old) ++ spec.text_of (tree_nodes doc.now) item.now) }
+{
+    match item {
+        Item::String(text) => push(out, text.as_str()),
+        Item::Untyped(text) => push(out, text.as_str()),
+        Item::Boolean(b) => push(out, boolean_text(*b)),
+        _ => push(out, text_of(alloc, doc, item)?.as_str()),
+    }
+}
+
+/// Puts a text behind another.
+pub fn push(out: &mut String, text: &str) -> Result<(), AllocError>
+    ensures { OnOk result (chars (string_bytes out.new) ≡ chars (string_bytes out.old) ++ chars text.now) }
+{
+    out.push_str(text)
+}

@@ -1,0 +1,6 @@
+pub mod CharacterLemmas
+pub mod DistinctLemmas
+pub mod JoinLemmas
+pub mod PieceLemmas
+pub mod PlaceLemmas
+pub mod TotalLemmas

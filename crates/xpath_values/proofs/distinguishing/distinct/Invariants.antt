@@ -1,0 +1,7 @@
+use Rattle.std.proofs.Common.{◌≡◌, ◌++◌, drop}
+use Rattle.xpath_meaning.specs.Collections.{distinct}
+use Rattle.xpath_values.specs.Distinct.{unknown}
+use Rattle.xpath_values.proofs.distinguishing.distinct.Given as goal
+
+abbrev pub invariant-items : goal.invariant-items
+invariant-items l = l.kept.items ++ unknown l.kept.items (distinct (drop l.item-index l.items)) ≡ distinct l.items

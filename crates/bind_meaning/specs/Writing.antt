@@ -105,9 +105,6 @@ term_text row es term c = elim (value_in es term c) [
 abbrev pub row_text : Row → List Entry → Context → Option (List ℕ)
 row_text row es c = elim row.content [ (contents.Term term) ↦ term_text row es term (context_for row c) | (contents.Constant text) ↦ None ]
 
--- An entry stands for the row, and the row writes it.
+-- The row writes what the invoice gives it: its term's value, or its filler where the term beside it stands.
 abbrev pub writes_entry : Row → List Entry → Context → Bool
-writes_entry row es c = elim row.content [
-  | (contents.Term term) ↦ is_some (value_in es term (context_for row c)) && is_some (row_text row es c)
-  | (contents.Constant text) ↦ false
-]
+writes_entry row es c = is_some (row_text row es c)

@@ -10,7 +10,7 @@ ghost use Rattle.bind_write.specs.Holding as spec;
 
 use crate::source::{Source, context_for, entries_for};
 use crate::spots::{number_of, spot_at, spots_of};
-use crate::wording::{Plain, Wording, term_wording, term_writes_entry};
+use crate::wording::{Plain, Wording, term_wording};
 use bind_rows::{Content, Row};
 use bind_table::Line;
 
@@ -46,20 +46,6 @@ pub(crate) fn writes(source: &Source<'_>, row: &Row) -> bool
     }
 }
 
-/// Whether an entry stands for the row, and the row writes it.
-fn writes_entry(source: &Source<'_>, row: &Row) -> bool
-    requires { sources.IsSource source.now }
-    ensures { result ≡ writing.writes_entry row.now source.now.entries.now source.now.context }
-{
-    match &row.content {
-        Content::Constant(_) => false,
-        Content::Term(term) => {
-            let context = context_for(row, source.context);
-            term_writes_entry(row, entries_for(source, context), *term, context)
-        }
-    }
-}
-
 /// The row of that number, from 0.
 pub(crate) fn row_at(rows: &[Row], number: usize) -> Option<&Row>
     ensures { option_copied result ≡ slice_get rows.now number }
@@ -86,7 +72,7 @@ fn writes_at(source: &Source<'_>, number: usize) -> bool
     ensures { result ≡ spec.holds_at source.now.entries.now source.now.context (slice_get source.now.rows.now number) }
 {
     match row_at(source.rows, number) {
-        Some(row) => writes_entry(source, row),
+        Some(row) => writes(source, row),
         None => false,
     }
 }

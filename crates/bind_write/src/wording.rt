@@ -305,14 +305,3 @@ fn value_wording<'a>(
         None
     }
 }
-
-/// Whether an entry stands for a row with a term, and the row writes it.
-pub(crate) fn term_writes_entry(row: &Row, entries: &[Entry], term: Term, context: Context) -> bool
-    requires { IsInOrder (map listing.seat_of entries.now) }
-    ensures { result ≡ (is_some (listing.value_in entries.now term context) && is_some (writing.term_text row.now entries.now term context)) }
-{
-    match value_in(entries, term, context) {
-        None => false,
-        Some(value) => value_wording(row, entries, term, context, value).is_some(),
-    }
-}

@@ -1,28 +1,20 @@
--- The contract of the program's call, way by way.
-use Rattle.std.proofs.Common.{◌≡◌, ℕ, ◌<◌, List, [], Option, Some, None, Ok, Err, true, false, Bool, inl, inr, refl, ap, sym, subst, ◌∙◌, arith, option_map}
-use Rattle.std.specs.Prelude.{Result}
-use Rattle.inv_base.specs.Counts.{Rose, Quiet}
-use Rattle.inv_base.specs.Files.{Files, bytes_under}
+-- The contract of the program's call, from how its job runs.
+use Rattle.std.proofs.Common.{◌≡◌, ◌≢◌, ℕ, ◌<◌, ◌≤◌, List, [], Option, Some, None, true, false, Bool, inl, inr, refl, ap, sym, subst, ◌∙◌, arith, ◌⊎◌}
+use Rattle.inv_base.specs.Counts.{Rose, Quiet, next_count}
+use Rattle.inv_base.specs.Files.{Files}
 use Rattle.inv_base.specs.Outside.{ShelfView, SinkView, WhereTold, appended}
-use Rattle.inv_base.specs.Printing.{Printed}
 use Rattle.inv_base.specs.Writing.{IsFront, WritesAll, WritesFront}
 use Rattle.inv_base.proofs.WritingLemmas.{appended-nil, IsFront-nil, IsFront-whole}
-use Rattle.xml_state.specs.Events.{with_events}
-use Rattle.xml_state.specs.declared.limits.Limits.{Limits}
-use Rattle.xml_state.specs.declared.fault.XmlFault.{XmlFault}
-use Rattle.xml_profile.specs.Profile.{document, first_fault, tree_of, names_of}
-use Rattle.xml_profile.specs.Profile as profile
-use Rattle.xml_profile.specs.TokenByToken.{read_whole}
-use Rattle.node_arena.specs.Document.{Document}
-use Rattle.xml_document.specs.declared.loading.LoadFault.TheVariants as faults
-use Rattle.invoice_cli.specs.declared.status.Status.{Status}
-use Rattle.invoice_cli.specs.declared.status.Status.TheVariants as statuses
-use Rattle.invoice_cli.specs.Job.{Job, outline, bad_word}
-use Rattle.invoice_cli.specs.Lines.{bad_word_line, read_fault_line, document_line}
-use Rattle.xml_document.specs.Loading.{ReadsFrom, IsRefused, StopsInTime, IsLoaded}
-use Rattle.invoice_cli.specs.Answer.{Answer, done, document_limits, outline_answer, answer_to}
-use Rattle.invoice_cli.specs.Answers.{TakesOrFails, Says, Answers}
-use Rattle.invoice_cli.proofs.OutlineLemmas.{lines_of, lines_of-tree}
+use Rattle.job_course.specs.declared.status.Status.{Status}
+use Rattle.job_course.specs.declared.status.Status.TheVariants as statuses
+use Rattle.job_course.specs.Course.{Answer, Course, done, answer_of, readings}
+use Rattle.job_course.specs.Lines.{bad_word_line, read_fault_line}
+use Rattle.job_course.specs.Outside.{Outside, IsRefusal, IsAccepted, IsRefusedAnswer, TakesOrFails, counted}
+use Rattle.job_course.specs.Runs.{EndsIn, ReadsAt, IsRefused, IsUnread, IsOutOfMemory, IsWritten, Runs}
+use Rattle.job_course.proofs.Ends.{ends_as_answered, ends_behind_readings, reads_within}
+use Rattle.invoice_cli.specs.Job.{Job, outline, help, version, bad_word}
+use Rattle.invoice_cli.specs.Answer.{course_of, answer_to}
+use Rattle.invoice_cli.specs.Answers.{NamesFiles, IsRefusalLine, IsLineOf, Says, Answers}
 
 -- A count that rose isn't quiet.
 not_quiet : (a b : ℕ) → Rose a b → Quiet a b → ⊥
@@ -38,21 +30,6 @@ whole_line : (line : List ℕ) (a b : SinkView) → TakesOrFails line a b → Qu
 whole_line line a b (inl all) quiet = all.told
 whole_line line a b (inr front) quiet = absurd (not_quiet a.faults b.faults front.rose quiet)
 
-pub takes_printed : (failed : Bool) (text : List ℕ) (a b : SinkView) → Printed failed text a b → TakesOrFails text a b
-takes_printed true text a b printed = inr printed
-takes_printed false text a b printed = inl printed
-
--- A first fault is why the bytes are no document.
-abbrev by_fault : Limits → List ℕ → Option XmlFault → Result profile.Document XmlFault
-by_fault limits bytes f = elim f [
-  | (Some fault) ↦ Err fault
-  | None ↦ Ok (record { events = with_events [] (read_whole limits bytes).events; names = names_of (read_whole limits bytes).stands })
-]
-
-refused_document : (limits : Limits) (bytes : List ℕ) (fault : XmlFault) → first_fault limits bytes ≡ Some fault → document limits bytes ≡ Err fault
-unfolding document
-refused_document limits bytes fault is = ap (by_fault limits bytes) is
-
 -- words that name no job
 pub answers_bad_word : (number : ℕ) (shelf : ShelfView) (out err err' : SinkView) → TakesOrFails (bad_word_line number) err err'
     → Answers (bad_word number) (record { shelf = shelf; out = out; err = err }) (record { shelf = shelf; out = out; err = err' }) statuses.BadWords
@@ -64,26 +41,28 @@ answers_bad_word number shelf out err err' takes = record {
   only_bad_words = λ _ _. refl;
   memory = λ e. cc;
   read_fault = λ e. cc;
-  read_opens = λ e. cc;
   write_fault = λ e. cc;
   write_done = λ e files is. cc;
   shelf_rose = λ rise. absurd (no_rise shelf.faults shelf.faults refl rise);
   out_rose = λ rise. absurd (no_rise out.faults out.faults refl rise);
   nothing = λ _. refl;
-  line = λ _. (bad_word_line number, refl, takes);
+  line = λ _. (bad_word_line number, (number, refl, refl), takes);
   no_line = λ no. absurd (no tt);
   front = λ no files is. absurd (no tt);
-  stops = λ file' same e. cc;
-  opens = λ file e. cc;
+  stops = λ refused. absurd refused;
+  opens = (0, refl, λ files is. omega arith);
+  all_opened = λ _ _ files is. refl;
+  outline_opens = λ file e. cc;
   untouched = λ _. refl;
   held = refl;
 }
 
 -- a text that is the answer whatever is held
 pub answers_said : (job : Job) (text : List ℕ) (status : Status) (shelf : ShelfView) (out out' err : SinkView)
-    → ((files : Files) → answer_to job files ≡ done text) → ((number : ℕ) → job ≡ bad_word number → ⊥) → ((file : List ℕ) → job ≡ outline file → ⊥) → Says status text out out'
+    → ((files : Files) → answer_to job files ≡ done text) → ((files : Files) → readings (course_of job) files ≡ 0)
+    → ((number : ℕ) → job ≡ bad_word number → ⊥) → ((file : List ℕ) → job ≡ outline file → ⊥) → Says status text out out'
     → Answers job (record { shelf = shelf; out = out; err = err }) (record { shelf = shelf; out = out'; err = err }) status
-answers_said job text status shelf out out' err is_text good no_document (inl said) =
+answers_said job text status shelf out out' err is_text unread good no_document (inl said) =
     let all = said.1 in
     rw said.0 (record {
       answered = λ _ _ _ files is. sym (ap (λ (a : Answer). a.status) (is_text files));
@@ -93,7 +72,6 @@ answers_said job text status shelf out out' err is_text good no_document (inl sa
       only_bad_words = λ number e. absurd (good number e);
       memory = λ e. cc;
       read_fault = λ e. cc;
-      read_opens = λ e. cc;
       write_fault = λ e. cc;
       write_done = λ e files is. cc;
       shelf_rose = λ rise. absurd (no_rise shelf.faults shelf.faults refl rise);
@@ -102,12 +80,14 @@ answers_said job text status shelf out out' err is_text good no_document (inl sa
       line = λ refusal. absurd refusal;
       no_line = λ _. refl;
       front = λ _ files is. (text, subst (λ (a : Answer). IsFront text a.out) (sym (is_text files)) (IsFront-whole text), all.told);
-      stops = λ file' same e. cc;
-      opens = λ file e. absurd (no_document file e);
+      stops = λ refused. absurd refused;
+      opens = (0, refl, λ files is. omega arith);
+      all_opened = λ _ _ files is. ap (λ n. counted n shelf.opens) (sym (unread files));
+      outline_opens = λ file e. absurd (no_document file e);
       untouched = λ _. refl;
       held = refl;
     })
-answers_said job text status shelf out out' err is_text good no_document (inr said) =
+answers_said job text status shelf out out' err is_text unread good no_document (inr said) =
     let front = said.1 in
     rw said.0 (record {
       answered = λ _ quiet _ files is. absurd (not_quiet out.faults out'.faults front.rose quiet);
@@ -117,176 +97,227 @@ answers_said job text status shelf out out' err is_text good no_document (inr sa
       only_bad_words = λ number e. absurd (good number e);
       memory = λ e. cc;
       read_fault = λ e. cc;
-      read_opens = λ e. cc;
       write_fault = λ _. front.rose;
-      write_done = λ _ files is. ap (λ (a : Answer). a.status) (is_text files);
+      write_done = λ _ files is. subst (λ (a : Answer). IsAccepted a.status) (sym (is_text files)) tt;
       shelf_rose = λ rise. absurd (no_rise shelf.faults shelf.faults refl rise);
       out_rose = λ _. refl;
       nothing = λ refusal. absurd refusal;
       line = λ refusal. absurd refusal;
       no_line = λ _. refl;
       front = λ _ files is. (front.front, subst (λ (a : Answer). IsFront front.front a.out) (sym (is_text files)) front.is_front, front.told);
-      stops = λ file' same e. cc;
-      opens = λ file e. absurd (no_document file e);
+      stops = λ refused. absurd refused;
+      opens = (0, refl, λ files is. omega arith);
+      all_opened = λ _ _ files is. ap (λ n. counted n shelf.opens) (sym (unread files));
+      outline_opens = λ file e. absurd (no_document file e);
       untouched = λ _. refl;
       held = refl;
     })
 
--- the outline of a file
-module _ (file : List ℕ) (shelf shelf' : ShelfView) (out err : SinkView) where
-  pub answers_read_fault : (err' : SinkView) → ReadsFrom {T = Document} (Err faults.Read) faults.Read shelf shelf' → TakesOrFails (read_fault_line file) err err'
-      → Answers (outline file) (record { shelf = shelf; out = out; err = err }) (record { shelf = shelf'; out = out; err = err' }) statuses.ReadFault
-  answers_read_fault err' reads takes = record {
-    answered = λ quiet _ _ files is. absurd (not_quiet shelf.faults shelf'.faults (reads.rose refl) quiet);
-    output = λ quiet _ _ files is. absurd (not_quiet shelf.faults shelf'.faults (reads.rose refl) quiet);
-    errors = λ quiet _ _ _ files is. absurd (not_quiet shelf.faults shelf'.faults (reads.rose refl) quiet);
+-- ---- jobs that name files
+
+refusal_of : (status : Status) → IsRefusedAnswer status → IsRefusal status
+refusal_of statuses.DocumentRefused refuses = tt
+refusal_of statuses.RulesRefused refuses = tt
+refusal_of statuses.Unable refuses = tt
+refusal_of statuses.Done refuses = absurd refuses
+refusal_of statuses.Findings refuses = absurd refuses
+refusal_of statuses.BadWords refuses = absurd refuses
+refusal_of statuses.ReadFault refuses = absurd refuses
+refusal_of statuses.WriteFault refuses = absurd refuses
+refusal_of statuses.Memory refuses = absurd refuses
+
+refusal_line : (job : Job) (status : Status) (before after : Outside) (line : List ℕ) → IsRefusedAnswer status
+    → IsRefusalLine job status before.shelf.held line → IsLineOf job status before after line
+refusal_line job statuses.DocumentRefused before after line refuses is = is
+refusal_line job statuses.RulesRefused before after line refuses is = is
+refusal_line job statuses.Unable before after line refuses is = is
+refusal_line job statuses.Done before after line refuses is = absurd refuses
+refusal_line job statuses.Findings before after line refuses is = absurd refuses
+refusal_line job statuses.BadWords before after line refuses is = absurd refuses
+refusal_line job statuses.ReadFault before after line refuses is = absurd refuses
+refusal_line job statuses.WriteFault before after line refuses is = absurd refuses
+refusal_line job statuses.Memory before after line refuses is = absurd refuses
+
+module _ (job : Job) (names : NamesFiles job) (before after : Outside) where
+  named : (number : ℕ) → job ≡ bad_word number → ⊥
+  named number is = subst NamesFiles is names
+
+  told_end : (files : Files) (n : ℕ) (a : Answer) → before.shelf.held ≡ Some files → EndsIn before.shelf.held (course_of job) n a → EndsIn (Some files) (course_of job) n a
+  told_end files n a is ends = subst (λ held. EndsIn held (course_of job) n a) is ends
+
+  answer_is : (files : Files) (n : ℕ) (a : Answer) → before.shelf.held ≡ Some files → EndsIn before.shelf.held (course_of job) n a → a ≡ answer_to job files
+  answer_is files n a is ends = ends_as_answered files (course_of job) n a (told_end files n a is ends)
+
+  counts : (files : Files) (n : ℕ) (a : Answer) → before.shelf.held ≡ Some files → EndsIn before.shelf.held (course_of job) n a → n ≡ readings (course_of job) files
+  counts files n a is ends = ends_behind_readings files (course_of job) n a (told_end files n a is ends)
+
+  refused : (status : Status) → ((file : List ℕ) → job ≡ outline file → after.shelf.opens ≡ next_count before.shelf.opens) → IsRefused (course_of job) before after status
+      → Answers job before after status
+  refused status one r = record {
+    answered = λ _ _ _ files is. sym r.told ∙ ap (λ (a : Answer). a.status) (answer_is files r.count r.answer is r.ends_in);
+    output = λ _ _ _ files is. ap (λ (s : SinkView). s.told) r.nothing ∙ (sym (appended-nil before.out.told)
+        ∙ ap (λ text. appended text before.out.told) (sym r.empty ∙ ap (λ (a : Answer). a.out) (answer_is files r.count r.answer is r.ends_in)));
+    errors = λ _ _ quiet _ files is. whole_line r.answer.err before.err after.err r.line quiet
+        ∙ ap (λ (a : Answer). appended a.err before.err.told) (answer_is files r.count r.answer is r.ends_in);
+    bad_words = λ e. absurd (subst IsRefusedAnswer e r.refuses);
+    only_bad_words = λ number e. absurd (named number e);
+    memory = λ e. names;
+    read_fault = λ e. absurd (subst IsRefusedAnswer e r.refuses);
+    write_fault = λ e. absurd (subst IsRefusedAnswer e r.refuses);
+    write_done = λ e files is. absurd (subst IsRefusedAnswer e r.refuses);
+    shelf_rose = λ rise. absurd (no_rise before.shelf.faults after.shelf.faults r.read.faults rise);
+    out_rose = λ rise. absurd (no_rise before.out.faults after.out.faults (ap (λ (s : SinkView). s.faults) r.nothing) rise);
+    nothing = λ _. r.nothing;
+    line = λ _. (
+      r.answer.err,
+      refusal_line job status before after r.answer.err r.refuses
+          (record { count = r.count; answer = r.answer; ends_in = r.ends_in; status_is = r.told; line_is = refl }),
+      r.line,
+    );
+    no_line = λ no. absurd (no (refusal_of status r.refuses));
+    front = λ no files is. absurd (no (refusal_of status r.refuses));
+    stops = λ _. r.stops;
+    opens = (r.count, r.read.opens, λ files is. subst (λ n. r.count ≤ n) (counts files r.count r.answer is r.ends_in) (omega arith));
+    all_opened = λ _ _ files is. r.read.opens ∙ ap (λ n. counted n before.shelf.opens) (counts files r.count r.answer is r.ends_in);
+    outline_opens = one;
+    untouched = λ no. absurd (no names);
+    held = r.read.held;
+  }
+
+  unread : (status : Status) → ((file : List ℕ) → job ≡ outline file → after.shelf.opens ≡ next_count before.shelf.opens) → IsUnread (course_of job) before after status
+      → Answers job before after status
+  unread status one r = rw r.told (record {
+    answered = λ quiet _ _ files is. absurd (not_quiet before.shelf.faults after.shelf.faults r.rose quiet);
+    output = λ quiet _ _ files is. absurd (not_quiet before.shelf.faults after.shelf.faults r.rose quiet);
+    errors = λ quiet _ _ _ files is. absurd (not_quiet before.shelf.faults after.shelf.faults r.rose quiet);
     bad_words = λ e. cc;
-    only_bad_words = λ number e. cc;
-    memory = λ e. cc;
-    read_fault = λ _. reads.rose refl;
-    read_opens = λ _. reads.opens;
+    only_bad_words = λ number e. absurd (named number e);
+    memory = λ e. names;
+    read_fault = λ _. r.rose;
     write_fault = λ e. cc;
     write_done = λ e files is. cc;
     shelf_rose = λ _. inl refl;
-    out_rose = λ rise. absurd (no_rise out.faults out.faults refl rise);
-    nothing = λ _. refl;
-    line = λ _. (read_fault_line file, refl, takes);
+    out_rose = λ rise. absurd (no_rise before.out.faults after.out.faults (ap (λ (s : SinkView). s.faults) r.nothing) rise);
+    nothing = λ _. r.nothing;
+    line = λ _. (read_fault_line r.file, record { count = r.count; file = r.file; reads_at = r.reads_at; opened = r.opens; line_is = refl }, r.line);
     no_line = λ no. absurd (no tt);
     front = λ no files is. absurd (no tt);
-    stops = λ file' same e. cc;
-    opens = λ _ _. reads.opens;
-    untouched = λ other. absurd (other file refl);
-    held = reads.held;
-  }
+    stops = λ refused. absurd refused;
+    opens = (r.count, r.opens, λ files is. reads_within files (course_of job) r.count r.file (subst (λ held. ReadsAt held (course_of job) r.count r.file) is r.reads_at));
+    all_opened = λ quiet _ files is. absurd (not_quiet before.shelf.faults after.shelf.faults r.rose quiet);
+    outline_opens = one;
+    untouched = λ no. absurd (no names);
+    held = r.held;
+  })
 
-  module _ (fault : XmlFault) (reads : ReadsFrom {T = Document} (Err (faults.Refused fault)) faults.Read shelf shelf')
-      (refused : IsRefused document_limits (option_map (bytes_under file) shelf.held) fault)
-      (stops : StopsInTime document_limits (option_map (bytes_under file) shelf.held) shelf'.left) where
-    file_is : (file' : List ℕ) → outline file ≡ outline file' → file ≡ file'
-    file_is file' same = cc
-
-    of_file : WhereTold shelf.held (λ files. refused.content ≡ bytes_under file files)
-    of_file files is = refused.whole (bytes_under file files) (ap (option_map (bytes_under file)) is)
-
-    answer_is : (files : Files) → shelf.held ≡ Some files → answer_to (outline file) files ≡ record { status = statuses.DocumentRefused; out = []; err = document_line file fault }
-    answer_is files is =
-        let first : first_fault document_limits (bytes_under file files) ≡ Some fault = ap (first_fault document_limits) (sym (of_file files is)) ∙ refused.is in
-        ap (outline_answer file) (refused_document document_limits (bytes_under file files) fault first)
-
-    pub answers_refused : (err' : SinkView) → TakesOrFails (document_line file fault) err err'
-        → Answers (outline file) (record { shelf = shelf; out = out; err = err }) (record { shelf = shelf'; out = out; err = err' }) statuses.DocumentRefused
-    answers_refused err' takes = record {
-      answered = λ _ _ _ files is. sym (ap (λ (a : Answer). a.status) (answer_is files is));
-      output = λ _ _ _ files is. sym (appended-nil out.told) ∙ ap (λ (a : Answer). appended a.out out.told) (sym (answer_is files is));
-      errors = λ _ _ quiet _ files is. whole_line (document_line file fault) err err' takes quiet ∙ ap (λ (a : Answer). appended a.err err.told) (sym (answer_is files is));
-      bad_words = λ e. cc;
-      only_bad_words = λ number e. cc;
-      memory = λ e. cc;
-      read_fault = λ e. cc;
-      read_opens = λ e. cc;
-      write_fault = λ e. cc;
-      write_done = λ e files is. cc;
-      shelf_rose = λ rise. absurd (no_rise shelf.faults shelf'.faults (reads.quiet (λ e. cc)) rise);
-      out_rose = λ rise. absurd (no_rise out.faults out.faults refl rise);
-      nothing = λ _. refl;
-      line = λ _. (
-        document_line file fault,
-        record {
-          content = refused.content;
-          fault = fault;
-          first = refused.is;
-          is = refl;
-          of_file = of_file;
-        },
-        takes,
-      );
-      no_line = λ no. absurd (no tt);
-      front = λ no files is. absurd (no tt);
-      stops = λ file' same e. subst (λ name. StopsInTime document_limits (option_map (bytes_under name) shelf.held) shelf'.left) (file_is file' same) stops;
-      opens = λ _ _. reads.opens;
-      untouched = λ other. absurd (other file refl);
-      held = reads.held;
-    }
-
-  pub answers_memory : ReadsFrom {T = Document} (Err faults.Memory) faults.Read shelf shelf'
-      → Answers (outline file) (record { shelf = shelf; out = out; err = err }) (record { shelf = shelf'; out = out; err = err }) statuses.Memory
-  answers_memory reads = record {
+  out_of_memory : (status : Status) → ((file : List ℕ) → job ≡ outline file → after.shelf.opens ≡ next_count before.shelf.opens)
+      → IsOutOfMemory (course_of job) before after status → Answers job before after status
+  out_of_memory status one r = rw r.told (record {
     answered = λ _ _ no files is. absurd (no refl);
     output = λ _ _ no files is. absurd (no refl);
     errors = λ _ _ _ no files is. absurd (no refl);
     bad_words = λ e. cc;
-    only_bad_words = λ number e. cc;
-    memory = λ _. (file, refl);
+    only_bad_words = λ number e. absurd (named number e);
+    memory = λ e. names;
     read_fault = λ e. cc;
-    read_opens = λ e. cc;
     write_fault = λ e. cc;
     write_done = λ e files is. cc;
-    shelf_rose = λ _. inr refl;
-    out_rose = λ rise. absurd (no_rise out.faults out.faults refl rise);
+    shelf_rose = λ rise. absurd (no_rise before.shelf.faults after.shelf.faults r.read.faults rise);
+    out_rose = λ rise. absurd (no_rise before.out.faults after.out.faults r.quiet rise);
     nothing = λ refusal. absurd refusal;
     line = λ refusal. absurd refusal;
-    no_line = λ _. refl;
-    front = λ _ files is. ([], IsFront-nil _, sym (appended-nil out.told));
-    stops = λ file' same e. cc;
-    opens = λ _ _. reads.opens;
-    untouched = λ other. absurd (other file refl);
-    held = reads.held;
-  }
+    no_line = λ _. r.no_line;
+    front = λ _. r.front;
+    stops = λ refused. absurd refused;
+    opens = (r.count, r.read.opens, r.few);
+    all_opened = λ _ no files is. absurd (no refl);
+    outline_opens = one;
+    untouched = λ no. absurd (no names);
+    held = r.read.held;
+  })
 
-  module _ (doc : Document) (reads : ReadsFrom (Ok doc) faults.Read shelf shelf')
-      (loaded : IsLoaded document_limits (option_map (bytes_under file) shelf.held) doc) where
-    outline_is : (files : Files) → shelf.held ≡ Some files → answer_to (outline file) files ≡ done (lines_of doc.names doc.nodes)
-    outline_is files is =
-        let content = loaded.whole (bytes_under file files) (ap (option_map (bytes_under file)) is) in
-        ap (λ bytes. outline_answer file (document document_limits bytes)) (sym content)
-        ∙ (ap (outline_answer file) loaded.is ∙ ap done (sym (lines_of-tree doc (tree_of loaded.found) loaded.of_tree)))
+  accepted_is : (status : Status) → IsAccepted status → (IsRefusal status → ⊥) × (status ≢ statuses.BadWords) × (status ≢ statuses.Memory) × (status ≢ statuses.ReadFault) × (status ≢ statuses.WriteFault)
+      × (IsRefusedAnswer status → ⊥)
+  accepted_is statuses.Done good = (λ r. r, (λ e. cc), (λ e. cc), (λ e. cc), (λ e. cc), (λ r. r))
+  accepted_is statuses.Findings good = (λ r. r, (λ e. cc), (λ e. cc), (λ e. cc), (λ e. cc), (λ r. r))
+  accepted_is statuses.DocumentRefused good = absurd good
+  accepted_is statuses.RulesRefused good = absurd good
+  accepted_is statuses.Unable good = absurd good
+  accepted_is statuses.BadWords good = absurd good
+  accepted_is statuses.ReadFault good = absurd good
+  accepted_is statuses.WriteFault good = absurd good
+  accepted_is statuses.Memory good = absurd good
 
-    pub answers_done : (out' : SinkView) → WritesAll (lines_of doc.names doc.nodes) out out'
-        → Answers (outline file) (record { shelf = shelf; out = out; err = err }) (record { shelf = shelf'; out = out'; err = err }) statuses.Done
-    answers_done out' all = record {
-      answered = λ _ _ _ files is. sym (ap (λ (a : Answer). a.status) (outline_is files is));
-      output = λ _ _ _ files is. all.told ∙ ap (λ (a : Answer). appended a.out out.told) (sym (outline_is files is));
-      errors = λ _ _ _ _ files is. sym (appended-nil err.told) ∙ ap (λ (a : Answer). appended a.err err.told) (sym (outline_is files is));
-      bad_words = λ e. cc;
-      only_bad_words = λ number e. cc;
-      memory = λ e. cc;
-      read_fault = λ e. cc;
-      read_opens = λ e. cc;
-      write_fault = λ e. cc;
-      write_done = λ e files is. cc;
-      shelf_rose = λ rise. absurd (no_rise shelf.faults shelf'.faults (reads.quiet (λ e. cc)) rise);
-      out_rose = λ rise. absurd (no_rise out.faults out'.faults all.faults rise);
-      nothing = λ refusal. absurd refusal;
-      line = λ refusal. absurd refusal;
-      no_line = λ _. refl;
-      front = λ _ files is. (lines_of doc.names doc.nodes, subst (λ (a : Answer). IsFront (lines_of doc.names doc.nodes) a.out) (sym (outline_is files is)) (IsFront-whole _), all.told);
-      stops = λ file' same e. cc;
-      opens = λ _ _. reads.opens;
-      untouched = λ other. absurd (other file refl);
-      held = reads.held;
-    }
+  module _ (one : (file : List ℕ) → job ≡ outline file → after.shelf.opens ≡ next_count before.shelf.opens) (status : Status) (r : IsWritten (course_of job) before after status) where
+    answer_here : (files : Files) → before.shelf.held ≡ Some files → r.answer ≡ answer_to job files
+    answer_here files is = answer_is files r.count r.answer is r.ends_in
 
-    pub answers_write_fault : (out' : SinkView) → WritesFront (lines_of doc.names doc.nodes) out out'
-        → Answers (outline file) (record { shelf = shelf; out = out; err = err }) (record { shelf = shelf'; out = out'; err = err }) statuses.WriteFault
-    answers_write_fault out' front = record {
-      answered = λ _ quiet _ files is. absurd (not_quiet out.faults out'.faults front.rose quiet);
-      output = λ _ quiet _ files is. absurd (not_quiet out.faults out'.faults front.rose quiet);
-      errors = λ _ quiet _ _ files is. absurd (not_quiet out.faults out'.faults front.rose quiet);
-      bad_words = λ e. cc;
-      only_bad_words = λ number e. cc;
-      memory = λ e. cc;
-      read_fault = λ e. cc;
-      read_opens = λ e. cc;
-      write_fault = λ _. front.rose;
-      write_done = λ _ files is. ap (λ (a : Answer). a.status) (outline_is files is);
-      shelf_rose = λ rise. absurd (no_rise shelf.faults shelf'.faults (reads.quiet (λ e. cc)) rise);
-      out_rose = λ _. refl;
-      nothing = λ refusal. absurd refusal;
-      line = λ refusal. absurd refusal;
-      no_line = λ _. refl;
-      front = λ _ files is. (front.front, subst (λ (a : Answer). IsFront front.front a.out) (sym (outline_is files is)) front.is_front, front.told);
-      stops = λ file' same e. cc;
-      opens = λ _ _. reads.opens;
-      untouched = λ other. absurd (other file refl);
-      held = reads.held;
-    }
+    whole : (status ≡ r.answer.status) × WritesAll r.answer.out before.out after.out → Answers job before after status
+    whole done =
+        let good = subst IsAccepted (sym done.0) r.accepted in
+        let other = accepted_is status good in
+        let all = done.1 in
+        record {
+          answered = λ _ _ _ files is. done.0 ∙ ap (λ (a : Answer). a.status) (answer_here files is);
+          output = λ _ _ _ files is. all.told ∙ ap (λ (a : Answer). appended a.out before.out.told) (answer_here files is);
+          errors = λ _ _ _ _ files is. ap (λ (s : SinkView). s.told) r.no_line ∙ (sym (appended-nil before.err.told)
+              ∙ ap (λ text. appended text before.err.told) (sym r.silent ∙ ap (λ (a : Answer). a.err) (answer_here files is)));
+          bad_words = λ e. absurd (other.1 e);
+          only_bad_words = λ number e. absurd (named number e);
+          memory = λ e. names;
+          read_fault = λ e. absurd (other.3 e);
+          write_fault = λ e. absurd (other.4 e);
+          write_done = λ e files is. absurd (other.4 e);
+          shelf_rose = λ rise. absurd (no_rise before.shelf.faults after.shelf.faults r.read.faults rise);
+          out_rose = λ rise. absurd (no_rise before.out.faults after.out.faults all.faults rise);
+          nothing = λ refusal. absurd (other.0 refusal);
+          line = λ refusal. absurd (other.0 refusal);
+          no_line = λ _. r.no_line;
+          front = λ _ files is. (r.answer.out, subst (λ (a : Answer). IsFront r.answer.out a.out) (answer_here files is) (IsFront-whole r.answer.out), all.told);
+          stops = λ refused. absurd (other.5 refused);
+          opens = (r.count, r.read.opens, λ files is. subst (λ n. r.count ≤ n) (counts files r.count r.answer is r.ends_in) (omega arith));
+          all_opened = λ _ _ files is. r.read.opens ∙ ap (λ n. counted n before.shelf.opens) (counts files r.count r.answer is r.ends_in);
+          outline_opens = one;
+          untouched = λ no. absurd (no names);
+          held = r.read.held;
+        }
+
+    cut : (status ≡ statuses.WriteFault) × WritesFront r.answer.out before.out after.out → Answers job before after status
+    cut done =
+        let front = done.1 in
+        rw done.0 (record {
+          answered = λ _ quiet _ files is. absurd (not_quiet before.out.faults after.out.faults front.rose quiet);
+          output = λ _ quiet _ files is. absurd (not_quiet before.out.faults after.out.faults front.rose quiet);
+          errors = λ _ quiet _ _ files is. absurd (not_quiet before.out.faults after.out.faults front.rose quiet);
+          bad_words = λ e. cc;
+          only_bad_words = λ number e. absurd (named number e);
+          memory = λ e. names;
+          read_fault = λ e. cc;
+          write_fault = λ _. front.rose;
+          write_done = λ _ files is. subst (λ (a : Answer). IsAccepted a.status) (answer_here files is) r.accepted;
+          shelf_rose = λ rise. absurd (no_rise before.shelf.faults after.shelf.faults r.read.faults rise);
+          out_rose = λ _. refl;
+          nothing = λ refusal. absurd refusal;
+          line = λ refusal. absurd refusal;
+          no_line = λ _. r.no_line;
+          front = λ _ files is. (front.front, subst (λ (a : Answer). IsFront front.front a.out) (answer_here files is) front.is_front, front.told);
+          stops = λ refused. absurd refused;
+          opens = (r.count, r.read.opens, λ files is. subst (λ n. r.count ≤ n) (counts files r.count r.answer is r.ends_in) (omega arith));
+          all_opened = λ _ _ files is. r.read.opens ∙ ap (λ n. counted n before.shelf.opens) (counts files r.count r.answer is r.ends_in);
+          outline_opens = one;
+          untouched = λ no. absurd (no names);
+          held = r.read.held;
+        })
+
+    written : (((status ≡ r.answer.status) × WritesAll r.answer.out before.out after.out) ⊎ ((status ≡ statuses.WriteFault) × WritesFront r.answer.out before.out after.out))
+        → Answers job before after status
+    written (inl done) = whole done
+    written (inr done) = cut done
+
+  -- A job that names files runs by its course: then all of the contract holds.
+  pub answers_of_run : (status : Status) → ((file : List ℕ) → job ≡ outline file → after.shelf.opens ≡ next_count before.shelf.opens)
+      → Runs (course_of job) before after status → Answers job before after status
+  answers_of_run status one (inl r) = refused status one r
+  answers_of_run status one (inr (inl r)) = unread status one r
+  answers_of_run status one (inr (inr (inl r))) = out_of_memory status one r
+  answers_of_run status one (inr (inr (inr r))) = written one status r r.written

@@ -1,2 +1,4 @@
 pub mod OutlineLemmas
 pub mod AnswersLemmas
+pub mod OptionLemmas
+pub mod InvoiceLemmas

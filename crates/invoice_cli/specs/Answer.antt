@@ -1,36 +1,29 @@
--- What the program answers to a job, as a function of the files that are held.
-use Rattle.std.specs.Prelude.{ℕ, List, [], Ok, Err, Result}
-use Rattle.inv_base.specs.Files.{Files, bytes_under}
-use Rattle.xml_state.specs.declared.fault.XmlFault.{XmlFault}
-use Rattle.xml_state.specs.declared.limits.Limits.{Limits}
-use Rattle.xml_profile.specs.Profile.{Document, document, tree_of}
-use Rattle.invoice_cli.specs.declared.status.Status.{Status}
-use Rattle.invoice_cli.specs.declared.status.Status.TheVariants as statuses
+-- What the program answers.
+use Rattle.std.specs.Prelude.{ℕ, List, []}
+use Rattle.inv_base.specs.Files.{Files}
+use Rattle.xml_profile.specs.Profile.{tree_of}
+use Rattle.xml_profile.specs.Profile as profile
+use Rattle.job_course.specs.declared.status.Status.TheVariants as statuses
+use Rattle.job_course.specs.Course.{Answer, Course, ends, done, refusal, answer_of, document_course}
+use Rattle.job_course.specs.Lines.{bad_word_line}
 use Rattle.invoice_cli.specs.declared.usage.TheConstants.{HELP, VERSION}
-use Rattle.invoice_cli.specs.Job.{Job, outline, help, version, bad_word}
+use Rattle.invoice_cli.specs.Job.{Job, outline, show, convert, extract, help, version, bad_word}
+use Rattle.invoice_cli.specs.Invoices.{show_course, convert_course, extract_course}
 use Rattle.invoice_cli.specs.Outline.{outline_text}
-use Rattle.invoice_cli.specs.Lines.{bad_word_line, document_line}
 
--- the status, and the bytes for the output and for the error output
-pub record Answer : Type 0 where
-  pub status : Status
-  pub out : List ℕ
-  pub err : List ℕ
+-- the outline of the document's tree
+abbrev pub outline_course : List ℕ → Course
+outline_course file = document_course file (λ found. ends (done (outline_text (tree_of found))))
 
-abbrev pub done : List ℕ → Answer
-done text = record { status = statuses.Done; out = text; err = [] }
-
--- how large a document may be
-abbrev pub document_limits : Limits
-document_limits = record { bytes = 16777216; nodes = 1000000; depth = 100; attributes = 64; name = 200; names = 10000 }
-
--- The outline of the document's tree, or the line of the first fault.
-abbrev pub outline_answer : List ℕ → Result Document XmlFault → Answer
-outline_answer file (Ok found) = done (outline_text (tree_of found))
-outline_answer file (Err fault) = record { status = statuses.DocumentRefused; out = []; err = document_line file fault }
+-- what a job reads and answers
+abbrev pub course_of : Job → Course
+course_of (outline file) = outline_course file
+course_of (show codes_file file) = show_course codes_file file
+course_of (convert syntax codes_file file) = convert_course syntax codes_file file
+course_of (extract number file) = extract_course number file
+course_of help = ends (done HELP.now)
+course_of version = ends (done VERSION.now)
+course_of (bad_word number) = ends (refusal statuses.BadWords (bad_word_line number))
 
 abbrev pub answer_to : Job → Files → Answer
-answer_to (outline file) files = outline_answer file (document document_limits (bytes_under file files))
-answer_to help files = done HELP.now
-answer_to version files = done VERSION.now
-answer_to (bad_word number) files = record { status = statuses.BadWords; out = []; err = bad_word_line number }
+answer_to job files = answer_of (course_of job) files

@@ -1,6 +1,6 @@
 pub mod Job
 pub mod Commands
 pub mod Outline
-pub mod Lines
+pub mod Invoices
 pub mod Answer
 pub mod Answers

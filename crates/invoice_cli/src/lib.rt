@@ -2,13 +2,14 @@
 #![tactic(auto)]
 
 mod adapters;
+mod invoices;
+mod options;
 mod printing;
 mod program;
-mod status;
-mod telling;
+mod refusals;
 mod usage;
 mod words;
 
 pub use adapters::{FileShelf, OutputSink};
+pub use job_course::Status;
 pub use program::run;
-pub use status::Status;

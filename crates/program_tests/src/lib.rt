@@ -6,4 +6,6 @@ mod adapter_cases;
 #[cfg(test)]
 mod document_cases;
 #[cfg(test)]
+mod invoice_cases;
+#[cfg(test)]
 mod program_cases;

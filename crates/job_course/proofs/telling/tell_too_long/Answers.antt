@@ -1,8 +1,8 @@
 use Rattle.std.proofs.Common.{[]}
 use Rattle.inv_base.proofs.WritingLemmas.{WritesAll-nil}
 use Rattle.inv_base.proofs.PrintingLemmas.{Prints-append, Prints-same}
-use Rattle.invoice_cli.proofs.AnswersLemmas.{takes_printed}
-use Rattle.invoice_cli.proofs.telling.tell_read_fault.Goals as goal
+use Rattle.job_course.proofs.Printed.{takes_printed}
+use Rattle.job_course.proofs.telling.tell_too_long.Goals as goal
 
 pub returns : goal.returns
 returns g c =

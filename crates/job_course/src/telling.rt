@@ -1,14 +1,16 @@
-ghost use Rattle.invoice_cli.specs.Answers.{TakesOrFails};
-ghost use Rattle.invoice_cli.specs.Lines.{bad_word_line, read_fault_line, document_line, kind_text};
+ghost use Rattle.job_course.specs.Outside.{TakesOrFails};
+ghost use Rattle.job_course.specs.Lines.{bad_word_line, read_fault_line, document_line, kind_text, list_line, list_fault_text, too_long_line};
+ghost use Rattle.inv_base.specs.Printing.{Prints};
 ghost use Rattle.std.specs.Prelude.{◌≡◌};
 
+use code_lists::ListFault;
 use inv_base::{Printer, Sink};
 use itoa::Buffer;
 use xml_state::XmlFault;
 use xml_tokens::XmlKind;
 
 /// Tells which word fits no command.
-pub(crate) fn tell_bad_word<E: Sink>(number: u64, err: &mut E)
+pub fn tell_bad_word<E: Sink>(number: u64, err: &mut E)
     ensures { TakesOrFails (bad_word_line number) (E.view err.old) (E.view err.new) }
 {
     let mut digits = Buffer::new();
@@ -19,7 +21,7 @@ pub(crate) fn tell_bad_word<E: Sink>(number: u64, err: &mut E)
 }
 
 /// Tells that a file couldn't be read.
-pub(crate) fn tell_read_fault<E: Sink>(file: &str, err: &mut E)
+pub fn tell_read_fault<E: Sink>(file: &str, err: &mut E)
     ensures { TakesOrFails (read_fault_line file.now) (E.view err.old) (E.view err.new) }
 {
     let mut printer = Printer::new();
@@ -29,7 +31,7 @@ pub(crate) fn tell_read_fault<E: Sink>(file: &str, err: &mut E)
 }
 
 /// Tells why and where a document is refused.
-pub(crate) fn tell_document_fault<E: Sink>(file: &str, fault: &XmlFault, err: &mut E)
+pub fn tell_document_fault<E: Sink>(file: &str, fault: &XmlFault, err: &mut E)
     ensures { TakesOrFails (document_line file.now fault.now) (E.view err.old) (E.view err.new) }
 {
     let mut digits = Buffer::new();
@@ -41,6 +43,46 @@ pub(crate) fn tell_document_fault<E: Sink>(file: &str, fault: &XmlFault, err: &m
     printer.put(err, b" at ");
     printer.put(err, digits.format(fault.place.byte).as_bytes());
     printer.put(err, b"\n");
+}
+
+/// Tells that a file of code lists is too long.
+pub fn tell_too_long<E: Sink>(file: &str, err: &mut E)
+    ensures { TakesOrFails (too_long_line file.now) (E.view err.old) (E.view err.new) }
+{
+    let mut printer = Printer::new();
+    printer.put(err, b"einv: ");
+    printer.put(err, file.as_bytes());
+    printer.put(err, b": TooLong\n");
+}
+
+/// Tells why a file is none of code lists.
+pub fn tell_list_fault<E: Sink>(file: &str, fault: &ListFault, err: &mut E)
+    ensures { TakesOrFails (list_line file.now fault.now) (E.view err.old) (E.view err.new) }
+{
+    let mut printer = Printer::new();
+    printer.put(err, b"einv: ");
+    printer.put(err, file.as_bytes());
+    printer.put(err, b": ");
+    print_list_fault(fault, &mut printer, err);
+    printer.put(err, b"\n");
+}
+
+/// Prints a fault of code lists, with the key at which it stands.
+fn print_list_fault<E: Sink>(fault: &ListFault, printer: &mut Printer, err: &mut E)
+    ensures { Prints (list_fault_text fault.now) printer.old.failed printer.new.failed (E.view err.old) (E.view err.new) }
+{
+    match fault {
+        ListFault::NotToml => printer.put(err, b"NotToml"),
+        ListFault::NotALists(key) => {
+            printer.put(err, b"NotALists ");
+            printer.put(err, key.as_str().as_bytes());
+        }
+        ListFault::BadCode(key) => {
+            printer.put(err, b"BadCode ");
+            printer.put(err, key.as_str().as_bytes());
+        }
+        ListFault::Memory => printer.put(err, b"Memory"),
+    }
 }
 
 /// The name of a kind of fault.

@@ -1,5 +1,7 @@
 -- The one line that a refusal writes to the error output.
-use Rattle.std.specs.Prelude.{ℕ, List, [], ◌∷◌, ◌++◌, codes, decimal}
+use Rattle.std.specs.Prelude.{ℕ, List, [], ◌∷◌, ◌++◌, codes, decimal, encode_utf8_all}
+use Rattle.code_lists.specs.declared.fault.ListFault.{ListFault}
+use Rattle.code_lists.specs.declared.fault.ListFault.TheVariants as list_faults
 use Rattle.xml_tokens.specs.declared.kind.XmlKind.{XmlKind}
 use Rattle.xml_tokens.specs.declared.kind.XmlKind.TheVariants as kinds
 use Rattle.xml_state.specs.declared.fault.XmlFault.{XmlFault}
@@ -37,3 +39,16 @@ read_fault_line file = codes "einv: " ++ (file ++ codes ": read fault\n")
 
 abbrev pub document_line : List ℕ → XmlFault → List ℕ
 document_line file fault = codes "einv: " ++ (file ++ (codes ": " ++ (kind_text fault.kind ++ (codes " at " ++ (decimal fault.place.byte ++ 0xA ∷ [])))))
+
+-- why a file of code lists is refused, behind its name
+abbrev pub list_fault_text : ListFault → List ℕ
+list_fault_text list_faults.NotToml = codes "NotToml"
+list_fault_text (list_faults.NotALists key) = codes "NotALists " ++ encode_utf8_all key
+list_fault_text (list_faults.BadCode key) = codes "BadCode " ++ encode_utf8_all key
+list_fault_text list_faults.Memory = codes "Memory"
+
+abbrev pub list_line : List ℕ → ListFault → List ℕ
+list_line file fault = codes "einv: " ++ (file ++ (codes ": " ++ (list_fault_text fault ++ 0xA ∷ [])))
+
+abbrev pub too_long_line : List ℕ → List ℕ
+too_long_line file = codes "einv: " ++ (file ++ codes ": TooLong\n")

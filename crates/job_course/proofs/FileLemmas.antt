@@ -1,0 +1,219 @@
+-- How a job ends at a file that can't be had.
+use Rattle.std.proofs.Common.{◌≡◌, ◌≢◌, ℕ, ◌<◌, ◌≤◌, suc, zero, List, [], ◌++◌, Option, Some, None, Result, Ok, Err, Bool, true, false, inl, inr, refl, ap, sym, subst, ◌∙◌, arith, option_map}
+use Rattle.std.specs.Prelude.{length, nat_le}
+use Rattle.std.proofs.lemmas.Bool.Decides.{nat_tests}
+use Rattle.inv_base.specs.Files.{Files, bytes_under}
+use Rattle.inv_base.specs.Outside.{ShelfView, SinkView, WhereTold}
+use Rattle.inv_base.proofs.WritingLemmas.{appended-nil, IsFront-nil}
+use Rattle.code_lists.specs.CodeFiles.{Lists, file_lists}
+use Rattle.code_lists.specs.declared.fault.ListFault.{ListFault}
+use Rattle.code_lists.specs.declared.fault.ListFault.TheVariants as list_faults
+use Rattle.xml_state.specs.Events.{with_events}
+use Rattle.xml_state.specs.declared.limits.Limits.{Limits}
+use Rattle.xml_state.specs.declared.fault.XmlFault.{XmlFault}
+use Rattle.xml_profile.specs.Profile.{document, first_fault, names_of}
+use Rattle.xml_profile.specs.Profile as profile
+use Rattle.xml_profile.specs.TokenByToken.{read_whole}
+use Rattle.node_arena.specs.Document.{Document}
+use Rattle.xml_document.specs.declared.loading.LoadFault.TheVariants as load_faults
+use Rattle.xml_document.specs.declared.whole.WholeFault.TheVariants as whole_faults
+use Rattle.xml_document.specs.Loading.{ReadsFrom, StopsInTime}
+use Rattle.xml_document.specs.Loading as loading
+use Rattle.xml_document.specs.Whole.{IsReadWhole, IsTooLong}
+use Rattle.job_course.specs.declared.status.Status.{Status}
+use Rattle.job_course.specs.declared.status.Status.TheVariants as statuses
+use Rattle.job_course.specs.Course.{Answer, Course, ends, Load, refusal, by_result, by_test, by_lists, is_within, document_limits, list_limit, document_course, lists_course, answer_of, readings, refused_load}
+use Rattle.job_course.specs.Lines.{read_fault_line, document_line, list_line, too_long_line}
+use Rattle.job_course.specs.Outside.{Outside, HasRead, TakesOrFails, IsRefusedAnswer}
+use Rattle.job_course.specs.Runs.{IsContentOf, AreListed, EndsIn, at_end, refused_at, too_long_at, taken, ReadsAt, a_load, a_taking, Runs, IsListRefusal}
+use Rattle.job_course.proofs.Joins.{Behind, behind_a_taking, run_behind}
+
+-- A first fault is why the bytes are no document.
+abbrev by_fault : Limits → List ℕ → Option XmlFault → Result profile.Document XmlFault
+by_fault limits bytes f = elim f [
+  | (Some fault) ↦ Err fault
+  | None ↦ Ok (record { events = with_events [] (read_whole limits bytes).events; names = names_of (read_whole limits bytes).stands })
+]
+
+is_no_document : (limits : Limits) (bytes : List ℕ) (fault : XmlFault) → first_fault limits bytes ≡ Some fault → document limits bytes ≡ Err fault
+unfolding document
+is_no_document limits bytes fault is = ap (by_fault limits bytes) is
+
+-- What is told of a content is told of the file's, where the files are told.
+of_file : (name content : List ℕ) (held : Option Files) → WhereTold (option_map (bytes_under name) held) (λ bytes. content ≡ bytes) → IsContentOf held name content
+of_file name content held whole files is = whole (bytes_under name files) (ap (option_map (bytes_under name)) is)
+
+is_short : (bytes : List ℕ) → length bytes ≤ list_limit → is_within list_limit bytes ≡ true
+is_short bytes few = grind (arith, nat_tests)
+
+no_load : (load : Load) → None ≡ Some load → ⊥
+no_load load e = cc
+
+module _ (name : List ℕ) (shelf shelf' : ShelfView) (out err err' : SinkView) where
+  abbrev before : Outside
+  before = record { shelf = shelf; out = out; err = err }
+
+  abbrev after : Outside
+  after = record { shelf = shelf'; out = out; err = err' }
+
+  pub unread_document : (next : profile.Document → Course) → ReadsFrom {T = Document} (Err load_faults.Read) load_faults.Read shelf shelf'
+      → TakesOrFails (read_fault_line name) err err' → Runs (document_course name next) before after statuses.ReadFault
+  unread_document next reads takes = inr (inl (record {
+    count = 1;
+    file = name;
+    reads_at = a_load;
+    told = refl;
+    held = reads.held;
+    opens = reads.opens;
+    rises = reads.rises;
+    rose = reads.rose refl;
+    nothing = refl;
+    line = takes;
+  }))
+
+  module _ (next : profile.Document → Course) (fault : XmlFault) (refused : loading.IsRefused document_limits (option_map (bytes_under name) shelf.held) fault)
+      (stops : StopsInTime document_limits (option_map (bytes_under name) shelf.held) shelf'.left) where
+    of_this_file : IsContentOf shelf.held name refused.content
+    of_this_file = of_file name refused.content shelf.held refused.whole
+
+    no_document : (files : Files) → shelf.held ≡ Some files → document document_limits (bytes_under name files) ≡ Err fault
+    no_document files is = ap (document document_limits) (sym (of_this_file files is)) ∙ is_no_document document_limits refused.content fault refused.is
+
+    stops_at : (files : Files) (load : Load) → shelf.held ≡ Some files → Some (record { limits = document_limits; name = name }) ≡ Some load
+        → StopsInTime load.limits (Some (bytes_under load.name files)) shelf'.left
+    stops_at files load is same =
+        let load_is : record { limits = document_limits; name = name } ≡ load = cc in
+        subst (λ (l : Load). StopsInTime l.limits (Some (bytes_under l.name files)) shelf'.left) load_is
+        (subst (λ held. StopsInTime document_limits (option_map (bytes_under name) held) shelf'.left) is stops)
+
+    pub refused_document : ReadsFrom {T = Document} (Err (load_faults.Refused fault)) load_faults.Read shelf shelf'
+        → TakesOrFails (document_line name fault) err err' → Runs (document_course name next) before after statuses.DocumentRefused
+    refused_document reads takes = inl (record {
+      count = 1;
+      answer = refusal statuses.DocumentRefused (document_line name fault);
+      ends_in = refused_at of_this_file (is_no_document document_limits refused.content fault refused.is);
+      told = refl;
+      refuses = tt;
+      empty = refl;
+      read = record { held = reads.held; opens = reads.opens; faults = reads.quiet (λ e. cc) };
+      nothing = refl;
+      line = takes;
+      stops = λ files is load found. stops_at files load is (sym (ap (by_result (λ fault. Some (record { limits = document_limits; name = name }))
+          (λ f. refused_load (next f) files)) (no_document files is)) ∙ found);
+    })
+
+  -- Memory ran out in the first reading.
+  pub memory_in : (course : Course) → ((files : Files) → 1 ≤ readings course files) → HasRead 1 shelf shelf' → err' ≡ err → Runs course before after statuses.Memory
+  memory_in course some read quiet = inr (inr (inl (record {
+    count = 1;
+    told = refl;
+    few = λ files is. some files;
+    read = read;
+    quiet = refl;
+    front = λ files is. ([], IsFront-nil _, sym (appended-nil out.told));
+    no_line = quiet;
+  })))
+
+  pub unread_lists : {T : Type 0} (next : Lists → Course) → ReadsFrom {T = T} (Err whole_faults.Read) whole_faults.Read shelf shelf'
+      → TakesOrFails (read_fault_line name) err err' → Runs (lists_course name next) before after statuses.ReadFault
+  unread_lists next reads takes = inr (inl (record {
+    count = 1;
+    file = name;
+    reads_at = a_taking;
+    told = refl;
+    held = reads.held;
+    opens = reads.opens;
+    rises = reads.rises;
+    rose = reads.rose refl;
+    nothing = refl;
+    line = takes;
+  }))
+
+  -- a content that is too long, which is the file's where the files are told
+  record LongContent : Type 0 where
+    content : List ℕ
+    of_it : IsContentOf shelf.held name content
+    long : is_within list_limit content ≡ false
+
+  is_long : (bytes : List ℕ) → list_limit < length bytes → is_within list_limit bytes ≡ false
+  is_long bytes more = grind (arith, nat_tests)
+
+  long_content : (held : Option Files) → shelf.held ≡ held → IsTooLong list_limit (option_map (bytes_under name) shelf.held) shelf'.left → LongContent
+  long_content None is found = record {
+    content = found.front ++ found.last;
+    of_it = λ files told. absurd (cc);
+    long = is_long (found.front ++ found.last) found.past;
+  }
+  long_content (Some files) is found = record {
+    content = bytes_under name files;
+    of_it = λ files' told. ap (λ held. elim held [ None ↦ [] | Some f ↦ bytes_under name f ]) (sym is ∙ told);
+    long = is_long (bytes_under name files) (found.long (bytes_under name files) (ap (option_map (bytes_under name)) is));
+  }
+
+  pub long_lists : (next : Lists → Course) → HasRead 1 shelf shelf' → IsTooLong list_limit (option_map (bytes_under name) shelf.held) shelf'.left
+      → TakesOrFails (too_long_line name) err err' → Runs (lists_course name next) before after statuses.RulesRefused
+  long_lists next read found takes =
+      let long = long_content shelf.held refl found in
+      inl (record {
+        count = 1;
+        answer = refusal statuses.RulesRefused (too_long_line name);
+        ends_in = too_long_at long.of_it long.long;
+        told = refl;
+        refuses = tt;
+        empty = refl;
+        read = read;
+        nothing = refl;
+        line = takes;
+        stops = λ files is load none. let not_within = ap (is_within list_limit) (sym (long.of_it files is)) ∙ long.long in
+            absurd (no_load load (ap (by_test None (refused_load (by_lists name next (file_lists (bytes_under name files))) files)) (sym not_within) ∙ none));
+      })
+
+-- A refusal that ends a course, whatever was read before.
+pub refused_here : (status : Status) (line : List ℕ) (shelf : ShelfView) (out err err' : SinkView) → IsRefusedAnswer status → TakesOrFails line err err' → Runs (ends (refusal status line)) (record { shelf = shelf; out = out; err = err }) (record { shelf = shelf; out = out; err = err' }) status
+refused_here status line shelf out err err' refuses takes = inl (record {
+  count = 0;
+  answer = refusal status line;
+  ends_in = at_end;
+  told = refl;
+  refuses = refuses;
+  empty = refl;
+  read = record { held = refl; opens = refl; faults = refl };
+  nothing = refl;
+  line = takes;
+  stops = λ files is load none. cc;
+})
+
+module _ (name : List ℕ) (shelf shelf' : ShelfView) (out err err' : SinkView) where
+  -- the lists of a file are refused behind the reading of it
+  refused_lists : (next : Lists → Course) (bytes : List ℕ) (fault : ListFault) → HasRead 1 shelf shelf'
+      → IsReadWhole list_limit (option_map (bytes_under name) shelf.held) bytes → file_lists bytes ≡ Err fault → TakesOrFails (list_line name fault) err err'
+      → Runs (lists_course name next) (record { shelf = shelf; out = out; err = err }) (record { shelf = shelf'; out = out; err = err' }) statuses.RulesRefused
+  refused_lists next bytes fault read found fails takes =
+      let refused = refused_here statuses.RulesRefused (list_line name fault) shelf' out err err' tt takes in
+      let next_is : by_lists name next (file_lists bytes) ≡ ends (refusal statuses.RulesRefused (list_line name fault)) = ap (by_lists name next) fails in
+      run_behind (lists_course name next) (by_lists name next (file_lists bytes)) shelf shelf' shelf' out out err err err' statuses.RulesRefused
+      (behind_a_taking shelf.held list_limit name (refusal statuses.RulesRefused (too_long_line name)) (λ bytes. by_lists name next (file_lists bytes)) bytes
+      (of_file name bytes shelf.held found.whole) (is_short bytes found.within)) read refl
+      (subst (λ course. Runs course (record { shelf = shelf'; out = out; err = err }) (record { shelf = shelf'; out = out; err = err' }) statuses.RulesRefused) (sym next_is) refused)
+
+  pub are_listed : (bytes : List ℕ) (lists : Lists) → IsReadWhole list_limit (option_map (bytes_under name) shelf.held) bytes → file_lists bytes ≡ Ok lists
+      → AreListed shelf.held name lists
+  are_listed bytes lists found are = record {
+    content = bytes;
+    of_file = of_file name bytes shelf.held found.whole;
+    within = is_short bytes found.within;
+    are = are;
+  }
+
+  pub lists_failed : (next : Lists → Course) (bytes : List ℕ) (fault : ListFault) (status : Status) → HasRead 1 shelf shelf'
+      → IsReadWhole list_limit (option_map (bytes_under name) shelf.held) bytes → (fault ≢ list_faults.Memory → file_lists bytes ≡ Err fault)
+      → IsListRefusal fault name status err err'
+      → Runs (lists_course name next) (record { shelf = shelf; out = out; err = err }) (record { shelf = shelf'; out = out; err = err' }) status
+  lists_failed next bytes list_faults.Memory status read found fails refusal =
+      rw refusal.0 (memory_in name shelf shelf' out err err' (lists_course name next) (λ files. omega arith) read refusal.1)
+  lists_failed next bytes list_faults.NotToml status read found fails refusal =
+      rw refusal.0 (refused_lists next bytes list_faults.NotToml read found (fails (λ e. cc)) refusal.1)
+  lists_failed next bytes (list_faults.NotALists key) status read found fails refusal =
+      rw refusal.0 (refused_lists next bytes (list_faults.NotALists key) read found (fails (λ e. cc)) refusal.1)
+  lists_failed next bytes (list_faults.BadCode key) status read found fails refusal =
+      rw refusal.0 (refused_lists next bytes (list_faults.BadCode key) read found (fails (λ e. cc)) refusal.1)

@@ -1,0 +1,132 @@
+-- A run of what follows behind a reading is a run of the whole.
+use Rattle.std.proofs.Common.{◌≡◌, ℕ, ◌≤◌, suc, zero, List, [], Option, Some, None, Result, Ok, Err, Bool, true, false, inl, inr, refl, ap, sym, subst, ◌∙◌, arith}
+use Rattle.inv_base.specs.Counts.{Rose}
+use Rattle.inv_base.specs.Files.{Files, bytes_under}
+use Rattle.inv_base.specs.Outside.{ShelfView, SinkView, WhereTold, appended}
+use Rattle.inv_base.specs.Writing.{IsFront}
+use Rattle.xml_state.specs.declared.fault.XmlFault.{XmlFault}
+use Rattle.xml_state.specs.declared.limits.Limits.{Limits}
+use Rattle.xml_profile.specs.Profile.{document}
+use Rattle.xml_profile.specs.Profile as profile
+use Rattle.xml_document.specs.Loading.{StopsInTime}
+use Rattle.job_course.specs.declared.status.Status.{Status}
+use Rattle.job_course.specs.Course.{Answer, Course, ends, loads, takes, Load, by_result, by_test, answer_of, readings, refused_load, is_within}
+use Rattle.job_course.specs.Outside.{Outside, counted, HasRead}
+use Rattle.job_course.specs.Runs.{IsContentOf, EndsIn, loaded, taken, ReadsAt, behind_load, behind_taking, StopsAtFault, IsRefused, IsUnread, IsOutOfMemory, IsWritten, Runs}
+
+-- What is known of a whole course from what follows behind a reading, for any property of both.
+pub record Behind (held : Option Files) (whole next : Course) : Type 0 where
+  pub ends_in : (n : ℕ) (answer : Answer) → EndsIn held next n answer → EndsIn held whole (suc n) answer
+  pub reads_at : (n : ℕ) (file : List ℕ) → ReadsAt held next n file → ReadsAt held whole (suc n) file
+  pub answers : WhereTold held (λ files. answer_of whole files ≡ answer_of next files)
+  pub reads : WhereTold held (λ files. readings whole files ≡ suc (readings next files))
+  pub refuses : WhereTold held (λ files. refused_load whole files ≡ refused_load next files)
+
+pub behind_a_load : (held : Option Files) (limits : Limits) (name : List ℕ) (refused : XmlFault → Answer) (next : profile.Document → Course) (content : List ℕ)
+    (found : profile.Document) → IsContentOf held name content → document limits content ≡ Ok found → Behind held (loads limits name refused next) (next found)
+behind_a_load held limits name refused next content found of_file is =
+    let here : (files : Files) → held ≡ Some files → document limits (bytes_under name files) ≡ Ok found = λ files told. ap (document limits) (sym (of_file files told)) ∙ is in
+    record {
+      ends_in = λ n answer further. loaded of_file is further;
+      reads_at = λ n file further. behind_load of_file is further;
+      answers = λ files told. ap (by_result refused (λ f. answer_of (next f) files)) (here files told);
+      reads = λ files told. ap (λ r. suc (by_result (λ fault. 0) (λ f. readings (next f) files) r)) (here files told);
+      refuses = λ files told. ap (by_result (λ fault. Some (record { limits = limits; name = name })) (λ f. refused_load (next f) files)) (here files told);
+    }
+
+pub behind_a_taking : (held : Option Files) (limit : ℕ) (name : List ℕ) (too_long : Answer) (next : List ℕ → Course) (content : List ℕ)
+    → IsContentOf held name content → is_within limit content ≡ true → Behind held (takes limit name too_long next) (next content)
+behind_a_taking held limit name too_long next content of_file within =
+    record {
+      ends_in = λ n answer further. taken of_file within further;
+      reads_at = λ n file further. behind_taking of_file within further;
+      answers = λ files told. subst (λ bytes. by_test too_long (answer_of (next bytes) files) (is_within limit bytes) ≡ answer_of (next content) files) (of_file files told)
+          (ap (by_test too_long (answer_of (next content) files)) within);
+      reads = λ files told. subst (λ bytes. suc (by_test 0 (readings (next bytes) files) (is_within limit bytes)) ≡ suc (readings (next content) files)) (of_file files told)
+          (ap (λ b. suc (by_test 0 (readings (next content) files) b)) within);
+      refuses = λ files told. subst (λ bytes. by_test None (refused_load (next bytes) files) (is_within limit bytes) ≡ refused_load (next content) files) (of_file files told)
+          (ap (by_test None (refused_load (next content) files)) within);
+    }
+
+module _ (whole next : Course) (shelf mid shelf' : ShelfView) (out out' err err' : SinkView) (behind : Behind shelf.held whole next) (read : HasRead 1 shelf mid) where
+  abbrev before : Outside
+  before = record { shelf = shelf; out = out; err = err }
+
+  abbrev between : Outside
+  between = record { shelf = mid; out = out; err = err }
+
+  abbrev after : Outside
+  after = record { shelf = shelf'; out = out'; err = err' }
+
+  has_read : (n : ℕ) → HasRead n mid shelf' → HasRead (suc n) shelf shelf'
+  has_read n further = record {
+    held = further.held ∙ read.held;
+    opens = further.opens ∙ ap (counted n) read.opens;
+    faults = further.faults ∙ read.faults;
+  }
+
+  refused : (status : Status) → IsRefused next between after status → IsRefused whole before after status
+  refused status r = record {
+    count = suc r.count;
+    answer = r.answer;
+    ends_in = behind.ends_in r.count r.answer (subst (λ held. EndsIn held next r.count r.answer) read.held r.ends_in);
+    told = r.told;
+    refuses = r.refuses;
+    empty = r.empty;
+    read = has_read r.count r.read;
+    nothing = r.nothing;
+    line = r.line;
+    stops = λ files is load found. r.stops files (read.held ∙ is) load (sym (behind.refuses files is) ∙ found);
+  }
+
+  unread : (status : Status) → IsUnread next between after status → IsUnread whole before after status
+  unread status r = record {
+    count = suc r.count;
+    file = r.file;
+    reads_at = behind.reads_at r.count r.file (subst (λ held. ReadsAt held next r.count r.file) read.held r.reads_at);
+    told = r.told;
+    held = r.held ∙ read.held;
+    opens = r.opens ∙ ap (counted r.count) read.opens;
+    rises = subst (λ n. n ≤ shelf'.faults) read.faults r.rises;
+    rose = subst (λ n. Rose n shelf'.faults) read.faults r.rose;
+    nothing = r.nothing;
+    line = r.line;
+  }
+
+  out_of_memory : (status : Status) → IsOutOfMemory next between after status → IsOutOfMemory whole before after status
+  out_of_memory status r = record {
+    count = suc r.count;
+    told = r.told;
+    few = λ files is. subst (λ n. suc r.count ≤ n) (sym (behind.reads files is)) (let few = r.few files (read.held ∙ is) in omega (arith, few));
+    read = has_read r.count r.read;
+    quiet = r.quiet;
+    front = λ files is. subst (λ (a : Answer). (front : List ℕ) × IsFront front a.out × (out'.told ≡ appended front out.told)) (sym (behind.answers files is)) (r.front files (read.held ∙ is));
+    no_line = r.no_line;
+  }
+
+  written : (status : Status) → IsWritten next between after status → IsWritten whole before after status
+  written status r = record {
+    count = suc r.count;
+    answer = r.answer;
+    ends_in = behind.ends_in r.count r.answer (subst (λ held. EndsIn held next r.count r.answer) read.held r.ends_in);
+    accepted = r.accepted;
+    silent = r.silent;
+    read = has_read r.count r.read;
+    written = r.written;
+    no_line = r.no_line;
+  }
+
+  joined : (status : Status) → Runs next between after status → Runs whole before after status
+  joined status (inl r) = inl (refused status r)
+  joined status (inr (inl r)) = inr (inl (unread status r))
+  joined status (inr (inr (inl r))) = inr (inr (inl (out_of_memory status r)))
+  joined status (inr (inr (inr r))) = inr (inr (inr (written status r)))
+
+-- A run of what follows behind a reading, which left the outputs as they were, is a run of the whole.
+pub run_behind : (whole next : Course) (shelf mid shelf' : ShelfView) (out out' err mid_err err' : SinkView) (status : Status) → Behind shelf.held whole next
+    → HasRead 1 shelf mid → mid_err ≡ err
+    → Runs next (record { shelf = mid; out = out; err = mid_err }) (record { shelf = shelf'; out = out'; err = err' }) status
+    → Runs whole (record { shelf = shelf; out = out; err = err }) (record { shelf = shelf'; out = out'; err = err' }) status
+run_behind whole next shelf mid shelf' out out' err mid_err err' status behind read quiet further =
+    joined whole next shelf mid shelf' out out' err err' behind read status
+    (subst (λ e. Runs next (record { shelf = mid; out = out; err = e }) (record { shelf = shelf'; out = out'; err = err' }) status) quiet further)

@@ -1,0 +1,4 @@
+pub mod Printed
+pub mod Joins
+pub mod FileLemmas
+pub mod Ends

@@ -1,0 +1,91 @@
+-- What a job does: it reads files one after another, each by what the files before it hold, and ends with an answer.
+use Rattle.std.specs.Prelude.{ℕ, suc, zero, nat_le, Bool, true, false, List, [], length, Option, Some, None, Result, Ok, Err}
+use Rattle.inv_base.specs.Files.{Files, bytes_under}
+use Rattle.xml_state.specs.declared.fault.XmlFault.{XmlFault}
+use Rattle.xml_state.specs.declared.limits.Limits.{Limits}
+use Rattle.xml_profile.specs.Profile.{document}
+use Rattle.xml_profile.specs.Profile as profile
+use Rattle.code_lists.specs.declared.fault.ListFault.{ListFault}
+use Rattle.code_lists.specs.CodeFiles.{Lists, file_lists}
+use Rattle.job_course.specs.declared.status.Status.{Status}
+use Rattle.job_course.specs.declared.status.Status.TheVariants as statuses
+use Rattle.job_course.specs.Lines.{document_line, list_line, too_long_line}
+
+-- the status, and the bytes for the output and for the error output
+pub record Answer : Type 0 where
+  pub status : Status
+  pub out : List ℕ
+  pub err : List ℕ
+
+abbrev pub done : List ℕ → Answer
+done text = record { status = statuses.Done; out = text; err = [] }
+
+-- a status with its line, and nothing for the output
+abbrev pub refusal : Status → List ℕ → Answer
+refusal status line = record { status = status; out = []; err = line }
+
+pub data Course : Type 0 where
+  -- what is answered
+  ends : Answer → Course
+  -- a document, under limits: what is answered where it is refused, and what follows by what it is
+  loads : Limits → List ℕ → (XmlFault → Answer) → (profile.Document → Course) → Course
+  -- a file that is taken whole, of at most so many bytes: what is answered where it is longer, and what follows by its bytes
+  takes : ℕ → List ℕ → Answer → (List ℕ → Course) → Course
+
+abbrev pub by_result : {T E A : Type 0} → (E → A) → (T → A) → Result T E → A
+by_result fails goes (Ok t) = goes t
+by_result fails goes (Err e) = fails e
+
+abbrev pub by_test : {A : Type 0} → A → A → Bool → A
+by_test fails goes true = goes
+by_test fails goes false = fails
+
+abbrev pub is_within : ℕ → List ℕ → Bool
+is_within limit bytes = nat_le (length bytes) limit
+
+-- what is answered where the files hold this
+abbrev pub answer_of : Course → Files → Answer
+answer_of (ends answer) files = answer
+answer_of (loads limits name refused next) files = by_result refused (λ found. answer_of (next found) files) (document limits (bytes_under name files))
+answer_of (takes limit name too_long next) files =
+    by_test too_long (answer_of (next (bytes_under name files)) files) (is_within limit (bytes_under name files))
+
+-- how many files are opened until then
+abbrev pub readings : Course → Files → ℕ
+readings (ends answer) files = 0
+readings (loads limits name refused next) files = suc (by_result (λ fault. 0) (λ found. readings (next found) files) (document limits (bytes_under name files)))
+readings (takes limit name too_long next) files = suc (by_test 0 (readings (next (bytes_under name files)) files) (is_within limit (bytes_under name files)))
+
+-- a document that is refused, which ends the job
+pub record Load : Type 0 where
+  pub limits : Limits
+  pub name : List ℕ
+
+abbrev pub refused_load : Course → Files → Option Load
+refused_load (ends answer) files = None
+refused_load (loads limits name refused next) files =
+    by_result (λ fault. Some (record { limits = limits; name = name })) (λ found. refused_load (next found) files) (document limits (bytes_under name files))
+refused_load (takes limit name too_long next) files =
+    by_test None (refused_load (next (bytes_under name files)) files) (is_within limit (bytes_under name files))
+
+-- ---- the files of a job
+
+-- how large a document may be
+abbrev pub document_limits : Limits
+document_limits = record { bytes = 16777216; nodes = 1000000; depth = 100; attributes = 64; name = 200; names = 10000 }
+
+-- how large a file of code lists may be
+abbrev pub list_limit : ℕ
+list_limit = 4194304
+
+-- a document by its name, and what follows by what it is
+abbrev pub document_course : List ℕ → (profile.Document → Course) → Course
+document_course name next = loads document_limits name (λ fault. refusal statuses.DocumentRefused (document_line name fault)) next
+
+-- what follows by the lists of a file, or its refusal
+abbrev pub by_lists : List ℕ → (Lists → Course) → Result Lists ListFault → Course
+by_lists name next found = by_result (λ fault. ends (refusal statuses.RulesRefused (list_line name fault))) next found
+
+-- a file of code lists by its name, and what follows by its lists
+abbrev pub lists_course : List ℕ → (Lists → Course) → Course
+lists_course name next = takes list_limit name (refusal statuses.RulesRefused (too_long_line name)) (λ bytes. by_lists name next (file_lists bytes))

@@ -1,0 +1,4 @@
+pub mod Lines
+pub mod Course
+pub mod Outside
+pub mod Runs

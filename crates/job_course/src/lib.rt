@@ -1,0 +1,11 @@
+//! A job that reads files one after another and ends with an answer: the files loaded or taken, the one line of each refusal, and the
+//! statuses.
+#![tactic(auto)]
+
+mod files;
+mod status;
+mod telling;
+
+pub use files::{load_document, take_lists};
+pub use status::Status;
+pub use telling::{tell_bad_word, tell_document_fault, tell_read_fault};

@@ -4,8 +4,7 @@ ghost use Rattle.node_arena.specs.Moves.{tree_nodes, tree_node};
 ghost use Rattle.bind_meaning.specs.Elements as spec;
 ghost use Rattle.bind_meaning.specs.Names.{has_plain_name};
 
-use bind_values::is_same_text;
-use inv_base::Steps;
+use inv_base::{Steps, is_same_text};
 use node_arena::{Doc, NodeId};
 use std::alloc::{AllocError, Global};
 use std::sync::ledger::Ledger;

@@ -8,8 +8,8 @@ ghost use Rattle.bind_faults.specs.Kinds.{is_other, is_other_at};
 
 use crate::attributes::attributes_named;
 use bind_rows::Check;
-use bind_values::{is_blank, is_same_text, trimmed};
-use inv_base::Steps;
+use inv_base::{Steps, is_same_text};
+use inv_terms::{is_blank, trimmed};
 use node_arena::{Doc, NodeId};
 use std::alloc::{AllocError, Global};
 use std::sync::ledger::Ledger;

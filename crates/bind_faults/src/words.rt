@@ -4,7 +4,8 @@ ghost use Rattle.inv_terms.specs.Values.{trimmed};
 ghost use Rattle.bind_meaning.specs.Elements.{is_one_of};
 ghost use Rattle.bind_meaning.specs.Judging.{words};
 
-use bind_values::{is_same_text, trimmed};
+use inv_base::is_same_text;
+use inv_terms::trimmed;
 
 /// Whether the text, without the white space around it, is `true`, `false`, `1` or `0`.
 pub fn is_word(text: &str) -> bool

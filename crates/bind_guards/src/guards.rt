@@ -7,9 +7,10 @@ ghost use Rattle.bind_guards.specs.Found as spec;
 
 use crate::chains::chains_lead_on;
 use crate::names::{FoundLeaf, find_element, find_leaf, has_name};
-use crate::strings::{is_blank, is_trimmed};
+use crate::strings::is_trimmed;
 use bind_rows::{Copied, ElementName, Guard, Many, Test};
 use inv_base::{Steps, Txt};
+use inv_terms::is_blank;
 use node_arena::{Doc, NodeId};
 use std::alloc::{AllocError, Global};
 use std::sync::ledger::Ledger;

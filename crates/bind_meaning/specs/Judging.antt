@@ -139,14 +139,25 @@ causes nodes lists c before t =
     ∷ (record { kind = kinds.CurrencyDiffers; holds = λ _. is_foreign nodes c t }
     ∷ (record { kind = kinds.Disagree; holds = λ _. is_disagreeing before t } ∷ [])))))
 
--- ordered by the node, then by the row
-abbrev pub place_at : Pick → List ℕ
-place_at pick = pick.node ∷ (0 ∷ (pick.place ∷ []))
+abbrev pub rank : BindKind → ℕ
+rank kinds.UnknownRoot = 0
+rank kinds.Excess = 1
+rank kinds.ElementInValue = 2
+rank kinds.BadValue = 3
+rank kinds.CodeNotListed = 4
+rank kinds.CurrencyDiffers = 5
+rank kinds.Disagree = 6
+rank kinds.Missing = 7
+rank kinds.Memory = 8
+
+-- ordered by the node, then by the row, then by the kind
+abbrev pub place_at : Pick → BindKind → List ℕ
+place_at pick kind = pick.node ∷ (0 ∷ (pick.place ∷ (rank kind ∷ [])))
 
 abbrev pub fault_of : List Node → Lists → Currencies → Option Told → Told → List Found
 fault_of nodes lists c before t = elim (first_cause (causes nodes lists c before t)) [
   | None ↦ []
-  | Some kind ↦ found (place_at t.placed.pick) kind (names.Term t.said.term) t.placed.pick.node ∷ []
+  | Some kind ↦ found (place_at t.placed.pick kind) kind (names.Term t.said.term) t.placed.pick.node ∷ []
 ]
 
 -- of each, with those before it
@@ -161,7 +172,7 @@ words = codes "true" ∷ (codes "false" ∷ (codes "1" ∷ (codes "0" ∷ [])))
 
 abbrev pub wrong_word : List Node → Pick → List Found
 wrong_word nodes pick = elim pick.row.check [
-  | (checks.Indicator term) ↦ elim (is_one_of words (trimmed (string_at nodes pick.node))) [ true ↦ [] | false ↦ found (place_at pick) kinds.BadValue (names.Term term) pick.node ∷ [] ]
+  | (checks.Indicator term) ↦ elim (is_one_of words (trimmed (string_at nodes pick.node))) [ true ↦ [] | false ↦ found (place_at pick kinds.BadValue) kinds.BadValue (names.Term term) pick.node ∷ [] ]
   | _ ↦ []
 ]
 

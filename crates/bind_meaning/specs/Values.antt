@@ -9,6 +9,7 @@ use Rattle.inv_terms.specs.declared.values.Value.{Value}
 use Rattle.inv_terms.specs.declared.values.Value.TheVariants as values
 use Rattle.inv_terms.specs.Values.{is_blank, trimmed, value_of}
 use Rattle.term_table.specs.declared.terms.Letter.{Letter}
+use Rattle.term_table.specs.declared.terms.Letter.TheVariants as letters
 use Rattle.term_table.specs.declared.terms.TermRow.{TermRow}
 use Rattle.term_table.specs.SemanticModel.{same_term, terms}
 use Rattle.bind_rows.specs.declared.rows.Form.{Form}
@@ -61,8 +62,9 @@ is_subject_character c = is_within 65 90 c || is_within 48 57 c
 abbrev pub plain_note : List ℕ → List Said
 plain_note string = record { term = note; value = by_type note string } ∷ []
 
+-- The note comes first: what is wrong with both is told of it.
 abbrev pub coded : List ℕ → List ℕ → List Said
-coded code text = record { term = subject_code; value = by_type subject_code code } ∷ (record { term = note; value = by_type note text } ∷ [])
+coded code text = record { term = note; value = by_type note text } ∷ (record { term = subject_code; value = by_type subject_code code } ∷ [])
 
 abbrev pub note_behind : List ℕ → ℕ → ℕ → ℕ → ℕ → ℕ → List ℕ → List Said
 note_behind string first a b c last text = elim ((first == 35) && (last == 35)) [
@@ -76,12 +78,28 @@ note_of string = plain_note string
 
 -- ---- by the form
 
--- A form that isn't one for the row's term counts for nothing.
 abbrev pub is_term : ℕ → Term → Bool
 is_term n term = (term.number == n) && (term.part == 0)
 
+abbrev pub is_day : Option Letter → Bool
+is_day letter = elim letter [ Some letters.D ↦ true | _ ↦ false ]
+
+-- The form is one for the term: a day without dashes for a term of that type, BT-8 by UNTDID 2475, BT-22 behind its subject code.
+abbrev pub suits : Form → Term → Bool
+suits forms.Model term = true
+suits forms.PlainDate term = is_day (letter_of term)
+suits forms.DueDateTypeCode term = is_term 8 term
+suits forms.CodedNote term = is_term 22 term
+
+-- A form that isn't one for the row's term counts for nothing.
+abbrev pub form_for : Form → Term → Form
+form_for form term = elim (suits form term) [ true ↦ form | false ↦ forms.Model ]
+
+abbrev pub said_in : Form → Term → List ℕ → List Said
+said_in forms.Model term string = record { term = term; value = by_type term string } ∷ []
+said_in forms.PlainDate term string = record { term = term; value = plain_date string } ∷ []
+said_in forms.DueDateTypeCode term string = record { term = term; value = due_date_type string } ∷ []
+said_in forms.CodedNote term string = note_of string
+
 abbrev pub said : Form → Term → List ℕ → List Said
-said forms.Model term string = record { term = term; value = by_type term string } ∷ []
-said forms.PlainDate term string = record { term = term; value = plain_date string } ∷ []
-said forms.DueDateTypeCode term string = record { term = term; value = due_date_type string } ∷ []
-said forms.CodedNote term string = note_of string
+said form term string = said_in (form_for form term) term string

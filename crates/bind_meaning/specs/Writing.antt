@@ -20,7 +20,7 @@ use Rattle.bind_rows.specs.declared.rows.Form.TheVariants as forms
 use Rattle.bind_rows.specs.declared.rows.Content.TheVariants as contents
 use Rattle.bind_rows.specs.declared.rows.Written.{Written}
 use Rattle.bind_rows.specs.declared.rows.Written.TheVariants as written
-use Rattle.bind_meaning.specs.Values.{Image, images, subject_code}
+use Rattle.bind_meaning.specs.Values.{Image, images, subject_code, form_for}
 
 -- the slot, where rows of this context have one
 abbrev pub slot_for : Option Group → Option Slot → Option Slot
@@ -98,7 +98,7 @@ filled _ es c = None
 abbrev pub term_text : Row → List Entry → Term → Context → Option (List ℕ)
 term_text row es term c = elim (value_in es term c) [
   | None ↦ filled row.written es c
-  | Some value ↦ if_due row.written es term c (formed row.form es c value)
+  | Some value ↦ if_due row.written es term c (formed (form_for row.form term) es c value)
 ]
 
 -- what a row with a term writes in a context

@@ -1,10 +1,13 @@
-//! What a document says as an invoice by a table of rows, and what is wrong with it: definitions, and the types of picks and of faults.
+//! What a document says as an invoice by a table of rows, and what is wrong with it: definitions, the types of picks and
+//! of faults, and which form a row writes a term in.
 #![tactic(auto)]
 
 mod fault;
+mod forms;
 mod picked;
 mod tables;
 
 pub use fault::{BindFault, BindKind};
+pub use forms::{form_for, letter_of};
 pub use picked::{Picked, Seated, SeatedPick};
 pub use tables::{Syntax, Which};

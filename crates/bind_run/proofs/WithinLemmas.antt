@@ -66,9 +66,9 @@ module _ (count : ℕ) where
   fault-at : (nodes : List Node) (lists : Lists) (c : Currencies) (before : Option Told) (t : Told) → is_told_at t → All is_at (fault_of nodes lists c before t)
   fault-at nodes lists c before t p = go (first_cause (causes nodes lists c before t))
     where
-      go : (o : Option BindKind) → All is_at (elim o [ None ↦ [] | Some kind ↦ found (place_at t.placed.pick) kind (names.Term t.said.term) t.placed.pick.node ∷ [] ])
+      go : (o : Option BindKind) → All is_at (elim o [ None ↦ [] | Some kind ↦ found (place_at t.placed.pick kind) kind (names.Term t.said.term) t.placed.pick.node ∷ [] ])
       go None = All-nil is_at
-      go (Some kind) = All-cons is_at (found (place_at t.placed.pick) kind (names.Term t.said.term) t.placed.pick.node) [] p (All-nil is_at)
+      go (Some kind) = All-cons is_at (found (place_at t.placed.pick kind) kind (names.Term t.said.term) t.placed.pick.node) [] p (All-nil is_at)
 
   faults-at : (nodes : List Node) (lists : Lists) (c : Currencies) (before ts : List Told) → All is_told_at ts → All is_at (faults_behind nodes lists c before ts)
   faults-at nodes lists c before [] all = All-nil is_at
@@ -88,12 +88,12 @@ module _ (count : ℕ) where
   wrong-at : (nodes : List Node) (pick : Pick) → pick.node < count → All is_at (wrong_word nodes pick)
   wrong-at nodes pick p = go pick.row.check
     where
-      by_word : (term : Term) (b : Bool) → All is_at (elim b [ true ↦ [] | false ↦ found (place_at pick) kinds.BadValue (names.Term term) pick.node ∷ [] ])
+      by_word : (term : Term) (b : Bool) → All is_at (elim b [ true ↦ [] | false ↦ found (place_at pick kinds.BadValue) kinds.BadValue (names.Term term) pick.node ∷ [] ])
       by_word term true = All-nil is_at
-      by_word term false = All-cons is_at (found (place_at pick) kinds.BadValue (names.Term term) pick.node) [] p (All-nil is_at)
+      by_word term false = All-cons is_at (found (place_at pick kinds.BadValue) kinds.BadValue (names.Term term) pick.node) [] p (All-nil is_at)
 
       go : (check : Check) → All is_at (elim check [
-        | (checks.Indicator term) ↦ elim (is_one_of words (trimmed (string_at nodes pick.node))) [ true ↦ [] | false ↦ found (place_at pick) kinds.BadValue (names.Term term) pick.node ∷ [] ]
+        | (checks.Indicator term) ↦ elim (is_one_of words (trimmed (string_at nodes pick.node))) [ true ↦ [] | false ↦ found (place_at pick kinds.BadValue) kinds.BadValue (names.Term term) pick.node ∷ [] ]
         | _ ↦ []
       ])
       go checks.Nothing = All-nil is_at

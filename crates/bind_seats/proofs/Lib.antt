@@ -1,5 +1,4 @@
 pub mod MarkLemmas
-pub mod TrimLemmas
 pub mod ListLemmas
 pub mod WayLemmas
 pub mod RisingLemmas

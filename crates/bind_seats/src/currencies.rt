@@ -9,10 +9,11 @@ ghost use Rattle.bind_seats.specs.Rowed.{AreWithin, pick_of};
 
 use crate::known::nodes_are_sound;
 use crate::rowed::has_term;
-use crate::texts::{is_blank, trimmed_string};
+use crate::texts::trimmed_string;
 use bind_meaning::Picked;
 use bind_rows::{Row, Same, Written};
 use inv_base::{Steps, Txt};
+use inv_terms::is_blank;
 use node_arena::{Doc, NodeId};
 use std::alloc::{AllocError, Global};
 use std::sync::ledger::Ledger;

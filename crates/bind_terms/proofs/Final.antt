@@ -24,7 +24,7 @@ use Rattle.bind_meaning.specs.declared.fault.BindFault.{BindFault}
 use Rattle.bind_meaning.specs.declared.picked.Picked.{Picked}
 use Rattle.bind_meaning.specs.declared.picked.SeatedPick.{SeatedPick}
 use Rattle.bind_meaning.specs.Currencies.{Currencies, currencies}
-use Rattle.bind_meaning.specs.Kept.{all_kept, all_kept_seats}
+use Rattle.bind_meaning.specs.Kept.{kept, all_kept, kept_seat, all_kept_seats}
 use Rattle.bind_meaning.specs.Picks.{Pick}
 use Rattle.bind_meaning.specs.Seats.{Placed, rooms}
 use Rattle.bind_meaning.specs.Judging.{Found, Told, seat_of, first_before, Cause, first_cause, causes, fault_of, faults_behind, wrong_word, missing_in, earlier, least, least_from, is_bad, is_excess, is_not_listed, is_foreign, is_disagreeing, breaks}
@@ -38,7 +38,7 @@ use Rattle.bind_terms.specs.Entries.{FitsFirst, entries_of}
 use Rattle.bind_terms.specs.Faults.{found_of, with_found, least_of}
 use Rattle.bind_terms.specs.Reading.{indicator_picks, term_places, reading, AreSorted}
 use Rattle.bind_terms.specs.Telling.{seat_of_first, first_of, Entries, told_place, arranged, is_placed, IsAtItsPlace, Holds}
-use Rattle.bind_terms.specs.Steps.{IsOfRow, IsPickOfRow, IsWithin, TellsAll}
+use Rattle.bind_terms.specs.Steps.{HasRow, IsOfRow, IsPickOfRow, IsWithin, TellsAll}
 use Rattle.bind_terms.proofs.Tolds.{append-nil, least-append}
 use Rattle.bind_terms.proofs.Listing.{Each, each-first, IsWhole, arranged-listed}
 use Rattle.bind_terms.proofs.Missing.{rooms-same}
@@ -195,6 +195,20 @@ module _ (nodes : List Node) (order : AreInOrder nodes) (some : 0 < length nodes
   indicators-within count indicators long e =
       subst (λ n. All (λ (p : Picked). p.node < n) indicators) long (subst (All (λ (p : Picked). p.node < length nodes)) (sym e)
       (kept-within nodes order some rows (in_order nodes (indicator_picks nodes rows)) (rows-sound nodes order some rows has_indicator)))
+
+  pub picks-rowed : (picks : List SeatedPick) → picks ≡ all_kept_seats (term_places nodes rows) → All (λ (p : SeatedPick). HasRow rows p.picked.row) picks
+  picks-rowed picks e =
+      subst (All (λ (p : SeatedPick). HasRow rows p.picked.row)) (sym e)
+      (All-map (λ (p : SeatedPick). HasRow rows p.picked.row) kept_seat (term_places nodes rows)
+      (All-weaker (IsOfRow rows) (λ p. HasRow rows (kept_seat p).picked.row) (λ p h. ap is_some h) (term_places nodes rows)
+      (seated-rows nodes order some rows (term_picks nodes (currencies nodes rows) rows) (terms-sound nodes order some rows (currencies nodes rows)))))
+
+  pub indicators-rowed : (indicators : List Picked) → indicators ≡ all_kept (in_order nodes (indicator_picks nodes rows)) → All (λ (p : Picked). HasRow rows p.row) indicators
+  indicators-rowed indicators e =
+      subst (All (λ (p : Picked). HasRow rows p.row)) (sym e)
+      (All-map (λ (p : Picked). HasRow rows p.row) kept (in_order nodes (indicator_picks nodes rows))
+      (All-weaker (IsPickOfRow rows) (λ p. HasRow rows (kept p).row) (λ p h. ap is_some h) (in_order nodes (indicator_picks nodes rows))
+      (kept-rows nodes order some rows (in_order nodes (indicator_picks nodes rows)) (rows-sound nodes order some rows has_indicator))))
 
   pub standing : (invoice : Option (List ℕ)) (picks : List SeatedPick) (es : Entries) (at_nodes : Option Found) → invoice ≡ (currencies nodes rows).invoice → picks ≡ all_kept_seats (term_places nodes rows)
       → TellsAll nodes lists invoice picks rows es at_nodes → Holds nodes lists (currencies nodes rows) (told nodes (term_places nodes rows)) es at_nodes

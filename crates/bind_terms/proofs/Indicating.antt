@@ -32,7 +32,7 @@ use Rattle.bind_terms.proofs.Sound.{IsSound, rows-sound, unordered-sound}
 
 abbrev word_by : List Node → Pick → Check → List Found
 word_by nodes pick check = elim check [
-  | (checks.Indicator term) ↦ elim (is_one_of words (trimmed (string_at nodes pick.node))) [ true ↦ [] | false ↦ found (place_at pick) kinds.BadValue (names.Term term) pick.node ∷ [] ]
+  | (checks.Indicator term) ↦ elim (is_one_of words (trimmed (string_at nodes pick.node))) [ true ↦ [] | false ↦ found (place_at pick kinds.BadValue) kinds.BadValue (names.Term term) pick.node ∷ [] ]
   | _ ↦ []
 ]
 
@@ -46,7 +46,7 @@ no-word nodes pick (checks.Indicator term) e h = absurd (false≢true (sym h))
 record IsWord (x : Found) (pick : Pick) : Type 0 where
   term : Term
   check : pick.row.check ≡ checks.Indicator term
-  is : found (place_at pick) kinds.BadValue (names.Term term) pick.node ≡ x
+  is : found (place_at pick kinds.BadValue) kinds.BadValue (names.Term term) pick.node ≡ x
 
 word-or : (b : Bool) (x one : Found) → Among x (elim b [ true ↦ [] | false ↦ one ∷ [] ]) → one ≡ x
 word-or true x one h = absurd h
@@ -134,7 +134,7 @@ module _ (nodes : List Node) (order : AreInOrder nodes) (some : 0 < length nodes
 
   one-word : (x y : Found) (p q : Pick) → IsWord x p → IsWord y q → row_numbered rows p.place ≡ Some p.row → row_numbered rows q.place ≡ Some q.row → x.place ≡ y.place → x ≡ y
   one-word x y p q a b e f same =
-      let places : place_at p ≡ place_at q = ap (λ (z : Found). z.place) a.is ∙ (same ∙ sym (ap (λ (z : Found). z.place) b.is)) in
+      let places : place_at p kinds.BadValue ≡ place_at q kinds.BadValue = ap (λ (z : Found). z.place) a.is ∙ (same ∙ sym (ap (λ (z : Found). z.place) b.is)) in
       let node : p.node ≡ q.node = cc in
       let place : p.place ≡ q.place = cc in
       let row : p.row ≡ q.row = same_Some _ _ (sym e ∙ (ap (row_numbered rows) place ∙ f)) in

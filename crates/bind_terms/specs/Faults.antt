@@ -1,12 +1,12 @@
 -- Faults as the code keeps them, and the first of faults found one after another.
 use Rattle.std.specs.Prelude.{ℕ, List, [], ◌∷◌, Option, Some, None}
-use Rattle.bind_meaning.specs.Judging.{Found, earlier}
+use Rattle.bind_meaning.specs.Judging.{Found, earlier, rank}
 use Rattle.bind_terms.specs.declared.found.Found.{Found as Kept}
 use Rattle.bind_terms.specs.declared.found.FaultPlace.{FaultPlace}
 use Rattle.bind_terms.specs.declared.found.FaultPlace.TheVariants as places
 
 abbrev pub place_of : FaultPlace → List ℕ
-place_of (places.At node row) = node ∷ (0 ∷ (row ∷ []))
+place_of (places.At node row kind) = node ∷ (0 ∷ (row ∷ (rank kind ∷ [])))
 place_of (places.Behind last around place) = last ∷ (1 ∷ (around ∷ place))
 
 abbrev pub found_of : Kept → Found

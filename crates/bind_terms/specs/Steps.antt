@@ -16,7 +16,7 @@ use Rattle.bind_meaning.specs.Seats.{Placed}
 use Rattle.bind_meaning.specs.Values.{Said}
 use Rattle.bind_meaning.specs.Currencies.{Currencies}
 use Rattle.bind_meaning.specs.Kept.{kept_seat, all_kept_seats}
-use Rattle.bind_meaning.specs.Judging.{Found, found, Told, told_by}
+use Rattle.bind_meaning.specs.Judging.{Found, found, rank, Told, told_by}
 use Rattle.bind_meaning.specs.Terms.{told}
 use Rattle.inv_base.specs.Tree.{Node}
 use Rattle.code_lists.specs.CodeFiles.{Lists}
@@ -28,6 +28,10 @@ use Rattle.bind_terms.specs.Telling.{Entries, kept_at, Holds}
 abbrev pub row_numbered : List Row → ℕ → Option Row
 row_numbered rows zero = None
 row_numbered rows (suc k) = slice_get rows k
+
+-- The number is that of a row.
+abbrev pub HasRow : List Row → ℕ → Type 0
+HasRow rows number = is_some (row_numbered rows number) ≡ true
 
 -- The pick's number is that of its row.
 abbrev pub IsOfRow : List Row → Placed → Type 0
@@ -62,7 +66,7 @@ kept_behind q entries place first = elim (kept_at place entries) [
 ]
 
 abbrev pub fault_at : BindKind → Picked → Term → Found
-fault_at kind picked term = found (picked.node ∷ (0 ∷ (picked.row ∷ []))) kind (names.Term term) picked.node
+fault_at kind picked term = found (picked.node ∷ (0 ∷ (picked.row ∷ (rank kind ∷ [])))) kind (names.Term term) picked.node
 
 abbrev pub faults_at : Option BindKind → Picked → Term → List Found
 faults_at kind picked term = elim kind [ None ↦ [] | Some k ↦ fault_at k picked term ∷ [] ]

@@ -5,7 +5,7 @@ ghost use Rattle.bind_meaning.specs.Kept.{kept, all_kept};
 ghost use Rattle.bind_meaning.specs.Picks.{Pick};
 ghost use Rattle.bind_meaning.specs.Judging.{wrong_word};
 ghost use Rattle.bind_terms.specs.Faults.{found_of, least_of};
-ghost use Rattle.bind_terms.specs.Steps.{IsPickOfRow};
+ghost use Rattle.bind_terms.specs.Steps.{IsPickOfRow, HasRow};
 
 use crate::found::{Found, earlier};
 use crate::telling::{fault_at, row_at};
@@ -27,7 +27,8 @@ pub(crate) fn with_wrong_words<L: Ledger>(
     least: Option<Found>,
     steps: &mut Steps<L>,
 ) -> Result<Option<Found>, AllocError>
-    requires { All (λ pick. pick.node < length doc.now.nodes) indicators.now }
+    requires within { All (λ pick. pick.node < length doc.now.nodes) indicators.now }
+    requires rows { All (λ pick. HasRow table.now pick.row) indicators.now }
     ensures { IfOk result (λ new. (picks : List Pick) → indicators.now ≡ all_kept picks → All (IsPickOfRow table.now) picks
         → option_map found_of new ≡ least_of (option_map found_of least) (flat_map (wrong_word (tree_nodes doc.now)) picks)) }
 {
@@ -46,13 +47,14 @@ fn with_word<L: Ledger>(
     least: Option<Found>,
     steps: &mut Steps<L>,
 ) -> Result<Option<Found>, AllocError>
-    requires { picked.node < length doc.now.nodes }
+    requires within { picked.node < length doc.now.nodes }
+    requires row { HasRow table.now picked.row }
     ensures { IfOk result (λ new. (pick : Pick) → kept pick ≡ picked → IsPickOfRow table.now pick
         → option_map found_of new ≡ least_of (option_map found_of least) (wrong_word (tree_nodes doc.now) pick)) }
 {
     match row_at(table, picked.row) {
         Some(row) => with_row(alloc, doc, row, picked, least, steps),
-        None => Err(AllocError),
+        None => unreachable!(),
     }
 }
 

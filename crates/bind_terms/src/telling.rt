@@ -10,7 +10,7 @@ ghost use Rattle.bind_meaning.specs.Terms.{told};
 ghost use Rattle.bind_values.specs.Sayings.{said_of, all_said, FitsIts};
 ghost use Rattle.bind_terms.specs.Faults.{found_of, least_of};
 ghost use Rattle.bind_terms.specs.Telling.{Holds, context_in, kept_at};
-ghost use Rattle.bind_terms.specs.Steps.{IsWithin, Tells, TellsPick, TellsOf, TellsAll, row_numbered, put_entry, kept_behind, faults_at, fault_at};
+ghost use Rattle.bind_terms.specs.Steps.{IsWithin, Tells, TellsPick, TellsOf, TellsAll, HasRow, row_numbered, put_entry, kept_behind, faults_at, fault_at};
 
 use crate::firsts::First;
 use crate::found::{FaultPlace, Found, earlier};
@@ -18,7 +18,7 @@ use bind_faults::first_cause;
 use bind_meaning::{BindFault, BindKind, Picked, Seated, SeatedPick};
 use bind_rows::{Content, Row};
 use bind_table::Binding;
-use bind_values::{Said, Sayings, said_values_fit_their_terms, suits, what_is_said};
+use bind_values::{Said, Sayings, said_values_fit_their_terms, what_is_said};
 use code_lists::CodeLists;
 use inv_base::Steps;
 use inv_lacks::Name;
@@ -71,6 +71,7 @@ pub(crate) fn tell_picks<L: Ledger>(
     steps: &mut Steps<L>,
 ) -> Result<Option<Found>, AllocError>
     requires within { All (IsWithin (length doc.now.nodes)) picks.now }
+    requires rows { All (λ pick. HasRow table.now pick.picked.row) picks.now }
     requires none { firsts.old.entries ≡ [] }
     ensures { IfOk result (λ least. TellsAll (tree_nodes doc.now) lists.now (option_map (λ text. chars text.now) invoice_currency.entry) picks.now table.now firsts.new.entries (option_map found_of least)) }
 {
@@ -103,7 +104,8 @@ fn tell_pick<L: Ledger>(
     least: Option<Found>,
     steps: &mut Steps<L>,
 ) -> Result<Option<Found>, AllocError>
-    requires { IsWithin (length doc.now.nodes) pick.now }
+    requires within { IsWithin (length doc.now.nodes) pick.now }
+    requires row { HasRow table.now pick.now.picked.row }
     ensures { IfOk result (λ new. TellsOf (tree_nodes doc.now) lists.now (option_map (λ text. chars text.now) invoice_currency.entry) pick.now table.now firsts.old.entries (option_map found_of least) firsts.new.entries (option_map found_of new)) }
 {
     match row_at(table, pick.picked.row) {
@@ -118,12 +120,11 @@ fn tell_pick<L: Ledger>(
             least,
             steps,
         ),
-        None => Err(AllocError),
+        None => unreachable!(),
     }
 }
 
-// The same by its row. A row whose form isn't one for its term can say what is no entry of any invoice: then there is no
-// answer. No built-in table has such a row.
+// The same by its row.
 fn tell_row<L: Ledger>(
     alloc: Global,
     doc: &Doc<'_>,
@@ -140,9 +141,6 @@ fn tell_row<L: Ledger>(
 {
     match row.content {
         Content::Term(term) => {
-            if !suits(row.form, term) {
-                return Err(AllocError);
-            }
             said_values_fit_their_terms();
             let string = doc.string(alloc, pick.picked.node, steps)?;
             let sayings = what_is_said(alloc, row.form, term, string.as_str())?;
@@ -304,6 +302,7 @@ pub(crate) fn fault_at(kind: BindKind, picked: Picked, term: Term) -> Found
         place: FaultPlace::At {
             node: picked.node.number(),
             row: picked.row,
+            kind,
         },
         fault: BindFault {
             kind,

@@ -1,4 +1,4 @@
--- What strings say by a form that suits the term, fits it.
+-- What strings say fits the terms that it is said of.
 use Rattle.std.proofs.Common.{◌≡◌, ℕ, ◌+◌, ◌/◌, ◌%◌, ◌^◌, ◌<◌, zero, suc, Bool, true, false, ◌&&◌, List, [], ◌∷◌, ◌++◌, Option, Some, None, refl, sym, ap, ◌∙◌, subst, arith}
 use Rattle.std.specs.Prelude.{nat_le, ◌==◌, not, codes, option_map, option_and_then, bytes_eq}
 use Rattle.std.specs.List.{list_all}
@@ -14,6 +14,7 @@ use Rattle.inv_decimal.specs.WrittenDay.{read_plain_day, read_dashed_day, dashed
 use Rattle.term_table.specs.declared.terms.Letter.{Letter}
 use Rattle.term_table.specs.declared.terms.Letter.TheVariants as letters
 use Rattle.term_table.specs.declared.terms.Term.{Term}
+use Rattle.term_table.specs.SemanticModel.{terms}
 use Rattle.term_table.proofs.GroupLemmas.{both}
 use Rattle.inv_terms.specs.declared.values.Value.{Value}
 use Rattle.inv_terms.specs.declared.values.Value.TheVariants as values
@@ -22,8 +23,11 @@ use Rattle.inv_terms.specs.Values.{is_blank, trimmed, value_of}
 use Rattle.inv_terms.proofs.TrimLemmas.{HasEnds, trimmed-between}
 use Rattle.bind_rows.specs.declared.rows.Form.{Form}
 use Rattle.bind_rows.specs.declared.rows.Form.TheVariants as forms
-use Rattle.bind_meaning.specs.Values.{Said, letter_of, by_type, plain_date, Image, images, image_among, due_date_type, subject_code, note, plain_note, coded, is_subject_character, note_behind, note_of, said}
-use Rattle.bind_values.specs.Sayings.{is_date, is_code, suits, FitsIts, AllFit}
+use Rattle.bind_meaning.specs.Values.{Said, letter_of, by_type, plain_date, Image, images, image_among, due_date_type, subject_code, note, plain_note, coded, is_subject_character, note_behind, note_of, is_term, is_day, suits, form_for, said_in, said}
+use Rattle.bind_values.specs.Sayings.{FitsIts, AllFit}
+
+same-number : (a b : ℕ) → (a == b) ≡ true → a ≡ b
+same-number a b h = grind (arith, nat_tests)
 
 -- ---- by the type of the term
 
@@ -37,7 +41,7 @@ by_type-fits term string value h = reads-by term string value (letter_of term) r
 
 -- ---- dates
 
-date-is : (letter : Option Letter) → is_date letter ≡ true → letter ≡ Some letters.D
+date-is : (letter : Option Letter) → is_day letter ≡ true → letter ≡ Some letters.D
 date-is (Some letters.D) h = refl
 date-is None h = absurd (false≢true h)
 date-is (Some letters.T) h = absurd (false≢true h)
@@ -47,17 +51,6 @@ date-is (Some letters.A) h = absurd (false≢true h)
 date-is (Some letters.Q) h = absurd (false≢true h)
 date-is (Some letters.P) h = absurd (false≢true h)
 date-is (Some letters.B) h = absurd (false≢true h)
-
-code-is : (letter : Option Letter) → is_code letter ≡ true → letter ≡ Some letters.C
-code-is (Some letters.C) h = refl
-code-is None h = absurd (false≢true h)
-code-is (Some letters.T) h = absurd (false≢true h)
-code-is (Some letters.I) h = absurd (false≢true h)
-code-is (Some letters.D) h = absurd (false≢true h)
-code-is (Some letters.A) h = absurd (false≢true h)
-code-is (Some letters.Q) h = absurd (false≢true h)
-code-is (Some letters.P) h = absurd (false≢true h)
-code-is (Some letters.B) h = absurd (false≢true h)
 
 -- a digit, a sign, a point
 is_plain : ℕ → Bool
@@ -154,6 +147,12 @@ images-fit term string value e h =
     (image-step term (record { written = codes "72"; code = codes "432" }) None value (bytes_eq (codes "72") string) e reads-432
     (λ k. absurd (let l : None ≡ Some value = k in cc)))) h
 
+due_date_term : (term : Term) → is_term 8 term ≡ true → letter_of term ≡ Some letters.C
+unfolding terms
+due_date_term term h =
+    let k = both (term.number == 8) (term.part == 0) h in
+    ap letter_of (λ i. record { number = (same-number term.number 8 k.0) i; part = (same-number term.part 0 k.1) i })
+
 -- ---- notes
 
 one-fits : (term : Term) (value : Option Value) → ((v : Value) → value ≡ Some v → Fits term v) → AllFit (record { term = term; value = value } ∷ [])
@@ -164,8 +163,8 @@ plain-fits string = one-fits note (by_type note string) (by_type-fits note strin
 
 coded-fits : (code text : List ℕ) → AllFit (coded code text)
 coded-fits code text =
-    All-cons FitsIts (record { term = subject_code; value = by_type subject_code code }) (record { term = note; value = by_type note text } ∷ [])
-    (by_type-fits subject_code code) (one-fits note (by_type note text) (by_type-fits note text))
+    All-cons FitsIts (record { term = note; value = by_type note text }) (record { term = subject_code; value = by_type subject_code code } ∷ [])
+    (by_type-fits note text) (one-fits subject_code (by_type subject_code code) (by_type-fits subject_code code))
 
 choice-fits : (b : Bool) (xs ys : List Said) → AllFit xs → AllFit ys → AllFit (elim b [ true ↦ xs | false ↦ ys ])
 choice-fits true xs ys h k = h
@@ -196,8 +195,15 @@ module _ (dashed : (d : CivilDay) → IsDay d → read_dashed_day (dashed_day_te
       let read = day-read w.0 (dashed w.0 (days _ w.0 w.1)) in
       subst (Fits term) w.2 (record { letter = letters.D; text = dashed_day_text w.0; typed = record { first = e }; read = read })
 
-  pub said-fits : (form : Form) (term : Term) (string : List ℕ) → suits form term ≡ true → AllFit (said form term string)
-  said-fits forms.Model term string h = one-fits term (by_type term string) (by_type-fits term string)
-  said-fits forms.PlainDate term string h = one-fits term (plain_date string) (λ v. date-fits term string v (date-is _ h))
-  said-fits forms.DueDateTypeCode term string h = one-fits term (due_date_type string) (λ v. images-fit term (trimmed string) v (code-is _ h))
-  said-fits forms.CodedNote term string h = note-fits string
+  suited-fits : (form : Form) (term : Term) (string : List ℕ) → suits form term ≡ true → AllFit (said_in form term string)
+  suited-fits forms.Model term string h = one-fits term (by_type term string) (by_type-fits term string)
+  suited-fits forms.PlainDate term string h = one-fits term (plain_date string) (λ v. date-fits term string v (date-is _ h))
+  suited-fits forms.DueDateTypeCode term string h = one-fits term (due_date_type string) (λ v. images-fit term (trimmed string) v (due_date_term term h))
+  suited-fits forms.CodedNote term string h = note-fits string
+
+  form-fits : (form : Form) (term : Term) (string : List ℕ) (b : Bool) → suits form term ≡ b → AllFit (said_in (elim b [ true ↦ form | false ↦ forms.Model ]) term string)
+  form-fits form term string true h = suited-fits form term string h
+  form-fits form term string false h = suited-fits forms.Model term string refl
+
+  pub said-fits : (form : Form) (term : Term) (string : List ℕ) → AllFit (said form term string)
+  said-fits form term string = form-fits form term string (suits form term) refl

@@ -1,4 +1,3 @@
 pub mod FitLemmas
 pub mod Fronts
 pub mod Images
-pub mod Trailing

@@ -4,10 +4,7 @@
 mod laws;
 mod notes;
 mod said;
-mod trimming;
 mod values;
 
 pub use laws::said_values_fit_their_terms;
-pub use said::{Said, Sayings, suits, what_is_said};
-pub use trimming::{is_blank, is_same_text, trimmed};
-pub use values::letter_of;
+pub use said::{Said, Sayings, what_is_said};

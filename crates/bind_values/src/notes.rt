@@ -2,12 +2,12 @@
 ghost use Rattle.std.specs.Prelude.{◌≡◌, ◌∷◌, [], chars, IfOk};
 ghost use Rattle.bind_meaning.specs.Values as spec;
 ghost use Rattle.bind_values.specs.Sayings.{all_said};
-ghost use Rattle.bind_values.specs.Notes.{IsFront, is_coded};
+ghost use Rattle.bind_values.specs.Notes.{IsFirst, IsFront, is_coded};
 
 use crate::said::{Said, Sayings};
-use crate::trimming::{first_of, is_blank};
 use crate::values::by_type;
 use inv_base::Txt;
+use inv_terms::is_blank;
 use std::alloc::{AllocError, Global};
 use term_table::Term;
 
@@ -44,6 +44,17 @@ pub(crate) fn note_of(alloc: Global, text: &str) -> Result<Sayings, AllocError>
             plain_note(alloc, text)
         }
         None => plain_note(alloc, text),
+    }
+}
+
+// The first character of a text, and what is behind it.
+fn first_of(text: &str) -> Option<(char, &str)>
+    ensures { IsFirst text.now result }
+{
+    let mut rest = text.chars();
+    match rest.next() {
+        Some(c) => Some((c, rest.as_str())),
+        None => None,
     }
 }
 
@@ -95,16 +106,13 @@ fn coded_note(alloc: Global, code: &[char], text: &str) -> Result<Sayings, Alloc
     ensures { IfOk result (λ sayings. all_said sayings ≡ spec.coded code.now (chars text.now)) }
 {
     let code = Txt::from_characters(alloc, code)?;
-    let subject = by_type(alloc, SUBJECT_CODE, code.as_str())?;
-    let note = by_type(alloc, NOTE, text)?;
-    Ok(Sayings::Two(
-        Said {
-            term: SUBJECT_CODE,
-            value: subject,
-        },
-        Said {
-            term: NOTE,
-            value: note,
-        },
-    ))
+    let note = Said {
+        term: NOTE,
+        value: by_type(alloc, NOTE, text)?,
+    };
+    let subject = Said {
+        term: SUBJECT_CODE,
+        value: by_type(alloc, SUBJECT_CODE, code.as_str())?,
+    };
+    Ok(Sayings::Two(note, subject))
 }

@@ -1,14 +1,15 @@
 //! What a string says by the form of a row.
 ghost use Rattle.std.specs.Prelude.{◌≡◌, chars, IfOk};
 ghost use Rattle.bind_meaning.specs.Values as spec;
-ghost use Rattle.bind_values.specs.Sayings.{all_said, suits};
+ghost use Rattle.bind_values.specs.Sayings.{all_said};
 
 use crate::notes::note_of;
-use crate::values::{by_type, due_date_type, letter_of, plain_date};
+use crate::values::{by_type, due_date_type, plain_date};
+use bind_meaning::form_for;
 use bind_rows::Form;
 use inv_terms::Value;
 use std::alloc::{AllocError, Global};
-use term_table::{Letter, Term};
+use term_table::Term;
 
 /// A value that a string says of a term. None where it is no value of the term.
 #[derive(Debug, Drop)]
@@ -17,14 +18,15 @@ pub struct Said {
     pub value: Option<Value>,
 }
 
-/// All that one string says: of one term, or of two where a note has its subject code in front of it.
+/// All that one string says: of one term, or of two, a note and the subject code in front of it.
 #[derive(Debug, Drop)]
 pub enum Sayings {
     One(Said),
     Two(Said, Said),
 }
 
-/// What the string says, by the form and the term of its row. It goes over the string a few times.
+/// What the string says, by the form and the term of its row; a form that isn't one for the term counts for nothing. It
+/// goes over the string a few times.
 pub fn what_is_said(
     alloc: Global,
     form: Form,
@@ -33,7 +35,7 @@ pub fn what_is_said(
 ) -> Result<Sayings, AllocError>
     ensures { IfOk result (λ sayings. all_said sayings ≡ spec.said form term (chars text.now)) }
 {
-    match form {
+    match form_for(form, term) {
         Form::Model => Ok(Sayings::One(Said {
             term,
             value: by_type(alloc, term, text)?,
@@ -47,18 +49,5 @@ pub fn what_is_said(
             value: due_date_type(alloc, text)?,
         })),
         Form::CodedNote => note_of(alloc, text),
-    }
-}
-
-/// Whether the form is one for values of the term's type: dates without dashes for a date, codes of UNTDID 2475 for a
-/// code. By such a form each value that a string says fits its term.
-pub fn suits(form: Form, term: Term) -> bool
-    ensures { result ≡ suits form term }
-{
-    match form {
-        Form::Model => true,
-        Form::PlainDate => matches!(letter_of(term), Some(Letter::D)),
-        Form::DueDateTypeCode => matches!(letter_of(term), Some(Letter::C)),
-        Form::CodedNote => true,
     }
 }

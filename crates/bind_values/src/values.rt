@@ -1,33 +1,16 @@
 //! Values by the type of a term, dates without dashes, and BT-8 by UNTDID 2475.
-ghost use Rattle.std.specs.Prelude.{◌≡◌, chars, find, IfOk, option_map};
-ghost use Rattle.term_table.specs.SemanticModel.{same_term};
+ghost use Rattle.std.specs.Prelude.{◌≡◌, chars, IfOk};
+ghost use Rattle.std.specs.List.{list_all};
+ghost use Rattle.inv_base.specs.Characters as characters;
 ghost use Rattle.bind_meaning.specs.Values as spec;
 ghost use Rattle.inv_terms.specs.declared.values.Value.TheVariants as values;
 
-use crate::trimming::{has_chars_alone, is_same_text, trimmed};
-use inv_base::Txt;
+use bind_meaning::letter_of;
+use inv_base::{Txt, is_char, is_same_text};
 use inv_decimal::Day;
-use inv_terms::Value;
+use inv_terms::{Value, trimmed};
 use std::alloc::{AllocError, Global};
-use term_table::{Letter, Term, TermRow, term_rows};
-
-/// The type of a term, which is one wherever the term stands. None of what is no business term.
-pub fn letter_of(term: Term) -> Option<Letter>
-    ensures { result ≡ spec.letter_of term }
-{
-    letter_among(term_rows(), term)
-}
-
-fn letter_among(rows: &[TermRow], term: Term) -> Option<Letter>
-    ensures { result ≡ option_map (λ row. row.letter) (find (λ row. same_term row.term term) rows.now) }
-{
-    'rows: for row in rows {
-        if row.term.is_same(term) {
-            return Some(row.letter);
-        }
-    }
-    None
-}
+use term_table::Term;
 
 /// The value that a string has by the type of the term.
 pub(crate) fn by_type(alloc: Global, term: Term, text: &str) -> Result<Option<Value>, AllocError>
@@ -37,6 +20,13 @@ pub(crate) fn by_type(alloc: Global, term: Term, text: &str) -> Result<Option<Va
         Some(letter) => Value::read(alloc, letter, text),
         None => Ok(None),
     }
+}
+
+// Whether each character is one that XML 1.0 has.
+fn has_chars_alone(text: &str) -> bool
+    ensures { result ≡ list_all characters.is_char (chars text.now) }
+{
+    text.chars().all(|c| is_char(c))
 }
 
 /// The date that a string `YYYYMMDD` says, with white space around it or none.

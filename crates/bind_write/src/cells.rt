@@ -4,7 +4,6 @@ ghost use Rattle.xml_write.specs.Calls.{call_attribute};
 ghost use Rattle.inv_terms.specs.Values.{spelled};
 ghost use Rattle.xml_write.specs.Writers.{state_of, Makes};
 ghost use Rattle.bind_meaning.specs.Trees as trees;
-ghost use Rattle.bind_meaning.specs.Values as meaning;
 ghost use Rattle.bind_write.specs.Sources as sources;
 ghost use Rattle.bind_write.specs.Wordings as wordings;
 ghost use Rattle.bind_write.specs.Cells as spec;
@@ -12,29 +11,17 @@ ghost use Rattle.bind_write.specs.Cells as spec;
 use crate::holding::{row_at, wording_of, writes};
 use crate::source::Source;
 use crate::wording::{Plain, Wording, text_of};
+use bind_meaning::letter_of;
 use bind_rows::{Content, Leaf, Namespace, Row, Step, Written};
 use bind_table::Line;
 use inv_base::{Sink, Txt};
 use inv_terms::{Value, value_in};
-use term_table::{Letter, ROOT, Term, term_rows};
+use term_table::{Letter, ROOT, Term};
 use xml_write::{WriteFault, Writer};
 
 const INVOICE_CURRENCY: Term = Term { number: 5, part: 0 };
 
 const ACCOUNTING_CURRENCY: Term = Term { number: 6, part: 0 };
-
-/// The type of a term, which is one wherever it stands.
-fn letter_of(term: Term) -> Option<Letter>
-    ensures { result ≡ meaning.letter_of term }
-{
-    let rows = term_rows();
-    'rows: for row in rows {
-        if row.term.is_same(term) {
-            return Some(row.letter);
-        }
-    }
-    None
-}
 
 fn is_ubl(namespace: Namespace) -> bool
     ensures { result ≡ trees.is_ubl namespace }

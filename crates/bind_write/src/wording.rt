@@ -11,6 +11,7 @@ ghost use Rattle.bind_meaning.specs.Values as meaning;
 ghost use Rattle.bind_write.specs.Sources as sources;
 ghost use Rattle.bind_write.specs.Wordings as spec;
 
+use bind_meaning::form_for;
 use bind_rows::{Content, Form, Row, Written};
 use inv_base::Txt;
 use inv_decimal::Day;
@@ -295,10 +296,10 @@ fn value_wording<'a>(
     value: &'a Value,
 ) -> Option<Wording<'a>>
     requires { IsInOrder (map listing.seat_of entries.now) }
-    ensures text { option_map spec.wording_text result ≡ writing.if_due row.now.written entries.now term context (writing.formed row.now.form entries.now context value.now) }
+    ensures text { option_map spec.wording_text result ≡ writing.if_due row.now.written entries.now term context (writing.formed (meaning.form_for row.now.form term) entries.now context value.now) }
     ensures plain { sources.is_note row.now.form ≡ false → spec.IsPlain result }
 {
-    let wording = formed(row.form, entries, context, value);
+    let wording = formed(form_for(row.form, term), entries, context, value);
     if is_due(&row.written, entries, term, context, &wording) {
         Some(wording)
     } else {

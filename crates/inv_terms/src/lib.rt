@@ -8,6 +8,7 @@ mod invoice;
 mod laws;
 mod listing;
 mod looking;
+mod spaces;
 mod values;
 
 pub use attachments::{AttachFault, attachment};
@@ -18,4 +19,5 @@ pub use laws::{
     push_refuses_what_makes_no_invoice, spelled_values_are_read_back,
 };
 pub use looking::value_in;
+pub use spaces::{is_blank, trimmed};
 pub use values::Value;

@@ -1,4 +1,4 @@
-ghost use Rattle.std.specs.Prelude.{◌≡◌, IfOk, chars, true, take, bytes_eq};
+ghost use Rattle.std.specs.Prelude.{◌≡◌, IfOk, chars, take, bytes_eq};
 ghost use Rattle.std.specs.Str.{IsAscii};
 ghost use Rattle.std.specs.Ordering.{int_cmp, is_eq};
 ghost use Rattle.inv_decimal.specs.CivilDay.{IsDay};
@@ -8,8 +8,9 @@ ghost use Rattle.std.specs.List.{list_all};
 ghost use Rattle.inv_base.specs.Characters.{is_char};
 ghost use Rattle.inv_terms.specs.Values as spec;
 
+use crate::spaces::{is_blank, trimmed};
 use code_lists::is_code;
-use inv_base::{Txt, is_char, is_white_space};
+use inv_base::{Txt, is_char};
 use inv_decimal::laws::printed_texts_are_ascii;
 use inv_decimal::{Day, Scaled};
 use std::alloc::{AllocError, Global};
@@ -135,7 +136,6 @@ fn is_same_number(a: &Scaled, b: &Scaled) -> bool
 
 // The value of a string of characters that XML 1.0 has.
 fn value_by(alloc: Global, letter: Letter, text: &str) -> Result<Option<Value>, AllocError>
-    requires { list_all is_char (chars text.now) ≡ true }
     ensures { IfOk result (λ value. value ≡ spec.value_by letter (chars text.now)) }
 {
     match letter {
@@ -160,7 +160,6 @@ fn text_of(alloc: Global, text: &str) -> Result<Option<Txt>, AllocError>
 }
 
 fn identifier_of(alloc: Global, text: &str) -> Result<Option<Txt>, AllocError>
-    requires { list_all is_char (chars text.now) ≡ true }
     ensures { IfOk result (λ t. t ≡ spec.identifier_of (chars text.now)) }
 {
     let identifier = trimmed(text);
@@ -171,7 +170,6 @@ fn identifier_of(alloc: Global, text: &str) -> Result<Option<Txt>, AllocError>
 }
 
 fn code_of(alloc: Global, text: &str) -> Result<Option<Txt>, AllocError>
-    requires { list_all is_char (chars text.now) ≡ true }
     ensures { IfOk result (λ t. t ≡ spec.code_of (chars text.now)) }
 {
     let code = trimmed(text);
@@ -185,19 +183,4 @@ fn has_chars_alone(text: &str) -> bool
     ensures { result ≡ list_all is_char (chars text.now) }
 {
     text.chars().all(|c| is_char(c))
-}
-
-fn is_blank(text: &str) -> bool
-    ensures { result ≡ spec.is_blank (chars text.now) }
-{
-    text.chars().all(|c| is_white_space(c))
-}
-
-// The text without the white space at both ends. What ASCII has as white space and XML 1.0 hasn't, the form feed, is no
-// character of XML 1.0 either.
-fn trimmed(text: &str) -> &str
-    requires { list_all is_char (chars text.now) ≡ true }
-    ensures { chars result.now ≡ spec.trimmed (chars text.now) }
-{
-    text.trim_ascii()
 }

@@ -7,7 +7,7 @@ use Rattle.bind_faults.proofs.NodeLists.{ordered, long}
 use Rattle.bind_terms.specs.Entries.{entries_of}
 use Rattle.bind_terms.specs.Faults.{found_of}
 use Rattle.bind_terms.specs.Telling.{seat_of_first}
-use Rattle.bind_terms.proofs.Final.{standing, picks-within, indicators-within, in-order, firsts-fit, told-fault, told-invoice}
+use Rattle.bind_terms.proofs.Final.{standing, picks-within, indicators-within, picks-rowed, indicators-rowed, in-order, firsts-fit, told-fault, told-invoice}
 use Rattle.bind_terms.proofs.judging.judged.Goals as goal
 
 some-nodes : (document : Document) → 1 < length document.nodes → 0 < length (tree_nodes document)
@@ -18,8 +18,18 @@ tell_picks-requires-clause-within g c =
     picks-within (tree_nodes c.args.doc.now) (ordered c.args.doc.now c.is_of_a_tree.ensures.numbers) (some-nodes c.args.doc.now c.is_of_a_tree.ensures.rooted) c.args.lists.now c.args.table.now
     _ c.args.picks.now (long c.args.doc.now) c.requires.picks
 
-pub with_wrong_words-requires : goal.with_wrong_words-requires
-with_wrong_words-requires g c =
+pub tell_picks-requires-clause-rows : goal.tell_picks-requires-clause-rows
+tell_picks-requires-clause-rows g c =
+    picks-rowed (tree_nodes c.args.doc.now) (ordered c.args.doc.now c.is_of_a_tree.ensures.numbers) (some-nodes c.args.doc.now c.is_of_a_tree.ensures.rooted) c.args.lists.now c.args.table.now
+    c.args.picks.now c.requires.picks
+
+pub with_wrong_words-requires-clause-rows : goal.with_wrong_words-requires-clause-rows
+with_wrong_words-requires-clause-rows g c =
+    indicators-rowed (tree_nodes c.args.doc.now) (ordered c.args.doc.now c.is_of_a_tree.ensures.numbers) (some-nodes c.args.doc.now c.is_of_a_tree.ensures.rooted) c.args.lists.now c.args.table.now
+    c.args.indicators.now c.requires.indicators
+
+pub with_wrong_words-requires-clause-within : goal.with_wrong_words-requires-clause-within
+with_wrong_words-requires-clause-within g c =
     indicators-within (tree_nodes c.args.doc.now) (ordered c.args.doc.now c.is_of_a_tree.ensures.numbers) (some-nodes c.args.doc.now c.is_of_a_tree.ensures.rooted) c.args.lists.now c.args.table.now
     _ c.args.indicators.now (long c.args.doc.now) c.requires.indicators
 

@@ -12,4 +12,4 @@ returns-in_ok-sayings-in-Term g c =
     tells-by-row c.tell_all.result (option_map found_of) (tree_nodes c.args.doc.now) c.args.lists.now (option_map (λ (text : Bor (List ℕ)). chars text.now) c.args.invoice_currency) c.args.pick.now c.args.row.now
     c.in-Term.term (all_said c.in_ok-sayings-in-Term.sayings) (chars c.as_str.result.now) c.args.firsts.now.entries c.tell_all.new.firsts.entries (option_map found_of c.args.least)
     c.in-Term.is c.in_ok-sayings-in-Term.ensures (c.as_str.ensures ∙ c.in_ok-string-in-Term.ensures.string)
-    (c.said_values_fit_their_terms.ensures c.args.row.now.form c.in-Term.term (chars c.as_str.result.now) (sym c.suits.ensures ∙ c.if-not-suits.false)) c.tell_all.ensures
+    (c.said_values_fit_their_terms.ensures c.args.row.now.form c.in-Term.term (chars c.as_str.result.now)) c.tell_all.ensures

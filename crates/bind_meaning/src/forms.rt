@@ -1,0 +1,52 @@
+//! The types of terms, and the forms in which their values are written.
+ghost use Rattle.std.specs.Prelude.{◌≡◌, find, option_map};
+ghost use Rattle.term_table.specs.SemanticModel.{same_term};
+ghost use Rattle.bind_meaning.specs.Values as spec;
+
+use bind_rows::Form;
+use term_table::{Letter, Term, TermRow, term_rows};
+
+/// The type of a term, which is one wherever the term stands. None of what is no business term.
+pub fn letter_of(term: Term) -> Option<Letter>
+    ensures { result ≡ spec.letter_of term }
+{
+    letter_among(term_rows(), term)
+}
+
+fn letter_among(rows: &[TermRow], term: Term) -> Option<Letter>
+    ensures { result ≡ option_map (λ row. row.letter) (find (λ row. same_term row.term term) rows.now) }
+{
+    'rows: for row in rows {
+        if row.term.is_same(term) {
+            return Some(row.letter);
+        }
+    }
+    None
+}
+
+/// The form in which a row writes the values of a term: its own, or that of the model where its own isn't one for the
+/// term.
+pub fn form_for(form: Form, term: Term) -> Form
+    ensures { result ≡ spec.form_for form term }
+{
+    if suits(form, term) { form } else { Form::Model }
+}
+
+// Whether the form is one for the term: a day without dashes for a term of that type, BT-8 by UNTDID 2475, BT-22 behind
+// its subject code.
+fn suits(form: Form, term: Term) -> bool
+    ensures { result ≡ spec.suits form term }
+{
+    match form {
+        Form::Model => true,
+        Form::PlainDate => matches!(letter_of(term), Some(Letter::D)),
+        Form::DueDateTypeCode => is_term(8, term),
+        Form::CodedNote => is_term(22, term),
+    }
+}
+
+fn is_term(number: u16, term: Term) -> bool
+    ensures { result ≡ spec.is_term number term }
+{
+    term.number == number && term.part == 0
+}

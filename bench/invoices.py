@@ -1,0 +1,107 @@
+#!/usr/bin/env python3
+"""Times `einv show` and `einv convert` beside `einv outline` of the same file, over invoices that are made here.
+
+    python3 bench/invoices.py [PROGRAM] [RUNS]
+
+PROGRAM is crates/einv/out/einv if it isn't given, RUNS 5. Prints two tables: invoices of 100, 1,000, 10,000 and 20,000 lines in UBL and in
+CII (each made from the UBL one by `einv convert`), with the times of outline, show, and convert to either syntax, and the ratios to
+outline; and hostile invoices, with what einv answers. Each time is the best of the runs, wall clock, start-up included, output to /dev/null.
+"""
+import pathlib
+import re
+import subprocess
+import sys
+import tempfile
+import time
+
+HOME = pathlib.Path(__file__).resolve().parent.parent
+
+
+def compact(text):
+    """Without comments, the declaration and white space between tags."""
+    text = re.sub(r"<\?.*?\?>|<!--.*?-->", "", text, flags=re.S)
+    return re.sub(r">\s+<", "><", text).strip()
+
+
+MODEL = compact((HOME / "examples" / "invoice-ubl.xml").read_text())
+FRONT, LINE = MODEL.split("<cac:InvoiceLine>")[0], MODEL.split("<cac:InvoiceLine>")[1]
+BACK = "</Invoice>"
+
+
+def line(number):
+    return "<cac:InvoiceLine>" + LINE.replace("<cbc:ID>1</cbc:ID>", "<cbc:ID>%d</cbc:ID>" % number, 1)
+
+
+def invoice(lines):
+    return FRONT + "".join(line(number) for number in range(1, lines + 1)) + BACK
+
+
+def behind(mark, piece):
+    """The model with the piece behind the first place of the mark."""
+    front, back = MODEL.split(mark, 1)
+    return front + mark + piece + back
+
+
+CHARGE = (
+    "<cac:AllowanceCharge><cbc:ChargeIndicator>true</cbc:ChargeIndicator>"
+    '<cbc:Amount currencyID="EUR">1</cbc:Amount></cac:AllowanceCharge>'
+)
+HOSTILE = {
+    "970,000 unknown children of the root": lambda: behind("<cbc:BuyerReference>Office 4</cbc:BuyerReference>", "<u/>" * 970_000),
+    "100,000 picks of one term": lambda: behind("<cbc:BuyerReference>Office 4</cbc:BuyerReference>", "<cbc:BuyerReference>x</cbc:BuyerReference>" * 100_000),
+    "120,000 charges inside one line": lambda: behind('<cbc:LineExtensionAmount currencyID="EUR">180.00</cbc:LineExtensionAmount>', CHARGE * 120_000),
+    "120,000 notes": lambda: behind("<cbc:InvoiceTypeCode>380</cbc:InvoiceTypeCode>", "<cbc:Note>a note</cbc:Note>" * 120_000),
+    "a note of 8 MB": lambda: behind("<cbc:Note>", "a note " * 1_150_000),
+    "200,000 parties": lambda: behind("</cac:AccountingCustomerParty>", "<cac:AccountingCustomerParty><cac:Party/></cac:AccountingCustomerParty>" * 200_000),
+}
+
+
+def run(words):
+    begun = time.perf_counter()
+    done = subprocess.run(words, stdin=subprocess.DEVNULL, stdout=subprocess.DEVNULL, stderr=subprocess.PIPE)
+    return time.perf_counter() - begun, done.stderr.decode(errors="replace").strip()
+
+
+def best(words, runs):
+    """The best time, and what was said on standard error at last."""
+    taken = [run(words) for _ in range(runs)]
+    return min(seconds for seconds, _ in taken), taken[-1][1]
+
+
+def main():
+    program = sys.argv[1] if len(sys.argv) > 1 else str(HOME / "crates/einv/out/einv")
+    runs = int(sys.argv[2]) if len(sys.argv) > 2 else 5
+    with tempfile.TemporaryDirectory() as folder:
+        path = pathlib.Path(folder) / "invoice.xml"
+        print("| Invoice | lines | MB | outline | show | convert to ubl | convert to cii | show / outline | to ubl / show | to cii / show |")
+        print("|---|---|---|---|---|---|---|---|---|---|")
+        for syntax in ("UBL", "CII"):
+            for lines in (100, 1_000, 10_000, 20_000):
+                path.write_text(invoice(lines))
+                if syntax == "CII":
+                    other = subprocess.run([program, "convert", "--to", "cii", str(path)], stdout=subprocess.PIPE, check=False).stdout
+                    if not other:
+                        print("| CII | %d | the invoice isn't converted within the limits |" % lines)
+                        continue
+                    path.write_bytes(other)
+                times = []
+                for words in (["outline"], ["show"], ["convert", "--to", "ubl"], ["convert", "--to", "cii"]):
+                    seconds, said = best([program, *words, str(path)], runs)
+                    if said:
+                        print("%s %d %s: %s" % (syntax, lines, " ".join(words), said.replace(str(path), "FILE")), file=sys.stderr)
+                    times.append(seconds)
+                outline, show, ubl, cii = times
+                figures = " | ".join("%.3f" % seconds for seconds in times)
+                ratios = " | ".join("%.2f" % ratio for ratio in (show / outline, ubl / show, cii / show))
+                print("| %s | %d | %.2f | %s | %s |" % (syntax, lines, path.stat().st_size / 1e6, figures, ratios))
+        print("\n| Hostile invoice | MB | outline | show | answer of show |")
+        print("|---|---|---|---|---|")
+        for name, make in HOSTILE.items():
+            path.write_text(make())
+            outline, _ = best([program, "outline", str(path)], 1)
+            show, said = best([program, "show", str(path)], 1)
+            answer = said.replace(str(path) + ": ", "") or "Done"
+            print("| %s | %.1f | %.3f | %.3f | %s |" % (name, path.stat().st_size / 1e6, outline, show, answer))
+
+
+main()

@@ -1,0 +1,9 @@
+//! How the value of an expression is listed for a person: a line an item, or the code of its error.
+#![tactic(auto)]
+
+mod codes;
+mod items;
+mod lines;
+
+pub use codes::code_name;
+pub use items::write_items;

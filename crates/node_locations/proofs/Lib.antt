@@ -1,0 +1,4 @@
+mod TextLemmas
+mod CountingLemmas
+mod LocationLemmas
+mod Rows

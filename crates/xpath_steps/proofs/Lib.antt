@@ -1,0 +1,6 @@
+pub mod WithinLemmas
+pub mod NodeLemmas
+pub mod PathLemmas
+pub mod SetLemmas
+pub mod ValueLemmas
+pub mod VariableLemmas

@@ -1,0 +1,4 @@
+pub mod Numbers
+pub mod Steps
+pub mod Sets
+pub mod Variables

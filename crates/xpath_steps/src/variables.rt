@@ -1,0 +1,117 @@
+//! The variables that are declared outside an expression, with their values.
+ghost use Rattle.std.specs.Prelude.{◌≡◌, ℕ, ◌++◌, ◌∷◌, [], length, take, chars, IfOk, OnOk, OnErr};
+ghost use Rattle.xpath_items.specs.Faults.{Gives};
+ghost use Rattle.xpath_meaning.specs.Meaning as meaning;
+ghost use Rattle.xpath_meaning.specs.Values as values;
+ghost use Rattle.xpath_operators.specs.Nodes.{AreWithin};
+ghost use Rattle.xpath_steps.specs.Variables as spec;
+
+use inv_base::{Txt, is_same_text};
+use std::alloc::{AllocError, Global};
+use std::marker::Model;
+use xpath_items::{Fault, Item, Outcome, Seq};
+
+/// A variable and its value.
+#[derive(Drop)]
+struct Variable<'a> {
+    name: Txt,
+    outcome: Outcome<'a>,
+}
+
+/// Variables with their values, of which the last of a name counts. Contracts see the list of them.
+#[derive(Drop)]
+pub struct Env<'a> {
+    alloc: Global,
+    variables: Vec<Variable<'a>>,
+}
+
+impl<'a> Model for Env<'a> {
+    ghost use Rattle.std.specs.Prelude.{List, ℕ};
+    ghost use Rattle.xpath_meaning.specs.Values.{Value as Answer};
+    ghost use Rattle.xpath_steps.specs.Variables.{variables_of};
+
+    ghost Value = { List (List ℕ × Answer) };
+
+    ghost view = { λ env. variables_of env.variables.items };
+}
+
+impl<'a> Env<'a> {
+    /// No variables.
+    pub fn new(alloc: Global) -> Env<'a>
+        ensures { result ≡ [] }
+    {
+        Env {
+            alloc,
+            variables: Vec::new(alloc),
+        }
+    }
+
+    /// Declares a variable behind the others. Without memory for it nothing changes.
+    pub fn push(&mut self, name: &str, outcome: Outcome<'a>) -> Result<(), AllocError>
+        ensures ok { OnOk result (self.new ≡ self.old ++ (chars name.now, values.value outcome.entry) ∷ []) }
+        ensures err { OnErr result (self.new ≡ self.old) }
+    {
+        let name = Txt::of(self.alloc, name)?;
+        self.variables.push(Variable { name, outcome })?;
+        Ok(())
+    }
+
+    /// Takes back all variables but the first n.
+    pub fn truncate(&mut self, n: usize)
+        ensures { self.new ≡ take n self.old }
+    {
+        self.variables.truncate(n);
+    }
+
+    /// How many variables there are.
+    pub fn len(&self) -> usize
+        ensures { result ≡ length self.now }
+    {
+        self.variables.len()
+    }
+
+    /// The value of the last variable of the name, or its error; where there is none, empty. It is searched from the last one
+    /// on, by one comparison of names each.
+    pub fn value_of(&self, alloc: Global, name: &str) -> Result<Seq<'a>, Fault>
+        ensures value { Gives result (meaning.outer_value (chars name.now) self.now) }
+        ensures within { (count : ℕ) → spec.ValuesWithin count self.now → IfOk result (λ items. AreWithin count items) }
+    {
+        last_value(alloc, &self.variables, name)
+    }
+}
+
+/// The same items once more.
+fn copied<'a>(alloc: Global, items: &[Item<'a>]) -> Result<Seq<'a>, AllocError>
+    ensures { IfOk result (λ copy. copy ≡ items.now) }
+{
+    let mut copy = Vec::with_capacity(alloc, items.len())?;
+    'items: for item in items {
+        copy.push(item.copied(alloc)?)?;
+    }
+    Ok(Seq::of_items(copy))
+}
+
+/// The value of an outcome, or its error.
+fn value_in<'a>(alloc: Global, outcome: &Outcome<'a>) -> Result<Seq<'a>, Fault>
+    ensures { Gives result (values.value outcome.now) }
+{
+    match outcome {
+        Outcome::Value(items) => Ok(copied(alloc, items.as_slice())?),
+        Outcome::Error(error) => Err(Fault::Error(*error)),
+    }
+}
+
+/// The value of the last variable of the name.
+fn last_value<'a>(alloc: Global, variables: &[Variable<'a>], name: &str) -> Result<Seq<'a>, Fault>
+    ensures { Gives result (meaning.outer_value (chars name.now) (spec.variables_of variables.now)) }
+{
+    let mut left = variables.len();
+    'variables: while left > 0 {
+        left -= 1;
+        let variable = &variables[left];
+        if is_same_text(name, variable.name.as_str()) {
+            return value_in(alloc, &variable.outcome);
+        }
+    }
+    Ok(Seq::new(alloc))
+}

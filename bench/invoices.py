@@ -104,4 +104,5 @@ def main():
             print("| %s | %.1f | %.3f | %.3f | %s |" % (name, path.stat().st_size / 1e6, outline, show, answer))
 
 
-main()
+if __name__ == "__main__":
+    main()

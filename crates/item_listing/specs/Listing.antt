@@ -10,7 +10,7 @@ use Rattle.node_locations.specs.Locations.{location}
 use Rattle.xpath_items.specs.declared.item.Item.{Item}
 use Rattle.xpath_items.specs.declared.item.Item.TheVariants as i
 use Rattle.xpath_items.specs.declared.outcome.DynError.{DynError}
-use Rattle.xpath_items.specs.declared.outcome.DynError.TheVariants as e
+use Rattle.error_codes.specs.Codes.{code_text}
 use Rattle.xpath_meaning.specs.Items.{string_at, boolean_text}
 use Rattle.xpath_meaning.specs.Values.{Value}
 use Rattle.xpath_operators.specs.Nodes.{AreWithin}
@@ -32,17 +32,7 @@ item_line nodes (i.String s) = line (encode_utf8_all (quoted s))
 item_line nodes (i.Untyped s) = line (encode_utf8_all (quoted s))
 item_line nodes (i.Date day) = line (dashed_day_text day)
 
--- the code of an error
-abbrev pub code_text : DynError → List ℕ
-code_text e.FOAR0001 = codes "FOAR0001"
-code_text e.FOAR0002 = codes "FOAR0002"
-code_text e.FORG0001 = codes "FORG0001"
-code_text e.FORG0006 = codes "FORG0006"
-code_text e.XPTY0004 = codes "XPTY0004"
-code_text e.XPTY0018 = codes "XPTY0018"
-code_text e.XPTY0019 = codes "XPTY0019"
-code_text e.XPTY0020 = codes "XPTY0020"
-
+-- the line of an error
 abbrev pub error_line : DynError → List ℕ
 error_line error = codes "error " ++ line (code_text error)
 

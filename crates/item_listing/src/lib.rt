@@ -5,5 +5,4 @@ mod codes;
 mod items;
 mod lines;
 
-pub use codes::code_name;
 pub use items::write_items;

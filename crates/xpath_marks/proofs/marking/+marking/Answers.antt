@@ -1,0 +1,82 @@
+use Rattle.std.proofs.Common.{◌≡◌, ◌∷◌, ap, sym, subst, false, ◌∙◌, take}
+use Rattle.xpath_meaning.specs.Expressions.{Exp}
+use Rattle.xpath_meaning.specs.Items.{is_empty}
+use Rattle.xpath_meaning.specs.Resolving.{all_inside, chained, chained_on, linked}
+use Rattle.xpath_plan.specs.Plans.{seen, label_of}
+use Rattle.xpath_run.specs.Contexts.{operands_of}
+use Rattle.xpath_marks.specs.Found.{all_reached}
+use Rattle.xpath_marks.specs.Marking.{Marked, Reached, FoundByStep, is_first_part, nodes_of, united_of}
+use Rattle.xpath_marks.proofs.TurnLemmas.{alone_is}
+use Rattle.xpath_marks.proofs.MarkingLemmas.{along_ok, nothing_found, none_of_none, chain_marked, others_marked, below_marked, inside_marked, beside_marked, otherwise_marked, chain_more}
+use Rattle.xpath_marks.proofs.marking.+marking.Goals as goal
+
+pub chain-returns-in_default-clause-marked : goal.chain-returns-in_default-clause-marked
+chain-returns-in_default-clause-marked g t c =
+    subst (λ ps. Marked c.args.ground.now (chained (operands_of c.args.ground.now.names.now ps)) c.new.result.items) (sym (none_of_none c.args.parts.now c.in_default.ensures.cases))
+    (λ p. nothing_found c.args.ground.now c.new.result.items c.new.ensures.items)
+
+pub found-returns-then-is_chain-clause-marked : goal.found-returns-then-is_chain-clause-marked
+found-returns-then-is_chain-clause-marked g t c =
+    let base = c.args.ground.now in
+    let lent = c.as_slice-then-is_chain.result.now in
+    along_ok c.chain.result (λ found. Marked base (chained (operands_of base.names.now lent)) found.items) (λ found. Marked base (seen base.names.now c.args.work.now) found.items)
+    (λ found m. chain_marked base c.args.work.now c.in-Node.kind c.in-Node.parts c.in-Node.is found.items (sym c.if-is_chain.ensures)
+    (subst (λ ps. Marked base (chained (operands_of base.names.now ps)) found.items) c.as_slice-then-is_chain.ensures m))
+    c.chain.ensures.marked
+
+pub found-returns-else-is_chain-clause-marked : goal.found-returns-else-is_chain-clause-marked
+found-returns-else-is_chain-clause-marked g t c =
+    let base = c.args.ground.now in
+    let first = c.in-Some.first.now in
+    let others = c.in-Some.others.now in
+    let kind = c.in-Node.kind in
+    let divided : c.in-Node.parts ≡ first ∷ others = sym c.as_slice.ensures ∙ c.in-Some.ensures.cases.0 in
+    let no : is_first_part kind first.0 (is_empty others) ≡ false = ap (is_first_part kind first.0) (alone_is others ∙ sym c.is_empty.ensures) ∙ sym c.if-is_first_part.ensures in
+    along_ok c.from_everywhere-else-is_chain.result (λ found. FoundByStep base (seen base.names.now c.args.work.now) found.items) (λ found. Marked base (seen base.names.now c.args.work.now) found.items)
+    (λ found f. others_marked base c.args.work.now kind c.in-Node.parts c.in-Node.is found.items first others divided no (sym c.if-is_chain.ensures) f)
+    c.from_everywhere-else-is_chain.ensures.marked
+
+pub link_on-returns-in-Below-clause-marked : goal.link_on-returns-in-Below-clause-marked
+link_on-returns-in-Below-clause-marked g t c =
+    let base = c.args.ground.now in
+    let f = seen base.names.now c.args.work.now in
+    along_ok c.reached.result (λ found. Reached base f c.as_slice.result.now found.items)
+    (λ found. (e : Exp) → Marked base e c.args.before.items → Marked base (linked e (label_of c.args.link) f) found.items)
+    (λ found r e m. below_marked base c.documents_are_walkable.ensures c.args.link e f c.args.before.items found.items m c.in-Below.ensures (subst (λ xs. Reached base f xs found.items) c.as_slice.ensures.value r))
+    c.reached.ensures.reached
+
+pub link_on-returns-in_ok-inside-in-Inside-clause-marked : goal.link_on-returns-in_ok-inside-in-Inside-clause-marked
+link_on-returns-in_ok-inside-in-Inside-clause-marked g t c =
+    let base = c.args.ground.now in
+    let f = seen base.names.now c.args.work.now in
+    let inside = c.in_ok-inside-in-Inside.inside.items in
+    let is : inside ≡ all_reached (nodes_of base) base.env.now all_inside c.args.before.items =
+    c.in_ok-inside-in-Inside.ensures.reached ∙ ap (all_reached (nodes_of base) base.env.now all_inside) c.as_slice-in-Inside.ensures.value in
+    along_ok c.reached-in-Inside.result (λ found. Reached base f c.as_slice-in-Inside-2.result.now found.items)
+    (λ found. (e : Exp) → Marked base e c.args.before.items → Marked base (linked e (label_of c.args.link) f) found.items)
+    (λ found r e m. inside_marked base c.documents_are_walkable.ensures c.args.link e f c.args.before.items found.items m inside c.in-Inside.ensures is (subst (λ xs. Reached base f xs found.items) c.as_slice-in-Inside-2.ensures.value r))
+    c.reached-in-Inside.ensures.reached
+
+pub link_on-returns-in_ok-other-in-Beside-clause-marked : goal.link_on-returns-in_ok-other-in-Beside-clause-marked
+link_on-returns-in_ok-other-in-Beside-clause-marked g t c =
+    let base = c.args.ground.now in
+    let f = seen base.names.now c.args.work.now in
+    let other = c.in_ok-other-in-Beside.other.items in
+    along_ok c.united.result (λ found. found.items ≡ united_of base c.args.before.items other)
+    (λ found. (e : Exp) → Marked base e c.args.before.items → Marked base (linked e (label_of c.args.link) f) found.items)
+    (λ found u e m. beside_marked base c.documents_are_walkable.ensures c.args.link e f c.args.before.items found.items m other c.in-Beside.ensures c.in_ok-other-in-Beside.ensures.marked u)
+    c.united.ensures.marked
+
+pub link_on-returns-in-Otherwise-clause-marked : goal.link_on-returns-in-Otherwise-clause-marked
+link_on-returns-in-Otherwise-clause-marked g t c = λ e m.
+    otherwise_marked c.args.ground.now c.args.link e (seen c.args.ground.now.names.now c.args.work.now) c.new.result.items c.in-Otherwise.ensures c.new.ensures.items
+
+pub links_on-parts-preserved : goal.links_on-parts-preserved
+links_on-parts-preserved g t c =
+    let base = c.args.ground.now in
+    record {
+      within = c.in_ok-before.ensures.within;
+      marked = λ e m. subst (λ x. Marked base x c.in_ok-before.before.items)
+          (sym (chain_more base c.args.parts.now c.parts.part-index c.part-item.result e c.part-item.is c.parts-test.true))
+          (c.in_ok-before.ensures.marked (chained_on e (operands_of base.names.now (take c.parts.part-index c.args.parts.now))) (c.parts.invariant.marked e m));
+    }

@@ -1,0 +1,21 @@
+use Rattle.std.proofs.Common.{◌≡◌, ◌∙◌, ap, sym, subst, true}
+use Rattle.node_arena.specs.Moves.{tree_nodes}
+use Rattle.xpath_plan.specs.Plans.{expression, seen}
+use Rattle.xpath_walks.specs.Tests.{numbers_of}
+use Rattle.xpath_marks.specs.Shapes.{is_pattern}
+use Rattle.xpath_marks.specs.Found.{all_found}
+use Rattle.xpath_marks.proofs.marks.marks_of.Goals as goal
+
+pub found-requires : goal.found-requires
+found-requires g c = record {
+  numbered = c.as_slice.ensures.value ∙ (c.in_ok-numbers.ensures ∙ ap (numbers_of c.args.doc.now.names) (c.names.ensures ∙ sym c.names-2.ensures));
+  variables = c.requires;
+  inside = tt;
+}
+
+pub returns-clause-marks : goal.returns-clause-marks
+returns-clause-marks g c = λ p.
+    let nodes = tree_nodes c.args.doc.now in
+    let is : seen c.names-2.result.now c.work.result.now ≡ expression c.args.plan.now = ap (λ names. seen names c.work.result.now) c.names-2.ensures ∙ ap (seen c.args.plan.now.names) c.work.ensures in
+    subst (λ e. is_pattern e ≡ true → c.in_ok-nodes.nodes.items ≡ all_found nodes c.args.env.now e) is c.in_ok-nodes.ensures.marked p
+    ∙ sym (c.marks_are_found.ensures nodes c.args.env.now (expression c.args.plan.now) c.documents_are_walkable.ensures.walkable p)

@@ -1,0 +1,123 @@
+//! All nodes of a document, and all that are inside some.
+ghost use Rattle.std.specs.Prelude.{◌≡◌, ◌<◌, ◌&&◌, ◌++◌, not, IfOk, IfSome, OnOk};
+ghost use Rattle.node_arena.specs.Moves.{tree_node, is_inside, is_attribute};
+ghost use Rattle.xpath_meaning.specs.Resolving as meaning;
+ghost use Rattle.xpath_run.specs.Contexts.{count};
+ghost use Rattle.xpath_marks.specs.Found.{all_reached};
+ghost use Rattle.xpath_meaning.specs.Patterns.{found_at};
+ghost use Rattle.xpath_marks.specs.Marking as spec;
+ghost use Rattle.xpath_marks.specs.Marking.{AreNodes, nodes_of};
+ghost use Rattle.xpath_walks.specs.Walks.{node_numbers};
+
+use inv_base::{Kind, Steps};
+use node_arena::NodeId;
+use std::alloc::AllocError;
+use std::sync::ledger::Ledger;
+use xpath_grammar::step::{Axis, KindTest};
+use xpath_plan::work::StepTest;
+use xpath_run::Ground;
+use xpath_walks::{Step, axis_nodes, documents_are_walkable, in_order};
+
+/// All nodes.
+pub(crate) fn all_nodes<L: Ledger>(
+    ground: &Ground<'_, '_>,
+    steps: &mut Steps<L>,
+) -> Result<Vec<NodeId>, AllocError>
+    ensures all { IfOk result (λ all. all.items ≡ node_numbers (nodes_of ground.now)) }
+    ensures within { IfOk result (λ all. AreNodes ground.now all.items) }
+{
+    documents_are_walkable(ground.doc);
+    let mut all = Vec::new(ground.alloc);
+    let mut next = Some(ground.doc.document());
+    'nodes: while let Some(n) = next {
+        all.push(n)?;
+        next = ground.doc.next_node(n, steps);
+    }
+    Ok(all)
+}
+
+/// Whether the node is no attribute and inside the other.
+fn is_covered_by<L: Ledger>(
+    ground: &Ground<'_, '_>,
+    around: NodeId,
+    n: NodeId,
+    steps: &mut Steps<L>,
+) -> bool
+    requires around { around < count ground.now }
+    requires within { n < count ground.now }
+    ensures { result ≡ (is_inside around (tree_node (nodes_of ground.now) n) && not (is_attribute (tree_node (nodes_of ground.now) n))) }
+{
+    documents_are_walkable(ground.doc);
+    let last = ground.doc.last_inside(around, steps);
+    around.number() < n.number() && n.number() <= last.number() && is_no_attribute(ground, n)
+}
+
+fn is_no_attribute(ground: &Ground<'_, '_>, n: NodeId) -> bool
+    requires { n < count ground.now }
+    ensures { result ≡ not (is_attribute (tree_node (nodes_of ground.now) n)) }
+{
+    match ground.doc.kind(n) {
+        Kind::Attribute => false,
+        Kind::Document | Kind::Element | Kind::Text => true,
+    }
+}
+
+/// Puts a node and all that is inside it but attributes behind the others.
+fn put_inside<L: Ledger>(
+    ground: &Ground<'_, '_>,
+    n: NodeId,
+    out: &mut Vec<NodeId>,
+    steps: &mut Steps<L>,
+) -> Result<(), AllocError>
+    requires { n < count ground.now }
+    ensures { OnOk result (out.new.items ≡ out.old.items ++ found_at (nodes_of ground.now) ground.now.env.now meaning.all_inside n) }
+{
+    let step = Step {
+        axis: Axis::DescendantOrSelf,
+        test: &StepTest::Kind(KindTest::Node),
+        numbers: &[],
+    };
+    axis_nodes(ground.doc, &step, n, out, steps)
+}
+
+/// Puts a node and what is inside it behind the others, unless another node is around it whose inside is out. Gives the node whose
+/// inside is out then.
+fn go_in<L: Ledger>(
+    ground: &Ground<'_, '_>,
+    around: Option<NodeId>,
+    n: NodeId,
+    out: &mut Vec<NodeId>,
+    steps: &mut Steps<L>,
+) -> Result<NodeId, AllocError>
+    requires around { IfSome around (λ m. m < count ground.now) }
+    requires within { n < count ground.now }
+    ensures { IfOk result (λ next. spec.GoesIn ground.now around n next out.old.items out.new.items) }
+{
+    match around {
+        Some(around) if is_covered_by(ground, around, n, steps) => Ok(around),
+        _ => {
+            put_inside(ground, n, out, steps)?;
+            Ok(n)
+        }
+    }
+}
+
+/// These nodes and all that is inside them but attributes, in document order. What is inside a node that was gone through isn't
+/// gone through again.
+pub(crate) fn all_inside<L: Ledger>(
+    ground: &Ground<'_, '_>,
+    from: &[NodeId],
+    steps: &mut Steps<L>,
+) -> Result<Vec<NodeId>, AllocError>
+    requires from { AreNodes ground.now from.now }
+    ensures reached { IfOk result (λ found. found.items ≡ all_reached (nodes_of ground.now) ground.now.env.now meaning.all_inside from.now) }
+    ensures within { IfOk result (λ found. AreNodes ground.now found.items) }
+{
+    documents_are_walkable(ground.doc);
+    let mut out = Vec::new(ground.alloc);
+    let mut around = None;
+    'from: for n in from {
+        around = Some(go_in(ground, around, *n, &mut out, steps)?);
+    }
+    Ok(in_order(out))
+}

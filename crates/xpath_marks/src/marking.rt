@@ -1,0 +1,214 @@
+//! What a pattern finds, by its parts.
+ghost use Rattle.std.specs.Prelude.{◌≡◌, [], IfOk};
+ghost use Rattle.xpath_meaning.specs.Expressions as x;
+ghost use Rattle.xpath_meaning.specs.Expressions.{Exp};
+ghost use Rattle.xpath_meaning.specs.Resolving.{chained, chained_on, linked};
+ghost use Rattle.xpath_plan.specs.Plans.{seen, label_of};
+ghost use Rattle.xpath_run.specs.Contexts.{IsReadyFor, operands_of};
+ghost use Rattle.xpath_marks.specs.Marking as spec;
+ghost use Rattle.xpath_marks.specs.Marking.{AreNodes, FoundByStep, Marked, united_of};
+
+use crate::inside::{all_inside, all_nodes};
+use crate::steps::{is_first_part, is_operator, reached};
+use inv_base::Steps;
+use node_arena::NodeId;
+use std::alloc::AllocError;
+use std::sync::ledger::Ledger;
+use xpath_plan::work::{Kind, Link, Simple, Work};
+use xpath_run::Ground;
+use xpath_tokens::token::Operator;
+use xpath_walks::{documents_are_walkable, in_order};
+
+/// How a part of a pattern is joined to what stands before it.
+#[derive(Clone, Copy)]
+enum Joining {
+    /// `/`
+    Below,
+    /// `//`
+    Inside,
+    /// `|`
+    Beside,
+    /// As in no pattern.
+    Otherwise,
+}
+
+fn joining_of(link: Link) -> Joining
+    ensures { result ≡ spec.joining_of link }
+{
+    match link {
+        Link::Operator(Operator::Slash) => Joining::Below,
+        Link::Operator(Operator::DoubleSlash) => Joining::Inside,
+        Link::Operator(Operator::Bar) => Joining::Beside,
+        _ => Joining::Otherwise,
+    }
+}
+
+/// What a step alone finds: what it reaches from some node.
+fn from_everywhere<L: Ledger>(
+    ground: &Ground<'_, '_>,
+    work: &Work,
+    steps: &mut Steps<L>,
+) -> Result<Vec<NodeId>, AllocError>
+    requires { IsReadyFor ground.now [] }
+    ensures marked { IfOk result (λ found. FoundByStep ground.now (seen ground.now.names.now work.now) found.items) }
+    ensures within { IfOk result (λ found. AreNodes ground.now found.items) }
+{
+    documents_are_walkable(ground.doc);
+    let all = all_nodes(ground, steps)?;
+    reached(ground, work, all.as_slice(), steps)
+}
+
+/// The document alone.
+fn the_root(ground: &Ground<'_, '_>) -> Result<Vec<NodeId>, AllocError>
+    ensures marked { IfOk result (λ found. Marked ground.now x.the_root found.items) }
+    ensures within { IfOk result (λ found. AreNodes ground.now found.items) }
+{
+    documents_are_walkable(ground.doc);
+    let mut found = Vec::new(ground.alloc);
+    found.push(ground.doc.document())?;
+    Ok(found)
+}
+
+fn is_root(simple: &Simple) -> bool
+    ensures { result ≡ spec.is_root simple.now }
+{
+    match simple {
+        Simple::Root => true,
+        _ => false,
+    }
+}
+
+fn is_chain(kind: &Kind) -> bool
+    ensures { result ≡ spec.is_chain kind.now }
+{
+    match kind {
+        Kind::Chain => true,
+        _ => false,
+    }
+}
+
+/// The nodes that the pattern finds from some node, in document order. Where it is no pattern, any nodes.
+#[cycle(marking)]
+pub(crate) fn found<L: Ledger>(
+    ground: &Ground<'_, '_>,
+    work: &Work,
+    steps: &mut Steps<L>,
+) -> Result<Vec<NodeId>, AllocError>
+    requires { IsReadyFor ground.now [] }
+    ensures marked { IfOk result (λ found. Marked ground.now (seen ground.now.names.now work.now) found.items) }
+    ensures within { IfOk result (λ found. AreNodes ground.now found.items) }
+{
+    match work {
+        Work::Simple(simple) => {
+            if is_root(simple) {
+                the_root(ground)
+            } else {
+                from_everywhere(ground, work, steps)
+            }
+        }
+        Work::Node(kind, parts) => {
+            let Some((first, others)) = parts.as_slice().split_first() else {
+                return from_everywhere(ground, work, steps);
+            };
+            if is_first_part(kind, first.0, others.is_empty()) {
+                found(ground, &first.1, steps)
+            } else if is_chain(kind) {
+                chain(ground, parts.as_slice(), steps)
+            } else {
+                from_everywhere(ground, work, steps)
+            }
+        }
+    }
+}
+
+/// Steps of a path or paths of a union, taken from the left. A path that begins with an operator begins at the root.
+#[cycle(marking)]
+fn chain<L: Ledger>(
+    ground: &Ground<'_, '_>,
+    parts: &[(Link, Work)],
+    steps: &mut Steps<L>,
+) -> Result<Vec<NodeId>, AllocError>
+    requires { IsReadyFor ground.now [] }
+    ensures marked { IfOk result (λ found. Marked ground.now (chained (operands_of ground.now.names.now parts.now)) found.items) }
+    ensures within { IfOk result (λ found. AreNodes ground.now found.items) }
+{
+    let Some((first, others)) = parts.split_first() else {
+        return Ok(Vec::new(ground.alloc));
+    };
+    if is_operator(first.0) {
+        let root = the_root(ground)?;
+        links_on(ground, root, parts, steps)
+    } else {
+        let before = found(ground, &first.1, steps)?;
+        links_on(ground, before, others, steps)
+    }
+}
+
+/// What parts find that are linked to what found these nodes.
+#[cycle(marking)]
+fn links_on<L: Ledger>(
+    ground: &Ground<'_, '_>,
+    before: Vec<NodeId>,
+    parts: &[(Link, Work)],
+    steps: &mut Steps<L>,
+) -> Result<Vec<NodeId>, AllocError>
+    requires ready { IsReadyFor ground.now [] }
+    requires before { AreNodes ground.now before.items }
+    ensures marked { IfOk result (λ found. (e : Exp) → Marked ground.now e before.items
+        → Marked ground.now (chained_on e (operands_of ground.now.names.now parts.now)) found.items) }
+    ensures within { IfOk result (λ found. AreNodes ground.now found.items) }
+{
+    let mut before = before;
+    'parts: for part in parts {
+        before = link_on(ground, before, part.0, &part.1, steps)?;
+    }
+    Ok(before)
+}
+
+/// What a part finds that is linked to what found these nodes.
+#[cycle(marking)]
+fn link_on<L: Ledger>(
+    ground: &Ground<'_, '_>,
+    before: Vec<NodeId>,
+    link: Link,
+    work: &Work,
+    steps: &mut Steps<L>,
+) -> Result<Vec<NodeId>, AllocError>
+    requires ready { IsReadyFor ground.now [] }
+    requires before { AreNodes ground.now before.items }
+    ensures marked { IfOk result (λ found. (e : Exp) → Marked ground.now e before.items
+        → Marked ground.now (linked e (label_of link) (seen ground.now.names.now work.now)) found.items) }
+    ensures within { IfOk result (λ found. AreNodes ground.now found.items) }
+{
+    documents_are_walkable(ground.doc);
+    match joining_of(link) {
+        Joining::Below => reached(ground, work, before.as_slice(), steps),
+        Joining::Inside => {
+            let inside = all_inside(ground, before.as_slice(), steps)?;
+            reached(ground, work, inside.as_slice(), steps)
+        }
+        Joining::Beside => {
+            let other = found(ground, work, steps)?;
+            united(ground, before, other)
+        }
+        Joining::Otherwise => Ok(Vec::new(ground.alloc)),
+    }
+}
+
+/// The nodes of both, in document order, each once.
+fn united(
+    ground: &Ground<'_, '_>,
+    before: Vec<NodeId>,
+    other: Vec<NodeId>,
+) -> Result<Vec<NodeId>, AllocError>
+    requires before { AreNodes ground.now before.items }
+    requires other { AreNodes ground.now other.items }
+    ensures marked { IfOk result (λ found. found.items ≡ united_of ground.now before.items other.items) }
+    ensures within { IfOk result (λ found. AreNodes ground.now found.items) }
+{
+    let mut both = before;
+    let mut other = other;
+    both.append(&mut other)?;
+    documents_are_walkable(ground.doc);
+    Ok(in_order(both))
+}

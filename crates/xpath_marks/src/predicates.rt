@@ -1,0 +1,105 @@
+//! What the predicates of a pattern's step keep of its nodes.
+ghost use Rattle.std.specs.Prelude.{◌≡◌, ◌<◌, ◌++◌, [], length, IfOk, OnOk};
+ghost use Rattle.xpath_meaning.specs.Patterns as patterns;
+ghost use Rattle.xpath_meaning.specs.Steps as meaning;
+ghost use Rattle.xpath_meaning.specs.Values.{then_};
+ghost use Rattle.xpath_plan.specs.Plans.{seen};
+ghost use Rattle.xpath_run.specs.Contexts.{IsReadyFor, count, operands_of};
+ghost use Rattle.xpath_walks.specs.Walks.{if_so};
+ghost use Rattle.xpath_marks.specs.Marking as spec;
+ghost use Rattle.xpath_marks.specs.Marking.{AreNodes};
+
+use inv_base::Steps;
+use node_arena::NodeId;
+use std::alloc::AllocError;
+use std::sync::ledger::Ledger;
+use xpath_items::{DynError, Fault, Focus, Item};
+use xpath_plan::work::{Link, Work};
+use xpath_run::{Ground, evaluate};
+use xpath_steps::keeps;
+
+/// Whether a predicate that comes to this keeps the node. An error doesn't.
+fn is_kept(answer: Result<bool, DynError>) -> bool
+    ensures { result ≡ patterns.is_kept answer }
+{
+    match answer {
+        Ok(kept) => kept,
+        Err(_) => false,
+    }
+}
+
+/// Whether the predicate keeps the node, which is the one at that position of so many.
+fn holds<L: Ledger>(
+    ground: &Ground<'_, '_>,
+    predicate: &Work,
+    n: NodeId,
+    position: u64,
+    last: u64,
+    steps: &mut Steps<L>,
+) -> Result<bool, AllocError>
+    requires ready { IsReadyFor ground.now [] }
+    requires within { n < count ground.now }
+    ensures { IfOk result (λ kept. kept ≡ patterns.is_kept (then_ (spec.judged ground.now (seen ground.now.names.now predicate.now) n position last) (meaning.keeps position))) }
+{
+    let focus = Focus {
+        item: Item::Node(n),
+        position,
+        last,
+    };
+    let mut bound = Vec::new(ground.alloc);
+    match evaluate(ground, predicate, &focus, &mut bound, steps) {
+        Ok(value) => Ok(is_kept(keeps(position, &value))),
+        Err(Fault::Memory) => Err(AllocError),
+        Err(Fault::Error(_)) => Ok(false),
+    }
+}
+
+/// Puts the node behind those that are kept, if it is.
+fn put_if(is_kept: bool, n: NodeId, kept: &mut Vec<NodeId>) -> Result<(), AllocError>
+    ensures { OnOk result (kept.new.items ≡ kept.old.items ++ if_so is_kept n) }
+{
+    if is_kept {
+        kept.push(n)?;
+    }
+    Ok(())
+}
+
+/// The nodes that the predicate keeps. They are gone through in this order.
+fn kept_by<L: Ledger>(
+    ground: &Ground<'_, '_>,
+    predicate: &Work,
+    nodes: Vec<NodeId>,
+    steps: &mut Steps<L>,
+) -> Result<Vec<NodeId>, AllocError>
+    requires ready { IsReadyFor ground.now [] }
+    requires within { AreNodes ground.now nodes.items }
+    ensures kept { IfOk result (λ kept. kept.items ≡ spec.kept_by ground.now (seen ground.now.names.now predicate.now) nodes.items) }
+    ensures within { IfOk result (λ kept. AreNodes ground.now kept.items) }
+{
+    let last = nodes.len() as u64;
+    let mut kept = Vec::new(ground.alloc);
+    'nodes: for (k, n) in nodes.iter().enumerate() {
+        let is_kept = holds(ground, predicate, *n, k as u64 + 1, last, steps)?;
+        put_if(is_kept, *n, &mut kept)?;
+    }
+    Ok(kept)
+}
+
+/// The nodes that all predicates keep, each given what the one before it kept.
+pub(crate) fn kept_by_all<L: Ledger>(
+    ground: &Ground<'_, '_>,
+    predicates: &[(Link, Work)],
+    nodes: Vec<NodeId>,
+    steps: &mut Steps<L>,
+) -> Result<Vec<NodeId>, AllocError>
+    requires ready { IsReadyFor ground.now [] }
+    requires within { AreNodes ground.now nodes.items }
+    ensures kept { IfOk result (λ kept. kept.items ≡ spec.kept_by_all ground.now (operands_of ground.now.names.now predicates.now) nodes.items) }
+    ensures within { IfOk result (λ kept. AreNodes ground.now kept.items) }
+{
+    let mut nodes = nodes;
+    'predicates: for predicate in predicates {
+        nodes = kept_by(ground, &predicate.1, nodes, steps)?;
+    }
+    Ok(nodes)
+}

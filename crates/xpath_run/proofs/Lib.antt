@@ -1,0 +1,15 @@
+pub mod WithinLemmas
+pub mod StackLemmas
+pub mod Continuing
+pub mod Costs
+pub mod LinkLemmas
+pub mod DepthLemmas
+pub mod CallLemmas
+pub mod CallWithin
+pub mod StrictLemmas
+pub mod TurnLaws
+pub mod GivesLemmas
+pub mod PartLemmas
+pub mod LoopLemmas
+pub mod TurnSteps
+pub mod SeenLemmas

@@ -1,0 +1,470 @@
+//! The evaluation of works. It recurses only where expressions are nested: operands, steps, predicates, arguments and
+//! bindings are gone through by loops.
+ghost use Rattle.std.specs.Prelude.{◌≡◌, ℕ, ◌<◌, ◌+◌, ◌∷◌, true, false, drop, length, take, IfOk, if◌then◌else◌};
+ghost use Rattle.node_arena.specs.Moves.{tree_nodes};
+ghost use Rattle.xpath_items.specs.Faults.{Gives};
+ghost use Rattle.xpath_meaning.specs.Meaning.{means};
+ghost use Rattle.xpath_meaning.specs.Resolving.{in_axis_order, chained, bound_all, chosen_of, filtered_of, arguments_of};
+ghost use Rattle.xpath_meaning.specs.Steps as steps_spec;
+ghost use Rattle.xpath_meaning.specs.Values as values_spec;
+ghost use Rattle.xpath_operators.specs.Nodes.{AreWithin, AllWithin};
+ghost use Rattle.xpath_plan.specs.Plans.{seen, made};
+ghost use Rattle.xpath_run.specs.Contexts.{IsReady, IsReadyFor, context, count, operands_of, turn_in, value_in};
+ghost use Rattle.xpath_run.specs.Finishing.{is_strict};
+ghost use Rattle.xpath_run.specs.Links as links;
+ghost use Rattle.xpath_steps.specs.Variables.{ValueWithin};
+
+use crate::calling::value_of;
+use crate::finishing::{finished, wanted};
+use crate::ground::Ground;
+use crate::linking::{Ahead, ahead_of, joined_by};
+use crate::parts::{append_found, as_step, is_filtered_step, is_operator, keep_if, part_at, sole};
+use crate::simple::{simple, simple_in_axis_order};
+use crate::turns::{Turn, advance, decided, ended, take_turn};
+use crate::values::Values;
+use inv_base::Steps;
+use std::alloc::AllocError;
+use std::sync::ledger::Ledger;
+use xpath_grammar::operators::Binder;
+use xpath_items::{DynError, Fault, Focus, Item, Outcome, Seq};
+use xpath_operators::{outcome, truth};
+use xpath_plan::work::{Kind, Link, Work};
+use xpath_steps::{all_nodes, document_ordered, keeps, of_turns, root_of, steps_over};
+use xpath_walks::Step;
+
+/// The value of a work at a focus, inside the variables that are bound around it.
+#[cycle(evaluating)]
+pub fn evaluate<'a, L: Ledger>(
+    ground: &Ground<'_, 'a>,
+    work: &Work,
+    focus: &Focus<'a>,
+    bound: &mut Vec<Item<'a>>,
+    steps: &mut Steps<L>,
+) -> Result<Seq<'a>, Fault>
+    requires { IsReady ground.now focus.now bound.old.items }
+    ensures value { Gives result (value_in ground.now (seen ground.now.names.now work.now) focus.now bound.old.items) }
+    ensures within { IfOk result (λ items. AreWithin (count ground.now) items) }
+    ensures kept { bound.new.items ≡ bound.old.items }
+{
+    match work {
+        Work::Simple(x) => simple(ground, x, focus, bound.as_slice(), steps),
+        Work::Node(kind, parts) => by_kind(ground, kind, parts.as_slice(), focus, bound, steps),
+    }
+}
+
+/// What a kind makes of its parts.
+#[cycle(evaluating)]
+fn by_kind<'a, L: Ledger>(
+    ground: &Ground<'_, 'a>,
+    kind: &Kind,
+    parts: &[(Link, Work)],
+    focus: &Focus<'a>,
+    bound: &mut Vec<Item<'a>>,
+    steps: &mut Steps<L>,
+) -> Result<Seq<'a>, Fault>
+    requires { IsReady ground.now focus.now bound.old.items }
+    ensures value { Gives result (value_in ground.now (made kind.now (operands_of ground.now.names.now parts.now)) focus.now bound.old.items) }
+    ensures within { IfOk result (λ items. AreWithin (count ground.now) items) }
+    ensures kept { bound.new.items ≡ bound.old.items }
+{
+    match kind {
+        Kind::Chain => chain(ground, parts, focus, bound, steps),
+        Kind::Bound(binder) => bind(ground, *binder, parts, focus, bound, steps),
+        Kind::Conditional => choose(ground, parts, focus, bound, steps),
+        Kind::FilteredStep => {
+            let items = filter(ground, true, parts, focus, bound, steps)?;
+            document_ordered(ground.alloc, ground.doc, items.as_slice())
+        }
+        Kind::Filtered => filter(ground, false, parts, focus, bound, steps),
+        Kind::Cast(_, _, _) | Kind::Signs(_) | Kind::Only | Kind::Call(_) | Kind::Nothing => {
+            let values = values_of(ground, wanted(kind, parts), focus, bound, steps)?;
+            finished(ground.alloc, ground.doc, kind, focus, values)
+        }
+    }
+}
+
+/// The values of all parts, or the first error.
+#[cycle(evaluating)]
+fn values_of<'a, L: Ledger>(
+    ground: &Ground<'_, 'a>,
+    parts: &[(Link, Work)],
+    focus: &Focus<'a>,
+    bound: &mut Vec<Item<'a>>,
+    steps: &mut Steps<L>,
+) -> Result<Values<'a>, Fault>
+    requires { IsReady ground.now focus.now bound.old.items }
+    ensures value { Gives result (means (tree_nodes ground.now.doc.now) (arguments_of (operands_of ground.now.names.now parts.now)) (context ground.now focus.now bound.old.items)) }
+    ensures within { IfOk result (λ values. AllWithin (count ground.now) values) }
+    ensures kept { bound.new.items ≡ bound.old.items }
+{
+    let mut values = Values::new(ground.alloc);
+    'parts: for part in parts {
+        match evaluate(ground, &part.1, focus, bound, steps) {
+            Ok(value) => values.push(value)?,
+            Err(fault) => return Err(fault),
+        }
+    }
+    Ok(values)
+}
+
+/// `if`.
+#[cycle(evaluating)]
+fn choose<'a, L: Ledger>(
+    ground: &Ground<'_, 'a>,
+    parts: &[(Link, Work)],
+    focus: &Focus<'a>,
+    bound: &mut Vec<Item<'a>>,
+    steps: &mut Steps<L>,
+) -> Result<Seq<'a>, Fault>
+    requires { IsReady ground.now focus.now bound.old.items }
+    ensures value { Gives result (value_in ground.now (chosen_of (operands_of ground.now.names.now parts.now)) focus.now bound.old.items) }
+    ensures within { IfOk result (λ items. AreWithin (count ground.now) items) }
+    ensures kept { bound.new.items ≡ bound.old.items }
+{
+    match parts {
+        [(_, condition), (_, then), (_, otherwise)] => {
+            let found = evaluate(ground, condition, focus, bound, steps)?;
+            let holds = truth(&found)?;
+            if holds {
+                evaluate(ground, then, focus, bound, steps)
+            } else {
+                evaluate(ground, otherwise, focus, bound, steps)
+            }
+        }
+        _ => Ok(Seq::new(ground.alloc)),
+    }
+}
+
+/// Operands with what stands between them, taken from the left. A path that begins with an operator begins at the root.
+#[cycle(evaluating)]
+fn chain<'a, L: Ledger>(
+    ground: &Ground<'_, 'a>,
+    parts: &[(Link, Work)],
+    focus: &Focus<'a>,
+    bound: &mut Vec<Item<'a>>,
+    steps: &mut Steps<L>,
+) -> Result<Seq<'a>, Fault>
+    requires { IsReady ground.now focus.now bound.old.items }
+    ensures value { Gives result (value_in ground.now (chained (operands_of ground.now.names.now parts.now)) focus.now bound.old.items) }
+    ensures within { IfOk result (λ items. AreWithin (count ground.now) items) }
+    ensures kept { bound.new.items ≡ bound.old.items }
+{
+    let Some((first, others)) = parts.split_first() else {
+        return Ok(Seq::new(ground.alloc));
+    };
+    if is_operator(first.0) {
+        let root = root_of(ground.alloc, ground.doc, &focus.item);
+        links_on(ground, outcome(root)?, parts, focus, bound, steps)
+    } else {
+        let found = evaluate(ground, &first.1, focus, bound, steps);
+        links_on(ground, outcome(found)?, others, focus, bound, steps)
+    }
+}
+
+/// The value of a chain behind a value.
+#[cycle(evaluating)]
+fn links_on<'a, L: Ledger>(
+    ground: &Ground<'_, 'a>,
+    before: Outcome<'a>,
+    parts: &[(Link, Work)],
+    focus: &Focus<'a>,
+    bound: &mut Vec<Item<'a>>,
+    steps: &mut Steps<L>,
+) -> Result<Seq<'a>, Fault>
+    requires ready { IsReady ground.now focus.now bound.old.items }
+    requires before { ValueWithin (count ground.now) (values_spec.value before) }
+    ensures value { Gives result (links.chain_value (tree_nodes ground.now.doc.now) (links.linked_parts ground.now.names.now parts.now) (values_spec.value before.entry) (context ground.now focus.now bound.old.items)) }
+    ensures within { IfOk result (λ items. AreWithin (count ground.now) items) }
+    ensures kept { bound.new.items ≡ bound.old.items }
+{
+    let mut so_far = before;
+    'parts: for part in parts {
+        so_far = link_on(ground, so_far, part.0, &part.1, focus, bound, steps)?;
+    }
+    value_of(so_far)
+}
+
+/// The value of an operand that is linked to a value.
+#[cycle(evaluating)]
+fn link_on<'a, L: Ledger>(
+    ground: &Ground<'_, 'a>,
+    before: Outcome<'a>,
+    link: Link,
+    work: &Work,
+    focus: &Focus<'a>,
+    bound: &mut Vec<Item<'a>>,
+    steps: &mut Steps<L>,
+) -> Result<Outcome<'a>, AllocError>
+    requires ready { IsReady ground.now focus.now bound.old.items }
+    requires before { ValueWithin (count ground.now) (values_spec.value before) }
+    ensures value { IfOk result (λ outcome. values_spec.value outcome ≡ links.linked_value (tree_nodes ground.now.doc.now) link (values_spec.value before.entry)
+        (seen ground.now.names.now work.now) (context ground.now focus.now bound.old.items)) }
+    ensures within { IfOk result (λ outcome. ValueWithin (count ground.now) (values_spec.value outcome)) }
+    ensures kept { bound.new.items ≡ bound.old.items }
+{
+    match ahead_of(ground, before, link, steps)? {
+        Ahead::Done(done) => Ok(done),
+        Ahead::Operand(xs) => match evaluate(ground, work, focus, bound, steps) {
+            Ok(ys) => outcome(joined_by(ground, link, xs, ys)),
+            Err(Fault::Error(error)) => Ok(Outcome::Error(error)),
+            Err(Fault::Memory) => Err(AllocError),
+        },
+        Ahead::Turns(xs) => outcome(path(ground, xs, work, bound, steps)),
+    }
+}
+
+/// A path's step at each item. A step without predicates goes on from all items at once.
+#[cycle(evaluating)]
+fn path<'a, L: Ledger>(
+    ground: &Ground<'_, 'a>,
+    items: Seq<'a>,
+    work: &Work,
+    bound: &mut Vec<Item<'a>>,
+    steps: &mut Steps<L>,
+) -> Result<Seq<'a>, Fault>
+    requires ready { IsReadyFor ground.now bound.old.items }
+    requires items { AreWithin (count ground.now) items }
+    ensures value { Gives result (steps_spec.path (tree_nodes ground.now.doc.now) (turn_in ground.now (seen ground.now.names.now work.now) bound.old.items) items.entry) }
+    ensures within { IfOk result (λ items. AreWithin (count ground.now) items) }
+    ensures kept { bound.new.items ≡ bound.old.items }
+{
+    match as_step(work) {
+        Some((axis, test)) => {
+            let step = Step {
+                axis,
+                test,
+                numbers: ground.numbers,
+            };
+            steps_over(ground.alloc, ground.doc, &step, items.as_slice(), steps)
+        }
+        None => {
+            if all_nodes(items.as_slice()) {
+                let out = turns(ground, items, work, bound, steps)?;
+                of_turns(ground.alloc, ground.doc, out)
+            } else {
+                Err(Fault::Error(DynError::XPTY0019))
+            }
+        }
+    }
+}
+
+/// The values at each item, one behind the other.
+#[cycle(evaluating)]
+fn turns<'a, L: Ledger>(
+    ground: &Ground<'_, 'a>,
+    items: Seq<'a>,
+    work: &Work,
+    bound: &mut Vec<Item<'a>>,
+    steps: &mut Steps<L>,
+) -> Result<Seq<'a>, Fault>
+    requires ready { IsReadyFor ground.now bound.old.items }
+    requires items { AreWithin (count ground.now) items }
+    ensures value { Gives result (steps_spec.turns (turn_in ground.now (seen ground.now.names.now work.now) bound.old.items) (length items.entry) 1 items.entry) }
+    ensures within { IfOk result (λ items. AreWithin (count ground.now) items) }
+    ensures kept { bound.new.items ≡ bound.old.items }
+{
+    let items = items.into_items();
+    let last = items.len() as u64;
+    let mut position = 0;
+    let mut out = Seq::new(ground.alloc);
+    'items: for item in items {
+        position += 1;
+        let focus = Focus {
+            item,
+            position,
+            last,
+        };
+        let found = evaluate(ground, work, &focus, bound, steps)?;
+        append_found(&mut out, found, focus)?;
+    }
+    Ok(out)
+}
+
+/// The first part with the predicates behind it. A step's predicates count in the order of its axis.
+#[cycle(evaluating)]
+fn filter<'a, L: Ledger>(
+    ground: &Ground<'_, 'a>,
+    is_step: bool,
+    parts: &[(Link, Work)],
+    focus: &Focus<'a>,
+    bound: &mut Vec<Item<'a>>,
+    steps: &mut Steps<L>,
+) -> Result<Seq<'a>, Fault>
+    requires { IsReady ground.now focus.now bound.old.items }
+    ensures value { Gives result (value_in ground.now (links.filtered_so is_step (operands_of ground.now.names.now parts.now)) focus.now bound.old.items) }
+    ensures within { IfOk result (λ items. AreWithin (count ground.now) items) }
+    ensures kept { bound.new.items ≡ bound.old.items }
+{
+    let Some((first, predicates)) = parts.split_first() else {
+        return Ok(Seq::new(ground.alloc));
+    };
+    if is_step {
+        match along_axis(ground, &first.1, focus, bound, steps) {
+            Ok(nodes) => keep_all(ground, nodes, predicates, bound, steps),
+            Err(fault) => Err(fault),
+        }
+    } else {
+        match evaluate(ground, &first.1, focus, bound, steps) {
+            Ok(items) => keep_all(ground, items, predicates, bound, steps),
+            Err(fault) => Err(fault),
+        }
+    }
+}
+
+/// The items that predicates keep, one predicate after the other.
+#[cycle(evaluating)]
+fn keep_all<'a, L: Ledger>(
+    ground: &Ground<'_, 'a>,
+    items: Seq<'a>,
+    predicates: &[(Link, Work)],
+    bound: &mut Vec<Item<'a>>,
+    steps: &mut Steps<L>,
+) -> Result<Seq<'a>, Fault>
+    requires ready { IsReadyFor ground.now bound.old.items }
+    requires items { AreWithin (count ground.now) items }
+    ensures value { Gives result (links.kept_by_all (λ e. turn_in ground.now e bound.old.items) (operands_of ground.now.names.now predicates.now) items.entry) }
+    ensures within { IfOk result (λ items. AreWithin (count ground.now) items) }
+    ensures kept { bound.new.items ≡ bound.old.items }
+{
+    let mut kept = items;
+    'predicates: for predicate in predicates {
+        match keep(ground, kept, &predicate.1, bound, steps) {
+            Ok(items) => kept = items,
+            Err(fault) => return Err(fault),
+        }
+    }
+    Ok(kept)
+}
+
+/// The items that a predicate keeps.
+#[cycle(evaluating)]
+fn keep<'a, L: Ledger>(
+    ground: &Ground<'_, 'a>,
+    items: Seq<'a>,
+    predicate: &Work,
+    bound: &mut Vec<Item<'a>>,
+    steps: &mut Steps<L>,
+) -> Result<Seq<'a>, Fault>
+    requires ready { IsReadyFor ground.now bound.old.items }
+    requires items { AreWithin (count ground.now) items }
+    ensures value { Gives result (steps_spec.filtered_by (turn_in ground.now (seen ground.now.names.now predicate.now) bound.old.items) items.entry) }
+    ensures within { IfOk result (λ items. AreWithin (count ground.now) items) }
+    ensures kept { bound.new.items ≡ bound.old.items }
+{
+    let items = items.into_items();
+    let last = items.len() as u64;
+    let mut position = 0;
+    let mut kept = Seq::new(ground.alloc);
+    'items: for item in items {
+        position += 1;
+        let focus = Focus {
+            item,
+            position,
+            last,
+        };
+        let answer = evaluate(ground, predicate, &focus, bound, steps)?;
+        let is_kept = keeps(position, &answer)?;
+        keep_if(&mut kept, is_kept, focus)?;
+    }
+    Ok(kept)
+}
+
+/// The value of a work, where a step's nodes stay in the order of its axis.
+#[cycle(evaluating)]
+fn along_axis<'a, L: Ledger>(
+    ground: &Ground<'_, 'a>,
+    work: &Work,
+    focus: &Focus<'a>,
+    bound: &mut Vec<Item<'a>>,
+    steps: &mut Steps<L>,
+) -> Result<Seq<'a>, Fault>
+    requires { IsReady ground.now focus.now bound.old.items }
+    ensures value { Gives result (value_in ground.now (in_axis_order (seen ground.now.names.now work.now)) focus.now bound.old.items) }
+    ensures within { IfOk result (λ items. AreWithin (count ground.now) items) }
+    ensures kept { bound.new.items ≡ bound.old.items }
+{
+    match work {
+        Work::Simple(x) => simple_in_axis_order(ground, x, focus, bound.as_slice(), steps),
+        Work::Node(kind, parts) => {
+            if is_filtered_step(kind) {
+                return filter(ground, true, parts.as_slice(), focus, bound, steps);
+            }
+            match sole(kind, parts.as_slice()) {
+                Some(part) => along_axis(ground, part, focus, bound, steps),
+                None => by_kind(ground, kind, parts.as_slice(), focus, bound, steps),
+            }
+        }
+    }
+}
+
+/// `for`, `some` and `every`.
+#[cycle(evaluating)]
+fn bind<'a, L: Ledger>(
+    ground: &Ground<'_, 'a>,
+    binder: Binder,
+    parts: &[(Link, Work)],
+    focus: &Focus<'a>,
+    bound: &mut Vec<Item<'a>>,
+    steps: &mut Steps<L>,
+) -> Result<Seq<'a>, Fault>
+    requires { IsReady ground.now focus.now bound.old.items }
+    ensures value { Gives result (value_in ground.now (bound_all binder (operands_of ground.now.names.now parts.now)) focus.now bound.old.items) }
+    ensures within { IfOk result (λ items. AreWithin (count ground.now) items) }
+    ensures kept { bound.new.items ≡ bound.old.items }
+{
+    let Some((first, inside)) = parts.split_first() else {
+        return Ok(Seq::new(ground.alloc));
+    };
+    let items = evaluate(ground, &first.1, focus, bound, steps)?;
+    if inside.len() == 0 {
+        return Ok(items);
+    }
+    let height = bound.len();
+    let found = take_turns(ground, binder, inside, items, focus, bound, steps);
+    bound.truncate(height);
+    found
+}
+
+/// The turns of `for`, `some` and `every` at the items of the first variable, given the expressions of the variables
+/// inside it and the one that they are for.
+#[cycle(evaluating)]
+fn take_turns<'a, L: Ledger>(
+    ground: &Ground<'_, 'a>,
+    binder: Binder,
+    inside: &[(Link, Work)],
+    items: Seq<'a>,
+    focus: &Focus<'a>,
+    bound: &mut Vec<Item<'a>>,
+    steps: &mut Steps<L>,
+) -> Result<Seq<'a>, Fault>
+    requires ready { IsReady ground.now focus.now bound.old.items }
+    requires items { AreWithin (count ground.now) items }
+    requires inside { 0 < length inside.now }
+    ensures value { Gives result (links.bound_value binder (tree_nodes ground.now.doc.now) (operands_of ground.now.names.now inside.now) items.entry (context ground.now focus.now bound.old.items)) }
+    ensures within { IfOk result (λ items. AreWithin (count ground.now) items) }
+    ensures kept { take (length bound.old.items) bound.new.items ≡ bound.old.items }
+{
+    let height = bound.len();
+    let mut out = Seq::new(ground.alloc);
+    let mut turns = Vec::new(ground.alloc);
+    turns.push(Turn::new(items))?;
+    'turns: while advance(&mut turns, bound, height)? {
+        let k = turns.len() - 1;
+        let part = part_at(inside, k);
+        match evaluate(ground, &part.1, focus, bound, steps) {
+            Err(fault) => return Err(fault),
+            Ok(found) => {
+                if turns.len() == inside.len() {
+                    match take_turn(binder, &mut out, found) {
+                        Err(fault) => return Err(fault),
+                        Ok(true) => return decided(ground.alloc, binder),
+                        Ok(false) => (),
+                    }
+                } else {
+                    turns.push(Turn::new(found))?;
+                }
+            }
+        }
+    }
+    ended(ground.alloc, binder, out)
+}

@@ -1,0 +1,223 @@
+-- What is written in a form is read by it: values as the model spells them, and days without dashes.
+use Rattle.std.proofs.Common.{◌≡◌, ℕ, ◌+◌, ◌/◌, ◌%◌, ◌^◌, ◌<◌, zero, suc, Bool, true, false, not, ◌&&◌, List, [], ◌∷◌, ◌++◌, Option, Some, None, refl, sym, ap, ◌∙◌, arith}
+use Rattle.std.specs.Prelude.{nat_le, if◌then◌else◌, option_map, option_and_then}
+use Rattle.std.specs.List.{list_all}
+use Rattle.std.proofs.lemmas.Option.{same_Some}
+use Rattle.std.proofs.lemmas.Bool.{false≢true}
+use Rattle.std.proofs.lemmas.Bool.Decides.{nat_tests}
+use Rattle.std.proofs.lemmas.List.Folds.{list_all-append}
+use Rattle.inv_base.specs.Characters.{is_char, is_white_space}
+use Rattle.code_lists.specs.Codes.{is_code}
+use Rattle.inv_decimal.specs.CivilDay.{CivilDay, IsDay}
+use Rattle.inv_decimal.specs.Digits.{last_digits}
+use Rattle.inv_decimal.specs.WrittenNumber.{read_scaled, read_decimal, written_units}
+use Rattle.inv_decimal.specs.WrittenDay.{read_plain_day, read_dashed_day, plain_day_text}
+use Rattle.term_table.specs.declared.terms.Letter.{Letter}
+use Rattle.term_table.specs.declared.terms.Letter.TheVariants as letters
+use Rattle.term_table.specs.declared.terms.Term.{Term}
+use Rattle.term_table.specs.declared.contexts.Context.{Context}
+use Rattle.inv_terms.specs.declared.values.Value.{Value}
+use Rattle.inv_terms.specs.declared.values.Value.TheVariants as values
+use Rattle.inv_terms.specs.declared.entries.Entry.{Entry}
+use Rattle.inv_terms.specs.Values.{is_blank, without_leading, without_trailing, trimmed, identifier_in, value_by, spelled, value_of}
+use Rattle.inv_terms.specs.Listing.{Fits}
+use Rattle.inv_terms.proofs.TrimLemmas.{HasEnds, trimmed-between}
+use Rattle.bind_rows.specs.declared.rows.Form.{Form}
+use Rattle.bind_rows.specs.declared.rows.Form.TheVariants as forms
+use Rattle.bind_meaning.specs.Values as meaning
+use Rattle.bind_meaning.specs.Values.{Said, letter_of, by_type, is_day, suits, form_for, said_in}
+use Rattle.bind_meaning.specs.Elements.{is_full}
+use Rattle.bind_meaning.specs.Writing as writing
+use Rattle.bind_meaning.specs.Writing.{formed}
+use Rattle.binding_laws.specs.Plain.{is_whole}
+
+both : (a b : Bool) → (a && b) ≡ true → (a ≡ true) × (b ≡ true)
+both true b h = (refl, h)
+both false b h = absurd (false≢true h)
+
+-- ---- the laws that are used
+
+abbrev pub ReadsBack : Type 0
+ReadsBack = (letter : Letter) (text : List ℕ) (value : Value) → value_of letter text ≡ Some value → value_of letter (spelled value) ≡ Some value
+
+abbrev pub ReadsDays : Type 0
+ReadsDays = (d : CivilDay) → IsDay d → read_plain_day (plain_day_text d) ≡ Some d
+
+abbrev pub AreDays : Type 0
+AreDays = (cs : List ℕ) (d : CivilDay) → read_dashed_day cs ≡ Some d → IsDay d
+
+pub record Laws : Type 0 where
+  pub values : ReadsBack
+  pub days : ReadsDays
+  pub are_days : AreDays
+
+-- ---- blank strings have no value
+
+leading-blank : (text : List ℕ) → is_blank text ≡ true → without_leading text ≡ []
+leading-blank [] h = refl
+leading-blank (c ∷ text) h = let k = both (is_white_space c) (is_blank text) h in rw k.0 (leading-blank text k.1)
+
+blank-trimmed : (text : List ℕ) → is_blank text ≡ true → trimmed text ≡ []
+blank-trimmed text h = ap without_trailing (leading-blank text h)
+
+blank-by : (letter : Letter) (text : List ℕ) → is_blank text ≡ true → value_by letter text ≡ None
+unfolding read_scaled read_decimal written_units read_dashed_day
+blank-by letters.T text h = ap (λ b. option_map values.Text (if b then None else Some text)) h
+blank-by letters.I text h = ap (λ t. option_map values.Identifier (identifier_in t)) (blank-trimmed text h)
+blank-by letters.C text h = ap (λ t. option_map values.Code (if is_code t then Some t else None)) (blank-trimmed text h)
+blank-by letters.A text h = ap (λ t. option_map values.Amount (read_scaled t)) (blank-trimmed text h)
+blank-by letters.Q text h = ap (λ t. option_map values.Quantity (read_scaled t)) (blank-trimmed text h)
+blank-by letters.P text h = ap (λ t. option_map values.Percent (read_scaled t)) (blank-trimmed text h)
+blank-by letters.D text h = ap (λ t. option_map values.Date (read_dashed_day t)) (blank-trimmed text h)
+blank-by letters.B text h = ap (λ b. option_map values.Base64 (if b then None else Some text)) h
+
+blank-none : (letter : Letter) (text : List ℕ) → is_blank text ≡ true → value_of letter text ≡ None
+unfolding value_of
+blank-none letter text h = go (list_all is_char text)
+  where
+    go : (b : Bool) → (if b then value_by letter text else None) ≡ None
+    go true = blank-by letter text h
+    go false = refl
+
+blank-day : (text : List ℕ) → is_blank text ≡ true → meaning.plain_date text ≡ None
+unfolding read_plain_day
+blank-day text h = go (list_all is_char text)
+  where
+    go : (b : Bool) → ◌≡◌ {A = Option Value} (elim b [ true ↦ option_map values.Date (read_plain_day (trimmed text)) | false ↦ None ]) None
+    go true = ap (λ t. option_map values.Date (read_plain_day t)) (blank-trimmed text h)
+    go false = refl
+
+-- ---- days without dashes
+
+is_plain : ℕ → Bool
+is_plain c = nat_le 43 c && nat_le c 57
+
+plain-char : (c : ℕ) → is_plain c ≡ true → is_char c ≡ true
+unfolding is_plain is_char
+plain-char c h = grind (arith, nat_tests)
+
+plain-black : (c : ℕ) → is_plain c ≡ true → is_white_space c ≡ false
+unfolding is_plain is_white_space
+plain-black c h = grind (arith, nat_tests)
+
+plain-chars : (text : List ℕ) → list_all is_plain text ≡ true → list_all is_char text ≡ true
+plain-chars [] h = refl
+plain-chars (c ∷ text) h = let k = both (is_plain c) _ h in rw (plain-char c k.0) (plain-chars text k.1)
+
+plain-ends : (text : List ℕ) → list_all is_plain text ≡ true → HasEnds text
+plain-ends text h = record {
+  first = λ c rest e. plain-black c (both (is_plain c) _ (ap (list_all is_plain) (sym e) ∙ h)).0;
+  last = λ init l e. plain-black l (both (is_plain l) true (both (list_all is_plain init) _ (sym (list_all-append is_plain init (l ∷ [])) ∙ (ap (list_all is_plain) (sym e) ∙ h))).1).0;
+}
+
+all-pair : (p : ℕ → Bool) (a b : List ℕ) → list_all p a ≡ true → list_all p b ≡ true → list_all p (a ++ b) ≡ true
+all-pair p a b h k = list_all-append p a b ∙ rw (h, k) refl
+
+last_digits-plain : (k n : ℕ) → list_all is_plain (last_digits k n) ≡ true
+unfolding last_digits is_plain
+last_digits-plain zero n = refl
+last_digits-plain (suc k) n =
+    let d = n / 10 ^ k in
+    let low : d % 10 < 10 = omega arith in
+    let a : nat_le 43 (48 + d % 10) ≡ true = grind (arith, nat_tests) in
+    let b : nat_le (48 + d % 10) 57 ≡ true = grind (arith, nat_tests) in
+    rw (a, b) (last_digits-plain k n)
+
+day-plain : (d : CivilDay) → list_all is_plain (plain_day_text d) ≡ true
+unfolding plain_day_text
+day-plain d =
+    all-pair is_plain (last_digits 4 d.year) _ (last_digits-plain 4 d.year) (all-pair is_plain (last_digits 2 d.month) _ (last_digits-plain 2 d.month) (last_digits-plain 2 d.day))
+
+append-nil : (xs : List ℕ) → xs ++ [] ≡ xs
+append-nil [] = refl
+append-nil (x ∷ xs) = ap (λ z. x ∷ z) (append-nil xs)
+
+trimmed-kept : (text : List ℕ) → HasEnds text → trimmed text ≡ text
+trimmed-kept text h = ap trimmed (sym (append-nil text)) ∙ trimmed-between [] text [] refl refl h
+
+abbrev dated : Bool → List ℕ → Option Value
+dated b text = elim b [ true ↦ option_map values.Date (read_plain_day (trimmed text)) | false ↦ None ]
+
+day-read : ReadsDays → (d : CivilDay) → IsDay d → meaning.plain_date (plain_day_text d) ≡ Some (values.Date d)
+day-read back d is =
+    let plain = day-plain d in
+    ap (λ b. dated b (plain_day_text d)) (plain-chars _ plain) ∙ ap (option_map values.Date) (ap read_plain_day (trimmed-kept _ (plain-ends _ plain)) ∙ back d is)
+
+-- ---- values of a type
+
+some-if : (b : Bool) (o : Option Value) (y : Value) → (if b then o else None) ≡ Some y → o ≡ Some y
+some-if true o y h = h
+some-if false o y h = absurd (let k : ◌≡◌ {A = Option Value} None (Some y) = h in cc)
+
+taken : (o : Option CivilDay) (y : Value) → option_map values.Date o ≡ Some y → (d : CivilDay) × (o ≡ Some d) × (values.Date d ≡ y)
+taken None y h = absurd (let k : ◌≡◌ {A = Option Value} None (Some y) = h in cc)
+taken (Some d) y h = (d, refl, same_Some _ _ h)
+
+-- a value that fits a term of days is a day
+day-value : AreDays → (letter : Letter) (text : List ℕ) (value : Value) → letter ≡ letters.D → value_of letter text ≡ Some value → (d : CivilDay) × (IsDay d) × (values.Date d ≡ value)
+unfolding value_of
+day-value are letter text value e h =
+    let read : (if list_all is_char text then value_by letters.D text else None) ≡ Some value = ap (λ l. if list_all is_char text then value_by l text else None) (sym e) ∙ h in
+    let w = taken (read_dashed_day (trimmed text)) value (some-if (list_all is_char text) (value_by letters.D text) value read) in
+    (w.0, are (trimmed text) w.0 w.1, w.2)
+
+is-day : (o : Option Letter) (letter : Letter) → o ≡ Some letter → is_day o ≡ true → letter ≡ letters.D
+is-day o letters.D e h = refl
+is-day o letters.T e h = absurd (false≢true (sym (ap is_day e) ∙ h))
+is-day o letters.I e h = absurd (false≢true (sym (ap is_day e) ∙ h))
+is-day o letters.C e h = absurd (false≢true (sym (ap is_day e) ∙ h))
+is-day o letters.A e h = absurd (false≢true (sym (ap is_day e) ∙ h))
+is-day o letters.Q e h = absurd (false≢true (sym (ap is_day e) ∙ h))
+is-day o letters.P e h = absurd (false≢true (sym (ap is_day e) ∙ h))
+is-day o letters.B e h = absurd (false≢true (sym (ap is_day e) ∙ h))
+
+-- a row of a form for days has a term of days
+form-day : (form : Form) (term : Term) (b : Bool) → suits form term ≡ b → (elim b [ true ↦ form | false ↦ forms.Model ]) ≡ forms.PlainDate → is_day (letter_of term) ≡ true
+form-day forms.PlainDate term true s e = s
+form-day forms.PlainDate term false s e = absurd (let k : forms.Model ≡ forms.PlainDate = e in cc)
+form-day forms.Model term true s e = absurd (let k : forms.Model ≡ forms.PlainDate = e in cc)
+form-day forms.Model term false s e = absurd (let k : forms.Model ≡ forms.PlainDate = e in cc)
+form-day forms.DueDateTypeCode term true s e = absurd (let k : forms.DueDateTypeCode ≡ forms.PlainDate = e in cc)
+form-day forms.DueDateTypeCode term false s e = absurd (let k : forms.Model ≡ forms.PlainDate = e in cc)
+form-day forms.CodedNote term true s e = absurd (let k : forms.CodedNote ≡ forms.PlainDate = e in cc)
+form-day forms.CodedNote term false s e = absurd (let k : forms.Model ≡ forms.PlainDate = e in cc)
+
+-- ---- by the form of a row
+
+-- what is written of a value says that value, and isn't blank
+pub record ReadsAs (form : Form) (term : Term) (es : List Entry) (c : Context) (value : Value) : Type 0 where
+  pub said : said_in form term (formed form es c value) ≡ record { term = term; value = Some value } ∷ []
+  pub full : is_full (formed form es c value) ≡ true
+
+not-blank : (text : List ℕ) (f : List ℕ → Option Value) (value : Value) → ((text : List ℕ) → is_blank text ≡ true → f text ≡ None) → f text ≡ Some value → is_full text ≡ true
+not-blank text f value none some = go (is_blank text) refl
+  where
+    go : (b : Bool) → is_blank text ≡ b → not b ≡ true
+    go false e = refl
+    go true e = absurd (let z : ◌≡◌ {A = Option Value} None (Some value) = sym (none text e) ∙ some in cc)
+
+as-model : ReadsBack → (term : Term) (es : List Entry) (c : Context) (value : Value) → Fits term value → ReadsAs forms.Model term es c value
+as-model law term es c value f =
+    let back : value_of f.letter (spelled value) ≡ Some value = law f.letter f.text value f.read in
+    record {
+      said = ap (λ v. record { term = term; value = v } ∷ []) (ap (λ x. option_and_then (λ letter. value_of letter (spelled value)) x) f.typed.first ∙ back);
+      full = not-blank (spelled value) (value_of f.letter) value (blank-none f.letter) back;
+    }
+
+as-day : Laws → (term : Term) (es : List Entry) (c : Context) (value : Value) → is_day (letter_of term) ≡ true → Fits term value → ReadsAs forms.PlainDate term es c value
+as-day laws term es c value is f =
+    let w = day-value laws.are_days f.letter f.text value (is-day (letter_of term) f.letter f.typed.first is) f.read in
+    let back : meaning.plain_date (writing.plain_date value) ≡ Some value = ap (λ v. meaning.plain_date (writing.plain_date v)) (sym w.2) ∙ (day-read laws.days w.0 w.1 ∙ ap Some w.2) in
+    record {
+      said = ap (λ v. record { term = term; value = v } ∷ []) back;
+      full = not-blank (writing.plain_date value) meaning.plain_date value blank-day back;
+    }
+
+pub reads-as : Laws → (form : Form) (term : Term) (es : List Entry) (c : Context) (value : Value) → is_whole (form_for form term) ≡ true → Fits term value → ReadsAs (form_for form term) term es c value
+reads-as laws form term es c value whole f = go (form_for form term) refl whole
+  where
+    go : (g : Form) → form_for form term ≡ g → is_whole g ≡ true → ReadsAs g term es c value
+    go forms.Model e h = as-model laws.values term es c value f
+    go forms.PlainDate e h = as-day laws term es c value (form-day form term (suits form term) refl e) f
+    go forms.DueDateTypeCode e h = absurd (false≢true h)
+    go forms.CodedNote e h = absurd (false≢true h)

@@ -1,0 +1,13 @@
+pub mod TreeLemmas
+pub mod NodeLemmas
+pub mod AttributeLemmas
+pub mod RowLemmas
+pub mod ContextLemmas
+pub mod ReachLemmas
+pub mod FormLemmas
+pub mod PlainLemmas
+pub mod PartLemmas
+pub mod PlacedLemmas
+pub mod Counts
+pub mod PassedLemmas
+pub mod InsideLemmas

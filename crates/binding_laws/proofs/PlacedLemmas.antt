@@ -1,0 +1,295 @@
+-- A row of a table is at the line of its path, where the path stands alone. So a plain row is one by a test that computes.
+use Rattle.std.proofs.Common.{◌≡◌, ℕ, suc, zero, ◌+◌, ◌<◌, Bool, true, false, not, ◌&&◌, ◌||◌, List, [], ◌∷◌, ◌++◌, length, get_or, map, filter, Option, Some, None, ◌⊎◌, inl, inr, All, refl, sym, ap, ◌∙◌, subst, append_assoc, arith}
+use Rattle.std.specs.Prelude.{slice_get, is_some, is_none, Contains}
+use Rattle.std.proofs.lemmas.Bool.{false≢true}
+use Rattle.std.proofs.lemmas.List.Sorted.{Contains-permutation}
+use Rattle.std.specs.Cmp.Lexicographic.{pointwise}
+use Rattle.term_table.specs.declared.groups.Group.{Group}
+use Rattle.term_table.specs.declared.terms.Term.{Term}
+use Rattle.term_table.specs.Groups.{same_group}
+use Rattle.term_table.proofs.SeatLemmas.{same_term_is}
+use Rattle.bind_rows.specs.declared.names.ElementName.{ElementName}
+use Rattle.bind_rows.specs.declared.names.Leaf.{Leaf}
+use Rattle.bind_rows.specs.declared.names.Leaf.TheVariants as leaves
+use Rattle.bind_rows.specs.declared.rows.Content.{Content}
+use Rattle.bind_rows.specs.declared.rows.Content.TheVariants as contents
+use Rattle.bind_rows.specs.declared.rows.Written.{Written}
+use Rattle.bind_rows.specs.declared.rows.Written.TheVariants as written
+use Rattle.bind_rows.specs.declared.rows.Step.{Step}
+use Rattle.bind_rows.specs.declared.rows.Row.{Row}
+use Rattle.bind_rows.specs.Same.{same_step, same_or_none}
+use Rattle.bind_table.specs.Lines.{Cell, Plan, nothing, a_line, plan_of}
+use Rattle.bind_lines.specs.Ends.{End, end_at, ends, own_ends}
+use Rattle.bind_lines.proofs.SameLemmas.{step-sound, pointwise-sound, group-sound}
+use Rattle.std.specs.Str.{bytes_eq}
+use Rattle.std.proofs.lemmas.Slice.Eq.{bytes_eq-Decides}
+use Rattle.bind_lines.proofs.EndLemmas.{rows-ends}
+use Rattle.bind_meaning.specs.Values.{form_for}
+use Rattle.bind_meaning.specs.Trees.{is_at_element}
+use Rattle.bind_meaning.specs.Currencies.{currency_id}
+use Rattle.binding_laws.specs.Alone as alone
+use Rattle.binding_laws.specs.Alone.{is_clear, is_unguarded, is_nothing, is_lone, stands_alone}
+use Rattle.binding_laws.specs.Plain.{rows_at, groups_of, listed, IsPlain, is_one, is_element, is_whole, is_always, has_content, is_plain, is_attribute_named, is_at_attribute, IsPlainAttribute, is_part_named, is_plain_attribute}
+use Rattle.binding_laws.proofs.RowLemmas.{both-true, called-self}
+use Rattle.binding_laws.proofs.ReachLemmas.{Among, among-split, among-filter, among-map}
+
+-- ---- lists
+
+cancel : (above x y : List Step) → above ++ x ≡ above ++ y → x ≡ y
+cancel [] x y e = e
+cancel (s ∷ above) x y e = cancel above x y (let k : s ∷ (above ++ x) ≡ s ∷ (above ++ y) = e in cc)
+
+contains-among : {X : Type 0} (x : X) (xs : List X) → Contains xs x → Among x xs
+contains-among x [] w = absurd (let l = w.1 in omega (arith, l))
+contains-among x (y ∷ xs) w = go (contains-among x xs) w.0 w.1 w.2
+  where
+    go : (Contains xs x → Among x xs) → (k : ℕ) → k < length (y ∷ xs) → get_or (y ∷ xs) k x ≡ x → (y ≡ x) ⊎ Among x xs
+    go later zero l at = inl at
+    go later (suc k) l at = inr (later (k, omega (arith, l), at))
+
+among-contains : {X : Type 0} (x : X) (xs : List X) → Among x xs → Contains xs x
+among-contains x [] h = absurd h
+among-contains x (y ∷ xs) (inl s) = (0, omega arith, s)
+among-contains x (y ∷ xs) (inr h) = let w = among-contains x xs h in (suc w.0, (let l = w.1 in omega (arith, l)), w.2)
+
+-- ---- where lines end
+
+-- the first step behind those above, which no name is that these lines are clear of
+record IsBehind (above : List Step) (plan : Plan) (path : List Step) : Type 0 where
+  first : Step
+  further : List Step
+  is : path ≡ above ++ (first ∷ further)
+  named : (name : ElementName) → is_clear plan name ≡ true → alone.is_called name first.name ≡ false
+
+not-so : (a : Bool) → not a ≡ true → a ≡ false
+not-so true h = absurd (false≢true h)
+not-so false h = refl
+
+clear-parts : (t : Step) (cells : List Cell) (inside rest : Plan) (name : ElementName) → is_clear (a_line t cells inside rest) name ≡ true → (alone.is_called name t.name ≡ false) × (is_clear rest name ≡ true)
+clear-parts t cells inside rest name h =
+    let k = both-true (not (alone.is_called name t.name)) (is_clear rest name) h in
+    (not-so (alone.is_called name t.name) k.0, k.1)
+
+in-cells : (up : List Step) (e : End) (cells : List Cell) → Among e (map (end_at up) cells) → (cell : Cell) × (Among cell cells) × (end_at up cell ≡ e)
+in-cells up e [] h = absurd h
+in-cells up e (c ∷ cells) (inl s) = (c, inl refl, s)
+in-cells up e (c ∷ cells) (inr h) = let w = in-cells up e cells h in (w.0, inr w.1, w.2)
+
+ends-behind : (above : List Step) (plan : Plan) (e : End) → Among e (ends above plan) → IsBehind above plan e.path
+ends-behind above nothing e h = absurd h
+ends-behind above (a_line t cells inside rest) e h =
+    elim (among-split e (map (end_at (above ++ t ∷ [])) cells) (ends (above ++ t ∷ []) inside ++ ends above rest) h) [
+      | inl m ↦ let w = in-cells (above ++ t ∷ []) e cells m in
+          record { first = t; further = []; is = sym (ap (λ (x : End). x.path) w.2); named = λ name c. (clear-parts t cells inside rest name c).0 }
+      | inr n ↦ elim (among-split e (ends (above ++ t ∷ []) inside) (ends above rest) n) [
+        | inl m ↦ let w = ends-behind (above ++ t ∷ []) inside e m in
+            record { first = t; further = w.first ∷ w.further; is = w.is ∙ append_assoc above (t ∷ []) (w.first ∷ w.further); named = λ name c. (clear-parts t cells inside rest name c).0 }
+        | inr m ↦ let w = ends-behind above rest e m in
+            record { first = w.first; further = w.further; is = w.is; named = λ name c. w.named name (clear-parts t cells inside rest name c).1 }
+      ]
+    ]
+
+-- a row at a line that has its path, is one of those at the end of the path
+module _ (is_so : Cell → Bool) where
+  ends-lone : (above path : List Step) (plan : Plan) (cell : Cell) → is_lone plan path ≡ true → is_so cell ≡ true → Among (end_at (above ++ path) cell) (ends above plan) → Among cell.row (rows_at is_so plan path)
+  ends-lone above path nothing cell lone at h = absurd h
+  ends-lone above [] (a_line t cells inside rest) cell lone at h = absurd (false≢true lone)
+  ends-lone above (s ∷ path) (a_line t cells inside rest) cell lone at h =
+      go (λ q. ends-lone (above ++ t ∷ []) q inside cell) (λ k. ends-lone above (s ∷ path) rest cell k at) (same_step s t) refl lone
+      (among-split (end_at (above ++ (s ∷ path)) cell) (map (end_at (above ++ t ∷ [])) cells) (ends (above ++ t ∷ []) inside ++ ends above rest) h)
+    where
+      other : s ≡ t → alone.is_called s.name t.name ≡ false → ⊥
+      other same k = false≢true (sym k ∙ (ap (λ (x : Step). alone.is_called x.name t.name) same ∙ called-self t.name))
+
+      here : (q : List Step) → (c : Cell) → end_at (above ++ t ∷ []) c ≡ end_at (above ++ (s ∷ q)) cell → (t ≡ s) × (q ≡ []) × (c ≡ cell)
+      here q c k =
+          let path_is : t ∷ [] ≡ s ∷ q = cancel above (t ∷ []) (s ∷ q) (ap (λ (x : End). x.path) k) in
+          (cc, cc, ap (λ (x : End). x.cell) k)
+
+      below : (q : List Step) (p : List Step) → p ≡ above ++ (s ∷ q) → IsBehind (above ++ t ∷ []) inside p → (s ≡ t) × ((u : Step) × (us : List Step) × (q ≡ u ∷ us))
+      below q p is w =
+          let path_is : s ∷ q ≡ t ∷ (w.first ∷ w.further) = cancel above (s ∷ q) (t ∷ (w.first ∷ w.further)) (sym is ∙ (w.is ∙ append_assoc above (t ∷ []) (w.first ∷ w.further))) in
+          (cc, (w.first, w.further, cc))
+
+      beside : (p : List Step) → p ≡ above ++ (s ∷ path) → is_clear rest s.name ≡ true → IsBehind above rest p → ⊥
+      beside p is clear w =
+          let path_is : s ∷ path ≡ w.first ∷ w.further = cancel above (s ∷ path) (w.first ∷ w.further) (sym is ∙ w.is) in
+          let same : s ≡ w.first = cc in
+          false≢true (sym (w.named s.name clear) ∙ (ap (λ (x : Step). alone.is_called s.name x.name) (sym same) ∙ called-self s.name))
+
+      at-end : (q : List Step)
+          → ((r : List Step) → is_lone inside r ≡ true → is_so cell ≡ true → Among (end_at ((above ++ t ∷ []) ++ r) cell) (ends (above ++ t ∷ []) inside) → Among cell.row (rows_at is_so inside r))
+          → (elim q [ [] ↦ is_nothing inside | (u ∷ further) ↦ is_lone inside (u ∷ further) ]) ≡ true → s ≡ t
+          → (Among (end_at (above ++ (s ∷ q)) cell) (map (end_at (above ++ t ∷ [])) cells)) ⊎ (Among (end_at (above ++ (s ∷ q)) cell) (ends (above ++ t ∷ []) inside))
+          → Among cell.row (elim q [ [] ↦ map (λ (x : Cell). x.row) (filter is_so cells) | (u ∷ further) ↦ rows_at is_so inside (u ∷ further) ])
+      at-end [] inner k same (inl m) =
+          let w = in-cells (above ++ t ∷ []) (end_at (above ++ (s ∷ [])) cell) cells m in
+          among-map (λ (x : Cell). x.row) cell (filter is_so cells) (among-filter is_so cell cells at (subst (λ c. Among c cells) (here [] w.0 w.2).2 w.1))
+      at-end [] inner k same (inr m) =
+          let w = below [] (above ++ (s ∷ [])) refl (ends-behind (above ++ t ∷ []) inside (end_at (above ++ (s ∷ [])) cell) m) in
+          absurd (let z : ◌≡◌ {A = List Step} [] (w.1.0 ∷ w.1.1) = w.1.2 in cc)
+      at-end (u ∷ us) inner k same (inl m) =
+          let w = in-cells (above ++ t ∷ []) (end_at (above ++ (s ∷ (u ∷ us))) cell) cells m in
+          absurd (let z : u ∷ us ≡ [] = (here (u ∷ us) w.0 w.2).1 in cc)
+      at-end (u ∷ us) inner k same (inr m) =
+          inner (u ∷ us) k at
+          (subst (λ p. Among (end_at p cell) (ends (above ++ t ∷ []) inside)) (ap (λ x. above ++ (x ∷ (u ∷ us))) same ∙ sym (append_assoc above (t ∷ []) (u ∷ us))) m)
+
+      go : ((r : List Step) → is_lone inside r ≡ true → is_so cell ≡ true → Among (end_at ((above ++ t ∷ []) ++ r) cell) (ends (above ++ t ∷ []) inside) → Among cell.row (rows_at is_so inside r))
+          → (is_lone rest (s ∷ path) ≡ true → Among (end_at (above ++ (s ∷ path)) cell) (ends above rest) → Among cell.row (rows_at is_so rest (s ∷ path)))
+          → (b : Bool) → same_step s t ≡ b
+          → (elim b [
+            | true ↦ is_unguarded s.guards && (is_clear rest s.name && elim path [ [] ↦ is_nothing inside | (u ∷ further) ↦ is_lone inside (u ∷ further) ])
+            | false ↦ not (alone.is_called s.name t.name) && is_lone rest (s ∷ path)
+          ]) ≡ true
+          → (Among (end_at (above ++ (s ∷ path)) cell) (map (end_at (above ++ t ∷ [])) cells)) ⊎ (Among (end_at (above ++ (s ∷ path)) cell) (ends (above ++ t ∷ []) inside ++ ends above rest))
+          → Among cell.row (elim b [
+            | true ↦ elim path [ [] ↦ map (λ (x : Cell). x.row) (filter is_so cells) | (u ∷ further) ↦ rows_at is_so inside (u ∷ further) ]
+            | false ↦ rows_at is_so rest (s ∷ path)
+          ])
+      go inner later true k l (inl m) =
+          let parts = both-true _ _ l in
+          let further = both-true _ _ parts.1 in
+          at-end path inner further.1 (step-sound s t k) (inl m)
+      go inner later true k l (inr n) =
+          let parts = both-true _ _ l in
+          let further = both-true _ _ parts.1 in
+          elim (among-split (end_at (above ++ (s ∷ path)) cell) (ends (above ++ t ∷ []) inside) (ends above rest) n) [
+            | inl m ↦ at-end path inner further.1 (step-sound s t k) (inr m)
+            | inr m ↦ absurd (beside (above ++ (s ∷ path)) refl further.0 (ends-behind above rest (end_at (above ++ (s ∷ path)) cell) m))
+          ]
+      go inner later false k l (inl m) =
+          let parts = both-true _ _ l in
+          let w = in-cells (above ++ t ∷ []) (end_at (above ++ (s ∷ path)) cell) cells m in
+          absurd (other (sym (here path w.0 w.2).0) (not-so (alone.is_called s.name t.name) parts.0))
+      go inner later false k l (inr n) =
+          let parts = both-true _ _ l in
+          elim (among-split (end_at (above ++ (s ∷ path)) cell) (ends (above ++ t ∷ []) inside) (ends above rest) n) [
+            | inl m ↦ absurd (other (below path (above ++ (s ∷ path)) refl (ends-behind (above ++ t ∷ []) inside (end_at (above ++ (s ∷ path)) cell) m)).0 (not-so (alone.is_called s.name t.name) parts.0))
+            | inr m ↦ later parts.1 m
+          ]
+
+own-end : (rows : List Row) (n j : ℕ) (row : Row) → slice_get rows j ≡ Some row → (k : ℕ) × (Among (end_at row.path (record { number = k; row = row })) (own_ends n rows))
+own-end [] n zero row e = cc
+own-end [] n (suc j) row e = cc
+own-end (r ∷ rows) n zero row e =
+    let same : r ≡ row = let z : Some r ≡ Some row = e in cc in
+    (n, inl (ap (λ (x : Row). end_at x.path (record { number = n; row = x })) same))
+own-end (r ∷ rows) n (suc j) row e = let w = own-end rows (n + 1) j row e in (w.0, inr w.1)
+
+one-row : (rs : List Row) (row : Row) → is_one rs ≡ true → Among row rs → rs ≡ row ∷ []
+one-row [] row h a = absurd a
+one-row (r ∷ []) row h (inl s) = ap (λ x. x ∷ []) s
+one-row (r ∷ []) row h (inr a) = absurd a
+one-row (r ∷ (q ∷ rs)) row h a = absurd (false≢true h)
+
+pub row-alone : (is_so : Cell → Bool) (rows : List Row) (j : ℕ) (row : Row) → All (λ (r : Row). 0 < length r.path) rows → slice_get rows j ≡ Some row → stands_alone rows row.path ≡ true
+    → ((k : ℕ) → is_so (record { number = k; row = row }) ≡ true) → is_one (rows_at is_so (plan_of rows) row.path) ≡ true → rows_at is_so (plan_of rows) row.path ≡ row ∷ []
+row-alone is_so rows j row long e lone so one =
+    let w = own-end rows 0 j row e in
+    let cell : Cell = record { number = w.0; row = row } in
+    let at = contains-among (end_at row.path cell) (ends [] (plan_of rows)) (Contains-permutation (own_ends 0 rows) (ends [] (plan_of rows)) (end_at row.path cell) (rows-ends rows long)
+    (among-contains (end_at row.path cell) (own_ends 0 rows) w.1)) in
+    one-row (rows_at is_so (plan_of rows) row.path) row one (ends-lone is_so [] row.path (plan_of rows) cell lone (so w.0) at)
+
+-- ---- the test
+
+leaf-is : (leaf : Leaf) → is_element leaf ≡ true → leaf ≡ leaves.Element
+leaf-is leaves.Element h = refl
+leaf-is (leaves.Attribute local) h = absurd (false≢true h)
+
+rule-is : (rule : Written) → is_always rule ≡ true → rule ≡ written.Always
+rule-is written.Always h = refl
+rule-is written.Never h = absurd (false≢true h)
+rule-is written.IfIban h = absurd (false≢true h)
+rule-is written.IfNotIban h = absurd (false≢true h)
+rule-is written.IfScheme h = absurd (false≢true h)
+rule-is written.IfNoScheme h = absurd (false≢true h)
+rule-is (written.OrFiller filler) h = absurd (false≢true h)
+rule-is written.VatTotal h = absurd (false≢true h)
+rule-is written.AccountingVatTotal h = absurd (false≢true h)
+
+content-is : (content : Content) (term : Term) → has_content term content ≡ true → content ≡ contents.Term term
+content-is (contents.Term t) term h = ap contents.Term (same_term_is t term h)
+content-is (contents.Constant text) term h = absurd (false≢true h)
+
+at-element : {leaf : Leaf} → leaf ≡ leaves.Element → (elim leaf [ leaves.Element ↦ true | (leaves.Attribute local) ↦ false ]) ≡ true
+at-element e = ap (λ l. elim l [ leaves.Element ↦ true | (leaves.Attribute local) ↦ false ]) e
+
+pub plain-by-test : (rows : List Row) (j : ℕ) (row : Row) (term : Term) → All (λ (r : Row). 0 < length r.path) rows → slice_get rows j ≡ Some row → is_plain rows row term ≡ true → IsPlain rows row term
+plain-by-test rows j row term long e h =
+    let a = both-true (stands_alone rows row.path) _ h in
+    let b = both-true (is_one (rows_at is_at_element (plan_of rows) row.path)) _ a.1 in
+    let c = both-true (is_element row.leaf) _ b.1 in
+    let d = both-true (has_content term row.content) _ c.1 in
+    let f = both-true (is_whole (form_for row.form term)) _ d.1 in
+    let g = both-true (is_always row.written) _ f.1 in
+    let i = both-true (pointwise same_group (groups_of row.path) (listed row.outer ++ listed row.inner)) _ g.1 in
+    let l = both-true (is_some row.outer || is_none row.inner) _ i.1 in
+    record {
+      alone = a.0;
+      own = row-alone is_at_element rows j row long e a.0 (λ k. at-element (leaf-is row.leaf c.0)) b.0;
+      leaf = leaf-is row.leaf c.0;
+      content = content-is row.content term d.0;
+      form = f.0;
+      written = rule-is row.written g.0;
+      through = pointwise-sound same_group group-sound (groups_of row.path) (listed row.outer ++ listed row.inner) i.0;
+      nested = l.0;
+      context = l.1;
+    }
+
+-- ---- the test at attributes
+
+or_none-is : (a b : Option Group) → same_or_none a b ≡ true → a ≡ b
+or_none-is None None h = refl
+or_none-is None (Some b) h = absurd (false≢true h)
+or_none-is (Some a) None h = absurd (false≢true h)
+or_none-is (Some a) (Some b) h = ap Some (group-sound a b h)
+
+-- the name of the attribute, and that no other row ends at it
+record IsPart (plan : Plan) (main : Row) (leaf : Leaf) : Type 0 where
+  local : List ℕ
+  is : leaf ≡ leaves.Attribute local
+  other : bytes_eq local currency_id ≡ false
+  one : is_one (rows_at (is_at_attribute local) plan main.path) ≡ true
+
+part-is : (plan : Plan) (main : Row) (leaf : Leaf) → is_part_named plan main leaf ≡ true → IsPart plan main leaf
+part-is plan main leaves.Element h = absurd (false≢true h)
+part-is plan main (leaves.Attribute local) h =
+    let k = both-true (not (bytes_eq local currency_id)) _ h in
+    record { local = local; is = refl; other = not-so (bytes_eq local currency_id) k.0; one = k.1 }
+
+same-texts : (a : List ℕ) → bytes_eq a a ≡ true
+same-texts a = (bytes_eq-Decides a a).1 refl
+
+named-itself : (local : List ℕ) (leaf : Leaf) → leaf ≡ leaves.Attribute local → is_attribute_named local leaf ≡ true
+named-itself local leaf e = ap (is_attribute_named local) e ∙ same-texts local
+
+pub attribute-by-test : (rows : List Row) (i j : ℕ) (row : Row) (term : Term) (main : Row) (main_term : Term) → All (λ (r : Row). 0 < length r.path) rows → slice_get rows i ≡ Some row → slice_get rows j ≡ Some main
+    → is_plain_attribute rows row term main main_term ≡ true → IsPlainAttribute rows row term main main_term
+attribute-by-test rows i j row term main main_term long e f h =
+    let a = both-true (pointwise same_step row.path main.path) _ h in
+    let b = both-true (is_plain rows main main_term) _ a.1 in
+    let c = both-true (same_or_none row.outer main.outer) _ b.1 in
+    let d = both-true (same_or_none row.inner main.inner) _ c.1 in
+    let g = both-true (is_part_named (plan_of rows) main row.leaf) _ d.1 in
+    let k = both-true (has_content term row.content) _ g.1 in
+    let l = both-true (is_whole (form_for row.form term)) (is_always row.written) k.1 in
+    let plain = plain-by-test rows j main main_term long f b.0 in
+    let path : row.path ≡ main.path = pointwise-sound same_step step-sound row.path main.path a.0 in
+    let part = part-is (plan_of rows) main row.leaf g.0 in
+    record {
+      beside = plain;
+      path = path;
+      outer = or_none-is row.outer main.outer c.0;
+      inner = or_none-is row.inner main.inner d.0;
+      local = part.local;
+      leaf = part.is;
+      other = part.other;
+      own = ap (λ p. rows_at (is_at_attribute part.local) (plan_of rows) p) (sym path)
+          ∙ row-alone (is_at_attribute part.local) rows i row long e (ap (stands_alone rows) path ∙ plain.alone) (λ n. named-itself part.local row.leaf part.is)
+          (ap (λ p. is_one (rows_at (is_at_attribute part.local) (plan_of rows) p)) path ∙ part.one);
+      content = content-is row.content term k.0;
+      form = l.0;
+      written = rule-is row.written l.1;
+    }

@@ -1,0 +1,167 @@
+-- Plain rows of a table: rows that write each value of a term whole, in an element of its own, in a context of their own.
+use Rattle.std.specs.Prelude.{◌≡◌, ℕ, Bool, true, false, not, ◌&&◌, ◌||◌, List, [], ◌∷◌, ◌++◌, length, filter, map, Option, Some, None, is_some, is_none}
+use Rattle.std.specs.List.{list_all, list_any}
+use Rattle.std.specs.Str.{bytes_eq}
+use Rattle.std.specs.Cmp.Lexicographic.{pointwise}
+use Rattle.term_table.specs.declared.groups.Group.{Group}
+use Rattle.term_table.specs.declared.terms.Term.{Term}
+use Rattle.term_table.specs.declared.terms.TermRow.{TermRow}
+use Rattle.term_table.specs.Contexts.{stands_in}
+use Rattle.term_table.specs.Groups.{same_group}
+use Rattle.term_table.specs.SemanticModel.{same_term, terms}
+use Rattle.bind_rows.specs.declared.names.Leaf.{Leaf}
+use Rattle.bind_rows.specs.declared.names.Leaf.TheVariants as leaves
+use Rattle.bind_rows.specs.declared.rows.Step.{Step}
+use Rattle.bind_rows.specs.declared.rows.Row.{Row}
+use Rattle.bind_rows.specs.declared.rows.Content.{Content}
+use Rattle.bind_rows.specs.declared.rows.Content.TheVariants as contents
+use Rattle.bind_rows.specs.declared.rows.Form.{Form}
+use Rattle.bind_rows.specs.declared.rows.Form.TheVariants as forms
+use Rattle.bind_rows.specs.declared.rows.Written.{Written}
+use Rattle.bind_rows.specs.declared.rows.Written.TheVariants as written
+use Rattle.bind_rows.specs.Same.{same_step, same_or_none}
+use Rattle.bind_table.specs.Lines.{Cell, Plan, nothing, a_line, plan_of}
+use Rattle.bind_meaning.specs.Values.{form_for}
+use Rattle.bind_meaning.specs.Currencies.{currency_id}
+use Rattle.bind_meaning.specs.Trees.{is_at_element}
+use Rattle.bind_meaning.specs.Picks.{has_any_term}
+use Rattle.binding_laws.specs.Alone.{is_lone, stands_alone}
+
+-- the rows of a sort at the line of a path
+abbrev pub rows_at : (Cell → Bool) → Plan → List Step → List Row
+rows_at is_so nothing path = []
+rows_at is_so (a_line t cells inside rest) [] = []
+rows_at is_so (a_line t cells inside rest) (s ∷ path) = elim (same_step s t) [
+  | true ↦ elim path [ [] ↦ map (λ (cell : Cell). cell.row) (filter is_so cells) | (u ∷ further) ↦ rows_at is_so inside (u ∷ further) ]
+  | false ↦ rows_at is_so rest (s ∷ path)
+]
+
+abbrev pub is_attribute_named : List ℕ → Leaf → Bool
+is_attribute_named local leaves.Element = false
+is_attribute_named local (leaves.Attribute other) = bytes_eq local other
+
+-- The row ends at the attribute of the name.
+abbrev pub is_at_attribute : List ℕ → Cell → Bool
+is_at_attribute local cell = is_attribute_named local cell.row.leaf
+
+-- the groups whose elements a path goes through
+abbrev pub groups_of : List Step → List Group
+groups_of [] = []
+groups_of (s ∷ path) = elim s.group [ None ↦ groups_of path | Some group ↦ group ∷ groups_of path ]
+
+abbrev pub listed : Option Group → List Group
+listed None = []
+listed (Some group) = group ∷ []
+
+-- Wherever the term stands, it stands in these groups.
+abbrev pub stands_there : Term → Option Group → Option Group → Bool
+stands_there term outer inner = list_all (λ (r : TermRow). not (same_term r.term term) || stands_in r.group outer inner) terms
+
+-- A value is written whole, as the model spells it or, for a day, without dashes.
+abbrev pub is_whole : Form → Bool
+is_whole forms.Model = true
+is_whole forms.PlainDate = true
+is_whole forms.DueDateTypeCode = false
+is_whole forms.CodedNote = false
+
+-- It is a plain row of the term.
+pub record IsPlain (rows : List Row) (row : Row) (term : Term) : Type 0 where
+  -- its path stands alone, and no other row ends at its element
+  pub alone : stands_alone rows row.path ≡ true
+  pub own : rows_at is_at_element (plan_of rows) row.path ≡ row ∷ []
+  pub leaf : row.leaf ≡ leaves.Element
+  -- it always writes the term's value, whole
+  pub content : row.content ≡ contents.Term term
+  pub form : is_whole (form_for row.form term) ≡ true
+  pub written : row.written ≡ written.Always
+  -- its path goes through one element for each group of its context, and the term stands there
+  pub through : groups_of row.path ≡ listed row.outer ++ listed row.inner
+  pub nested : (is_some row.outer || is_none row.inner) ≡ true
+  pub context : stands_there term row.outer row.inner ≡ true
+
+-- ---- the same as a test that computes, for the rows of a table
+
+abbrev pub is_one : List Row → Bool
+is_one [] = false
+is_one (row ∷ []) = true
+is_one (row ∷ (other ∷ rows)) = false
+
+abbrev pub is_element : Leaf → Bool
+is_element leaves.Element = true
+is_element (leaves.Attribute local) = false
+
+abbrev pub has_content : Term → Content → Bool
+has_content term (contents.Term other) = same_term other term
+has_content term (contents.Constant text) = false
+
+abbrev pub is_always : Written → Bool
+is_always written.Always = true
+is_always _ = false
+
+abbrev pub is_plain_in : Plan → Row → Term → Bool
+is_plain_in plan row term =
+    is_lone plan row.path
+    && (is_one (rows_at is_at_element plan row.path)
+    && (is_element row.leaf
+    && (has_content term row.content
+    && (is_whole (form_for row.form term)
+    && (is_always row.written
+    && (pointwise same_group (groups_of row.path) (listed row.outer ++ listed row.inner) && ((is_some row.outer || is_none row.inner) && stands_there term row.outer row.inner)))))))
+
+-- It is a plain row of the term, if it is one of these rows.
+abbrev pub is_plain : List Row → Row → Term → Bool
+is_plain rows row term = is_plain_in (plan_of rows) row term
+
+-- how many rows with a term a table has, and how many of them are plain
+abbrev pub is_plain_by : Plan → Row → Bool
+is_plain_by plan row = elim row.content [ (contents.Term term) ↦ is_plain_in plan row term | (contents.Constant text) ↦ false ]
+
+abbrev pub count_plain : List Row → ℕ
+count_plain rows = length (filter (is_plain_by (plan_of rows)) rows)
+
+abbrev pub count_terms : List Row → ℕ
+count_terms rows = length (filter has_any_term rows)
+
+-- It is a plain row of the term at an attribute of the element that a plain row of another term writes.
+pub record IsPlainAttribute (rows : List Row) (row : Row) (term : Term) (main : Row) (main_term : Term) : Type 0 where
+  pub beside : IsPlain rows main main_term
+  pub path : row.path ≡ main.path
+  pub outer : row.outer ≡ main.outer
+  pub inner : row.inner ≡ main.inner
+  -- the attribute isn't that of a currency, and no other row ends at it
+  pub local : List ℕ
+  pub leaf : row.leaf ≡ leaves.Attribute local
+  pub other : bytes_eq local currency_id ≡ false
+  pub own : rows_at (is_at_attribute local) (plan_of rows) main.path ≡ row ∷ []
+  -- it always writes the term's value, whole
+  pub content : row.content ≡ contents.Term term
+  pub form : is_whole (form_for row.form term) ≡ true
+  pub written : row.written ≡ written.Always
+
+-- ---- the same as a test that computes
+
+abbrev pub is_part_named : Plan → Row → Leaf → Bool
+is_part_named plan main leaves.Element = false
+is_part_named plan main (leaves.Attribute local) = not (bytes_eq local currency_id) && is_one (rows_at (is_at_attribute local) plan main.path)
+
+abbrev pub is_plain_attribute_in : Plan → Row → Term → Row → Term → Bool
+is_plain_attribute_in plan row term main main_term =
+    pointwise same_step row.path main.path
+    && (is_plain_in plan main main_term
+    && (same_or_none row.outer main.outer
+    && (same_or_none row.inner main.inner
+    && (is_part_named plan main row.leaf && (has_content term row.content && (is_whole (form_for row.form term) && is_always row.written))))))
+
+-- It is a plain row at an attribute, if both are rows of these.
+abbrev pub is_plain_attribute : List Row → Row → Term → Row → Term → Bool
+is_plain_attribute rows row term main main_term = is_plain_attribute_in (plan_of rows) row term main main_term
+
+-- how many rows of a table are plain at an attribute
+abbrev pub is_plain_beside : Plan → Row → Row → Bool
+is_plain_beside plan row main = elim row.content [
+  | (contents.Term term) ↦ elim main.content [ (contents.Term main_term) ↦ is_plain_attribute_in plan row term main main_term | (contents.Constant text) ↦ false ]
+  | (contents.Constant text) ↦ false
+]
+
+abbrev pub count_attributes : List Row → ℕ
+count_attributes rows = length (filter (λ row. list_any (is_plain_beside (plan_of rows) row) rows) rows)

@@ -1,0 +1,10 @@
+//! What judging a document by a rule file finds: the lines of a report, in order.
+#![tactic(auto)]
+
+mod finding;
+mod findings;
+mod level;
+
+pub use finding::{Finding, FindingKind, Line};
+pub use findings::Findings;
+pub use level::{Level, level_of};

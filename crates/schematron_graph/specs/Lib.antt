@@ -1,0 +1,5 @@
+pub mod Rules
+pub mod Counts
+pub mod Ranked
+pub mod Built
+pub mod Back

@@ -1,0 +1,151 @@
+ghost use Rattle.std.specs.Prelude.{◌≡◌, ◌≢◌, ◌==◌, ◌∷◌, ◌++◌, [], ℕ, List, chars, string_bytes, true, false, IfOk, OnOk};
+ghost use Rattle.schematron_texts.specs.Replacing as spec;
+ghost use Rattle.schematron_texts.specs.Walking as walking;
+
+use crate::parameters::Parameters;
+use crate::pushing::{push, push_text};
+use inv_base::{is_name_char, is_name_start};
+use std::alloc::{AllocError, Global};
+
+/// How far a walk over a text is.
+#[derive(Drop)]
+pub(crate) struct Walk {
+    /// What was made so far.
+    pub out: String,
+    /// A `$` was read, and the name behind it goes on.
+    pub open: bool,
+    /// The name so far.
+    pub name: String,
+}
+
+/// The text with the values of parameters in it. A value stands for `$` and the longest name behind it where that is
+/// the name of a parameter; what is put in isn't read again.
+pub fn replaced(alloc: Global, parameters: &Parameters, text: &str) -> Result<String, AllocError>
+    ensures { IfOk result (λ s. chars (string_bytes s) ≡ spec.replaced parameters.now (chars text.now)) }
+{
+    match replaced_within(alloc, parameters, text, usize::MAX)? {
+        Some(made) => Ok(made),
+        None => Err(AllocError),
+    }
+}
+
+/// The same, or None exactly where it would have more than so many bytes. Of a longer one at most the first so many
+/// bytes and one value or name more are made.
+pub fn replaced_within(
+    alloc: Global,
+    parameters: &Parameters,
+    text: &str,
+    most: usize,
+) -> Result<Option<String>, AllocError>
+    ensures { IfOk result (λ made. spec.IsWithin most (spec.replaced parameters.now (chars text.now)) made) }
+{
+    let mut walk = Walk {
+        out: String::new(alloc),
+        open: false,
+        name: String::new(alloc),
+    };
+    'characters: for c in text.chars() {
+        take(&mut walk, parameters, c)?;
+        if walk.out.len() > most {
+            return Ok(None);
+        }
+    }
+    end(walk, parameters, most)
+}
+
+/// What was made, with the name that is open at the end of the text.
+fn end(mut walk: Walk, parameters: &Parameters, most: usize) -> Result<Option<String>, AllocError>
+    ensures { IfOk result (λ made. spec.IsWithin most (walking.made_with parameters.now walk []) made) }
+{
+    close(&mut walk, parameters)?;
+    Ok(within(walk.out, most))
+}
+
+/// Puts in the name that is open, if one is.
+fn close(walk: &mut Walk, parameters: &Parameters) -> Result<(), AllocError>
+    ensures { OnOk result (chars (string_bytes walk.new.out) ≡ walking.made_with parameters.now walk.old []) }
+{
+    if !walk.open {
+        return Ok(());
+    }
+    put_name(walk, parameters)
+}
+
+/// The text, if it has at most so many bytes.
+fn within(text: String, most: usize) -> Option<String>
+    ensures { spec.IsWithin most (chars (string_bytes text)) result }
+{
+    if text.len() > most {
+        return None;
+    }
+    Some(text)
+}
+
+/// Reads a character.
+fn take(walk: &mut Walk, parameters: &Parameters, c: char) -> Result<(), AllocError>
+    ensures { OnOk result ((rest : List ℕ) → walking.made_with parameters.now walk.new rest ≡ walking.made_with parameters.now walk.old (c ∷ rest)) }
+{
+    if !walk.open {
+        return take_outside(walk, c);
+    }
+    if goes_on(walk.name.as_str(), c) {
+        return push(&mut walk.name, c);
+    }
+    put_name(walk, parameters)?;
+    take_outside(walk, c)
+}
+
+/// Whether a name goes on with the character, or begins with it.
+fn goes_on(name: &str, c: char) -> bool
+    ensures { result ≡ walking.goes_on (chars name.now) c }
+{
+    if name.is_empty() {
+        is_name_start(c)
+    } else {
+        is_name_char(c)
+    }
+}
+
+/// Reads a character where no name is open.
+fn take_outside(walk: &mut Walk, c: char) -> Result<(), AllocError>
+    requires { walk.old.open ≡ false }
+    ensures { OnOk result ((parameters : List spec.Parameter) (rest : List ℕ) → walking.made_with parameters walk.new rest ≡ walking.made_with parameters walk.old (c ∷ rest)) }
+{
+    if c == '$' {
+        walk.open = true;
+        walk.name.clear();
+        return Ok(());
+    }
+    push(&mut walk.out, c)
+}
+
+/// Puts in what stands for `$` and the name, and closes it.
+fn put_name(walk: &mut Walk, parameters: &Parameters) -> Result<(), AllocError>
+    ensures out { OnOk result (chars (string_bytes walk.new.out) ≡ chars (string_bytes walk.old.out) ++ walking.put parameters.now (chars (string_bytes walk.old.name))) }
+    ensures open { OnOk result (walk.new.open ≡ false) }
+{
+    walk.open = false;
+    match value_for(parameters, walk.name.as_str()) {
+        Some(value) => push_text(&mut walk.out, value),
+        None => put_back(walk),
+    }
+}
+
+/// The value for a name, and none where there is no name.
+fn value_for<'a>(parameters: &'a Parameters, name: &str) -> Option<&'a str>
+    ensures { walking.found_for parameters.now (chars name.now) result }
+{
+    if name.is_empty() {
+        return None;
+    }
+    parameters.value(name)
+}
+
+/// Puts `$` and the name in as they stand.
+fn put_back(walk: &mut Walk) -> Result<(), AllocError>
+    ensures out { OnOk result (chars (string_bytes walk.new.out) ≡ chars (string_bytes walk.old.out) ++ 36 ∷ chars (string_bytes walk.old.name)) }
+    ensures open { walk.new.open ≡ walk.old.open }
+{
+    push(&mut walk.out, '$')?;
+    push_text(&mut walk.out, walk.name.as_str())
+}

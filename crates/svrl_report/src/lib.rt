@@ -1,0 +1,11 @@
+//! What was found, written: as a plain report for a person, and in the Schematron Validation Report Language. Both go
+//! straight to a sink, without memory.
+#![tactic(auto)]
+
+mod elements;
+mod plain;
+mod svrl;
+mod tally;
+
+pub use plain::write_plain;
+pub use svrl::write_svrl;

@@ -52,11 +52,12 @@ module _ (nodes : List Node) (above : List ℕ) (n : ℕ) (name : Name) (attrs :
       ap (list_any (within_it m)) h.is
       ∙ any-none (within_it m) _
       (each-append (λ x. within_it m x ≡ false) h.front _ (outside m h.front ends.0)
-      (each-append (λ x. within_it m x ≡ false) (nodes_of above n (an_element name attrs inside rest)) h.back
-      (among-older m above (each-weaker (λ k. k < n) (λ k. k < m) above (λ k j. omega (arith, l, j)) h.older),
-      each-append (λ x. within_it m x ≡ false) (nodes_of_attributes (n ∷ above) (n + 1) attrs) _ (attributes-outside m (n ∷ above) (n + 1) attrs)
-      (each-append (λ x. within_it m x ≡ false) (nodes_of (n ∷ above) (n + (1 + length attrs)) inside) _ (text-outside m (n ∷ above) (n + (1 + length attrs)) text)
-      (outside m (nodes_of above (n + (1 + (length attrs + size inside))) rest) (later-far nodes above n name attrs inside rest h m l (omega (arith, r))))))
+      (each-append (λ x. within_it m x ≡ false) (nodes_of above n (an_element name attrs inside rest)) h.back (
+        among-older m above (each-weaker (λ k. k < n) (λ k. k < m) above (λ k j. omega (arith, l, j)) h.older),
+        each-append (λ x. within_it m x ≡ false) (nodes_of_attributes (n ∷ above) (n + 1) attrs) _ (attributes-outside m (n ∷ above) (n + 1) attrs)
+            (each-append (λ x. within_it m x ≡ false) (nodes_of (n ∷ above) (n + (1 + length attrs)) inside) _ (text-outside m (n ∷ above) (n + (1 + length attrs)) text)
+            (outside m (nodes_of above (n + (1 + (length attrs + size inside))) rest) (later-far nodes above n name attrs inside rest h m l (omega (arith, r))))),
+      )
       (outside m h.back ends.1)))
 
   own-numbers : (todo : List Attribute) (k : ℕ) → n ≤ k → k + length todo ≤ n + (1 + length attrs) → Each (λ (x : Node). has_element_inside nodes x.number ≡ false) (nodes_of_attributes (n ∷ above) k todo)

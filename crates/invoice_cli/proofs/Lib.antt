@@ -2,3 +2,4 @@ pub mod OutlineLemmas
 pub mod AnswersLemmas
 pub mod OptionLemmas
 pub mod InvoiceLemmas
+mod QueryLemmas

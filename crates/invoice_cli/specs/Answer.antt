@@ -7,9 +7,10 @@ use Rattle.job_course.specs.declared.status.Status.TheVariants as statuses
 use Rattle.job_course.specs.Course.{Answer, Course, ends, done, refusal, answer_of, document_course}
 use Rattle.job_course.specs.Lines.{bad_word_line}
 use Rattle.invoice_cli.specs.declared.usage.TheConstants.{HELP, VERSION}
-use Rattle.invoice_cli.specs.Job.{Job, outline, show, convert, extract, help, version, bad_word}
+use Rattle.invoice_cli.specs.Job.{Job, outline, show, convert, extract, query, help, version, bad_word}
 use Rattle.invoice_cli.specs.Invoices.{show_course, convert_course, extract_course}
 use Rattle.invoice_cli.specs.Outline.{outline_text}
+use Rattle.invoice_cli.specs.Queries.{query_course}
 
 -- the outline of the document's tree
 abbrev pub outline_course : List ℕ → Course
@@ -21,6 +22,7 @@ course_of (outline file) = outline_course file
 course_of (show codes_file file) = show_course codes_file file
 course_of (convert syntax codes_file file) = convert_course syntax codes_file file
 course_of (extract number file) = extract_course number file
+course_of (query expression file) = query_course expression file
 course_of help = ends (done HELP.now)
 course_of version = ends (done VERSION.now)
 course_of (bad_word number) = ends (refusal statuses.BadWords (bad_word_line number))

@@ -1,7 +1,7 @@
 -- A command of the program's, as the words' job.
 use Rattle.std.specs.Prelude.{List, ℕ, ◌+◌, ◌^◌, ◌<◌, length, Option, option_map, Result, Ok, Err}
 use Rattle.std.specs.Borrow.{Bor}
-use Rattle.invoice_cli.specs.Job.{Job, outline, show, convert, extract, help, version, bad_word, Options, words_of}
+use Rattle.invoice_cli.specs.Job.{Job, outline, show, convert, extract, query, help, version, bad_word, Options, words_of}
 use Rattle.invoice_cli.specs.declared.words.Command.{Command}
 use Rattle.invoice_cli.specs.declared.words.Command.TheVariants as commands
 use Rattle.invoice_cli.specs.declared.options.Given.{Given}
@@ -41,6 +41,7 @@ asked (commands.Outline file) = outline file.now
 asked (commands.Show codes_file file) = show (option_map text_of codes_file) file.now
 asked (commands.Convert syntax codes_file file) = convert syntax (option_map text_of codes_file) file.now
 asked (commands.Extract number file) = extract number file.now
+asked (commands.Query expression file) = query expression.now file.now
 asked commands.Help = help
 asked commands.Version = version
 asked (commands.BadWord number) = bad_word number

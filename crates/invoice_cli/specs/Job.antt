@@ -6,13 +6,14 @@ use Rattle.bind_meaning.specs.declared.tables.Syntax.{Syntax}
 use Rattle.bind_meaning.specs.declared.tables.Syntax.TheVariants as syntaxes
 
 -- The outline of a file; the terms of an invoice, by the code lists of a file or the built-in ones; the invoice in a syntax, likewise; its
--- attached document of that number; the help; the version; or the number of the first word that fits no command, counted from 1, where a
--- missing word counts as one behind the last.
+-- attached document of that number; the value of an expression at a document; the help; the version; or the number of the first word that
+-- fits no command, counted from 1, where a missing word counts as one behind the last.
 pub data Job : Type 0 where
   outline : List ℕ → Job
   show : Option (List ℕ) → List ℕ → Job
   convert : Syntax → Option (List ℕ) → List ℕ → Job
   extract : ℕ → List ℕ → Job
+  query : List ℕ → List ℕ → Job
   help : Job
   version : Job
   bad_word : ℕ → Job
@@ -119,6 +120,11 @@ abbrev pub extract_of : List (List ℕ) → Job
 extract_of [] = bad_word 2
 extract_of (word ∷ words) = numbered (document_number word) words
 
+-- An expression that begins with two dashes is none.
+abbrev pub query_of : List (List ℕ) → Job
+query_of [] = bad_word 2
+query_of (word ∷ words) = if is_option word then bad_word 2 else last_operand (query word) 3 words
+
 abbrev pub job : List (List ℕ) → Job
 job [] = bad_word 1
 job (command ∷ words) =
@@ -126,9 +132,10 @@ job (command ∷ words) =
     else (if bytes_eq command (codes "show") then optioned false show_of none_given 2 words
     else (if bytes_eq command (codes "convert") then optioned true convert_of none_given 2 words
     else (if bytes_eq command (codes "extract") then extract_of words
+    else (if bytes_eq command (codes "query") then query_of words
     else (if bytes_eq command (codes "--help") then with_no_more 2 help words
     else (if bytes_eq command (codes "--version") then with_no_more 2 version words
-    else bad_word 1)))))
+    else bad_word 1))))))
 
 abbrev pub words_of : List (String Global) → List (List ℕ)
 words_of words = map string_bytes words

@@ -6,6 +6,7 @@ mod invoices;
 mod options;
 mod printing;
 mod program;
+mod queries;
 mod refusals;
 mod usage;
 mod words;

@@ -7,6 +7,7 @@ ghost use Rattle.invoice_cli.specs.Answers.{Answers, Says};
 
 use crate::invoices::{convert, extract, show};
 use crate::printing::print_outline;
+use crate::queries::query;
 use crate::usage::{HELP, VERSION};
 use crate::words::{Command, command_of};
 use bumpalo::Bump;
@@ -38,6 +39,7 @@ pub fn run<S: Shelf, O: Sink, E: Sink>(
             convert(alloc, syntax, codes_file, file, shelf, out, err)
         }
         Command::Extract(number, file) => extract(alloc, number, file, shelf, out, err),
+        Command::Query(expression, file) => query(alloc, expression, file, shelf, out, err),
         Command::Help => say(HELP, out),
         Command::Version => say(VERSION, out),
         Command::BadWord(number) => {

@@ -15,6 +15,8 @@ pub(crate) enum Command<'w> {
     Convert(Syntax, Option<&'w str>, &'w str),
     /// With the number of the attached document, from 1.
     Extract(u32, &'w str),
+    /// An expression, and the document at which it is evaluated.
+    Query(&'w str, &'w str),
     Help,
     Version,
     /// The number of the first word that fits no command, from 1.
@@ -32,6 +34,7 @@ pub(crate) fn command_of(words: &[String]) -> Command<'_>
             "show" => show_of(rest),
             "convert" => convert_of(rest),
             "extract" => extract_of(rest),
+            "query" => query_of(rest),
             "--help" => with_no_more(2, Command::Help, rest),
             "--version" => with_no_more(2, Command::Version, rest),
             _ => Command::BadWord(1),
@@ -138,6 +141,23 @@ fn extract_of(words: &[String]) -> Command<'_>
     };
     match last_operand(3, rest) {
         Ok(file) => Command::Extract(number, file),
+        Err(number) => Command::BadWord(number),
+    }
+}
+
+/// The query that the words behind `query` ask for.
+fn query_of(words: &[String]) -> Command<'_>
+    requires { 3 + length words.now < 2 ^ 64 }
+    ensures { asked result ≡ spec.query_of (words_of words.now) }
+{
+    let Some((word, rest)) = words.split_first() else {
+        return Command::BadWord(2);
+    };
+    if word.as_bytes().starts_with(b"--") {
+        return Command::BadWord(2);
+    }
+    match last_operand(3, rest) {
+        Ok(file) => Command::Query(word.as_str(), file),
         Err(number) => Command::BadWord(number),
     }
 }

@@ -9,3 +9,5 @@ mod document_cases;
 mod invoice_cases;
 #[cfg(test)]
 mod program_cases;
+#[cfg(test)]
+mod query_cases;

@@ -1,7 +1,7 @@
 use Rattle.std.proofs.Common.{refl}
 use Rattle.std.specs.Prelude.{option_map}
 use Rattle.invoice_cli.specs.Commands.{text_of}
-use Rattle.invoice_cli.specs.Job.{outline, show, convert, extract, help, version}
+use Rattle.invoice_cli.specs.Job.{outline, show, convert, extract, query, help, version}
 use Rattle.invoice_cli.specs.declared.usage.TheConstants.{HELP, VERSION}
 use Rattle.invoice_cli.proofs.AnswersLemmas.{answers_said, answers_bad_word, answers_of_run}
 use Rattle.invoice_cli.proofs.program.run.Goals as goal
@@ -29,6 +29,12 @@ returns-in-Extract g c = rw (← c.in-Extract.ensures)
     (answers_of_run (extract c.in-Extract.number c.in-Extract.file.now) tt (record { shelf = g.S.Shelf.view c.args.shelf.now; out = g.O.Sink.view c.args.out.now; err = g.E.Sink.view c.args.err.now })
     (record { shelf = g.S.Shelf.view c.extract.new.shelf; out = g.O.Sink.view c.extract.new.out; err = g.E.Sink.view c.extract.new.err }) c.extract.result
     (λ file e. cc) c.extract.ensures)
+
+pub returns-in-Query : goal.returns-in-Query
+returns-in-Query g c = rw (← c.in-Query.ensures)
+    (answers_of_run (query c.in-Query.expression.now c.in-Query.file.now) tt (record { shelf = g.S.Shelf.view c.args.shelf.now; out = g.O.Sink.view c.args.out.now; err = g.E.Sink.view c.args.err.now })
+    (record { shelf = g.S.Shelf.view c.query.new.shelf; out = g.O.Sink.view c.query.new.out; err = g.E.Sink.view c.query.new.err }) c.query.result
+    (λ file e. cc) c.query.ensures)
 
 pub returns-in-Help : goal.returns-in-Help
 returns-in-Help g c = rw (← c.in-Help.ensures)

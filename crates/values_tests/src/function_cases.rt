@@ -171,7 +171,8 @@ distinct-values:#1,#2,#1,#1.0 -> #1,#2
 distinct-values:#1,'1 -> #1,'1
 distinct-values:~1,'1,~01 -> ~1,~01
 distinct-values:true,true,#1,'true -> true,#1,'true
-distinct-values:^2024-01-01,^2024-01-01 -> ^2024-01-01";
+distinct-values:^2024-01-01,^2024-01-01 -> ^2024-01-01
+distinct-values:#3,#1,#2,#3,#1,#2,#3,#1,~1,'1,#2 -> #3,#1,#2,~1";
 
 /// The same for the functions of types.
 const TYPE_ROWS: &str = "\

@@ -52,6 +52,22 @@ to:#1.5|#3 -> XPTY0004
 to:#1|#100001 -> FOAR0002
 to:~-1|#0 -> #-1,#0";
 
+/// The same over operands of eight items, most of which are compared without trying pairs.
+const LONG_ROWS: &str = "\
+=:#1,#2,#3,#4,#5,#6,#7,#8|#11,#12,#13,#14,#15,#16,#17,#8 -> true
+=:#1,#2,#3,#4,#5,#6,#7,#8|#11,#12,#13,#14,#15,#16,#17,#18 -> false
+!=:#1,#1,#1,#1,#1,#1,#1,#1|#1.0,#1.0,#1.0,#1.0,#1.0,#1.0,#1.0,#1.0 -> false
+!=:#1,#1,#1,#1,#1,#1,#1,#1|#1,#1,#1,#1,#1,#1,#1,#2 -> true
+<:#8,#9,#10,#11,#12,#13,#14,#15|#1,#2,#3,#4,#5,#6,#7,#8 -> false
+<:#8,#9,#10,#11,#12,#13,#14,#15|#9,#1,#2,#3,#4,#5,#6,#7 -> true
+<=:#8,#9,#10,#11,#12,#13,#14,#15|#1,#2,#3,#4,#5,#6,#7,#8 -> true
+<:'k,'l,'m,'n,'o,'p,'q,'r|'a,'b,'c,'d,'e,'f,'g,'k -> false
+=:~8,~x,~1,~2,~3,~4,~5,~6|#11,#12,#13,#14,#15,#16,#17,#8 -> true
+=:~x,~8,~1,~2,~3,~4,~5,~6|#11,#12,#13,#14,#15,#16,#17,#8 -> FORG0001
+=:#1,#2,#3,#4,#5,#6,#7,#8|#11,#12,#13,#14,#15,#16,#17,'a -> XPTY0004
+=:#1,#2,#3,#4,#5,#6,#7,#8|#1,#11,#12,#13,#14,#15,#16,'a -> true
+=:~a,~b,~c,~d,~e,~f,~g,~h|'k,'l,'m,'n,'o,'p,'q,'h -> true";
+
 /// The comparison of the word.
 fn comparison_of(word: &str) -> Option<Op> {
     match word {
@@ -96,17 +112,23 @@ fn given(alloc: Global, doc: &Doc<'_>, row: &str) -> Result<String, Fail> {
     Ok(shown(alloc, &outcome)?)
 }
 
+/// Whether each of the rows gives what it says.
+fn all_hold(alloc: Global, doc: &Doc<'_>, rows: &'static str) -> Result<(), Fail> {
+    for row in rows.lines() {
+        let (asked, want) = row.split_once(" -> ").ok_or("row")?;
+        let answer = given(alloc, doc, asked)?;
+        check(answer.as_str() == want, row)?;
+    }
+    Ok(())
+}
+
 #[test]
 fn operators_give_their_values(rt: HostRuntime) -> Result<(), Fail> {
     let alloc = rt.alloc();
     let bump = Bump::new(alloc);
     let doc = document(alloc, &bump, "<r/>")?;
-    for row in ROWS.lines() {
-        let (asked, want) = row.split_once(" -> ").ok_or("row")?;
-        let answer = given(alloc, &doc, asked)?;
-        check(answer.as_str() == want, row)?;
-    }
-    Ok(())
+    all_hold(alloc, &doc, ROWS)?;
+    all_hold(alloc, &doc, LONG_ROWS)
 }
 
 /// A value with a row of signs, and a cast, as rows write values.

@@ -3,3 +3,5 @@ pub mod Nodes
 pub mod Orders
 pub mod Ranges
 pub mod Spaces
+pub mod Ranks
+pub mod Rows

@@ -91,7 +91,7 @@ fn general_order(a: &Item<'_>, b: &Item<'_>) -> Result<Ordering, DynError>
 }
 
 /// The order of two items of one kind, where untyped text is a string.
-pub fn value_order(a: &Item<'_>, b: &Item<'_>) -> Result<Ordering, DynError>
+pub(crate) fn value_order(a: &Item<'_>, b: &Item<'_>) -> Result<Ordering, DynError>
     ensures { result ≡ spec.value_order a.now b.now }
 {
     match a {

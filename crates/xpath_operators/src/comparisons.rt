@@ -1,16 +1,20 @@
 //! Comparisons of values (XPath 2.0, section 3.5), at atomised operands.
-ghost use Rattle.std.specs.Prelude.{◌≡◌, false};
+ghost use Rattle.std.specs.Prelude.{◌≡◌, true, false};
 ghost use Rattle.xpath_items.specs.Faults.{Gives};
 ghost use Rattle.xpath_meaning.specs.Comparing as meaning;
 
 use crate::comparing::{compare, is_general};
+use crate::searching::{are_comparable, some_pair_of_many};
 use crate::values::boolean;
 use std::alloc::Global;
 use xpath_grammar::operators::Op;
 use xpath_items::{DynError, Fault, Item, Seq};
 
+/// Below so many items on one side, all pairs are tried.
+const FEW: usize = 8;
+
 /// Whether an item compares so with some of the others, or the first error if that comes first.
-fn with_some<'a>(op: Op, x: &Item<'a>, ys: &[Item<'a>]) -> Result<bool, DynError>
+pub(crate) fn with_some<'a>(op: Op, x: &Item<'a>, ys: &[Item<'a>]) -> Result<bool, DynError>
     ensures { result ≡ meaning.any_of (λ y. meaning.compare op x.now y) ys.now }
 {
     'ys: for y in ys {
@@ -43,6 +47,18 @@ fn some_pair<'a>(op: Op, xs: &[Item<'a>], ys: &[Item<'a>]) -> Result<bool, DynEr
     Ok(false)
 }
 
+/// The same. Where both sides are long and no pair needs a look of its own, it takes about the time of sorting one side.
+fn found_pair<'a>(alloc: Global, op: Op, xs: &[Item<'a>], ys: &[Item<'a>]) -> Result<bool, Fault>
+    requires { meaning.is_general op ≡ true }
+    ensures { Gives result (meaning.some_pair op xs.now ys.now) }
+{
+    if xs.len() < FEW || ys.len() < FEW || !are_comparable(xs, ys) {
+        Ok(some_pair(op, xs, ys)?)
+    } else {
+        some_pair_of_many(alloc, op, xs, ys)
+    }
+}
+
 /// A comparison of at most one item with at most one.
 fn of_two<'a>(alloc: Global, op: Op, xs: &[Item<'a>], ys: &[Item<'a>]) -> Result<Seq<'a>, Fault>
     ensures { Gives result (meaning.compared_as false op xs.now ys.now) }
@@ -72,7 +88,8 @@ pub fn compared<'a>(
     ensures { Gives result (meaning.compared op xs.now ys.now) }
 {
     if is_general(op) {
-        boolean(alloc, some_pair(op, xs, ys))
+        let found = found_pair(alloc, op, xs, ys)?;
+        boolean(alloc, Ok(found))
     } else {
         of_two(alloc, op, xs, ys)
     }

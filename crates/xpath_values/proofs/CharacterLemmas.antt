@@ -1,7 +1,7 @@
 -- Texts made character by character.
-use Rattle.std.proofs.Common.{◌≡◌, ℕ, suc, ◌+◌, ◌<◌, Bool, true, false, cond, List, [], ◌∷◌, ◌++◌, length, drop, get_or, Option, Some, None, refl, ap, sym, ◌∙◌, arith, add-one, append_assoc, ◌⊎◌, inl, inr, string_bytes, String}
-use Rattle.std.specs.Prelude.{◌==◌, nat_lt, not, if◌then◌else◌, Result, Ok, Err, is_ok, IfOk, OnOk, option_map, slice_get}
-use Rattle.std.specs.List.{position, position_or_len}
+use Rattle.std.proofs.Common.{◌≡◌, ℕ, zero, suc, ◌+◌, ◌<◌, Bool, true, false, cond, List, [], ◌∷◌, ◌++◌, length, drop, get_or, Option, Some, None, refl, ap, sym, ◌∙◌, arith, add-one, append_assoc, ◌⊎◌, inl, inr, string_bytes, String}
+use Rattle.std.specs.Prelude.{◌==◌, if◌then◌else◌, Result, Ok, Err, is_ok, IfOk, OnOk, slice_get}
+use Rattle.std.specs.Ordering.{nat_cmp, is_eq}
 use Rattle.std.specs.Option.{option_to_list}
 use Rattle.std.specs.Str.{chars, IsUtf8}
 use Rattle.std.proofs.Math.Seq.{drop-cons}
@@ -11,6 +11,7 @@ use Rattle.std.proofs.lemmas.Str.{chars-nil, chars-append, chars_past_char, char
 use Rattle.inv_base.specs.Characters.{is_white_space}
 use Rattle.xpath_meaning.specs.Texts.{single_spaced, translated, translated_character, first_of, rest_of}
 use Rattle.xpath_values.specs.Spacing.{spaced_piece}
+use Rattle.xpath_values.specs.Translations.{or_itself, Translates}
 use lib.Utf8.{encodes, encode}
 
 bool_cases : (b : Bool) → (b ≡ true) ⊎ (b ≡ false)
@@ -72,64 +73,46 @@ pub translated_end : (from to cs out : List ℕ) (k : ℕ) (whole : List ℕ) �
 translated_end from to cs out k whole e h =
     sym (append-nil out) ∙ (sym (ap (λ x. out ++ x) (at_drop_all (λ x. translated x from to) cs k (omega arith))) ∙ h)
 
-below_suc : (n m : ℕ) → nat_lt (suc n) (suc m) ≡ nat_lt n m
-below_suc n m = grind (arith, nat_tests)
+-- ---- a table of what characters become
 
-none_below : (n : ℕ) → nat_lt 0 (suc n) ≡ true
-none_below n = grind (arith, nat_tests)
+first_is : (to : List ℕ) (k : ℕ) → first_of (drop k to) ≡ option_to_list (slice_get to k)
+first_is [] zero = refl
+first_is [] (suc k) = refl
+first_is (d ∷ to) zero = refl
+first_is (d ∷ to) (suc k) = first_is to k
 
-map_cond : (b : Bool) (n : ℕ) → cond b (Some (suc n)) None ≡ option_map suc (cond b (Some n) None)
-map_cond true n = refl
-map_cond false n = refl
+rest_is : (to : List ℕ) (k : ℕ) → rest_of (drop k to) ≡ drop (suc k) to
+rest_is [] zero = refl
+rest_is [] (suc k) = refl
+rest_is (d ∷ to) zero = refl
+rest_is (d ∷ to) (suc k) = rest_is to k
 
-one_more : (m : ℕ) → 1 + m ≡ suc m
-one_more m = omega arith
+tested : (d c : ℕ) → is_eq (nat_cmp d c) ≡ (c == d)
+tested d c = grind (arith, nat_tests)
 
-hit : (c d : ℕ) (ds : List ℕ) → (c == d) ≡ true → position (λ x. c == x) (d ∷ ds) ≡ Some 0
-hit c d ds e =
-    let first : position_or_len (λ x. c == x) (d ∷ ds) ≡ 0 = ap (λ b. cond (not b) (1 + position_or_len (λ x. c == x) ds) 0) e in
-    ap (λ n. cond (nat_lt n (length (d ∷ ds))) (Some n) None) first ∙ ap (λ b. cond b (Some 0) None) (none_below (length ds))
+put_in : (from to : List ℕ) (k c d : ℕ) (found : Option ℕ) (old : Option (Option ℕ)) (b : Bool) → (c == d) ≡ b → option_to_list found ≡ first_of (drop k to)
+    → or_itself c old ≡ translated_character from (drop (suc k) to) c → or_itself c (cond b (Some found) old) ≡ translated_character (d ∷ from) (drop k to) c
+put_in from to k c d found old true e f h =
+    f ∙ sym (ap (λ (b : Bool). elim b [ true ↦ first_of (drop k to) | false ↦ translated_character from (rest_of (drop k to)) c ]) e)
+put_in from to k c d found old false e f h =
+    h ∙ (ap (λ xs. translated_character from xs c) (sym (rest_is to k))
+    ∙ sym (ap (λ (b : Bool). elim b [ true ↦ first_of (drop k to) | false ↦ translated_character from (rest_of (drop k to)) c ]) e))
 
-miss : (c d : ℕ) (ds : List ℕ) → (c == d) ≡ false → position (λ x. c == x) (d ∷ ds) ≡ option_map suc (position (λ x. c == x) ds)
-miss c d ds e =
-    let next : position_or_len (λ x. c == x) (d ∷ ds) ≡ suc (position_or_len (λ x. c == x) ds) =
-    ap (λ b. cond (not b) (1 + position_or_len (λ x. c == x) ds) 0) e ∙ one_more (position_or_len (λ x. c == x) ds) in
-    ap (λ n. cond (nat_lt n (length (d ∷ ds))) (Some n) None) next
-    ∙ (ap (λ b. cond b (Some (suc (position_or_len (λ x. c == x) ds))) None) (below_suc (position_or_len (λ x. c == x) ds) (length ds))
-    ∙ map_cond (nat_lt (position_or_len (λ x. c == x) ds) (length ds)) (position_or_len (λ x. c == x) ds))
+next_is : (k : ℕ) → suc k ≡ k + 1
+next_is k = omega arith
 
--- what stands at a place of the other text, if the character has one
-abbrev at_place : List ℕ → ℕ → Option ℕ → List ℕ
-at_place to c None = c ∷ []
-at_place to c (Some place) = option_to_list (slice_get to place)
+pub translation_put : (old new : ℕ → Option (Option ℕ)) (from to : List ℕ) (k next d : ℕ) (found : Option ℕ) → next ≡ suc k → k < length from → d ≡ get_or from k d → found ≡ slice_get to k
+    → ((q : ℕ) → new q ≡ cond (is_eq (nat_cmp d q)) (Some found) (old q)) → Translates old (drop next from) (drop next to) → Translates new (drop k from) (drop k to)
+translation_put old new from to k next d found n l at is put same c =
+    ap (or_itself c) (put c ∙ ap (λ b. cond b (Some found) (old c)) (tested d c))
+    ∙ (put_in (drop (suc k) from) to k c d found (old c) (c == d) refl (ap option_to_list is ∙ sym (first_is to k))
+    (same c ∙ ap (λ m. translated_character (drop m from) (drop m to) c) n)
+    ∙ ap (λ xs. translated_character xs (drop k to) c) (ap (λ m. d ∷ drop m from) (next_is k) ∙ sym (rest_at from k d (l, at))))
 
-first_is : (to : List ℕ) → first_of to ≡ option_to_list (slice_get to 0)
-first_is [] = refl
-first_is (d ∷ to) = refl
+drop_all : (from : List ℕ) → drop (length from) from ≡ []
+drop_all [] = refl
+drop_all (c ∷ from) = drop_all from
 
-rest_is : (to : List ℕ) (k : ℕ) → slice_get (rest_of to) k ≡ slice_get to (suc k)
-rest_is [] k = refl
-rest_is (d ∷ to) k = refl
-
-later_place : (to : List ℕ) (c : ℕ) (place : Option ℕ) → at_place (rest_of to) c place ≡ at_place to c (option_map suc place)
-later_place to c None = refl
-later_place to c (Some k) = ap option_to_list (rest_is to k)
-
-pub translated_is : (from to : List ℕ) (c : ℕ) → translated_character from to c ≡ at_place to c (position (λ x. c == x) from)
-translated_is [] to c = refl
-translated_is (d ∷ from) to c = elim (bool_cases (c == d)) [
-  | inl same ↦ ap (λ (b : Bool). elim b [ true ↦ first_of to | false ↦ translated_character from (rest_of to) c ]) same
-      ∙ (first_is to ∙ sym (ap (at_place to c) (hit c d from same)))
-  | inr apart ↦ ap (λ (b : Bool). elim b [ true ↦ first_of to | false ↦ translated_character from (rest_of to) c ]) apart
-      ∙ (translated_is from (rest_of to) c ∙ (later_place to c (position (λ x. c == x) from) ∙ sym (ap (at_place to c) (miss c d from apart))))
-]
-
-pub translated_some : (from to : List ℕ) (c place : ℕ) (r : Option ℕ) → Some place ≡ position (λ x. c == x) from → r ≡ slice_get to place → option_to_list r ≡ translated_character from to c
-translated_some from to c place r p e = ap option_to_list e ∙ (ap (at_place to c) p ∙ sym (translated_is from to c))
-
-pub translated_none : (from to : List ℕ) (c : ℕ) → None ≡ position (λ x. c == x) from → c ∷ [] ≡ translated_character from to c
-translated_none from to c p = ap (at_place to c) p ∙ sym (translated_is from to c)
-
-pub same_option : (o p : Option ℕ) → option_map (λ x. x) o ≡ p → o ≡ p
-same_option None p e = e
-same_option (Some x) p e = e
+pub translation_start : (table : ℕ → Option (Option ℕ)) (from to : List ℕ) (n : ℕ) → n ≡ length from → ((q : ℕ) → table q ≡ None) → Translates table (drop n from) (drop n to)
+translation_start table from to n e h c =
+    ap (or_itself c) (h c) ∙ ap (λ xs. translated_character xs (drop n to) c) (sym (drop_all from) ∙ ap (λ m. drop m from) (sym e))

@@ -1,20 +1,24 @@
 -- The first of equal items.
-use Rattle.std.proofs.Common.{◌≡◌, ℕ, ◌+◌, ◌<◌, ◌≤◌, Bool, true, false, cond, List, [], ◌∷◌, ◌++◌, length, drop, get_or, refl, ap, sym, ◌∙◌, append_assoc, ◌⊎◌, inl, inr}
-use Rattle.std.specs.Prelude.{not, ◌||◌, filter}
-use Rattle.std.specs.Ordering.{is_eq, int_cmp, bool_cmp}
+use Rattle.std.proofs.Common.{◌≡◌, ℕ, zero, suc, ◌+◌, ◌<◌, ◌≤◌, Bool, true, false, cond, List, [], ◌∷◌, ◌++◌, length, drop, get_or, refl, ap, sym, ◌∙◌, append_assoc, arith, ◌⊎◌, inl, inr}
+use Rattle.std.specs.Prelude.{not, ◌||◌, ◌&&◌, filter}
+use Rattle.std.specs.List.{list_all}
+use Rattle.std.specs.Ordering.{is_eq, int_cmp, bool_cmp, nat_cmp, ordering_then, ordering_reverse}
 use Rattle.std.specs.declared.cmp.Ordering.{Ordering}
 use Rattle.std.specs.declared.cmp.Ordering.TheVariants.{Less, Equal, Greater}
 use Rattle.std.specs.Cmp.{IsTotalOrder}
-use Rattle.std.specs.Cmp.Lexicographic.{nat_list_cmp_total}
-use Rattle.std.proofs.lemmas.Bool.{false≢true}
+use Rattle.std.specs.Cmp.Lexicographic.{nat_list_cmp_total, slice_cmp}
+use Rattle.std.proofs.lemmas.Bool.{false≢true, and_parts}
 use Rattle.std.proofs.lemmas.List.{append-nil, at_drop_all}
 use Rattle.std.proofs.lemmas.List.Folds.{list_any-append}
 use Rattle.inv_decimal.specs.CivilDay.{day_cmp}
 use Rattle.xpath_items.specs.declared.item.Item.{Item}
 use Rattle.xpath_items.specs.declared.item.Item.TheVariants as i
+use Rattle.inv_base.specs.Tree.{Node}
+use Rattle.xpath_meaning.specs.Items.{atom, atomised}
 use Rattle.xpath_meaning.specs.Comparing.{as_text}
 use Rattle.xpath_meaning.specs.Collections.{stand, are_equal, distinct}
-use Rattle.xpath_values.specs.Distinct.{is_known, unknown, with_item}
+use Rattle.xpath_operators.specs.Ranks.{item_cmp, has_alike}
+use Rattle.xpath_values.specs.Distinct.{is_known, unknown, with_item, is_atomic, AreKnown}
 use Rattle.xpath_values.proofs.CharacterLemmas.{rest_at}
 
 bool_cases : (b : Bool) → (b ≡ true) ⊎ (b ≡ false)
@@ -147,3 +151,98 @@ distinct_more n d kept grown items k x whole l at h g = elim (bool_cases (is_kno
   | inl known ↦ ap (λ t. t ++ unknown t (distinct (drop (k + 1) items))) (g ∙ sym (kept_known kept x (sym known))) ∙ distinct_known n d kept items k x whole l at h known
   | inr fresh ↦ distinct_fresh kept grown items k x whole l at h fresh (g ∙ sym (kept_fresh kept x (sym fresh)))
 ]
+
+-- ---- what is known of the kept ones
+
+then_equal : (o : Ordering) → ordering_then o Equal ≡ o
+then_equal Less = refl
+then_equal Equal = refl
+then_equal Greater = refl
+
+same_bool : (a b : Bool) → is_eq (item_cmp (i.Boolean a) (i.Boolean b)) ≡ is_eq (bool_cmp b a)
+same_bool true true = refl
+same_bool true false = refl
+same_bool false true = refl
+same_bool false false = refl
+
+back : (p : Ordering) → is_eq (ordering_reverse p) ≡ is_eq p
+back Less = refl
+back Equal = refl
+back Greater = refl
+
+turned : {K : Type 0} {R : K → K → Ordering} → IsTotalOrder R → (x y : K) → is_eq (R x y) ≡ is_eq (R y x)
+turned {K} {R} o x y = ap is_eq (o.antisymm x y) ∙ back (R y x)
+
+-- equal ones are alike, but for nodes
+alike_is : IsTotalOrder int_cmp → IsTotalOrder day_cmp → (x y : Item) → is_atomic x ≡ true → is_eq (item_cmp x y) ≡ are_equal y x
+alike_is n d (i.Node a) y h = absurd (false≢true h)
+alike_is n d (i.Boolean a) (i.Boolean b) h = same_bool a b
+alike_is n d (i.Number a) (i.Number b) h = ap is_eq (then_equal (int_cmp a b)) ∙ turned n a b
+alike_is n d (i.String a) (i.String b) h = ap is_eq (then_equal (slice_cmp nat_cmp a b)) ∙ turned nat_list_cmp_total a b
+alike_is n d (i.String a) (i.Untyped b) h = ap is_eq (then_equal (slice_cmp nat_cmp a b)) ∙ turned nat_list_cmp_total a b
+alike_is n d (i.Untyped a) (i.String b) h = ap is_eq (then_equal (slice_cmp nat_cmp a b)) ∙ turned nat_list_cmp_total a b
+alike_is n d (i.Untyped a) (i.Untyped b) h = ap is_eq (then_equal (slice_cmp nat_cmp a b)) ∙ turned nat_list_cmp_total a b
+alike_is n d (i.Date a) (i.Date b) h = turned d a b
+alike_is n d (i.Boolean a) (i.Node b) h = refl
+alike_is n d (i.Boolean a) (i.Number b) h = refl
+alike_is n d (i.Boolean a) (i.String b) h = refl
+alike_is n d (i.Boolean a) (i.Untyped b) h = refl
+alike_is n d (i.Boolean a) (i.Date b) h = refl
+alike_is n d (i.Number a) (i.Node b) h = refl
+alike_is n d (i.Number a) (i.Boolean b) h = refl
+alike_is n d (i.Number a) (i.String b) h = refl
+alike_is n d (i.Number a) (i.Untyped b) h = refl
+alike_is n d (i.Number a) (i.Date b) h = refl
+alike_is n d (i.String a) (i.Node b) h = refl
+alike_is n d (i.String a) (i.Boolean b) h = refl
+alike_is n d (i.String a) (i.Number b) h = refl
+alike_is n d (i.String a) (i.Date b) h = refl
+alike_is n d (i.Untyped a) (i.Node b) h = refl
+alike_is n d (i.Untyped a) (i.Boolean b) h = refl
+alike_is n d (i.Untyped a) (i.Number b) h = refl
+alike_is n d (i.Untyped a) (i.Date b) h = refl
+alike_is n d (i.Date a) (i.Node b) h = refl
+alike_is n d (i.Date a) (i.Boolean b) h = refl
+alike_is n d (i.Date a) (i.Number b) h = refl
+alike_is n d (i.Date a) (i.String b) h = refl
+alike_is n d (i.Date a) (i.Untyped b) h = refl
+
+pub known_start : (known kept : List Item) → known ≡ [] → kept ≡ [] → AreKnown known kept
+known_start known kept e g = λ x h. ap (λ ys. has_alike ys x) e ∙ sym (ap (λ ys. is_known ys x) g)
+
+pub fresh_by : (known kept : List Item) (item : Item) (b : Bool) → AreKnown known kept → is_atomic item ≡ true → b ≡ not (has_alike known item) → b ≡ not (is_known kept item)
+fresh_by known kept item b a h e = e ∙ ap not (a item h)
+
+pub known_more : IsTotalOrder int_cmp → IsTotalOrder day_cmp → (known grown kept : List Item) (item : Item) → AreKnown known kept
+    → ((x : Item) → has_alike grown x ≡ (has_alike known x || is_eq (item_cmp x item))) → AreKnown grown (with_item kept item)
+known_more n d known grown kept item a g = λ x h.
+    g x ∙ (ap (λ b. b || is_eq (item_cmp x item)) (a x h) ∙ (ap (λ b. is_known kept x || b) (alike_is n d x item h) ∙ kept_so x (is_known kept item) refl))
+  where
+    or_same : (b c : Bool) → (c ≡ true → b ≡ true) → (b || c) ≡ b
+    or_same true c f = refl
+    or_same false true f = sym (f refl)
+    or_same false false f = refl
+
+    kept_so : (x : Item) (b : Bool) → is_known kept item ≡ b → (is_known kept x || are_equal item x) ≡ is_known (elim b [ true ↦ kept | false ↦ kept ++ item ∷ [] ]) x
+    kept_so x true e = or_same (is_known kept x) (are_equal item x) (λ same. known_along n d kept item x e same)
+    kept_so x false e = sym (known_push kept item x)
+
+pub all_at : (p : Item → Bool) (xs : List Item) (k : ℕ) (x : Item) → k < length xs → x ≡ get_or xs k x → list_all p xs ≡ true → p x ≡ true
+all_at p [] k x l e h = absurd (omega (arith, l))
+all_at p (y ∷ xs) zero x l e h = ap p e ∙ (and_parts (p y) (list_all p xs) h).0
+all_at p (y ∷ xs) (suc k) x l e h = all_at p xs k x (omega (arith, l)) e (and_parts (p y) (list_all p xs) h).1
+
+atom_atomic : (nodes : List Node) (x : Item) → is_atomic (atom nodes x) ≡ true
+atom_atomic nodes (i.Node n) = refl
+atom_atomic nodes (i.Boolean b) = refl
+atom_atomic nodes (i.Number z) = refl
+atom_atomic nodes (i.String s) = refl
+atom_atomic nodes (i.Untyped s) = refl
+atom_atomic nodes (i.Date day) = refl
+
+atoms_atomic : (nodes : List Node) (items : List Item) → list_all is_atomic (atomised nodes items) ≡ true
+atoms_atomic nodes [] = refl
+atoms_atomic nodes (x ∷ items) = ap (λ b. b && list_all is_atomic (atomised nodes items)) (atom_atomic nodes x) ∙ atoms_atomic nodes items
+
+pub atomic_along : (nodes : List Node) (items xs ys : List Item) → ys ≡ xs → xs ≡ atomised nodes items → list_all is_atomic ys ≡ true
+atomic_along nodes items xs ys e g = ap (list_all is_atomic) (e ∙ g) ∙ atoms_atomic nodes items

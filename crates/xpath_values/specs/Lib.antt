@@ -4,3 +4,4 @@ pub mod Domains
 pub mod Pieces
 pub mod Places
 pub mod Spacing
+pub mod Translations

@@ -1,5 +1,6 @@
 //! `distinct-values` (Functions and Operators, section 15.1.6), at an atomised argument.
-ghost use Rattle.std.specs.Prelude.{◌≡◌, length, IfOk, OnOk, Ok};
+ghost use Rattle.std.specs.Prelude.{◌≡◌, true, length, IfOk, OnOk, Ok};
+ghost use Rattle.std.specs.List.{list_all};
 ghost use Rattle.node_arena.specs.Moves.{tree_nodes};
 ghost use Rattle.xpath_items.specs.Faults.{Gives};
 ghost use Rattle.xpath_meaning.specs.Collections as meaning;
@@ -11,44 +12,37 @@ use inv_decimal::laws::days_are_ordered;
 use node_arena::Doc;
 use std::alloc::{AllocError, Global};
 use xpath_items::{Fault, Item, Seq};
-use xpath_operators::{atoms, value_order};
+use xpath_operators::{KnownItems, atoms};
 
-/// Whether two items are equal, where untyped text is a string and items of unlike kinds differ.
-fn are_equal(x: &Item<'_>, y: &Item<'_>) -> bool
-    ensures { result ≡ meaning.are_equal x.now y.now }
+/// Puts an item behind those that were kept, unless one that is known is equal to it.
+fn keep<'s, 'a>(
+    alloc: Global,
+    known: &mut KnownItems<'s, 'a>,
+    kept: &mut Vec<Item<'a>>,
+    item: &'s Item<'a>,
+) -> Result<(), AllocError>
+    requires known { spec.AreKnown known.old kept.old.items }
+    requires atomic { spec.is_atomic item.now ≡ true }
+    ensures kept { OnOk result (kept.new.items ≡ spec.with_item kept.old.items item.now) }
+    ensures known { OnOk result (spec.AreKnown known.new kept.new.items) }
 {
-    match value_order(x, y) {
-        Ok(order) => order.is_eq(),
-        Err(_) => false,
+    days_are_ordered();
+    if known.add(item)? {
+        kept.push(item.copied(alloc)?)?;
     }
-}
-
-/// Whether an item is equal to one of those that were kept.
-fn is_known(kept: &[Item<'_>], item: &Item<'_>) -> bool
-    ensures { result ≡ spec.is_known kept.now item.now }
-{
-    kept.iter().any(|known| are_equal(known, item))
-}
-
-/// Puts an item behind those that were kept, unless it is equal to one of them.
-fn keep<'a>(alloc: Global, kept: &mut Vec<Item<'a>>, item: &Item<'a>) -> Result<(), AllocError>
-    ensures { OnOk result (kept.new.items ≡ spec.with_item kept.old.items item.now) }
-{
-    if is_known(kept, item) {
-        return Ok(());
-    }
-    kept.push(item.copied(alloc)?)?;
     Ok(())
 }
 
 /// The first of equal items, in their order.
 fn distinct<'a>(alloc: Global, items: &[Item<'a>]) -> Result<Vec<Item<'a>>, AllocError>
+    requires { list_all spec.is_atomic items.now ≡ true }
     ensures { IfOk result (λ kept. kept.items ≡ meaning.distinct items.now) }
 {
     days_are_ordered();
+    let mut known = KnownItems::new(alloc);
     let mut kept = Vec::new(alloc);
     'items: for item in items {
-        keep(alloc, &mut kept, item)?;
+        keep(alloc, &mut known, &mut kept, item)?;
     }
     Ok(kept)
 }

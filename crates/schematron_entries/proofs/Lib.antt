@@ -1,0 +1,4 @@
+mod WordLemmas
+mod ReadLemmas
+mod KeyLemmas
+mod DeclaredLemmas

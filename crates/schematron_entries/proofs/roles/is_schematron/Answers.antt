@@ -1,0 +1,7 @@
+use Rattle.std.proofs.Common.{ap, ◌∙◌, chars}
+use Rattle.std.specs.Str.{bytes_eq}
+use Rattle.schematron_entries.proofs.WordLemmas.{chars-schematron}
+use Rattle.schematron_entries.proofs.roles.is_schematron.Goals as goal
+
+pub returns : goal.returns
+returns c = c.is_same_text.ensures ∙ ap (bytes_eq (chars c.args.uri.now)) chars-schematron

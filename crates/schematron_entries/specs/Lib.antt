@@ -1,0 +1,5 @@
+pub mod Seen
+pub mod Reading
+pub mod Keys
+pub mod Firsts
+pub mod Chains

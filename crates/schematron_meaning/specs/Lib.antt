@@ -1,0 +1,11 @@
+pub mod Words
+pub mod Entries
+pub mod Lookup
+pub mod Bodies
+pub mod Expansion
+pub mod Written
+pub mod Counts
+pub mod Showing
+pub mod Faults
+pub mod Rules
+pub mod Phases

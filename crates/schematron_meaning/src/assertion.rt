@@ -1,0 +1,8 @@
+/// What an assertion says of its test.
+#[derive(Clone, Copy, Debug, PartialEq, Eq)]
+pub enum AssertionKind {
+    /// It fails where its test is false.
+    Assert,
+    /// It succeeds where its test is true.
+    Report,
+}

@@ -1,0 +1,5 @@
+pub mod ListLemmas
+pub mod LetLemmas
+pub mod MessageLemmas
+pub mod MarkLemmas
+pub mod FirstLemmas

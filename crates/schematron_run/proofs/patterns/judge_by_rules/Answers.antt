@@ -1,0 +1,35 @@
+use Rattle.std.proofs.Common.{◌++◌, ◌∙◌, ap, map, sym, subst}
+use Rattle.schematron_rules.specs.Seen.{seen_rule}
+use Rattle.schematron_run.specs.Firsts.{AreBelow}
+use Rattle.schematron_run.specs.Scenes.{nodes_of}
+use Rattle.schematron_run.proofs.FirstLemmas.{kept_below, kept_touched, all_found}
+use Rattle.schematron_run.proofs.patterns.judge_by_rules.Goals as goal
+
+pub judge_nodes-requires-clause-long : goal.judge_nodes-requires-clause-long
+judge_nodes-requires-clause-long g c = c.first_rules.ensures.long ∙ c.requires.long
+
+pub judge_nodes-requires-clause-within : goal.judge_nodes-requires-clause-within
+judge_nodes-requires-clause-within g c =
+    let walked = c.documents_are_walkable.ensures in
+    subst (λ k. AreBelow k c.as_slice.result.now) walked.long
+    (kept_below (nodes_of c.args.scene.now) walked.walkable c.first_rules.new.table c.as_slice.result.now (c.as_slice.ensures.value ∙ c.in_ok-touched.ensures.touched))
+
+pub clear-requires-clause-within : goal.clear-requires-clause-within
+clear-requires-clause-within g c =
+    let walked = c.documents_are_walkable.ensures in
+    subst (λ k. AreBelow k c.as_slice-2.result.now) (walked.long ∙ sym (c.first_rules.ensures.long ∙ c.requires.long))
+    (kept_below (nodes_of c.args.scene.now) walked.walkable c.first_rules.new.table c.as_slice-2.result.now (c.as_slice-2.ensures.value ∙ c.in_ok-touched.ensures.touched))
+
+pub clear-requires-clause-touched : goal.clear-requires-clause-touched
+clear-requires-clause-touched g c =
+    let walked = c.documents_are_walkable.ensures in
+    kept_touched (nodes_of c.args.scene.now) walked.walkable c.first_rules.new.table c.as_slice-2.result.now
+    (c.first_rules.ensures.long ∙ (c.requires.long ∙ sym walked.long)) (c.as_slice-2.ensures.value ∙ c.in_ok-touched.ensures.touched)
+
+pub returns-clause-found : goal.returns-clause-found
+returns-clause-found g c =
+    let walked = c.documents_are_walkable.ensures in
+    c.in_ok-judge_nodes.ensures.found
+    ∙ ap (λ lines. c.args.findings.now ++ lines)
+    (all_found (nodes_of c.args.scene.now) walked.walkable c.args.env.now (map seen_rule c.args.rules.now) c.first_rules.new.table c.as_slice.result.now
+    c.in_ok-touched.ensures.firsts (c.as_slice.ensures.value ∙ c.in_ok-touched.ensures.touched))

@@ -1,0 +1,5 @@
+pub mod Judging
+pub mod Contexts
+pub mod Scenes
+pub mod Telling
+pub mod Firsts

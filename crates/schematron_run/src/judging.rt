@@ -1,0 +1,97 @@
+//! What the rules of a file find in a document.
+ghost use Rattle.std.specs.Prelude.{◌≡◌, length, IfOk, OnOk};
+ghost use Rattle.node_arena.specs.Moves.{tree_nodes};
+ghost use Rattle.xpath_steps.specs.Variables.{ValuesWithin};
+ghost use Rattle.schematron_rules.specs.Seen.{seen_rules, seen_active};
+ghost use Rattle.schematron_run.specs.Contexts.{HasPatterns};
+ghost use Rattle.schematron_run.specs.Judging as spec;
+ghost use Rattle.schematron_run.specs.Scenes.{nodes_of, count, IsSet};
+
+use crate::lets::{fill, lets_of};
+use crate::patterns::judge_patterns;
+use crate::scene::Scene;
+use inv_base::Steps;
+use node_arena::{Doc, moves_lead_on};
+use node_locations::Ordinals;
+use schematron_findings::Findings;
+use schematron_rules::{Active, Rules};
+use std::alloc::{AllocError, Global};
+use std::sync::ledger::Ledger;
+use xpath_run::Env;
+
+/// How many nodes a document has.
+fn node_count<L: Ledger>(doc: &Doc<'_>, steps: &mut Steps<L>) -> usize
+    ensures { result ≡ length doc.now.nodes }
+{
+    doc.is_of_a_tree();
+    moves_lead_on();
+    doc.last_inside(doc.document(), steps).number() as usize + 1
+}
+
+/// The variables of the whole file: the schema's, then those of the phase that is active.
+fn file_variables<'a, L: Ledger>(
+    scene: &Scene<'_, 'a>,
+    rules: &Rules,
+    active: &Active,
+    steps: &mut Steps<L>,
+) -> Result<Env<'a>, AllocError>
+    ensures filled { IfOk result (λ env. env ≡ spec.file_variables (nodes_of scene.now) (seen_rules rules.now) (seen_active active.now)) }
+    ensures within { IfOk result (λ env. ValuesWithin (count scene.now) env) }
+{
+    let mut env = Env::new(scene.alloc);
+    let document = scene.doc.document();
+    fill(scene, rules.lets.as_slice(), document, &mut env, steps)?;
+    let lets = lets_of(rules.phases.as_slice(), active.phase);
+    fill(scene, lets, document, &mut env, steps)?;
+    Ok(env)
+}
+
+/// All that the active patterns find.
+fn found_in<L: Ledger>(
+    scene: &Scene<'_, '_>,
+    rules: &Rules,
+    active: &Active,
+    steps: &mut Steps<L>,
+) -> Result<Findings, AllocError>
+    requires set { IsSet scene.now }
+    requires patterns { HasPatterns (seen_rules rules.now) }
+    ensures { IfOk result (λ found. found ≡ spec.findings (seen_rules rules.now) (seen_active active.now) (nodes_of scene.now)) }
+{
+    let mut env = file_variables(scene, rules, active, steps)?;
+    let mut table = vec![in scene.alloc; None; node_count(scene.doc, steps)]?;
+    let mut findings = Findings::new(scene.alloc);
+    judge_patterns(
+        scene,
+        rules.patterns.as_slice(),
+        active.patterns.as_slice(),
+        &mut env,
+        &mut table,
+        &mut findings,
+        steps,
+    )?;
+    Ok(findings)
+}
+
+/// All that the patterns that are active find in a document, pattern by pattern and in each node by node (ISO/IEC 19757-3,
+/// section 6): each node is judged by the first rule of the pattern whose context matches it. The number of a phase or a pattern
+/// that the rules haven't finds nothing. The only error is want of memory.
+///
+/// A pattern costs what its contexts and its tests cost, and not a pass over all nodes. Each move in the document takes a step.
+pub fn judge<L: Ledger>(
+    alloc: Global,
+    rules: &Rules,
+    active: &Active,
+    doc: &Doc<'_>,
+    steps: &mut Steps<L>,
+) -> Result<Findings, AllocError>
+    requires { HasPatterns (seen_rules rules.now) }
+    ensures { IfOk result (λ found. found ≡ spec.findings (seen_rules rules.now) (seen_active active.now) (tree_nodes doc.now)) }
+{
+    let ordinals = Ordinals::new(alloc, doc, steps)?;
+    let scene = Scene {
+        alloc,
+        doc,
+        ordinals: &ordinals,
+    };
+    found_in(&scene, rules, active, steps)
+}

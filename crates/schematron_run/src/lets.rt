@@ -1,0 +1,72 @@
+//! Variables with their values.
+ghost use Rattle.std.specs.Prelude.{◌≡◌, ◌<◌, ◌∷◌, [], Some, OnOk};
+ghost use Rattle.xpath_steps.specs.Variables.{ValuesWithin};
+ghost use Rattle.schematron_rules.specs.Seen.{seen_let, seen_lets, seen_phases};
+ghost use Rattle.schematron_run.specs.Judging as spec;
+ghost use Rattle.schematron_run.specs.Scenes.{nodes_of, count};
+
+use crate::scene::Scene;
+use crate::values::value_at;
+use inv_base::Steps;
+use node_arena::NodeId;
+use schematron_rules::{Let, Phase};
+use std::alloc::AllocError;
+use std::sync::ledger::Ledger;
+use xpath_run::Env;
+
+/// Declares variables behind the others, each evaluated at the node with those before it. Their number says where to cut
+/// them off again.
+pub(crate) fn fill<'a, L: Ledger>(
+    scene: &Scene<'_, 'a>,
+    lets: &[Let],
+    n: NodeId,
+    env: &mut Env<'a>,
+    steps: &mut Steps<L>,
+) -> Result<(), AllocError>
+    requires within { n < count scene.now }
+    requires variables { ValuesWithin (count scene.now) env.old }
+    ensures filled { OnOk result (env.new ≡ spec.filled (nodes_of scene.now) n (seen_lets lets.now) env.old) }
+    ensures within { OnOk result (ValuesWithin (count scene.now) env.new) }
+{
+    'lets: for variable in lets {
+        fill_one(scene, variable, n, env, steps)?;
+    }
+    Ok(())
+}
+
+/// Declares one variable.
+fn fill_one<'a, L: Ledger>(
+    scene: &Scene<'_, 'a>,
+    variable: &Let,
+    n: NodeId,
+    env: &mut Env<'a>,
+    steps: &mut Steps<L>,
+) -> Result<(), AllocError>
+    requires within { n < count scene.now }
+    requires variables { ValuesWithin (count scene.now) env.old }
+    ensures filled { OnOk result (env.new ≡ spec.filled (nodes_of scene.now) n (seen_let variable.now ∷ []) env.old) }
+    ensures within { OnOk result (ValuesWithin (count scene.now) env.new) }
+{
+    let outcome = value_at(scene, &variable.plan, n, env, steps)?;
+    env.push(variable.name.as_str(), outcome)?;
+    Ok(())
+}
+
+/// The variables of the phase of that place.
+pub(crate) fn lets_of<'r>(phases: &'r [Phase], phase: Option<usize>) -> &'r [Let]
+    ensures { seen_lets result.now ≡ spec.lets_of (seen_phases phases.now) phase }
+{
+    match phase {
+        None => &[],
+        Some(n) => lets_at(phases, n),
+    }
+}
+
+fn lets_at<'r>(phases: &'r [Phase], n: usize) -> &'r [Let]
+    ensures { seen_lets result.now ≡ spec.lets_of (seen_phases phases.now) (Some n) }
+{
+    match phases.get(n) {
+        None => &[],
+        Some(phase) => phase.lets.as_slice(),
+    }
+}

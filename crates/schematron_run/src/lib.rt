@@ -1,0 +1,14 @@
+//! What the rules of a file find in a document (ISO/IEC 19757-3).
+#![tactic(auto)]
+
+mod assertions;
+mod firsts;
+mod judging;
+mod lets;
+mod messages;
+mod nodes;
+mod patterns;
+mod scene;
+mod values;
+
+pub use judging::judge;

@@ -1,0 +1,49 @@
+//! The value of an expression at a node.
+ghost use Rattle.std.specs.Prelude.{◌≡◌, ◌<◌, IfOk};
+ghost use Rattle.xpath_meaning.specs.Meaning.{mean, at_top, truth_of};
+ghost use Rattle.xpath_meaning.specs.Values.{value};
+ghost use Rattle.xpath_plan.specs.Plans.{expression};
+ghost use Rattle.xpath_steps.specs.Variables.{ValueWithin, ValuesWithin};
+ghost use Rattle.schematron_run.specs.Scenes.{nodes_of, count};
+
+use crate::scene::Scene;
+use inv_base::Steps;
+use node_arena::NodeId;
+use std::alloc::AllocError;
+use std::sync::ledger::Ledger;
+use xpath_items::{DynError, Focus, Item, Outcome};
+use xpath_operators::truth;
+use xpath_plan::Plan;
+use xpath_run::{Env, Run};
+
+/// The value of a plan's expression at a node, or its error.
+pub(crate) fn value_at<'a, L: Ledger>(
+    scene: &Scene<'_, 'a>,
+    plan: &Plan,
+    n: NodeId,
+    env: &Env<'a>,
+    steps: &mut Steps<L>,
+) -> Result<Outcome<'a>, AllocError>
+    requires within { n < count scene.now }
+    requires variables { ValuesWithin (count scene.now) env.now }
+    ensures value { IfOk result (λ outcome. value outcome ≡ mean (nodes_of scene.now) (expression plan.now) (at_top n env.now)) }
+    ensures within { IfOk result (λ outcome. ValueWithin (count scene.now) (value outcome)) }
+{
+    let run = Run::new(scene.alloc, plan, scene.doc)?;
+    let focus = Focus {
+        item: Item::Node(n),
+        position: 1,
+        last: 1,
+    };
+    run.run_plan(scene.alloc, &focus, env, steps)
+}
+
+/// The truth of a value.
+pub(crate) fn truth_in(outcome: &Outcome<'_>) -> Result<bool, DynError>
+    ensures { result ≡ truth_of (value outcome.now) }
+{
+    match outcome {
+        Outcome::Value(items) => truth(items),
+        Outcome::Error(error) => Err(*error),
+    }
+}

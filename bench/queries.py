@@ -6,7 +6,7 @@
 PROGRAM is crates/einv/out/einv if it isn't given, RUNS 3. Saxon-HE is that of Debian's package libsaxonhe-java, run as a query
 processor; its start is taken away by a run of the same expression over an empty document. Where it is missing, its columns are left
 out. Prints for each expression and each invoice of 100, 1,000, 10,000 and 20,000 lines both times and their ratio. Each time is the
-best of the runs, wall clock, output to /dev/null.
+best of the runs, wall clock, output to a pipe.
 """
 import os
 import pathlib

@@ -3,3 +3,4 @@ pub mod LetLemmas
 pub mod MessageLemmas
 pub mod MarkLemmas
 pub mod FirstLemmas
+pub mod CompiledLemmas

@@ -4,6 +4,7 @@
 mod assertions;
 mod firsts;
 mod judging;
+mod law;
 mod lets;
 mod messages;
 mod nodes;
@@ -12,3 +13,4 @@ mod scene;
 mod values;
 
 pub use judging::judge;
+pub use law::compiled_rules_have_patterns;

@@ -1,1 +1,4 @@
 mod ParsedLemmas
+mod BodyLemmas
+mod NameLemmas
+mod CountedLemmas

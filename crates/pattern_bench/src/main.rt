@@ -1,5 +1,5 @@
-//! Measures patterns: `pattern_bench PATTERN LINES TIMES` makes an invoice of that many lines in memory, marks the nodes that match the
-//! pattern that many times, and prints how many there are. `bench/patterns.py` times it.
+//! Measures patterns: `pattern_bench PATTERN LINES TIMES` makes an invoice of that many lines in memory, marks the nodes
+//! that match the pattern that many times, and prints how many there are. `bench/patterns.py` times it.
 #![tactic(auto)]
 
 ghost use Rattle.std.specs.Prelude.{◌≡◌, ◌<◌, length};

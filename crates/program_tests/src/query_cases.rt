@@ -1,5 +1,5 @@
-//! Queries over files and outputs in memory: an expression, `→`, the status, and what is written to the output and, behind `|`, to the error
-//! output. `␊` stands for LF.
+//! Queries over files and outputs in memory: an expression, `→`, the status, and what is written to the output and,
+//! behind `|`, to the error output. `␊` stands for LF.
 
 use inv_base::{MemShelf, MemSink};
 use invoice_cli::run;

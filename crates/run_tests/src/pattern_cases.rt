@@ -1,5 +1,5 @@
-//! Each row: a pattern, and the numbers of the nodes that match it, in document order. The answers follow from section 5.5.3 of
-//! XSLT 2.0: the nodes that the pattern, taken as a path, finds from themselves or from a node around them.
+//! Each row: a pattern, and the numbers of the nodes that match it, in document order. The answers follow from section
+//! 5.5.3 of XSLT 2.0: the nodes that the pattern, taken as a path, finds from themselves or from a node around them.
 ghost use Rattle.std.specs.Prelude.{◌≡◌, ◌<◌, length, IfOk};
 ghost use Rattle.xpath_steps.specs.Variables.{ValuesWithin};
 

@@ -15,6 +15,17 @@ fn numbers_of(alloc: Global, things: &[Thing]) -> Result<Vec<u32>, AllocError> {
     things.iter().map(|thing| thing.number).collect(alloc)
 }
 
+/// The things of a body without copies are those of these numbers.
+fn are_firsts(
+    alloc: Global,
+    graph: &Graph,
+    body: &[Part],
+    want: &[u32],
+) -> Result<bool, AllocError> {
+    let things = graph.firsts(alloc, body)?;
+    Ok(numbers_of(alloc, &things)?.as_slice() == want)
+}
+
 /// 0 puts 1 twice, 2 and 3 put each other, 4 puts one of them, 5 nothing, 6 a rule that isn't there.
 fn small(alloc: Global) -> Result<Graph, AllocError> {
     let mut rules = Vec::new(alloc);
@@ -39,7 +50,7 @@ fn things_are_put_in_order(rt: HostRuntime) -> Result<(), Fail> {
         Part::Puts(2),
         Part::Puts(6),
     ];
-    let things = graph.expand(rt.alloc(), &body)?;
+    let things = graph.expand(rt.alloc(), 9, &body)?;
     let numbers = numbers_of(rt.alloc(), &things)?;
     let want = [7, 1, 100, 2, 3, 1, 100, 2, 6];
     (numbers.as_slice() == want.as_slice())
@@ -92,6 +103,116 @@ fn sizes_stop(rt: HostRuntime) -> Result<(), Fail> {
     (graph.first_back(rt.alloc())? == None)
         .then_some(())
         .ok_or("back")?;
+    Ok(())
+}
+
+/// Where memory isn't wanting, a body has no more things than so many.
+fn has_at_most(alloc: Global, graph: &Graph, most: usize, body: &[Part]) -> bool {
+    graph.expand(alloc, most, body).is_ok()
+}
+
+/// A bound is kept: twelve things are too many for eleven, and 2 ^ 100 for any.
+#[test]
+fn bounds_are_kept(rt: HostRuntime) -> Result<(), Fail> {
+    let graph = doubled(rt.alloc(), 100)?;
+    let kept = [
+        has_at_most(rt.alloc(), &graph, 12, &[Part::Puts(98)]),
+        has_at_most(rt.alloc(), &graph, 11, &[Part::Puts(98)]),
+        has_at_most(rt.alloc(), &graph, 20_000, &[Part::Puts(0)]),
+    ];
+    (kept == [true, false, false]).then_some(()).ok_or("bound")?;
+    Ok(())
+}
+
+/// Without copies the same hundred rules are gone over once each, and so are as many as a large file may have.
+#[test]
+fn copies_are_left_out(rt: HostRuntime) -> Result<(), Fail> {
+    let hundred = doubled(rt.alloc(), 100)?;
+    let deep = doubled(rt.alloc(), 100_000)?;
+    let found = [
+        are_firsts(rt.alloc(), &hundred, &[Part::Puts(0)], &[1, 100, 2])?,
+        are_firsts(rt.alloc(), &deep, &[Part::Puts(0)], &[1, 100, 2])?,
+    ];
+    (found == [true, true]).then_some(()).ok_or("copies")?;
+    Ok(())
+}
+
+/// Numbers that look random, by a linear congruence.
+#[derive(Drop)]
+struct Dice {
+    state: u64,
+}
+
+impl Dice {
+    /// One below the bound, or 0.
+    fn roll(&mut self, bound: u64) -> u64 {
+        self.state = self
+            .state
+            .wrapping_mul(6_364_136_223_846_793_005)
+            .wrapping_add(1_442_695_040_888_963_407);
+        (self.state >> 33).checked_rem(bound).unwrap_or(0)
+    }
+
+    fn part(&mut self) -> Part {
+        let number = self.roll(8);
+        if self.roll(2) == 0 {
+            thing(u32::try_from(number).unwrap_or(0))
+        } else {
+            Part::Puts(usize::try_from(number).unwrap_or(0))
+        }
+    }
+
+    fn body(&mut self, alloc: Global) -> Result<Vec<Part>, AllocError> {
+        let mut parts = Vec::new(alloc);
+        'parts: for _ in 0..self.roll(5) {
+            parts.push(self.part())?;
+        }
+        Ok(parts)
+    }
+}
+
+/// The numbers without their copies, one looked for among the others.
+fn without_copies(alloc: Global, numbers: &[u32]) -> Result<Vec<u32>, AllocError> {
+    let mut found: Vec<u32> = Vec::new(alloc);
+    'numbers: for number in numbers {
+        if !found.contains(number) {
+            found.push(*number)?;
+        }
+    }
+    Ok(found)
+}
+
+fn random_graph(alloc: Global, dice: &mut Dice) -> Result<Graph, AllocError> {
+    let mut rules = Vec::new(alloc);
+    'rules: for _ in 0..6 {
+        rules.push(dice.body(alloc)?)?;
+    }
+    Graph::new(alloc, rules)
+}
+
+/// Whether the things of a body without copies are those that are written out, without copies.
+fn agrees(alloc: Global, graph: &Graph, body: &[Part]) -> Result<bool, AllocError> {
+    let all = graph.expand(alloc, 100_000, body)?;
+    let numbers = numbers_of(alloc, &all)?;
+    let want = without_copies(alloc, &numbers)?;
+    are_firsts(alloc, graph, body, &want)
+}
+
+fn agrees_on_one(alloc: Global, dice: &mut Dice) -> Result<bool, AllocError> {
+    let graph = random_graph(alloc, dice)?;
+    let body = dice.body(alloc)?;
+    agrees(alloc, &graph, &body)
+}
+
+/// What is gone over once is what is written out, without copies, also where rules lead back to themselves.
+#[test]
+fn firsts_are_those_of_all(rt: HostRuntime) -> Result<(), Fail> {
+    let mut dice = Dice { state: 1 };
+    let mut agreed = true;
+    'graphs: for _ in 0..2000 {
+        agreed &= agrees_on_one(rt.alloc(), &mut dice)?;
+    }
+    agreed.then_some(()).ok_or("firsts")?;
     Ok(())
 }
 

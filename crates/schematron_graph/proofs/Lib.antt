@@ -4,3 +4,4 @@ pub mod DepthLemmas
 pub mod BuiltLemmas
 pub mod BackLemmas
 mod Tried
+mod OnceLemmas

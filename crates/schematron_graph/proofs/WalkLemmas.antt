@@ -63,7 +63,7 @@ rest-first value agrees bodies rule e =
 abbrev pub things_left : List (List Part) → Place → List Place → List Thing
 things_left bodies place above = let value : Part → List Thing = things_of (found (things_behind bodies)) in rest_of value bodies place ++ to_come value bodies above
 
-abbrev turn_value : List (List Part) → Part → List ℕ
+abbrev pub turn_value : List (List Part) → Part → List ℕ
 turn_value bodies = turns_of (found (behind turns_of [] bodies))
 
 -- the turns still to make

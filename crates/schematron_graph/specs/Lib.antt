@@ -3,3 +3,5 @@ pub mod Counts
 pub mod Ranked
 pub mod Built
 pub mod Back
+pub mod Firsts
+pub mod Once

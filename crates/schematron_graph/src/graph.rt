@@ -2,6 +2,7 @@ ghost use Rattle.std.specs.Prelude.{◌≡◌, IfOk};
 ghost use Rattle.std.specs.List.{flat_map};
 ghost use Rattle.schematron_graph.specs.Rules.{bodies_of, things_of, ends, expansion};
 ghost use Rattle.schematron_graph.specs.Counts.{count_of};
+ghost use Rattle.schematron_graph.specs.Firsts.{firsts};
 ghost use Rattle.schematron_graph.specs.Ranked.{found, things_behind};
 ghost use Rattle.schematron_graph.specs.Back.{IsFirstBack};
 ghost use Rattle.schematron_graph.specs.Built.{built_body, parts_put};
@@ -74,13 +75,27 @@ impl Graph {
         size_of_parts(&self.ranked, &self.puts, body)
     }
 
+    /// Of each number the first thing of a body, in order, with those of the rules that it puts: what `expand` gives
+    /// without copies. Each rule is gone over once, however often it is put.
+    pub fn firsts(&self, alloc: Global, body: &[Part]) -> Result<Vec<Thing>, AllocError>
+        ensures { IfOk result (λ things. things.items ≡ firsts (expansion self.now body.now)) }
+    {
+        let parts = built_body(alloc, &self.puts, body)?;
+        self.ranked.firsts(alloc, &parts)
+    }
+
     /// The things of a body in order, with those of the rules that it puts at their places. A rule that doesn't end has
-    /// none.
-    pub fn expand(&self, alloc: Global, body: &[Part]) -> Result<Vec<Thing>, AllocError>
+    /// none. More than so many count as want of memory.
+    pub fn expand(
+        &self,
+        alloc: Global,
+        most: usize,
+        body: &[Part],
+    ) -> Result<Vec<Thing>, AllocError>
         ensures { IfOk result (λ things. things.items ≡ expansion self.now body.now) }
     {
         let parts = built_body(alloc, &self.puts, body)?;
-        self.ranked.expand(alloc, &parts)
+        self.ranked.expand(alloc, most, &parts)
     }
 }
 

@@ -8,6 +8,7 @@ mod back;
 mod building;
 mod graph;
 mod guess;
+mod once;
 mod part;
 mod ranked;
 mod walk;

@@ -3,10 +3,12 @@ ghost use Rattle.std.specs.List.{list_all, flat_map};
 ghost use Rattle.schematron_graph.specs.declared.part.Thing.{Thing};
 ghost use Rattle.schematron_graph.specs.Rules.{bodies_of, things_of};
 ghost use Rattle.schematron_graph.specs.Counts.{count_of};
+ghost use Rattle.schematron_graph.specs.Firsts.{firsts};
 ghost use Rattle.schematron_graph.specs.Ranked.{found, things_behind, is_below, are_ranked};
 
+use crate::once::firsts_of_body;
 use crate::part::{Part, Thing};
-use crate::walk::push_things;
+use crate::walk::{push_thing, push_things};
 use std::alloc::{AllocError, Global};
 use std::marker::Model;
 
@@ -68,11 +70,24 @@ impl Ranked {
         size_of_parts(&self.sizes, body)
     }
 
-    /// The things of a body in order, with those of the rules that it puts at their places.
-    pub fn expand(&self, alloc: Global, body: &[Part]) -> Result<Vec<Thing>, AllocError>
+    /// The things of a body in order, with those of the rules that it puts at their places. More than so many count as
+    /// want of memory.
+    pub fn expand(
+        &self,
+        alloc: Global,
+        most: usize,
+        body: &[Part],
+    ) -> Result<Vec<Thing>, AllocError>
         ensures { IfOk result (λ things. things.items ≡ flat_map (things_of (found (things_behind self.now))) body.now) }
     {
-        expanded(alloc, &self.bodies, body)
+        expanded(alloc, most, &self.bodies, body)
+    }
+
+    /// The same without copies: of each number the first.
+    pub fn firsts(&self, alloc: Global, body: &[Part]) -> Result<Vec<Thing>, AllocError>
+        ensures { IfOk result (λ things. things.items ≡ firsts (flat_map (things_of (found (things_behind self.now))) body.now)) }
+    {
+        firsts_of_body(alloc, &self.bodies, body)
     }
 }
 
@@ -103,19 +118,25 @@ fn push_within<T: Drop>(items: &mut Vec<T>, item: T)
     let _ = items.push(item);
 }
 
-fn expanded(alloc: Global, bodies: &[Vec<Part>], body: &[Part]) -> Result<Vec<Thing>, AllocError>
+fn expanded(
+    alloc: Global,
+    most: usize,
+    bodies: &[Vec<Part>],
+    body: &[Part],
+) -> Result<Vec<Thing>, AllocError>
     requires { are_ranked 0 (bodies_of bodies.now) ≡ true }
     ensures { IfOk result (λ things. things.items ≡ flat_map (things_of (found (things_behind (bodies_of bodies.now)))) body.now) }
 {
     let mut things = Vec::new(alloc);
     'parts: for part in body {
-        push_part(alloc, bodies, *part, &mut things)?;
+        push_part(alloc, most, bodies, *part, &mut things)?;
     }
     Ok(things)
 }
 
 fn push_part(
     alloc: Global,
+    most: usize,
     bodies: &[Vec<Part>],
     part: Part,
     things: &mut Vec<Thing>,
@@ -124,11 +145,8 @@ fn push_part(
     ensures { OnOk result (things.new.items ≡ things.old.items ++ things_of (found (things_behind (bodies_of bodies.now))) part) }
 {
     match part {
-        Part::Own(thing) => {
-            things.push(thing)?;
-            Ok(())
-        }
-        Part::Puts(rule) => push_things(alloc, bodies, rule, things),
+        Part::Own(thing) => push_thing(most, thing, things),
+        Part::Puts(rule) => push_things(alloc, most, bodies, rule, things),
     }
 }
 

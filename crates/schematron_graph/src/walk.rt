@@ -1,4 +1,4 @@
-ghost use Rattle.std.specs.Prelude.{◌≡◌, ◌+◌, ◌<◌, ◌^◌, ◌++◌, OnOk, IfSome, slice_get, true};
+ghost use Rattle.std.specs.Prelude.{◌≡◌, ◌+◌, ◌<◌, ◌^◌, [], ◌∷◌, ◌++◌, OnOk, IfSome, slice_get, true};
 ghost use Rattle.schematron_graph.specs.Rules.{bodies_of, body_of};
 ghost use Rattle.schematron_graph.specs.Ranked.{found, things_behind, are_ranked};
 
@@ -25,10 +25,22 @@ pub(crate) fn part_at(bodies: &[Vec<Part>], place: Place) -> Option<Part>
     }
 }
 
+/// Adds a thing. More than so many count as want of memory.
+pub(crate) fn push_thing(most: usize, thing: Thing, out: &mut Vec<Thing>) -> Result<(), AllocError>
+    ensures { OnOk result (out.new.items ≡ out.old.items ++ thing ∷ []) }
+{
+    if out.len() >= most {
+        return Err(AllocError);
+    }
+    out.push(thing)?;
+    Ok(())
+}
+
 /// Adds the things of a rule, with those of the rules that it puts. What it does is linear in how many these are where
 /// each rule that is put has two parts or more.
 pub(crate) fn push_things(
     alloc: Global,
+    most: usize,
     bodies: &[Vec<Part>],
     rank: usize,
     out: &mut Vec<Thing>,
@@ -41,7 +53,7 @@ pub(crate) fn push_things(
     'turns: loop {
         match part_at(bodies, place) {
             Some(Part::Own(thing)) => {
-                out.push(thing)?;
+                push_thing(most, thing, out)?;
                 place.next += 1;
             }
             Some(Part::Puts(rule)) => {

@@ -22,7 +22,7 @@ pub turns-preserved-in-Some-Own : goal.turns-preserved-in-Some-Own
 turns-preserved-in-Some-Own c =
     let bodies : List (List Part) = bodies_of c.args.bodies.now in
     let e = things_left-own bodies c.turns.place c.turns.above.items c.in-Some-Own.thing (sym c.in-Some-Own.ensures.part ∙ ap Some c.in-Some-Own.field-0-is) in
-    rw c.in_ok-push-in-Some-Own.ensures.items
+    rw c.in_ok-push_thing-in-Some-Own.ensures
     (append_assoc c.turns.out.items (c.in-Some-Own.thing ∷ []) (things_left bodies (behind_one c.turns.place) c.turns.above.items)
     ∙ (ap (λ t. c.turns.out.items ++ t) (sym e) ∙ c.turns.invariant))
 

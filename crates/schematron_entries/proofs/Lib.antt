@@ -2,3 +2,8 @@ mod WordLemmas
 mod ReadLemmas
 mod KeyLemmas
 mod DeclaredLemmas
+mod NumberLemmas
+mod RoleLemmas
+mod SeenLemmas
+mod FollowLemmas
+mod DocumentLemmas

@@ -3,3 +3,4 @@ pub mod Reading
 pub mod Keys
 pub mod Firsts
 pub mod Chains
+pub mod Order

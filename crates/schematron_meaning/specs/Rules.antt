@@ -23,7 +23,8 @@ use Rattle.schematron_texts.specs.Replacing.{Parameter, replaced}
 use Rattle.schematron_meaning.specs.Expansion.{File, file_of, Put, puts, Instance, instances}
 use Rattle.schematron_meaning.specs.Written.{prefixes, name_of, with_let, with_lets, schema_scope, outer_scope, pattern_scope, lets_among}
 use Rattle.schematron_meaning.specs.declared.fault.Fault.{Fault}
-use Rattle.schematron_meaning.specs.Faults.{spelled, first_fault}
+use Rattle.schematron_meaning.specs.declared.fault.ExpressionFault.{ExpressionFault}
+use Rattle.schematron_meaning.specs.Faults.{spelled, expression_fault, first_fault}
 
 pub record Let : Type 0 where
   pub name : List ℕ
@@ -77,9 +78,13 @@ abbrev pub expression_spelled : Declared → Result Tree SyntaxFault → Exp
 expression_spelled scope (Err fault) = e.nothing
 expression_spelled scope (Ok tree) = resolved scope [] tree
 
--- the expression of a text in a scope; a text that is refused says nothing
+abbrev pub unless_refused : Option ExpressionFault → Exp → Exp
+unless_refused None x = x
+unless_refused (Some fault) x = e.nothing
+
+-- the expression of a text in a scope; a text that is refused there says nothing
 abbrev pub expression_in : Declared → Bool → List ℕ → Exp
-expression_in scope is_pattern text = expression_spelled scope (spelled is_pattern text)
+expression_in scope is_pattern text = unless_refused (expression_fault is_pattern text scope) (expression_spelled scope (spelled is_pattern text))
 
 -- the replaced value of an attribute; one that isn't there is empty
 abbrev pub text_at : Attribute → List Parameter → Entry → Option (List ℕ)

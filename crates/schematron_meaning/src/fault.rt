@@ -35,8 +35,6 @@ pub enum RuleKind {
     Expression(ExpressionFault),
     /// More patterns, rules or assertions than may be, with those that are put where others are used.
     TooMany,
-    /// Memory ran out.
-    Memory,
 }
 
 /// A fault of a rule file: its kind, the element that it tells, and the attribute if it has one.

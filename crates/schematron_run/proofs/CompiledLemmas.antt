@@ -15,13 +15,15 @@ use Rattle.xpath_grammar.specs.Patterns as trees
 use Rattle.xpath_syntax.specs.Answers.{answer_of_pattern_tree, within_levels}
 use Rattle.xpath_syntax.specs.Values.{most_levels}
 use Rattle.xpath_types.specs.Scopes.{Declared}
+use Rattle.xpath_meaning.specs.Expressions.{Exp}
 use Rattle.xpath_meaning.specs.Resolving.{resolved}
 use Rattle.xpath_marks.specs.Shapes.{is_pattern}
 use Rattle.schematron_meaning.specs.Entries.{Entry, entries}
 use Rattle.schematron_meaning.specs.Expansion.{File, file_of, Instance}
-use Rattle.schematron_meaning.specs.Faults.{tree_spelled, first_fault}
+use Rattle.schematron_meaning.specs.Faults.{spelled, tree_spelled, expression_fault, first_fault}
 use Rattle.schematron_meaning.specs.declared.fault.Fault.{Fault}
-use Rattle.schematron_meaning.specs.Rules.{Rules, expression_spelled, expression_in, rule_of, pattern_of, compiled, rules_unless, rules_of}
+use Rattle.schematron_meaning.specs.declared.fault.ExpressionFault.{ExpressionFault}
+use Rattle.schematron_meaning.specs.Rules.{Rules, expression_spelled, unless_refused, expression_in, rule_of, pattern_of, compiled, rules_unless, rules_of}
 use Rattle.schematron_run.specs.Contexts.{HasContext, HaveContexts, HasPatterns}
 
 all_map : {X Y : Type 0} (P : Y → Type 0) (g : X → Y) (xs : List X) → ((x : X) → P (g x)) → All P (map g xs)
@@ -45,8 +47,8 @@ module _
       by_test true p = by_level (nat_lt most_levels (level x)) p
       by_test false p = refl
 
-  in_scope : (scope : Declared) (text : List ℕ) → is_pattern (expression_in scope true text) ≡ true
-  in_scope scope text = by_length (nat_lt most_bytes (length (encode_utf8_all text)))
+  spelled_in_scope : (scope : Declared) (text : List ℕ) → is_pattern (expression_spelled scope (spelled true text)) ≡ true
+  spelled_in_scope scope text = by_length (nat_lt most_bytes (length (encode_utf8_all text)))
     where
       by_tokens : (answer : Result (List Token) SyntaxFault)
           → is_pattern (expression_spelled scope (elim answer [ Err fault ↦ Err fault | Ok tokens ↦ tree_spelled true (tree_of tokens) ])) ≡ true
@@ -59,6 +61,13 @@ module _
       ])) ≡ true
       by_length true = refl
       by_length false = by_tokens (answer_of_characters text)
+
+  unrefused : (o : Option ExpressionFault) (x : Exp) → is_pattern x ≡ true → is_pattern (unless_refused o x) ≡ true
+  unrefused None x h = h
+  unrefused (Some fault) x h = refl
+
+  in_scope : (scope : Declared) (text : List ℕ) → is_pattern (expression_in scope true text) ≡ true
+  in_scope scope text = unrefused (expression_fault true text scope) _ (spelled_in_scope scope text)
 
   of_rule : (file : File) (instance : Instance) (outer : Declared) (rule : Entry) → HasContext (rule_of file instance outer rule)
   of_rule file instance outer rule = in_scope outer _

@@ -1,6 +1,7 @@
 pub mod AnyLemmas
 pub mod OrderLemmas
 pub mod RangeLemmas
+pub mod ReadLemmas
 pub mod RowLemmas
 pub mod SignLemmas
 pub mod TextLemmas

@@ -72,7 +72,7 @@ bool_order true false = refl
 bool_order false true = refl
 bool_order false false = refl
 
-assoc : {X Y Z : Type 0} (r : Result X DynError) (f : X → Result Y DynError) (g : Y → Result Z DynError) → then_ (then_ r f) g ≡ then_ r (λ x. then_ (f x) g)
+pub assoc : {X Y Z : Type 0} (r : Result X DynError) (f : X → Result Y DynError) (g : Y → Result Z DynError) → then_ (then_ r f) g ≡ then_ r (λ x. then_ (f x) g)
 assoc (Ok x) f g = refl
 assoc (Err x) f g = refl
 
@@ -113,7 +113,7 @@ typed op (i.Date a) (i.Boolean b) t = refl
 typed op (i.Date a) (i.Number b) t = refl
 typed op (i.Date a) (i.String b) t = refl
 
-typed_beside : (x y : Item) → is_typed y ≡ true → beside x y ≡ Ok y
+pub typed_beside : (x y : Item) → is_typed y ≡ true → beside x y ≡ Ok y
 typed_beside x (i.Node n) t = absurd (false≢true t)
 typed_beside x (i.Untyped s) t = absurd (false≢true t)
 typed_beside x (i.Boolean b) t = refl
@@ -121,10 +121,10 @@ typed_beside x (i.Number z) t = refl
 typed_beside x (i.String s) t = refl
 typed_beside x (i.Date day) t = refl
 
-abbrev by_order : Op → Item × Item → Result Bool DynError
+abbrev pub by_order : Op → Item × Item → Result Bool DynError
 by_order op pair = then_ (ordering pair.0 pair.1) (λ order. Ok (holds op order))
 
-general : (op : Op) (x y : Item) → is_general op ≡ true → compare op x y ≡ then_ (made_alike true x y) (by_order op)
+pub general : (op : Op) (x y : Item) → is_general op ≡ true → compare op x y ≡ then_ (made_alike true x y) (by_order op)
 unfolding compare
 general op x y g = ap (λ b. then_ (made_alike b x y) (by_order op)) g
 
@@ -156,7 +156,7 @@ text_row op (i.Untyped s) (i.Date day) g p q = absurd (false≢true q)
 
 -- Beside items of one kind an item is read alike.
 
-beside_alike : (y z : Item) → ((t : List ℕ) → read_beside y t ≡ read_beside z t) → (x : Item) → beside y x ≡ beside z x
+pub beside_alike : (y z : Item) → ((t : List ℕ) → read_beside y t ≡ read_beside z t) → (x : Item) → beside y x ≡ beside z x
 beside_alike y z h (i.Untyped t) = h t
 beside_alike y z h (i.Node n) = refl
 beside_alike y z h (i.Boolean b) = refl
@@ -165,13 +165,13 @@ beside_alike y z h (i.String s) = refl
 beside_alike y z h (i.Date day) = refl
 
 -- the kind by which text is read
-abbrev reads_as : ℕ → List ℕ → Result Item DynError
+abbrev pub reads_as : ℕ → List ℕ → Result Item DynError
 reads_as kind t = elim (kind == 1) [
   | true ↦ boolean_item (read_boolean t)
   | false ↦ elim (kind == 2) [ true ↦ number_item (read_number t) | false ↦ elim (kind == 4) [ true ↦ day_item (read_day t) | false ↦ Ok (i.String t) ] ]
 ]
 
-reads_by : (y : Item) (t : List ℕ) → read_beside y t ≡ reads_as (rank y) t
+pub reads_by : (y : Item) (t : List ℕ) → read_beside y t ≡ reads_as (rank y) t
 reads_by (i.Untyped s) t = refl
 reads_by (i.Node n) t = refl
 reads_by (i.Boolean b) t = refl
@@ -186,7 +186,7 @@ same_row y z e x =
 
 -- ---- rows
 
-any_alike : {X : Type 0} (f g : X → Result Bool DynError) (p : X → Bool) → ((x : X) → p x ≡ true → f x ≡ g x) → (xs : List X) → list_all p xs ≡ true → any_of f xs ≡ any_of g xs
+pub any_alike : {X : Type 0} (f g : X → Result Bool DynError) (p : X → Bool) → ((x : X) → p x ≡ true → f x ≡ g x) → (xs : List X) → list_all p xs ≡ true → any_of f xs ≡ any_of g xs
 any_alike f g p h [] e = refl
 any_alike f g p h (x ∷ xs) e =
     let parts = and_parts (p x) (list_all p xs) e in

@@ -1,5 +1,5 @@
 -- Many items beside many others, where no pair needs a look of its own.
-use Rattle.std.specs.Prelude.{ℕ, Bool, true, false, ◌&&◌, ◌||◌, ◌==◌, List, [], ◌∷◌, Result, Ok, Err, if◌then◌else◌}
+use Rattle.std.specs.Prelude.{ℕ, Bool, true, false, ◌&&◌, ◌||◌, ◌==◌, ◌≡◌, List, [], ◌∷◌, map, Option, Some, None, Result, Ok, Err, if◌then◌else◌}
 use Rattle.std.specs.List.{list_any, list_all}
 use Rattle.std.specs.Ordering.{is_eq, is_lt, is_gt}
 use Rattle.std.specs.declared.cmp.Ordering.{Ordering}
@@ -10,7 +10,7 @@ use Rattle.xpath_items.specs.declared.item.Item.TheVariants as i
 use Rattle.xpath_items.specs.declared.outcome.DynError.{DynError}
 use Rattle.xpath_items.specs.declared.outcome.DynError.TheVariants as e
 use Rattle.xpath_meaning.specs.Values.{then_}
-use Rattle.xpath_meaning.specs.Comparing.{holds, any_of, beside}
+use Rattle.xpath_meaning.specs.Comparing.{is_general, holds, any_of, beside, some_pair}
 use Rattle.xpath_operators.specs.Ranks.{rank, item_cmp}
 use Rattle.xpath_operators.specs.declared.ranking.Ranked.{Ranked}
 
@@ -45,6 +45,17 @@ row other item = then_ (beside other item) (of_kind (rank other))
 abbrev pub rows : Item → (Item → Bool) → List Item → Result Bool DynError
 rows other test xs = any_of (λ x. then_ (row other x) (λ a. Ok (test a))) xs
 
+-- Each item is read so beside another, where something is answered.
+abbrev pub AreRead : Item → List Item → Option (List Item) → Type 0
+AreRead other items None = Unit {0}
+AreRead other items (Some read) = map (row other) items ≡ map Ok read
+
+-- In place of those on the right these may be compared, where something is answered.
+abbrev pub AreAlike : List Item → List Item → Option (List Item) → Type 0
+AreAlike xs ys None = Unit {0}
+AreAlike xs ys (Some read) = (are_comparable xs read ≡ true) × ((op : Op) → is_general op ≡ true → some_pair op xs ys ≡ some_pair op xs read)
+
+-- the comparison holds of an item and some of the others
 abbrev pub holds_of_some : Op → List Item → Item → Bool
 holds_of_some op ys a = list_any (λ y. holds op (item_cmp a y)) ys
 

@@ -1,9 +1,10 @@
 //! Comparisons of values (XPath 2.0, section 3.5), at atomised operands.
-ghost use Rattle.std.specs.Prelude.{◌≡◌, true, false};
+ghost use Rattle.std.specs.Prelude.{◌≡◌, ◌<◌, true, false, length};
 ghost use Rattle.xpath_items.specs.Faults.{Gives};
 ghost use Rattle.xpath_meaning.specs.Comparing as meaning;
 
 use crate::comparing::{compare, is_general};
+use crate::rows::read_alike;
 use crate::searching::{are_comparable, some_pair_of_many};
 use crate::values::boolean;
 use std::alloc::Global;
@@ -47,15 +48,31 @@ fn some_pair<'a>(op: Op, xs: &[Item<'a>], ys: &[Item<'a>]) -> Result<bool, DynEr
     Ok(false)
 }
 
-/// The same. Where both sides are long and no pair needs a look of its own, it takes about the time of sorting one side.
+/// The same of long sides. Unless items of several kinds stand on both, it takes about the time of sorting one of them.
+fn pair_of_many<'a>(alloc: Global, op: Op, xs: &[Item<'a>], ys: &[Item<'a>]) -> Result<bool, Fault>
+    requires general { meaning.is_general op ≡ true }
+    requires xs { 0 < length xs.now }
+    requires ys { 0 < length ys.now }
+    ensures { Gives result (meaning.some_pair op xs.now ys.now) }
+{
+    if are_comparable(xs, ys) {
+        return some_pair_of_many(alloc, op, xs, ys);
+    }
+    match read_alike(alloc, xs, ys)? {
+        Some(read) => some_pair_of_many(alloc, op, xs, &read),
+        None => Ok(some_pair(op, xs, ys)?),
+    }
+}
+
+/// The same, by the way that suits the sides' lengths.
 fn found_pair<'a>(alloc: Global, op: Op, xs: &[Item<'a>], ys: &[Item<'a>]) -> Result<bool, Fault>
     requires { meaning.is_general op ≡ true }
     ensures { Gives result (meaning.some_pair op xs.now ys.now) }
 {
-    if xs.len() < FEW || ys.len() < FEW || !are_comparable(xs, ys) {
+    if xs.len() < FEW || ys.len() < FEW {
         Ok(some_pair(op, xs, ys)?)
     } else {
-        some_pair_of_many(alloc, op, xs, ys)
+        pair_of_many(alloc, op, xs, ys)
     }
 }
 

@@ -10,6 +10,7 @@ mod numbers;
 mod ranges;
 mod ranking;
 mod readings;
+mod rows;
 mod searching;
 mod spaces;
 mod strings;

@@ -19,7 +19,7 @@ use std::cmp::Ordering;
 use xpath_grammar::operators::Op;
 use xpath_items::{DynError, Fault, Item, Str};
 
-fn is_typed_as(kind: u8, item: &Item<'_>) -> bool
+pub(crate) fn is_typed_as(kind: u8, item: &Item<'_>) -> bool
     ensures { result ≡ spec.is_typed_as kind item.now }
 {
     match item {
@@ -37,7 +37,7 @@ fn is_textual(item: &Item<'_>) -> bool
     }
 }
 
-fn are_typed_as(kind: u8, items: &[Item<'_>]) -> bool
+pub(crate) fn are_typed_as(kind: u8, items: &[Item<'_>]) -> bool
     ensures { result ≡ list_all (spec.is_typed_as kind) items.now }
 {
     items.iter().all(|item| is_typed_as(kind, item))
@@ -60,7 +60,7 @@ pub(crate) fn are_comparable(xs: &[Item<'_>], ys: &[Item<'_>]) -> bool
 }
 
 /// Untyped text as what the other item is.
-fn read_beside<'t>(other: &Item<'_>, text: &'t str) -> Result<Item<'t>, DynError>
+pub(crate) fn read_beside<'t>(other: &Item<'_>, text: &'t str) -> Result<Item<'t>, DynError>
     ensures { result ≡ meaning.read_beside other.now (chars text.now) }
 {
     match other {

@@ -1,4 +1,0 @@
-mod ParsedLemmas
-mod BodyLemmas
-mod NameLemmas
-mod CountedLemmas

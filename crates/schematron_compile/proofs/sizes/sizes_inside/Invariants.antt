@@ -1,8 +1,0 @@
-use Rattle.std.proofs.Common.{◌≡◌, take}
-use Rattle.schematron_entries.specs.Seen.{seen_entries}
-use Rattle.schematron_compile.specs.Sizes.{file_with, assertions_inside_all}
-use Rattle.schematron_compile.proofs.sizes.sizes_inside.Given as goal
-
--- the entries so far
-abbrev pub invariant-entries : goal.invariant-entries
-invariant-entries l = l.found.items ≡ assertions_inside_all (file_with (seen_entries l.entries) l.graph) (seen_entries (take l.e-index l.entries))

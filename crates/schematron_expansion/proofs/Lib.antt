@@ -1,0 +1,5 @@
+mod ChainLemmas
+mod BodyLemmas
+mod NameLemmas
+mod CountedLemmas
+mod PutLemmas

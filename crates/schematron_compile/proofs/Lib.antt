@@ -1,0 +1,5 @@
+mod OrderLemmas
+mod PlaceLemmas
+mod ScopeLemmas
+mod BuiltLemmas
+mod NodeLemmas

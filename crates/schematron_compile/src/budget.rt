@@ -1,0 +1,54 @@
+//! How much a file may make.
+ghost use Rattle.std.specs.Prelude.{◌≡◌, ◌≤◌, chars, IfOk};
+
+use inv_base::Txt;
+use std::alloc::{AllocError, Global};
+
+/// How many things one file makes at most: lets, rules, assertions and parts of messages, each wherever it is put.
+pub(crate) const MOST_THINGS: usize = 4_000_000;
+
+/// How many bytes of texts one file makes at most.
+pub(crate) const MOST_BYTES: usize = 268_435_456;
+
+/// How much may still be made. So a small file whose rules put others many times can't take all memory: what passes a
+/// limit counts as want of memory.
+#[derive(Drop)]
+pub(crate) struct Budget {
+    things: usize,
+    bytes: usize,
+}
+
+impl Budget {
+    /// Nothing was made yet.
+    pub(crate) fn new() -> Budget {
+        Budget {
+            things: MOST_THINGS,
+            bytes: MOST_BYTES,
+        }
+    }
+
+    /// Counts a thing.
+    pub(crate) fn take_thing(&mut self) -> Result<(), AllocError> {
+        if self.things == 0 {
+            return Err(AllocError);
+        }
+        self.things -= 1;
+        Ok(())
+    }
+
+    /// How many bytes of texts may still be made.
+    pub(crate) fn bytes(&self) -> usize {
+        self.bytes
+    }
+
+    /// A copy of a text, whose bytes are counted.
+    pub(crate) fn copied(&mut self, alloc: Global, text: &str) -> Result<Txt, AllocError>
+        ensures { IfOk result (λ copy. copy ≡ chars text.now) }
+    {
+        if text.len() > self.bytes {
+            return Err(AllocError);
+        }
+        self.bytes -= text.len();
+        Txt::of(alloc, text)
+    }
+}

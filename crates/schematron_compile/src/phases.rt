@@ -1,0 +1,108 @@
+//! Phases.
+ghost use Rattle.std.specs.Prelude.{◌≡◌, [], map, IfOk, OnOk};
+ghost use Rattle.schematron_meaning.specs.Lookup as lookup;
+ghost use Rattle.schematron_meaning.specs.Rules as spec;
+ghost use Rattle.schematron_meaning.specs.Expansion as expansion;
+ghost use Rattle.schematron_meaning.specs.Written as written;
+ghost use Rattle.schematron_entries.specs.Seen.{seen_entry, seen_entries};
+ghost use Rattle.schematron_rules.specs.Seen.{seen_phases, seen_phase};
+ghost use Rattle.schematron_compile.specs.Lent.{lent_entries, lent_instances};
+ghost use Rattle.schematron_compile.specs.Places.{ArePlaces, places_in, ids_of};
+
+use crate::budget::Budget;
+use crate::lets::{declare_all, lets_behind};
+use crate::patterns::copied;
+use crate::picking::push_if;
+use crate::places::{Places, numbers_named};
+use inv_base::Many;
+use schematron_entries::Entry;
+use schematron_expansion::{RuleFile, Sort};
+use schematron_meaning::{Attribute, Role};
+use schematron_rules::Phase;
+use schematron_texts::Parameters;
+use std::alloc::{AllocError, Global};
+use xpath_types::Scope;
+
+fn is_phase(role: Role) -> bool
+    ensures { result ≡ lookup.is_phase role }
+{
+    matches!(role, Role::Phase)
+}
+
+/// The phases of a file.
+pub(crate) fn phases_among<'e, 'd>(
+    alloc: Global,
+    entries: &'e [Entry<'d>],
+) -> Result<Vec<&'e Entry<'d>>, AllocError>
+    ensures { IfOk result (λ found. lent_entries found.items ≡ lookup.of_role lookup.is_phase (seen_entries entries.now)) }
+{
+    let mut found = Vec::new(alloc);
+    'entries: for e in entries {
+        push_if(&mut found, e, is_phase(e.role))?;
+    }
+    Ok(found)
+}
+
+/// A phase in the scope of the schema, which is the same behind it.
+fn phase_of<'d>(
+    alloc: Global,
+    budget: &mut Budget,
+    file: &RuleFile<'_, 'd>,
+    scope: &mut Scope,
+    places: &Places<'d>,
+    e: &Entry<'d>,
+) -> Result<Phase, AllocError>
+    requires scope { scope.old ≡ written.schema_scope file.now.entries }
+    requires places { ArePlaces (places_in places.now) (ids_of (expansion.instances file.now.entries)) }
+    ensures phase { IfOk result (λ phase. seen_phase phase ≡ spec.phase_of file.now.entries (seen_entry e.now)) }
+    ensures scope { OnOk result (scope.new ≡ scope.old) }
+{
+    let none = Parameters::new(alloc);
+    let id = copied(alloc, budget, e.attribute(Attribute::Id))?;
+    let count = scope.count();
+    let lets = file.inside(alloc, Sort::Lets, e.node.number())?;
+    let lets = lets_behind(alloc, budget, &none, scope, lets)?;
+    scope.truncate(count);
+    let actives = file.inside(alloc, Sort::Actives, e.node.number())?;
+    let patterns = numbers_named(alloc, places, actives)?;
+    Ok(Phase { id, lets, patterns })
+}
+
+/// Phases in the scope of the schema, which is the same behind them.
+pub(crate) fn phases_of<'d>(
+    alloc: Global,
+    budget: &mut Budget,
+    file: &RuleFile<'_, 'd>,
+    scope: &mut Scope,
+    places: &Places<'d>,
+    phases: Vec<&Entry<'d>>,
+) -> Result<Many<Phase>, AllocError>
+    requires scope { scope.old ≡ written.schema_scope file.now.entries }
+    requires places { ArePlaces (places_in places.now) (ids_of (expansion.instances file.now.entries)) }
+    ensures phases { IfOk result (λ found. seen_phases found ≡ map (spec.phase_of file.now.entries) (lent_entries phases.entry.items)) }
+    ensures scope { OnOk result (scope.new ≡ scope.old) }
+{
+    let mut found = Many::new(alloc);
+    'phases: for e in phases {
+        found.push(phase_of(alloc, budget, file, scope, places, e)?)?;
+    }
+    Ok(found)
+}
+
+/// Declares the lets of all phases: what a pattern may name.
+pub(crate) fn declare_phases(
+    alloc: Global,
+    file: &RuleFile<'_, '_>,
+    scope: &mut Scope,
+    phases: Vec<&Entry<'_>>,
+) -> Result<(), AllocError>
+    requires { lent_entries phases.items ≡ lookup.of_role lookup.is_phase file.now.entries }
+    ensures { OnOk result (scope.new ≡ written.with_lets [] scope.old (written.phase_lets file.now.entries)) }
+{
+    let none = Parameters::new(alloc);
+    'phases: for e in phases {
+        let lets = file.inside(alloc, Sort::Lets, e.node.number())?;
+        declare_all(alloc, &none, scope, lets)?;
+    }
+    Ok(())
+}

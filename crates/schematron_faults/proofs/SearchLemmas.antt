@@ -1,0 +1,51 @@
+-- How a search goes on.
+use Rattle.std.proofs.Common.{◌≡◌, ℕ, ◌+◌, ◌<◌, ◌≤◌, false, List, [], ◌∷◌, ◌++◌, length, drop, get_or, map, Option, Result, Ok, Err, OnOk, refl, ap, sym, ◌∙◌, subst}
+use Rattle.std.proofs.lemmas.List.{drop_more, drop_all}
+use Rattle.schematron_meaning.specs.Written.{Written}
+use Rattle.schematron_expansion.specs.declared.found.Found.{Found}
+use Rattle.schematron_faults.specs.declared.search.Search.{Search}
+use Rattle.schematron_faults.specs.Least.{soonest}
+use Rattle.schematron_faults.specs.Searching.{Goes, wants}
+use Rattle.schematron_faults.proofs.EachLemmas.{Each}
+use Rattle.schematron_faults.proofs.CoverLemmas.{soonest-append, soonest-nil}
+use Rattle.schematron_faults.proofs.StandLemmas.{IsAt}
+use Rattle.schematron_faults.proofs.SkipLemmas.{skipped}
+
+pub goes_none : (s : Search) → Goes s s []
+goes_none s = record { best = sym (soonest-nil s.best s.last); last = refl }
+
+pub goes-append : (s t u : Search) (xs ys : List Written) → Goes s t xs → Goes t u ys → Goes s u (xs ++ ys)
+goes-append s t u xs ys g h = record {
+  best = h.best ∙ (ap (λ (x : Option Found). soonest x t.last ys) g.best ∙ (ap (λ (l : Option ℕ). soonest (soonest s.best s.last xs) l ys) g.last ∙ sym (soonest-append s.best s.last xs ys)));
+  last = h.last ∙ g.last;
+}
+
+-- a search that begins as another, which has the same so far
+pub goes_from : (s t u : Search) (ws : List Written) → Goes s t [] → Goes t u ws → Goes s u ws
+goes_from s t u ws g h = goes-append s t u [] ws g h
+
+pub on_ok : {A E : Type 0} (r : Result A E) {P Q : Type 0} → (P → Q) → OnOk r P → OnOk r Q
+on_ok (Ok x) f p = f p
+on_ok (Err x) f p = tt
+
+-- ---- one expression
+
+-- one whose fault wouldn't be told
+pub goes_past : (s : Search) (n : ℕ) (ws : List Written) → wants s n ≡ false → Each (IsAt n) ws → Goes s s ws
+goes_past s n ws h at = record { best = sym (skipped s.best s.last n ws h at); last = refl }
+
+-- ---- loops
+
+-- One turn goes over the first of what is left.
+pub goes_turn : (init s t : Search) (whole left xs ys : List Written) → left ≡ xs ++ ys → Goes s t xs → ((u : Search) → Goes s u left → Goes init u whole) → (u : Search) → Goes t u ys → Goes init u whole
+goes_turn init s t whole left xs ys e g h u k = h u (subst (Goes s u) (sym e) (goes-append s t u xs ys g k))
+
+-- Where nothing is left, the whole was gone over.
+pub goes_end : (init s : Search) (whole left : List Written) → left ≡ [] → ((u : Search) → Goes s u left → Goes init u whole) → Goes init s whole
+goes_end init s whole left e h = h s (subst (Goes s s) (sym e) (goes_none s))
+
+pub seen_next : {X Y : Type 0} (f : X → Y) (xs : List X) (i : ℕ) (x : X) → x ≡ get_or xs i x → i < length xs → map f (drop i xs) ≡ f x ∷ map f (drop (i + 1) xs)
+seen_next f xs i x at l = ap (map f) (drop_more xs i x l ∙ ap (λ y. y ∷ drop (i + 1) xs) (sym at))
+
+pub seen_done : {X Y : Type 0} (f : X → Y) (xs : List X) (i : ℕ) → length xs ≤ i → map f (drop i xs) ≡ []
+seen_done f xs i l = ap (map f) (drop_all i xs l)

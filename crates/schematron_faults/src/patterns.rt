@@ -1,0 +1,151 @@
+//! Patterns that are judged, with what they have or use.
+ghost use Rattle.std.specs.Prelude.{◌≡◌, [], OnOk};
+ghost use Rattle.schematron_meaning.specs.Lookup.{inside};
+ghost use Rattle.schematron_meaning.specs.Written as written;
+ghost use Rattle.schematron_entries.specs.Seen.{seen_entry};
+ghost use Rattle.schematron_expansion.specs.Seen.{seen_instance};
+ghost use Rattle.schematron_faults.specs.Read.{IsRead, IsItem};
+ghost use Rattle.schematron_faults.specs.Searching as spec;
+ghost use Rattle.schematron_faults.specs.Things as things;
+
+use crate::lets::{declare_lets, judge_let};
+use crate::phases::outer_scope;
+use crate::rules::{is_let, judge_rule};
+use crate::search::{Search, wants_at};
+use schematron_entries::Entry;
+use schematron_expansion::{Instance, RuleFile, Sort};
+use std::alloc::{AllocError, Global};
+use xpath_types::Scope;
+
+/// What is declared, while a pattern is gone over.
+#[derive(Drop)]
+pub(crate) struct Scopes {
+    /// Before a let of the pattern.
+    pub pattern: Scope,
+    /// Before a let of a rule.
+    pub rule: Scope,
+    /// In all of a rule.
+    pub all: Scope,
+}
+
+/// Goes over the patterns that are judged.
+pub(crate) fn judge_patterns(
+    alloc: Global,
+    search: &mut Search,
+    file: &RuleFile<'_, '_>,
+) -> Result<(), AllocError>
+    ensures { OnOk result (IsRead file.now → spec.Goes search.old search.new (things.written_patterns file.now)) }
+{
+    let mut scopes = Scopes {
+        pattern: outer_scope(alloc, file)?,
+        rule: outer_scope(alloc, file)?,
+        all: outer_scope(alloc, file)?,
+    };
+    let instances = file.instances(alloc)?;
+    'instances: for instance in &instances {
+        judge_instance(alloc, search, file, &mut scopes, instance)?;
+    }
+    Ok(())
+}
+
+/// Goes over a pattern, unless nothing of it would be told.
+fn judge_instance(
+    alloc: Global,
+    search: &mut Search,
+    file: &RuleFile<'_, '_>,
+    scopes: &mut Scopes,
+    instance: &Instance<'_, '_>,
+) -> Result<(), AllocError>
+    requires { spec.AreAll scopes.old (written.outer_scope file.now.entries) }
+    ensures goes { OnOk result (IsRead file.now → spec.Goes search.old search.new (written.written_pattern file.now (written.outer_scope file.now.entries) (seen_instance instance.now))) }
+    ensures scopes { OnOk result (spec.AreAll scopes.new (written.outer_scope file.now.entries)) }
+{
+    if !wants_at(search, instance.stand) {
+        return Ok(());
+    }
+    let count = scopes.pattern.count();
+    declare_pattern(alloc, search, file, scopes, instance)?;
+    judge_items(alloc, search, file, scopes, instance)?;
+    scopes.pattern.truncate(count);
+    scopes.rule.truncate(count);
+    scopes.all.truncate(count);
+    Ok(())
+}
+
+/// Declares all lets of a pattern in the scopes of its rules.
+fn declare_pattern(
+    alloc: Global,
+    search: &mut Search,
+    file: &RuleFile<'_, '_>,
+    scopes: &mut Scopes,
+    instance: &Instance<'_, '_>,
+) -> Result<(), AllocError>
+    requires { spec.AreAll scopes.old (written.outer_scope file.now.entries) }
+    ensures goes { OnOk result (spec.Goes search.old search.new []) }
+    ensures scopes { OnOk result (spec.AreFor file.now (seen_instance instance.now) scopes.new) }
+{
+    let params = &instance.params;
+    declare_lets(alloc, search, file, params, &mut scopes.rule, instance.body)?;
+    declare_lets(alloc, search, file, params, &mut scopes.all, instance.body)
+}
+
+/// Goes over the lets and rules of a pattern.
+fn judge_items(
+    alloc: Global,
+    search: &mut Search,
+    file: &RuleFile<'_, '_>,
+    scopes: &mut Scopes,
+    instance: &Instance<'_, '_>,
+) -> Result<(), AllocError>
+    requires { scopes.old.rule ≡ scopes.old.all }
+    ensures goes { OnOk result (IsRead file.now → spec.Goes search.old search.new
+        (written.written_items file.now (seen_instance instance.now) scopes.old.all scopes.old.pattern (inside written.is_let_or_rule file.now.entries instance.now.body))) }
+    ensures pattern { OnOk result (scopes.new.pattern
+        ≡ things.with_entries instance.now.params scopes.old.pattern (inside written.is_let_or_rule file.now.entries instance.now.body)) }
+    ensures rule { OnOk result (scopes.new.rule ≡ scopes.old.rule) }
+    ensures all { OnOk result (scopes.new.all ≡ scopes.old.all) }
+{
+    let items = file.inside(alloc, Sort::LetsAndRules, instance.body)?;
+    'items: for e in items {
+        judge_item(alloc, search, file, scopes, instance, e)?;
+    }
+    Ok(())
+}
+
+/// Goes over a let or a rule of a pattern.
+fn judge_item(
+    alloc: Global,
+    search: &mut Search,
+    file: &RuleFile<'_, '_>,
+    scopes: &mut Scopes,
+    instance: &Instance<'_, '_>,
+    e: &Entry<'_>,
+) -> Result<(), AllocError>
+    requires { scopes.old.rule ≡ scopes.old.all }
+    ensures goes { OnOk result (IsRead file.now → IsItem file.now.entries (seen_entry e.now)
+        → spec.Goes search.old search.new (things.written_item file.now (seen_instance instance.now) scopes.old.all scopes.old.pattern (seen_entry e.now))) }
+    ensures pattern { OnOk result (scopes.new.pattern ≡ things.with_entry instance.now.params scopes.old.pattern (seen_entry e.now)) }
+    ensures rule { OnOk result (scopes.new.rule ≡ scopes.old.rule) }
+    ensures all { OnOk result (scopes.new.all ≡ scopes.old.all) }
+{
+    if is_let(e.role) {
+        judge_let(
+            alloc,
+            search,
+            instance.stand,
+            &instance.params,
+            &mut scopes.pattern,
+            e,
+        )
+    } else {
+        judge_rule(
+            alloc,
+            search,
+            file,
+            instance,
+            &mut scopes.rule,
+            &mut scopes.all,
+            e,
+        )
+    }
+}

@@ -10,4 +10,4 @@ returns-in-Ok-clause-answer g c = c.of_entries.ensures (tree_nodes c.args.doc.no
 pub returns-in-Ok-clause-node : goal.returns-in-Ok-clause-node
 returns-in-Ok-clause-node g c =
     node_is c.args.doc.now c.of_entries.result c.nodes_are_in_order.ensures c.faults_tell_nodes.ensures
-        (c.of_entries.ensures (tree_nodes c.args.doc.now) c.nodes_are_in_order.ensures (ap seen_entries c.deref.ensures.value ∙ c.in-Ok.ensures))
+    (c.of_entries.ensures (tree_nodes c.args.doc.now) c.nodes_are_in_order.ensures (ap seen_entries c.deref.ensures.value ∙ c.in-Ok.ensures))

@@ -21,7 +21,7 @@ use schematron_rules::Rule;
 use std::alloc::{AllocError, Global};
 use xpath_types::Scope;
 
-/// How many lets and assertions one rule has at most, with those that it extends.
+/// How many lets and assertions one `extends` puts at most.
 const MOST_PUTS: usize = 1_000_000;
 
 fn is_let(role: Role) -> bool

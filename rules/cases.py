@@ -28,7 +28,10 @@ from xml.sax.saxutils import escape, quoteattr
 
 HERE = pathlib.Path(__file__).resolve().parent
 RULES = {"ubl": HERE / "en16931-ubl.sch", "cii": HERE / "en16931-cii.sch"}
-EXAMPLES = {"ubl": ("invoice-ubl.xml", "invoice-cii-in-ubl.xml"), "cii": ("invoice-cii.xml", "invoice-ubl-in-cii.xml")}
+EXAMPLES = {
+    "ubl": ("invoice-ubl.xml", "invoice-cii-in-ubl.xml", "credit-note-ubl.xml", "credit-note-cii-in-ubl.xml"),
+    "cii": ("invoice-cii.xml", "invoice-ubl-in-cii.xml", "credit-note-cii.xml", "credit-note-ubl-in-cii.xml"),
+}
 SAXON = "/usr/share/java/Saxon-HE.jar"
 SCHEMATRON = "{http://purl.oclc.org/dsdl/schematron}"
 

@@ -67,6 +67,28 @@ fn files_in_memory_are_read(rt: HostRuntime) -> Result<(), Fail> {
     Ok(())
 }
 
+/// What a shelf gives that reads at most so many bytes at a time, into a buffer of 4.
+const READS: &str = "\
+1>h e l l o .
+2>he ll o .
+3>hel lo .
+4>hell o .
+5>hell o .";
+
+#[test]
+fn reads_come_in_pieces(rt: HostRuntime) -> Result<(), Fail> {
+    for row in READS.lines() {
+        let (piece, want) = row.split_once('>').ok_or("row")?;
+        let mut shelf = MemShelf::new(rt.alloc()).with_piece(piece.parse::<usize>()?.max(1));
+        shelf.add("file", b"hello")?;
+        check(shelf.open("file").is_ok(), "open")?;
+        for word in want.split(' ') {
+            check(reads(&mut shelf, 4, word.trim_end_matches('.')), row)?;
+        }
+    }
+    Ok(())
+}
+
 /// Pieces written to a sink with room for 9 bytes whose 2nd write fails, and how many bytes of each are taken.
 const PIECES: &str = "\
 one>3

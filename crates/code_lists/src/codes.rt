@@ -42,6 +42,7 @@ impl Model for Codes {
 }
 
 impl Codes {
+    /// No codes.
     pub fn new(alloc: Global) -> Codes
         ensures { result ≡ [] }
     {
@@ -61,6 +62,7 @@ impl Codes {
         Ok(codes)
     }
 
+    /// Takes a code in, behind the others where it is new.
     pub fn add(&mut self, alloc: Global, code: &str) -> Result<(), AllocError>
         ensures { OnOk result (self.new ≡ spec.with_code self.old (chars code.now)) }
     {
@@ -68,6 +70,7 @@ impl Codes {
         Ok(())
     }
 
+    /// Whether the code is among them.
     pub fn has(&self, code: &str) -> bool
         ensures { result ≡ spec.has_code self.now (chars code.now) }
     {

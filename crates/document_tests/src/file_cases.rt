@@ -2,7 +2,7 @@
 
 use crate::documents::LIMITS;
 use bumpalo::Bump;
-use inv_base::MemShelf;
+use inv_base::{MemShelf, Shelf};
 use std::alloc::Global;
 use std::test::Fail;
 use xml_document::{LoadFault, WholeFault, load, read_whole};
@@ -52,6 +52,51 @@ fn a_file_is_loaded_or_refused(rt: HostRuntime) -> Result<(), Fail> {
         let want = cells.next().ok_or("answer")?;
         let mut shelf = shelf_with(rt.alloc(), content, failing)?;
         assert_eq!(rt; loaded(rt.alloc(), &mut shelf, name)?.as_str(), want);
+    }
+    Ok(())
+}
+
+/// However a shelf cuts a file, its document is the same.
+#[test]
+fn a_file_is_loaded_in_pieces(rt: HostRuntime) -> Result<(), Fail> {
+    for piece in [1usize, 2, 3, 65_536] {
+        for row in LOADED.lines() {
+            let mut cells = row.split('|');
+            let content = cells.next().ok_or("content")?;
+            let failing = cells.next().ok_or("failing")?;
+            let name = cells.next().ok_or("name")?;
+            let want = cells.next().ok_or("answer")?;
+            if failing == "0" {
+                let mut shelf = shelf_with(rt.alloc(), content, 0)?.with_piece(piece.max(1));
+                assert_eq!(rt; loaded(rt.alloc(), &mut shelf, name)?.as_str(), want);
+            }
+        }
+    }
+    Ok(())
+}
+
+/// The bytes of a piece, and the next bytes that are left behind a fault that the byte `>` at 6 shows.
+const LEFT: &str = "\
+1|r
+2|es
+3|sta
+7|restart
+8|estart
+65536|";
+
+#[test]
+fn nothing_is_read_behind_a_fault(rt: HostRuntime) -> Result<(), Fail> {
+    for row in LEFT.lines() {
+        let (piece, want) = row.split_once('|').ok_or("row")?;
+        let piece = piece.parse::<usize>()?.max(1);
+        let mut shelf = shelf_with(rt.alloc(), "<a></b>restart", 0)?.with_piece(piece);
+        assert_eq!(rt;
+            loaded(rt.alloc(), &mut shelf, "file")?.as_str(),
+            "Mismatched at 3"
+        );
+        let mut left = [0u8; 9];
+        let count = shelf.read(&mut left).map_err(|_| "read")?;
+        assert_eq!(rt; &left[..count], want.as_bytes());
     }
     Ok(())
 }

@@ -1,6 +1,6 @@
 //! Rules that put each other, by hand.
 
-use schematron_graph::{Graph, Part, Spot, Thing};
+use schematron_graph::{Graph, Part, Spot, Thing, Turns};
 use std::alloc::{AllocError, Global};
 use std::test::Fail;
 
@@ -22,7 +22,8 @@ fn are_firsts(
     body: &[Part],
     want: &[u32],
 ) -> Result<bool, AllocError> {
-    let things = graph.firsts(alloc, body)?;
+    let mut ample = Turns { left: u64::MAX };
+    let things = graph.firsts(alloc, &mut ample, body)?;
     Ok(numbers_of(alloc, &things)?.as_slice() == want)
 }
 
@@ -134,6 +135,61 @@ fn copies_are_left_out(rt: HostRuntime) -> Result<(), Fail> {
         are_firsts(rt.alloc(), &deep, &[Part::Puts(0)], &[1, 100, 2])?,
     ];
     (found == [true, true]).then_some(()).ok_or("copies")?;
+    Ok(())
+}
+
+/// Rules that take the most turns for what they have: ten for four things.
+fn bushy(alloc: Global) -> Result<Graph, AllocError> {
+    let mut rules = Vec::new(alloc);
+    rules.push(vec![in alloc; Part::Puts(1), Part::Puts(2)]?)?;
+    rules.push(vec![in alloc; thing(1), thing(2)]?)?;
+    rules.push(vec![in alloc; thing(3), thing(4)]?)?;
+    Graph::new(alloc, rules)
+}
+
+/// A walk takes its turns of those that are left, and gives up where they don't suffice.
+#[test]
+fn turns_are_taken(rt: HostRuntime) -> Result<(), Fail> {
+    let graph = bushy(rt.alloc())?;
+    let mut enough = Turns { left: 10 };
+    let things = graph.firsts(rt.alloc(), &mut enough, &[Part::Puts(0)])?;
+    (things.len() == 4).then_some(()).ok_or("things")?;
+    (enough.left == 0).then_some(()).ok_or("turns")?;
+    let mut few = Turns { left: 9 };
+    let gives_up = graph
+        .firsts(rt.alloc(), &mut few, &[Part::Puts(0)])
+        .is_err();
+    gives_up.then_some(()).ok_or("too few")?;
+    Ok(())
+}
+
+/// How often the things of a rule are found before no turn is left, at most so often.
+fn walks_until_none(alloc: Global, graph: &Graph, mut left: Turns, most: usize) -> usize {
+    'walks: for walk in 0..most {
+        if graph.firsts(alloc, &mut left, &[Part::Puts(0)]).is_err() {
+            return walk;
+        }
+    }
+    most
+}
+
+/// One rule of 3,000 things.
+fn long(alloc: Global) -> Result<Graph, AllocError> {
+    let mut body = Vec::new(alloc);
+    'things: for number in 0..3_000 {
+        body.push(thing(number))?;
+    }
+    Graph::new(alloc, vec![in alloc; body]?)
+}
+
+/// What is put very often doesn't cost its length each time: 300,000 turns suffice for 99 of 3,000 walks.
+#[test]
+fn many_walks_end(rt: HostRuntime) -> Result<(), Fail> {
+    let graph = long(rt.alloc())?;
+    let left = Turns { left: 300_000 };
+    (walks_until_none(rt.alloc(), &graph, left, 3_000) == 99)
+        .then_some(())
+        .ok_or("walks")?;
     Ok(())
 }
 

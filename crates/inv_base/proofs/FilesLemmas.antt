@@ -1,13 +1,13 @@
 -- Files in memory, one more at a time.
-use Rattle.std.proofs.Common.{◌≡◌, ℕ, ◌+◌, ◌<◌, min, drop, Ok, length-append, length-take, length-drop, List, [], ◌∷◌, ◌++◌, map, reverse, take, get_or, length, Bool, true, false, ◌||◌, cond, Some, option_map, unwrap_or, refl, ap, sym, ◌∙◌, string_bytes, bytes_eq, arith, MatchOption, Option, None}
+use Rattle.std.proofs.Common.{◌≡◌, ℕ, ◌+◌, ◌<◌, ◌≤◌, min, drop, Ok, length-append, length-take, length-drop, List, [], ◌∷◌, ◌++◌, map, reverse, take, get_or, length, Bool, true, false, ◌||◌, cond, Some, option_map, unwrap_or, refl, ap, sym, ◌∙◌, string_bytes, bytes_eq, arith, MatchOption, Option, None}
 use Rattle.std.proofs.Math.Seq.{take-append_seam}
-use Rattle.inv_base.specs.Memory.{Kept, shelf_of, behind_read}
+use Rattle.inv_base.specs.Memory.{Kept, shelf_of, behind_read, within_piece}
 use Rattle.inv_base.specs.Outside.{Reads}
-use Rattle.std.proofs.lemmas.List.{take-append-drop, length-take-le, take_more, map-append, reverse-append}
+use Rattle.std.proofs.lemmas.List.{take-append-drop, take-take, length-take-le, take_more, map-append, reverse-append}
 use Rattle.std.proofs.lemmas.Option.{slice_get_read}
 use Rattle.inv_base.specs.declared.mem_shelf.MemFile.{MemFile}
 use Rattle.inv_base.specs.Files.{content_of, is_named}
-use Rattle.inv_base.specs.MemFiles.{newest_first, bytes_at, file_of}
+use Rattle.inv_base.specs.MemFiles.{newest_first, bytes_at, file_of, IsPiece}
 
 pub newest_first-more : (files : List MemFile) (k : ℕ) (file : MemFile) → k < length files → file ≡ get_or files k file
     → newest_first (take (k + 1) files) ≡ file_of file ∷ newest_first (take k files)
@@ -54,11 +54,37 @@ Found-passed name files k file (Some j) h e other so_far =
       ap (content_of name) more ∙ (content_of-head name (file_of file) (newest_first (take k files)) false other ∙ so_far.2),
     )
 
+-- How many bytes a read gives: no more than are left and than have room, and none only where there are none or is no room.
+record IsCount (n : ℕ) (left buffer : List ℕ) : Type 0 where
+  few : n ≤ length left
+  fits : n ≤ length buffer
+  end : n ≡ 0 → 0 < length buffer → length left ≡ 0
+
+IsCount-within_piece : (piece : Option ℕ) (n : ℕ) (left buffer : List ℕ) → IsPiece piece → n ≡ min (length (within_piece piece left)) (length buffer)
+    → IsCount n left buffer
+IsCount-within_piece None n left buffer some is = record { few = omega arith; fits = omega arith; end = λ none room. omega arith }
+IsCount-within_piece (Some piece) n left buffer some is =
+    let long = length-take piece left in record { few = omega (arith, long); fits = omega arith; end = λ none room. omega (arith, long) }
+
+take-within_piece : (piece : Option ℕ) (n : ℕ) (left : List ℕ) → n ≤ length (within_piece piece left) → take n (within_piece piece left) ≡ take n left
+take-within_piece None n left h = refl
+take-within_piece (Some piece) n left h = let long = length-take piece left in take-take n piece left (omega (arith, long))
+
+-- The bytes that a read puts at the front of the buffer are those at the front of what is left.
+pub copied-within_piece : (piece : Option ℕ) (n : ℕ) (left before after : List ℕ) → n ≡ min (length (within_piece piece left)) (length before)
+    → after ≡ take n (within_piece piece left) ++ drop n before → after ≡ take n left ++ drop n before
+copied-within_piece piece n left before after count copied =
+    copied ∙ ap (λ front. front ++ drop n before) (take-within_piece piece n left (omega arith))
+
 -- What files in memory do at a read is what a shelf's read keeps.
-pub Reads-behind_read : {E : Type 0} (n : ℕ) (s t : Kept) (before after : List ℕ) → n ≡ min (length s.left) (length before)
-    → after ≡ take n s.left ++ drop n before → t ≡ behind_read n s → Reads {E = E} (Ok n) after (shelf_of s) (shelf_of t)
-Reads-behind_read {E} n s t before after count copied is =
-    let taken : length (take n s.left) ≡ n = length-take-le n s.left (omega arith) in
+pub Reads-behind_read : {E : Type 0} (n : ℕ) (s t : Kept) (before after : List ℕ) → IsPiece s.piece
+    → n ≡ min (length (within_piece s.piece s.left)) (length before) → after ≡ take n s.left ++ drop n before → t ≡ behind_read n s
+    → Reads {E = E} (Ok n) after (shelf_of s) (shelf_of t)
+Reads-behind_read {E} n s t before after some count copied is =
+    let counted = IsCount-within_piece s.piece n s.left before some count in
+    let few : n ≤ length s.left = counted.few in
+    let fits : n ≤ length before = counted.fits in
+    let taken : length (take n s.left) ≡ n = length-take-le n s.left few in
     let front : take n after ≡ take n s.left =
     ap (take n) copied ∙ (ap (λ k. take k (take n s.left ++ drop n before)) (sym taken) ∙ take-append_seam (take n s.left) (drop n before)) in
     let long : length after ≡ length before =
@@ -67,7 +93,9 @@ Reads-behind_read {E} n s t before after count copied is =
       held = refl;
       bound = omega arith;
       left = ap Some (sym (ap (λ x. x ++ drop n s.left) front ∙ take-append-drop n s.left));
-      end = λ none room left is. let same : drop n s.left ≡ left = cc in ap length (sym same) ∙ (length-drop n s.left ∙ omega arith);
+      end = λ none room left is.
+          let whole : length s.left ≡ 0 = counted.end none (omega arith) in
+          let same : drop n s.left ≡ left = cc in ap length (sym same) ∙ (length-drop n s.left ∙ omega arith);
       faults = refl;
       opens = refl;
     })

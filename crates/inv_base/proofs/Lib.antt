@@ -5,3 +5,4 @@ pub mod TextLemmas
 pub mod PrintingLemmas
 pub mod BufferingLemmas
 pub mod CharacterLemmas
+pub mod FrontLemmas

@@ -1,7 +1,5 @@
 -- One piece printed behind another.
-use Rattle.std.specs.Borrow.{Bor}
-use Rattle.std.specs.Prelude.{Option, Some, None, IsSome, MatchOption}
-use Rattle.std.proofs.Common.{◌≡◌, ℕ, zero, suc, ◌<◌, length, get_or, arith, Bool, List, [], ◌∷◌, ◌++◌, take, drop, ap, sym, subst, ◌∙◌, append_assoc, append-nil}
+use Rattle.std.proofs.Common.{◌≡◌, ℕ, Bool, List, [], ◌∷◌, ◌++◌, take, drop, ap, sym, subst, ◌∙◌, append_assoc, append-nil}
 use Rattle.std.specs.List.{flat_map}
 use Rattle.std.proofs.lemmas.List.{take-append-drop}
 use Rattle.std.proofs.lemmas.Grind.{flat_map-append}
@@ -28,18 +26,6 @@ pub escaped_part : (escape : ℕ → List ℕ) (byte : ℕ) (after rest text don
     → (done ++ text) ++ flat_map escape after ≡ all
 escaped_part escape byte after rest text done all is same so_far =
     append_assoc done text (flat_map escape after) ∙ (ap (λ x. done ++ (x ++ flat_map escape after)) (sym same) ∙ (ap (λ x. done ++ flat_map escape x) (sym is) ∙ so_far))
-
--- A byte that is escaped doesn't stand for itself.
-pub not_plain : (count : ℕ) (bytes : List ℕ) (byte : ℕ) (after : List ℕ) (escape : ℕ → List ℕ) (found : Option (Bor (List ℕ)))
-    → bytes ≡ byte ∷ after → escape byte ≡ byte ∷ [] → IsSome found
-    → MatchOption found (escape (get_or bytes count 0) ≡ get_or bytes count 0 ∷ []) (λ text. (escape (get_or bytes count 0) ≡ text.now) × (length text.now ≡ 2)) → 0 < count
-not_plain (suc count) bytes byte after escape found is plain some matched = omega arith
-not_plain zero bytes byte after escape None is plain some matched = cc
-not_plain zero bytes byte after escape (Some text) is plain some matched =
-    let at : get_or bytes 0 0 ≡ byte = ap (λ (xs : List ℕ). get_or xs 0 0) is in
-    let same : byte ∷ [] ≡ text.now = sym plain ∙ (ap escape (sym at) ∙ matched.0) in
-    let one : 1 ≡ 2 = ap length same ∙ matched.1 in
-    absurd (omega (arith, one))
 
 -- nothing printed
 pub Prints-nil : (f : Bool) (s : SinkView) → Prints [] f f s s

@@ -22,3 +22,8 @@ left_of files (Some opened) = drop opened.position (bytes_at opened.file files)
 abbrev pub IsPlace : List MemFile → Option Opened → Type 0
 IsPlace files None = Unit {0}
 IsPlace files (Some opened) = (opened.file < length files) × (opened.position ≤ length (bytes_at opened.file files))
+
+-- A read gives at least one byte where there are some.
+abbrev pub IsPiece : Option ℕ → Type 0
+IsPiece None = Unit {0}
+IsPiece (Some piece) = 0 < piece

@@ -1,5 +1,5 @@
 -- Files and outputs in memory: what they hold, the calls that fail, and how far their counts are.
-use Rattle.std.specs.Prelude.{ℕ, Bool, true, ◌||◌, not, List, ◌++◌, length, take, drop, nat_le, ◌==◌, Some}
+use Rattle.std.specs.Prelude.{ℕ, Bool, true, ◌||◌, not, List, ◌++◌, length, take, drop, nat_le, ◌==◌, Option, Some, None}
 use Rattle.std.specs.List.{list_any}
 use Rattle.inv_base.specs.Counts.{next_count}
 use Rattle.inv_base.specs.Outside.{SinkView, ShelfView}
@@ -13,10 +13,12 @@ pub record Taken : Type 0 where
   pub calls : ℕ
   pub faults : ℕ
 
--- files, the newest first, the bytes left of the open one, the numbers of the calls that fail, and the counts
+-- files, the newest first, the bytes left of the open one, how many of them a read gives at most, where that is
+-- bounded, the numbers of the calls that fail, and the counts
 pub record Kept : Type 0 where
   pub files : List (List ℕ × List ℕ)
   pub left : List ℕ
+  pub piece : Option ℕ
   pub failing : List ℕ
   pub calls : ℕ
   pub faults : ℕ
@@ -56,6 +58,11 @@ behind_failed_open s = record s { calls = next_count s.calls; faults = next_coun
 
 abbrev pub behind_open : List ℕ → Kept → Kept
 behind_open name s = record s { left = content_of name s.files; calls = next_count s.calls; opens = next_count s.opens }
+
+-- the bytes that a read gives into a buffer with room for them
+abbrev pub within_piece : Option ℕ → List ℕ → List ℕ
+within_piece None left = left
+within_piece (Some piece) left = take piece left
 
 -- the files behind a read that fails, and behind one that gives so many bytes
 abbrev pub behind_failed_read : Kept → Kept

@@ -1,5 +1,5 @@
 -- Texts as they are printed: quoted, and as bytes.
-use Rattle.std.specs.Prelude.{ℕ, ◌==◌, List, [], ◌∷◌, ◌++◌, flat_map, if◌then◌else◌}
+use Rattle.std.specs.Prelude.{ℕ, Bool, ◌||◌, ◌==◌, List, [], ◌∷◌, ◌++◌, flat_map, if◌then◌else◌}
 
 -- A backslash, a quote, LF, CR and TAB stand behind a backslash, the last three by the letters n, r and t.
 abbrev pub quoted_character : ℕ → List ℕ
@@ -10,6 +10,10 @@ quoted_character c =
     else (if c == 0xD then 0x5C ∷ 0x72 ∷ []
     else (if c == 0x9 then 0x5C ∷ 0x74 ∷ []
     else c ∷ []))))
+
+-- the characters behind a backslash
+abbrev pub is_escaped : ℕ → Bool
+is_escaped c = c == 0x5C || (c == 0x22 || (c == 0xA || (c == 0xD || c == 0x9)))
 
 -- the characters between quotes
 abbrev pub quoted : List ℕ → List ℕ

@@ -5,6 +5,7 @@
 mod buffered;
 mod characters;
 mod copying;
+mod fronts;
 mod many;
 mod mem_shelf;
 mod mem_sink;
@@ -19,6 +20,7 @@ mod writing;
 
 pub use buffered::Buffered;
 pub use characters::{is_char, is_name_char, is_name_start, is_white_space};
+pub use fronts::{Stops, front_len};
 pub use many::Many;
 pub use mem_shelf::MemShelf;
 pub use mem_sink::MemSink;

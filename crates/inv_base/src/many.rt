@@ -21,6 +21,7 @@ impl<T> Model for Many<T> {
 }
 
 impl<T> Many<T> {
+    /// None of them.
     pub fn new(alloc: Global) -> Many<T>
         ensures { result ≡ [] }
     {
@@ -29,12 +30,14 @@ impl<T> Many<T> {
         }
     }
 
+    /// All of them, in their order.
     pub fn as_slice(&self) -> &[T]
         ensures { result.now ≡ self.now }
     {
         self.items.as_slice()
     }
 
+    /// How many there are.
     pub fn len(&self) -> usize
         ensures { result ≡ length self.now }
     {

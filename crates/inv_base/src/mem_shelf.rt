@@ -1,6 +1,6 @@
-ghost use Rattle.std.specs.Prelude.{◌≡◌, ℕ, ◌<◌, ◌≤◌, [], ◌∷◌, ◌++◌, length, min, take, drop, false, true, IfOk, OnOk, OnErr, MatchResult, MatchOption};
+ghost use Rattle.std.specs.Prelude.{◌≡◌, ℕ, ◌<◌, ◌≤◌, [], ◌∷◌, ◌++◌, length, min, take, drop, false, true, Some, None, IfOk, OnOk, OnErr, MatchResult, MatchOption};
 ghost use Rattle.inv_base.specs.Outside.{Opens, Reads};
-ghost use Rattle.inv_base.specs.Memory.{Kept, shelf_of, is_listed, cannot_open, behind_failed_open, behind_open, behind_failed_read, behind_read};
+ghost use Rattle.inv_base.specs.Memory.{Kept, shelf_of, is_listed, cannot_open, behind_failed_open, behind_open, behind_failed_read, behind_read, within_piece};
 ghost use Rattle.inv_base.specs.Files.{content_of, is_named};
 
 use crate::copying::copy_front;
@@ -25,12 +25,14 @@ pub(crate) struct Opened {
 ///
 /// Its calls of `open` and `read` are counted together, from 1. It fails exactly at its listed calls and
 /// at an `open` of a name that it hasn't. It counts its calls, faults and opens in numbers that stop at
-/// the greatest `u64`, and every later call has that last number.
+/// the greatest `u64`, and every later call has that last number. A read gives all that is left and has room,
+/// unless `with_piece` bounds it.
 #[derive(Drop)]
 pub struct MemShelf {
     alloc: Global,
     files: Vec<MemFile>,
     opened: Option<Opened>,
+    piece: Option<usize>,
     failing: Vec<u64>,
     calls: u64,
     faults: u64,
@@ -43,26 +45,38 @@ impl Model for MemShelf {
 
     ghost Value = { Kept };
 
-    ghost use Rattle.inv_base.specs.MemFiles.{newest_first, left_of, IsPlace};
+    ghost use Rattle.inv_base.specs.MemFiles.{newest_first, left_of, IsPlace, IsPiece};
 
-    ghost view = { λ s. record { files = newest_first s.files.items; left = left_of s.files.items s.opened; failing = s.failing.items; calls = s.calls; faults = s.faults; opens = s.opens } };
+    ghost view = { λ s. record { files = newest_first s.files.items; left = left_of s.files.items s.opened; piece = s.piece; failing = s.failing.items; calls = s.calls; faults = s.faults; opens = s.opens } };
 
-    ghost invariant = { λ s. IsPlace s.files.items s.opened };
+    ghost invariant = { λ s. IsPlace s.files.items s.opened × IsPiece s.piece };
 }
 
 impl MemShelf {
     /// A shelf that holds no file. Nothing is open.
     pub fn new(alloc: Global) -> MemShelf
-        ensures { result ≡ record { files = []; left = []; failing = []; calls = 0; faults = 0; opens = 0 } }
+        ensures { result ≡ record { files = []; left = []; piece = None; failing = []; calls = 0; faults = 0; opens = 0 } }
     {
         MemShelf {
             alloc,
             files: Vec::new(alloc),
             opened: None,
+            piece: None,
             failing: Vec::new(alloc),
             calls: 0,
             faults: 0,
             opens: 0,
+        }
+    }
+
+    /// The same shelf, whose reads give at most so many bytes each.
+    pub fn with_piece(self, n: usize) -> MemShelf
+        requires { 0 < n }
+        ensures { result ≡ record self { piece = Some n } }
+    {
+        MemShelf {
+            piece: Some(n),
+            ..self
         }
     }
 
@@ -128,6 +142,24 @@ impl MemShelf {
     }
 }
 
+/// The bytes at the front that a read gives at most.
+fn within_piece(piece: Option<usize>, left: &[u8]) -> &[u8]
+    ensures { result.now ≡ within_piece piece left.now }
+{
+    match piece {
+        None => left,
+        Some(piece) => left.split_at(piece.min(left.len())).0,
+    }
+}
+
+/// Copies the bytes that a read gives to the front of the buffer, and answers how many.
+fn give(piece: Option<usize>, left: &[u8], buf: &mut [u8]) -> usize
+    ensures count { result ≡ min (length (within_piece piece left.now)) (length buf.old) }
+    ensures copied { buf.new ≡ take result left.now ++ drop result buf.old }
+{
+    copy_front(within_piece(piece, left), buf)
+}
+
 impl Shelf for MemShelf {
     ghost view = { shelf_of };
 
@@ -155,7 +187,7 @@ impl Shelf for MemShelf {
     fn read(&mut self, buf: &mut [u8]) -> Result<usize, Failed>
         ensures reads { Reads result buf.new (shelf_of self.old) (shelf_of self.new) }
         ensures exact { MatchResult result
-            (λ n. (is_listed self.old.failing self.old.calls ≡ false) × (n ≡ min (length self.old.left) (length buf.old))
+            (λ n. (is_listed self.old.failing self.old.calls ≡ false) × (n ≡ min (length (within_piece self.old.piece self.old.left)) (length buf.old))
             × (buf.new ≡ take n self.old.left ++ drop n buf.old) × (self.new ≡ behind_read n self.old))
             (λ _. (is_listed self.old.failing self.old.calls ≡ true) × (buf.new ≡ buf.old) × (self.new ≡ behind_failed_read self.old)) }
     {
@@ -164,7 +196,8 @@ impl Shelf for MemShelf {
             self.faults = self.faults.saturating_add(1);
             return Err(Failed);
         }
-        let count = copy_front(MemShelf::left(&self.files, self.opened), buf);
+        let left = MemShelf::left(&self.files, self.opened);
+        let count = give(self.piece, left, buf);
         if let Some(opened) = self.opened {
             self.opened = Some(Opened {
                 file: opened.file,

@@ -1,9 +1,11 @@
 ghost use Rattle.std.specs.Prelude.{◌≡◌, ℕ, ◌<◌, ◌≤◌, List, [], ◌∷◌, flat_map, length, take, MatchOption, chars, encode_utf8_all, false};
 ghost use Rattle.inv_base.specs.Printing.{Prints};
-ghost use Rattle.inv_base.specs.Text.{quoted, quoted_character};
+ghost use Rattle.inv_base.specs.Text.{quoted, quoted_character, is_escaped};
 
+use crate::fronts::{Stops, front_len};
 use crate::outside::Sink;
 use crate::writing::write_all;
+use std::simd::prelude::*;
 
 /// Prints pieces one after another. Behind the first failure it prints nothing more.
 #[derive(Drop)]
@@ -72,15 +74,29 @@ fn escape_of(byte: u8) -> Option<&'static [u8]>
     }
 }
 
+/// The bytes that don't stand for themselves.
+struct Escaped;
+
+impl Stops for Escaped {
+    ghost stops = { is_escaped };
+
+    fn is_stop(byte: u8) -> bool {
+        matches!(byte, b'\\' | b'"' | b'\n' | b'\r' | b'\t')
+    }
+
+    #[inline(always)]
+    fn stops_in(block: u8x16) -> u64 {
+        let quotes = block.simd_eq(u8x16::splat(b'\\')) | block.simd_eq(u8x16::splat(b'"'));
+        let ends = block.simd_eq(u8x16::splat(b'\n')) | block.simd_eq(u8x16::splat(b'\r'));
+        (quotes | ends | block.simd_eq(u8x16::splat(b'\t'))).to_bitmask()
+    }
+}
+
 /// How many bytes at the front stand for themselves.
 fn plain_len(bytes: &[u8]) -> usize
     ensures bound { result ≤ length bytes.now }
     ensures plain { flat_map quoted_character (take result bytes.now) ≡ take result bytes.now }
     ensures progress { (byte : ℕ) (after : List ℕ) → bytes.now ≡ byte ∷ after → quoted_character byte ≡ byte ∷ [] → 0 < result }
 {
-    let mut count = 0;
-    'bytes: while count < bytes.len() && escape_of(bytes[count]).is_none() {
-        count += 1;
-    }
-    count
+    front_len::<Escaped>(bytes)
 }

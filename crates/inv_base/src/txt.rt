@@ -38,6 +38,7 @@ impl Txt {
         Ok(Txt { text })
     }
 
+    /// The text itself.
     pub fn as_str(&self) -> &str
         ensures { chars result.now ≡ self.now }
     {

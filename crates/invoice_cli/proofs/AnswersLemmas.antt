@@ -4,7 +4,7 @@ use Rattle.inv_base.specs.Counts.{Rose, Quiet, next_count}
 use Rattle.inv_base.specs.Files.{Files}
 use Rattle.inv_base.specs.Outside.{ShelfView, SinkView, WhereTold, appended}
 use Rattle.inv_base.specs.Writing.{IsFront, WritesAll, WritesFront}
-use Rattle.inv_base.proofs.WritingLemmas.{appended-nil, IsFront-nil, IsFront-whole}
+use Rattle.inv_base.proofs.WritingLemmas.{appended-nil, WritesAll-nil, IsFront-nil, IsFront-whole}
 use Rattle.job_course.specs.declared.status.Status.{Status}
 use Rattle.job_course.specs.declared.status.Status.TheVariants as statuses
 use Rattle.job_course.specs.Course.{Answer, Course, done, answer_of, readings}
@@ -12,9 +12,13 @@ use Rattle.job_course.specs.Lines.{bad_word_line, read_fault_line}
 use Rattle.job_course.specs.Outside.{Outside, IsRefusal, IsAccepted, IsRefusedAnswer, TakesOrFails, counted}
 use Rattle.job_course.specs.Runs.{EndsIn, ReadsAt, IsRefused, IsUnread, IsOutOfMemory, IsWritten, Runs}
 use Rattle.job_course.proofs.Ends.{ends_as_answered, ends_behind_readings, reads_within}
-use Rattle.invoice_cli.specs.Job.{Job, outline, help, version, bad_word}
+use Rattle.trial_run.specs.Trials.{trial_of, trial_text}
+use Rattle.invoice_cli.specs.Job.{Job, outline, show, convert, check, extract, query, trial, help, version, bad_word}
 use Rattle.invoice_cli.specs.Answer.{course_of, answer_to}
-use Rattle.invoice_cli.specs.Answers.{NamesFiles, IsRefusalLine, IsLineOf, Says, Answers}
+use Rattle.invoice_cli.specs.declared.words.Asked.{Asked}
+use Rattle.invoice_cli.specs.declared.words.Command.{Command}
+use Rattle.invoice_cli.specs.Commands.{named_files, asked_by, asked}
+use Rattle.invoice_cli.specs.Answers.{NamesFiles, WantsMemory, IsRefusalLine, IsLineOf, IsGiven, Says, Tries, Answers}
 
 -- A count that rose isn't quiet.
 not_quiet : (a b : ℕ) → Rose a b → Quiet a b → ⊥
@@ -30,10 +34,14 @@ whole_line : (line : List ℕ) (a b : SinkView) → TakesOrFails line a b → Qu
 whole_line line a b (inl all) quiet = all.told
 whole_line line a b (inr front) quiet = absurd (not_quiet a.faults b.faults front.rose quiet)
 
+-- what a command asks is the job of the words
+pub asked_is : {wanted : Job} (all : Asked) {command : Command} → asked all ≡ wanted → all.command ≡ command → asked_by (named_files all.rules) command ≡ wanted
+asked_is all is same = sym (ap (asked_by (named_files all.rules)) same) ∙ is
+
 -- words that name no job
-pub answers_bad_word : (number : ℕ) (shelf : ShelfView) (out err err' : SinkView) → TakesOrFails (bad_word_line number) err err'
-    → Answers (bad_word number) (record { shelf = shelf; out = out; err = err }) (record { shelf = shelf; out = out; err = err' }) statuses.BadWords
-answers_bad_word number shelf out err err' takes = record {
+pub answers_bad_word : (steps number : ℕ) (shelf : ShelfView) (out err err' : SinkView) → TakesOrFails (bad_word_line number) err err'
+    → Answers steps (bad_word number) (record { shelf = shelf; out = out; err = err }) (record { shelf = shelf; out = out; err = err' }) statuses.BadWords
+answers_bad_word steps number shelf out err err' takes = record {
   answered = λ _ _ _ files is. refl;
   output = λ _ _ _ files is. sym (appended-nil out.told);
   errors = λ _ _ quiet _ files is. whole_line (bad_word_line number) err err' takes quiet;
@@ -53,17 +61,20 @@ answers_bad_word number shelf out err err' takes = record {
   opens = (0, refl, λ files is. omega arith);
   all_opened = λ _ _ files is. refl;
   outline_opens = λ file e. cc;
+  given = λ _ files. inl (refl, WritesAll-nil out, takes);
   untouched = λ _. refl;
   held = refl;
 }
 
 -- a text that is the answer whatever is held
-pub answers_said : (job : Job) (text : List ℕ) (status : Status) (shelf : ShelfView) (out out' err : SinkView)
-    → ((files : Files) → answer_to job files ≡ done text) → ((files : Files) → readings (course_of job) files ≡ 0)
+pub answers_said : (steps : ℕ) (job : Job) (text : List ℕ) (status : Status) (shelf : ShelfView) (out out' err : SinkView)
+    → ((files : Files) → answer_to steps job files ≡ done text) → ((files : Files) → readings (course_of steps job) files ≡ 0)
     → ((number : ℕ) → job ≡ bad_word number → ⊥) → ((file : List ℕ) → job ≡ outline file → ⊥) → Says status text out out'
-    → Answers job (record { shelf = shelf; out = out; err = err }) (record { shelf = shelf; out = out'; err = err }) status
-answers_said job text status shelf out out' err is_text unread good no_document (inl said) =
+    → Answers steps job (record { shelf = shelf; out = out; err = err }) (record { shelf = shelf; out = out'; err = err }) status
+answers_said steps job text status shelf out out' err is_text unread good no_document (inl said) =
     let all = said.1 in
+    let before : Outside = record { shelf = shelf; out = out; err = err } in
+    let after : Outside = record { shelf = shelf; out = out'; err = err } in
     rw said.0 (record {
       answered = λ _ _ _ files is. sym (ap (λ (a : Answer). a.status) (is_text files));
       output = λ _ _ _ files is. all.told ∙ ap (λ (a : Answer). appended a.out out.told) (sym (is_text files));
@@ -84,11 +95,14 @@ answers_said job text status shelf out out' err is_text unread good no_document 
       opens = (0, refl, λ files is. omega arith);
       all_opened = λ _ _ files is. ap (λ n. counted n shelf.opens) (sym (unread files));
       outline_opens = λ file e. absurd (no_document file e);
+      given = λ _ files. subst (λ (a : Answer). IsGiven a before after statuses.Done) (sym (is_text files)) (inl (refl, all, inl (WritesAll-nil err)));
       untouched = λ _. refl;
       held = refl;
     })
-answers_said job text status shelf out out' err is_text unread good no_document (inr said) =
+answers_said steps job text status shelf out out' err is_text unread good no_document (inr said) =
     let front = said.1 in
+    let before : Outside = record { shelf = shelf; out = out; err = err } in
+    let after : Outside = record { shelf = shelf; out = out'; err = err } in
     rw said.0 (record {
       answered = λ _ quiet _ files is. absurd (not_quiet out.faults out'.faults front.rose quiet);
       output = λ _ quiet _ files is. absurd (not_quiet out.faults out'.faults front.rose quiet);
@@ -109,9 +123,49 @@ answers_said job text status shelf out out' err is_text unread good no_document 
       opens = (0, refl, λ files is. omega arith);
       all_opened = λ _ _ files is. ap (λ n. counted n shelf.opens) (sym (unread files));
       outline_opens = λ file e. absurd (no_document file e);
+      given = λ _ files. subst (λ (a : Answer). IsGiven a before after statuses.WriteFault) (sym (is_text files)) (inr (inl (refl, front, refl)));
       untouched = λ _. refl;
       held = refl;
     })
+
+-- memory that ran out before anything was read or written
+pub answers_spent : (steps : ℕ) (job : Job) (status : Status) (shelf : ShelfView) (out out' err : SinkView) → WantsMemory job
+    → ((files : Files) → readings (course_of steps job) files ≡ 0)
+    → ((number : ℕ) → job ≡ bad_word number → ⊥) → ((file : List ℕ) → job ≡ outline file → ⊥) → (status ≡ statuses.Memory) × (out' ≡ out)
+    → Answers steps job (record { shelf = shelf; out = out; err = err }) (record { shelf = shelf; out = out'; err = err }) status
+answers_spent steps job status shelf out out' err wants unread good no_document spent =
+    rw (spent.0, spent.1) (record {
+      answered = λ _ _ no files is. absurd (no refl);
+      output = λ _ _ no files is. absurd (no refl);
+      errors = λ _ _ _ no files is. absurd (no refl);
+      bad_words = λ e. cc;
+      only_bad_words = λ number e. absurd (good number e);
+      memory = λ _. wants;
+      read_fault = λ e. cc;
+      write_fault = λ e. cc;
+      write_done = λ e files is. cc;
+      shelf_rose = λ rise. absurd (no_rise shelf.faults shelf.faults refl rise);
+      out_rose = λ rise. absurd (no_rise out.faults out.faults refl rise);
+      nothing = λ refusal. absurd refusal;
+      line = λ refusal. absurd refusal;
+      no_line = λ _. refl;
+      front = λ _ files is. ([], IsFront-nil (answer_to steps job files).out, sym (appended-nil out.told));
+      stops = λ refused. absurd refused;
+      opens = (0, refl, λ files is. omega arith);
+      all_opened = λ _ no files is. absurd (no refl);
+      outline_opens = λ file e. absurd (no_document file e);
+      given = λ _ files. inr (inr (refl, refl, refl));
+      untouched = λ _. refl;
+      held = refl;
+    })
+
+-- a trial
+pub answers_tried : (steps lines : ℕ) (status : Status) (shelf : ShelfView) (out out' err : SinkView) → Tries status (trial_text (trial_of lines steps)) out out'
+    → Answers steps (trial lines) (record { shelf = shelf; out = out; err = err }) (record { shelf = shelf; out = out'; err = err }) status
+answers_tried steps lines status shelf out out' err (inl said) =
+    answers_said steps (trial lines) (trial_text (trial_of lines steps)) status shelf out out' err (λ files. refl) (λ files. refl) (λ number e. cc) (λ file e. cc) said
+answers_tried steps lines status shelf out out' err (inr spent) =
+    answers_spent steps (trial lines) status shelf out out' err tt (λ files. refl) (λ number e. cc) (λ file e. cc) spent
 
 -- ---- jobs that name files
 
@@ -126,33 +180,46 @@ refusal_of statuses.ReadFault refuses = absurd refuses
 refusal_of statuses.WriteFault refuses = absurd refuses
 refusal_of statuses.Memory refuses = absurd refuses
 
-refusal_line : (job : Job) (status : Status) (before after : Outside) (line : List ℕ) → IsRefusedAnswer status
-    → IsRefusalLine job status before.shelf.held line → IsLineOf job status before after line
-refusal_line job statuses.DocumentRefused before after line refuses is = is
-refusal_line job statuses.RulesRefused before after line refuses is = is
-refusal_line job statuses.Unable before after line refuses is = is
-refusal_line job statuses.Done before after line refuses is = absurd refuses
-refusal_line job statuses.Findings before after line refuses is = absurd refuses
-refusal_line job statuses.BadWords before after line refuses is = absurd refuses
-refusal_line job statuses.ReadFault before after line refuses is = absurd refuses
-refusal_line job statuses.WriteFault before after line refuses is = absurd refuses
-refusal_line job statuses.Memory before after line refuses is = absurd refuses
+refusal_line : (steps : ℕ) (job : Job) (status : Status) (before after : Outside) (line : List ℕ) → IsRefusedAnswer status
+    → IsRefusalLine steps job status before.shelf.held line → IsLineOf steps job status before after line
+refusal_line steps job statuses.DocumentRefused before after line refuses is = is
+refusal_line steps job statuses.RulesRefused before after line refuses is = is
+refusal_line steps job statuses.Unable before after line refuses is = is
+refusal_line steps job statuses.Done before after line refuses is = absurd refuses
+refusal_line steps job statuses.Findings before after line refuses is = absurd refuses
+refusal_line steps job statuses.BadWords before after line refuses is = absurd refuses
+refusal_line steps job statuses.ReadFault before after line refuses is = absurd refuses
+refusal_line steps job statuses.WriteFault before after line refuses is = absurd refuses
+refusal_line steps job statuses.Memory before after line refuses is = absurd refuses
 
-module _ (job : Job) (names : NamesFiles job) (before after : Outside) where
+-- Files want memory.
+files_want : (job : Job) → NamesFiles job → WantsMemory job
+files_want (outline file) names = names
+files_want (show codes_file file) names = names
+files_want (convert syntax codes_file file) names = names
+files_want (check svrl phase rules file) names = names
+files_want (extract number file) names = names
+files_want (query expression file) names = names
+files_want (trial lines) names = absurd names
+files_want help names = names
+files_want version names = names
+files_want (bad_word number) names = names
+
+module _ (steps : ℕ) (job : Job) (names : NamesFiles job) (before after : Outside) where
   named : (number : ℕ) → job ≡ bad_word number → ⊥
   named number is = subst NamesFiles is names
 
-  told_end : (files : Files) (n : ℕ) (a : Answer) → before.shelf.held ≡ Some files → EndsIn before.shelf.held (course_of job) n a → EndsIn (Some files) (course_of job) n a
-  told_end files n a is ends = subst (λ held. EndsIn held (course_of job) n a) is ends
+  told_end : (files : Files) (n : ℕ) (a : Answer) → before.shelf.held ≡ Some files → EndsIn before.shelf.held (course_of steps job) n a → EndsIn (Some files) (course_of steps job) n a
+  told_end files n a is ends = subst (λ held. EndsIn held (course_of steps job) n a) is ends
 
-  answer_is : (files : Files) (n : ℕ) (a : Answer) → before.shelf.held ≡ Some files → EndsIn before.shelf.held (course_of job) n a → a ≡ answer_to job files
-  answer_is files n a is ends = ends_as_answered files (course_of job) n a (told_end files n a is ends)
+  answer_is : (files : Files) (n : ℕ) (a : Answer) → before.shelf.held ≡ Some files → EndsIn before.shelf.held (course_of steps job) n a → a ≡ answer_to steps job files
+  answer_is files n a is ends = ends_as_answered files (course_of steps job) n a (told_end files n a is ends)
 
-  counts : (files : Files) (n : ℕ) (a : Answer) → before.shelf.held ≡ Some files → EndsIn before.shelf.held (course_of job) n a → n ≡ readings (course_of job) files
-  counts files n a is ends = ends_behind_readings files (course_of job) n a (told_end files n a is ends)
+  counts : (files : Files) (n : ℕ) (a : Answer) → before.shelf.held ≡ Some files → EndsIn before.shelf.held (course_of steps job) n a → n ≡ readings (course_of steps job) files
+  counts files n a is ends = ends_behind_readings files (course_of steps job) n a (told_end files n a is ends)
 
-  refused : (status : Status) → ((file : List ℕ) → job ≡ outline file → after.shelf.opens ≡ next_count before.shelf.opens) → IsRefused (course_of job) before after status
-      → Answers job before after status
+  refused : (status : Status) → ((file : List ℕ) → job ≡ outline file → after.shelf.opens ≡ next_count before.shelf.opens) → IsRefused (course_of steps job) before after status
+      → Answers steps job before after status
   refused status one r = record {
     answered = λ _ _ _ files is. sym r.told ∙ ap (λ (a : Answer). a.status) (answer_is files r.count r.answer is r.ends_in);
     output = λ _ _ _ files is. ap (λ (s : SinkView). s.told) r.nothing ∙ (sym (appended-nil before.out.told)
@@ -161,7 +228,7 @@ module _ (job : Job) (names : NamesFiles job) (before after : Outside) where
         ∙ ap (λ (a : Answer). appended a.err before.err.told) (answer_is files r.count r.answer is r.ends_in);
     bad_words = λ e. absurd (subst IsRefusedAnswer e r.refuses);
     only_bad_words = λ number e. absurd (named number e);
-    memory = λ e. names;
+    memory = λ e. files_want job names;
     read_fault = λ e. absurd (subst IsRefusedAnswer e r.refuses);
     write_fault = λ e. absurd (subst IsRefusedAnswer e r.refuses);
     write_done = λ e files is. absurd (subst IsRefusedAnswer e r.refuses);
@@ -170,7 +237,7 @@ module _ (job : Job) (names : NamesFiles job) (before after : Outside) where
     nothing = λ _. r.nothing;
     line = λ _. (
       r.answer.err,
-      refusal_line job status before after r.answer.err r.refuses
+      refusal_line steps job status before after r.answer.err r.refuses
           (record { count = r.count; answer = r.answer; ends_in = r.ends_in; status_is = r.told; line_is = refl }),
       r.line,
     );
@@ -180,19 +247,20 @@ module _ (job : Job) (names : NamesFiles job) (before after : Outside) where
     opens = (r.count, r.read.opens, λ files is. subst (λ n. r.count ≤ n) (counts files r.count r.answer is r.ends_in) (omega arith));
     all_opened = λ _ _ files is. r.read.opens ∙ ap (λ n. counted n before.shelf.opens) (counts files r.count r.answer is r.ends_in);
     outline_opens = one;
+    given = λ no. absurd (no names);
     untouched = λ no. absurd (no names);
     held = r.read.held;
   }
 
-  unread : (status : Status) → ((file : List ℕ) → job ≡ outline file → after.shelf.opens ≡ next_count before.shelf.opens) → IsUnread (course_of job) before after status
-      → Answers job before after status
+  unread : (status : Status) → ((file : List ℕ) → job ≡ outline file → after.shelf.opens ≡ next_count before.shelf.opens) → IsUnread (course_of steps job) before after status
+      → Answers steps job before after status
   unread status one r = rw r.told (record {
     answered = λ quiet _ _ files is. absurd (not_quiet before.shelf.faults after.shelf.faults r.rose quiet);
     output = λ quiet _ _ files is. absurd (not_quiet before.shelf.faults after.shelf.faults r.rose quiet);
     errors = λ quiet _ _ _ files is. absurd (not_quiet before.shelf.faults after.shelf.faults r.rose quiet);
     bad_words = λ e. cc;
     only_bad_words = λ number e. absurd (named number e);
-    memory = λ e. names;
+    memory = λ e. files_want job names;
     read_fault = λ _. r.rose;
     write_fault = λ e. cc;
     write_done = λ e files is. cc;
@@ -203,22 +271,23 @@ module _ (job : Job) (names : NamesFiles job) (before after : Outside) where
     no_line = λ no. absurd (no tt);
     front = λ no files is. absurd (no tt);
     stops = λ refused. absurd refused;
-    opens = (r.count, r.opens, λ files is. reads_within files (course_of job) r.count r.file (subst (λ held. ReadsAt held (course_of job) r.count r.file) is r.reads_at));
+    opens = (r.count, r.opens, λ files is. reads_within files (course_of steps job) r.count r.file (subst (λ held. ReadsAt held (course_of steps job) r.count r.file) is r.reads_at));
     all_opened = λ quiet _ files is. absurd (not_quiet before.shelf.faults after.shelf.faults r.rose quiet);
     outline_opens = one;
+    given = λ no. absurd (no names);
     untouched = λ no. absurd (no names);
     held = r.held;
   })
 
   out_of_memory : (status : Status) → ((file : List ℕ) → job ≡ outline file → after.shelf.opens ≡ next_count before.shelf.opens)
-      → IsOutOfMemory (course_of job) before after status → Answers job before after status
+      → IsOutOfMemory (course_of steps job) before after status → Answers steps job before after status
   out_of_memory status one r = rw r.told (record {
     answered = λ _ _ no files is. absurd (no refl);
     output = λ _ _ no files is. absurd (no refl);
     errors = λ _ _ _ no files is. absurd (no refl);
     bad_words = λ e. cc;
     only_bad_words = λ number e. absurd (named number e);
-    memory = λ e. names;
+    memory = λ e. files_want job names;
     read_fault = λ e. cc;
     write_fault = λ e. cc;
     write_done = λ e files is. cc;
@@ -232,6 +301,7 @@ module _ (job : Job) (names : NamesFiles job) (before after : Outside) where
     opens = (r.count, r.read.opens, r.few);
     all_opened = λ _ no files is. absurd (no refl);
     outline_opens = one;
+    given = λ no. absurd (no names);
     untouched = λ no. absurd (no names);
     held = r.read.held;
   })
@@ -248,11 +318,11 @@ module _ (job : Job) (names : NamesFiles job) (before after : Outside) where
   accepted_is statuses.WriteFault good = absurd good
   accepted_is statuses.Memory good = absurd good
 
-  module _ (one : (file : List ℕ) → job ≡ outline file → after.shelf.opens ≡ next_count before.shelf.opens) (status : Status) (r : IsWritten (course_of job) before after status) where
-    answer_here : (files : Files) → before.shelf.held ≡ Some files → r.answer ≡ answer_to job files
+  module _ (one : (file : List ℕ) → job ≡ outline file → after.shelf.opens ≡ next_count before.shelf.opens) (status : Status) (r : IsWritten (course_of steps job) before after status) where
+    answer_here : (files : Files) → before.shelf.held ≡ Some files → r.answer ≡ answer_to steps job files
     answer_here files is = answer_is files r.count r.answer is r.ends_in
 
-    whole : (status ≡ r.answer.status) × WritesAll r.answer.out before.out after.out → Answers job before after status
+    whole : (status ≡ r.answer.status) × WritesAll r.answer.out before.out after.out → Answers steps job before after status
     whole done =
         let good = subst IsAccepted (sym done.0) r.accepted in
         let other = accepted_is status good in
@@ -264,7 +334,7 @@ module _ (job : Job) (names : NamesFiles job) (before after : Outside) where
               ∙ ap (λ text. appended text before.err.told) (sym r.silent ∙ ap (λ (a : Answer). a.err) (answer_here files is)));
           bad_words = λ e. absurd (other.1 e);
           only_bad_words = λ number e. absurd (named number e);
-          memory = λ e. names;
+          memory = λ e. files_want job names;
           read_fault = λ e. absurd (other.3 e);
           write_fault = λ e. absurd (other.4 e);
           write_done = λ e files is. absurd (other.4 e);
@@ -278,11 +348,12 @@ module _ (job : Job) (names : NamesFiles job) (before after : Outside) where
           opens = (r.count, r.read.opens, λ files is. subst (λ n. r.count ≤ n) (counts files r.count r.answer is r.ends_in) (omega arith));
           all_opened = λ _ _ files is. r.read.opens ∙ ap (λ n. counted n before.shelf.opens) (counts files r.count r.answer is r.ends_in);
           outline_opens = one;
+          given = λ no. absurd (no names);
           untouched = λ no. absurd (no names);
           held = r.read.held;
         }
 
-    cut : (status ≡ statuses.WriteFault) × WritesFront r.answer.out before.out after.out → Answers job before after status
+    cut : (status ≡ statuses.WriteFault) × WritesFront r.answer.out before.out after.out → Answers steps job before after status
     cut done =
         let front = done.1 in
         rw done.0 (record {
@@ -291,7 +362,7 @@ module _ (job : Job) (names : NamesFiles job) (before after : Outside) where
           errors = λ _ quiet _ _ files is. absurd (not_quiet before.out.faults after.out.faults front.rose quiet);
           bad_words = λ e. cc;
           only_bad_words = λ number e. absurd (named number e);
-          memory = λ e. names;
+          memory = λ e. files_want job names;
           read_fault = λ e. cc;
           write_fault = λ _. front.rose;
           write_done = λ _ files is. subst (λ (a : Answer). IsAccepted a.status) (answer_here files is) r.accepted;
@@ -305,18 +376,19 @@ module _ (job : Job) (names : NamesFiles job) (before after : Outside) where
           opens = (r.count, r.read.opens, λ files is. subst (λ n. r.count ≤ n) (counts files r.count r.answer is r.ends_in) (omega arith));
           all_opened = λ _ _ files is. r.read.opens ∙ ap (λ n. counted n before.shelf.opens) (counts files r.count r.answer is r.ends_in);
           outline_opens = one;
+          given = λ no. absurd (no names);
           untouched = λ no. absurd (no names);
           held = r.read.held;
         })
 
     written : (((status ≡ r.answer.status) × WritesAll r.answer.out before.out after.out) ⊎ ((status ≡ statuses.WriteFault) × WritesFront r.answer.out before.out after.out))
-        → Answers job before after status
+        → Answers steps job before after status
     written (inl done) = whole done
     written (inr done) = cut done
 
   -- A job that names files runs by its course: then all of the contract holds.
   pub answers_of_run : (status : Status) → ((file : List ℕ) → job ≡ outline file → after.shelf.opens ≡ next_count before.shelf.opens)
-      → Runs (course_of job) before after status → Answers job before after status
+      → Runs (course_of steps job) before after status → Answers steps job before after status
   answers_of_run status one (inl r) = refused status one r
   answers_of_run status one (inr (inl r)) = unread status one r
   answers_of_run status one (inr (inr (inl r))) = out_of_memory status one r

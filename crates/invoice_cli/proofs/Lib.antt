@@ -3,3 +3,5 @@ pub mod AnswersLemmas
 pub mod OptionLemmas
 pub mod InvoiceLemmas
 mod QueryLemmas
+mod CheckLemmas
+mod TrialLemmas

@@ -6,26 +6,30 @@ use Rattle.xml_profile.specs.Profile as profile
 use Rattle.job_course.specs.declared.status.Status.TheVariants as statuses
 use Rattle.job_course.specs.Course.{Answer, Course, ends, done, refusal, answer_of, document_course}
 use Rattle.job_course.specs.Lines.{bad_word_line}
+use Rattle.trial_run.specs.Trials.{trial_of, trial_text}
 use Rattle.invoice_cli.specs.declared.usage.TheConstants.{HELP, VERSION}
-use Rattle.invoice_cli.specs.Job.{Job, outline, show, convert, extract, query, help, version, bad_word}
+use Rattle.invoice_cli.specs.Job.{Job, outline, show, convert, check, extract, query, trial, help, version, bad_word}
 use Rattle.invoice_cli.specs.Invoices.{show_course, convert_course, extract_course}
 use Rattle.invoice_cli.specs.Outline.{outline_text}
 use Rattle.invoice_cli.specs.Queries.{query_course}
+use Rattle.invoice_cli.specs.Checks.{check_course}
 
 -- the outline of the document's tree
 abbrev pub outline_course : List ℕ → Course
 outline_course file = document_course file (λ found. ends (done (outline_text (tree_of found))))
 
--- what a job reads and answers
-abbrev pub course_of : Job → Course
-course_of (outline file) = outline_course file
-course_of (show codes_file file) = show_course codes_file file
-course_of (convert syntax codes_file file) = convert_course syntax codes_file file
-course_of (extract number file) = extract_course number file
-course_of (query expression file) = query_course expression file
-course_of help = ends (done HELP.now)
-course_of version = ends (done VERSION.now)
-course_of (bad_word number) = ends (refusal statuses.BadWords (bad_word_line number))
+-- What a job reads and answers. Only the last line of a trial tells how many steps its judging took, which nothing defines.
+abbrev pub course_of : ℕ → Job → Course
+course_of steps (outline file) = outline_course file
+course_of steps (show codes_file file) = show_course codes_file file
+course_of steps (convert syntax codes_file file) = convert_course syntax codes_file file
+course_of steps (check svrl phase rules file) = check_course svrl phase rules file
+course_of steps (extract number file) = extract_course number file
+course_of steps (query expression file) = query_course expression file
+course_of steps (trial lines) = ends (done (trial_text (trial_of lines steps)))
+course_of steps help = ends (done HELP.now)
+course_of steps version = ends (done VERSION.now)
+course_of steps (bad_word number) = ends (refusal statuses.BadWords (bad_word_line number))
 
-abbrev pub answer_to : Job → Files → Answer
-answer_to job files = answer_of (course_of job) files
+abbrev pub answer_to : ℕ → Job → Files → Answer
+answer_to steps job files = answer_of (course_of steps job) files

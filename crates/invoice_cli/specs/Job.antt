@@ -1,19 +1,27 @@
 -- What the words behind the program's name ask for. A word is the bytes of its text.
-use Rattle.std.specs.Prelude.{ℕ, ◌+◌, ◌*◌, ◌-◌, nat_eq, nat_le, Bool, true, false, not, ◌&&◌, List, [], ◌∷◌, length, map, Option, Some, None, is_none, option_map, bytes_eq, codes, if◌then◌else◌, String, string_bytes}
+use Rattle.std.specs.Prelude.{ℕ, ◌+◌, ◌*◌, ◌-◌, nat_eq, nat_le, nat_lt, Bool, true, false, not, ◌&&◌, List, [], ◌∷◌, ◌++◌, length, map, Option, Some, None, is_none, option_map, bytes_eq, codes, if◌then◌else◌, String, string_bytes}
 use Rattle.std.specs.Global.{Global}
 use Rattle.std.specs.List.{starts_with}
 use Rattle.bind_meaning.specs.declared.tables.Syntax.{Syntax}
 use Rattle.bind_meaning.specs.declared.tables.Syntax.TheVariants as syntaxes
+use Rattle.invoice_cli.specs.declared.options.Optioned.{Optioned}
+use Rattle.invoice_cli.specs.declared.options.Optioned.TheVariants as commands
+use Rattle.invoice_cli.specs.declared.options.Switch.{Switch}
+use Rattle.invoice_cli.specs.declared.options.Switch.TheVariants as switches
 
--- The outline of a file; the terms of an invoice, by the code lists of a file or the built-in ones; the invoice in a syntax, likewise; its
--- attached document of that number; the value of an expression at a document; the help; the version; or the number of the first word that
+-- The outline of a file; the terms of an invoice, by the code lists of a file or the built-in ones; the invoice in a
+-- syntax, likewise; what rule files find in a document, in SVRL or plain, by the patterns of a phase or those that each
+-- file has by default; an invoice's attached document of that number; the value of an expression at a document; a trial
+-- of the whole tool on a generated invoice of so many lines; the help; the version; or the number of the first word that
 -- fits no command, counted from 1, where a missing word counts as one behind the last.
 pub data Job : Type 0 where
   outline : List ℕ → Job
   show : Option (List ℕ) → List ℕ → Job
   convert : Syntax → Option (List ℕ) → List ℕ → Job
+  check : Bool → Option (List ℕ) → List (List ℕ) → List ℕ → Job
   extract : ℕ → List ℕ → Job
   query : List ℕ → List ℕ → Job
+  trial : ℕ → Job
   help : Job
   version : Job
   bad_word : ℕ → Job
@@ -32,35 +40,64 @@ abbrev pub last_operand : (List ℕ → Job) → ℕ → List (List ℕ) → Job
 last_operand job number [] = bad_word number
 last_operand job number (word ∷ words) = if is_option word then bad_word number else with_no_more (number + 1) (job word) words
 
--- ---- options: between the command and its operands, in any order, each once at the most, and each takes the word behind it
+-- ---- options: between the command and its operands, in any order
 
--- the file of code lists, and the syntax to write
+-- the file of code lists, and the syntax to write; whether the report is SVRL, the phase, and the rule files
 pub record Options : Type 0 where
   pub codes_file : Option (List ℕ)
   pub target : Option Syntax
+  pub svrl : Bool
+  pub phase : Option (List ℕ)
+  pub rules : List (List ℕ)
 
 abbrev pub none_given : Options
-none_given = record { codes_file = None; target = None }
-
-pub data Switch : Type 0 where
-  code_lists : Switch
-  syntax_to_write : Switch
+none_given = record { codes_file = None; target = None; svrl = false; phase = None; rules = [] }
 
 abbrev pub switch_named : List ℕ → Option Switch
-switch_named word = if bytes_eq word (codes "--codes") then Some code_lists else (if bytes_eq word (codes "--to") then Some syntax_to_write else None)
+switch_named word =
+    if bytes_eq word (codes "--codes") then Some switches.CodeLists
+    else (if bytes_eq word (codes "--to") then Some switches.SyntaxToWrite
+    else (if bytes_eq word (codes "--svrl") then Some switches.Svrl
+    else (if bytes_eq word (codes "--phase") then Some switches.Phase
+    else (if bytes_eq word (codes "--rules") then Some switches.RuleFile
+    else None))))
+
+-- which options a command has
+abbrev pub has : Optioned → Switch → Bool
+has commands.Show switches.CodeLists = true
+has commands.Show _ = false
+has commands.Convert switches.CodeLists = true
+has commands.Convert switches.SyntaxToWrite = true
+has commands.Convert _ = false
+has commands.Check switches.Svrl = true
+has commands.Check switches.Phase = true
+has commands.Check switches.RuleFile = true
+has commands.Check _ = false
+
+-- An option may be given once, that of a rule file sixteen times.
+abbrev pub may_follow : Options → Switch → Bool
+may_follow given switches.CodeLists = is_none given.codes_file
+may_follow given switches.SyntaxToWrite = is_none given.target
+may_follow given switches.Svrl = not given.svrl
+may_follow given switches.Phase = is_none given.phase
+may_follow given switches.RuleFile = nat_lt (length given.rules) 16
 
 abbrev pub if_so : Bool → Switch → Option Switch
 if_so true switch = Some switch
 if_so false switch = None
 
--- an option that the command has, if it wasn't given before
-abbrev pub if_offered : Bool → Options → Option Switch → Option Switch
-if_offered converts given None = None
-if_offered converts given (Some code_lists) = if_so (is_none given.codes_file) code_lists
-if_offered converts given (Some syntax_to_write) = if_so (converts && is_none given.target) syntax_to_write
+-- an option that the command has, and that may still be given
+abbrev pub if_offered : Optioned → Options → Option Switch → Option Switch
+if_offered command given None = None
+if_offered command given (Some switch) = if_so (has command switch && may_follow given switch) switch
 
-abbrev pub offered : Bool → Options → List ℕ → Option Switch
-offered converts given word = if_offered converts given (switch_named word)
+abbrev pub offered : Optioned → Options → List ℕ → Option Switch
+offered command given word = if_offered command given (switch_named word)
+
+-- Such an option takes the word behind it, whatever it is.
+abbrev pub takes_value : Switch → Bool
+takes_value switches.Svrl = false
+takes_value _ = true
 
 abbrev pub syntax_named : List ℕ → Option Syntax
 syntax_named word = if bytes_eq word (codes "ubl") then Some syntaxes.Ubl else (if bytes_eq word (codes "cii") then Some syntaxes.Cii else None)
@@ -68,27 +105,37 @@ syntax_named word = if bytes_eq word (codes "ubl") then Some syntaxes.Ubl else (
 abbrev pub with_target : Options → Syntax → Options
 with_target given syntax = record given { target = Some syntax }
 
+-- the options with one more that takes no value
+abbrev pub with_svrl : Options → Options
+with_svrl given = record given { svrl = true }
+
 -- the options with the value of one more, if it is one
 abbrev pub with_value : Options → Switch → List ℕ → Option Options
-with_value given code_lists value = Some (record given { codes_file = Some value })
-with_value given syntax_to_write value = option_map (with_target given) (syntax_named value)
+with_value given switches.CodeLists value = Some (record given { codes_file = Some value })
+with_value given switches.SyntaxToWrite value = option_map (with_target given) (syntax_named value)
+with_value given switches.Svrl value = Some (with_svrl given)
+with_value given switches.Phase value = Some (record given { phase = Some value })
+with_value given switches.RuleFile value = Some (record given { rules = given.rules ++ value ∷ [] })
 
 abbrev pub or_bad : ℕ → (Options → Job) → Option Options → Job
 or_bad number further None = bad_word number
 or_bad number further (Some given) = further given
 
--- a word that may be an option, and behind it nothing: then its value is missing
-abbrev pub valueless : ℕ → Job → Option Switch → Job
-valueless number other None = other
-valueless number other (Some switch) = bad_word number
+-- the last word, which may be an option: where that takes a value, the value is missing
+abbrev pub last_word : (Options → ℕ → List (List ℕ) → Job) → Options → ℕ → List ℕ → Option Switch → Job
+last_word further given number word None = further given number (word ∷ [])
+last_word further given number word (Some switch) = if takes_value switch then bad_word (number + 1) else further (with_svrl given) (number + 1) []
 
 -- what follows by the options, the number of the word behind them, and the words from there on
-abbrev pub optioned : Bool → (Options → ℕ → List (List ℕ) → Job) → Options → ℕ → List (List ℕ) → Job
-optioned converts further given number [] = further given number []
-optioned converts further given number (word ∷ []) = valueless (number + 1) (further given number (word ∷ [])) (offered converts given word)
-optioned converts further given number (word ∷ (value ∷ words)) = elim (offered converts given word) [
+abbrev pub optioned : Optioned → (Options → ℕ → List (List ℕ) → Job) → Options → ℕ → List (List ℕ) → Job
+optioned command further given number [] = further given number []
+optioned command further given number (word ∷ []) = last_word further given number word (offered command given word)
+optioned command further given number (word ∷ (value ∷ words)) = elim (offered command given word) [
   | None ↦ further given number (word ∷ (value ∷ words))
-  | (Some switch) ↦ or_bad (number + 1) (λ more. optioned converts further more (number + 2) words) (with_value given switch value)
+  | (Some switch) ↦ elim (takes_value switch) [
+    | false ↦ optioned command further (with_svrl given) (number + 1) (value ∷ words)
+    | true ↦ or_bad (number + 1) (λ more. optioned command further more (number + 2) words) (with_value given switch value)
+  ]
 ]
 
 -- ---- the commands
@@ -100,6 +147,10 @@ show_of given number words = last_operand (show given.codes_file) number words
 abbrev pub convert_of : Options → ℕ → List (List ℕ) → Job
 convert_of given number words = elim given.target [ None ↦ bad_word number | (Some syntax) ↦ last_operand (convert syntax given.codes_file) number words ]
 
+-- Without a rule file, likewise.
+abbrev pub check_of : Options → ℕ → List (List ℕ) → Job
+check_of given number words = elim given.rules [ [] ↦ bad_word number | (file ∷ files) ↦ last_operand (check given.svrl given.phase (file ∷ files)) number words ]
+
 abbrev pub is_digit : ℕ → Bool
 is_digit c = nat_le 48 c && nat_le c 57
 
@@ -107,18 +158,31 @@ abbrev pub digits_value : ℕ → List ℕ → Option ℕ
 digits_value n [] = Some n
 digits_value n (digit ∷ digits) = if is_digit digit then digits_value (10 * n + (digit - 48)) digits else None
 
--- a number from 1 to 9999, without a leading zero
-abbrev pub document_number : List ℕ → Option ℕ
-document_number [] = None
-document_number (digit ∷ digits) = if not (nat_eq digit 48) && nat_le (length (digit ∷ digits)) 4 then digits_value 0 (digit ∷ digits) else None
+abbrev pub at_most : ℕ → Option ℕ → Option ℕ
+at_most most None = None
+at_most most (Some number) = if nat_le number most then Some number else None
 
-abbrev pub numbered : Option ℕ → List (List ℕ) → Job
-numbered None words = bad_word 2
-numbered (Some number) words = last_operand (extract number) 3 words
+-- a number from 1 to the most, in decimal digits without a leading zero
+abbrev pub number_up_to : ℕ → List ℕ → Option ℕ
+number_up_to most [] = None
+number_up_to most (digit ∷ digits) = if nat_eq digit 48 then None else at_most most (digits_value 0 (digit ∷ digits))
+
+-- what follows by the number that the second word is
+abbrev pub by_number : (ℕ → Job) → Option ℕ → Job
+by_number further None = bad_word 2
+by_number further (Some number) = further number
 
 abbrev pub extract_of : List (List ℕ) → Job
 extract_of [] = bad_word 2
-extract_of (word ∷ words) = numbered (document_number word) words
+extract_of (word ∷ words) = by_number (λ number. last_operand (extract number) 3 words) (number_up_to 9999 word)
+
+-- the most lines of a trial's invoice
+abbrev pub most_lines : ℕ
+most_lines = 10000
+
+abbrev pub try_of : List (List ℕ) → Job
+try_of [] = bad_word 2
+try_of (word ∷ words) = by_number (λ lines. with_no_more 3 (trial lines) words) (number_up_to most_lines word)
 
 -- An expression that begins with two dashes is none.
 abbrev pub query_of : List (List ℕ) → Job
@@ -129,13 +193,15 @@ abbrev pub job : List (List ℕ) → Job
 job [] = bad_word 1
 job (command ∷ words) =
     if bytes_eq command (codes "outline") then last_operand outline 2 words
-    else (if bytes_eq command (codes "show") then optioned false show_of none_given 2 words
-    else (if bytes_eq command (codes "convert") then optioned true convert_of none_given 2 words
+    else (if bytes_eq command (codes "show") then optioned commands.Show show_of none_given 2 words
+    else (if bytes_eq command (codes "convert") then optioned commands.Convert convert_of none_given 2 words
+    else (if bytes_eq command (codes "check") then optioned commands.Check check_of none_given 2 words
     else (if bytes_eq command (codes "extract") then extract_of words
     else (if bytes_eq command (codes "query") then query_of words
+    else (if bytes_eq command (codes "try") then try_of words
     else (if bytes_eq command (codes "--help") then with_no_more 2 help words
     else (if bytes_eq command (codes "--version") then with_no_more 2 version words
-    else bad_word 1))))))
+    else bad_word 1))))))))
 
 abbrev pub words_of : List (String Global) → List (List ℕ)
 words_of words = map string_bytes words

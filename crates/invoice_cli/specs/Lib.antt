@@ -3,5 +3,7 @@ pub mod Commands
 pub mod Outline
 pub mod Invoices
 pub mod Queries
+pub mod Checks
 pub mod Answer
 pub mod Answers
+pub mod Adapters

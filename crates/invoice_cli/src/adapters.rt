@@ -1,5 +1,7 @@
-ghost use Rattle.std.specs.Prelude.{◌≡◌, ◌<◌, ◌≤◌, None, length, IfOk};
-ghost use Rattle.inv_base.specs.Outside.{ShelfView, SinkView};
+ghost use Rattle.std.specs.Prelude.{◌≡◌, ◌<◌, ◌≤◌, None, length, IfOk, OnErr};
+ghost use Rattle.std.specs.Io.KnownBytes.{ReadConsumes, WriteAppends};
+ghost use Rattle.inv_base.specs.Outside.{ShelfView, SinkView, Opens, Reads, Accepts};
+ghost use Rattle.invoice_cli.specs.Adapters.{shelf_of, input_left, sink_of, output_of};
 
 use inv_base::{Failed, Shelf, Sink};
 use std::fs::{File, Files};
@@ -33,9 +35,12 @@ impl<R: Files> FileShelf<R> {
 }
 
 impl<R: Files> Shelf for FileShelf<R> {
-    ghost view = { λ shelf. record { held = None; left = None; faults = shelf.faults; opens = shelf.opens } };
+    ghost view = { shelf_of };
 
-    fn open(&mut self, name: &str) -> Result<(), Failed> {
+    fn open(&mut self, name: &str) -> Result<(), Failed>
+        ensures opens { Opens result name.now (shelf_of self.old) (shelf_of self.new) }
+        ensures stays { OnErr result (input_left R.File.remaining self.new ≡ input_left R.File.remaining self.old) }
+    {
         self.opens = self.opens.saturating_add(1);
         match File::open(&self.files, name) {
             Ok(file) => {
@@ -49,7 +54,10 @@ impl<R: Files> Shelf for FileShelf<R> {
         }
     }
 
-    fn read(&mut self, buf: &mut [u8]) -> Result<usize, Failed> {
+    fn read(&mut self, buf: &mut [u8]) -> Result<usize, Failed>
+        ensures reads { Reads result buf.new (shelf_of self.old) (shelf_of self.new) }
+        ensures bytes { ReadConsumes (input_left R.File.remaining self.old) (input_left R.File.remaining self.new) result buf.new }
+    {
         let got = match &mut self.input {
             None => Ok(0),
             Some(file) => read_some(file, buf),
@@ -63,7 +71,8 @@ impl<R: Files> Shelf for FileShelf<R> {
 
 /// Reads some bytes, and tries again where a signal interrupts.
 fn read_some<I: Read>(input: &mut I, buf: &mut [u8]) -> Result<usize, Failed>
-    ensures { IfOk result (λ n. n ≤ length buf.new) }
+    ensures bound { IfOk result (λ n. n ≤ length buf.new) }
+    ensures bytes { ReadConsumes (I.remaining input.old) (I.remaining input.new) result buf.new }
 {
     'tries: for _ in 0..TRIES {
         match input.read(buf) {
@@ -92,9 +101,12 @@ impl<W: Write> OutputSink<W> {
 }
 
 impl<W: Write> Sink for OutputSink<W> {
-    ghost view = { λ sink. record { told = None; faults = sink.faults } };
+    ghost view = { sink_of };
 
-    fn write(&mut self, piece: &[u8]) -> Result<usize, Failed> {
+    fn write(&mut self, piece: &[u8]) -> Result<usize, Failed>
+        ensures accepts { Accepts result piece.now (sink_of self.old) (sink_of self.new) }
+        ensures bytes { WriteAppends (W.contents (output_of self.old)) (W.contents (output_of self.new)) result piece.now }
+    {
         let taken = write_some(&mut self.output, piece);
         if taken.is_err() {
             self.faults = self.faults.saturating_add(1);
@@ -108,6 +120,7 @@ impl<W: Write> Sink for OutputSink<W> {
 fn write_some<W: Write>(output: &mut W, piece: &[u8]) -> Result<usize, Failed>
     ensures bound { IfOk result (λ n. n ≤ length piece.now) }
     ensures progress { IfOk result (λ n. 0 < length piece.now → 0 < n) }
+    ensures bytes { WriteAppends (W.contents output.old) (W.contents output.new) result piece.now }
 {
     'tries: for _ in 0..TRIES {
         match output.write(piece) {

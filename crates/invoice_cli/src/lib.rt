@@ -2,12 +2,14 @@
 #![tactic(auto)]
 
 mod adapters;
+mod checks;
 mod invoices;
 mod options;
 mod printing;
 mod program;
 mod queries;
 mod refusals;
+mod trials;
 mod usage;
 mod words;
 

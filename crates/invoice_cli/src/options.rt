@@ -1,10 +1,61 @@
 //! The options of a command, which stand between it and its operands.
-ghost use Rattle.std.specs.Prelude.{◌≡◌, ◌<◌, ◌+◌, ◌^◌, ℕ, List, length, option_map};
+ghost use Rattle.std.specs.Prelude.{◌≡◌, ◌<◌, ◌+◌, ◌++◌, ◌∷◌, ◌^◌, ℕ, List, [], length, nat_eq, nat_lt, true, IfSome, Some, option_map};
 ghost use Rattle.invoice_cli.specs.Job as spec;
 ghost use Rattle.invoice_cli.specs.Job.{Job, Options, words_of};
-ghost use Rattle.invoice_cli.specs.Commands.{given_options, switch_of, followed, IsNumbered};
+ghost use Rattle.invoice_cli.specs.declared.options.Switch.TheVariants as switches;
+ghost use Rattle.invoice_cli.specs.Commands.{texts_of, named_files, given_options, followed};
 
 use bind_meaning::Syntax;
+
+/// How many rule files may be named.
+const MOST_RULE_FILES: usize = 16;
+
+/// The rule files that were named, in their order.
+#[derive(Clone, Copy, Drop)]
+pub(crate) struct RuleFiles<'w> {
+    names: [&'w str; MOST_RULE_FILES],
+    count: usize,
+}
+
+/// No rule file.
+pub(crate) const NO_RULES: RuleFiles<'static> = RuleFiles {
+    names: [""; MOST_RULE_FILES],
+    count: 0,
+};
+
+impl<'w> RuleFiles<'w> {
+    /// Whether one more may be named.
+    fn has_room(&self) -> bool
+        ensures { result ≡ nat_lt (length (named_files self.now)) 16 }
+    {
+        self.count < MOST_RULE_FILES
+    }
+
+    /// The same with one more.
+    fn with(&self, name: &'w str) -> RuleFiles<'w>
+        requires { nat_lt (length (named_files self.now)) 16 ≡ true }
+        ensures { named_files result ≡ named_files self.now ++ name.now ∷ [] }
+    {
+        let mut names = self.names;
+        names[self.count] = name;
+        RuleFiles {
+            names,
+            count: self.count + 1,
+        }
+    }
+
+    pub(crate) fn is_empty(&self) -> bool
+        ensures { result ≡ nat_eq (length (named_files self.now)) 0 }
+    {
+        self.count == 0
+    }
+
+    pub(crate) fn as_slice(&self) -> &[&'w str]
+        ensures { texts_of result.now ≡ named_files self.now }
+    {
+        &self.names[..self.count.min(MOST_RULE_FILES)]
+    }
+}
 
 /// The options that were given.
 #[derive(Clone, Copy, Drop)]
@@ -13,58 +64,120 @@ pub(crate) struct Given<'w> {
     pub(crate) codes_file: Option<&'w str>,
     /// The syntax to write.
     pub(crate) target: Option<Syntax>,
+    /// Whether the report is to be SVRL.
+    pub(crate) svrl: bool,
+    /// The phase whose patterns are judged.
+    pub(crate) phase: Option<&'w str>,
+    pub(crate) rules: RuleFiles<'w>,
 }
 
 /// No option.
 pub(crate) const NONE_GIVEN: Given<'static> = Given {
     codes_file: None,
     target: None,
+    svrl: false,
+    phase: None,
+    rules: NO_RULES,
 };
 
-/// What the words behind a command are.
-#[derive(Drop)]
-pub(crate) enum Scanned<'w> {
-    /// Its options, the number of the word behind them, and the words from there on.
-    Ready(Given<'w>, u64, &'w [String]),
-    /// The number of a word that fits none.
-    Bad(u64),
+/// What the words behind a command are: its options, the number of the word behind them, and the words from there on.
+#[derive(Clone, Copy, Drop)]
+pub(crate) struct Scanned<'w> {
+    /// The number of a word that fits none; then the others say nothing.
+    pub(crate) bad: Option<u64>,
+    pub(crate) given: Given<'w>,
+    pub(crate) number: u64,
+    pub(crate) words: &'w [String],
 }
 
-/// An option, which takes the word behind it.
+/// A command that has options.
+#[derive(Clone, Copy, Debug, Drop)]
+pub(crate) enum Optioned {
+    Show,
+    Convert,
+    Check,
+}
+
+/// An option.
 #[derive(Clone, Copy, Debug, Drop)]
 enum Switch {
     CodeLists,
     SyntaxToWrite,
+    /// The report is to be SVRL. It alone takes no value.
+    Svrl,
+    Phase,
+    RuleFile,
 }
 
 /// The option of that word.
 fn switch_named(word: &str) -> Option<Switch>
-    ensures { option_map switch_of result ≡ spec.switch_named word.now }
+    ensures { result ≡ spec.switch_named word.now }
 {
     match word {
         "--codes" => Some(Switch::CodeLists),
         "--to" => Some(Switch::SyntaxToWrite),
+        "--svrl" => Some(Switch::Svrl),
+        "--phase" => Some(Switch::Phase),
+        "--rules" => Some(Switch::RuleFile),
         _ => None,
     }
 }
 
-/// The option of that word, where the command has it and it wasn't given before.
-fn offered(converts: bool, given: &Given<'_>, word: &str) -> Option<Switch>
-    ensures { option_map switch_of result ≡ spec.offered converts (given_options given.now) word.now }
+/// Whether the command has the option.
+fn has(command: Optioned, switch: Switch) -> bool
+    ensures { result ≡ spec.has command switch }
 {
-    match switch_named(word) {
-        None => None,
-        Some(Switch::CodeLists) => if_so(given.codes_file.is_none(), Switch::CodeLists),
-        Some(Switch::SyntaxToWrite) => {
-            if_so(converts && given.target.is_none(), Switch::SyntaxToWrite)
-        }
+    match command {
+        Optioned::Show => match switch {
+            Switch::CodeLists => true,
+            _ => false,
+        },
+        Optioned::Convert => match switch {
+            Switch::CodeLists | Switch::SyntaxToWrite => true,
+            _ => false,
+        },
+        Optioned::Check => match switch {
+            Switch::Svrl | Switch::Phase | Switch::RuleFile => true,
+            _ => false,
+        },
     }
 }
 
-fn if_so(is_so: bool, switch: Switch) -> Option<Switch>
-    ensures { option_map switch_of result ≡ spec.if_so is_so (switch_of switch) }
+/// Whether the option may stand behind those that were given.
+fn may_follow(given: &Given<'_>, switch: Switch) -> bool
+    ensures { result ≡ spec.may_follow (given_options given.now) switch }
 {
-    if is_so { Some(switch) } else { None }
+    match switch {
+        Switch::CodeLists => given.codes_file.is_none(),
+        Switch::SyntaxToWrite => given.target.is_none(),
+        Switch::Svrl => !given.svrl,
+        Switch::Phase => given.phase.is_none(),
+        Switch::RuleFile => given.rules.has_room(),
+    }
+}
+
+/// The option of that word, where the command has it and it may still be given.
+fn offered(command: Optioned, given: &Given<'_>, word: &str) -> Option<Switch>
+    ensures is { result ≡ spec.offered command (given_options given.now) word.now }
+    ensures may { IfSome result (λ switch. spec.may_follow (given_options given.now) switch ≡ true) }
+{
+    let Some(switch) = switch_named(word) else {
+        return None;
+    };
+    if has(command, switch) && may_follow(given, switch) {
+        Some(switch)
+    } else {
+        None
+    }
+}
+
+fn takes_value(switch: Switch) -> bool
+    ensures { result ≡ spec.takes_value switch }
+{
+    match switch {
+        Switch::Svrl => false,
+        _ => true,
+    }
 }
 
 /// The syntax of that name.
@@ -78,49 +191,99 @@ fn syntax_named(word: &str) -> Option<Syntax>
     }
 }
 
-/// The options with the value of one more, if it is one.
-fn with_value<'w>(given: &Given<'w>, switch: Switch, value: &'w str) -> Option<Given<'w>>
-    ensures { option_map given_options result ≡ spec.with_value (given_options given.now) (switch_of switch) value.now }
+/// The options with the one that takes no value.
+fn with_svrl<'w>(given: &Given<'w>) -> Given<'w>
+    ensures { given_options result ≡ spec.with_svrl (given_options given.now) }
 {
-    match switch {
-        Switch::CodeLists => Some(Given {
-            codes_file: Some(value),
-            target: given.target,
-        }),
-        Switch::SyntaxToWrite => match syntax_named(value) {
-            None => None,
-            Some(syntax) => Some(Given {
-                codes_file: given.codes_file,
-                target: Some(syntax),
-            }),
-        },
+    let mut more = *given;
+    more.svrl = true;
+    more
+}
+
+fn with_rules<'w>(given: &Given<'w>, file: &'w str) -> Given<'w>
+    requires { spec.may_follow (given_options given.now) switches.RuleFile ≡ true }
+    ensures { Some (given_options result) ≡ spec.with_value (given_options given.now) switches.RuleFile file.now }
+{
+    let mut more = *given;
+    more.rules = given.rules.with(file);
+    more
+}
+
+fn with_target<'w>(given: &Given<'w>, name: &'w str) -> Option<Given<'w>>
+    ensures { option_map given_options result ≡ spec.with_value (given_options given.now) switches.SyntaxToWrite name.now }
+{
+    match syntax_named(name) {
+        None => None,
+        Some(syntax) => {
+            let mut more = *given;
+            more.target = Some(syntax);
+            Some(more)
+        }
     }
 }
 
-/// The options at the front of the words, the first of which has this number: `--codes FILE`, and `--to SYNTAX` of a command that
-/// converts, each once at the most.
+/// The options with the value of one more, if it is one.
+fn with_value<'w>(given: &Given<'w>, switch: Switch, value: &'w str) -> Option<Given<'w>>
+    requires { spec.may_follow (given_options given.now) switch ≡ true }
+    ensures { option_map given_options result ≡ spec.with_value (given_options given.now) switch value.now }
+{
+    let mut more = *given;
+    match switch {
+        Switch::CodeLists => {
+            more.codes_file = Some(value);
+            Some(more)
+        }
+        Switch::SyntaxToWrite => with_target(given, value),
+        Switch::Svrl => Some(with_svrl(given)),
+        Switch::Phase => {
+            more.phase = Some(value);
+            Some(more)
+        }
+        Switch::RuleFile => Some(with_rules(given, value)),
+    }
+}
+
+/// The options at the front of the words, the first of which has this number: those that the command has, in any order.
 pub(crate) fn scan<'w>(
-    converts: bool,
+    command: Optioned,
     given: &Given<'w>,
     number: u64,
     words: &'w [String],
 ) -> Scanned<'w>
     requires { number + length words.now < 2 ^ 64 }
     ensures follows { (further : Options → ℕ → List (List ℕ) → Job)
-        → followed further result ≡ spec.optioned converts further (given_options given.now) number (words_of words.now) }
-    ensures few { IsNumbered result }
+        → followed further result ≡ spec.optioned command further (given_options given.now) number (words_of words.now) }
+    ensures few { result.number + length result.words.now < 2 ^ 64 }
 {
+    let ready = Scanned {
+        bad: None,
+        given: *given,
+        number,
+        words,
+    };
     let Some((word, behind)) = words.split_first() else {
-        return Scanned::Ready(*given, number, words);
+        return ready;
     };
-    let Some(switch) = offered(converts, given, word.as_str()) else {
-        return Scanned::Ready(*given, number, words);
+    let Some(switch) = offered(command, given, word.as_str()) else {
+        return ready;
     };
+    if !takes_value(switch) {
+        return scan(command, &with_svrl(given), number + 1, behind);
+    }
     let Some((value, rest)) = behind.split_first() else {
-        return Scanned::Bad(number + 1);
+        return bad(ready, number + 1);
     };
     match with_value(given, switch, value.as_str()) {
-        None => Scanned::Bad(number + 1),
-        Some(more) => scan(converts, &more, number + 2, rest),
+        None => bad(ready, number + 1),
+        Some(more) => scan(command, &more, number + 2, rest),
     }
+}
+
+/// The same with a word of this number that fits none.
+fn bad<'w>(scanned: Scanned<'w>, number: u64) -> Scanned<'w>
+    ensures { result ≡ record scanned.entry { bad = Some number } }
+{
+    let mut refused = scanned;
+    refused.bad = Some(number);
+    refused
 }

@@ -1,13 +1,15 @@
-ghost use Rattle.std.specs.Prelude.{◌≡◌};
+ghost use Rattle.std.specs.Prelude.{◌≡◌, ℕ};
 ghost use Rattle.inv_base.specs.Counts.{next_count};
 ghost use Rattle.job_course.specs.Runs.{Runs};
 ghost use Rattle.invoice_cli.specs.Job.{job, words_of};
 ghost use Rattle.invoice_cli.specs.Answer.{outline_course};
 ghost use Rattle.invoice_cli.specs.Answers.{Answers, Says};
 
+use crate::checks::{Checking, check};
 use crate::invoices::{convert, extract, show};
 use crate::printing::print_outline;
 use crate::queries::query;
+use crate::trials::trial;
 use crate::usage::{HELP, VERSION};
 use crate::words::{Command, command_of};
 use bumpalo::Bump;
@@ -19,8 +21,9 @@ use std::alloc::Global;
 /// the answer to `out`, or to `err` the one line that says why there is none.
 ///
 /// While no call on the shelf or a sink fails, memory is found, and the shelf and the sinks tell their
-/// content, the status and what is written are exactly the answer to the job that the words name. Only
-/// words that name files end for want of memory.
+/// content, the status and what is written are exactly the answer to the job that the words name, but for
+/// the number of steps that the last line of a trial tells. Only words that name files or a trial end for
+/// want of memory.
 pub fn run<S: Shelf, O: Sink, E: Sink>(
     alloc: Global,
     words: &[String],
@@ -28,18 +31,29 @@ pub fn run<S: Shelf, O: Sink, E: Sink>(
     out: &mut O,
     err: &mut E,
 ) -> Status
-    ensures { Answers (job (words_of words.now))
+    ensures { (steps : ℕ) × Answers steps (job (words_of words.now))
         (record { shelf = S.view shelf.old; out = O.view out.old; err = E.view err.old })
         (record { shelf = S.view shelf.new; out = O.view out.new; err = E.view err.new }) result }
 {
-    match command_of(words) {
+    let asked = command_of(words);
+    match asked.command {
         Command::Outline(file) => outline(alloc, file, shelf, out, err),
         Command::Show(codes_file, file) => show(alloc, codes_file, file, shelf, out, err),
         Command::Convert(syntax, codes_file, file) => {
             convert(alloc, syntax, codes_file, file, shelf, out, err)
         }
+        Command::Check(svrl, phase, file) => {
+            let checking = Checking {
+                svrl,
+                phase,
+                rules: asked.rules.as_slice(),
+                file,
+            };
+            check(alloc, &checking, shelf, out, err)
+        }
         Command::Extract(number, file) => extract(alloc, number, file, shelf, out, err),
         Command::Query(expression, file) => query(alloc, expression, file, shelf, out, err),
+        Command::Trial(lines) => trial(alloc, lines, out),
         Command::Help => say(HELP, out),
         Command::Version => say(VERSION, out),
         Command::BadWord(number) => {

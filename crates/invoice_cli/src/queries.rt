@@ -194,7 +194,8 @@ fn print_query_fault<E: Sink>(fault: &QueryFault, printer: &mut Printer, err: &m
     }
 }
 
-fn print_syntax_fault<E: Sink>(fault: &SyntaxFault, printer: &mut Printer, err: &mut E)
+/// Prints why a text is no expression.
+pub(crate) fn print_syntax_fault<E: Sink>(fault: &SyntaxFault, printer: &mut Printer, err: &mut E)
     ensures { Prints (spec.syntax_text fault.now) printer.old.failed printer.new.failed (E.view err.old) (E.view err.new) }
 {
     match fault {
@@ -209,7 +210,7 @@ fn print_syntax_fault<E: Sink>(fault: &SyntaxFault, printer: &mut Printer, err: 
 }
 
 /// Prints a kind of fault and its place.
-fn print_placed<E: Sink>(kind: &str, place: u32, printer: &mut Printer, err: &mut E)
+pub(crate) fn print_placed<E: Sink>(kind: &str, place: u32, printer: &mut Printer, err: &mut E)
     ensures { Prints (spec.placed kind.now place) printer.old.failed printer.new.failed (E.view err.old) (E.view err.new) }
 {
     let mut digits = Buffer::new();
@@ -218,7 +219,8 @@ fn print_placed<E: Sink>(kind: &str, place: u32, printer: &mut Printer, err: &mu
     printer.put(err, digits.format(place).as_bytes());
 }
 
-fn type_name(kind: TypeKind) -> &'static str
+/// The name of a kind of refusal.
+pub(crate) fn type_name(kind: TypeKind) -> &'static str
     ensures { result.now ≡ spec.type_text kind }
 {
     match kind {

@@ -1,22 +1,58 @@
 /// What `--help` prints.
-pub const HELP: &[u8] = b"usage: einv show [--codes LISTS] FILE
-       einv convert --to ubl [--codes LISTS] FILE
-       einv convert --to cii [--codes LISTS] FILE
-       einv extract K FILE
-       einv query EXPR FILE
-       einv outline FILE
-       einv --help
-       einv --version
+pub const HELP: &[u8] = b"usage: einv COMMAND [OPTION ..] FILE
 
-show           lists the terms of an invoice in UBL 2.1 or CII D16B, a line each
-convert        writes the invoice in UBL or in CII
-extract        writes the K-th document that is attached to it
-query          prints the value of an XPath expression at an XML document, a line for each item
-outline        prints an XML document, a line for each element, attribute and text
---codes LISTS  a TOML file of code lists; without it only the built-in lists are checked
+Lists, checks, converts and queries e-invoices (EN 16931) in UBL 2.1 and CII.
 
-status: 0 done, 2 bad words, 3 document refused, 4 code lists or expression refused, 5 not carried or no such
-attachment, 6 read fault, 7 write fault, 8 out of memory
+look at any XML document
+  einv outline FILE
+      prints a line for each element, attribute and text
+
+read an invoice
+  einv show [--codes LISTS] FILE
+      lists its business terms, a line each
+
+check a document, before it goes out or when it comes in
+  einv check [--svrl] [--phase PHASE] --rules RULES [--rules RULES ..] FILE
+      reports what Schematron rule files find, a line each, and counts it
+      --rules RULES   a rule file; up to 16 may be named
+      --phase PHASE   a phase that each rule file has, or #ALL or #DEFAULT
+      --svrl          the report in SVRL, the XML of Schematron reports
+
+change the syntax of an invoice
+  einv convert --to ubl [--codes LISTS] FILE
+  einv convert --to cii [--codes LISTS] FILE
+      writes it in UBL or in CII
+
+take out what is attached
+  einv extract K FILE
+      writes the K-th attached document, from 1
+
+ask something else of any XML document
+  einv query EXPR FILE
+      prints the value of an XPath expression, a line for each item
+
+try the whole tool on this machine
+  einv try N
+      makes an invoice of N lines, 1 to 10000, writes and reads it in UBL and
+      in CII, compares what was read, checks it, and prints what came of it
+
+--codes LISTS is a TOML file of code lists. A list that isn't in it, and isn't
+built in, allows every code. Options stand before FILE, in any order. A word
+that begins with -- is never a file; ./--name is one.
+
+einv --help prints this page, einv --version the version.
+
+status
+  0  done
+  1  check found something fatal
+  2  the words fit no command
+  3  the document is refused
+  4  a rule file, code lists, a phase or an expression is refused
+  5  the syntax can't carry the invoice, or there is no such attached document
+  6  a file couldn't be opened or read
+  7  standard output couldn't be written
+  8  memory ran out
+With 2 to 6 one line on standard error says why, and nothing else is written.
 ";
 
 /// What `--version` prints.

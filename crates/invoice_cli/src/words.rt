@@ -1,10 +1,15 @@
-ghost use Rattle.std.specs.Prelude.{◌≡◌, ◌<◌, ◌≤◌, ◌+◌, ◌^◌, ℕ, List, length, true, false};
+ghost use Rattle.std.specs.Prelude.{◌≡◌, ◌<◌, ◌+◌, ◌^◌, ℕ, List, [], length, true, false};
 ghost use Rattle.invoice_cli.specs.Job as spec;
 ghost use Rattle.invoice_cli.specs.Job.{Job, job, outline, words_of};
-ghost use Rattle.invoice_cli.specs.Commands.{asked, by_operand, given_options};
+ghost use Rattle.invoice_cli.specs.Commands.{asked, asked_by, by_operand, given_options};
+ghost use Rattle.invoice_cli.specs.declared.options.Optioned.TheVariants as commands;
 
-use crate::options::{Given, NONE_GIVEN, Scanned, scan};
+use crate::options::{Given, NO_RULES, NONE_GIVEN, Optioned, RuleFiles, scan};
 use bind_meaning::Syntax;
+use trial_invoice::MOST_LINES;
+
+/// The greatest number of an attached document.
+const MOST_DOCUMENTS: u32 = 9_999;
 
 /// What the words ask for.
 #[derive(Drop)]
@@ -13,38 +18,61 @@ pub(crate) enum Command<'w> {
     /// With the file of code lists, if one is named.
     Show(Option<&'w str>, &'w str),
     Convert(Syntax, Option<&'w str>, &'w str),
+    /// Whether the report is to be SVRL, the phase, if one is named, and the document. The rule files are named beside.
+    Check(bool, Option<&'w str>, &'w str),
     /// With the number of the attached document, from 1.
     Extract(u32, &'w str),
     /// An expression, and the document at which it is evaluated.
     Query(&'w str, &'w str),
+    /// With the number of lines.
+    Trial(u32),
     Help,
     Version,
     /// The number of the first word that fits no command, from 1.
     BadWord(u64),
 }
 
+/// A command with the rule files that are named.
+#[derive(Drop)]
+pub(crate) struct Asked<'w> {
+    pub(crate) command: Command<'w>,
+    pub(crate) rules: RuleFiles<'w>,
+}
+
 /// What the words behind the program's name ask for.
-pub(crate) fn command_of(words: &[String]) -> Command<'_>
+pub(crate) fn command_of(words: &[String]) -> Asked<'_>
     ensures { asked result ≡ job (words_of words.now) }
 {
     match words.split_first() {
-        None => Command::BadWord(1),
+        None => without_rules(Command::BadWord(1)),
         Some((command, rest)) => match command.as_str() {
-            "outline" => outline_of(rest),
-            "show" => show_of(rest),
-            "convert" => convert_of(rest),
-            "extract" => extract_of(rest),
-            "query" => query_of(rest),
-            "--help" => with_no_more(2, Command::Help, rest),
-            "--version" => with_no_more(2, Command::Version, rest),
-            _ => Command::BadWord(1),
+            "outline" => without_rules(outline_of(rest)),
+            "show" => without_rules(show_of(rest)),
+            "convert" => without_rules(convert_of(rest)),
+            "check" => check_of(rest),
+            "extract" => without_rules(extract_of(rest)),
+            "query" => without_rules(query_of(rest)),
+            "try" => without_rules(try_of(rest)),
+            "--help" => without_rules(with_no_more(2, Command::Help, rest)),
+            "--version" => without_rules(with_no_more(2, Command::Version, rest)),
+            _ => without_rules(Command::BadWord(1)),
         },
+    }
+}
+
+/// A command for which no rule file is named.
+fn without_rules<'w>(command: Command<'w>) -> Asked<'w>
+    ensures { asked result ≡ asked_by [] command.entry }
+{
+    Asked {
+        command,
+        rules: NO_RULES,
     }
 }
 
 /// The command, where no word is left behind it; else that word is bad.
 fn with_no_more<'w>(number: u64, command: Command<'w>, rest: &[String]) -> Command<'w>
-    ensures { asked result ≡ spec.with_no_more number (asked command.entry) (words_of rest.now) }
+    ensures { asked_by [] result ≡ spec.with_no_more number (asked_by [] command.entry) (words_of rest.now) }
 {
     if rest.is_empty() {
         command
@@ -75,7 +103,7 @@ fn last_operand(number: u64, words: &[String]) -> Result<&str, u64>
 /// The outline of the file that the words behind `outline` name.
 fn outline_of(words: &[String]) -> Command<'_>
     requires { 2 + length words.now < 2 ^ 64 }
-    ensures { asked result ≡ spec.last_operand outline 2 (words_of words.now) }
+    ensures { asked_by [] result ≡ spec.last_operand outline 2 (words_of words.now) }
 {
     match last_operand(2, words) {
         Ok(file) => Command::Outline(file),
@@ -86,17 +114,18 @@ fn outline_of(words: &[String]) -> Command<'_>
 /// The listing that the words behind `show` ask for.
 fn show_of(words: &[String]) -> Command<'_>
     requires { 2 + length words.now < 2 ^ 64 }
-    ensures { asked result ≡ spec.optioned false spec.show_of spec.none_given 2 (words_of words.now) }
+    ensures { asked_by [] result ≡ spec.optioned commands.Show spec.show_of spec.none_given 2 (words_of words.now) }
 {
-    match scan(false, &NONE_GIVEN, 2, words) {
-        Scanned::Bad(number) => Command::BadWord(number),
-        Scanned::Ready(given, number, rest) => show_with(&given, number, rest),
+    let found = scan(Optioned::Show, &NONE_GIVEN, 2, words);
+    match found.bad {
+        Some(number) => Command::BadWord(number),
+        None => show_with(&found.given, found.number, found.words),
     }
 }
 
 fn show_with<'w>(given: &Given<'w>, number: u64, words: &'w [String]) -> Command<'w>
     requires { number + length words.now < 2 ^ 64 }
-    ensures { asked result ≡ spec.show_of (given_options given.now) number (words_of words.now) }
+    ensures { asked_by [] result ≡ spec.show_of (given_options given.now) number (words_of words.now) }
 {
     match last_operand(number, words) {
         Ok(file) => Command::Show(given.codes_file, file),
@@ -107,17 +136,18 @@ fn show_with<'w>(given: &Given<'w>, number: u64, words: &'w [String]) -> Command
 /// The conversion that the words behind `convert` ask for.
 fn convert_of(words: &[String]) -> Command<'_>
     requires { 2 + length words.now < 2 ^ 64 }
-    ensures { asked result ≡ spec.optioned true spec.convert_of spec.none_given 2 (words_of words.now) }
+    ensures { asked_by [] result ≡ spec.optioned commands.Convert spec.convert_of spec.none_given 2 (words_of words.now) }
 {
-    match scan(true, &NONE_GIVEN, 2, words) {
-        Scanned::Bad(number) => Command::BadWord(number),
-        Scanned::Ready(given, number, rest) => convert_with(&given, number, rest),
+    let found = scan(Optioned::Convert, &NONE_GIVEN, 2, words);
+    match found.bad {
+        Some(number) => Command::BadWord(number),
+        None => convert_with(&found.given, found.number, found.words),
     }
 }
 
 fn convert_with<'w>(given: &Given<'w>, number: u64, words: &'w [String]) -> Command<'w>
     requires { number + length words.now < 2 ^ 64 }
-    ensures { asked result ≡ spec.convert_of (given_options given.now) number (words_of words.now) }
+    ensures { asked_by [] result ≡ spec.convert_of (given_options given.now) number (words_of words.now) }
 {
     let Some(syntax) = given.target else {
         return Command::BadWord(number);
@@ -128,15 +158,43 @@ fn convert_with<'w>(given: &Given<'w>, number: u64, words: &'w [String]) -> Comm
     }
 }
 
+/// The check that the words behind `check` ask for.
+fn check_of(words: &[String]) -> Asked<'_>
+    requires { 2 + length words.now < 2 ^ 64 }
+    ensures { asked result ≡ spec.optioned commands.Check spec.check_of spec.none_given 2 (words_of words.now) }
+{
+    let found = scan(Optioned::Check, &NONE_GIVEN, 2, words);
+    match found.bad {
+        Some(number) => without_rules(Command::BadWord(number)),
+        None => check_with(&found.given, found.number, found.words),
+    }
+}
+
+fn check_with<'w>(given: &Given<'w>, number: u64, words: &'w [String]) -> Asked<'w>
+    requires { number + length words.now < 2 ^ 64 }
+    ensures { asked result ≡ spec.check_of (given_options given.now) number (words_of words.now) }
+{
+    if given.rules.is_empty() {
+        return without_rules(Command::BadWord(number));
+    }
+    match last_operand(number, words) {
+        Ok(file) => Asked {
+            command: Command::Check(given.svrl, given.phase, file),
+            rules: given.rules,
+        },
+        Err(number) => without_rules(Command::BadWord(number)),
+    }
+}
+
 /// The attached document that the words behind `extract` ask for.
 fn extract_of(words: &[String]) -> Command<'_>
     requires { 2 + length words.now < 2 ^ 64 }
-    ensures { asked result ≡ spec.extract_of (words_of words.now) }
+    ensures { asked_by [] result ≡ spec.extract_of (words_of words.now) }
 {
     let Some((word, rest)) = words.split_first() else {
         return Command::BadWord(2);
     };
-    let Some(number) = document_number(word.as_bytes()) else {
+    let Some(number) = number_up_to(MOST_DOCUMENTS, word.as_bytes()) else {
         return Command::BadWord(2);
     };
     match last_operand(3, rest) {
@@ -148,7 +206,7 @@ fn extract_of(words: &[String]) -> Command<'_>
 /// The query that the words behind `query` ask for.
 fn query_of(words: &[String]) -> Command<'_>
     requires { 3 + length words.now < 2 ^ 64 }
-    ensures { asked result ≡ spec.query_of (words_of words.now) }
+    ensures { asked_by [] result ≡ spec.query_of (words_of words.now) }
 {
     let Some((word, rest)) = words.split_first() else {
         return Command::BadWord(2);
@@ -162,26 +220,34 @@ fn query_of(words: &[String]) -> Command<'_>
     }
 }
 
-/// A number from 1 to 9999, without a leading zero.
-fn document_number(word: &[u8]) -> Option<u32>
-    ensures { result ≡ spec.document_number word.now }
+/// The trial that the words behind `try` ask for.
+fn try_of(words: &[String]) -> Command<'_>
+    ensures { asked_by [] result ≡ spec.try_of (words_of words.now) }
+{
+    let Some((word, rest)) = words.split_first() else {
+        return Command::BadWord(2);
+    };
+    let Some(lines) = number_up_to(MOST_LINES, word.as_bytes()) else {
+        return Command::BadWord(2);
+    };
+    with_no_more(3, Command::Trial(lines), rest)
+}
+
+/// A number from 1 to the most, in decimal digits without a leading zero.
+fn number_up_to(most: u32, word: &[u8]) -> Option<u32>
+    requires { most < 100000000 }
+    ensures { result ≡ spec.number_up_to most word.now }
 {
     match word.first() {
         None | Some(b'0') => None,
-        Some(_) => {
-            if word.len() <= 4 {
-                digits_value(word)
-            } else {
-                None
-            }
-        }
+        Some(_) => digits_value(most, word),
     }
 }
 
-/// The number that up to four digits spell.
-fn digits_value(digits: &[u8]) -> Option<u32>
-    requires { length digits.now ≤ 4 }
-    ensures { result ≡ spec.digits_value 0 digits.now }
+/// The number that the digits spell, where it is at most the most. The digits behind one that makes it greater aren't looked at.
+fn digits_value(most: u32, digits: &[u8]) -> Option<u32>
+    requires { most < 100000000 }
+    ensures { result ≡ spec.at_most most (spec.digits_value 0 digits.now) }
 {
     let mut value = 0;
     'digits: for digit in digits {
@@ -189,6 +255,9 @@ fn digits_value(digits: &[u8]) -> Option<u32>
             return None;
         }
         value = 10 * value + u32::from(*digit - b'0');
+        if value > most {
+            return None;
+        }
     }
     Some(value)
 }

@@ -6,12 +6,13 @@ use Rattle.inv_base.specs.Writing.{WritesAll, WritesFront}
 use Rattle.inv_base.proofs.WritingLemmas.{appended-nil, IsFront-nil}
 use Rattle.code_lists.specs.CodeFiles.{Lists, file_lists}
 use Rattle.node_arena.specs.Document.{Document}
+use Rattle.xml_state.specs.declared.limits.Limits.{Limits}
 use Rattle.xml_profile.specs.Profile.{document}
 use Rattle.xml_profile.specs.Profile as profile
 use Rattle.xml_document.specs.Loading.{IsLoaded}
 use Rattle.job_course.specs.declared.status.Status.{Status}
 use Rattle.job_course.specs.declared.status.Status.TheVariants as statuses
-use Rattle.job_course.specs.Course.{Answer, Course, ends, loads, takes, refusal, by_result, by_test, by_lists, is_within, document_limits, list_limit, document_course, lists_course, answer_of, readings}
+use Rattle.job_course.specs.Course.{Answer, Course, ends, loads, takes, refusal, by_result, by_test, by_lists, is_within, document_limits, rule_limits, list_limit, loading, document_course, rules_course, lists_course, answer_of, readings}
 use Rattle.job_course.specs.Lines.{document_line, too_long_line}
 use Rattle.job_course.specs.Outside.{Outside, HasRead, IsAccepted}
 use Rattle.job_course.specs.Runs.{IsContentOf, AreListed, EndsIn, at_end, refused_at, loaded, too_long_at, taken, ReadsAt, a_load, a_taking, behind_load, behind_taking, Runs}
@@ -46,14 +47,27 @@ memory_here course shelf out err = inr (inr (inl (record {
 })))
 
 module _ (name : List ℕ) (shelf mid shelf' : ShelfView) (out out' err mid_err err' : SinkView) (status : Status) (read : HasRead 1 shelf mid) (quiet : mid_err ≡ err) where
-  -- what follows behind a document that was loaded
+  -- what follows behind a document that was loaded under limits
+  pub behind_loading : (limits : Limits) (refusing : Status) (next : profile.Document → Course) (doc : Document)
+      (found : IsLoaded limits (option_map (bytes_under name) shelf.held) doc)
+      → Runs (next found.found) (record { shelf = mid; out = out; err = mid_err }) (record { shelf = shelf'; out = out'; err = err' }) status
+      → Runs (loading limits refusing name next) (record { shelf = shelf; out = out; err = err }) (record { shelf = shelf'; out = out'; err = err' }) status
+  behind_loading limits refusing next doc found further =
+      run_behind (loading limits refusing name next) (next found.found) shelf mid shelf' out out' err mid_err err' status
+      (behind_a_load shelf.held limits name (λ fault. refusal refusing (document_line name fault)) next found.content found.found
+      (λ files is. found.whole (bytes_under name files) (ap (option_map (bytes_under name)) is)) found.is) read quiet further
+
+  -- what follows behind a document
   pub behind_document : (next : profile.Document → Course) (doc : Document) (found : IsLoaded document_limits (option_map (bytes_under name) shelf.held) doc)
       → Runs (next found.found) (record { shelf = mid; out = out; err = mid_err }) (record { shelf = shelf'; out = out'; err = err' }) status
       → Runs (document_course name next) (record { shelf = shelf; out = out; err = err }) (record { shelf = shelf'; out = out'; err = err' }) status
-  behind_document next doc found further =
-      run_behind (document_course name next) (next found.found) shelf mid shelf' out out' err mid_err err' status
-      (behind_a_load shelf.held document_limits name (λ fault. refusal statuses.DocumentRefused (document_line name fault)) next found.content found.found
-      (λ files is. found.whole (bytes_under name files) (ap (option_map (bytes_under name)) is)) found.is) read quiet further
+  behind_document = behind_loading document_limits statuses.DocumentRefused
+
+  -- what follows behind a rule file
+  pub behind_rules : (next : profile.Document → Course) (doc : Document) (found : IsLoaded rule_limits (option_map (bytes_under name) shelf.held) doc)
+      → Runs (next found.found) (record { shelf = mid; out = out; err = mid_err }) (record { shelf = shelf'; out = out'; err = err' }) status
+      → Runs (rules_course name next) (record { shelf = shelf; out = out; err = err }) (record { shelf = shelf'; out = out'; err = err' }) status
+  behind_rules = behind_loading rule_limits statuses.RulesRefused
 
   -- what follows behind the lists of a file
   pub behind_lists : (next : Lists → Course) (lists : Lists) (found : AreListed shelf.held name lists)

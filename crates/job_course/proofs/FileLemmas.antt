@@ -18,11 +18,11 @@ use Rattle.node_arena.specs.Document.{Document}
 use Rattle.xml_document.specs.declared.loading.LoadFault.TheVariants as load_faults
 use Rattle.xml_document.specs.declared.whole.WholeFault.TheVariants as whole_faults
 use Rattle.xml_document.specs.Loading.{ReadsFrom, StopsInTime}
-use Rattle.xml_document.specs.Loading as loading
+use Rattle.xml_document.specs.Loading as documents
 use Rattle.xml_document.specs.Whole.{IsReadWhole, IsTooLong}
 use Rattle.job_course.specs.declared.status.Status.{Status}
 use Rattle.job_course.specs.declared.status.Status.TheVariants as statuses
-use Rattle.job_course.specs.Course.{Answer, Course, ends, Load, refusal, by_result, by_test, by_lists, is_within, document_limits, list_limit, document_course, lists_course, answer_of, readings, refused_load}
+use Rattle.job_course.specs.Course.{Answer, Course, ends, Load, refusal, by_result, by_test, by_lists, is_within, list_limit, loading, lists_course, answer_of, readings, refused_load}
 use Rattle.job_course.specs.Lines.{read_fault_line, document_line, list_line, too_long_line}
 use Rattle.job_course.specs.Outside.{Outside, HasRead, TakesOrFails, IsRefusedAnswer}
 use Rattle.job_course.specs.Runs.{IsContentOf, AreListed, EndsIn, at_end, refused_at, too_long_at, taken, ReadsAt, a_load, a_taking, Runs, IsListRefusal}
@@ -56,9 +56,10 @@ module _ (name : List ℕ) (shelf shelf' : ShelfView) (out err err' : SinkView) 
   abbrev after : Outside
   after = record { shelf = shelf'; out = out; err = err' }
 
-  pub unread_document : (next : profile.Document → Course) → ReadsFrom {T = Document} (Err load_faults.Read) load_faults.Read shelf shelf'
-      → TakesOrFails (read_fault_line name) err err' → Runs (document_course name next) before after statuses.ReadFault
-  unread_document next reads takes = inr (inl (record {
+  pub unread_document : (limits : Limits) (refusing : Status) (next : profile.Document → Course)
+      → ReadsFrom {T = Document} (Err load_faults.Read) load_faults.Read shelf shelf'
+      → TakesOrFails (read_fault_line name) err err' → Runs (loading limits refusing name next) before after statuses.ReadFault
+  unread_document limits refusing next reads takes = inr (inl (record {
     count = 1;
     file = name;
     reads_at = a_load;
@@ -71,34 +72,35 @@ module _ (name : List ℕ) (shelf shelf' : ShelfView) (out err err' : SinkView) 
     line = takes;
   }))
 
-  module _ (next : profile.Document → Course) (fault : XmlFault) (refused : loading.IsRefused document_limits (option_map (bytes_under name) shelf.held) fault)
-      (stops : StopsInTime document_limits (option_map (bytes_under name) shelf.held) shelf'.left) where
+  module _ (limits : Limits) (refusing : Status) (next : profile.Document → Course) (fault : XmlFault)
+      (refused : documents.IsRefused limits (option_map (bytes_under name) shelf.held) fault)
+      (stops : StopsInTime limits (option_map (bytes_under name) shelf.held) shelf'.left) where
     of_this_file : IsContentOf shelf.held name refused.content
     of_this_file = of_file name refused.content shelf.held refused.whole
 
-    no_document : (files : Files) → shelf.held ≡ Some files → document document_limits (bytes_under name files) ≡ Err fault
-    no_document files is = ap (document document_limits) (sym (of_this_file files is)) ∙ is_no_document document_limits refused.content fault refused.is
+    no_document : (files : Files) → shelf.held ≡ Some files → document limits (bytes_under name files) ≡ Err fault
+    no_document files is = ap (document limits) (sym (of_this_file files is)) ∙ is_no_document limits refused.content fault refused.is
 
-    stops_at : (files : Files) (load : Load) → shelf.held ≡ Some files → Some (record { limits = document_limits; name = name }) ≡ Some load
+    stops_at : (files : Files) (load : Load) → shelf.held ≡ Some files → Some (record { limits = limits; name = name }) ≡ Some load
         → StopsInTime load.limits (Some (bytes_under load.name files)) shelf'.left
     stops_at files load is same =
-        let load_is : record { limits = document_limits; name = name } ≡ load = cc in
+        let load_is : record { limits = limits; name = name } ≡ load = cc in
         subst (λ (l : Load). StopsInTime l.limits (Some (bytes_under l.name files)) shelf'.left) load_is
-        (subst (λ held. StopsInTime document_limits (option_map (bytes_under name) held) shelf'.left) is stops)
+        (subst (λ held. StopsInTime limits (option_map (bytes_under name) held) shelf'.left) is stops)
 
-    pub refused_document : ReadsFrom {T = Document} (Err (load_faults.Refused fault)) load_faults.Read shelf shelf'
-        → TakesOrFails (document_line name fault) err err' → Runs (document_course name next) before after statuses.DocumentRefused
-    refused_document reads takes = inl (record {
+    pub refused_document : IsRefusedAnswer refusing → ReadsFrom {T = Document} (Err (load_faults.Refused fault)) load_faults.Read shelf shelf'
+        → TakesOrFails (document_line name fault) err err' → Runs (loading limits refusing name next) before after refusing
+    refused_document refuses reads takes = inl (record {
       count = 1;
-      answer = refusal statuses.DocumentRefused (document_line name fault);
-      ends_in = refused_at of_this_file (is_no_document document_limits refused.content fault refused.is);
+      answer = refusal refusing (document_line name fault);
+      ends_in = refused_at of_this_file (is_no_document limits refused.content fault refused.is);
       told = refl;
-      refuses = tt;
+      refuses = refuses;
       empty = refl;
       read = record { held = reads.held; opens = reads.opens; faults = reads.quiet (λ e. cc) };
       nothing = refl;
       line = takes;
-      stops = λ files is load found. stops_at files load is (sym (ap (by_result (λ fault. Some (record { limits = document_limits; name = name }))
+      stops = λ files is load found. stops_at files load is (sym (ap (by_result (λ fault. Some (record { limits = limits; name = name }))
           (λ f. refused_load (next f) files)) (no_document files is)) ∙ found);
     })
 

@@ -29,7 +29,8 @@ pub data Course : Type 0 where
   ends : Answer → Course
   -- a document, under limits: what is answered where it is refused, and what follows by what it is
   loads : Limits → List ℕ → (XmlFault → Answer) → (profile.Document → Course) → Course
-  -- a file that is taken whole, of at most so many bytes: what is answered where it is longer, and what follows by its bytes
+  -- a file that is taken whole, of at most so many bytes: what is answered where it is longer, and what follows by its
+  -- bytes
   takes : ℕ → List ℕ → Answer → (List ℕ → Course) → Course
 
 abbrev pub by_result : {T E A : Type 0} → (E → A) → (T → A) → Result T E → A
@@ -78,9 +79,21 @@ document_limits = record { bytes = 16777216; nodes = 1000000; depth = 100; attri
 abbrev pub list_limit : ℕ
 list_limit = 4194304
 
+-- how large a rule file may be
+abbrev pub rule_limits : Limits
+rule_limits = record { bytes = 4194304; nodes = 4000000; depth = 100; attributes = 64; name = 200; names = 10000 }
+
+-- a document under limits by its name, the status with which it is refused, and what follows by what it is
+abbrev pub loading : Limits → Status → List ℕ → (profile.Document → Course) → Course
+loading limits status name next = loads limits name (λ fault. refusal status (document_line name fault)) next
+
 -- a document by its name, and what follows by what it is
 abbrev pub document_course : List ℕ → (profile.Document → Course) → Course
-document_course name next = loads document_limits name (λ fault. refusal statuses.DocumentRefused (document_line name fault)) next
+document_course name next = loading document_limits statuses.DocumentRefused name next
+
+-- a rule file by its name, and what follows by what it is as a document
+abbrev pub rules_course : List ℕ → (profile.Document → Course) → Course
+rules_course name next = loading rule_limits statuses.RulesRefused name next
 
 -- what follows by the lists of a file, or its refusal
 abbrev pub by_lists : List ℕ → (Lists → Course) → Result Lists ListFault → Course

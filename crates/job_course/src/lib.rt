@@ -6,6 +6,6 @@ mod files;
 mod status;
 mod telling;
 
-pub use files::{load_document, take_lists};
+pub use files::{load_document, load_rules, take_lists};
 pub use status::Status;
 pub use telling::{tell_bad_word, tell_document_fault, tell_read_fault};

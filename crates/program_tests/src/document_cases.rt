@@ -1,99 +1,38 @@
 //! The outlines and faults of documents, whole and in pieces.
-//!
-//! A row is a document, `→`, and what is expected of it. In both `␊`, `␍` and `␉` stand for LF, CR and TAB, `␣` for U+FEFF, the byte order
-//! mark, and `␀` for U+FFFE, which is no character of XML.
 
-use inv_base::{Failed, MemShelf, MemSink, Shelf};
-use invoice_cli::run;
-use std::alloc::{AllocError, Global};
-use std::process::Abort;
-use std::str::from_utf8;
+use crate::cases::{Case, answer_to, case_of, check, expect, printing, telling_fault, with_file};
+use crate::texts::{columns, repeated, spelled};
+use invoice_cli::Status;
+use std::alloc::Global;
 use std::test::Fail;
 
-/// A file of the content under every name, of which each read gives some bytes at most. It tells no content, and counts the bytes that
-/// it gave.
-#[derive(Drop)]
-struct Trickle<'b> {
-    content: &'b [u8],
-    most: usize,
-    opens: u64,
+/// The outline of a document.
+fn outline(document: &[u8]) -> Case<'_> {
+    case_of("outline f", document)
 }
 
-impl Shelf for Trickle<'_> {
-    ghost use Rattle.std.specs.Prelude.{None};
-
-    ghost view = { λ shelf. record { held = None; left = None; faults = 0; opens = shelf.opens } };
-
-    fn open(&mut self, _: &str) -> Result<(), Failed> {
-        self.opens = self.opens.saturating_add(1);
-        Ok(())
-    }
-
-    fn read(&mut self, buf: &mut [u8]) -> Result<usize, Failed> {
-        let count = self.content.len().min(self.most).min(buf.len());
-        let (now, later) = self.content.split_at(count);
-        buf[..count].copy_from_slice(now);
-        self.content = later;
-        Ok(count)
+/// The case, in which the document is refused by such a fault.
+fn refused<'a>(case: Case<'a>, fault: &'a str) -> Case<'a> {
+    Case {
+        err: ["einv: f: ", fault, "\n"],
+        ..case
     }
 }
 
-/// The status of the outline of `f`, and what was written to the output and to the error output.
-fn outline<S: Shelf>(alloc: Global, shelf: &mut S, room: usize) -> Result<String, Fail> {
-    let mut words = Vec::new(alloc);
-    words.push(String::from_str(alloc, "outline")?)?;
-    words.push(String::from_str(alloc, "f")?)?;
-    let mut out = MemSink::new(alloc, room)?;
-    let mut err = MemSink::new(alloc, 100)?;
-    let status = run(alloc, &words, shelf, &mut out, &mut err);
-    Ok(format!(in alloc;
-        "{status:?} {}|{}",
-        from_utf8(out.bytes())?,
-        from_utf8(err.bytes())?
-    )?)
-}
-
-/// What a text of a row stands for.
-fn spelled(alloc: Global, row: &str) -> Result<String, AllocError> {
-    let mut text = String::new(alloc);
-    for c in row.chars() {
-        text.push(match c {
-            '␊' => '\n',
-            '␍' => '\r',
-            '␉' => '\t',
-            '␣' => '\u{FEFF}',
-            '␀' => '\u{FFFE}',
-            _ => c,
-        })?;
-    }
-    Ok(text)
-}
-
-/// Reads the document of a row whole, and in pieces of one byte and more.
-fn check_row(rt: &impl Abort, alloc: Global, document: &str, want: &str) -> Result<(), Fail> {
-    let mut shelf = MemShelf::new(alloc);
-    shelf.add("f", document.as_bytes())?;
-    assert_eq!(rt;
-        outline(alloc, &mut shelf, 1000)?.as_str(),
-        want,
-        "{document}"
-    );
-    for most in [1, 2, 3, 5, 7] {
-        let mut shelf = Trickle {
-            content: document.as_bytes(),
-            most,
-            opens: 0,
-        };
-        assert_eq!(rt;
-            outline(alloc, &mut shelf, 1000)?.as_str(),
-            want,
-            "{most} {document}"
-        );
+/// Reads a document whole, and in pieces of one byte and more.
+fn expect_in_pieces(
+    alloc: Global,
+    case: &Case<'_>,
+    status: Status,
+    row: &'static str,
+) -> Result<(), Fail> {
+    for piece in [1_000_000, 1, 2, 3, 5, 7] {
+        expect(alloc, &Case { piece, ..*case }, status, row)?;
     }
     Ok(())
 }
 
-/// Documents and their outlines.
+/// Documents and their outlines, with marks for white space as `spelled` has them.
 const OUTLINES: &str = r#"<a><b>x</b></a>→a␊  b␊    "x"␊
 <a></a>→a␊
 ␊ ␉␍<a />␍␊␊→a␊
@@ -113,19 +52,22 @@ const OUTLINES: &str = r#"<a><b>x</b></a>→a␊  b␊    "x"␊
 <p:a xmlns:p="u" p:x="1" x="2"><b xmlns="v"><p:c/></b><b/></p:a>→{u}a␊  @{u}x="1"␊  @x="2"␊  {v}b␊    {u}c␊  b␊
 <a xml:lang="de"/>→a␊  @{http://www.w3.org/XML/1998/namespace}lang="de"␊"#;
 
+fn check_outline(alloc: Global, row: &'static str) -> Result<(), Fail> {
+    let text = spelled(alloc, row)?;
+    let [document, lines, ..] = columns(text.as_str(), '→');
+    let case = printing(outline(document.as_bytes()), lines);
+    expect_in_pieces(alloc, &case, Status::Done, row)
+}
+
 #[test]
 fn documents_have_outlines(rt: HostRuntime) -> Result<(), Fail> {
     for row in OUTLINES.lines() {
-        let (document, want) = row.split_once('→').ok_or("row")?;
-        let document = spelled(rt.alloc(), document)?;
-        let want = spelled(rt.alloc(), want)?;
-        let want = format!(in rt.alloc(); "Done {want}|")?;
-        check_row(&rt, rt.alloc(), document.as_str(), want.as_str())?;
+        check_outline(rt.alloc(), row)?;
     }
     Ok(())
 }
 
-/// Documents and their first faults.
+/// Documents and their first faults, with marks for white space as `spelled` has them.
 const FAULTS: &str = r#"→NoRoot at 0
 ␊ <!--x-->→NoRoot at 10
 <a>&#x20→Truncated at 8
@@ -152,133 +94,137 @@ const FAULTS: &str = r#"→NoRoot at 0
 <a>äö</b>&→Mismatched at 7
 <a>x￾</a>→BadChar at 4"#;
 
+fn check_fault(alloc: Global, row: &'static str) -> Result<(), Fail> {
+    let text = spelled(alloc, row)?;
+    let [document, fault, ..] = columns(text.as_str(), '→');
+    let case = refused(outline(document.as_bytes()), fault);
+    expect_in_pieces(alloc, &case, Status::DocumentRefused, row)
+}
+
 #[test]
 fn other_documents_are_refused(rt: HostRuntime) -> Result<(), Fail> {
     for row in FAULTS.lines() {
-        let (document, fault) = row.split_once('→').ok_or("row")?;
-        let document = spelled(rt.alloc(), document)?;
-        let want = format!(in rt.alloc(); "DocumentRefused |einv: f: {fault}\n")?;
-        check_row(&rt, rt.alloc(), document.as_str(), want.as_str())?;
+        check_fault(rt.alloc(), row)?;
     }
     Ok(())
 }
 
-/// Each byte of a document that isn't one of UTF-8, and each proper front of a document.
+/// Fails where the document isn't refused by such a fault at a place.
+fn check_place(alloc: Global, bytes: &[u8], kind: &'static str, place: usize) -> Result<(), Fail> {
+    let fault = format!(in alloc; "{kind} at {place}")?;
+    let case = refused(outline(bytes), fault.as_str());
+    expect(alloc, &case, Status::DocumentRefused, kind)
+}
+
+/// Each proper front of a document, and documents that aren't in UTF-8.
 #[test]
 fn fronts_and_other_bytes_are_refused(rt: HostRuntime) -> Result<(), Fail> {
     let document = "<a xmlns:p='u'><!--c--><p:b x='1'>é&amp;<![CDATA[]]></p:b></a>".as_bytes();
     for end in 1..document.len() {
-        let mut shelf = MemShelf::new(rt.alloc());
-        shelf.add("f", &document[..end])?;
-        let want = format!(in rt.alloc(); "DocumentRefused |einv: f: Truncated at {end}\n")?;
-        assert_eq!(rt;
-            outline(rt.alloc(), &mut shelf, 1000)?.as_str(),
-            want.as_str()
-        );
+        check_place(rt.alloc(), &document[..end], "Truncated", end)?;
     }
-    for (bytes, place) in [(b"<a>x\xFF</a>".as_slice(), 4), (b"<a>\xC0\x80", 3)] {
-        let mut shelf = MemShelf::new(rt.alloc());
-        shelf.add("f", bytes)?;
-        let want = format!(in rt.alloc(); "DocumentRefused |einv: f: NotUtf8 at {place}\n")?;
-        assert_eq!(rt;
-            outline(rt.alloc(), &mut shelf, 1000)?.as_str(),
-            want.as_str()
-        );
-    }
-    Ok(())
+    check_place(rt.alloc(), b"<a>x\xFF</a>", "NotUtf8", 4)?;
+    check_place(rt.alloc(), b"<a>\xC0\x80", "NotUtf8", 3)
 }
 
-/// A front, a piece with the number of its time for `#`, how often it comes, a back, and the answer: documents at a limit and one past it.
+/// Documents at a limit and one past it. Of each row a front, a piece with the number of its time for `#`, how often it
+/// comes, a back, and the fault, or nothing where there is none.
 const LIMITS: &str = r#"|<a>|100||Truncated at 300
 |<a>|101||TooDeep at 300
 <r>|<e/>|999999|</r>|TooManyNodes at 3999995
 <r>|<e/>|999997|<e x=""/></r>|TooManyNodes at 3999991
-<a| x#=""|64|/>|Done
+<a| x#=""|64|/>|
 <a| x#=""|65|/>|TooManyAttributes at 0
-<|n|200|/>|Done
+<|n|200|/>|
 <|n|201|/>|NameTooLong at 0
 <a| |262141|>|Truncated at 262144
 <a| |262142|>|TagTooLong at 0
-<r>|<n#/>|9999|</r>|Done
+<r>|<n#/>|9999|</r>|
 <r>|<n#/>|10000|</r>|TooManyNames at 78885
-<a><!--|x|1000000|--></a>|Done"#;
+<a><!--|x|1000000|--></a>|"#;
 
-/// The document that a front, a piece and how often it comes, and a back spell.
-fn long_document(
-    alloc: Global,
-    front: &str,
-    piece: &str,
-    times: u32,
-    back: &str,
-) -> Result<String, Fail> {
-    let mut document = String::from_str(alloc, front)?;
-    let (before, behind) = piece.split_once('#').unwrap_or((piece, ""));
-    let mut digits = String::new(alloc);
-    for time in 0..times {
-        document.push_str(before)?;
-        if before.len() < piece.len() {
-            digits.clear();
-            write!(digits, "{time}")?;
-            document.push_str(digits.as_str())?;
-            document.push_str(behind)?;
-        }
+/// A row with its piece so often as it says.
+fn check_inside(alloc: Global, row: &'static str, inside: &str) -> Result<(), Fail> {
+    let [front, _, _, back, fault] = columns(row, '|');
+    let case = Case {
+        room: 1_000_000,
+        ..with_file(outline(b""), front, inside, back)
+    };
+    if fault.is_empty() {
+        check(answer_to(alloc, &case)?.status == Status::Done, row)
+    } else {
+        expect(alloc, &refused(case, fault), Status::DocumentRefused, row)
     }
-    document.push_str(back)?;
-    Ok(document)
+}
+
+fn check_limit(alloc: Global, row: &'static str) -> Result<(), Fail> {
+    let [_, piece, times, ..] = columns(row, '|');
+    let inside = repeated(alloc, piece, times.parse()?)?;
+    check_inside(alloc, row, inside.as_str())
 }
 
 #[test]
 fn limits_are_kept(rt: HostRuntime) -> Result<(), Fail> {
     for row in LIMITS.lines() {
-        let mut parts = row.split('|');
-        let front = parts.next().ok_or("front")?;
-        let piece = parts.next().ok_or("piece")?;
-        let times = parts.next().ok_or("times")?.parse()?;
-        let back = parts.next().ok_or("back")?;
-        let want = parts.next().ok_or("answer")?;
-        let document = long_document(rt.alloc(), front, piece, times, back)?;
-        let mut shelf = MemShelf::new(rt.alloc());
-        shelf.add("f", document.as_bytes())?;
-        let answer = outline(rt.alloc(), &mut shelf, 1_000_000)?;
-        assert!(rt; answer.contains(want), "{row}");
+        check_limit(rt.alloc(), row)?;
     }
     Ok(())
 }
 
-/// A byte more than a document may have.
+/// A document that isn't at its end, and its fault.
+fn check_length(alloc: Global, inside: &str, back: &str, fault: &'static str) -> Result<(), Fail> {
+    let case = Case {
+        piece: 100_000,
+        ..with_file(outline(b""), "<a>", inside, back)
+    };
+    expect(alloc, &refused(case, fault), Status::DocumentRefused, fault)
+}
+
+/// As many bytes as a document may have, 3 and 16,777,200 and 13, and one more.
 #[test]
 fn the_limit_on_bytes_is_kept(rt: HostRuntime) -> Result<(), Fail> {
-    for (bytes, fault) in [(16_777_216, "Truncated"), (16_777_217, "TooLong")] {
-        let mut document = vec![in rt.alloc(); b'x'; bytes]?;
-        document[..3].copy_from_slice(b"<a>");
-        let mut shelf = Trickle {
-            content: &document,
-            most: 100_000,
-            opens: 0,
-        };
-        let want = format!(in rt.alloc(); "DocumentRefused |einv: f: {fault} at 16777216\n")?;
-        assert_eq!(rt; outline(rt.alloc(), &mut shelf, 0)?.as_str(), want.as_str());
-    }
-    Ok(())
+    let inside = repeated(rt.alloc(), "xxxxxxxxxxxxxxxxxxxx", 838_860)?;
+    check_length(
+        rt.alloc(),
+        inside.as_str(),
+        "xxxxxxxxxxxxx",
+        "Truncated at 16777216",
+    )?;
+    check_length(
+        rt.alloc(),
+        inside.as_str(),
+        "xxxxxxxxxxxxxx",
+        "TooLong at 16777216",
+    )
 }
 
-/// Behind a fault that is settled the rest of the file isn't read.
+/// A document with a fault at its 3rd byte, told at its 7th, and much behind it. With so many bytes a read, no call
+/// follows the one of this number: where it fails that is told, and where the next one is to fail nothing is.
+fn check_last_call(alloc: Global, behind: &str, piece: usize, call: u64) -> Result<(), Fail> {
+    let case = Case {
+        piece,
+        failed_read: call,
+        ..with_file(outline(b""), "<a></b>", behind, "")
+    };
+    expect(
+        alloc,
+        &telling_fault(case, "f"),
+        Status::ReadFault,
+        "last call",
+    )?;
+    let later = Case {
+        failed_read: call.saturating_add(1),
+        ..case
+    };
+    let later = refused(later, "Mismatched at 3");
+    expect(alloc, &later, Status::DocumentRefused, "no call")
+}
+
+/// Behind a fault that is settled the rest of the file isn't read. The 1st call opens the file.
 #[test]
 fn the_rest_is_not_read(rt: HostRuntime) -> Result<(), Fail> {
-    let document = long_document(rt.alloc(), "<a></b>", "x", 200_000, "")?;
-    for (most, rest) in [(1, 200_000), (7, 200_000), (100_000, 200_007 - 65_536)] {
-        let mut shelf = Trickle {
-            content: document.as_bytes(),
-            most,
-            opens: 0,
-        };
-        let answer = outline(rt.alloc(), &mut shelf, 0)?;
-        assert_eq!(rt;
-            answer.as_str(),
-            "DocumentRefused |einv: f: Mismatched at 3\n"
-        );
-        assert_eq!(rt; shelf.content.len(), rest, "{most}");
-        assert_eq!(rt; shelf.opens, 1, "{most}");
-    }
-    Ok(())
+    let behind = repeated(rt.alloc(), "x", 200_000)?;
+    check_last_call(rt.alloc(), behind.as_str(), 1, 8)?;
+    check_last_call(rt.alloc(), behind.as_str(), 7, 2)?;
+    check_last_call(rt.alloc(), behind.as_str(), 100_000, 2)
 }

@@ -1,14 +1,14 @@
 //! The commands on invoices over files and outputs in memory.
 
-use inv_base::{MemShelf, MemSink};
-use invoice_cli::{Status, run};
+use crate::cases::{Case, case_of, expect, expect_number, printing, telling, with_file};
+use crate::failing_cases::fail_reads;
+use crate::texts::columns;
+use invoice_cli::Status;
 use std::alloc::Global;
-use std::process::Abort;
-use std::str::from_utf8;
 use std::test::Fail;
 
 /// A small invoice in UBL.
-const INVOICE: &str = "\
+pub(crate) const INVOICE: &str = "\
 <Invoice xmlns=\"urn:oasis:names:specification:ubl:schema:xsd:Invoice-2\" xmlns:cac=\"urn:oasis:names:specification:ubl:schema:xsd:CommonAggregateComponents-2\" xmlns:cbc=\"urn:oasis:names:specification:ubl:schema:xsd:CommonBasicComponents-2\">\
 <cbc:CustomizationID>urn:cen.eu:en16931:2017</cbc:CustomizationID><cbc:ID>A1</cbc:ID>\
 <cbc:IssueDate>2024-05-01</cbc:IssueDate><cbc:InvoiceTypeCode>380</cbc:InvoiceTypeCode>\
@@ -59,73 +59,35 @@ BG-25[1] BT-151 \"S\"\n\
 BG-25[1] BT-153 \"Pen\"\n\
 passed over 0\n";
 
-/// A shelf, an output and an error output.
-#[derive(Drop)]
-struct Outside {
-    shelf: MemShelf,
-    out: MemSink,
-    err: MemSink,
-}
-
-/// A shelf that has the invoice and files of code lists, and outputs with room for 10,000 bytes each.
-fn outside_with(alloc: Global, invoice: &str) -> Result<Outside, Fail> {
-    let mut shelf = MemShelf::new(alloc);
-    shelf.add("f", invoice.as_bytes())?;
-    shelf.add("usd", b"[lists]\ncurrency = [\"USD\"]\n")?;
-    shelf.add("eur", b"[lists]\ncurrency = [\"EUR\"]\n")?;
-    shelf.add("money", b"[lists]\nmoney = []\n")?;
-    shelf.add("spaced", b"[lists]\ncurrency = [\"US D\"]\n")?;
-    Ok(Outside {
-        shelf,
-        out: MemSink::new(alloc, 10_000)?,
-        err: MemSink::new(alloc, 10_000)?,
-    })
-}
-
-/// The program's answer to words with white space between them.
-fn answer(alloc: Global, words: &str, outside: &mut Outside) -> Result<Status, Fail> {
-    let mut given = Vec::new(alloc);
-    for word in words.split_whitespace() {
-        given.push(String::from_str(alloc, word)?)?;
-    }
-    Ok(run(
-        alloc,
-        &given,
-        &mut outside.shelf,
-        &mut outside.out,
-        &mut outside.err,
-    ))
-}
-
-/// The invoice with a text in the place of another.
-fn changed(alloc: Global, old: &str, new: &str) -> Result<String, Fail> {
-    let (before, behind) = INVOICE.split_once(old).ok_or("changed")?;
-    Ok(format!(in alloc; "{before}{new}{behind}")?)
+/// A job over the invoice with a text in the place of another.
+pub(crate) fn changed<'a>(words: &'a str, old: &str, new: &'a str) -> Case<'a> {
+    let (before, behind) = INVOICE.split_once(old).unwrap_or(("", ""));
+    with_file(case_of(words, b""), before, new, behind)
 }
 
 #[test]
-fn invoices_are_listed_and_converted(rt: HostRuntime) -> Result<(), Fail> {
-    let canonical = format!(in rt.alloc();
-        "<?xml version=\"1.0\" encoding=\"UTF-8\"?>\n{INVOICE}\n"
-    )?;
-    for (words, want) in [
-        ("show f", LISTING),
-        ("show --codes eur f", LISTING),
-        ("convert --to ubl f", canonical.as_str()),
-        ("convert --codes eur --to ubl f", canonical.as_str()),
-    ] {
-        let mut outside = outside_with(rt.alloc(), INVOICE)?;
-        let status = answer(rt.alloc(), words, &mut outside)?;
-        assert_eq!(rt; status, Status::Done, "{words}");
-        assert_eq!(rt; from_utf8(outside.out.bytes())?, want, "{words}");
-        assert_eq!(rt; outside.err.bytes().len(), 0, "{words}");
+fn invoices_are_listed(rt: HostRuntime) -> Result<(), Fail> {
+    for words in ["show f", "show --codes eur f"] {
+        let case = printing(case_of(words, INVOICE.as_bytes()), LISTING);
+        expect(rt.alloc(), &case, Status::Done, words)?;
     }
     Ok(())
 }
 
-/// Fails with the row where it isn't so.
-fn check(holds: bool, row: &'static str) -> Result<(), Fail> {
-    holds.then_some(()).ok_or(row)?;
+/// This invoice is written as it stands here.
+#[test]
+fn invoices_are_converted(rt: HostRuntime) -> Result<(), Fail> {
+    for words in ["convert --to ubl f", "convert --codes eur --to ubl f"] {
+        let case = Case {
+            out: [
+                "<?xml version=\"1.0\" encoding=\"UTF-8\"?>\n",
+                INVOICE,
+                "\n",
+            ],
+            ..case_of(words, INVOICE.as_bytes())
+        };
+        expect(rt.alloc(), &case, Status::Done, words)?;
+    }
     Ok(())
 }
 
@@ -155,36 +117,21 @@ extract 0 f|2|bad word 2|A1|A1";
 #[test]
 fn invoices_are_refused(rt: HostRuntime) -> Result<(), Fail> {
     for row in REFUSALS.lines() {
-        let mut parts = row.split('|');
-        let words = parts.next().ok_or("words")?;
-        let status = parts.next().ok_or("status")?;
-        let line = parts.next().ok_or("line")?;
-        let old = parts.next().ok_or("old")?;
-        let new = parts.next().ok_or("new")?;
-        let invoice = changed(rt.alloc(), old, new)?;
-        let mut outside = outside_with(rt.alloc(), invoice.as_str())?;
-        let told = answer(rt.alloc(), words, &mut outside)?;
-        let number = format!(in rt.alloc(); "{}", told as u8)?;
-        let want = format!(in rt.alloc(); "einv: {line}\n")?;
-        check(number.as_str() == status, row)?;
-        check(from_utf8(outside.err.bytes())? == want.as_str(), row)?;
-        check(outside.out.bytes().is_empty(), row)?;
+        let [words, number, told, old, new] = columns(row, '|');
+        let case = changed(words, old, new);
+        expect_number(rt.alloc(), &telling(case, told), number, row)?;
     }
     Ok(())
 }
 
-/// The 1st and 2nd calls of the shelf open and read the lists, the 3rd finds their end; the 4th to the 6th are those of the invoice.
+/// The calls that open the lists, read them and find their end, and those of the invoice.
 #[test]
 fn each_failing_call_is_told(rt: HostRuntime) -> Result<(), Fail> {
-    for call in 1..7 {
-        let mut outside = outside_with(rt.alloc(), INVOICE)?;
-        outside.shelf.fail_at(call)?;
-        let status = answer(rt.alloc(), "convert --to cii --codes eur f", &mut outside)?;
-        let file = if call < 4 { "eur" } else { "f" };
-        let want = format!(in rt.alloc(); "einv: {file}: read fault\n")?;
-        assert_eq!(rt; status, Status::ReadFault, "{call}");
-        assert_eq!(rt; outside.out.bytes().len(), 0, "{call}");
-        assert_eq!(rt; from_utf8(outside.err.bytes())?, want.as_str(), "{call}");
-    }
-    Ok(())
+    let words = "convert --to cii --codes eur f";
+    fail_reads(
+        rt.alloc(),
+        case_of(words, INVOICE.as_bytes()),
+        "eur f",
+        words,
+    )
 }

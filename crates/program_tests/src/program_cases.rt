@@ -1,265 +1,188 @@
-//! The program's call over files and outputs in memory.
+//! The program's words, and its outputs where they are full or fail.
 
-use inv_base::{MemShelf, MemSink};
-use invoice_cli::{Status, run};
+use crate::cases::{
+    Answer, Case, Written, answer_to, case_of, check, expect, output_of, printing, telling,
+    telling_fault, with_file,
+};
+use crate::failing_cases::fail_writes;
+use crate::jobs::{REFUSALS, job_of};
+use crate::texts::{columns, repeated};
+use invoice_cli::Status;
 use std::alloc::Global;
-use std::process::Abort;
-use std::str::from_utf8;
 use std::test::Fail;
 
-/// A shelf, an output and an error output.
-#[derive(Drop)]
-struct Outside {
-    shelf: MemShelf,
-    out: MemSink,
-    err: MemSink,
-}
-
-/// A shelf that has the one file `first.xml`, and outputs with room for so many bytes each.
-fn outside_with(alloc: Global, content: &str, room: usize) -> Result<Outside, Fail> {
-    let mut shelf = MemShelf::new(alloc);
-    shelf.add("first.xml", content.as_bytes())?;
-    Ok(Outside {
-        shelf,
-        out: MemSink::new(alloc, room)?,
-        err: MemSink::new(alloc, room)?,
-    })
-}
-
-/// The program's answer to words with commas between them.
-fn answer(alloc: Global, words: &str, outside: &mut Outside) -> Result<Status, Fail> {
-    let mut given = Vec::new(alloc);
-    for word in words.split(',') {
-        if !words.is_empty() {
-            given.push(String::from_str(alloc, word)?)?;
-        }
-    }
-    Ok(run(
-        alloc,
-        &given,
-        &mut outside.shelf,
-        &mut outside.out,
-        &mut outside.err,
-    ))
-}
-
-const OUTLINE: &str = "outline,first.xml";
-
-const FIRST: &str = "<a><b>x</b></a>";
+const FIRST: &[u8] = b"<a><b>x</b></a>";
 
 const FIRST_OUTLINE: &str = "a\n  b\n    \"x\"\n";
 
 /// Words that name no job, with commas between them, and the number of the first that is bad.
 const BAD_WORDS: &str = "\
 >1
-,first.xml>1
-list,first.xml>1
-Outline,first.xml>1
-first.xml,outline>1
---outline,first.xml>1
+,f>1
+list,f>1
+Outline,f>1
+f,outline>1
+--outline,f>1
 -h>1
 outline>2
 outline,--help>2
-outline,--,first.xml>2
---help,first.xml>2
+outline,--,f>2
+try>2
+try,0>2
+try,01>2
+try,+1>2
+try,1.0>2
+try,10001>2
+try,18446744073709551617>2
+--help,f>2
 --version,--help>2
-outline,first.xml,--help>3
+outline,f,--help>3
+try,1,2>3
+try,10000,--svrl>3
 outline,absent.xml,second.xml>3";
 
 #[test]
 fn bad_words_are_told(rt: HostRuntime) -> Result<(), Fail> {
     for row in BAD_WORDS.lines() {
-        let (words, number) = row.split_once('>').ok_or("row")?;
-        let mut outside = outside_with(rt.alloc(), FIRST, 1000)?;
-        let status = answer(rt.alloc(), words, &mut outside)?;
-        let want = format!(in rt.alloc(); "einv: bad word {number}\n")?;
-        assert_eq!(rt; status, Status::BadWords, "{words}");
-        assert_eq!(rt; outside.out.bytes().len(), 0, "{words}");
-        assert_eq!(rt; from_utf8(outside.err.bytes())?, want.as_str(), "{words}");
+        let [words, number, ..] = columns(row, '>');
+        let case = Case {
+            between: ',',
+            err: ["einv: bad word ", number, "\n"],
+            ..case_of(words, FIRST)
+        };
+        expect(rt.alloc(), &case, Status::BadWords, row)?;
     }
     Ok(())
+}
+
+/// Fails where no page with such a front is printed.
+fn check_page(alloc: Global, words: &'static str, front: &str) -> Result<(), Fail> {
+    let page = output_of(alloc, &case_of(words, FIRST))?;
+    let case = printing(case_of(words, FIRST), page.as_str());
+    check(page.as_str().starts_with(front), words)?;
+    check(page.as_str().ends_with('\n'), words)?;
+    expect(alloc, &case, Status::Done, words)
 }
 
 #[test]
 fn help_and_version_are_printed(rt: HostRuntime) -> Result<(), Fail> {
-    for (words, front) in [("--help", "usage: einv "), ("--version", "einv 0.")] {
-        let mut outside = outside_with(rt.alloc(), FIRST, 1000)?;
-        let status = answer(rt.alloc(), words, &mut outside)?;
-        assert_eq!(rt; status, Status::Done, "{words}");
-        assert!(rt;
-            outside.out.bytes().starts_with(front.as_bytes()),
-            "{words}"
-        );
-        assert!(rt; outside.out.bytes().ends_with(b"\n"), "{words}");
-        assert_eq!(rt; outside.err.bytes().len(), 0, "{words}");
-    }
-    Ok(())
+    check_page(rt.alloc(), "--help", "usage: einv ")?;
+    check_page(rt.alloc(), "--version", "einv 0.")
 }
+
+/// Of each row the words, with commas between them, and the file that is absent, with a bar behind it.
+const ABSENT: &str = "\
+outline,absent.xml|absent.xml|
+outline,-|-|
+outline,||
+outline,f |f |";
 
 #[test]
 fn absent_files_are_read_faults(rt: HostRuntime) -> Result<(), Fail> {
-    for (words, want) in [
-        ("outline,absent.xml", "einv: absent.xml: read fault\n"),
-        ("outline,-", "einv: -: read fault\n"),
-        ("outline,", "einv: : read fault\n"),
-        ("outline,first.xml ", "einv: first.xml : read fault\n"),
-    ] {
-        let mut outside = outside_with(rt.alloc(), FIRST, 1000)?;
-        let status = answer(rt.alloc(), words, &mut outside)?;
-        assert_eq!(rt; status, Status::ReadFault, "{words}");
-        assert_eq!(rt; outside.out.bytes().len(), 0, "{words}");
-        assert_eq!(rt; from_utf8(outside.err.bytes())?, want, "{words}");
+    for row in ABSENT.lines() {
+        let [words, file, ..] = columns(row, '|');
+        let case = Case {
+            between: ',',
+            ..telling_fault(case_of(words, FIRST), file)
+        };
+        expect(rt.alloc(), &case, Status::ReadFault, row)?;
     }
     Ok(())
 }
 
-/// A document of 70,000 bytes, which isn't read in one piece.
-fn long_document(alloc: Global) -> Result<String, Fail> {
-    let mut document = String::from_str(alloc, "<a>")?;
-    for _ in 0..69_993 {
-        document.push_str("x")?;
+/// The outline of a document of 70,000 bytes, which isn't read in one piece. The 1st call opens the file, the 2nd and
+/// the 3rd read its pieces, and the 4th finds its end.
+fn fail_long_reads(alloc: Global, inside: &str) -> Result<(), Fail> {
+    let case = Case {
+        room: 70_000,
+        ..with_file(case_of("outline f", b""), "<a>", inside, "</a>")
+    };
+    for call in 1..5 {
+        let failing = Case {
+            failed_read: call,
+            ..telling_fault(case, "f")
+        };
+        expect(alloc, &failing, Status::ReadFault, "read")?;
     }
-    document.push_str("</a>")?;
-    Ok(document)
+    let done = Case {
+        failed_read: 5,
+        out: ["a\n  \"", inside, "\"\n"],
+        ..case
+    };
+    expect(alloc, &done, Status::Done, "done")
 }
 
-/// The 1st call opens the file, the 2nd and the 3rd read its pieces, and the 4th finds its end.
 #[test]
 fn failed_reads_are_told(rt: HostRuntime) -> Result<(), Fail> {
-    let document = long_document(rt.alloc())?;
-    for call in 1..6 {
-        let mut outside = outside_with(rt.alloc(), document.as_str(), 70_000)?;
-        outside.shelf.fail_at(call)?;
-        let status = answer(rt.alloc(), OUTLINE, &mut outside)?;
-        if call < 5 {
-            assert_eq!(rt; status, Status::ReadFault, "{call}");
-            assert_eq!(rt; outside.out.bytes().len(), 0, "{call}");
-            assert_eq!(rt;
-                from_utf8(outside.err.bytes())?,
-                "einv: first.xml: read fault\n",
-                "{call}"
-            );
-        } else {
-            assert_eq!(rt; status, Status::Done, "{call}");
-            assert_eq!(rt; outside.out.bytes().len(), 69_993 + 7, "{call}");
-        }
-    }
-    Ok(())
+    let inside = repeated(rt.alloc(), "x", 69_993)?;
+    fail_long_reads(rt.alloc(), inside.as_str())
 }
 
-/// Each write of the output fails in turn, until one is never made.
+/// The outline of the first document.
+fn first_outline() -> Case<'static> {
+    printing(case_of("outline f", FIRST), FIRST_OUTLINE)
+}
+
 #[test]
 fn failed_writes_are_told(rt: HostRuntime) -> Result<(), Fail> {
-    let want = FIRST_OUTLINE.as_bytes();
-    let mut failed = 0;
-    for call in 1..30 {
-        let mut outside = outside_with(rt.alloc(), FIRST, 1000)?;
-        outside.out.fail_at(call)?;
-        let status = answer(rt.alloc(), OUTLINE, &mut outside)?;
-        let written = outside.out.bytes();
-        assert!(rt; want.starts_with(written), "{call}");
-        assert_eq!(rt; outside.err.bytes().len(), 0, "{call}");
-        if written.len() == want.len() {
-            assert_eq!(rt; status, Status::Done, "{call}");
-        } else {
-            assert_eq!(rt; status, Status::WriteFault, "{call}");
-            failed = call;
-        }
-    }
-    assert!(rt; 0 < failed && failed < 29, "{failed}");
-    Ok(())
+    fail_writes(rt.alloc(), &first_outline(), "0", "outline f")
 }
 
-/// The answer to words where the output has room for less than the text, for all of it, and for more.
-fn fill_output(rt: &impl Abort, alloc: Global, words: &str, want: &str) -> Result<(), Fail> {
-    for room in 0..want.len() + 2 {
-        let mut outside = outside_with(alloc, FIRST, room)?;
-        let status = answer(alloc, words, &mut outside)?;
-        let written = &want.as_bytes()[..room.min(want.len())];
-        assert!(rt; outside.out.bytes() == written, "{words} {room}");
-        assert_eq!(rt; outside.err.bytes().len(), 0, "{words} {room}");
-        if room < want.len() {
-            assert_eq!(rt; status, Status::WriteFault, "{words} {room}");
-        } else {
-            assert_eq!(rt; status, Status::Done, "{words} {room}");
-        }
+/// The job where the output has room for less than its text of so many bytes, for all of it, and for more.
+fn fill_output(
+    alloc: Global,
+    job: &Case<'_>,
+    length: usize,
+    row: &'static str,
+) -> Result<(), Fail> {
+    for room in 0..length {
+        let wanted = Answer {
+            status: Status::WriteFault,
+            out: Written::Front(room),
+            err: Written::Whole,
+        };
+        check(answer_to(alloc, &Case { room, ..*job })? == wanted, row)?;
+    }
+    for room in [length, length.saturating_add(1)] {
+        expect(alloc, &Case { room, ..*job }, Status::Done, row)?;
     }
     Ok(())
 }
 
 #[test]
 fn a_full_output_has_a_front(rt: HostRuntime) -> Result<(), Fail> {
-    fill_output(&rt, rt.alloc(), OUTLINE, FIRST_OUTLINE)?;
-    fill_output(&rt, rt.alloc(), "--version", "einv 0.1.0\n")
+    let version = printing(case_of("--version", FIRST), "einv 0.1.0\n");
+    fill_output(rt.alloc(), &version, 11, "--version")?;
+    let length = FIRST_OUTLINE.len();
+    fill_output(rt.alloc(), &first_outline(), length, "outline f")
 }
 
-/// Refusals, whose status stays where the error output fails.
-const REFUSALS: [(&str, &str, Status); 3] = [
-    ("frob", "einv: bad word 1\n", Status::BadWords),
-    (
-        "outline,absent.xml",
-        "einv: absent.xml: read fault\n",
-        Status::ReadFault,
-    ),
-    (
-        OUTLINE,
-        "einv: first.xml: Mismatched at 3\n",
-        Status::DocumentRefused,
-    ),
-];
-
-/// A refusal where the error output has room for less than the line, for all of it, and for more.
-fn fill_error_output(
-    rt: &impl Abort,
-    alloc: Global,
-    words: &str,
-    line: &str,
-    want: Status,
-) -> Result<(), Fail> {
-    for room in 0..line.len() + 2 {
-        let mut outside = outside_with(alloc, "<a></b>", room)?;
-        let status = answer(alloc, words, &mut outside)?;
-        let written = &line.as_bytes()[..room.min(line.len())];
-        assert_eq!(rt; status, want, "{words} {room}");
-        assert_eq!(rt; outside.out.bytes().len(), 0, "{words} {room}");
-        assert!(rt; outside.err.bytes() == written, "{words} {room}");
+/// A refusal where the error output has room for less than its line, for all of it, and for more.
+fn fill_line(alloc: Global, row: &'static str) -> Result<(), Fail> {
+    let [words, number, told, ..] = columns(row, '|');
+    let length = told.len().saturating_add(7);
+    for room in 0..length.saturating_add(2) {
+        let case = Case {
+            room,
+            ..telling(job_of(words), told)
+        };
+        let answer = answer_to(alloc, &case)?;
+        let same = number.parse() == Ok(answer.status as u8);
+        let wanted = if room < length {
+            Written::Front(room)
+        } else {
+            Written::Whole
+        };
+        let nothing = answer.out == Written::Whole;
+        check(same && nothing && answer.err == wanted, row)?;
     }
     Ok(())
 }
 
 #[test]
 fn a_full_error_output_has_a_front(rt: HostRuntime) -> Result<(), Fail> {
-    for (words, line, want) in REFUSALS {
-        fill_error_output(&rt, rt.alloc(), words, line, want)?;
-    }
-    Ok(())
-}
-
-/// A refusal where each write of the error output fails in turn.
-fn fail_error_output(
-    rt: &impl Abort,
-    alloc: Global,
-    words: &str,
-    line: &str,
-    want: Status,
-) -> Result<(), Fail> {
-    for call in 1..9 {
-        let mut outside = outside_with(alloc, "<a></b>", 1000)?;
-        outside.err.fail_at(call)?;
-        let status = answer(alloc, words, &mut outside)?;
-        let written = outside.err.bytes();
-        assert_eq!(rt; status, want, "{words} {call}");
-        assert_eq!(rt; outside.out.bytes().len(), 0, "{words} {call}");
-        assert!(rt; line.as_bytes().starts_with(written), "{words} {call}");
-        assert_eq!(rt; call == 1, written.is_empty(), "{words} {call}");
-    }
-    Ok(())
-}
-
-#[test]
-fn failed_error_lines_keep_the_status(rt: HostRuntime) -> Result<(), Fail> {
-    for (words, line, want) in REFUSALS {
-        fail_error_output(&rt, rt.alloc(), words, line, want)?;
+    for row in REFUSALS.lines() {
+        fill_line(rt.alloc(), row)?;
     }
     Ok(())
 }

@@ -1,70 +1,45 @@
-//! Queries over files and outputs in memory: an expression, `→`, the status, and what is written to the output and,
-//! behind `|`, to the error output. `␊` stands for LF.
+//! Queries over files and outputs in memory.
 
-use inv_base::{MemShelf, MemSink};
-use invoice_cli::run;
+use crate::cases::{Case, case_of, expect_number, printing, telling};
+use crate::texts::{columns, spelled};
 use std::alloc::Global;
-use std::process::Abort;
-use std::str::from_utf8;
 use std::test::Fail;
 
-const DOCUMENT: &str =
-    "<r xmlns:p=\"u'v\" a=\"1\"><p:x/>one<x>2.50</x><p:x b=\"&quot;\">three</p:x><x>2.5</x></r>";
+const DOCUMENT: &[u8] =
+    b"<r xmlns:p=\"u'v\" a=\"1\"><p:x/>one<x>2.50</x><p:x b=\"&quot;\">three</p:x><x>2.5</x></r>";
 
-const QUERIES: &str = r#"1 + 1→Done 2␊|
-//x→Done /*:r[namespace-uri()=''][1]/*:x[namespace-uri()=''][1] "2.50"␊/*:r[namespace-uri()=''][1]/*:x[namespace-uri()=''][2] "2.5"␊|
-r/*[3]/@b→Done /*:r[namespace-uri()=''][1]/*:x[namespace-uri()='u''v'][2]/@*:b[namespace-uri()=''] "\""␊|
-r/text()→Done /*:r[namespace-uri()=''][1]/text()[1] "one"␊|
-string(/)→Done "one2.50three2.5"␊|
-/→Done / "one2.50three2.5"␊|
-sum(//x), data(r/@a), r/x = 2.5, xs:date('2024-02-29')→Done 5␊"1"␊true␊2024-02-29␊|
-()→Done |
-for $x in //x return xs:integer($x)→Done error FORG0001␊|
-'a' + 1→RulesRefused |einv: expression: SureTypeError 0␊
-1 # 2→RulesRefused |einv: expression: Lexical 2␊
-cbc:ID, q:ID→RulesRefused |einv: expression: UndeclaredPrefix 2␊
---1→BadWords |einv: bad word 2␊
-"#;
+/// Of each row the expression, the number of the status, what is written to the output, and the line on the error
+/// output. `␊` stands for LF.
+const QUERIES: &str = r#"1 + 1→0→2␊
+//x→0→/*:r[namespace-uri()=''][1]/*:x[namespace-uri()=''][1] "2.50"␊/*:r[namespace-uri()=''][1]/*:x[namespace-uri()=''][2] "2.5"␊
+r/*[3]/@b→0→/*:r[namespace-uri()=''][1]/*:x[namespace-uri()='u''v'][2]/@*:b[namespace-uri()=''] "\""␊
+r/text()→0→/*:r[namespace-uri()=''][1]/text()[1] "one"␊
+string(/)→0→"one2.50three2.5"␊
+/→0→/ "one2.50three2.5"␊
+sum(//x), data(r/@a), r/x = 2.5, xs:date('2024-02-29')→0→5␊"1"␊true␊2024-02-29␊
+()→0→
+for $x in //x return xs:integer($x)→0→error FORG0001␊
+'a' + 1→4→→expression: SureTypeError 0
+1 # 2→4→→expression: Lexical 2
+cbc:ID, q:ID→4→→expression: UndeclaredPrefix 2
+--1→2→→bad word 2"#;
 
-/// The status of a query, and what was written to the output and to the error output.
-fn answer(alloc: Global, expression: &str) -> Result<String, Fail> {
-    let mut shelf = MemShelf::new(alloc);
-    shelf.add("f", DOCUMENT.as_bytes())?;
-    let mut words = Vec::new(alloc);
-    words.push(String::from_str(alloc, "query")?)?;
-    words.push(String::from_str(alloc, expression)?)?;
-    words.push(String::from_str(alloc, "f")?)?;
-    let mut out = MemSink::new(alloc, 1000)?;
-    let mut err = MemSink::new(alloc, 100)?;
-    let status = run(alloc, &words, &mut shelf, &mut out, &mut err);
-    let told = format!(in alloc;
-        "{status:?} {}|{}",
-        from_utf8(out.bytes())?,
-        from_utf8(err.bytes())?
-    )?;
-    with_marks(alloc, told.as_str())
-}
-
-/// A text with `␊` for each LF.
-fn with_marks(alloc: Global, told: &str) -> Result<String, Fail> {
-    let mut text = String::new(alloc);
-    for c in told.chars() {
-        text.push(if c == '\n' { '␊' } else { c })?;
-    }
-    Ok(text)
-}
-
-fn check_row(rt: &impl Abort, alloc: Global, expression: &str, want: &str) -> Result<(), Fail> {
-    assert_eq!(rt; answer(alloc, expression)?.as_str(), want, "{expression}");
-    Ok(())
+fn check_row(alloc: Global, row: &'static str) -> Result<(), Fail> {
+    let text = spelled(alloc, row)?;
+    let [expression, number, out, told, _] = columns(text.as_str(), '→');
+    let case = Case {
+        words: ["query", expression, "f"],
+        between: '\n',
+        ..case_of("", DOCUMENT)
+    };
+    let case = telling(printing(case, out), told);
+    expect_number(alloc, &case, number, row)
 }
 
 #[test]
 fn expressions_are_evaluated_at_the_document(rt: HostRuntime) -> Result<(), Fail> {
     for row in QUERIES.lines() {
-        if let Some((expression, want)) = row.split_once('→') {
-            check_row(&rt, rt.alloc(), expression, want)?;
-        }
+        check_row(rt.alloc(), row)?;
     }
     Ok(())
 }

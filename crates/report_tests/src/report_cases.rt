@@ -3,7 +3,7 @@
 use crate::documents::document;
 use bumpalo::Bump;
 use inv_base::{MemSink, Txt};
-use node_arena::NodeId;
+use node_arena::{Doc, NodeId};
 use schematron_findings::{Finding, FindingKind, Findings, Level, Line, level_of};
 use std::alloc::{AllocError, Global};
 use std::test::Fail;
@@ -42,25 +42,48 @@ const TWO_SVRL_END: &str = "\
 </svrl:schematron-output>
 ";
 
-fn text(alloc: Global, text: &str) -> Result<Option<Txt>, AllocError> {
-    Ok(Some(Txt::of(alloc, text)?))
+/// A text, if there is one.
+fn text(alloc: Global, text: Option<&str>) -> Result<Option<Txt>, AllocError> {
+    match text {
+        Some(text) => Ok(Some(Txt::of(alloc, text)?)),
+        None => Ok(None),
+    }
 }
 
-fn fired(alloc: Global, node: NodeId, context: &str) -> Result<Line, AllocError> {
-    Ok(Line::Fired {
+/// Adds what a pattern begins with: the pattern with its id, and the first node that a rule judges.
+fn push_pattern(
+    alloc: Global,
+    findings: &mut Findings,
+    id: Option<&str>,
+    node: NodeId,
+    context: &str,
+) -> Result<(), AllocError> {
+    let id = text(alloc, id)?;
+    findings.push(Line::Pattern { id })?;
+    let context = Txt::of(alloc, context)?;
+    findings.push(Line::Fired {
         node,
         rule: 0,
-        context: Txt::of(alloc, context)?,
+        context,
     })
 }
 
-/// A finding at the document with no mark.
-fn finding(alloc: Global, outcome: FindingKind, message: &str) -> Result<Finding, AllocError> {
+/// A finding with no mark.
+fn finding(
+    alloc: Global,
+    outcome: FindingKind,
+    test: &str,
+    location: &str,
+    message: &str,
+) -> Result<Finding, AllocError> {
+    let test = Txt::of(alloc, test)?;
+    let location = Txt::of(alloc, location)?;
+    let message = Txt::of(alloc, message)?;
     Ok(Finding {
         outcome,
-        test: Txt::of(alloc, "t")?,
-        location: Txt::of(alloc, "/")?,
-        message: Txt::of(alloc, message)?,
+        test,
+        location,
+        message,
         id: None,
         flag: None,
         role: None,
@@ -68,80 +91,165 @@ fn finding(alloc: Global, outcome: FindingKind, message: &str) -> Result<Finding
     })
 }
 
+/// The marks of an assertion.
+#[derive(Clone, Copy)]
+struct Marks {
+    id: Option<&'static str>,
+    flag: Option<&'static str>,
+    role: Option<&'static str>,
+    level: Level,
+}
+
+const BARE: Marks = Marks {
+    id: None,
+    flag: None,
+    role: None,
+    level: Level::Fatal,
+};
+
+/// Adds a finding with its marks.
+fn push_marked(
+    alloc: Global,
+    findings: &mut Findings,
+    marks: Marks,
+    found: Finding,
+) -> Result<(), AllocError> {
+    let mut found = found;
+    found.level = marks.level;
+    found.id = text(alloc, marks.id)?;
+    found.flag = text(alloc, marks.flag)?;
+    found.role = text(alloc, marks.role)?;
+    findings.push(Line::Found(found))
+}
+
+/// Adds a finding at the document, with its marks.
+fn push_found(
+    alloc: Global,
+    findings: &mut Findings,
+    outcome: FindingKind,
+    message: &str,
+    marks: Marks,
+) -> Result<(), AllocError> {
+    let found = finding(alloc, outcome, "t", "/", message)?;
+    push_marked(alloc, findings, marks, found)
+}
+
 fn first_file(alloc: Global, node: NodeId) -> Result<Findings, AllocError> {
     let mut findings = Findings::new(alloc);
-    findings.push(Line::Pattern { id: None })?;
-    findings.push(fired(alloc, node, "a")?)?;
-    findings.push(Line::Pattern { id: None })?;
-    findings.push(fired(alloc, node, "*")?)?;
-    let mut failed = finding(alloc, FindingKind::Failed, "bad")?;
-    failed.test = Txt::of(alloc, "false()")?;
-    failed.location = Txt::of(alloc, "/*:a[namespace-uri()=''][1]")?;
-    failed.id = text(alloc, "B")?;
-    findings.push(Line::Found(failed))?;
+    push_pattern(alloc, &mut findings, None, node, "a")?;
+    push_pattern(alloc, &mut findings, None, node, "*")?;
+    let location = "/*:a[namespace-uri()=''][1]";
+    let found = finding(alloc, FindingKind::Failed, "false()", location, "bad")?;
+    let marks = Marks {
+        id: Some("B"),
+        ..BARE
+    };
+    push_marked(alloc, &mut findings, marks, found)?;
     Ok(findings)
+}
+
+const REPORTED: Marks = Marks {
+    flag: Some("x"),
+    ..BARE
+};
+
+/// An error, whatever flag its assertion has.
+fn error_marks() -> Marks {
+    Marks {
+        id: Some("C"),
+        flag: Some("warning"),
+        level: level_of(Some("warning"), None),
+        ..BARE
+    }
+}
+
+fn warning_marks() -> Marks {
+    Marks {
+        id: Some("D"),
+        flag: Some("warning"),
+        level: level_of(Some("warning"), Some("information")),
+        ..BARE
+    }
+}
+
+fn information_marks() -> Marks {
+    Marks {
+        id: Some("E"),
+        role: Some("information"),
+        level: level_of(Some("Warning"), Some("information")),
+        ..BARE
+    }
 }
 
 fn second_file(alloc: Global, node: NodeId) -> Result<Findings, AllocError> {
     let mut findings = Findings::new(alloc);
-    findings.push(Line::Pattern {
-        id: text(alloc, "P")?,
-    })?;
-    findings.push(fired(alloc, node, "/")?)?;
-    let mut reported = finding(alloc, FindingKind::Reported, "\"a\" & b")?;
-    reported.flag = text(alloc, "x")?;
-    findings.push(Line::Found(reported))?;
-    let mut error = finding(alloc, FindingKind::Error(DynError::FORG0001), "")?;
-    error.id = text(alloc, "C")?;
-    error.flag = text(alloc, "warning")?;
-    error.level = level_of(Some("warning"), None);
-    findings.push(Line::Found(error))?;
-    let mut warning = finding(alloc, FindingKind::Failed, "w")?;
-    warning.id = text(alloc, "D")?;
-    warning.flag = text(alloc, "warning")?;
-    warning.level = level_of(Some("warning"), Some("information"));
-    findings.push(Line::Found(warning))?;
-    let mut information = finding(alloc, FindingKind::Failed, "i")?;
-    information.id = text(alloc, "E")?;
-    information.role = text(alloc, "information")?;
-    information.level = level_of(Some("Warning"), Some("information"));
-    findings.push(Line::Found(information))?;
+    let error = FindingKind::Error(DynError::FORG0001);
+    let failed = FindingKind::Failed;
+    push_pattern(alloc, &mut findings, Some("P"), node, "/")?;
+    push_found(
+        alloc,
+        &mut findings,
+        FindingKind::Reported,
+        "\"a\" & b",
+        REPORTED,
+    )?;
+    push_found(alloc, &mut findings, error, "", error_marks())?;
+    push_found(alloc, &mut findings, failed, "w", warning_marks())?;
+    push_found(alloc, &mut findings, failed, "i", information_marks())?;
     Ok(findings)
+}
+
+/// Whether the plain report is this.
+fn is_plain(alloc: Global, files: &[Findings], want: &str) -> Result<bool, AllocError> {
+    let mut sink = MemSink::new(alloc, 1000)?;
+    let written = write_plain(files, &mut sink).is_ok();
+    Ok(written && sink.bytes() == want.as_bytes())
+}
+
+/// Whether the report in SVRL ends so.
+fn ends_svrl(alloc: Global, files: &[Findings], want: &str) -> Result<bool, AllocError> {
+    let mut sink = MemSink::new(alloc, 2000)?;
+    let written = write_svrl(files, &mut sink).is_ok();
+    Ok(written && sink.bytes().ends_with(want.as_bytes()))
+}
+
+/// Whether the plain report doesn't fit into so many bytes, and fills no more.
+fn overflows(alloc: Global, files: &[Findings], room: usize) -> Result<bool, AllocError> {
+    let mut sink = MemSink::new(alloc, room)?;
+    let failed = write_plain(files, &mut sink).is_err();
+    Ok(failed && sink.bytes().len() <= room)
+}
+
+/// The findings in the first of two files, and in both.
+fn check_reports(alloc: Global, files: &[Findings]) -> Result<(), Fail> {
+    let one = files.get(..1).ok_or("files")?;
+    is_plain(alloc, one, ONE_PLAIN)?
+        .then_some(())
+        .ok_or("one plain")?;
+    ends_svrl(alloc, one, ONE_SVRL)?
+        .then_some(())
+        .ok_or("one svrl")?;
+    is_plain(alloc, files, TWO_PLAIN)?
+        .then_some(())
+        .ok_or("two plain")?;
+    ends_svrl(alloc, files, TWO_SVRL_END)?
+        .then_some(())
+        .ok_or("two svrl")?;
+    overflows(alloc, files, 60)?.then_some(()).ok_or("room")?;
+    Ok(())
+}
+
+fn both_files(alloc: Global, doc: &Doc<'_>) -> Result<Vec<Findings>, AllocError> {
+    let mut files = Vec::new(alloc);
+    files.push(first_file(alloc, doc.root())?)?;
+    files.push(second_file(alloc, doc.document())?)?;
+    Ok(files)
 }
 
 #[test]
 fn reports_are_written(rt: HostRuntime) -> Result<(), Fail> {
     let bump = Bump::new(rt.alloc());
     let doc = document(rt.alloc(), &bump, "<a/>").map_err(|_| "document")?;
-    let mut files = Vec::new(rt.alloc());
-    files.push(first_file(rt.alloc(), doc.root())?)?;
-    let mut plain = MemSink::new(rt.alloc(), 1000)?;
-    write_plain(&files, &mut plain).map_err(|_| "plain")?;
-    (plain.bytes() == ONE_PLAIN.as_bytes())
-        .then_some(())
-        .ok_or("one plain")?;
-    let mut svrl = MemSink::new(rt.alloc(), 1000)?;
-    write_svrl(&files, &mut svrl).map_err(|_| "svrl")?;
-    (svrl.bytes() == ONE_SVRL.as_bytes())
-        .then_some(())
-        .ok_or("one svrl")?;
-    files.push(second_file(rt.alloc(), doc.document())?)?;
-    let mut plain = MemSink::new(rt.alloc(), 1000)?;
-    write_plain(&files, &mut plain).map_err(|_| "plain")?;
-    (plain.bytes() == TWO_PLAIN.as_bytes())
-        .then_some(())
-        .ok_or("two plain")?;
-    let mut svrl = MemSink::new(rt.alloc(), 2000)?;
-    write_svrl(&files, &mut svrl).map_err(|_| "svrl")?;
-    svrl.bytes()
-        .ends_with(TWO_SVRL_END.as_bytes())
-        .then_some(())
-        .ok_or("two svrl")?;
-    let mut short = MemSink::new(rt.alloc(), 60)?;
-    write_plain(&files, &mut short)
-        .is_err()
-        .then_some(())
-        .ok_or("room")?;
-    (short.bytes().len() <= 60).then_some(()).ok_or("front")?;
-    Ok(())
+    let files = both_files(rt.alloc(), &doc)?;
+    check_reports(rt.alloc(), &files)
 }

@@ -7,7 +7,7 @@ use std::alloc::{AllocError, Global};
 /// How many things one file makes at most: lets, rules, assertions and parts of messages, each wherever it is put.
 pub(crate) const MOST_THINGS: usize = 4_000_000;
 
-/// How many bytes of texts one file makes at most.
+/// How many bytes of texts are read and made for one file at most.
 pub(crate) const MOST_BYTES: usize = 268_435_456;
 
 /// How much may still be made. So a small file whose rules put others many times can't take all memory: what passes a
@@ -41,14 +41,20 @@ impl Budget {
         self.bytes
     }
 
-    /// A copy of a text, whose bytes are counted.
-    pub(crate) fn copied(&mut self, alloc: Global, text: &str) -> Result<Txt, AllocError>
-        ensures { IfOk result (λ copy. copy ≡ chars text.now) }
-    {
+    /// Counts the bytes of a text, whatever is made of it.
+    pub(crate) fn take_text(&mut self, text: &str) -> Result<(), AllocError> {
         if text.len() > self.bytes {
             return Err(AllocError);
         }
         self.bytes -= text.len();
+        Ok(())
+    }
+
+    /// A copy of a text, whose bytes are counted.
+    pub(crate) fn copied(&mut self, alloc: Global, text: &str) -> Result<Txt, AllocError>
+        ensures { IfOk result (λ copy. copy ≡ chars text.now) }
+    {
+        self.take_text(text)?;
         Txt::of(alloc, text)
     }
 }

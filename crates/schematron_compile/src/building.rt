@@ -83,8 +83,8 @@ fn all_phases<'d>(
 /// What the file says, whatever is wrong with it: a text that is refused as an expression says nothing.
 ///
 /// One scope grows and is cut back from element to element. More than 4,000,000 lets, rules, assertions and parts of
-/// messages, each counted wherever it is put, more than 1,000,000 that one `extends` puts, or more than
-/// 268,435,456 bytes of texts count as want of memory.
+/// messages, each counted wherever it is put, more than 1,000,000 in one rule that extends others, or more than
+/// 268,435,456 bytes of texts, as they are written and as they are made, count as want of memory.
 pub(crate) fn build(alloc: Global, file: &RuleFile<'_, '_>) -> Result<Rules, AllocError>
     ensures { IfOk result (λ rules. seen_rules rules ≡ spec.compiled file.now) }
 {

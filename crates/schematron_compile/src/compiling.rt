@@ -33,7 +33,8 @@ pub enum RuleFault {
 /// What the rule file of a document says (ISO/IEC 19757-3, in the subset of docs/RULES.md), or its first fault.
 ///
 /// What makes more than 4,000,000 lets, rules, assertions and parts of messages, each counted wherever it is put, more
-/// than 1,000,000 that one `extends` puts, or more than 268,435,456 bytes of texts counts as want of memory.
+/// than 1,000,000 in one rule that extends others, or more than 268,435,456 bytes of texts, as they are written and as
+/// they are made, counts as want of memory.
 pub fn compile<L: Ledger>(
     alloc: Global,
     doc: &Doc<'_>,

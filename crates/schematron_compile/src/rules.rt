@@ -21,7 +21,7 @@ use schematron_rules::Rule;
 use std::alloc::{AllocError, Global};
 use xpath_types::Scope;
 
-/// How many lets and assertions one `extends` puts at most.
+/// How many lets and assertions a rule that extends others has at most.
 const MOST_PUTS: usize = 1_000_000;
 
 fn is_let(role: Role) -> bool

@@ -24,6 +24,7 @@ pub(crate) fn replaced(
 ) -> Result<Txt, AllocError>
     ensures { IfOk result (λ made. made ≡ replaced params.now (chars text.now)) }
 {
+    budget.take_text(text)?;
     match replaced_within(alloc, params, text, budget.bytes())? {
         Some(made) => budget.copied(alloc, made.as_str()),
         None => Err(AllocError),

@@ -15,6 +15,7 @@ use Rattle.schematron_expansion.specs.declared.instances.Instance.{Instance}
 abbrev pub seen_things : {L : Type 0} → (L → Entry) → List L → List meaning.Entry
 seen_things lent es = map (λ e. seen_entry (lent e)) es
 
+-- what is seen of a let or an assertion in a rule
 abbrev pub seen_put : Put → spec.Put
 seen_put put = record { stand = put.stand; entry = seen_entry put.entry.now }
 
@@ -26,6 +27,7 @@ puts_of file stand es = flat_map (λ (e : meaning.Entry). spec.puts_by e.role fi
 abbrev pub with_all : List Parameter → List meaning.Entry → List Parameter
 with_all params es = fold (λ params (e : meaning.Entry). spec.with_given params (attribute a.Name e) (attribute a.Value e)) params es
 
+-- what is seen of a pattern that is judged
 abbrev pub seen_instance : Instance → spec.Instance
 seen_instance x = record { pattern = seen_entry x.pattern.now; body = x.body; stand = x.stand; params = x.params }
 

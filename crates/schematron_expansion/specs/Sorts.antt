@@ -6,6 +6,7 @@ use Rattle.schematron_meaning.specs.Written.{is_let_or_rule}
 use Rattle.schematron_expansion.specs.declared.file.Sort.{Sort}
 use Rattle.schematron_expansion.specs.declared.file.Sort.TheVariants as s
 
+-- which roles the entries of a sort have
 abbrev pub test_of : Sort → Role → Bool
 test_of s.Lets = is_let
 test_of s.Rules = is_own_rule

@@ -16,7 +16,7 @@ use crate::links::{Links, links_of};
 use crate::sorts::is_of;
 use indexmap::IndexMap;
 use schematron_entries::{Chains, Entry};
-use schematron_graph::Graph;
+use schematron_graph::{Graph, Turns};
 use schematron_meaning::Attribute;
 use std::alloc::{AllocError, Global};
 use std::marker::Model;
@@ -101,7 +101,21 @@ impl<'e, 'd> RuleFile<'e, 'd> {
     ) -> Result<Vec<&'e Entry<'d>>, AllocError>
         ensures { IfOk result (λ found. map (λ e. seen_entry e.now) found.items ≡ lookup.inside (test_of sort) self.now.entries number) }
     {
-        inside(alloc, self.entries, &self.links.parents, sort, number)
+        let mut ample = Turns { left: u64::MAX };
+        self.inside_within(alloc, &mut ample, sort, number)
+    }
+
+    /// The same, where each entry that stands there takes a turn, of the sort or not.
+    pub fn inside_within(
+        &self,
+        alloc: Global,
+        left: &mut Turns,
+        sort: Sort,
+        number: u32,
+    ) -> Result<Vec<&'e Entry<'d>>, AllocError>
+        ensures { IfOk result (λ found. map (λ e. seen_entry e.now) found.items ≡ lookup.inside (test_of sort) self.now.entries number) }
+    {
+        inside(alloc, left, self.entries, &self.links.parents, sort, number)
     }
 
     /// The entry of this number, if there is one.
@@ -133,6 +147,7 @@ impl<'e, 'd> RuleFile<'e, 'd> {
 /// What stands in an element, of a sort, by the chain of what stands there.
 fn inside<'e, 'd>(
     alloc: Global,
+    left: &mut Turns,
     entries: &'e [Entry<'d>],
     chains: &Chains,
     sort: Sort,
@@ -144,6 +159,7 @@ fn inside<'e, 'd>(
     let mut found = Vec::new(alloc);
     let mut next = chains.first(number);
     'things: while let Some(at) = next {
+        left.take()?;
         push_of(&mut found, &entries[at], sort)?;
         next = chains.next(at);
     }

@@ -8,7 +8,7 @@ ghost use Rattle.schematron_expansion.specs.Seen.{seen_put, first_puts, Tells};
 use crate::file::{RuleFile, Sort};
 use indexmap::IndexSet;
 use schematron_entries::Entry;
-use schematron_graph::Part;
+use schematron_graph::{Part, Turns};
 use schematron_meaning::Role;
 use std::alloc::{AllocError, Global};
 
@@ -29,7 +29,7 @@ struct Firsts<'e, 'd> {
 
 impl<'e, 'd> RuleFile<'e, 'd> {
     /// The lets and assertions of the rule of this number in their order, where all stand at one element if one is
-    /// given. More than so many at one place count as want of memory.
+    /// given. More than so many with those of the rules that it extends count as want of memory.
     pub fn puts(
         &self,
         alloc: Global,
@@ -48,22 +48,24 @@ impl<'e, 'd> RuleFile<'e, 'd> {
     }
 
     /// The same without copies: of each let and assertion the first. However often a rule is put, it is gone over once
-    /// for each `extends` of this rule.
+    /// for each `extends` of this rule. Each entry that stands in this rule takes a turn, and what an `extends` puts
+    /// fewer than three for each thing, that `extends` included. Where none is left this counts as want of memory.
     pub fn first_puts(
         &self,
         alloc: Global,
+        left: &mut Turns,
         stand: Option<u32>,
         number: u32,
     ) -> Result<Vec<Put<'e, 'd>>, AllocError>
         ensures { IfOk result (λ found. map seen_put found.items ≡ first_puts (expansion.puts self.now stand number)) }
     {
-        let items = self.inside(alloc, Sort::Items, number)?;
+        let items = self.inside_within(alloc, left, Sort::Items, number)?;
         let mut firsts = Firsts {
             told: IndexSet::new(alloc),
             found: Vec::new(alloc),
         };
         'items: for e in items {
-            tell_puts(self, alloc, stand, e, &mut firsts)?;
+            tell_puts(self, alloc, left, stand, e, &mut firsts)?;
         }
         let Firsts { found, .. } = firsts;
         Ok(found)
@@ -139,7 +141,8 @@ fn push_things<'e, 'd>(
 ) -> Result<(), AllocError>
     ensures { OnOk result (map seen_put found.new.items ≡ map seen_put found.old.items ++ expansion.put_at file.now stand (Some rule)) }
 {
-    let things = file.graph().expand(alloc, most, &[Part::Puts(rule)])?;
+    let more = most.saturating_sub(found.len());
+    let things = file.graph().expand(alloc, more, &[Part::Puts(rule)])?;
     'things: for thing in &things {
         push_at(file, stand, thing.number, found)?;
     }
@@ -165,6 +168,7 @@ fn push_at<'e, 'd>(
 fn tell_puts<'e, 'd>(
     file: &RuleFile<'e, 'd>,
     alloc: Global,
+    left: &mut Turns,
     stand: Option<u32>,
     e: &'e Entry<'d>,
     firsts: &mut Firsts<'e, 'd>,
@@ -176,6 +180,7 @@ fn tell_puts<'e, 'd>(
         Role::Extends => tell_rule(
             file,
             alloc,
+            left,
             Some(or_itself(stand, e.node.number())),
             file.rule_put(e),
             firsts,
@@ -203,6 +208,7 @@ fn tell_put<'e, 'd>(
 fn tell_rule<'e, 'd>(
     file: &RuleFile<'e, 'd>,
     alloc: Global,
+    left: &mut Turns,
     stand: Option<u32>,
     rule: Option<usize>,
     firsts: &mut Firsts<'e, 'd>,
@@ -211,7 +217,7 @@ fn tell_rule<'e, 'd>(
         (expansion.put_at file.now stand rule)) }
 {
     match rule {
-        Some(rule) => tell_things(file, alloc, stand, rule, firsts),
+        Some(rule) => tell_things(file, alloc, left, stand, rule, firsts),
         None => Ok(()),
     }
 }
@@ -219,6 +225,7 @@ fn tell_rule<'e, 'd>(
 fn tell_things<'e, 'd>(
     file: &RuleFile<'e, 'd>,
     alloc: Global,
+    left: &mut Turns,
     stand: Option<u32>,
     rule: usize,
     firsts: &mut Firsts<'e, 'd>,
@@ -226,7 +233,7 @@ fn tell_things<'e, 'd>(
     ensures { OnOk result (Tells firsts.old.told.keys (map seen_put firsts.old.found.items) firsts.new.told.keys (map seen_put firsts.new.found.items)
         (expansion.put_at file.now stand (Some rule))) }
 {
-    let things = file.graph().firsts(alloc, &[Part::Puts(rule)])?;
+    let things = file.graph().firsts(alloc, left, &[Part::Puts(rule)])?;
     'things: for thing in &things {
         tell_at(file, stand, thing.number, firsts)?;
     }

@@ -1,6 +1,7 @@
 -- How a search goes on.
 use Rattle.std.proofs.Common.{◌≡◌, ℕ, ◌+◌, ◌<◌, ◌≤◌, false, List, [], ◌∷◌, ◌++◌, length, drop, get_or, map, Option, Result, Ok, Err, OnOk, refl, ap, sym, ◌∙◌, subst}
 use Rattle.std.proofs.lemmas.List.{drop_more, drop_all}
+use Rattle.schematron_graph.specs.declared.turns.Turns.{Turns}
 use Rattle.schematron_meaning.specs.Written.{Written}
 use Rattle.schematron_expansion.specs.declared.found.Found.{Found}
 use Rattle.schematron_faults.specs.declared.search.Search.{Search}
@@ -23,6 +24,10 @@ goes-append s t u xs ys g h = record {
 -- a search that begins as another, which has the same so far
 pub goes_from : (s t u : Search) (ws : List Written) → Goes s t [] → Goes t u ws → Goes s u ws
 goes_from s t u ws g h = goes-append s t u [] ws g h
+
+-- a search of which turns were taken first
+pub goes_turned : (s t : Search) (turns : Turns) (ws : List Written) → Goes (record s { turns = turns }) t ws → Goes s t ws
+goes_turned s t turns ws g = record { best = g.best; last = g.last }
 
 pub on_ok : {A E : Type 0} (r : Result A E) {P Q : Type 0} → (P → Q) → OnOk r P → OnOk r Q
 on_ok (Ok x) f p = f p

@@ -14,7 +14,8 @@ use std::alloc::{AllocError, Global};
 /// stand before it, and not behind the last element if one is given.
 ///
 /// All bytes of expressions that are judged and of names, and 16 for each thing, are counted over the whole file. More
-/// than 67,108,864 count as want of memory, so that a small file can't cost minutes.
+/// than 67,108,864 count as want of memory, and so do more than 16,777,216 turns of walks, so that a small file can't
+/// cost minutes.
 pub(crate) fn first_expression(
     alloc: Global,
     file: &RuleFile<'_, '_>,

@@ -8,7 +8,7 @@ ghost use Rattle.schematron_meaning.specs.Faults.{expression_fault};
 ghost use Rattle.schematron_entries.specs.Seen.{seen_entry};
 ghost use Rattle.schematron_faults.specs.Searching as spec;
 
-use crate::search::{Search, spend, take, wants};
+use crate::search::{Search, spend, spend_more, take, wants};
 use node_arena::NodeId;
 use schematron_entries::Entry;
 use schematron_expansion::Found;
@@ -79,8 +79,9 @@ fn judge_text(
     if !wants(search, asked.at) {
         return Ok(());
     }
+    spend(search, text.len() as u64)?;
     let made = replaced_within(alloc, params, text, MOST_BYTES)?;
-    spend(search, bytes_of(&made))?;
+    spend_more(search, text.len() as u64, bytes_of(&made))?;
     let fault = fault_in(alloc, is_context(asked.name), made, scope)?;
     take(search, found_at(asked, fault));
     Ok(())

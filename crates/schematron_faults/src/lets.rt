@@ -7,7 +7,7 @@ ghost use Rattle.schematron_entries.specs.Seen.{seen_entry};
 ghost use Rattle.schematron_faults.specs.Searching as spec;
 
 use crate::judging::judge;
-use crate::search::{Search, spend};
+use crate::search::{Search, spend, spend_more};
 use schematron_entries::Entry;
 use schematron_expansion::{RuleFile, Sort};
 use schematron_meaning::Attribute;
@@ -59,9 +59,10 @@ fn declare_name(
     ensures goes { OnOk result (spec.Goes search.old search.new []) }
     ensures scope { OnOk result (scope.new ≡ written.declare scope.old (Some (replaced params.now (chars name.now)))) }
 {
+    spend(search, name.len() as u64)?;
     match replaced_within(alloc, params, name, MOST_BYTES)? {
         Some(made) => {
-            spend(search, made.len() as u64)?;
+            spend_more(search, name.len() as u64, made.len() as u64)?;
             scope.variable(alloc, made.as_str())?;
             Ok(())
         }
@@ -81,7 +82,7 @@ pub(crate) fn declare_lets(
     ensures goes { OnOk result (spec.Goes search.old search.new []) }
     ensures scope { OnOk result (scope.new ≡ written.with_lets params.now scope.old (inside is_let file.now.entries number)) }
 {
-    let lets = file.inside(alloc, Sort::Lets, number)?;
+    let lets = file.inside_within(alloc, &mut search.turns, Sort::Lets, number)?;
     'lets: for e in lets {
         declare(alloc, search, params, scope, e)?;
     }

@@ -105,7 +105,8 @@ fn judge_items(
     ensures rule { OnOk result (scopes.new.rule ≡ scopes.old.rule) }
     ensures all { OnOk result (scopes.new.all ≡ scopes.old.all) }
 {
-    let items = file.inside(alloc, Sort::LetsAndRules, instance.body)?;
+    let sort = Sort::LetsAndRules;
+    let items = file.inside_within(alloc, &mut search.turns, sort, instance.body)?;
     'items: for e in items {
         judge_item(alloc, search, file, scopes, instance, e)?;
     }

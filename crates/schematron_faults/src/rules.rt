@@ -38,7 +38,8 @@ pub(crate) fn judge_rule(
 {
     accepted_with_one_more();
     let count = all.count();
-    let puts = file.first_puts(alloc, instance.stand, rule.node.number())?;
+    let number = rule.node.number();
+    let puts = file.first_puts(alloc, &mut search.turns, instance.stand, number)?;
     declare_puts(alloc, search, &instance.params, all, puts.as_slice())?;
     judge_context(alloc, search, instance, before, rule)?;
     judge_puts(
@@ -190,7 +191,8 @@ fn judge_parts(
 ) -> Result<(), AllocError>
     ensures { OnOk result (spec.Goes search.old search.new (things.written_parts stand params.now all.now (inside is_part file.now.entries (seen_entry e.now).number))) }
 {
-    let parts = file.inside(alloc, Sort::MessageParts, e.node.number())?;
+    let number = e.node.number();
+    let parts = file.inside_within(alloc, &mut search.turns, Sort::MessageParts, number)?;
     'parts: for part in parts {
         judge(alloc, search, Attribute::Select, stand, params, all, part)?;
     }

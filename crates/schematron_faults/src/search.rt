@@ -5,11 +5,15 @@ ghost use Rattle.schematron_faults.specs.Least as least;
 ghost use Rattle.schematron_faults.specs.Searching as spec;
 
 use schematron_expansion::{Found, sooner};
+use schematron_graph::Turns;
 use std::alloc::AllocError;
 
 /// How much is gone over at most: the bytes of all expressions that are judged and of all names that are declared, and
 /// a few more for each.
 const MOST_WORK: u64 = 67_108_864;
+
+/// How many turns are taken at most by walks over what stands in elements and over what `extends` puts.
+const MOST_TURNS: u64 = 16_777_216;
 
 /// How far a search is.
 #[derive(Clone, Copy, Debug)]
@@ -20,6 +24,8 @@ pub(crate) struct Search {
     pub last: Option<u32>,
     /// How much may still be gone over.
     pub left: u64,
+    /// How many turns walks may still take.
+    pub turns: Turns,
 }
 
 /// A search that has gone over nothing.
@@ -31,6 +37,7 @@ pub(crate) fn begin(best: Option<Found>, last: Option<u32>) -> Search
         best,
         last,
         left: MOST_WORK,
+        turns: Turns { left: MOST_TURNS },
     }
 }
 
@@ -44,6 +51,14 @@ pub(crate) fn spend(search: &mut Search, much: u64) -> Result<(), AllocError>
     }
     search.left -= much;
     Ok(())
+}
+
+/// Counts by how much this is more than what was counted of it.
+pub(crate) fn spend_more(search: &mut Search, counted: u64, much: u64) -> Result<(), AllocError>
+    ensures best { search.new.best ≡ search.old.best }
+    ensures last { search.new.last ≡ search.old.last }
+{
+    spend(search, much.saturating_sub(counted))
 }
 
 /// A fault at this element would be told.

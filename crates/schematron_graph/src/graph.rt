@@ -12,6 +12,7 @@ use crate::building::{Put, build_all, built_body, built_part, is_built};
 use crate::guess::guessed;
 use crate::part::{Part, Spot, Thing};
 use crate::ranked::Ranked;
+use crate::turns::Turns;
 use std::alloc::{AllocError, Global};
 use std::marker::Model;
 
@@ -76,12 +77,19 @@ impl Graph {
     }
 
     /// Of each number the first thing of a body, in order, with those of the rules that it puts: what `expand` gives
-    /// without copies. Each rule is gone over once, however often it is put.
-    pub fn firsts(&self, alloc: Global, body: &[Part]) -> Result<Vec<Thing>, AllocError>
+    /// without copies. Each rule is gone over once, however often it is put. Each part that is gone over takes a turn,
+    /// and so does the end of each rule; fewer than three for each thing that `expand` gives. Where none is left this
+    /// counts as want of memory.
+    pub fn firsts(
+        &self,
+        alloc: Global,
+        left: &mut Turns,
+        body: &[Part],
+    ) -> Result<Vec<Thing>, AllocError>
         ensures { IfOk result (λ things. things.items ≡ firsts (expansion self.now body.now)) }
     {
         let parts = built_body(alloc, &self.puts, body)?;
-        self.ranked.firsts(alloc, &parts)
+        self.ranked.firsts(alloc, left, &parts)
     }
 
     /// The things of a body in order, with those of the rules that it puts at their places. A rule that doesn't end has

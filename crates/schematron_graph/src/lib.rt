@@ -11,7 +11,9 @@ mod guess;
 mod once;
 mod part;
 mod ranked;
+mod turns;
 mod walk;
 
 pub use graph::Graph;
 pub use part::{Part, Spot, Thing};
+pub use turns::Turns;

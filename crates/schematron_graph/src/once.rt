@@ -9,21 +9,23 @@ ghost use Rattle.schematron_graph.specs.Ranked.{found, things_behind, are_ranked
 ghost use Rattle.schematron_graph.specs.Once as spec;
 
 use crate::part::{Part, Thing};
+use crate::turns::Turns;
 use crate::walk::{Place, part_at};
 use indexmap::IndexSet;
 use std::alloc::{AllocError, Global};
 
 /// Of each number the first thing of a body, with those of the rules that it puts. Takes time in proportion to the body
-/// and to the rules that it reaches.
+/// and to the rules that it reaches, and a turn for each part of them and for each end of a rule.
 pub(crate) fn firsts_of_body(
     alloc: Global,
+    left: &mut Turns,
     bodies: &[Vec<Part>],
     body: &[Part],
 ) -> Result<Vec<Thing>, AllocError>
     requires { are_ranked 0 (bodies_of bodies.now) ≡ true }
     ensures { IfOk result (λ things. things.items ≡ firsts (flat_map (things_of (found (things_behind (bodies_of bodies.now)))) body.now)) }
 {
-    let things = once(alloc, bodies, body)?;
+    let things = once(alloc, left, bodies, body)?;
     firsts_of(alloc, &things)
 }
 
@@ -54,14 +56,20 @@ fn push_first(
 }
 
 /// The things of a body, with those of each rule at the first place at least where it is put.
-fn once(alloc: Global, bodies: &[Vec<Part>], body: &[Part]) -> Result<Vec<Thing>, AllocError>
+fn once(
+    alloc: Global,
+    left: &mut Turns,
+    bodies: &[Vec<Part>],
+    body: &[Part],
+) -> Result<Vec<Thing>, AllocError>
     requires { are_ranked 0 (bodies_of bodies.now) ≡ true }
     ensures { IfOk result (λ things. spec.Alike things.items (flat_map (things_of (found (things_behind (bodies_of bodies.now)))) body.now)) }
 {
     let mut gone: IndexSet<usize> = IndexSet::new(alloc);
     let mut things = Vec::new(alloc);
     'parts: for part in body {
-        push_part_once(alloc, bodies, *part, &mut gone, &mut things)?;
+        left.take()?;
+        push_part_once(alloc, left, bodies, *part, &mut gone, &mut things)?;
     }
     Ok(things)
 }
@@ -69,6 +77,7 @@ fn once(alloc: Global, bodies: &[Vec<Part>], body: &[Part]) -> Result<Vec<Thing>
 /// Adds the things of a part, unless it puts a rule that was gone over.
 fn push_part_once(
     alloc: Global,
+    left: &mut Turns,
     bodies: &[Vec<Part>],
     part: Part,
     gone: &mut IndexSet<usize>,
@@ -88,7 +97,7 @@ fn push_part_once(
             if gone.contains(&rule) {
                 return Ok(());
             }
-            push_once(alloc, bodies, rule, gone, out)
+            push_once(alloc, left, bodies, rule, gone, out)
         }
     }
 }
@@ -97,6 +106,7 @@ fn push_part_once(
 /// met, since each puts only rules of smaller ranks.
 fn push_once(
     alloc: Global,
+    left: &mut Turns,
     bodies: &[Vec<Part>],
     rank: usize,
     gone: &mut IndexSet<usize>,
@@ -110,6 +120,7 @@ fn push_once(
     let mut above = Vec::new(alloc);
     let mut place = Place { rank, next: 0 };
     'turns: loop {
+        left.take()?;
         match part_at(bodies, place) {
             Some(Part::Own(thing)) => {
                 out.push(thing)?;

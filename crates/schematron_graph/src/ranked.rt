@@ -8,6 +8,7 @@ ghost use Rattle.schematron_graph.specs.Ranked.{found, things_behind, is_below, 
 
 use crate::once::firsts_of_body;
 use crate::part::{Part, Thing};
+use crate::turns::Turns;
 use crate::walk::{push_thing, push_things};
 use std::alloc::{AllocError, Global};
 use std::marker::Model;
@@ -83,11 +84,16 @@ impl Ranked {
         expanded(alloc, most, &self.bodies, body)
     }
 
-    /// The same without copies: of each number the first.
-    pub fn firsts(&self, alloc: Global, body: &[Part]) -> Result<Vec<Thing>, AllocError>
+    /// The same without copies: of each number the first. Takes turns of those that are left.
+    pub fn firsts(
+        &self,
+        alloc: Global,
+        left: &mut Turns,
+        body: &[Part],
+    ) -> Result<Vec<Thing>, AllocError>
         ensures { IfOk result (λ things. things.items ≡ firsts (flat_map (things_of (found (things_behind self.now))) body.now)) }
     {
-        firsts_of_body(alloc, &self.bodies, body)
+        firsts_of_body(alloc, left, &self.bodies, body)
     }
 }
 

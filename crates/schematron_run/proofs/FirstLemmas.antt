@@ -17,7 +17,9 @@ use Rattle.schematron_meaning.specs.Rules.{Rule as SeenRule}
 use Rattle.schematron_rules.specs.declared.rules.Rule.{Rule}
 use Rattle.schematron_rules.specs.declared.rules.Expanded.{Expanded}
 use Rattle.schematron_rules.specs.Seen.{seen_rule, seen_pattern}
+use Rattle.schematron_run.specs.declared.ready.ReadyRule.{ReadyRule}
 use Rattle.schematron_run.specs.Judging.{Variables, by_rule, by_first, by_pattern, by_number}
+use Rattle.schematron_run.specs.Ready.{ready_rule}
 use Rattle.schematron_run.specs.Firsts.{entry, given, first_there, first_rule, is_there, by_entry, AreTouched, AreBelow, AreFirsts, IsClear, Marked, MarkedBy}
 use Rattle.schematron_run.proofs.ListLemmas.{drop_item}
 use Rattle.schematron_run.proofs.MarkLemmas.{firsts_assoc, there_first, kept_within}
@@ -143,14 +145,14 @@ all_found nodes w outer rules table touched firsts is =
 pub untouched : (table : List (Option ℕ)) (touched : List ℕ) → IsClear table → touched ≡ [] → AreTouched table touched
 untouched table touched h e n = ap (is_among n) e ∙ sym (ap is_there (h n))
 
-pub no_entry : (nodes : List Node) (outer : Variables) (rules : List Rule) (n k : ℕ) → slice_get rules k ≡ None → by_entry nodes outer (map seen_rule rules) n (Some k) ≡ []
+pub no_entry : (nodes : List Node) (outer : Variables) (rules : List ReadyRule) (n k : ℕ) → slice_get rules k ≡ None → by_entry nodes outer (map ready_rule rules) n (Some k) ≡ []
 no_entry nodes outer rules n k e =
-    ap (λ o. elim o [ None ↦ [] | Some rule ↦ by_rule nodes outer n k rule ]) (slice_get-map seen_rule rules k ∙ ap (option_map seen_rule) e)
+    ap (λ o. elim o [ None ↦ [] | Some rule ↦ by_rule nodes outer n k rule ]) (slice_get-map ready_rule rules k ∙ ap (option_map ready_rule) e)
 
-pub an_entry : (nodes : List Node) (outer : Variables) (rules : List Rule) (n k : ℕ) (rule : Rule) → slice_get rules k ≡ Some rule
-    → by_entry nodes outer (map seen_rule rules) n (Some k) ≡ by_rule nodes outer n k (seen_rule rule)
+pub an_entry : (nodes : List Node) (outer : Variables) (rules : List ReadyRule) (n k : ℕ) (rule : ReadyRule) → slice_get rules k ≡ Some rule
+    → by_entry nodes outer (map ready_rule rules) n (Some k) ≡ by_rule nodes outer n k (ready_rule rule)
 an_entry nodes outer rules n k rule e =
-    ap (λ o. elim o [ None ↦ [] | Some found ↦ by_rule nodes outer n k found ]) (slice_get-map seen_rule rules k ∙ ap (option_map seen_rule) e)
+    ap (λ o. elim o [ None ↦ [] | Some found ↦ by_rule nodes outer n k found ]) (slice_get-map ready_rule rules k ∙ ap (option_map ready_rule) e)
 
 pub no_number : (nodes : List Node) (outer : Variables) (patterns : List Expanded) (k : ℕ) → slice_get patterns k ≡ None → by_number nodes outer (map seen_pattern patterns) k ≡ []
 no_number nodes outer patterns k e =

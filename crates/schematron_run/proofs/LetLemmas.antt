@@ -1,5 +1,5 @@
 -- Variables that are declared one after the other, and cut off again.
-use Rattle.std.proofs.Common.{◌≡◌, ℕ, ◌+◌, ◌<◌, ◌≤◌, List, [], ◌∷◌, ◌++◌, length, take, drop, get_or, ap, sym, ◌∙◌, append_assoc, append-nil}
+use Rattle.std.proofs.Common.{◌≡◌, ℕ, ◌+◌, ◌<◌, ◌≤◌, List, [], ◌∷◌, ◌++◌, length, map, take, drop, get_or, ap, sym, ◌∙◌, append_assoc, append-nil}
 use Rattle.std.proofs.Math.Seq.{take-append_seam}
 use Rattle.std.proofs.lemmas.List.{drop_all}
 use Rattle.inv_base.specs.Tree.{Node}
@@ -7,21 +7,21 @@ use Rattle.xpath_meaning.specs.Values.{Value}
 use Rattle.xpath_meaning.specs.Meaning.{mean, at_top}
 use Rattle.xpath_steps.specs.Variables.{ValueWithin, ValuesWithin}
 use Rattle.schematron_meaning.specs.Rules.{Let as SeenLet}
-use Rattle.schematron_rules.specs.declared.rules.Let.{Let}
-use Rattle.schematron_rules.specs.Seen.{seen_let, seen_lets}
+use Rattle.schematron_run.specs.declared.ready.ReadyLet.{ReadyLet}
 use Rattle.schematron_run.specs.Judging.{Variables, filled}
+use Rattle.schematron_run.specs.Ready.{ready_let}
 use Rattle.schematron_run.proofs.ListLemmas.{drop_item}
 
-pub fill_next : (nodes : List Node) (n : ℕ) (lets : List Let) (i : ℕ) (x : Let) (env env' : Variables) {whole : Variables}
-    → x ≡ get_or lets i x → i < length lets → env' ≡ filled nodes n (seen_let x ∷ []) env
-    → filled nodes n (seen_lets (drop i lets)) env ≡ whole → filled nodes n (seen_lets (drop (i + 1) lets)) env' ≡ whole
+pub fill_next : (nodes : List Node) (n : ℕ) (lets : List ReadyLet) (i : ℕ) (x : ReadyLet) (env env' : Variables) {whole : Variables}
+    → x ≡ get_or lets i x → i < length lets → env' ≡ filled nodes n (ready_let x ∷ []) env
+    → filled nodes n (map ready_let (drop i lets)) env ≡ whole → filled nodes n (map ready_let (drop (i + 1) lets)) env' ≡ whole
 fill_next nodes n lets i x env env' at l e h =
-    ap (filled nodes n (seen_lets (drop (i + 1) lets))) e
-    ∙ (ap (λ ls. filled nodes n (seen_lets ls) env) (sym (drop_item lets i x at l)) ∙ h)
+    ap (filled nodes n (map ready_let (drop (i + 1) lets))) e
+    ∙ (ap (λ ls. filled nodes n (map ready_let ls) env) (sym (drop_item lets i x at l)) ∙ h)
 
-pub fill_done : (nodes : List Node) (n : ℕ) (lets : List Let) (i : ℕ) (env : Variables) {whole : Variables}
-    → length lets ≤ i → filled nodes n (seen_lets (drop i lets)) env ≡ whole → env ≡ whole
-fill_done nodes n lets i env l h = ap (λ ls. filled nodes n (seen_lets ls) env) (sym (drop_all i lets l)) ∙ h
+pub fill_done : (nodes : List Node) (n : ℕ) (lets : List ReadyLet) (i : ℕ) (env : Variables) {whole : Variables}
+    → length lets ≤ i → filled nodes n (map ready_let (drop i lets)) env ≡ whole → env ≡ whole
+fill_done nodes n lets i env l h = ap (λ ls. filled nodes n (map ready_let ls) env) (sym (drop_all i lets l)) ∙ h
 
 pub put_within : (count : ℕ) (env : Variables) (v : List ℕ × Value) → ValuesWithin count env → ValueWithin count v.1 → ValuesWithin count (env ++ v ∷ [])
 put_within count [] v h w = (w, tt)

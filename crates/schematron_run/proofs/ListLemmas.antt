@@ -3,7 +3,8 @@ use Rattle.std.proofs.Common.{◌≡◌, ℕ, ◌+◌, ◌<◌, ◌≤◌, zero,
 use Rattle.std.specs.Prelude.{◌==◌, slice_get}
 use Rattle.std.specs.List.{All, flat_map}
 use Rattle.std.proofs.lemmas.Bool.{or_left, or_right, or_cases, eqb-true, eq-eqb, false≢true}
-use Rattle.std.proofs.lemmas.List.{drop_more, drop_all, get_or-map, length-map}
+use Rattle.std.proofs.lemmas.List.{drop_more, drop_all, get_or-map, length-map, map-append}
+use Rattle.std.proofs.lemmas.List.Elements.{All-push}
 use Rattle.std.proofs.lemmas.List.Concat.{flat_map-cons}
 use Rattle.std.proofs.lemmas.Option.{get_or_from_slice_get, slice_get_within}
 use Rattle.inv_base.specs.Tree.{is_among}
@@ -47,6 +48,10 @@ pub flat_done-plain : {X Z : Type 0} (f : X → List Z) (xs : List X) (i : ℕ) 
     → length xs ≤ i → old ++ flat_map f (drop i xs) ≡ whole → old ≡ whole
 flat_done-plain f xs i old l h = sym (append-nil old) ∙ (ap (λ ys. old ++ flat_map f ys) (sym (drop_all i xs l)) ∙ h)
 
+-- what holds of all items holds of each
+pub all_item : {X : Type 0} (P : X → Type 0) (xs : List X) (i : ℕ) (x : X) → All P xs → slice_get xs i ≡ Some x → P x
+all_item P xs i x h e = subst P (get_or_from_slice_get xs i x x e) (h i x (slice_get_within xs i x e))
+
 -- what holds of all items that are seen holds of each
 pub all_at : {X Y : Type 0} (P : Y → Type 0) (g : X → Y) (xs : List X) (i : ℕ) (x : X) → All P (map g xs) → x ≡ get_or xs i x → i < length xs → P (g x)
 all_at P g xs i x h at l =
@@ -54,6 +59,24 @@ all_at P g xs i x h at l =
 
 pub all_of : {X Y : Type 0} (P : Y → Type 0) (g : X → Y) (xs : List X) (i : ℕ) (x : X) → All P (map g xs) → slice_get xs i ≡ Some x → P (g x)
 all_of P g xs i x h e = all_at P g xs i x h (sym (get_or_from_slice_get xs i x x e)) (slice_get_within xs i x e)
+
+-- A list that is made of another one, item by item, is seen as that one.
+pub made_next : {X Y Z : Type 0} (f : Y → Z) (g : X → Z) (xs : List X) (i : ℕ) (x : X) (old new : List Y) (y : Y) {whole : List Z}
+    → x ≡ get_or xs i x → i < length xs → new ≡ old ++ y ∷ [] → f y ≡ g x
+    → map f old ++ map g (drop i xs) ≡ whole → map f new ++ map g (drop (i + 1) xs) ≡ whole
+made_next f g xs i x old new y at l put same h =
+    ap (λ ys. map f ys ++ map g (drop (i + 1) xs)) put
+    ∙ (ap (λ zs. zs ++ map g (drop (i + 1) xs)) (map-append f old (y ∷ []))
+    ∙ (append_assoc (map f old) (f y ∷ []) (map g (drop (i + 1) xs))
+    ∙ (ap (λ z. map f old ++ z ∷ map g (drop (i + 1) xs)) same
+    ∙ (ap (λ ys. map f old ++ map g ys) (sym (drop_item xs i x at l)) ∙ h))))
+
+pub made_end : {X Y Z : Type 0} (f : Y → Z) (g : X → Z) (xs : List X) (i : ℕ) (made : List Y) {whole : List Z}
+    → length xs ≤ i → map f made ++ map g (drop i xs) ≡ whole → map f made ≡ whole
+made_end f g xs i made l h = sym (append-nil (map f made)) ∙ (ap (λ ys. map f made ++ map g ys) (sym (drop_all i xs l)) ∙ h)
+
+pub all_pushed : {Y : Type 0} (P : Y → Type 0) (old new : List Y) (y : Y) → new ≡ old ++ y ∷ [] → All P old → P y → All P new
+all_pushed P old new y put h p = subst (All P) (sym put) (All-push P old y h p)
 
 -- a number at a place is among the numbers
 pub among_at : (ns : List ℕ) (i n : ℕ) → n ≡ get_or ns i n → i < length ns → is_among n ns ≡ true

@@ -1,12 +1,14 @@
 //! Assertions at a node.
 ghost use Rattle.std.specs.Prelude.{◌≡◌, ◌<◌, ◌++◌, map, flat_map, Ok, Some, IfOk, OnOk};
+ghost use Rattle.std.specs.List.{All};
 ghost use Rattle.node_locations.specs.Locations.{location};
 ghost use Rattle.xpath_steps.specs.Variables.{ValuesWithin};
-ghost use Rattle.schematron_rules.specs.Seen.{seen_assertion};
 ghost use Rattle.schematron_run.specs.Judging as spec;
+ghost use Rattle.schematron_run.specs.Ready.{ready_assertion, IsAssertionFor};
 ghost use Rattle.schematron_run.specs.Scenes.{nodes_of, count, IsSet};
 
 use crate::messages::message_at;
+use crate::ready::ReadyAssertion;
 use crate::scene::Scene;
 use crate::values::{truth_in, value_at};
 use inv_base::{Steps, Txt};
@@ -14,7 +16,6 @@ use node_arena::NodeId;
 use node_locations::push_location;
 use schematron_findings::{Finding, FindingKind, Findings, Line};
 use schematron_meaning::AssertionKind;
-use schematron_rules::Assertion;
 use std::alloc::AllocError;
 use std::sync::ledger::Ledger;
 use xpath_items::DynError;
@@ -73,23 +74,25 @@ fn location_at<L: Ledger>(
 
 fn finding_of<'a, L: Ledger>(
     scene: &Scene<'_, 'a>,
-    assertion: &Assertion,
+    assertion: &ReadyAssertion<'_, '_, 'a>,
     n: NodeId,
     env: &Env<'a>,
     outcome: FindingKind,
     steps: &mut Steps<L>,
 ) -> Result<Finding, AllocError>
+    requires ready { IsAssertionFor scene.now.doc.now assertion.now }
     requires within { n < count scene.now }
     requires set { IsSet scene.now }
     requires variables { ValuesWithin (count scene.now) env.now }
-    ensures { IfOk result (λ finding. finding ≡ spec.finding_of (nodes_of scene.now) n env.now (seen_assertion assertion.now) outcome) }
+    ensures { IfOk result (λ finding. finding ≡ spec.finding_of (nodes_of scene.now) n env.now (ready_assertion assertion.now) outcome) }
 {
     let location = location_at(scene, n, steps)?;
     let message = message_at(scene, assertion.message.as_slice(), n, env, steps)?;
-    let test = assertion.test.text.try_clone()?;
-    let id = copied(&assertion.id)?;
-    let flag = copied(&assertion.flag)?;
-    let role = copied(&assertion.role)?;
+    let source = assertion.source;
+    let test = source.test.text.try_clone()?;
+    let id = copied(&source.id)?;
+    let flag = copied(&source.flag)?;
+    let role = copied(&source.role)?;
     Ok(Finding {
         outcome,
         test,
@@ -98,24 +101,25 @@ fn finding_of<'a, L: Ledger>(
         id,
         flag,
         role,
-        level: assertion.level,
+        level: source.level,
     })
 }
 
 /// Adds what is told of an assertion, if anything is.
 fn tell<'a, L: Ledger>(
     scene: &Scene<'_, 'a>,
-    assertion: &Assertion,
+    assertion: &ReadyAssertion<'_, '_, 'a>,
     n: NodeId,
     env: &Env<'a>,
     told: Option<FindingKind>,
     findings: &mut Findings,
     steps: &mut Steps<L>,
 ) -> Result<(), AllocError>
+    requires ready { IsAssertionFor scene.now.doc.now assertion.now }
     requires within { n < count scene.now }
     requires set { IsSet scene.now }
     requires variables { ValuesWithin (count scene.now) env.now }
-    ensures { OnOk result (findings.new ≡ findings.old ++ spec.lines_told (nodes_of scene.now) n env.now (seen_assertion assertion.now) told) }
+    ensures { OnOk result (findings.new ≡ findings.old ++ spec.lines_told (nodes_of scene.now) n env.now (ready_assertion assertion.now) told) }
 {
     let Some(outcome) = told else {
         return Ok(());
@@ -126,35 +130,38 @@ fn tell<'a, L: Ledger>(
 
 fn judge_assertion<'a, L: Ledger>(
     scene: &Scene<'_, 'a>,
-    assertion: &Assertion,
+    assertion: &ReadyAssertion<'_, '_, 'a>,
     n: NodeId,
     env: &Env<'a>,
     findings: &mut Findings,
     steps: &mut Steps<L>,
 ) -> Result<(), AllocError>
+    requires ready { IsAssertionFor scene.now.doc.now assertion.now }
     requires within { n < count scene.now }
     requires set { IsSet scene.now }
     requires variables { ValuesWithin (count scene.now) env.now }
-    ensures { OnOk result (findings.new ≡ findings.old ++ spec.by_assertion (nodes_of scene.now) n env.now (seen_assertion assertion.now)) }
+    ensures { OnOk result (findings.new ≡ findings.old ++ spec.by_assertion (nodes_of scene.now) n env.now (ready_assertion assertion.now)) }
 {
-    let outcome = value_at(scene, &assertion.test.plan, n, env, steps)?;
-    let told = told_of(assertion.kind, truth_in(&outcome));
+    let outcome = value_at(scene, &assertion.test, n, env, steps)?;
+    let source = assertion.source;
+    let told = told_of(source.kind, truth_in(&outcome));
     tell(scene, assertion, n, env, told, findings, steps)
 }
 
 /// Judges a node by the assertions of a rule.
 pub(crate) fn judge_assertions<'a, L: Ledger>(
     scene: &Scene<'_, 'a>,
-    assertions: &[Assertion],
+    assertions: &[ReadyAssertion<'_, '_, 'a>],
     n: NodeId,
     env: &Env<'a>,
     findings: &mut Findings,
     steps: &mut Steps<L>,
 ) -> Result<(), AllocError>
+    requires ready { All (IsAssertionFor scene.now.doc.now) assertions.now }
     requires within { n < count scene.now }
     requires set { IsSet scene.now }
     requires variables { ValuesWithin (count scene.now) env.now }
-    ensures { OnOk result (findings.new ≡ findings.old ++ flat_map (spec.by_assertion (nodes_of scene.now) n env.now) (map seen_assertion assertions.now)) }
+    ensures { OnOk result (findings.new ≡ findings.old ++ flat_map (spec.by_assertion (nodes_of scene.now) n env.now) (map ready_assertion assertions.now)) }
 {
     'assertions: for assertion in assertions {
         judge_assertion(scene, assertion, n, env, findings, steps)?;

@@ -1,5 +1,5 @@
-//! The first rule of each node, in a table that is reset through the nodes that it keeps something of. So a pattern costs as
-//! much as its marks, and not a pass over all nodes.
+//! The first rule of each node, in a table that is reset through the nodes that it keeps something of. So a pattern
+//! costs as much as its marks, and not a pass over all nodes.
 ghost use Rattle.std.specs.Prelude.{◌≡◌, ℕ, ◌+◌, ◌<◌, ◌==◌, ◌∷◌, [], Some, None, length, map, filter, true, IfOk, OnOk};
 ghost use Rattle.std.specs.List.{All};
 ghost use Rattle.inv_base.specs.Tree.{Node};

@@ -7,7 +7,7 @@ ghost use Rattle.schematron_run.specs.Contexts.{HasPatterns};
 ghost use Rattle.schematron_run.specs.Judging as spec;
 ghost use Rattle.schematron_run.specs.Scenes.{nodes_of, count, IsSet};
 
-use crate::lets::{fill, lets_of};
+use crate::lets::{fill_once, lets_of};
 use crate::patterns::judge_patterns;
 use crate::scene::Scene;
 use inv_base::Steps;
@@ -40,9 +40,9 @@ fn file_variables<'a, L: Ledger>(
 {
     let mut env = Env::new(scene.alloc);
     let document = scene.doc.document();
-    fill(scene, rules.lets.as_slice(), document, &mut env, steps)?;
+    fill_once(scene, rules.lets.as_slice(), document, &mut env, steps)?;
     let lets = lets_of(rules.phases.as_slice(), active.phase);
-    fill(scene, lets, document, &mut env, steps)?;
+    fill_once(scene, lets, document, &mut env, steps)?;
     Ok(env)
 }
 
@@ -72,11 +72,12 @@ fn found_in<L: Ledger>(
     Ok(findings)
 }
 
-/// All that the patterns that are active find in a document, pattern by pattern and in each node by node (ISO/IEC 19757-3,
-/// section 6): each node is judged by the first rule of the pattern whose context matches it. The number of a phase or a pattern
-/// that the rules haven't finds nothing. The only error is want of memory.
+/// All that the patterns that are active find in a document, pattern by pattern and in each node by node (ISO/IEC
+/// 19757-3, section 6): each node is judged by the first rule of the pattern whose context matches it. The number of a
+/// phase or a pattern that the rules haven't finds nothing. The only error is want of memory.
 ///
-/// A pattern costs what its contexts and its tests cost, and not a pass over all nodes. Each move in the document takes a step.
+/// A pattern costs what its contexts and its tests cost, and not a pass over all nodes besides; the names of its plans
+/// are looked up in the document once. Each move in the document takes a step.
 pub fn judge<L: Ledger>(
     alloc: Global,
     rules: &Rules,

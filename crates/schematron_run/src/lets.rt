@@ -1,10 +1,13 @@
 //! Variables with their values.
-ghost use Rattle.std.specs.Prelude.{◌≡◌, ◌<◌, ◌∷◌, [], Some, OnOk};
+ghost use Rattle.std.specs.Prelude.{◌≡◌, ◌<◌, ◌∷◌, [], map, Some, OnOk};
+ghost use Rattle.std.specs.List.{All};
 ghost use Rattle.xpath_steps.specs.Variables.{ValuesWithin};
-ghost use Rattle.schematron_rules.specs.Seen.{seen_let, seen_lets, seen_phases};
+ghost use Rattle.schematron_rules.specs.Seen.{seen_lets, seen_phases};
 ghost use Rattle.schematron_run.specs.Judging as spec;
+ghost use Rattle.schematron_run.specs.Ready.{ready_let, IsLetFor};
 ghost use Rattle.schematron_run.specs.Scenes.{nodes_of, count};
 
+use crate::ready::{ReadyLet, ready_lets};
 use crate::scene::Scene;
 use crate::values::value_at;
 use inv_base::Steps;
@@ -14,18 +17,19 @@ use std::alloc::AllocError;
 use std::sync::ledger::Ledger;
 use xpath_run::Env;
 
-/// Declares variables behind the others, each evaluated at the node with those before it. Their number says where to cut
-/// them off again.
+/// Declares variables behind the others, each evaluated at the node with those before it. Their number says where to
+/// cut them off again.
 pub(crate) fn fill<'a, L: Ledger>(
     scene: &Scene<'_, 'a>,
-    lets: &[Let],
+    lets: &[ReadyLet<'_, '_, 'a>],
     n: NodeId,
     env: &mut Env<'a>,
     steps: &mut Steps<L>,
 ) -> Result<(), AllocError>
+    requires ready { All (IsLetFor scene.now.doc.now) lets.now }
     requires within { n < count scene.now }
     requires variables { ValuesWithin (count scene.now) env.old }
-    ensures filled { OnOk result (env.new ≡ spec.filled (nodes_of scene.now) n (seen_lets lets.now) env.old) }
+    ensures filled { OnOk result (env.new ≡ spec.filled (nodes_of scene.now) n (map ready_let lets.now) env.old) }
     ensures within { OnOk result (ValuesWithin (count scene.now) env.new) }
 {
     'lets: for variable in lets {
@@ -37,19 +41,37 @@ pub(crate) fn fill<'a, L: Ledger>(
 /// Declares one variable.
 fn fill_one<'a, L: Ledger>(
     scene: &Scene<'_, 'a>,
-    variable: &Let,
+    variable: &ReadyLet<'_, '_, 'a>,
+    n: NodeId,
+    env: &mut Env<'a>,
+    steps: &mut Steps<L>,
+) -> Result<(), AllocError>
+    requires ready { IsLetFor scene.now.doc.now variable.now }
+    requires within { n < count scene.now }
+    requires variables { ValuesWithin (count scene.now) env.old }
+    ensures filled { OnOk result (env.new ≡ spec.filled (nodes_of scene.now) n (ready_let variable.now ∷ []) env.old) }
+    ensures within { OnOk result (ValuesWithin (count scene.now) env.new) }
+{
+    let outcome = value_at(scene, &variable.run, n, env, steps)?;
+    env.push(variable.name.as_str(), outcome)?;
+    Ok(())
+}
+
+/// Declares variables that are evaluated once, and are made ready for that alone.
+pub(crate) fn fill_once<'a, L: Ledger>(
+    scene: &Scene<'_, 'a>,
+    lets: &[Let],
     n: NodeId,
     env: &mut Env<'a>,
     steps: &mut Steps<L>,
 ) -> Result<(), AllocError>
     requires within { n < count scene.now }
     requires variables { ValuesWithin (count scene.now) env.old }
-    ensures filled { OnOk result (env.new ≡ spec.filled (nodes_of scene.now) n (seen_let variable.now ∷ []) env.old) }
+    ensures filled { OnOk result (env.new ≡ spec.filled (nodes_of scene.now) n (seen_lets lets.now) env.old) }
     ensures within { OnOk result (ValuesWithin (count scene.now) env.new) }
 {
-    let outcome = value_at(scene, &variable.plan, n, env, steps)?;
-    env.push(variable.name.as_str(), outcome)?;
-    Ok(())
+    let ready = ready_lets(scene, lets)?;
+    fill(scene, ready.as_slice(), n, env, steps)
 }
 
 /// The variables of the phase of that place.

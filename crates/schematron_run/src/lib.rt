@@ -9,6 +9,7 @@ mod lets;
 mod messages;
 mod nodes;
 mod patterns;
+mod ready;
 mod scene;
 mod values;
 

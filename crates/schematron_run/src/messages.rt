@@ -1,5 +1,6 @@
 //! The message of a finding at a node.
 ghost use Rattle.std.specs.Prelude.{◌≡◌, ◌<◌, ◌∷◌, [], map, flat_map, chars, IfOk, OnOk};
+ghost use Rattle.std.specs.List.{All};
 ghost use Rattle.std.specs.Str.{IsAscii};
 ghost use Rattle.node_arena.specs.Moves.{tree_node};
 ghost use Rattle.xpath_meaning.specs.Items.{text_of};
@@ -7,17 +8,17 @@ ghost use Rattle.xpath_meaning.specs.Texts.{with_separator, behind_separator};
 ghost use Rattle.xpath_meaning.specs.Values.{value};
 ghost use Rattle.xpath_operators.specs.Nodes.{IsWithin, AreWithin};
 ghost use Rattle.xpath_steps.specs.Variables.{ValueWithin, ValuesWithin};
-ghost use Rattle.schematron_rules.specs.Seen.{seen_part};
 ghost use Rattle.schematron_run.specs.Judging as spec;
+ghost use Rattle.schematron_run.specs.Ready.{ready_part, IsPartFor};
 ghost use Rattle.schematron_run.specs.Scenes.{nodes_of, count};
 ghost use Rattle.schematron_run.specs.Telling.{Says};
 
+use crate::ready::ReadyPart;
 use crate::scene::Scene;
 use crate::values::value_at;
 use error_codes::code_of;
 use inv_base::{Steps, Txt};
 use node_arena::NodeId;
-use schematron_rules::Part;
 use schematron_texts::Message;
 use std::alloc::AllocError;
 use std::sync::ledger::Ledger;
@@ -131,37 +132,39 @@ fn push_name(scene: &Scene<'_, '_>, n: NodeId, message: &mut Message) -> Result<
 
 fn push_part<'a, L: Ledger>(
     scene: &Scene<'_, 'a>,
-    part: &Part,
+    part: &ReadyPart<'_, '_, 'a>,
     n: NodeId,
     env: &Env<'a>,
     message: &mut Message,
     steps: &mut Steps<L>,
 ) -> Result<(), AllocError>
+    requires ready { IsPartFor scene.now.doc.now part.now }
     requires within { n < count scene.now }
     requires variables { ValuesWithin (count scene.now) env.now }
-    ensures { OnOk result (Says (spec.part_text (nodes_of scene.now) n env.now (seen_part part.now)) message.old message.new) }
+    ensures { OnOk result (Says (spec.part_text (nodes_of scene.now) n env.now (ready_part part.now)) message.old message.new) }
 {
     match part {
-        Part::Words(text) => push(message, text.as_str()),
-        Part::Values(plan) => {
-            let outcome = value_at(scene, plan, n, env, steps)?;
+        ReadyPart::Words(text) => push(message, text.as_str()),
+        ReadyPart::Values(run) => {
+            let outcome = value_at(scene, run, n, env, steps)?;
             push_outcome(scene, &outcome, message)
         }
-        Part::Name => push_name(scene, n, message),
+        ReadyPart::Name => push_name(scene, n, message),
     }
 }
 
 fn push_parts<'a, L: Ledger>(
     scene: &Scene<'_, 'a>,
-    parts: &[Part],
+    parts: &[ReadyPart<'_, '_, 'a>],
     n: NodeId,
     env: &Env<'a>,
     message: &mut Message,
     steps: &mut Steps<L>,
 ) -> Result<(), AllocError>
+    requires ready { All (IsPartFor scene.now.doc.now) parts.now }
     requires within { n < count scene.now }
     requires variables { ValuesWithin (count scene.now) env.now }
-    ensures { OnOk result (Says (flat_map (spec.part_text (nodes_of scene.now) n env.now) (map seen_part parts.now)) message.old message.new) }
+    ensures { OnOk result (Says (flat_map (spec.part_text (nodes_of scene.now) n env.now) (map ready_part parts.now)) message.old message.new) }
 {
     'parts: for part in parts {
         push_part(scene, part, n, env, message, steps)?;
@@ -172,14 +175,15 @@ fn push_parts<'a, L: Ledger>(
 /// What the parts say at a node, as one text with its spaces squeezed.
 pub(crate) fn message_at<'a, L: Ledger>(
     scene: &Scene<'_, 'a>,
-    parts: &[Part],
+    parts: &[ReadyPart<'_, '_, 'a>],
     n: NodeId,
     env: &Env<'a>,
     steps: &mut Steps<L>,
 ) -> Result<Txt, AllocError>
+    requires ready { All (IsPartFor scene.now.doc.now) parts.now }
     requires within { n < count scene.now }
     requires variables { ValuesWithin (count scene.now) env.now }
-    ensures { IfOk result (λ text. text ≡ spec.message_at (nodes_of scene.now) n env.now (map seen_part parts.now)) }
+    ensures { IfOk result (λ text. text ≡ spec.message_at (nodes_of scene.now) n env.now (map ready_part parts.now)) }
 {
     let mut message = Message::new(scene.alloc);
     push_parts(scene, parts, n, env, &mut message, steps)?;

@@ -1,20 +1,20 @@
 //! Nodes, each judged by its rule.
 ghost use Rattle.std.specs.Prelude.{◌≡◌, ◌<◌, ◌++◌, length, map, option_copied, slice_get, OnOk};
-ghost use Rattle.std.specs.List.{flat_map};
+ghost use Rattle.std.specs.List.{All, flat_map};
 ghost use Rattle.xpath_steps.specs.Variables.{ValuesWithin};
-ghost use Rattle.schematron_rules.specs.Seen.{seen_assertion, seen_lets, seen_rule};
 ghost use Rattle.schematron_run.specs.Firsts.{entry, by_entry, AreBelow};
 ghost use Rattle.schematron_run.specs.Judging as spec;
+ghost use Rattle.schematron_run.specs.Ready.{ready_assertion, ready_let, ready_rule, IsRuleFor};
 ghost use Rattle.schematron_run.specs.Scenes.{nodes_of, count, IsSet};
 
 use crate::assertions::judge_assertions;
 use crate::firsts::entry_at;
 use crate::lets::fill;
+use crate::ready::ReadyRule;
 use crate::scene::Scene;
 use inv_base::Steps;
 use node_arena::NodeId;
 use schematron_findings::{Findings, Line};
-use schematron_rules::Rule;
 use std::alloc::AllocError;
 use std::sync::ledger::Ledger;
 use xpath_run::Env;
@@ -22,16 +22,17 @@ use xpath_run::Env;
 /// Judges a node by a rule with its variables, which are cut off behind it.
 fn judge_inside<'a, L: Ledger>(
     scene: &Scene<'_, 'a>,
-    rule: &Rule,
+    rule: &ReadyRule<'_, '_, 'a>,
     n: NodeId,
     env: &mut Env<'a>,
     findings: &mut Findings,
     steps: &mut Steps<L>,
 ) -> Result<(), AllocError>
+    requires ready { IsRuleFor scene.now.doc.now rule.now }
     requires within { n < count scene.now }
     requires set { IsSet scene.now }
     requires variables { ValuesWithin (count scene.now) env.old }
-    ensures found { OnOk result (findings.new ≡ findings.old ++ flat_map (spec.by_assertion (nodes_of scene.now) n (spec.filled (nodes_of scene.now) n (seen_lets rule.now.lets) env.old)) (map seen_assertion rule.now.assertions)) }
+    ensures found { OnOk result (findings.new ≡ findings.old ++ flat_map (spec.by_assertion (nodes_of scene.now) n (spec.filled (nodes_of scene.now) n (map ready_let rule.now.lets.items) env.old)) (map ready_assertion rule.now.assertions.items)) }
     ensures env { OnOk result (env.new ≡ env.old) }
 {
     let before = env.len();
@@ -44,20 +45,22 @@ fn judge_inside<'a, L: Ledger>(
 /// Judges a node by the rule of that number.
 fn judge_by_rule<'a, L: Ledger>(
     scene: &Scene<'_, 'a>,
-    rule: &Rule,
+    rule: &ReadyRule<'_, '_, 'a>,
     k: u32,
     n: NodeId,
     env: &mut Env<'a>,
     findings: &mut Findings,
     steps: &mut Steps<L>,
 ) -> Result<(), AllocError>
+    requires ready { IsRuleFor scene.now.doc.now rule.now }
     requires within { n < count scene.now }
     requires set { IsSet scene.now }
     requires variables { ValuesWithin (count scene.now) env.old }
-    ensures found { OnOk result (findings.new ≡ findings.old ++ spec.by_rule (nodes_of scene.now) env.old n k (seen_rule rule.now)) }
+    ensures found { OnOk result (findings.new ≡ findings.old ++ spec.by_rule (nodes_of scene.now) env.old n k (ready_rule rule.now)) }
     ensures env { OnOk result (env.new ≡ env.old) }
 {
-    let context = rule.context.text.try_clone()?;
+    let source = rule.source;
+    let context = source.context.text.try_clone()?;
     findings.push(Line::Fired {
         node: n,
         rule: k,
@@ -67,7 +70,10 @@ fn judge_by_rule<'a, L: Ledger>(
 }
 
 /// The rule of that number, where there is one.
-fn rule_at(rules: &[Rule], k: u32) -> Option<&Rule>
+fn rule_at<'r, 'p, 'd, 'a>(
+    rules: &'r [ReadyRule<'p, 'd, 'a>],
+    k: u32,
+) -> Option<&'r ReadyRule<'p, 'd, 'a>>
     ensures { option_copied result ≡ slice_get rules.now k }
 {
     rules.get(k as usize)
@@ -76,17 +82,18 @@ fn rule_at(rules: &[Rule], k: u32) -> Option<&Rule>
 /// Judges a node by the rule that is kept of it.
 fn judge_by_entry<'a, L: Ledger>(
     scene: &Scene<'_, 'a>,
-    rules: &[Rule],
+    rules: &[ReadyRule<'_, '_, 'a>],
     kept: Option<u32>,
     n: NodeId,
     env: &mut Env<'a>,
     findings: &mut Findings,
     steps: &mut Steps<L>,
 ) -> Result<(), AllocError>
+    requires ready { All (IsRuleFor scene.now.doc.now) rules.now }
     requires within { n < count scene.now }
     requires set { IsSet scene.now }
     requires variables { ValuesWithin (count scene.now) env.old }
-    ensures found { OnOk result (findings.new ≡ findings.old ++ by_entry (nodes_of scene.now) env.old (map seen_rule rules.now) n kept) }
+    ensures found { OnOk result (findings.new ≡ findings.old ++ by_entry (nodes_of scene.now) env.old (map ready_rule rules.now) n kept) }
     ensures env { OnOk result (env.new ≡ env.old) }
 {
     let Some(k) = kept else {
@@ -101,19 +108,20 @@ fn judge_by_entry<'a, L: Ledger>(
 /// Judges each of these nodes by the rule that the table keeps of it.
 pub(crate) fn judge_nodes<'a, L: Ledger>(
     scene: &Scene<'_, 'a>,
-    rules: &[Rule],
+    rules: &[ReadyRule<'_, '_, 'a>],
     table: &[Option<u32>],
     nodes: &[NodeId],
     env: &mut Env<'a>,
     findings: &mut Findings,
     steps: &mut Steps<L>,
 ) -> Result<(), AllocError>
+    requires ready { All (IsRuleFor scene.now.doc.now) rules.now }
     requires long { length table.now ≡ count scene.now }
     requires within { AreBelow (count scene.now) nodes.now }
     requires set { IsSet scene.now }
     requires variables { ValuesWithin (count scene.now) env.old }
     ensures found { OnOk result (findings.new ≡ findings.old
-        ++ flat_map (λ n. by_entry (nodes_of scene.now) env.old (map seen_rule rules.now) n (entry table.now n)) nodes.now) }
+        ++ flat_map (λ n. by_entry (nodes_of scene.now) env.old (map ready_rule rules.now) n (entry table.now n)) nodes.now) }
     ensures env { OnOk result (env.new ≡ env.old) }
 {
     'nodes: for n in nodes {

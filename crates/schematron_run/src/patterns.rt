@@ -11,8 +11,9 @@ ghost use Rattle.schematron_run.specs.Scenes.{nodes_of, count, IsSet};
 
 use crate::assertions::copied;
 use crate::firsts::{clear, first_rules};
-use crate::lets::fill;
+use crate::lets::fill_once;
 use crate::nodes::judge_nodes;
+use crate::ready::ready_rules;
 use crate::scene::Scene;
 use inv_base::Steps;
 use schematron_findings::{Findings, Line};
@@ -22,7 +23,8 @@ use std::sync::ledger::Ledger;
 use xpath_run::Env;
 use xpath_walks::documents_are_walkable;
 
-/// Judges each node by the first of the rules whose context matches it. The table is clear before and behind.
+/// Judges each node by the first of the rules whose context matches it. The rules are made ready for that, and let go
+/// again. The table is clear before and behind.
 fn judge_by_rules<'a, L: Ledger>(
     scene: &Scene<'_, 'a>,
     rules: &[Rule],
@@ -44,9 +46,10 @@ fn judge_by_rules<'a, L: Ledger>(
 {
     documents_are_walkable(scene.doc);
     let touched = first_rules(scene, rules, env, table, steps)?;
+    let ready = ready_rules(scene, rules)?;
     judge_nodes(
         scene,
-        rules,
+        ready.as_slice(),
         table,
         touched.as_slice(),
         env,
@@ -79,7 +82,7 @@ fn judge_pattern<'a, L: Ledger>(
     let id = copied(&pattern.id)?;
     findings.push(Line::Pattern { id })?;
     let before = env.len();
-    fill(
+    fill_once(
         scene,
         pattern.lets.as_slice(),
         scene.doc.document(),

@@ -13,23 +13,22 @@ use std::alloc::AllocError;
 use std::sync::ledger::Ledger;
 use xpath_items::{DynError, Focus, Item, Outcome};
 use xpath_operators::truth;
-use xpath_plan::Plan;
 use xpath_run::{Env, Run};
 
-/// The value of a plan's expression at a node, or its error.
+/// The value of the expression of a plan that is ready, at a node, or its error.
 pub(crate) fn value_at<'a, L: Ledger>(
     scene: &Scene<'_, 'a>,
-    plan: &Plan,
+    run: &Run<'_, '_, 'a>,
     n: NodeId,
     env: &Env<'a>,
     steps: &mut Steps<L>,
 ) -> Result<Outcome<'a>, AllocError>
+    requires ready { run.now.document ≡ scene.now.doc.now }
     requires within { n < count scene.now }
     requires variables { ValuesWithin (count scene.now) env.now }
-    ensures value { IfOk result (λ outcome. value outcome ≡ mean (nodes_of scene.now) (expression plan.now) (at_top n env.now)) }
+    ensures value { IfOk result (λ outcome. value outcome ≡ mean (nodes_of scene.now) (expression run.now.plan) (at_top n env.now)) }
     ensures within { IfOk result (λ outcome. ValueWithin (count scene.now) (value outcome)) }
 {
-    let run = Run::new(scene.alloc, plan, scene.doc)?;
     let focus = Focus {
         item: Item::Node(n),
         position: 1,

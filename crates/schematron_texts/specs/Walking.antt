@@ -35,4 +35,4 @@ walked parameters true name (c ∷ text) = elim (goes_on name c) [
 
 -- all that becomes of a text, what was made before it included
 abbrev pub made_with : List Parameter → Walk → List ℕ → List ℕ
-made_with parameters walk text = chars (string_bytes walk.out) ++ walked parameters walk.open (chars (string_bytes walk.name)) text
+made_with parameters walk text = chars (string_bytes walk.out) ++ walked parameters walk.in_name (chars (string_bytes walk.name)) text

@@ -13,7 +13,7 @@ pub(crate) struct Walk {
     /// What was made so far.
     pub out: String,
     /// A `$` was read, and the name behind it goes on.
-    pub open: bool,
+    pub in_name: bool,
     /// The name so far.
     pub name: String,
 }
@@ -41,7 +41,7 @@ pub fn replaced_within(
 {
     let mut walk = Walk {
         out: String::new(alloc),
-        open: false,
+        in_name: false,
         name: String::new(alloc),
     };
     'characters: for c in text.chars() {
@@ -65,7 +65,7 @@ fn end(mut walk: Walk, parameters: &Parameters, most: usize) -> Result<Option<St
 fn close(walk: &mut Walk, parameters: &Parameters) -> Result<(), AllocError>
     ensures { OnOk result (chars (string_bytes walk.new.out) ≡ walking.made_with parameters.now walk.old []) }
 {
-    if !walk.open {
+    if !walk.in_name {
         return Ok(());
     }
     put_name(walk, parameters)
@@ -85,7 +85,7 @@ fn within(text: String, most: usize) -> Option<String>
 fn take(walk: &mut Walk, parameters: &Parameters, c: char) -> Result<(), AllocError>
     ensures { OnOk result ((rest : List ℕ) → walking.made_with parameters.now walk.new rest ≡ walking.made_with parameters.now walk.old (c ∷ rest)) }
 {
-    if !walk.open {
+    if !walk.in_name {
         return take_outside(walk, c);
     }
     if goes_on(walk.name.as_str(), c) {
@@ -108,11 +108,11 @@ fn goes_on(name: &str, c: char) -> bool
 
 /// Reads a character where no name is open.
 fn take_outside(walk: &mut Walk, c: char) -> Result<(), AllocError>
-    requires { walk.old.open ≡ false }
+    requires { walk.old.in_name ≡ false }
     ensures { OnOk result ((parameters : List spec.Parameter) (rest : List ℕ) → walking.made_with parameters walk.new rest ≡ walking.made_with parameters walk.old (c ∷ rest)) }
 {
     if c == '$' {
-        walk.open = true;
+        walk.in_name = true;
         walk.name.clear();
         return Ok(());
     }
@@ -122,9 +122,9 @@ fn take_outside(walk: &mut Walk, c: char) -> Result<(), AllocError>
 /// Puts in what stands for `$` and the name, and closes it.
 fn put_name(walk: &mut Walk, parameters: &Parameters) -> Result<(), AllocError>
     ensures out { OnOk result (chars (string_bytes walk.new.out) ≡ chars (string_bytes walk.old.out) ++ walking.put parameters.now (chars (string_bytes walk.old.name))) }
-    ensures open { OnOk result (walk.new.open ≡ false) }
+    ensures in_name { OnOk result (walk.new.in_name ≡ false) }
 {
-    walk.open = false;
+    walk.in_name = false;
     match value_for(parameters, walk.name.as_str()) {
         Some(value) => push_text(&mut walk.out, value),
         None => put_back(walk),
@@ -144,7 +144,7 @@ fn value_for<'a>(parameters: &'a Parameters, name: &str) -> Option<&'a str>
 /// Puts `$` and the name in as they stand.
 fn put_back(walk: &mut Walk) -> Result<(), AllocError>
     ensures out { OnOk result (chars (string_bytes walk.new.out) ≡ chars (string_bytes walk.old.out) ++ 36 ∷ chars (string_bytes walk.old.name)) }
-    ensures open { walk.new.open ≡ walk.old.open }
+    ensures in_name { walk.new.in_name ≡ walk.old.in_name }
 {
     push(&mut walk.out, '$')?;
     push_text(&mut walk.out, walk.name.as_str())

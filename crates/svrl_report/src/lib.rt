@@ -7,5 +7,6 @@ mod plain;
 mod svrl;
 mod tally;
 
-pub use plain::write_plain;
+pub use plain::{print_counts, write_plain};
 pub use svrl::write_svrl;
+pub use tally::Tally;

@@ -116,8 +116,8 @@ fn print_id<K: Sink>(id: &Option<Txt>, printer: &mut Printer, out: &mut K)
     }
 }
 
-/// Prints how many findings there are of each sort.
-fn print_counts<K: Sink>(tally: Tally, printer: &mut Printer, out: &mut K)
+/// Prints how many findings there are of each sort, in one line.
+pub fn print_counts<K: Sink>(tally: Tally, printer: &mut Printer, out: &mut K)
     ensures { Prints (spec.counts_line tally) printer.old.failed printer.new.failed (K.view out.old) (K.view out.new) }
 {
     printer.put(out, b"failed ");

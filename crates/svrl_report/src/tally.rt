@@ -6,7 +6,7 @@ use schematron_findings::{Finding, FindingKind, Level, Line};
 
 /// How many findings there are of each sort. The numbers stop at the greatest `u64`.
 #[derive(Clone, Copy, Debug, PartialEq, Eq)]
-pub(crate) struct Tally {
+pub struct Tally {
     /// Fatal assertions that failed.
     pub failed: u64,
     pub reported: u64,
@@ -16,6 +16,17 @@ pub(crate) struct Tally {
 }
 
 impl Tally {
+    /// Of these lines.
+    pub fn of(lines: &[Line]) -> Tally
+        ensures { result ≡ spec.tally_of lines.now }
+    {
+        let mut tally = Tally::new();
+        'lines: for line in lines {
+            tally = tally.with(line);
+        }
+        tally
+    }
+
     /// Of no finding.
     pub fn new() -> Tally
         ensures { result ≡ spec.tally_of [] }

@@ -1,8 +1,12 @@
 -- The reader that is given a file's pieces, and the document that it tells.
-use Rattle.std.proofs.Common.{◌≡◌, ℕ, ◌+◌, ◌-◌, ◌<◌, List, [], ◌++◌, length, length-append, append-nil, refl, ap, sym, subst, ◌∙◌, arith, Option, Some, None, Ok, Err}
+use Rattle.std.proofs.Common.{◌≡◌, ℕ, ◌+◌, ◌-◌, ◌<◌, Bool, true, false, nat_le, List, [], ◌++◌, length, take, drop, length-append, append-nil, refl, ap, sym, subst, ◌∙◌, arith, Option, Some, None, Ok, Err}
 use Rattle.std.specs.Prelude.{Result, ◌≢◌, ◌≤◌}
+use Rattle.std.proofs.lemmas.Bool.Decides.{nat_tests}
+use Rattle.std.proofs.lemmas.List.{take-append-drop, take-append-le}
+use Rattle.std.proofs.lemmas.Option.{none-some}
 use Rattle.inv_base.specs.Outside.{ShelfView, WhereTold, ahead_of}
 use Rattle.inv_base.specs.Tree.{Name}
+use Rattle.xml_tokens.specs.Comments.{open_comment}
 use Rattle.xml_state.specs.Events.{Event, with_events}
 use Rattle.xml_state.specs.declared.limits.Limits.{Limits}
 use Rattle.xml_state.specs.declared.fault.TheConstants.XmlFault.{WANT_OF_MEMORY}
@@ -10,12 +14,14 @@ use Rattle.xml_state.specs.declared.fault.XmlFault.{XmlFault}
 use Rattle.xml_profile.specs.Profile.{settled_of, settled_fault, first_fault, document, names_of, tree_of}
 use Rattle.xml_profile.specs.Profile as profile
 use Rattle.xml_profile.specs.Readers.{Progress, HasRead, HasMemory, Moves, Tells, Finishes, Fails, of_document, of_memory, unread, fault_of_reader}
-use Rattle.xml_profile.specs.TokenByToken.{read, resume, read_front, read_whole}
+use Rattle.xml_profile.specs.TokenByToken.{Standing, waits, stopped, read, resume, read_front, read_whole}
+use Rattle.xml_profile.specs.Keeping.{kept_of, fault_of_kept, bytes_taken}
+use Rattle.xml_profile.proofs.KeptLemmas.{fault-kept, taken-kept}
 use Rattle.node_arena.specs.Document.{Built, Document, built}
 use Rattle.node_arena.specs.Document as arena
 use Rattle.node_arena.specs.Moves.{HasNodesOf, IsWhole}
 use Rattle.xml_document.specs.Loading.{HasFed, IsRefused, StopsInTime, IsLoaded, IsBuilt}
-use Rattle.xml_document.proofs.LengthLemmas.{bytes_read, short_front}
+use Rattle.xml_document.proofs.LengthLemmas.{IsShort, short_front}
 use Rattle.xml_document.proofs.ReadingLemmas.{ahead_of-nil, ahead_of-append, read_all}
 
 -- What a reader's fault says of it.
@@ -35,7 +41,7 @@ pub record Feeding (begun now : ShelfView) (limits : Limits) (reader : Progress)
   pub content : begun.left ≡ ahead_of fed now.left
   pub kept : reader.limits ≡ limits
   pub read : HasRead reader fed
-  pub going : settled_of reader.stands ≡ None
+  pub going : fault_of_kept reader.stands ≡ None
   pub events : Moves [] (read_front limits fed).events before after
 
 pub feeding_nothing : (begun : ShelfView) (reader : Progress) (before : List Event → Type 0) → HasRead reader [] → Feeding begun begun reader.limits reader before before
@@ -48,7 +54,7 @@ feeding_nothing begun reader before read = record {
   content = ahead_of-nil begun.left [] refl;
   kept = refl;
   read = read;
-  going = ap settled_of read.stands;
+  going = ap fault_of_kept read.stands ∙ fault-kept (read_front reader.limits []).stands;
   events = λ first taken. taken;
 }
 
@@ -77,10 +83,15 @@ feeding_more begun now after limits old new piece before mid behind so_far held 
       events = λ first taken. moves first (so_far.events first taken);
     }
 
+-- What is kept tells how many bytes were read.
+short_kept : (limits : Limits) (n : ℕ) (s : Standing) → IsShort limits n s → fault_of_kept (kept_of s) ≡ None → (bytes_taken (kept_of s) ≡ n) × (n ≤ limits.bytes + 1)
+short_kept limits n (waits s place rest) short none = let is = short refl in (taken-kept s place rest ∙ is.0, is.1)
+short_kept limits n (stopped fault) short none = absurd (none-some fault (sym none))
+
 -- The measure falls: the piece isn't empty, and what isn't refused is short.
-pub feeding_falls : (limits : Limits) (old new : Progress) (fed piece : List ℕ) → old.limits ≡ limits → HasRead old fed → settled_of old.stands ≡ None
-    → new.limits ≡ old.limits → HasRead new (fed ++ piece) → settled_of new.stands ≡ None → 0 < length piece
-    → new.limits.bytes + 2 - bytes_read new.stands < old.limits.bytes + 2 - bytes_read old.stands
+pub feeding_falls : (limits : Limits) (old new : Progress) (fed piece : List ℕ) → old.limits ≡ limits → HasRead old fed → fault_of_kept old.stands ≡ None
+    → new.limits ≡ old.limits → HasRead new (fed ++ piece) → fault_of_kept new.stands ≡ None → 0 < length piece
+    → new.limits.bytes + 2 - bytes_taken new.stands < old.limits.bytes + 2 - bytes_taken old.stands
 feeding_falls limits old new fed piece kept read going same more goes some =
     let a = short old fed read going in
     let b = short new (fed ++ piece) more goes in
@@ -88,9 +99,10 @@ feeding_falls limits old new fed piece kept read going same more goes some =
     let bytes : new.limits.bytes ≡ old.limits.bytes = ap (λ (l : Limits). l.bytes) same in
     omega (arith, a.0, a.1, b.0, b.1)
   where
-    short : (reader : Progress) (fed : List ℕ) → HasRead reader fed → settled_of reader.stands ≡ None
-        → (bytes_read reader.stands ≡ length fed) × (length fed ≤ reader.limits.bytes + 1)
-    short reader fed read = subst (λ s. settled_of s ≡ None → (bytes_read s ≡ length fed) × (length fed ≤ reader.limits.bytes + 1)) (sym read.stands) (short_front reader.limits fed)
+    short : (reader : Progress) (fed : List ℕ) → HasRead reader fed → fault_of_kept reader.stands ≡ None
+        → (bytes_taken reader.stands ≡ length fed) × (length fed ≤ reader.limits.bytes + 1)
+    short reader fed read = subst (λ s. fault_of_kept s ≡ None → (bytes_taken s ≡ length fed) × (length fed ≤ reader.limits.bytes + 1)) (sym read.stands)
+        (short_kept reader.limits (length fed) (read_front reader.limits fed).stands (short_front reader.limits fed))
 
 -- At the end of the input all was fed.
 pub fed_whole : (begun now after : ShelfView) (limits : Limits) (reader : Progress) (front : List ℕ) (before behind : List Event → Type 0)
@@ -103,42 +115,69 @@ fed_whole begun now after limits reader front before behind so_far left none end
   events = subst (λ l. Moves [] (read_front l so_far.fed).events before behind) (sym so_far.kept) so_far.events;
   whole = read_all begun.left now.left after.left so_far.fed front so_far.content left none end;
   content = ahead_of-append so_far.fed front so_far.fed begun.left now.left after.left so_far.content left (sym (ap (λ x. so_far.fed ++ x) none ∙ append-nil so_far.fed));
-  going = sym (ap settled_of so_far.read.stands) ∙ so_far.going;
+  going = sym (ap fault_of_kept so_far.read.stands ∙ fault-kept (read_front reader.limits so_far.fed).stands) ∙ so_far.going;
 }
+
+-- A fault that is settled stays settled.
+abbrev pub Stays : Type 0
+Stays = (limits : Limits) (bytes more : List ℕ) (fault : XmlFault) → settled_fault limits bytes ≡ Some fault → settled_fault limits (bytes ++ more) ≡ Some fault
+
+-- So the fronts whose fault is settled are longer than one that settles none.
+module _ (limits : Limits) (stays : Stays) (front last : List ℕ) (going : settled_fault limits front ≡ None) (short : length last ≤ 65536) where
+  none_settled : (n : ℕ) (f : Option XmlFault) → settled_fault limits (take n front) ≡ f → settled_fault limits (take n front) ≡ None
+  none_settled n None is = is
+  none_settled n (Some fault) is =
+      let whole : settled_fault limits front ≡ Some fault =
+      ap (settled_fault limits) (sym (take-append-drop n front)) ∙ stays limits (take n front) (drop n front) fault is in
+      absurd (none-some fault (sym going ∙ whole))
+
+  farther : (n : ℕ) (rest : List ℕ) → settled_fault limits (take n ((front ++ last) ++ rest)) ≢ None → (t : Bool) → nat_le n (length front) ≡ t → length (front ++ last) ≤ n + 65535
+  farther n rest settled true h =
+      let within : n ≤ length front = grind (arith, nat_tests, h) in
+      let long : length (front ++ last) ≡ length front + length last = length-append front last in
+      let same : take n ((front ++ last) ++ rest) ≡ take n front = take-append-le n (front ++ last) rest (omega arith) ∙ take-append-le n front last within in
+      absurd (settled (ap (settled_fault limits) same ∙ none_settled n (settled_fault limits (take n front)) refl))
+  farther n rest settled false h =
+      let past : length front < n = grind (arith, nat_tests, h) in
+      let long : length (front ++ last) ≡ length front + length last = length-append front last in
+      omega (arith, past, long, short)
+
+  pub stops_in_time : (told left : Option (List ℕ)) → told ≡ ahead_of (front ++ last) left → StopsInTime limits told left
+  stops_in_time told left read = record { front = front; last = last; read = read; going = going; short = short; few = by left read }
+    where
+      by : (left : Option (List ℕ)) → told ≡ ahead_of (front ++ last) left
+          → WhereTold told (λ content. (n : ℕ) → settled_fault limits (take n content) ≢ None → length (front ++ last) ≤ n + 65535)
+      by None read = λ content is n settled. let gone : ◌≡◌ {A = Option (List ℕ)} None (Some content) = sym read ∙ is in cc
+      by (Some rest) read = λ content is n settled.
+          let same : content ≡ (front ++ last) ++ rest = cc in
+          farther n rest (λ none. settled (ap (λ bytes. settled_fault limits (take n bytes)) same ∙ none)) (nat_le n (length front)) refl
 
 -- Reading stops with the piece that settles a fault ..
-pub stops_with_piece : (begun now after : ShelfView) (limits : Limits) (reader : Progress) (piece : List ℕ) (before behind : List Event → Type 0)
+pub stops_with_piece : (begun now after : ShelfView) (limits : Limits) (reader : Progress) (piece : List ℕ) (before behind : List Event → Type 0) → Stays
     → Feeding begun now limits reader before behind → now.left ≡ ahead_of piece after.left → length piece ≤ 65536 → StopsInTime limits begun.left after.left
 unfolding settled_fault
-stops_with_piece begun now after limits reader piece before behind so_far left short = record {
-  front = so_far.fed;
-  last = piece;
-  read = ahead_of-append so_far.fed piece (so_far.fed ++ piece) begun.left now.left after.left so_far.content left refl;
-  going = sym (ap settled_of (so_far.read.stands ∙ ap (λ l. (read_front l so_far.fed).stands) so_far.kept)) ∙ so_far.going;
-  short = short;
-}
+stops_with_piece begun now after limits reader piece before behind stays so_far left short =
+    stops_in_time limits stays so_far.fed piece
+    (sym (ap fault_of_kept (so_far.read.stands ∙ ap (λ l. kept_of (read_front l so_far.fed).stands) so_far.kept) ∙ fault-kept (read_front limits so_far.fed).stands) ∙ so_far.going) short begun.left after.left
+    (ahead_of-append so_far.fed piece (so_far.fed ++ piece) begun.left now.left after.left so_far.content left refl)
 
 -- .. or at the end.
-pub stops_at_end : (limits : Limits) (told left : Option (List ℕ)) (reader : Progress) (before behind : List Event → Type 0) → reader.limits ≡ limits
+pub stops_at_end : (limits : Limits) (told left : Option (List ℕ)) (reader : Progress) (before behind : List Event → Type 0) → Stays → reader.limits ≡ limits
     → HasFed told left reader before behind → StopsInTime limits told left
-stops_at_end limits told left reader before behind kept fed = record {
-  front = fed.fed;
-  last = [];
-  read = fed.content ∙ ap (λ bytes. ahead_of bytes left) (sym (append-nil fed.fed));
-  going = ap (λ l. settled_fault l fed.fed) (sym kept) ∙ fed.going;
-  short = omega arith;
-}
+stops_at_end limits told left reader before behind stays kept fed =
+    stops_in_time limits stays fed.fed [] (ap (λ l. settled_fault l fed.fed) (sym kept) ∙ fed.going) (omega arith) told left
+    (fed.content ∙ ap (λ bytes. ahead_of bytes left) (sym (append-nil fed.fed)))
 
 -- A fault that is settled is the first of what was fed and what is left.
 pub refused_settled : (limits : Limits) (told left : Option (List ℕ)) (reader : Progress) (fed : List ℕ) (fault : XmlFault) → told ≡ ahead_of fed left
-    → reader.limits ≡ limits → HasRead reader fed → settled_of reader.stands ≡ Some fault
+    → reader.limits ≡ limits → HasRead reader fed → fault_of_kept reader.stands ≡ Some fault
     → ((limits : Limits) (bytes more : List ℕ) (fault : XmlFault) → settled_fault limits bytes ≡ Some fault → first_fault limits (bytes ++ more) ≡ Some fault)
     → IsRefused limits told fault
 unfolding settled_fault
 refused_settled limits told left reader fed fault content kept read settled law = by left content
   where
     now : settled_fault limits fed ≡ Some fault
-    now = ap settled_of (ap (λ l. (read_front l fed).stands) (sym kept) ∙ sym read.stands) ∙ settled
+    now = sym (fault-kept (read_front limits fed).stands) ∙ (ap fault_of_kept (ap (λ l. kept_of (read_front l fed).stands) (sym kept) ∙ sym read.stands) ∙ settled)
 
     by : (left : Option (List ℕ)) → told ≡ ahead_of fed left → IsRefused limits told fault
     by None content = record { content = fed; is = ap (first_fault limits) (sym (append-nil fed)) ∙ law limits fed [] fault now; whole = λ bytes is. cc }
@@ -215,5 +254,5 @@ wholly_loaded limits told names b doc wholly is =
 
 -- A reader that was given nothing has read nothing.
 pub read_nothing : (limits : Limits) (reader : Progress) → reader ≡ unread limits → HasRead reader []
-unfolding read resume
+unfolding read resume open_comment
 read_nothing limits reader is = subst (λ (r : Progress). HasRead r []) (sym is) (record { stands = refl })

@@ -1,5 +1,5 @@
 -- Reading a file, in pieces, as a document.
-use Rattle.std.specs.Prelude.{◌≡◌, ◌≢◌, ℕ, ◌≤◌, List, [], ◌++◌, length, Option, Some, None, Result, Ok, Err}
+use Rattle.std.specs.Prelude.{◌≡◌, ◌≢◌, ℕ, ◌+◌, ◌≤◌, List, [], ◌++◌, length, take, Option, Some, None, Result, Ok, Err}
 use Rattle.inv_base.specs.Counts.{Rose, next_count}
 use Rattle.inv_base.specs.Outside.{ShelfView, WhereTold, ahead_of}
 use Rattle.xml_state.specs.Events.{Event}
@@ -46,12 +46,14 @@ pub record IsRefused (limits : Limits) (told : Option (List ℕ)) (fault : XmlFa
   pub whole : WhereTold told (λ bytes. content ≡ bytes)
 
 -- Behind bytes that settle no fault yet, at most one piece of the content was read: of these bytes the others are left.
+-- So at most 65,535 bytes more were read than any front has whose fault is settled.
 pub record StopsInTime (limits : Limits) (told left : Option (List ℕ)) : Type 0 where
   pub front : List ℕ
   pub last : List ℕ
   pub read : told ≡ ahead_of (front ++ last) left
   pub going : settled_fault limits front ≡ None
   pub short : length last ≤ 65536
+  pub few : WhereTold told (λ content. (n : ℕ) → settled_fault limits (take n content) ≢ None → length (front ++ last) ≤ n + 65535)
 
 -- The document has exactly the nodes, with their places, and the names that the events of some content build, which is
 -- this one where it is told. So its nodes are those of that content's tree.

@@ -18,7 +18,7 @@ use node_arena::{
 };
 use std::alloc::{AllocError, AllocFailed, Global};
 use xml_laws::read_tells_its_tree;
-use xml_profile::{Reader, settled_is_first};
+use xml_profile::{Reader, settled_is_first, settled_stays};
 use xml_state::{Events, Limits, XmlFault};
 use xml_tokens::XmlKind;
 
@@ -91,7 +91,9 @@ fn read_open<'a, S: Shelf>(
     ensures refused { (fault : _) → result ≡ Err (faults.Refused fault) → IsRefused limits (S.view shelf.old).left fault }
     ensures stops { (fault : _) → result ≡ Err (faults.Refused fault) → StopsInTime limits (S.view shelf.old).left (S.view shelf.new).left }
 {
+    // Laws, which have no code.
     read_builds_its_tree();
+    settled_stays();
     let mut builder = Builder::new(alloc, bump)?;
     let mut reader = Reader::new(alloc, limits)?;
     match feed_all(&mut reader, &mut builder, piece, shelf) {
@@ -121,8 +123,9 @@ fn feed_all<S: Shelf, E: Events>(
     ensures stops { (fault : _) → result ≡ Err (faults.Refused fault) → StopsInTime reader.old.limits (S.view shelf.old).left (S.view shelf.new).left }
     ensures limits { reader.new.limits ≡ reader.old.limits }
 {
-    // A law, which has no code: what stands behind a settled fault can't change it.
+    // Laws, which have no code: what stands behind a settled fault can't change it.
     settled_is_first();
+    settled_stays();
     'pieces: loop {
         let count = match shelf.read(piece) {
             Ok(count) => count,

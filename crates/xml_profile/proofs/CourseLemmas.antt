@@ -4,6 +4,7 @@ use Rattle.std.proofs.lemmas.List.{append_assoc, append-nil}
 use Rattle.xml_state.specs.Events.{Event, TakesAll, with_events}
 use Rattle.xml_state.specs.declared.limits.Limits.{Limits}
 use Rattle.xml_state.specs.declared.fault.XmlFault.{XmlFault}
+use Rattle.xml_tokens.proofs.SearchingLemmas.{few-searched}
 use Rattle.xml_profile.specs.TokenByToken.{waits, Read, telling, read}
 use Rattle.xml_profile.specs.Courses.{IsAt, GoesOn, Reaches, Breaks, of_bytes, of_memory}
 use Rattle.xml_profile.specs.declared.cursor.Cursor.{Cursor}
@@ -40,6 +41,8 @@ module _ (e : Bool) (limits : Limits) where
     is = a.is ∙ ap (telling a.events) b.is;
     told = takes-both a.events b.events before between after a.told b.told;
     at = b.at;
+    searched = b.searched;
+    room = b.room;
     ends_within = b.ends_within;
   }
 
@@ -63,6 +66,8 @@ module _ (e : Bool) (limits : Limits) where
     is = a.is ∙ ap (λ es. record { events = es; stands = waits mid.nest mid.place [] }) (append-nil a.events);
     told = a.told;
     at = a.at;
+    searched = few-searched mid.search [] a.at.fits (omega arith);
+    room = λ b more is. absurd (cc is);
     ends_within = λ ended. let within : mid.place ≤ limits.bytes = a.at.within in omega (arith, within);
   }
   goes-to-end old mid bytes (b ∷ rest) before after none a = absurd (omega arith)

@@ -44,3 +44,12 @@ settled-first limits a b fault h = ap (λ (r : Read). fault_of_whole r.stands) (
     by : (s : Standing) → settled_of s ≡ Some fault → fault_of_whole (resume true limits s b).stands ≡ Some fault
     by (waits s place rest) g = absurd (none-some fault g)
     by (stopped f) g = g
+
+-- It stays settled.
+pub settled-stays : (limits : Limits) (a b : List ℕ) (fault : XmlFault) → settled_fault limits a ≡ Some fault → settled_fault limits (a ++ b) ≡ Some fault
+unfolding settled_fault resume
+settled-stays limits a b fault h = ap (λ (r : Read). settled_of r.stands) (front-grows false limits a b) ∙ by (read_front limits a).stands h
+  where
+    by : (s : Standing) → settled_of s ≡ Some fault → settled_of (resume false limits s b).stands ≡ Some fault
+    by (waits s place rest) g = absurd (none-some fault g)
+    by (stopped f) g = g

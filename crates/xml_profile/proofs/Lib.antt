@@ -10,6 +10,8 @@ pub mod RunLemmas
 pub mod BlankLemmas
 pub mod CourseLemmas
 pub mod FeedLemmas
+pub mod InsideLemmas
+pub mod KeptLemmas
 pub mod ReaderLemmas
 pub mod FinishLemmas
 pub mod MemoryLemmas

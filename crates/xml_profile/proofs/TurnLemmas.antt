@@ -7,7 +7,7 @@ use Rattle.xml_tokens.specs.declared.kind.XmlKind.TheVariants.{TooLong}
 use Rattle.xml_tokens.specs.Markup.{Token}
 use Rattle.xml_tokens.specs.Beginnings as spec
 use Rattle.xml_tokens.specs.Seen.{Shows, shows_good, shows_bad, shows_later, seen_token}
-use Rattle.xml_tokens.specs.Searching.{Searched, fresh, Fits, Continues}
+use Rattle.xml_tokens.specs.Searching.{Searched, fresh, IsSearched, Continues}
 use Rattle.xml_tokens.specs.declared.beginning.Beginning.{Beginning}
 use Rattle.xml_tokens.specs.declared.beginning.Position.{Position}
 use Rattle.xml_tokens.specs.declared.beginning.Beginning.TheVariants.{Good, Bad, Later}
@@ -123,7 +123,7 @@ module _ (e : Bool) (limits : Limits) (bytes : List ℕ) (before after : List Ev
   turns-anew nest place search other new (Behind rest) t =
       (t.0, record { events = t.1.events; passed = t.1.passed; parts = t.1.parts; is = t.1.is; told = t.1.told; at = t.1.at })
   turns-anew nest place search other new Unfinished t =
-      record { events = t.events; passed = t.passed; parts = t.parts; is = t.is; told = t.told; at = t.at; ends_within = t.ends_within }
+      record { events = t.events; passed = t.passed; parts = t.parts; is = t.is; told = t.told; at = t.at; searched = t.searched; room = t.room; ends_within = t.ends_within }
   turns-anew nest place search other new (Stopped fault) t = broken fault t
     where
       broken : (fault : XmlFault) → Breaks e limits (record { nest = nest; place = place; search = search }) bytes before after fault
@@ -135,7 +135,7 @@ module _ (e : Bool) (limits : Limits) (bytes : List ℕ) (before after : List Ev
 abbrev pub IsSure : ℕ → List ℕ → Type 0
 IsSure len bytes = (c : ℕ) (a : List ℕ) → bytes ≡ c ∷ a → len ≡ spec.sure_length c a
 
-read-unfinished : (e : Bool) (limits : Limits) (s : State) (place c : ℕ) (a : List ℕ) (len : ℕ) (test : Bool) → spec.beginning s.position e (c ∷ a) ≡ spec.later → IsSure len (c ∷ a)
+pub read-unfinished : (e : Bool) (limits : Limits) (s : State) (place c : ℕ) (a : List ℕ) (len : ℕ) (test : Bool) → spec.beginning s.position e (c ∷ a) ≡ spec.later → IsSure len (c ∷ a)
     → nat_le (place + len) limits.bytes ≡ test
     → read e limits s place 0 (c ∷ a) ≡ (if test then record { events = []; stands = waits s place (c ∷ a) } else stops_at TooLong limits.bytes)
 read-unfinished e limits s place c a len test is sure room =
@@ -144,16 +144,18 @@ read-unfinished e limits s place c a len test is sure room =
 
 -- What begins isn't whole.
 pub is-unfinished : (e : Bool) (limits : Limits) (old : Cursor) (bytes : List ℕ) (before after : List Event → Type 0) (len : ℕ) (search : Searched) → 0 < length bytes → IsSure len bytes
-    → spec.beginning old.nest.position e bytes ≡ spec.later → nat_le (old.place + len) limits.bytes ≡ true → Fits search bytes → old.place ≤ limits.bytes → TakesAll [] before after
+    → spec.beginning old.nest.position e bytes ≡ spec.later → nat_le (old.place + len) limits.bytes ≡ true → IsSearched search bytes → old.place ≤ limits.bytes → TakesAll [] before after
     → Reaches e limits old (record { nest = old.nest; place = old.place; search = search }) bytes bytes before after
-is-unfinished e limits old [] before after len search some sure is room fits within told = absurd (omega arith)
-is-unfinished e limits old (c ∷ a) before after len search some sure is room fits within told = record {
+is-unfinished e limits old [] before after len search some sure is room searched within told = absurd (omega arith)
+is-unfinished e limits old (c ∷ a) before after len search some sure is room searched within told = record {
   events = [];
   passed = [];
   parts = refl;
   is = read-unfinished e limits old.nest old.place c a len true is sure room;
   told = told;
-  at = record { within = within; fits = fits };
+  at = record { within = within; fits = searched.fits };
+  searched = searched;
+  room = λ b more same. (let long : len ≡ spec.sure_length b more = sure b more same in grind (arith, nat_tests));
   ends_within = later-within e limits old.nest old.place c a is (ap (λ k. nat_le (old.place + k) limits.bytes) (sym (sure c a refl)) ∙ room);
 }
 

@@ -1,12 +1,17 @@
 -- What reading a slice does to where reading stands, by the definition of reading from there.
-use Rattle.std.specs.Prelude.{◌≡◌, ℕ, ◌+◌, ◌<◌, ◌≤◌, Bool, true, ◌==◌, ◌||◌, List, ◌++◌, length}
-use Rattle.xml_tokens.specs.Searching.{Fits}
+use Rattle.std.specs.Prelude.{◌≡◌, ℕ, ◌+◌, ◌<◌, ◌≤◌, Bool, true, ◌==◌, ◌||◌, List, [], ◌∷◌, ◌++◌, length, Option, Some, None}
+use Rattle.xml_tokens.specs.Searching.{Fits, IsSearched}
+use Rattle.xml_tokens.specs.Beginnings.{sure_length}
+use Rattle.xml_tokens.specs.Comments.{open_comment}
 use Rattle.xml_state.specs.Events.{Event, TakesAll}
 use Rattle.xml_state.specs.declared.limits.Limits.{Limits}
 use Rattle.xml_state.specs.declared.fault.TheConstants.XmlFault.{WANT_OF_MEMORY}
 use Rattle.xml_state.specs.declared.fault.XmlFault.{XmlFault}
 use Rattle.xml_profile.specs.TokenByToken.{waits, stopped, telling, read}
+use Rattle.xml_profile.specs.Keeping.{Kept, kept_by}
+use Rattle.xml_profile.specs.Keeping as keeping
 use Rattle.xml_profile.specs.declared.cursor.Cursor.{Cursor}
+use Rattle.xml_profile.specs.declared.cursor.Inside.{Inside}
 use Rattle.xml_profile.specs.declared.cursor.Turn.{Turn}
 use Rattle.xml_profile.specs.declared.cursor.Turn.TheVariants.{Behind, Unfinished, Stopped}
 
@@ -28,7 +33,7 @@ pub record GoesOn (ended : Bool) (limits : Limits) (old new : Cursor) (bytes res
   pub told : TakesAll events before after
   pub at : IsAt limits new rest
 
--- All was read but the rest, which is no token yet, and what it tells was taken.
+-- All was read but the rest, which is no token yet and was searched, and what it tells was taken.
 pub record Reaches (ended : Bool) (limits : Limits) (old new : Cursor) (bytes rest : List ℕ) (before after : List Event → Type 0) : Type 0 where
   pub events : List Event
   pub passed : List ℕ
@@ -36,6 +41,8 @@ pub record Reaches (ended : Bool) (limits : Limits) (old new : Cursor) (bytes re
   pub is : read ended limits old.nest old.place 0 bytes ≡ record { events = events; stands = waits new.nest new.place rest }
   pub told : TakesAll events before after
   pub at : IsAt limits new rest
+  pub searched : IsSearched new.search rest
+  pub room : (b : ℕ) (more : List ℕ) → rest ≡ b ∷ more → new.place + sure_length b more ≤ limits.bytes
   pub ends_within : ended ≡ true → new.place + length rest ≤ limits.bytes
 
 -- The bytes have this fault, and what stands before it was taken; or memory ran out, and a front of what they tell was
@@ -51,3 +58,68 @@ abbrev pub Turns : Turn → Bool → Limits → Cursor → Cursor → List ℕ �
 Turns (Behind rest) ended limits old new bytes before after = (length rest.now < length bytes) × GoesOn ended limits old new bytes rest.now before after
 Turns Unfinished ended limits old new bytes before after = Reaches ended limits old new bytes bytes before after
 Turns (Stopped fault) ended limits old new bytes before after = Breaks ended limits old bytes before after fault
+
+-- The bytes are the open comment that is kept, of which so many bytes came.
+pub record IsInside (held : Inside) (bytes : List ℕ) : Type 0 where
+  pub comment : open_comment bytes ≡ Some held.comment
+  pub came : length bytes ≡ held.came
+
+-- what the code found: the open comment that the bytes are, if they are one
+abbrev pub InsideOf : Option Inside → List ℕ → Type 0
+InsideOf None bytes = open_comment bytes ≡ None
+InsideOf (Some held) bytes = IsInside held bytes
+
+-- how many bytes of what isn't whole are kept
+abbrev pub kept_len : Option Inside → ℕ → ℕ
+kept_len None n = n
+kept_len (Some held) n = 0
+
+-- The comment is open behind all bytes, within the limit.
+pub record StaysInside (ended : Bool) (limits : Limits) (old new : Cursor) (held : Inside) (bytes : List ℕ) (before after : List Event → Type 0) : Type 0 where
+  pub same : new ≡ old
+  pub is : read ended limits old.nest old.place 0 bytes ≡ record { events = []; stands = waits old.nest old.place bytes }
+  pub inside : IsInside held bytes
+  pub within : old.place + held.came ≤ limits.bytes
+  pub told : TakesAll [] before after
+
+-- what one turn inside a comment does, by all its bytes
+abbrev pub CommentTurns : Turn → Bool → Limits → Cursor → Cursor → Inside → List ℕ → (List Event → Type 0) → (List Event → Type 0) → Type 0
+CommentTurns (Behind rest) ended limits old new held bytes before after = GoesOn ended limits old new bytes rest.now before after
+CommentTurns Unfinished ended limits old new held bytes before after = StaysInside ended limits old new held bytes before after
+CommentTurns (Stopped fault) ended limits old new held bytes before after = Breaks ended limits old bytes before after fault
+
+-- what is kept before a fault: where reading stands before the rest, or inside a comment
+abbrev pub kept_going : Option Inside → Cursor → List ℕ → Kept
+kept_going None cursor rest = keeping.waits cursor.nest cursor.place rest
+kept_going (Some held) cursor rest = keeping.inside cursor.nest cursor.place held.came held.comment
+
+-- The bytes are those of which this is kept.
+abbrev pub IsKeptOf : Option Inside → Cursor → List ℕ → List ℕ → Type 0
+IsKeptOf held cursor rest bytes = kept_by cursor.nest cursor.place bytes (open_comment bytes) ≡ kept_going held cursor rest
+
+-- Reading stands before the rest, which was searched and is no comment.
+pub record IsWaiting (limits : Limits) (cursor : Cursor) (rest : List ℕ) : Type 0 where
+  pub at : IsAt limits cursor rest
+  pub searched : IsSearched cursor.search rest
+  pub other : open_comment rest ≡ None
+
+-- Reading stands inside a comment, of which no byte is kept: some bytes are the one of which this is.
+pub record IsCommenting (limits : Limits) (held : Inside) (cursor : Cursor) (rest : List ℕ) : Type 0 where
+  pub none : rest ≡ []
+  pub within : cursor.place + held.came ≤ limits.bytes
+  pub bytes : List ℕ
+  pub inside : IsInside held bytes
+
+-- the one or the other
+abbrev pub IsGoing : Limits → Option Inside → Cursor → List ℕ → Type 0
+IsGoing limits None cursor rest = IsWaiting limits cursor rest
+IsGoing limits (Some held) cursor rest = IsCommenting limits held cursor rest
+
+-- All was read but what is left, of which this is kept.
+pub record Leaves (ended : Bool) (limits : Limits) (old new : Cursor) (bytes : List ℕ) (held : Option Inside) (rest : List ℕ) (before after : List Event → Type 0) : Type 0 where
+  pub events : List Event
+  pub left : List ℕ
+  pub is : read ended limits old.nest old.place 0 bytes ≡ record { events = events; stands = waits new.nest new.place left }
+  pub told : TakesAll events before after
+  pub kept : IsKeptOf held new rest left
+  pub going : IsGoing limits held new rest

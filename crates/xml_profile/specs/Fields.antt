@@ -6,46 +6,50 @@ use Rattle.xml_state.specs.Taking.{TakesFront}
 use Rattle.xml_state.specs.declared.fault.TheConstants.XmlFault.{WANT_OF_MEMORY}
 use Rattle.xml_state.specs.declared.fault.XmlFault.{XmlFault}
 use Rattle.xml_state.specs.declared.limits.Limits.{Limits}
-use Rattle.xml_profile.specs.TokenByToken.{Standing, waits, stopped, resume}
+use Rattle.xml_profile.specs.TokenByToken.{Standing, resume}
+use Rattle.xml_profile.specs.Keeping.{Kept, stopped, kept_of}
 use Rattle.xml_profile.specs.Profile.{fault_of_whole, names_of}
 use Rattle.xml_profile.specs.Readers.{Progress, fault_of_reader, HasMemory, Answers}
-use Rattle.xml_profile.specs.Courses.{IsAt}
+use Rattle.xml_profile.specs.Courses.{kept_going, IsGoing}
 use Rattle.xml_profile.specs.declared.cursor.Cursor.{Cursor}
+use Rattle.xml_profile.specs.declared.cursor.Inside.{Inside}
 
--- where reading stands, by the fault that was answered if any, and by what stands behind so many bytes before the rest
-abbrev pub standing_of : Option XmlFault → Cursor → List ℕ → Standing
-standing_of None cursor rest = waits cursor.nest cursor.place rest
-standing_of (Some fault) cursor rest = stopped fault
+-- what is kept, by the fault that was answered if any, and by what stands behind so many bytes before the rest or inside
+-- a comment
+abbrev pub kept_with : Option XmlFault → Option Inside → Cursor → List ℕ → Kept
+kept_with None held cursor rest = kept_going held cursor rest
+kept_with (Some fault) held cursor rest = stopped fault
 
-abbrev pub progress_of : Limits → Option XmlFault → Cursor → List ℕ → Progress
-progress_of limits fault cursor rest = record { limits = limits; stands = standing_of fault cursor rest }
+abbrev pub progress_of : Limits → Option XmlFault → Option Inside → Cursor → List ℕ → Progress
+progress_of limits fault held cursor rest = record { limits = limits; stands = kept_with fault held cursor rest }
 
--- Reading stands before the rest unless a fault was answered.
-abbrev pub IsSound : Limits → Option XmlFault → Cursor → List ℕ → Type 0
-IsSound limits fault cursor rest = fault ≡ None → IsAt limits cursor rest
+-- Reading goes on, unless a fault was answered, behind which nothing is kept.
+abbrev pub IsSound : Limits → Option XmlFault → Option Inside → Cursor → List ℕ → Type 0
+IsSound limits None held cursor rest = IsGoing limits held cursor rest
+IsSound limits (Some fault) held cursor rest = rest ≡ []
 
--- What a further piece does to a reader.
+-- What a further piece does to a reader, wherever reading stands of which this is kept.
 pub record Feeds {T : Type 0} (result : Result T XmlFault) (old new : Progress) (piece : List ℕ) (before after : List Event → Type 0) : Type 0 where
   pub limits : new.limits ≡ old.limits
   pub answer : Answers result (fault_of_reader new)
-  pub stands : HasMemory new → new.stands ≡ (resume false old.limits old.stands piece).stands
-  pub within : TakesFront (resume false old.limits old.stands piece).events before after
-  pub all : HasMemory new → TakesAll (resume false old.limits old.stands piece).events before after
+  pub stands : HasMemory new → (at : Standing) → kept_of at ≡ old.stands → new.stands ≡ kept_of (resume false old.limits at piece).stands
+  pub within : (at : Standing) → kept_of at ≡ old.stands → TakesFront (resume false old.limits at piece).events before after
+  pub all : HasMemory new → (at : Standing) → kept_of at ≡ old.stands → TakesAll (resume false old.limits at piece).events before after
   pub stopped : fault_of_reader old ≢ None → (new ≡ old) × TakesAll [] before after
 
--- The rest isn't a document's end, or memory ran out.
-pub data FailsToEnd (old : Progress) (before after : List Event → Type 0) : XmlFault → Type 0 where
-  of_end : (fault : XmlFault) → fault_of_whole (resume true old.limits old.stands []).stands ≡ Some fault → TakesAll (resume true old.limits old.stands []).events before after
-      → FailsToEnd old before after fault
-  of_lack : TakesFront (resume true old.limits old.stands []).events before after → FailsToEnd old before after WANT_OF_MEMORY
+-- What is left isn't a document's end, or memory ran out.
+pub data FailsToEnd (limits : Limits) (at : Standing) (before after : List Event → Type 0) : XmlFault → Type 0 where
+  of_end : (fault : XmlFault) → fault_of_whole (resume true limits at []).stands ≡ Some fault → TakesAll (resume true limits at []).events before after
+      → FailsToEnd limits at before after fault
+  of_lack : TakesFront (resume true limits at []).events before after → FailsToEnd limits at before after WANT_OF_MEMORY
 
--- The rest is a document's end.
-pub record EndsWell (old : Progress) (names : List Name) (before after : List Event → Type 0) : Type 0 where
-  pub document : fault_of_whole (resume true old.limits old.stands []).stands ≡ None
-  pub named : names ≡ names_of (resume true old.limits old.stands []).stands
-  pub told : TakesAll (resume true old.limits old.stands []).events before after
+-- What is left is a document's end.
+pub record EndsWell (limits : Limits) (at : Standing) (names : List Name) (before after : List Event → Type 0) : Type 0 where
+  pub document : fault_of_whole (resume true limits at []).stands ≡ None
+  pub named : names ≡ names_of (resume true limits at []).stands
+  pub told : TakesAll (resume true limits at []).events before after
 
--- What the end does to a reader.
+-- What the end does to a reader, wherever reading stands of which this is kept.
 pub record EndsAt (result : Result (List Name) XmlFault) (old : Progress) (before after : List Event → Type 0) : Type 0 where
-  pub ended : MatchResult result (λ names. EndsWell old names before after) (λ fault. FailsToEnd old before after fault)
+  pub ended : (at : Standing) → kept_of at ≡ old.stands → MatchResult result (λ names. EndsWell old.limits at names before after) (λ fault. FailsToEnd old.limits at before after fault)
   pub stopped : (fault : XmlFault) → fault_of_reader old ≡ Some fault → (result ≡ Err fault) × TakesAll [] before after

@@ -1,31 +1,37 @@
 -- What contracts see of a reader, and what its calls answer and tell. They speak of all bytes that it was given, in
 -- whatever pieces; what they say of a receiver holds of one that has taken what the calls before told, behind any first
 -- events.
-use Rattle.std.specs.Prelude.{◌≡◌, ◌≢◌, ℕ, List, ◌++◌, Option, Some, None, Result, MatchResult}
+use Rattle.std.specs.Prelude.{◌≡◌, ◌≢◌, ℕ, List, [], ◌++◌, Option, Some, None, Result, MatchResult}
 use Rattle.inv_base.specs.Tree.{Name}
 use Rattle.xml_state.specs.Events.{Event, with_events}
 use Rattle.xml_state.specs.declared.limits.Limits.{Limits}
 use Rattle.xml_state.specs.declared.fault.TheConstants.XmlFault.{WANT_OF_MEMORY}
 use Rattle.xml_state.specs.declared.fault.XmlFault.{XmlFault}
-use Rattle.xml_profile.specs.TokenByToken.{Standing, outset, read_front, read_whole}
-use Rattle.xml_profile.specs.Profile.{settled_of, first_fault, names_of}
+use Rattle.xml_state.specs.States.{begin}
+use Rattle.xml_profile.specs.TokenByToken.{read_front, read_whole}
+use Rattle.xml_profile.specs.Profile.{first_fault, names_of}
+use Rattle.xml_profile.specs.Keeping.{Kept, waits, kept_of, fault_of_kept, bytes_kept}
 
--- its limits, and where it stands: where memory has run out, at want of memory
+-- its limits, and where it stands, by what it keeps: where memory has run out, at want of memory
 pub record Progress : Type 0 where
   pub limits : Limits
-  pub stands : Standing
+  pub stands : Kept
 
 -- a reader that was given nothing
 abbrev pub unread : Limits → Progress
-unread limits = record { limits = limits; stands = outset }
+unread limits = record { limits = limits; stands = waits begin 0 [] }
 
 -- The reader was given these bytes, and found memory: it stands where they lead.
 pub record HasRead (reader : Progress) (fed : List ℕ) : Type 0 where
-  pub stands : reader.stands ≡ (read_front reader.limits fed).stands
+  pub stands : reader.stands ≡ kept_of (read_front reader.limits fed).stands
 
 -- the fault at which a reader stands, which each call answers
 abbrev pub fault_of_reader : Progress → Option XmlFault
-fault_of_reader reader = settled_of reader.stands
+fault_of_reader reader = fault_of_kept reader.stands
+
+-- how many bytes of the input a reader keeps
+abbrev pub kept : Progress → ℕ
+kept reader = bytes_kept reader.stands
 
 -- The reader hasn't run out of memory.
 abbrev pub HasMemory : Progress → Type 0

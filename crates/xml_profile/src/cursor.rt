@@ -2,6 +2,8 @@
 //! tokens one by one.
 ghost use Rattle.std.specs.Prelude.{◌≡◌, ℕ, ◌∷◌, List, ◌<◌, ◌≤◌, ◌+◌, ◌++◌, ◌-◌, [], ◌^◌, Some, None, drop, length, vec_len, slice_index, nat_le, true, false, MatchResult, if◌then◌else◌};
 ghost use Rattle.xml_tokens.specs.Beginnings.{beginning, good, sure_length};
+ghost use Rattle.xml_tokens.specs.Comments.{begins_by, ends_with};
+ghost use Rattle.xml_tokens.specs.Markup.{an_aside};
 ghost use Rattle.xml_tokens.specs.Searching.{fresh};
 ghost use Rattle.xml_tokens.specs.Seen.{seen_token};
 ghost use Rattle.xml_tokens.specs.declared.beginning.Position.TheVariants.{Farther};
@@ -9,12 +11,15 @@ ghost use Rattle.xml_tokens.specs.declared.kind.XmlKind.TheVariants as kinds;
 ghost use Rattle.xml_state.specs.Faults.{fault_at};
 ghost use Rattle.xml_state.specs.States.{begin, is_outside};
 ghost use Rattle.xml_profile.specs.Profile.{end_fault};
-ghost use Rattle.xml_profile.specs.Courses.{is_blank, IsAt, Turns, Reaches, Breaks};
+ghost use Rattle.xml_profile.specs.Courses.{is_blank, IsAt, Turns, Reaches, Breaks, IsInside, InsideOf, kept_len, CommentTurns, IsKeptOf, IsGoing, IsCommenting, Leaves};
 
 use inv_base::Place;
 use std::alloc::{AllocError, Global};
 use xml_state::{Events, Limits, NameTable, Nest, XmlFault};
-use xml_tokens::{Beginning, Position, Search, Token, XmlKind, run_at_front, what_begins};
+use xml_tokens::{
+    Beginning, ClosedComment, OpenComment, Position, Search, Token, XmlKind, run_at_front,
+    what_begins,
+};
 
 /// Where reading stands: what stands behind the tokens before, how many bytes they take, and how far the next one was
 /// searched.
@@ -23,6 +28,13 @@ pub(crate) struct Cursor {
     pub nest: Nest,
     pub place: u64,
     pub search: Search,
+}
+
+/// A comment that is open where reading stands: what can still matter of it, and how many bytes came.
+#[derive(Clone, Copy)]
+pub(crate) struct Inside {
+    pub comment: OpenComment,
+    pub came: u64,
 }
 
 /// How bytes are read: with memory of this allocator, within these limits, and as the last ones or not.
@@ -64,6 +76,29 @@ fn sure_len(bytes: &[u8]) -> usize
     ensures { (b : ℕ) (more : List ℕ) → bytes.now ≡ b ∷ more → result ≡ sure_length b more }
 {
     if bytes[0] == b']' { 1 } else { bytes.len() }
+}
+
+/// The open comment that the bytes are, if they are one.
+fn inside_of(bytes: &[u8]) -> Option<Inside>
+    ensures { InsideOf result bytes.now }
+{
+    match OpenComment::of(bytes) {
+        Some(comment) => Some(Inside {
+            comment,
+            came: bytes.len() as u64,
+        }),
+        None => None,
+    }
+}
+
+/// How many of the bytes of what isn't whole are kept: of a comment none.
+fn kept_len(inside: Option<Inside>, len: usize) -> usize
+    ensures { result ≡ kept_len inside len }
+{
+    match inside {
+        Some(_) => 0,
+        None => len,
+    }
 }
 
 /// Leaves the last so many bytes.
@@ -129,6 +164,14 @@ impl Cursor {
         len as u64 <= limit - self.place
     }
 
+    /// Whether so many bytes and so many further ones end within the limit.
+    fn has_room_behind(&self, limit: u64, came: u64, len: usize) -> bool
+        requires { self.now.place + came ≤ limit }
+        ensures { result ≡ nat_le (self.now.place + (came + len)) limit }
+    {
+        len as u64 <= limit - self.place - came
+    }
+
     /// The fault that so many bytes show, or that they end beyond the limit.
     fn fault_within(&self, limit: u64, kind: XmlKind, len: usize) -> XmlFault
         requires { self.now.place ≤ limit }
@@ -148,9 +191,17 @@ impl Cursor {
         ensures behind { result.now ≡ drop len bytes.now }
         ensures cursor { self.new ≡ record { nest = self.old.nest; place = self.old.place + len; search = fresh } }
     {
-        self.place += len as u64;
-        self.search = Search::new();
+        self.move_on(len as u64);
         bytes.split_at(len).1
+    }
+
+    /// Stands behind so many further bytes.
+    fn move_on(&mut self, len: u64)
+        requires { self.old.place + len < 2 ^ 64 }
+        ensures { self.new ≡ record { nest = self.old.nest; place = self.old.place + len; search = fresh } }
+    {
+        self.place += len;
+        self.search = Search::new();
     }
 
     /// Takes the token of so many bytes that begins here.
@@ -300,54 +351,180 @@ impl Cursor {
         Ok(rest)
     }
 
-    /// Reads a further piece behind the rest of those before. The bytes of what isn't a token yet are the new rest.
+    /// Passes over a comment that ends with so many bytes, behind which these are.
+    fn pass_comment<'b, E: Events>(
+        &mut self,
+        reading: Reading,
+        len: u64,
+        behind: &'b [u8],
+        events: &mut E,
+    ) -> Turn<'b>
+        requires { self.old.place + len ≤ reading.limits.bytes }
+        ensures { (held : _) (bytes : List ℕ) → beginning self.old.nest.position reading.ended bytes ≡ good an_aside len → behind.now ≡ drop len bytes
+            → CommentTurns result reading.ended reading.limits self.old self.new held bytes (E.taken events.old) (E.taken events.new) }
+    {
+        let place = Place { byte: self.place };
+        match self.nest.take(reading.alloc, &reading.limits, &Token::Aside, place, events) {
+            Ok(()) => {
+                self.move_on(len);
+                Turn::Behind(behind)
+            }
+            Err(fault) => Turn::Stopped(fault),
+        }
+    }
+
+    /// Takes the end of a comment of which so many bytes came before the piece.
+    fn close<'b, E: Events>(
+        &mut self,
+        reading: Reading,
+        came: u64,
+        closed: ClosedComment,
+        piece: &'b [u8],
+        events: &mut E,
+    ) -> Turn<'b>
+        requires within { self.old.place + came ≤ reading.limits.bytes }
+        requires inside { closed.len ≤ length piece.now }
+        ensures { (held : _) (bytes : List ℕ) → length bytes ≡ came → beginning self.old.nest.position reading.ended (bytes ++ piece.now) ≡ begins_by (ends_with closed.fault (came + closed.len))
+            → CommentTurns result reading.ended reading.limits self.old self.new held (bytes ++ piece.now) (E.taken events.old) (E.taken events.new) }
+    {
+        if !self.has_room_behind(reading.limits.bytes, came, closed.len) {
+            return Turn::Stopped(too_long(reading.limits.bytes));
+        }
+        match closed.fault {
+            Some(kind) => Turn::Stopped(fault_at(kind, self.place)),
+            None => {
+                let behind = piece.split_at(closed.len).1;
+                self.pass_comment(reading, came + closed.len as u64, behind, events)
+            }
+        }
+    }
+
+    /// Gives a comment that is open the piece, up to its end.
+    fn comment<'b, E: Events>(
+        &mut self,
+        reading: Reading,
+        held: &mut Inside,
+        piece: &'b [u8],
+        events: &mut E,
+    ) -> Turn<'b>
+        requires { self.old.place + held.old.came ≤ reading.limits.bytes }
+        ensures { (bytes : List ℕ) → IsInside held.old bytes
+            → CommentTurns result reading.ended reading.limits self.old self.new held.new (bytes ++ piece.now) (E.taken events.old) (E.taken events.new) }
+    {
+        match held.comment.take(piece) {
+            Some(closed) => self.close(reading, held.came, closed, piece, events),
+            None => {
+                if !self.has_room_behind(reading.limits.bytes, held.came, piece.len()) {
+                    return Turn::Stopped(too_long(reading.limits.bytes));
+                }
+                held.came += piece.len() as u64;
+                Turn::Unfinished
+            }
+        }
+    }
+
+    /// Reads a further piece, behind the rest of those before or inside a comment. Of what isn't a token yet the bytes are
+    /// the new rest, but of a comment none is kept.
     pub fn feed<E: Events>(
         &mut self,
         reading: Reading,
+        inside: &mut Option<Inside>,
         rest: &mut Vec<u8>,
         piece: &[u8],
         events: &mut E,
     ) -> Result<(), XmlFault>
-        requires { IsAt reading.limits self.old rest.old.items }
+        requires { IsGoing reading.limits inside.old self.old rest.old.items }
+        ensures { (bytes : List ℕ) → IsKeptOf inside.old self.old rest.old.items bytes → MatchResult result
+            (λ _. Leaves reading.ended reading.limits self.old self.new (bytes ++ piece.now) inside.new rest.new.items (E.taken events.old) (E.taken events.new))
+            (λ fault. Breaks reading.ended reading.limits self.old (bytes ++ piece.now) (E.taken events.old) (E.taken events.new) fault) }
+    {
+        match *inside {
+            Some(held) => self.feed_comment(reading, held, inside, rest, piece, events),
+            None => self.feed_rest(reading, inside, rest, piece, events),
+        }
+    }
+
+    /// Reads a piece inside a comment.
+    fn feed_comment<E: Events>(
+        &mut self,
+        reading: Reading,
+        held: Inside,
+        inside: &mut Option<Inside>,
+        rest: &mut Vec<u8>,
+        piece: &[u8],
+        events: &mut E,
+    ) -> Result<(), XmlFault>
+        requires { IsCommenting reading.limits held self.old rest.old.items }
+        ensures { (bytes : List ℕ) → IsInside held bytes → MatchResult result
+            (λ _. Leaves reading.ended reading.limits self.old self.new (bytes ++ piece.now) inside.new rest.new.items (E.taken events.old) (E.taken events.new))
+            (λ fault. Breaks reading.ended reading.limits self.old (bytes ++ piece.now) (E.taken events.old) (E.taken events.new) fault) }
+    {
+        let mut longer = held;
+        match self.comment(reading, &mut longer, piece, events) {
+            Turn::Behind(behind) => self.feed_anew(reading, inside, rest, behind, events),
+            Turn::Unfinished => {
+                *inside = Some(longer);
+                Ok(())
+            }
+            Turn::Stopped(fault) => Err(fault),
+        }
+    }
+
+    /// Reads a piece behind the rest.
+    fn feed_rest<E: Events>(
+        &mut self,
+        reading: Reading,
+        inside: &mut Option<Inside>,
+        rest: &mut Vec<u8>,
+        piece: &[u8],
+        events: &mut E,
+    ) -> Result<(), XmlFault>
+        requires { IsAt reading.limits self.old (rest.old.items ++ piece.now) }
         ensures { MatchResult result
-            (λ _. Reaches reading.ended reading.limits self.old self.new (rest.old.items ++ piece.now) rest.new.items (E.taken events.old) (E.taken events.new))
+            (λ _. Leaves reading.ended reading.limits self.old self.new (rest.old.items ++ piece.now) inside.new rest.new.items (E.taken events.old) (E.taken events.new))
             (λ fault. Breaks reading.ended reading.limits self.old (rest.old.items ++ piece.now) (E.taken events.old) (E.taken events.new) fault) }
     {
         if rest.is_empty() {
-            return self.feed_anew(reading, rest, piece, events);
+            return self.feed_anew(reading, inside, rest, piece, events);
         }
         if rest.extend_from_slice(piece).is_err() {
             return Err(XmlFault::WANT_OF_MEMORY);
         }
         match self.read(reading, rest, events) {
             Ok(left) => {
-                let len = left.len();
+                let held = inside_of(left);
+                let len = kept_len(held, left.len());
                 keep_back(rest, len);
+                *inside = held;
                 Ok(())
             }
             Err(fault) => Err(fault),
         }
     }
 
-    /// Reads a piece where there is no rest: of its bytes only the rest is kept.
+    /// Reads bytes where there is no rest: of them only what is left is kept, and of a comment nothing.
     fn feed_anew<E: Events>(
         &mut self,
         reading: Reading,
+        inside: &mut Option<Inside>,
         rest: &mut Vec<u8>,
         piece: &[u8],
         events: &mut E,
     ) -> Result<(), XmlFault>
-        requires at { IsAt reading.limits self.old rest.old.items }
+        requires at { IsAt reading.limits self.old (rest.old.items ++ piece.now) }
         requires empty { rest.old.items ≡ [] }
         ensures { MatchResult result
-            (λ _. Reaches reading.ended reading.limits self.old self.new (rest.old.items ++ piece.now) rest.new.items (E.taken events.old) (E.taken events.new))
+            (λ _. Leaves reading.ended reading.limits self.old self.new (rest.old.items ++ piece.now) inside.new rest.new.items (E.taken events.old) (E.taken events.new))
             (λ fault. Breaks reading.ended reading.limits self.old (rest.old.items ++ piece.now) (E.taken events.old) (E.taken events.new) fault) }
     {
         match self.read(reading, piece, events) {
             Ok(left) => {
-                if rest.extend_from_slice(left).is_err() {
+                let held = inside_of(left);
+                let len = kept_len(held, left.len());
+                if rest.extend_from_slice(left.split_at(len).0).is_err() {
                     return Err(XmlFault::WANT_OF_MEMORY);
                 }
+                *inside = held;
                 Ok(())
             }
             Err(fault) => Err(fault),
@@ -355,7 +532,7 @@ impl Cursor {
     }
 
     /// Ends the document behind its tokens, where so many bytes are left that are none, within the limit.
-    pub fn end(self, limit: u64, left: usize) -> Result<NameTable, XmlFault>
+    pub fn end(self, limit: u64, left: u64) -> Result<NameTable, XmlFault>
         requires { self.place + left ≤ limit }
         ensures { (rest : List ℕ) → length rest ≡ left → MatchResult result
             (λ table. (end_fault self.nest self.place rest ≡ None) × (table ≡ self.nest.names))
@@ -367,7 +544,7 @@ impl Cursor {
             search: _,
         } = self;
         if left > 0 {
-            return Err(fault_at(XmlKind::Truncated, place + left as u64));
+            return Err(fault_at(XmlKind::Truncated, place + left));
         }
         if !nest.is_outside() {
             return Err(fault_at(XmlKind::Truncated, place));

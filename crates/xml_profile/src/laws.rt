@@ -10,6 +10,11 @@ pub fn settled_is_first()
     ensures { (limits : Limits) (bytes more : List ℕ) (fault : XmlFault) → settled_fault limits bytes ≡ Some fault → first_fault limits (bytes ++ more) ≡ Some fault }
 {}
 
+/// A fault that is settled stays settled, however the input goes on.
+pub fn settled_stays()
+    ensures { (limits : Limits) (bytes more : List ℕ) (fault : XmlFault) → settled_fault limits bytes ≡ Some fault → settled_fault limits (bytes ++ more) ≡ Some fault }
+{}
+
 /// No document has want of memory as its fault: it is answered only where memory runs out.
 pub fn want_of_memory_is_no_fault()
     ensures settled { (limits : Limits) (bytes : List ℕ) (fault : XmlFault) → settled_fault limits bytes ≡ Some fault → fault ≢ WANT_OF_MEMORY }

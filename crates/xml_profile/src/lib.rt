@@ -6,5 +6,5 @@ mod cursor;
 mod laws;
 mod reader;
 
-pub use laws::{settled_is_first, want_of_memory_is_no_fault};
+pub use laws::{settled_is_first, settled_stays, want_of_memory_is_no_fault};
 pub use reader::Reader;

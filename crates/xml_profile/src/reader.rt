@@ -1,15 +1,15 @@
 ghost use Rattle.std.specs.Prelude.{◌≡◌, ◌≢◌, ◌++◌, List, [], ℕ, Some, None, Err, IfOk};
 ghost use Rattle.xml_state.specs.Events.{TakesAll};
-ghost use Rattle.xml_profile.specs.Readers.{HasRead, HasMemory, Answers, Tells, Ends, unread, fault_of_reader};
+ghost use Rattle.xml_profile.specs.Readers.{HasRead, HasMemory, Answers, Tells, Ends, unread, fault_of_reader, kept};
 ghost use Rattle.xml_profile.specs.Fields.{Feeds, EndsAt};
 
-use crate::cursor::{Cursor, Reading};
+use crate::cursor::{Cursor, Inside, Reading};
 use std::alloc::{AllocError, Global};
 use std::marker::Model;
 use xml_state::{Events, Limits, NameTable, XmlFault};
 
 /// Reads a document, in pieces, and tells a receiver what it holds. It keeps the bytes of the unfinished token and
-/// nothing else of the input.
+/// nothing else of the input: of an unfinished comment no byte, but which faults were seen.
 #[derive(Drop)]
 pub struct Reader {
     alloc: Global,
@@ -17,6 +17,8 @@ pub struct Reader {
     cursor: Cursor,
     // the bytes of what begins at the cursor and isn't a token yet
     rest: Vec<u8>,
+    // the comment that is open at the cursor, of which no byte is kept
+    comment: Option<Inside>,
     // the fault that was answered
     fault: Option<XmlFault>,
 }
@@ -28,9 +30,9 @@ impl Model for Reader {
 
     ghost use Rattle.xml_profile.specs.Fields.{progress_of, IsSound};
 
-    ghost view = { λ reader. progress_of reader.limits reader.fault reader.cursor reader.rest.items };
+    ghost view = { λ reader. progress_of reader.limits reader.fault reader.comment reader.cursor reader.rest.items };
 
-    ghost invariant = { λ reader. IsSound reader.limits reader.fault reader.cursor reader.rest.items };
+    ghost invariant = { λ reader. IsSound reader.limits reader.fault reader.comment reader.cursor reader.rest.items };
 }
 
 impl Reader {
@@ -43,6 +45,7 @@ impl Reader {
             limits,
             cursor: Cursor::new(alloc),
             rest: Vec::new(alloc),
+            comment: None,
             fault: None,
         })
     }
@@ -70,13 +73,25 @@ impl Reader {
             limits: self.limits,
             ended: false,
         };
-        match self.cursor.feed(reading, &mut self.rest, piece, events) {
+        match self
+            .cursor
+            .feed(reading, &mut self.comment, &mut self.rest, piece, events)
+        {
             Ok(()) => Ok(()),
             Err(fault) => {
+                self.rest.clear();
                 self.fault = Some(fault);
                 Err(fault)
             }
         }
+    }
+
+    /// How many bytes of the document are kept: those of the unfinished token, and none behind a finished one, inside a
+    /// comment or behind a fault.
+    pub fn kept(&self) -> usize
+        ensures { result ≡ kept self.now }
+    {
+        self.rest.as_slice().len()
     }
 
     /// Ends the document: its names, or its first fault. Where `feed` has answered a fault, it is answered again.
@@ -95,10 +110,14 @@ impl Reader {
             limits,
             mut cursor,
             rest,
+            comment,
             fault,
         } = self;
         if let Some(fault) = fault {
             return Err(fault);
+        }
+        if let Some(held) = comment {
+            return cursor.end(limits.bytes, held.came);
         }
         let reading = Reading {
             alloc,
@@ -106,7 +125,7 @@ impl Reader {
             ended: true,
         };
         match cursor.read(reading, &rest, events) {
-            Ok(left) => cursor.end(limits.bytes, left.len()),
+            Ok(left) => cursor.end(limits.bytes, left.len() as u64),
             Err(fault) => Err(fault),
         }
     }

@@ -1,59 +1,14 @@
 -- Names and numbers that stand twice.
-use Rattle.std.proofs.Common.{◌≡◌, ℕ, ◌+◌, ◌<◌, Bool, true, false, not, ◌||◌, List, [], ◌∷◌, ◌++◌, length, get_or, drop, map, refl, sym, ap, ◌∙◌, arith, if◌then◌else◌, bytes_eq, nat_eq}
-use Rattle.std.specs.Borrow.{Bor}
+use Rattle.std.proofs.Common.{◌≡◌, ℕ, Bool, true, false, ◌||◌, List, [], ◌∷◌, ◌++◌, map, refl, sym, ap, ◌∙◌, arith, bytes_eq, nat_eq}
 use Rattle.std.specs.List.{list_any}
-use Rattle.std.proofs.lemmas.List.{map-append, drop_more}
-use Rattle.std.proofs.lemmas.Bool.{true≢false}
-use Rattle.xml_tokens.specs.declared.token.Attribute.{Attribute}
-use Rattle.xml_tokens.specs.Seen.{seen_attribute}
 use Rattle.std.proofs.lemmas.Slice.Eq.{bytes_eq-Decides}
 use Rattle.std.proofs.lemmas.Bool.Decides.{same_from_decides, Decides-like, nat_tests}
 use Rattle.xml_state.specs.Admission.{has_twice}
-use Rattle.xml_state.specs.StartTags.{written_names, twice_behind}
+use Rattle.xml_state.specs.StartTags.{twice_behind}
 
 pub any-map : {X Y : Type 0} (p : Y → Bool) (f : X → Y) (xs : List X) → list_any p (map f xs) ≡ list_any (λ x. p (f x)) xs
 any-map p f [] = refl
 any-map p f (x ∷ xs) = ap (λ b. p (f x) || b) (any-map p f xs)
-
-abbrev now_of : List (Bor (List ℕ)) → List (List ℕ)
-now_of keys = map (λ (key : Bor (List ℕ)). key.now) keys
-
-looked : (attributes : List Attribute) (i : ℕ) (a : Attribute) (before : List (List ℕ)) (target : Bool) → i < length attributes → a ≡ get_or attributes i a
-    → twice_behind bytes_eq before (written_names (map seen_attribute (drop i attributes))) ≡ target
-    → (list_any (bytes_eq a.name.now) before || twice_behind bytes_eq (before ++ a.name.now ∷ []) (written_names (map seen_attribute (drop (i + 1) attributes)))) ≡ target
-looked attributes i a before target l e h =
-    ap (λ (x : Attribute). list_any (bytes_eq x.name.now) before || twice_behind bytes_eq (before ++ x.name.now ∷ []) (written_names (map seen_attribute (drop (i + 1) attributes)))) e
-    ∙ (sym (ap (λ x. twice_behind bytes_eq before (written_names (map seen_attribute x))) (drop_more attributes i a l)) ∙ h)
-
--- a name that is in the set already
-pub looked-found : (attributes : List Attribute) (i : ℕ) (a : Attribute) (keys : List (Bor (List ℕ))) (target added : Bool) → i < length attributes → a ≡ get_or attributes i a
-    → twice_behind bytes_eq (now_of keys) (written_names (map seen_attribute (drop i attributes))) ≡ target
-    → added ≡ not (list_any (λ (key : Bor (List ℕ)). bytes_eq a.name.now key.now) keys) → added ≡ false → true ≡ target
-looked-found attributes i a keys target added l e h is refused =
-    by (list_any (λ (key : Bor (List ℕ)). bytes_eq a.name.now key.now) keys) refl
-  where
-    by : (b : Bool) → list_any (λ (key : Bor (List ℕ)). bytes_eq a.name.now key.now) keys ≡ b → true ≡ target
-    by true t =
-        sym (ap (λ b. b || twice_behind bytes_eq (now_of keys ++ a.name.now ∷ []) (written_names (map seen_attribute (drop (i + 1) attributes)))) (any-map (bytes_eq a.name.now) (λ (key : Bor (List ℕ)). key.now) keys ∙ t))
-        ∙ looked attributes i a (now_of keys) target l e h
-    by false t = absurd (true≢false (sym (ap not t) ∙ (sym is ∙ refused)))
-
--- one that is new
-pub looked-new : (attributes : List Attribute) (i : ℕ) (a : Attribute) (keys more : List (Bor (List ℕ))) (target added : Bool) → i < length attributes → a ≡ get_or attributes i a
-    → twice_behind bytes_eq (now_of keys) (written_names (map seen_attribute (drop i attributes))) ≡ target
-    → added ≡ not (list_any (λ (key : Bor (List ℕ)). bytes_eq a.name.now key.now) keys) → added ≡ true
-    → more ≡ (if list_any (λ (key : Bor (List ℕ)). bytes_eq a.name.now key.now) keys then keys else keys ++ a.name ∷ [])
-    → twice_behind bytes_eq (now_of more) (written_names (map seen_attribute (drop (i + 1) attributes))) ≡ target
-looked-new attributes i a keys more target added l e h is accepted after =
-    by (list_any (λ (key : Bor (List ℕ)). bytes_eq a.name.now key.now) keys) refl
-  where
-    by : (b : Bool) → list_any (λ (key : Bor (List ℕ)). bytes_eq a.name.now key.now) keys ≡ b → twice_behind bytes_eq (now_of more) (written_names (map seen_attribute (drop (i + 1) attributes))) ≡ target
-    by true t = absurd (true≢false (sym (sym (ap not t) ∙ (sym is ∙ accepted))))
-    by false t =
-        ap (λ x. twice_behind bytes_eq (now_of x) (written_names (map seen_attribute (drop (i + 1) attributes)))) (after ∙ ap (λ (b : Bool). if b then keys else keys ++ a.name ∷ []) t)
-        ∙ (ap (λ x. twice_behind bytes_eq x (written_names (map seen_attribute (drop (i + 1) attributes)))) (map-append (λ (key : Bor (List ℕ)). key.now) keys (a.name ∷ []))
-        ∙ (sym (ap (λ b. b || twice_behind bytes_eq (now_of keys ++ a.name.now ∷ []) (written_names (map seen_attribute (drop (i + 1) attributes)))) (any-map (bytes_eq a.name.now) (λ (key : Bor (List ℕ)). key.now) keys ∙ t))
-        ∙ looked attributes i a (now_of keys) target l e h))
 
 -- Standing twice, by what stands before and by what stands behind.
 abbrev crosses_at : {A : Type 0} → (A → A → Bool) → List A → List A → Bool

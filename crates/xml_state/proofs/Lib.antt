@@ -1,10 +1,14 @@
 pub mod ListLemmas
+pub mod PlaceLemmas
 pub mod NameLemmas
 pub mod DistinctLemmas
 pub mod ScopeLemmas
+pub mod FoundLemmas
 pub mod WrittenLemmas
 pub mod DuplicateLemmas
+pub mod LookupLemmas
 pub mod NumberLemmas
+pub mod RecentLemmas
 pub mod NamingLemmas
 pub mod TellingLemmas
 pub mod NestLemmas

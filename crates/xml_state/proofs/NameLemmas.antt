@@ -1,5 +1,5 @@
 -- A table of names, kept as namespace names and pairs, as the list of names that contracts see.
-use Rattle.std.proofs.Common.{◌≡◌, ℕ, zero, suc, ◌+◌, ◌<◌, ◌≤◌, Bool, true, false, not, cond, nat_lt, ◌&&◌, ◌||◌, ◌==◌, List, [], ◌∷◌, ◌++◌, length, get_or, refl, sym, ap, subst, ◌∙◌, arith, string_bytes, chars, true≢false, Some, None, Result, Ok, Err, IfOk, OnOk, OnErr, option_map, position, if◌then◌else◌, inl, inr}
+use Rattle.std.proofs.Common.{◌≡◌, ℕ, zero, suc, ◌+◌, ◌<◌, ◌≤◌, Bool, true, false, not, cond, ◌&&◌, ◌||◌, ◌==◌, List, [], ◌∷◌, ◌++◌, length, get_or, refl, sym, ap, subst, ◌∙◌, arith, string_bytes, chars, true≢false, Some, None, Result, Ok, Err, IfOk, OnOk, OnErr, option_map, position, if◌then◌else◌, inl, inr}
 use Rattle.std.specs.Global.{Global}
 use Rattle.std.specs.Prelude.{String}
 use Rattle.std.specs.Str.{bytes_eq, IsUtf8}
@@ -13,12 +13,14 @@ use Rattle.std.proofs.lemmas.Bool.Decides.{nat_tests, same_from_decides, Decides
 use Rattle.std.proofs.lemmas.Slice.Eq.{bytes_eq-Decides}
 use Rattle.inv_base.specs.Tree.{Name}
 use Rattle.inv_base.proofs.TextLemmas.{same_chars}
-use Rattle.xml_state.specs.declared.names.Kept.{Kept}
+use Rattle.xml_state.specs.declared.kept.Kept.{Kept}
 use Rattle.xml_state.specs.Events.{name_at}
 use Rattle.xml_state.specs.Names.{same_name, find_name, number_of, with_name, AreDistinct}
+use Rattle.xml_state.specs.Places.{is_text, AddsText}
 use Rattle.xml_state.specs.NameTables.{space_at, name_of, names_of, IsSpace, AreApart, AreWithin, AreKept, TakesSpace, is_kept, KeepsOne, known, added}
 use Rattle.xml_state.proofs.DistinctLemmas.{distinct_kept}
 use Rattle.xml_state.proofs.DuplicateLemmas.{bytes_eq-flips}
+use Rattle.xml_state.proofs.PlaceLemmas.{position-cons, position-first, any-here, any-nowhere}
 
 -- texts are equal where their characters are, also the other way round
 same_text : (a b : List ℕ) → IsUtf8 a → IsUtf8 b → bytes_eq (chars a) (chars b) ≡ bytes_eq b a
@@ -86,24 +88,17 @@ pub takes-found : {E : Type 0} (spaces : List (String Global)) (uri : List ℕ) 
 takes-found spaces uri n apart h = record { apart = apart; more = []; grown = sym (append-nil spaces); number = space-found spaces uri n h }
 
 -- one that was added
-pub takes-new : {E : Type 0} (spaces after : List (String Global)) (uri : List ℕ) (space : String Global) (n : ℕ) (test : String Global → Bool) → AreApart spaces → IsUtf8 uri
-    → false ≡ list_any (λ (s : String Global). bytes_eq uri (string_bytes s)) spaces → string_bytes space ≡ uri → n ≡ length spaces
-    → ((s : String Global) → test s ≡ bytes_eq (string_bytes space) (string_bytes s)) → after ≡ (if list_any test spaces then spaces else spaces ++ space ∷ [])
+pub takes-new : {E : Type 0} (spaces after : List (String Global)) (uri : List ℕ) (n : ℕ) → AreApart spaces → IsUtf8 uri → None ≡ position (is_text uri) spaces → n ≡ length spaces → AddsText uri spaces after
     → TakesSpace {E = E} (Ok n) (chars uri) spaces after
-takes-new {E} spaces after uri space n test apart u absent same at tests is =
-    let none : list_any test spaces ≡ false = tested spaces ∙ sym absent in
-    let grown : after ≡ spaces ++ space ∷ [] = is ∙ ap (λ b. if b then spaces else spaces ++ space ∷ []) none in
+takes-new {E} spaces after uri n apart u absent at adds =
+    let space = adds.last in
     let l : length (spaces ++ space ∷ []) ≡ length spaces + 1 = length-append spaces (space ∷ []) in
-    subst (λ x. TakesSpace {E = E} (Ok n) (chars uri) spaces x) (sym grown) (record {
-      apart = apart-more spaces space apart (λ k h e. space-absent spaces uri u (sym absent) k h (e ∙ ap chars same));
+    subst (λ x. TakesSpace {E = E} (Ok n) (chars uri) spaces x) (sym adds.added) (record {
+      apart = apart-more spaces space apart (λ k h e. space-absent spaces uri u (any-nowhere (is_text uri) spaces (sym absent)) k h (e ∙ ap chars adds.is));
       more = space ∷ [];
       grown = refl;
-      number = record { within = omega (arith, at, l); is = space-last spaces space n at ∙ ap chars same };
+      number = record { within = omega (arith, at, l); is = space-last spaces space n at ∙ ap chars adds.is };
     })
-  where
-    tested : (xs : List (String Global)) → list_any test xs ≡ list_any (λ (s : String Global). bytes_eq uri (string_bytes s)) xs
-    tested [] = refl
-    tested (x ∷ xs) = ap (λ b. b || list_any test xs) (tests x ∙ ap (λ y. bytes_eq y (string_bytes x)) same) ∙ ap (λ b. bytes_eq uri (string_bytes x) || b) (tested xs)
 
 pub takes-none : {E : Type 0} (spaces after : List (String Global)) (uri : List ℕ) (error : E) → AreApart spaces → after ≡ spaces → TakesSpace (Err error) uri spaces after
 takes-none {E} spaces after uri error apart is =
@@ -148,12 +143,6 @@ tests-name spaces apart n uri local space u kept within =
     ∙ ap (λ b. bytes_eq (space_at spaces kept.space) uri && b) (sym (same_text (string_bytes kept.local) local (IsUtf8-string_bytes kept.local) u))
 
 module _ (spaces : List (String Global)) (test : Kept → Bool) (name : Name) (each : (kept : Kept) → kept.space < length spaces → test kept ≡ same_name (name_of spaces kept) name) where
-  position-cons : (k : Kept) (keys : List Kept) → test k ≡ false → position test (k ∷ keys) ≡ option_map (λ n. n + 1) (position test keys)
-  position-cons k keys e = grind (arith, nat_tests)
-
-  position-first : (k : Kept) (keys : List Kept) → test k ≡ true → position test (k ∷ keys) ≡ Some 0
-  position-first k keys e = grind (arith, nat_tests)
-
   place-cons : (k : Kept) (keys : List Kept) → test k ≡ false → position_or_len test (k ∷ keys) ≡ 1 + position_or_len test keys
   place-cons k keys e = grind (arith, nat_tests)
 
@@ -174,8 +163,8 @@ module _ (spaces : List (String Global)) (test : Kept → Bool) (name : Name) (e
   find_name-at (k ∷ keys) w = by (test k) refl (find_name-at keys w.1)
     where
       by : (b : Bool) → test k ≡ b → find_name name (names_of spaces keys) ≡ position test keys → find_name name (names_of spaces (k ∷ keys)) ≡ position test (k ∷ keys)
-      by true e rest = ap (λ b. if b then Some 0 else option_map (λ n. n + 1) (find_name name (names_of spaces keys))) (sym (each k w.0) ∙ e) ∙ sym (position-first k keys e)
-      by false e rest = ap (λ b. if b then Some 0 else option_map (λ n. n + 1) (find_name name (names_of spaces keys))) (sym (each k w.0) ∙ e) ∙ (ap (option_map (λ n. n + 1)) rest ∙ sym (position-cons k keys e))
+      by true e rest = ap (λ b. if b then Some 0 else option_map (λ n. n + 1) (find_name name (names_of spaces keys))) (sym (each k w.0) ∙ e) ∙ sym (position-first test k keys e)
+      by false e rest = ap (λ b. if b then Some 0 else option_map (λ n. n + 1) (find_name name (names_of spaces keys))) (sym (each k w.0) ∙ e) ∙ (ap (option_map (λ n. n + 1)) rest ∙ sym (position-cons test k keys e))
 
   -- a name that is there leaves the table as it was
   with_name-known : (keys : List Kept) → AreWithin (length spaces) keys → list_any test keys ≡ true → with_name (names_of spaces keys) name ≡ names_of spaces keys
@@ -201,53 +190,21 @@ module _ (spaces : List (String Global)) (test : Kept → Bool) (name : Name) (e
   pub not_found : (keys : List Kept) (names : List Name) → AreWithin (length spaces) keys → names_of spaces keys ≡ names → None ≡ position test keys → None ≡ find_name name names
   not_found keys names w view at = at ∙ (sym (find_name-at keys w) ∙ ap (find_name name) view)
 
--- The test of a name that is looked for, as it is kept.
-pub tests_kept : (test : Kept → Bool) (sought : Kept) (space : ℕ) (local : List ℕ) → sought.space ≡ space → string_bytes sought.local ≡ local
-    → ((k : Kept) → test k ≡ is_kept sought.space (string_bytes sought.local) k) → (k : Kept) → test k ≡ is_kept space local k
-tests_kept test sought space local a b tests k = tests k ∙ (ap (λ n. is_kept n (string_bytes sought.local) k) a ∙ ap (λ x. is_kept space x k) b)
-
-module _ (test other : Kept → Bool) (same : (k : Kept) → test k ≡ other k) where
-  any_same : (keys : List Kept) → list_any test keys ≡ list_any other keys
-  any_same [] = refl
-  any_same (k ∷ keys) = ap (λ b. b || list_any test keys) (same k) ∙ ap (λ b. other k || b) (any_same keys)
-
-  place_same : (keys : List Kept) → position_or_len test keys ≡ position_or_len other keys
-  place_same [] = refl
-  place_same (k ∷ keys) = ap (λ b. cond (not b) (1 + position_or_len test keys) 0) (same k) ∙ ap (λ n. cond (not (other k)) (1 + n) 0) (place_same keys)
-
-  find_same : (keys : List Kept) → position test keys ≡ position other keys
-  find_same keys = ap (λ n. cond (nat_lt n (length keys)) (Some n) None) (place_same keys)
-
-  pub found_place : (keys : List Kept) (i : ℕ) → Some i ≡ position test keys → i ≡ position_or_len other keys
-  found_place keys i at = sym (cond_some _ _ _ (sym at)).1 ∙ place_same keys
-
-  pub found_here : (keys : List Kept) (i : ℕ) → Some i ≡ position test keys → Some i ≡ position other keys
-  found_here keys i at = at ∙ find_same keys
-
-  pub found_nowhere : (keys : List Kept) → None ≡ position test keys → None ≡ position other keys
-  found_nowhere keys at = at ∙ find_same keys
-
-  pub still_known : (keys : List Kept) → true ≡ list_any test keys → list_any other keys ≡ true
-  still_known keys h = sym (h ∙ any_same keys)
-
-  pub still_new : (keys : List Kept) → false ≡ list_any test keys → list_any other keys ≡ false
-  still_new keys h = sym (h ∙ any_same keys)
-
 place_behind : (test : Kept → Bool) (keys : List Kept) → list_any test keys ≡ false → position_or_len test keys ≡ length keys
 place_behind test [] h = refl
 place_behind test (k ∷ keys) h =
     let p = or_false (test k) (list_any test keys) h in ap (λ b. cond (not b) (1 + position_or_len test keys) 0) p.0 ∙ (ap (λ n. 1 + n) (place_behind test keys p.1) ∙ (let e : 1 + length keys ≡ suc (length keys) = omega arith in e))
 
 -- the number of a new name is how many there are
-pub new_place : (test : Kept → Bool) (keys : List Kept) (i : ℕ) → list_any test keys ≡ false → i ≡ length keys → i ≡ position_or_len test keys
-new_place test keys i absent at = at ∙ sym (place_behind test keys absent)
+pub new_place : (test : Kept → Bool) (keys : List Kept) (i : ℕ) → None ≡ position test keys → i ≡ length keys → i ≡ position_or_len test keys
+new_place test keys i absent at = at ∙ sym (place_behind test keys (any-nowhere test keys (sym absent)))
 
--- a copy of what was looked for goes last
-pub added_behind : (space : ℕ) (local : List ℕ) (keys after : List Kept) (copy : Kept) (t : Kept → Bool) → list_any (is_kept space local) keys ≡ false → copy.space ≡ space → string_bytes copy.local ≡ local
-    → ((k : Kept) → t k ≡ is_kept copy.space (string_bytes copy.local) k) → after ≡ (if list_any t keys then keys else keys ++ copy ∷ []) → KeepsOne space local keys after
-added_behind space local keys after copy t absent a b tests is =
-    let none = any_same t (is_kept space local) (tests_kept t copy space local a b tests) keys ∙ absent in
-    subst (KeepsOne space local keys) (sym (is ∙ ap (λ x. if x then keys else keys ++ copy ∷ []) none)) (added copy absent a b)
+-- the number of one that is there is its place
+pub found_place : (test : Kept → Bool) (keys : List Kept) (i : ℕ) → Some i ≡ position test keys → i ≡ position_or_len test keys
+found_place test keys i at = sym (cond_some _ _ _ (sym at)).1
+
+pub still_known : (space : ℕ) (local : List ℕ) (keys : List Kept) (i : ℕ) → Some i ≡ position (is_kept space local) keys → KeepsOne space local keys keys
+still_known space local keys i at = known (any-here (is_kept space local) keys i (sym at))
 
 pub if_ok : {T E P : Type 0} (r : Result T E) → P → OnOk r P
 if_ok (Ok x) p = p
@@ -319,19 +276,16 @@ module _ {E : Type 0} (result : Result ℕ E) (old : List Name) (spaces grown : 
 
 -- What a look-up of a name says, by the number of its namespace name.
 module _ (spaces : List (String Global)) (keys : List Kept) (names : List Name) (n : ℕ) (uri : List ℕ) {local : List ℕ} (kept : AreKept spaces keys) (view : names_of spaces keys ≡ names)
-    (space : IsSpace spaces n uri) (u : IsUtf8 local) (test : Kept → Bool) (tests : (k : Kept) → test k ≡ is_kept n local k) where
-  pub sought-here : (i j : ℕ) → Some i ≡ position test keys → j ≡ i → Some j ≡ find_name (record { uri = uri; local = chars local }) names
+    (space : IsSpace spaces n uri) (u : IsUtf8 local) where
+  pub sought-here : (i j : ℕ) → Some i ≡ position (is_kept n local) keys → j ≡ i → Some j ≡ find_name (record { uri = uri; local = chars local }) names
   sought-here i j at same =
-      found_sought spaces (is_kept n local) (record { uri = uri; local = chars local }) (tests-name spaces kept.apart n uri local space u) keys i j names kept.within view
-      (found_here test (is_kept n local) tests keys i at) same
+      found_sought spaces (is_kept n local) (record { uri = uri; local = chars local }) (tests-name spaces kept.apart n uri local space u) keys i j names kept.within view at same
 
-  pub sought-nowhere : None ≡ position test keys → None ≡ find_name (record { uri = uri; local = chars local }) names
-  sought-nowhere at =
-      not_found spaces (is_kept n local) (record { uri = uri; local = chars local }) (tests-name spaces kept.apart n uri local space u) keys names kept.within view
-      (found_nowhere test (is_kept n local) tests keys at)
+  pub sought-nowhere : None ≡ position (is_kept n local) keys → None ≡ find_name (record { uri = uri; local = chars local }) names
+  sought-nowhere at = not_found spaces (is_kept n local) (record { uri = uri; local = chars local }) (tests-name spaces kept.apart n uri local space u) keys names kept.within view at
 
 -- A name in a namespace that isn't kept isn't in the table.
-module _ (spaces : List (String Global)) (uri local : List ℕ) (u : IsUtf8 uri) (absent : false ≡ list_any (λ (s : String Global). bytes_eq uri (string_bytes s)) spaces) where
+module _ (spaces : List (String Global)) (uri local : List ℕ) (u : IsUtf8 uri) (absent : None ≡ position (is_text uri) spaces) where
   abbrev lacking : Name
   lacking = record { uri = chars uri; local = chars local }
 
@@ -339,7 +293,7 @@ module _ (spaces : List (String Global)) (uri local : List ℕ) (u : IsUtf8 uri)
   differs kept h = by (bytes_eq (space_at spaces kept.space) (chars uri)) refl
     where
       by : (b : Bool) → bytes_eq (space_at spaces kept.space) (chars uri) ≡ b → same_name (name_of spaces kept) lacking ≡ false
-      by true e = absurd (space-absent spaces uri u (sym absent) kept.space h ((bytes_eq-Decides (space_at spaces kept.space) (chars uri)).0 e))
+      by true e = absurd (space-absent spaces uri u (any-nowhere (is_text uri) spaces (sym absent)) kept.space h ((bytes_eq-Decides (space_at spaces kept.space) (chars uri)).0 e))
       by false e = ap (λ b. b && bytes_eq (chars (string_bytes kept.local)) (chars local)) e
 
   none_there : (keys : List Kept) → AreWithin (length spaces) keys → find_name lacking (names_of spaces keys) ≡ None
@@ -366,5 +320,5 @@ within-kept n [] i key h w = cc
 within-kept n (k ∷ keys) zero key h w = let same : k ≡ key = cc in subst (λ (x : Kept). x.space < n) same w.0
 within-kept n (k ∷ keys) (suc i) key h w = within-kept n keys i key h w.1
 
-pub space-kept : (spaces : List (String Global)) (i : ℕ) (space : String Global) → slice_get spaces i ≡ Some space → chars (string_bytes space) ≡ space_at spaces i
-space-kept spaces i space h = sym (space-get spaces i space (slice_get_within spaces i space h) ∙ ap (λ s. chars (string_bytes s)) (get_or_from_slice_get spaces i space space h))
+pub space-kept : (spaces : List (String Global)) (i : ℕ) (space : String Global) → i < length spaces → space ≡ get_or spaces i space → chars (string_bytes space) ≡ space_at spaces i
+space-kept spaces i space h e = ap (λ s. chars (string_bytes s)) e ∙ sym (space-get spaces i space h)

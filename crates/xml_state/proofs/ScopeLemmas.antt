@@ -1,23 +1,24 @@
 -- The open elements, kept on stacks.
-use Rattle.std.proofs.Common.{take-take, length-take, ◌≡◌, ℕ, zero, suc, ◌+◌, ◌<◌, ◌≤◌, Bool, true, false, List, [], ◌∷◌, ◌++◌, length, take, drop, reverse, map, refl, sym, ap, ◌∙◌, arith, string_bytes, chars, Option, Some, None, subst, bytes_eq, if◌then◌else◌, Result, Ok, Err, OnOk, OnErr, IfOk}
+use Rattle.std.proofs.Common.{take-take, length-take, ◌≡◌, ℕ, zero, suc, ◌+◌, ◌<◌, ◌≤◌, Bool, true, false, not, List, [], ◌∷◌, ◌++◌, length, take, drop, reverse, map, refl, sym, ap, ◌∙◌, arith, string_bytes, chars, Option, Some, None, subst, bytes_eq, if◌then◌else◌, Result, Ok, Err, OnOk, OnErr, IfOk}
 use Rattle.std.specs.Global.{Global}
 use Rattle.std.specs.Prelude.{String}
 use Rattle.std.specs.List.{cons_option, position_or_len}
 use Rattle.std.specs.Borrow.{Bor}
 use Rattle.std.specs.Str.{IsUtf8}
+use Rattle.std.proofs.lemmas.Bool.{false≢true}
 use Rattle.std.proofs.lemmas.Slice.Eq.{bytes_eq-Decides}
-use Rattle.std.proofs.lemmas.List.{length-reverse, length-append, map-append, append_assoc, append-nil}
+use Rattle.std.proofs.lemmas.List.{length-reverse, length-append, take_all, map-append, append_assoc, append-nil}
 use Rattle.inv_base.specs.Tree.{Name}
 use Rattle.xml_tokens.specs.declared.token.Attribute.{Attribute}
 use Rattle.xml_tokens.specs.Markup.{Written}
 use Rattle.xml_tokens.specs.Seen.{seen_attribute}
-use Rattle.xml_state.specs.declared.names.Kept.{Kept}
+use Rattle.xml_state.specs.declared.kept.Kept.{Kept}
 use Rattle.xml_state.specs.declared.scopes.Bound.{Bound}
 use Rattle.xml_state.specs.declared.scopes.Frame.{Frame}
 use Rattle.xml_state.specs.NameTables.{space_at, names_of, AreApart, AreKept, TakesSpace, KeepsOne, is_kept}
 use Rattle.xml_state.specs.Names.{number_of, with_name}
 use Rattle.xml_state.specs.Namespaces.{Binding, xml, xml_uri, first_bindings, bound_uri, uri_of, declared_prefix, declared_binding, declared_bindings}
-use Rattle.xml_state.specs.Scopes.{InScope, seen_bound, bound_in, bindings_of, opened, in_scope, or_else, space_of, AreBelow, AreBound, inside_innermost, AreNested, around_innermost, AreScoped, Grows, Declares, Binds}
+use Rattle.xml_state.specs.Scopes.{InScope, seen_bound, bound_in, bindings_of, opened, in_scope, or_else, space_of, AreBelow, AreBound, BindsSpace, inside_innermost, AreNested, around_innermost, AreScoped, Grows, Declares, Binds}
 use Rattle.xml_state.specs.States.{Open, bindings_inside_innermost}
 use Rattle.xml_state.proofs.ListLemmas.{reverse-cons, reverse-push, map-map, map-reverse}
 use Rattle.xml_state.proofs.NameLemmas.{space-front, kept-behind, kept-grown, answers-number, answers-names, stays-kept}
@@ -68,7 +69,7 @@ opened-grown : (spaces grown more : List (String Global)) (frames : List Frame) 
 opened-grown spaces grown more frames written stack is b = ap (λ x. opened x frames written stack) is ∙ opened-more spaces more frames written stack b
 
 -- A search from the innermost binding.
-space_of-push : (prefix : List ℕ) (stack : List Bound) (bound : Bound) → space_of prefix (stack ++ bound ∷ []) ≡ (if bytes_eq (string_bytes bound.prefix) prefix then Some bound.space else space_of prefix stack)
+pub space_of-push : (prefix : List ℕ) (stack : List Bound) (bound : Bound) → space_of prefix (stack ++ bound ∷ []) ≡ (if bytes_eq (string_bytes bound.prefix) prefix then Some bound.space else space_of prefix stack)
 space_of-push prefix [] bound = refl
 space_of-push prefix (b ∷ stack) bound =
     ap (λ o. or_else o (if bytes_eq (string_bytes b.prefix) prefix then Some b.space else None)) (space_of-push prefix stack bound)
@@ -77,20 +78,6 @@ space_of-push prefix (b ∷ stack) bound =
     by : (e : Bool) (o other : Option ℕ) → or_else (if e then Some bound.space else o) other ≡ (if e then Some bound.space else or_else o other)
     by true o other = refl
     by false o other = refl
-
-pub space_of-found : (prefix : List ℕ) (stack others : List Bound) (bound : Bound) (target : Option ℕ) → stack ≡ others ++ bound ∷ [] → bytes_eq (string_bytes bound.prefix) prefix ≡ true
-    → space_of prefix stack ≡ target → Some bound.space ≡ target
-space_of-found prefix stack others bound target e t h =
-    sym (ap (λ b. if b then Some bound.space else space_of prefix others) t) ∙ (sym (ap (space_of prefix) e ∙ space_of-push prefix others bound) ∙ h)
-
-pub space_of-passed : (prefix : List ℕ) (stack others : List Bound) (bound : Bound) (target : Option ℕ) → stack ≡ others ++ bound ∷ [] → bytes_eq (string_bytes bound.prefix) prefix ≡ false
-    → space_of prefix stack ≡ target → space_of prefix others ≡ target
-space_of-passed prefix stack others bound target e t h =
-    sym (ap (λ b. if b then Some bound.space else space_of prefix others) t) ∙ (sym (ap (space_of prefix) e ∙ space_of-push prefix others bound) ∙ h)
-
-pub space_of-nothing : (prefix : List ℕ) (stack : List Bound) (target : Option ℕ) → length stack ≡ 0 → space_of prefix stack ≡ target → None ≡ target
-space_of-nothing prefix [] target n h = h
-space_of-nothing prefix (bound ∷ stack) target n h = absurd (omega arith)
 
 space-below : (n : ℕ) (prefix : List ℕ) (stack : List Bound) (space : ℕ) → AreBelow n stack → space_of prefix stack ≡ Some space → space < n
 space-below n prefix [] space b h = absurd (let e : None ≡ Some space = h in cc)
@@ -206,6 +193,13 @@ binds-one {T} {E} {F} spaces grown stack new n uri prefix areb takes bound value
           ∙ (ap (λ x. binding prefix x ∷ bindings_of grown stack) takes.number.is
           ∙ ap (λ x. binding prefix uri ∷ x) (bindings-grown spaces grown takes.more stack takes.grown areb.below)))));
     }
+
+-- a binding of a number, or none
+pub binds-result : {T E F : Type 0} (result : Result T F) (spaces grown : List (String Global)) (stack new : List Bound) (n : ℕ) (uri prefix : List ℕ) (areb : AreBound spaces stack) (takes : TakesSpace {E = E} (Ok n) uri spaces grown)
+    → OnOk result (BindsSpace prefix n stack new) → OnErr result (new ≡ stack) → Binds result (record { prefix = prefix; uri = uri }) spaces grown stack new
+binds-result {T} {E} {F} (Ok value) spaces grown stack new n uri prefix areb takes binds same = binds-one spaces grown stack new n uri prefix areb takes binds.bound value binds.named binds.numbered binds.pushed
+binds-result {T} {E} {F} (Err error) spaces grown stack new n uri prefix areb takes binds same =
+    let taken : Result ℕ E = Ok n in binds-none spaces grown stack new taken uri areb takes (record { prefix = prefix; uri = uri }) error same
 
 -- what attributes declare, one after another
 abbrev pub declared_after : List Binding → List Written → List Binding
@@ -323,6 +317,20 @@ take-cut zero stack more h = refl
 take-cut (suc n) [] more h = absurd (omega arith)
 take-cut (suc n) (bound ∷ stack) more h = ap (λ x. bound ∷ x) (take-cut n stack more (omega (arith, h)))
 
+-- Nothing is bound but what is bound inside the innermost.
+pub innermost-bound : (spaces : List (String Global)) (frames : List Frame) (written : List ℕ) (stack : List Bound) (keys : List Kept) (old : InScope) → in_scope frames written stack spaces keys ≡ old
+    → length stack ≡ inside_innermost (reverse frames) → old.bound ≡ bindings_inside_innermost old.open_elements
+innermost-bound spaces frames written stack keys old view at =
+    sym (ap (λ (s : InScope). s.bound) view)
+    ∙ (ap (bindings_of spaces) (sym (take_all (inside_innermost (reverse frames)) stack (omega (arith, at))))
+    ∙ (bindings-innermost spaces (reverse frames) written stack ∙ ap (λ (s : InScope). bindings_inside_innermost s.open_elements) view))
+
+-- Attributes that declare nothing change nothing in it.
+pub declared-same : (old : InScope) (attributes : List Written) (declares : Bool) → (declares ≡ false → declared_bindings attributes ≡ []) → not declares ≡ true → old.bound ≡ bindings_inside_innermost old.open_elements
+    → old.bound ≡ declared_bindings attributes ++ bindings_inside_innermost old.open_elements
+declared-same old attributes true h n e = absurd (false≢true n)
+declared-same old attributes false h n e = e ∙ ap (λ x. x ++ bindings_inside_innermost old.open_elements) (sym (h refl))
+
 pub cut-bound : (spaces : List (String Global)) (stack : List Bound) (inside : ℕ) → AreApart spaces → AreBelow (length spaces) stack → AreBound spaces (take inside stack)
 cut-bound spaces stack inside apart below = record { apart = apart; below = below-take (length spaces) inside stack below }
 
@@ -385,6 +393,16 @@ scoped-grown space uri frames written spaces grown stack keys scoped takes = rec
   kept = (kept-grown space uri spaces grown keys scoped.kept takes).0;
 }
 
+-- a namespace more changes nothing that is seen
+pub same-scope : {E : Type 0} (space : Result ℕ E) (uri : List ℕ) (frames : List Frame) (written : List ℕ) (spaces grown : List (String Global)) (stack : List Bound) (keys after : List Kept) (old : InScope)
+    → AreScoped frames written stack spaces keys → in_scope frames written stack spaces keys ≡ old → TakesSpace space uri spaces grown → after ≡ keys → in_scope frames written stack grown after ≡ old
+same-scope space uri frames written spaces grown stack keys after old scoped view takes same =
+    let all : List Open → List Binding → List Name → InScope = λ elements bindings names. record { open_elements = elements; bound = bindings; names = names } in
+    ap (in_scope frames written stack grown) same
+    ∙ (ap (λ x. all x (bindings_of grown stack) (names_of grown keys)) (opened-grown spaces grown takes.more (reverse frames) written stack takes.grown scoped.below)
+    ∙ (ap (λ x. all (opened spaces (reverse frames) written stack) x (names_of grown keys)) (bindings-grown spaces grown takes.more stack takes.grown scoped.below)
+    ∙ (ap (all (opened spaces (reverse frames) written stack) (bindings_of spaces stack)) (kept-grown space uri spaces grown keys scoped.kept takes).1 ∙ view)))
+
 -- a name more, by the number of its namespace
 module _ {E F : Type 0} (result : Result ℕ E) (frames : List Frame) (written : List ℕ) (spaces grown : List (String Global)) (stack : List Bound) (keys after : List Kept) (n : ℕ) (uri : List ℕ) {local : List ℕ} (old : InScope)
     (scoped : AreScoped frames written stack spaces keys) (view : in_scope frames written stack spaces keys ≡ old) (takes : TakesSpace {E = F} (Ok n) uri spaces grown) (u : IsUtf8 local) where
@@ -405,6 +423,13 @@ module _ {E F : Type 0} (result : Result ℕ E) (frames : List Frame) (written :
         below = all.below;
         kept = stays-kept result old.names spaces grown keys after n uri local scoped.kept names-view takes-it u keeps same;
       }
+
+  pub named-still : OnErr result (after ≡ keys) → OnErr result (in_scope frames written stack grown after ≡ old)
+  named-still same = by result same
+    where
+      by : (r : Result ℕ E) → OnErr r (after ≡ keys) → OnErr r (in_scope frames written stack grown after ≡ old)
+      by (Ok id) e = tt
+      by (Err error) e = let r : Result ℕ F = Ok n in same-scope r uri frames written spaces grown stack keys after old scoped view takes e
 
   pub named-number : IfOk result (λ id. id ≡ position_or_len (is_kept n local) keys) → IfOk result (λ id. id ≡ number_of named old.names)
   named-number = answers-number result old.names spaces grown keys after n uri local scoped.kept names-view takes-it u

@@ -1,6 +1,7 @@
 pub mod Events
 pub mod Names
 pub mod NameTables
+pub mod Places
 pub mod Documents
 pub mod Faults
 pub mod Namespaces
@@ -8,5 +9,6 @@ pub mod States
 pub mod Admission
 pub mod Taking
 pub mod Scopes
+pub mod Recent
 pub mod StartTags
 pub mod LineEnds

@@ -4,7 +4,7 @@ use Rattle.std.specs.Global.{Global}
 use Rattle.std.specs.List.{list_any}
 use Rattle.inv_base.specs.Tree.{Name}
 use Rattle.xml_state.specs.Names.{AreDistinct}
-use Rattle.xml_state.specs.declared.names.Kept.{Kept}
+use Rattle.xml_state.specs.declared.kept.Kept.{Kept}
 
 -- the namespace name of a number, in characters
 abbrev pub space_at : List (String Global) → ℕ → List ℕ

@@ -1,13 +1,14 @@
 -- The open elements as they are kept: their names as written on one stack of bytes, and the bindings on another, of which
 -- each has the number of its namespace name.
 use Rattle.std.specs.Prelude.{◌≡◌, ◌++◌, ℕ, ◌<◌, ◌≤◌, List, [], ◌∷◌, length, reverse, take, drop, string_bytes, bytes_eq, String, Option, Some, None, if◌then◌else◌, Result, OnOk}
+use Rattle.std.specs.BTreeMap.{BTreeMap, get_by_text}
 use Rattle.std.specs.Global.{Global}
 use Rattle.inv_base.specs.Tree.{Name}
 use Rattle.xml_tokens.specs.Markup.{Written}
 use Rattle.xml_state.specs.Namespaces.{Binding, first_bindings, declared_bindings}
 use Rattle.xml_state.specs.NameTables.{space_at, names_of, AreApart, AreKept}
 use Rattle.xml_state.specs.States.{Open}
-use Rattle.xml_state.specs.declared.names.Kept.{Kept}
+use Rattle.xml_state.specs.declared.kept.Kept.{Kept}
 use Rattle.xml_state.specs.declared.scopes.Bound.{Bound}
 use Rattle.xml_state.specs.declared.scopes.Frame.{Frame}
 
@@ -63,6 +64,31 @@ pub record AreBound (spaces : List (String Global)) (stack : List Bound) : Type 
   pub apart : AreApart spaces
   pub below : AreBelow (length spaces) stack
 
+-- numbers by prefix
+abbrev pub Shown : Type 0
+Shown = BTreeMap (String Global) ℕ
+
+-- Each binding keeps the number that its prefix has outside, the first bindings being outside the others.
+abbrev pub HaveHid : List Bound → List Bound → Type 0
+HaveHid outer [] = Unit {0}
+HaveHid outer (bound ∷ more) = (bound.hid ≡ space_of (string_bytes bound.prefix) outer) × HaveHid (outer ++ bound ∷ []) more
+
+-- Each prefix has the number that its innermost binding has.
+pub record AreFound (shown : Shown) (stack : List Bound) : Type 0 where
+  pub shows : (prefix : List ℕ) → get_by_text shown prefix ≡ space_of prefix stack
+  pub hid : HaveHid [] stack
+
+-- The prefix has this number now, or none, and each other the same as before.
+pub record Shows (prefix : List ℕ) (number : Option ℕ) (old new : Shown) : Type 0 where
+  pub changed : (other : List ℕ) → get_by_text new other ≡ (if bytes_eq prefix other then number else get_by_text old other)
+
+-- A binding of the prefix to the number stands upon the others.
+pub record BindsSpace (prefix : List ℕ) (space : ℕ) (old new : List Bound) : Type 0 where
+  pub bound : Bound
+  pub named : string_bytes bound.prefix ≡ prefix
+  pub numbered : bound.space ≡ space
+  pub pushed : new ≡ old ++ bound ∷ []
+
 -- how many bindings stand inside the innermost
 abbrev pub inside_innermost : List Frame → ℕ
 inside_innermost [] = 0
@@ -83,6 +109,11 @@ pub record AreScoped (frames : List Frame) (written : List ℕ) (stack : List Bo
   pub nested : AreNested (reverse frames) (length written) (length stack)
   pub below : AreBelow (length spaces) stack
   pub kept : AreKept spaces keys
+
+-- And what holds of the numbers by prefix.
+pub record AreSound (frames : List Frame) (written : List ℕ) (stack : List Bound) (shown : Shown) (spaces : List (String Global)) (keys : List Kept) : Type 0 where
+  pub scoped : AreScoped frames written stack spaces keys
+  pub found : AreFound shown stack
 
 -- The new stacks are the old ones, and perhaps more upon them.
 pub record Grows (spaces grown : List (String Global)) (old new : List Bound) : Type 0 where

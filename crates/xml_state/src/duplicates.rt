@@ -5,11 +5,12 @@ ghost use Rattle.xml_tokens.specs.Seen.{seen_attribute, seen_tag};
 ghost use Rattle.xml_state.specs.StartTags as spec;
 
 use crate::names::NameId;
-use indexmap::IndexSet;
 use std::alloc::{AllocError, Global};
+use std::collections::BTreeSet;
 use xml_tokens::{Attribute, StartTag};
 
-// So many are compared one with another; more are looked up in a set, which takes memory.
+// So many are compared one with another; more are looked up in a set, which takes memory. It is ordered, since no choice
+// of names makes a look-up in it slow.
 const FEW: usize = 16;
 
 // Whether two attributes of a tag are one, by the numbers of its names, of which the first is that of the element.
@@ -77,7 +78,7 @@ fn compares_names(attributes: &[Attribute<'_>]) -> bool
 fn looks_names_up(alloc: Global, attributes: &[Attribute<'_>]) -> Result<bool, AllocError>
     ensures { IfOk result (λ twice. twice ≡ spec.twice_behind bytes_eq [] (spec.written_names (map seen_attribute attributes.now))) }
 {
-    let mut names: IndexSet<&str> = IndexSet::new(alloc);
+    let mut names: BTreeSet<&str> = BTreeSet::new(alloc);
     for attribute in attributes {
         if !names.insert(attribute.name)? {
             return Ok(true);
@@ -112,7 +113,7 @@ fn compares_numbers(numbers: &[NameId]) -> bool
 fn looks_numbers_up(alloc: Global, numbers: &[NameId]) -> Result<bool, AllocError>
     ensures { IfOk result (λ twice. twice ≡ spec.twice_behind nat_eq [] numbers.now) }
 {
-    let mut seen: IndexSet<u32> = IndexSet::new(alloc);
+    let mut seen: BTreeSet<u32> = BTreeSet::new(alloc);
     for number in numbers {
         if !seen.insert(number.number())? {
             return Ok(true);

@@ -5,12 +5,16 @@
 mod duplicates;
 mod events;
 mod fault;
+mod kept;
 mod limits;
 mod names;
 mod naming;
 mod nest;
 mod numbering;
+mod recent;
+mod registry;
 mod scopes;
+mod spaces;
 mod tags;
 mod telling;
 mod text;

@@ -1,10 +1,11 @@
-ghost use Rattle.std.specs.Prelude.{◌≡◌, ℕ, ◌<◌, [], length, chars, string_bytes, IfOk, OnOk, OnErr, IsTrue, ◌↔◌};
+ghost use Rattle.std.specs.Prelude.{◌≡◌, ℕ, ◌<◌, [], length, chars, IfOk, OnOk, OnErr, IsTrue, ◌↔◌};
 ghost use Rattle.xml_state.specs.Events.{name_at};
 ghost use Rattle.std.specs.List.{position_or_len};
 ghost use Rattle.xml_state.specs.NameTables as spec;
 ghost use Rattle.xml_state.specs.Names.{find_name, AreDistinct};
 
-use indexmap::IndexSet;
+use crate::kept::KeptNames;
+use crate::spaces::Spaces;
 use std::alloc::{AllocError, Global};
 use std::marker::Model;
 
@@ -42,50 +43,12 @@ impl NameId {
     }
 }
 
-// An expanded name: the number of its namespace name, and its local name.
-#[derive(PartialEq, Eq, Hash, Drop)]
-pub(crate) struct Kept {
-    space: usize,
-    local: String,
-}
-
-impl Kept {
-    pub(crate) fn new(alloc: Global) -> Kept
-        ensures { string_bytes result.local ≡ [] }
-    {
-        Kept {
-            space: 0,
-            local: String::new(alloc),
-        }
-    }
-
-    fn set(&mut self, space: usize, local: &str) -> Result<(), AllocError>
-        ensures space { OnOk result (self.new.space ≡ space) }
-        ensures local { OnOk result (string_bytes self.new.local ≡ local.now) }
-    {
-        self.space = space;
-        self.local.clear();
-        self.local.push_str(local)?;
-        Ok(())
-    }
-
-    fn copy(&self, alloc: Global) -> Result<Kept, AllocError>
-        ensures space { IfOk result (λ kept. kept.space ≡ self.now.space) }
-        ensures local { IfOk result (λ kept. string_bytes kept.local ≡ string_bytes self.now.local) }
-    {
-        Ok(Kept {
-            space: self.space,
-            local: String::from_str(alloc, self.local.as_str())?,
-        })
-    }
-}
-
 /// The expanded names of a document, numbered in first-seen order.
 #[derive(Drop)]
 pub struct NameTable {
     // Each namespace name once, empty for none: it may be far longer than the names in it.
-    spaces: IndexSet<String>,
-    names: IndexSet<Kept>,
+    spaces: Spaces,
+    names: KeptNames,
 }
 
 impl Model for NameTable {
@@ -96,25 +59,25 @@ impl Model for NameTable {
 
     ghost use Rattle.xml_state.specs.NameTables.{names_of, AreKept};
 
-    ghost view = { λ table. names_of table.spaces.keys table.names.keys };
+    ghost view = { λ table. names_of table.spaces table.names };
 
-    ghost invariant = { λ table. AreKept table.spaces.keys table.names.keys };
+    ghost invariant = { λ table. AreKept table.spaces table.names };
 }
 
 // The number of a namespace name, which is added where it is new.
 pub(crate) fn number_space(
-    spaces: &mut IndexSet<String>,
+    spaces: &mut Spaces,
     alloc: Global,
     uri: &str,
 ) -> Result<usize, AllocError>
-    requires { spec.AreApart spaces.old.keys }
-    ensures { spec.TakesSpace result (chars uri.now) spaces.old.keys spaces.new.keys }
+    requires { spec.AreApart spaces.old }
+    ensures { spec.TakesSpace result (chars uri.now) spaces.old spaces.new }
 {
-    match spaces.get_index_of(uri) {
+    match spaces.find(uri) {
         Some(n) => Ok(n),
         None => {
             let n = spaces.len();
-            spaces.insert(String::from_str(alloc, uri)?)?;
+            spaces.push(alloc, uri)?;
             Ok(n)
         }
     }
@@ -122,31 +85,29 @@ pub(crate) fn number_space(
 
 // The number of a name by the number of its namespace, which is added where it is new.
 pub(crate) fn number_kept(
-    names: &mut IndexSet<Kept>,
-    sought: &mut Kept,
+    names: &mut KeptNames,
     alloc: Global,
     space: usize,
     local: &str,
 ) -> Result<NameId, AllocError>
-    ensures number { IfOk result (λ id. id ≡ position_or_len (spec.is_kept space local.now) names.old.keys) }
-    ensures names { OnOk result (spec.KeepsOne space local.now names.old.keys names.new.keys) }
-    ensures err { OnErr result (names.new.keys ≡ names.old.keys) }
+    ensures number { IfOk result (λ id. id ≡ position_or_len (spec.is_kept space local.now) names.old) }
+    ensures names { OnOk result (spec.KeepsOne space local.now names.old names.new) }
+    ensures err { OnErr result (names.new ≡ names.old) }
 {
-    sought.set(space, local)?;
-    match names.get_index_of(&*sought) {
+    match names.find(space, local) {
         Some(index) => NameId::at(index),
         None => {
             let id = NameId::at(names.len())?;
-            names.insert(sought.copy(alloc)?)?;
+            names.push(alloc, space, local)?;
             Ok(id)
         }
     }
 }
 
 impl NameTable {
-    pub(crate) fn of(spaces: IndexSet<String>, names: IndexSet<Kept>) -> NameTable
-        requires { spec.AreKept spaces.keys names.keys }
-        ensures { result ≡ spec.names_of spaces.keys names.keys }
+    pub(crate) fn of(spaces: Spaces, names: KeptNames) -> NameTable
+        requires { spec.AreKept spaces names }
+        ensures { result ≡ spec.names_of spaces names }
     {
         NameTable { spaces, names }
     }
@@ -176,12 +137,11 @@ impl NameTable {
     pub fn find(&self, alloc: Global, uri: &str, local: &str) -> Result<Option<NameId>, AllocError>
         ensures { IfOk result (λ id. id ≡ find_name (record { uri = chars uri.now; local = chars local.now }) self.now) }
     {
-        let Some(space) = self.spaces.get_index_of(uri) else {
+        let _ = alloc;
+        let Some(space) = self.spaces.find(uri) else {
             return Ok(None);
         };
-        let mut sought = Kept::new(alloc);
-        sought.set(space, local)?;
-        match self.names.get_index_of(&sought) {
+        match self.names.find(space, local) {
             Some(index) => Ok(Some(NameId::at(index)?)),
             None => Ok(None),
         }
@@ -192,8 +152,8 @@ impl NameTable {
         requires { id < length self.now }
         ensures { chars result.now ≡ (name_at self.now id).uri }
     {
-        let kept = &self.names[id.number as usize];
-        self.spaces[kept.space].as_str()
+        let kept = self.names.at(id.number as usize);
+        self.spaces.at(kept.space)
     }
 
     /// The local name of a name of the table.
@@ -201,6 +161,6 @@ impl NameTable {
         requires { id < length self.now }
         ensures { chars result.now ≡ (name_at self.now id).local }
     {
-        self.names[id.number as usize].local.as_str()
+        self.names.at(id.number as usize).local.as_str()
     }
 }

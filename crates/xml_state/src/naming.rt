@@ -6,7 +6,7 @@ ghost use Rattle.xml_state.specs.StartTags as spec;
 use crate::duplicates::is_duplicated;
 use crate::names::NameId;
 use crate::numbering::number_tag;
-use crate::scopes::Scopes;
+use crate::registry::Registry;
 use crate::tags::has_undeclared_prefix;
 use std::alloc::{AllocError, Global};
 use xml_tokens::{StartTag, XmlKind};
@@ -15,7 +15,7 @@ use xml_tokens::{StartTag, XmlKind};
 // Answers the kind of the first fault of its names.
 pub(crate) fn read_names(
     alloc: Global,
-    scopes: &mut Scopes,
+    scopes: &mut Registry,
     numbers: &mut Vec<NameId>,
     tag: &StartTag<'_>,
 ) -> Result<Option<XmlKind>, AllocError>

@@ -13,7 +13,7 @@ use crate::fault::XmlFault;
 use crate::limits::Limits;
 use crate::names::{NameId, NameTable};
 use crate::naming::read_names;
-use crate::scopes::Scopes;
+use crate::registry::Registry;
 use crate::tags::{has_bad_namespace, has_long_name, is_long};
 use crate::telling::tell_and_open;
 use crate::text::{end_lines, has_carriage_return};
@@ -26,7 +26,7 @@ use xml_tokens::{Position, StartTag, Token, XmlKind};
 /// What stands behind tokens.
 #[derive(Drop)]
 pub struct Nest {
-    scopes: Scopes,
+    scopes: Registry,
     // The numbers of the names of the tag that is read, in place, so that they take no memory at each tag.
     numbers: Vec<NameId>,
     position: Position,
@@ -49,7 +49,7 @@ impl Nest {
         ensures { result ≡ spec.begin }
     {
         Nest {
-            scopes: Scopes::new(alloc),
+            scopes: Registry::new(alloc),
             numbers: Vec::new(alloc),
             position: Position::AtStart,
             root_seen: false,

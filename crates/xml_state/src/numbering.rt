@@ -5,15 +5,15 @@ ghost use Rattle.xml_state.specs.StartTags as spec;
 ghost use Rattle.xml_state.specs.States.{with_names};
 
 use crate::names::NameId;
-use crate::scopes::Scopes;
-use crate::written::{is_plain, parts_of};
+use crate::registry::Registry;
+use crate::written::is_plain;
 use std::alloc::{AllocError, Global};
 use xml_tokens::{Attribute, StartTag};
 
 // Numbers the name of an attribute, unless it is a declaration.
 fn number_one(
     alloc: Global,
-    scopes: &mut Scopes,
+    scopes: &mut Registry,
     attribute: &Attribute<'_>,
     numbers: &mut Vec<NameId>,
 ) -> Result<(), AllocError>
@@ -23,15 +23,14 @@ fn number_one(
     if !is_plain(attribute.name) {
         return Ok(());
     }
-    let (prefix, local) = parts_of(attribute.name);
-    let number = scopes.number_attribute(alloc, prefix, local)?;
+    let number = scopes.number_attribute(alloc, attribute.name)?;
     numbers.push(number)?;
     Ok(())
 }
 
 fn number_attributes(
     alloc: Global,
-    scopes: &mut Scopes,
+    scopes: &mut Registry,
     attributes: &[Attribute<'_>],
     numbers: &mut Vec<NameId>,
 ) -> Result<(), AllocError>
@@ -47,7 +46,7 @@ fn number_attributes(
 // Numbers the names of a tag, that of the element first.
 pub(crate) fn number_tag(
     alloc: Global,
-    scopes: &mut Scopes,
+    scopes: &mut Registry,
     tag: &StartTag<'_>,
     numbers: &mut Vec<NameId>,
 ) -> Result<(), AllocError>
@@ -55,8 +54,7 @@ pub(crate) fn number_tag(
     ensures numbers { OnOk result (numbers.new.items ≡ spec.numbers_from scopes.old.names (spec.tag_names scopes.old.bound (seen_tag tag.now))) }
 {
     numbers.clear();
-    let (prefix, local) = parts_of(tag.name);
-    let number = scopes.number_element(alloc, prefix, local)?;
+    let number = scopes.number_element(alloc, tag.name)?;
     numbers.push(number)?;
     number_attributes(alloc, scopes, &tag.attributes, numbers)
 }

@@ -1,6 +1,7 @@
 //! The open elements: the names of their tags as written, and the namespaces that are bound inside them. And the
 //! expanded names that were seen.
-ghost use Rattle.std.specs.Prelude.{◌≡◌, ◌≤◌, ◌==◌, [], ◌∷◌, ◌++◌, map, length, drop, chars, is_none, IfOk, OnOk, bytes_eq};
+ghost use Rattle.std.specs.Prelude.{◌≡◌, ◌≤◌, ◌==◌, [], ◌∷◌, ◌++◌, map, length, take, drop, true, false, chars, string_bytes, is_none, IfOk, OnOk, OnErr, IsSome, bytes_eq};
+ghost use Rattle.std.specs.BTreeMap.{get_by_text};
 ghost use Rattle.std.proofs.Common.{reverse};
 ghost use Rattle.xml_tokens.specs.Seen.{seen_attribute};
 ghost use Rattle.xml_state.specs.NameTables as tables;
@@ -9,20 +10,24 @@ ghost use Rattle.xml_state.specs.Namespaces as namespaces;
 ghost use Rattle.xml_state.specs.Scopes as spec;
 ghost use Rattle.xml_state.specs.States as states;
 
-use crate::names::{Kept, NameId, NameTable, number_kept, number_space};
-use crate::written::{declared_prefix, text_of};
-use indexmap::IndexSet;
+use crate::kept::KeptNames;
+use crate::names::{NameId, NameTable, number_kept, number_space};
+use crate::spaces::Spaces;
+use crate::written::{declared_prefix, is_plain, text_of};
 use std::alloc::{AllocError, Global};
+use std::collections::BTreeMap;
 use std::marker::Model;
 use xml_tokens::Attribute;
 
 pub(crate) const XML_URI: &str = "http://www.w3.org/XML/1998/namespace";
 
-// A prefix, empty for the default namespace, and the number of the name that it stands for, which is empty for none.
+// A prefix, empty for the default namespace, the number of the name that it stands for, which is empty for none, and the
+// number that it has outside, where it is bound there.
 #[derive(Drop)]
 struct Bound {
     prefix: String,
     space: usize,
+    hid: Option<usize>,
 }
 
 // An open element: where its name begins among those of all, and how many bindings there are inside it.
@@ -37,22 +42,23 @@ struct Frame {
 pub(crate) struct Scopes {
     written: Vec<u8>,
     bindings: Vec<Bound>,
+    // The number of each prefix that is bound, by its innermost binding. An ordered map, since no choice of prefixes makes
+    // a look-up in it slow.
+    shown: BTreeMap<String, usize>,
     frames: Vec<Frame>,
     // Each namespace name once, since it may be far longer than the names in it. Bindings and names have its number.
-    spaces: IndexSet<String>,
-    names: IndexSet<Kept>,
-    // The name that is looked for, in place, so that a look-up takes no memory.
-    sought: Kept,
+    spaces: Spaces,
+    names: KeptNames,
 }
 
 impl Model for Scopes {
-    ghost use Rattle.xml_state.specs.Scopes.{InScope, in_scope, AreScoped};
+    ghost use Rattle.xml_state.specs.Scopes.{InScope, in_scope, AreSound};
 
     ghost Value = { InScope };
 
-    ghost view = { λ scopes. in_scope scopes.frames.items scopes.written.items scopes.bindings.items scopes.spaces.keys scopes.names.keys };
+    ghost view = { λ scopes. in_scope scopes.frames.items scopes.written.items scopes.bindings.items scopes.spaces scopes.names };
 
-    ghost invariant = { λ scopes. AreScoped scopes.frames.items scopes.written.items scopes.bindings.items scopes.spaces.keys scopes.names.keys };
+    ghost invariant = { λ scopes. AreSound scopes.frames.items scopes.written.items scopes.bindings.items scopes.shown scopes.spaces scopes.names };
 }
 
 impl Scopes {
@@ -63,10 +69,10 @@ impl Scopes {
         Scopes {
             written: Vec::new(alloc),
             bindings: Vec::new(alloc),
+            shown: BTreeMap::new(alloc),
             frames: Vec::new(alloc),
-            spaces: IndexSet::new(alloc),
-            names: IndexSet::new(alloc),
-            sought: Kept::new(alloc),
+            spaces: Spaces::new(alloc),
+            names: KeptNames::new(alloc),
         }
     }
 
@@ -98,10 +104,18 @@ impl Scopes {
     pub fn is_unbound(&self, prefix: &str) -> bool
         ensures { result ≡ is_none (namespaces.bound_uri prefix.now self.now.bound) }
     {
-        match bound_space(&self.bindings, prefix) {
+        match bound_space(&self.shown, prefix) {
             Some(_) => false,
             None => is_unknown(prefix),
         }
+    }
+
+    // Whether what is bound is already what the attributes of a tag declare inside the innermost open element: they
+    // declare nothing, and no element was closed whose bindings are still there.
+    pub fn is_declared(&self, attributes: &[Attribute<'_>]) -> bool
+        ensures { result ≡ true → self.now.bound ≡ namespaces.declared_bindings (map seen_attribute attributes.now) ++ states.bindings_inside_innermost self.now.open_elements }
+    {
+        self.bindings.len() == bindings_inside(&self.frames) && !declares(attributes)
     }
 
     // Binds what the attributes of a tag declare, inside the innermost open element.
@@ -111,8 +125,14 @@ impl Scopes {
         ensures names { OnOk result (self.new.names ≡ self.old.names) }
     {
         let inside = bindings_inside(&self.frames);
-        self.bindings.truncate(inside);
-        declare_all(alloc, &mut self.spaces, &mut self.bindings, attributes)
+        unbind_to(&mut self.shown, &mut self.bindings, inside);
+        declare_all(
+            alloc,
+            &mut self.spaces,
+            &mut self.shown,
+            &mut self.bindings,
+            attributes,
+        )
     }
 
     // The number of the name of an element, which is added where it is new.
@@ -124,9 +144,10 @@ impl Scopes {
     ) -> Result<NameId, AllocError>
         ensures number { IfOk result (λ id. id ≡ number_of (record { uri = namespaces.uri_of self.old.bound prefix.now; local = chars local.now }) self.old.names) }
         ensures names { OnOk result (self.new ≡ record self.old { names = with_name self.old.names (record { uri = namespaces.uri_of self.old.bound prefix.now; local = chars local.now }) }) }
+        ensures err { OnErr result (self.new ≡ self.old) }
     {
-        let space = number_prefix(alloc, &mut self.spaces, &self.bindings, prefix)?;
-        number_kept(&mut self.names, &mut self.sought, alloc, space, local)
+        let space = number_prefix(alloc, &mut self.spaces, &self.shown, &self.bindings, prefix)?;
+        number_kept(&mut self.names, alloc, space, local)
     }
 
     // The number of the name of an attribute, which the default namespace doesn't reach.
@@ -138,9 +159,16 @@ impl Scopes {
     ) -> Result<NameId, AllocError>
         ensures number { IfOk result (λ id. id ≡ number_of (record { uri = namespaces.attribute_uri self.old.bound prefix.now; local = chars local.now }) self.old.names) }
         ensures names { OnOk result (self.new ≡ record self.old { names = with_name self.old.names (record { uri = namespaces.attribute_uri self.old.bound prefix.now; local = chars local.now }) }) }
+        ensures err { OnErr result (self.new ≡ self.old) }
     {
-        let space = number_attribute_prefix(alloc, &mut self.spaces, &self.bindings, prefix)?;
-        number_kept(&mut self.names, &mut self.sought, alloc, space, local)
+        let space = number_attribute_prefix(
+            alloc,
+            &mut self.spaces,
+            &self.shown,
+            &self.bindings,
+            prefix,
+        )?;
+        number_kept(&mut self.names, alloc, space, local)
     }
 
     // The names that were seen.
@@ -150,10 +178,10 @@ impl Scopes {
         let Scopes {
             written: _,
             bindings: _,
+            shown: _,
             frames: _,
             spaces,
             names,
-            sought: _,
         } = self;
         NameTable::of(spaces, names)
     }
@@ -161,7 +189,8 @@ impl Scopes {
     // Opens an element, in which all is bound that was declared.
     pub fn open(&mut self, name: &str) -> Result<(), AllocError>
         ensures open { OnOk result (self.new.open_elements ≡ record { name = name.now; bindings = self.old.bound } ∷ self.old.open_elements) }
-        ensures names { OnOk result (self.new.names ≡ self.old.names) }
+        ensures bound { self.new.bound ≡ self.old.bound }
+        ensures names { self.new.names ≡ self.old.names }
     {
         let frame = Frame {
             name_at: self.written.len(),
@@ -175,6 +204,7 @@ impl Scopes {
     // Closes the innermost open element, where there is one.
     pub fn close(&mut self)
         ensures open { self.new.open_elements ≡ spec.around_innermost self.old.open_elements }
+        ensures bound { self.new.bound ≡ self.old.bound }
         ensures names { self.new.names ≡ self.old.names }
     {
         if let Some(frame) = self.frames.pop() {
@@ -201,18 +231,58 @@ fn bindings_inside(frames: &[Frame]) -> usize
     }
 }
 
-// The number of the name that a prefix stands for by the innermost binding of it, where it has one.
-fn bound_space(bindings: &[Bound], prefix: &str) -> Option<usize>
-    ensures { result ≡ spec.space_of prefix.now bindings.now }
+// Whether some attribute is a declaration.
+fn declares(attributes: &[Attribute<'_>]) -> bool
+    ensures { result ≡ false → namespaces.declared_bindings (map seen_attribute attributes.now) ≡ [] }
 {
-    let mut outer = bindings;
-    'search: while let Some((bound, others)) = outer.split_last() {
-        if bound.prefix.as_str() == prefix {
-            return Some(bound.space);
+    for attribute in attributes {
+        if !is_plain(attribute.name) {
+            return true;
         }
-        outer = others;
     }
-    None
+    false
+}
+
+// The number of the name that a prefix stands for by the innermost binding of it, where it has one.
+fn bound_space(shown: &BTreeMap<String, usize>, prefix: &str) -> Option<usize>
+    ensures { result ≡ get_by_text shown.now prefix.now }
+{
+    shown.get(prefix).copied()
+}
+
+// Ends a binding that was the innermost: its prefix has the number again that it has outside.
+fn unbind(shown: &mut BTreeMap<String, usize>, bound: Bound)
+    requires { IsSome (get_by_text shown.old (string_bytes bound.prefix)) }
+    ensures { spec.Shows (string_bytes bound.prefix) bound.hid shown.old shown.new }
+{
+    let Bound {
+        prefix,
+        space: _,
+        hid,
+    } = bound;
+    match hid {
+        Some(space) => match shown.insert(prefix, space) {
+            Ok(_) => {}
+            Err(_) => unreachable!(),
+        },
+        None => {
+            let _ = shown.remove(prefix.as_str());
+        }
+    }
+}
+
+// Ends all bindings but so many, the innermost first.
+fn unbind_to(shown: &mut BTreeMap<String, usize>, bindings: &mut Vec<Bound>, inside: usize)
+    requires { spec.AreFound shown.old bindings.old.items }
+    ensures items { bindings.new.items ≡ take inside bindings.old.items }
+    ensures found { spec.AreFound shown.new bindings.new.items }
+{
+    'bindings: while bindings.len() > inside {
+        let Some(bound) = bindings.pop() else {
+            return;
+        };
+        unbind(shown, bound);
+    }
 }
 
 // Whether a prefix stands for no name outside all elements.
@@ -232,17 +302,19 @@ fn known_uri(prefix: &str) -> &'static str
     }
 }
 
-// The number of the name that a prefix stands for, empty where it isn't bound.
+// The number of the name that a prefix stands for, empty where it isn't bound. The bindings are read by the clauses alone.
 fn number_prefix(
     alloc: Global,
-    spaces: &mut IndexSet<String>,
+    spaces: &mut Spaces,
+    shown: &BTreeMap<String, usize>,
     bindings: &[Bound],
     prefix: &str,
 ) -> Result<usize, AllocError>
-    requires { spec.AreBound spaces.old.keys bindings.now }
-    ensures { tables.TakesSpace result (namespaces.uri_of (spec.bindings_of spaces.old.keys bindings.now) prefix.now) spaces.old.keys spaces.new.keys }
+    requires bound { spec.AreBound spaces.old bindings.now }
+    requires found { spec.AreFound shown.now bindings.now }
+    ensures { tables.TakesSpace result (namespaces.uri_of (spec.bindings_of spaces.old bindings.now) prefix.now) spaces.old spaces.new }
 {
-    match bound_space(bindings, prefix) {
+    match bound_space(shown, prefix) {
         Some(space) => Ok(space),
         None => number_space(spaces, alloc, known_uri(prefix)),
     }
@@ -251,47 +323,62 @@ fn number_prefix(
 // The number of the name that the prefix of an attribute stands for: the default namespace doesn't reach attributes.
 fn number_attribute_prefix(
     alloc: Global,
-    spaces: &mut IndexSet<String>,
+    spaces: &mut Spaces,
+    shown: &BTreeMap<String, usize>,
     bindings: &[Bound],
     prefix: &str,
 ) -> Result<usize, AllocError>
-    requires { spec.AreBound spaces.old.keys bindings.now }
-    ensures { tables.TakesSpace result (namespaces.attribute_uri (spec.bindings_of spaces.old.keys bindings.now) prefix.now) spaces.old.keys spaces.new.keys }
+    requires bound { spec.AreBound spaces.old bindings.now }
+    requires found { spec.AreFound shown.now bindings.now }
+    ensures { tables.TakesSpace result (namespaces.attribute_uri (spec.bindings_of spaces.old bindings.now) prefix.now) spaces.old spaces.new }
 {
     if prefix.is_empty() {
         number_space(spaces, alloc, "")
     } else {
-        number_prefix(alloc, spaces, bindings, prefix)
+        number_prefix(alloc, spaces, shown, bindings, prefix)
     }
 }
 
 // Binds what the attributes declare, the last first: the first of them is to be found first.
 fn declare_all(
     alloc: Global,
-    spaces: &mut IndexSet<String>,
+    spaces: &mut Spaces,
+    shown: &mut BTreeMap<String, usize>,
     bindings: &mut Vec<Bound>,
     attributes: &[Attribute<'_>],
 ) -> Result<(), AllocError>
-    requires { spec.AreBound spaces.old.keys bindings.old.items }
-    ensures { spec.Declares result (map seen_attribute attributes.now) spaces.old.keys spaces.new.keys bindings.old.items bindings.new.items }
+    requires bound { spec.AreBound spaces.old bindings.old.items }
+    requires found { spec.AreFound shown.old bindings.old.items }
+    ensures declares { spec.Declares result (map seen_attribute attributes.now) spaces.old spaces.new bindings.old.items bindings.new.items }
+    ensures found { spec.AreFound shown.new bindings.new.items }
 {
     for attribute in attributes.iter().rev() {
-        declare_one(alloc, spaces, bindings, attribute)?;
+        declare_one(alloc, spaces, shown, bindings, attribute)?;
     }
     Ok(())
 }
 
 fn declare_one(
     alloc: Global,
-    spaces: &mut IndexSet<String>,
+    spaces: &mut Spaces,
+    shown: &mut BTreeMap<String, usize>,
     bindings: &mut Vec<Bound>,
     attribute: &Attribute<'_>,
 ) -> Result<(), AllocError>
-    requires { spec.AreBound spaces.old.keys bindings.old.items }
-    ensures { spec.Declares result (seen_attribute attribute.now ∷ []) spaces.old.keys spaces.new.keys bindings.old.items bindings.new.items }
+    requires bound { spec.AreBound spaces.old bindings.old.items }
+    requires found { spec.AreFound shown.old bindings.old.items }
+    ensures declares { spec.Declares result (seen_attribute attribute.now ∷ []) spaces.old spaces.new bindings.old.items bindings.new.items }
+    ensures found { spec.AreFound shown.new bindings.new.items }
 {
     match declared_prefix(attribute.name) {
-        Some(prefix) => bind(alloc, spaces, bindings, prefix, text_of(&attribute.value)),
+        Some(prefix) => bind(
+            alloc,
+            spaces,
+            shown,
+            bindings,
+            prefix,
+            text_of(&attribute.value),
+        ),
         None => Ok(()),
     }
 }
@@ -299,19 +386,38 @@ fn declare_one(
 // Binds a prefix to a name inside all others.
 fn bind(
     alloc: Global,
-    spaces: &mut IndexSet<String>,
+    spaces: &mut Spaces,
+    shown: &mut BTreeMap<String, usize>,
     bindings: &mut Vec<Bound>,
     prefix: &str,
     uri: &str,
 ) -> Result<(), AllocError>
-    requires { spec.AreBound spaces.old.keys bindings.old.items }
-    ensures { spec.Binds result (record { prefix = prefix.now; uri = chars uri.now }) spaces.old.keys spaces.new.keys bindings.old.items bindings.new.items }
+    requires bound { spec.AreBound spaces.old bindings.old.items }
+    requires found { spec.AreFound shown.old bindings.old.items }
+    ensures binds { spec.Binds result (record { prefix = prefix.now; uri = chars uri.now }) spaces.old spaces.new bindings.old.items bindings.new.items }
+    ensures found { spec.AreFound shown.new bindings.new.items }
 {
     let space = number_space(spaces, alloc, uri)?;
-    let bound = Bound {
-        prefix: String::from_str(alloc, prefix)?,
-        space,
-    };
-    bindings.push(bound)?;
+    bind_space(alloc, shown, bindings, prefix, space)
+}
+
+// Binds a prefix to the number of a name inside all others.
+fn bind_space(
+    alloc: Global,
+    shown: &mut BTreeMap<String, usize>,
+    bindings: &mut Vec<Bound>,
+    prefix: &str,
+    space: usize,
+) -> Result<(), AllocError>
+    requires { spec.AreFound shown.old bindings.old.items }
+    ensures ok { OnOk result (spec.BindsSpace prefix.now space bindings.old.items bindings.new.items) }
+    ensures err { OnErr result (bindings.new.items ≡ bindings.old.items) }
+    ensures found { spec.AreFound shown.new bindings.new.items }
+{
+    let key = String::from_str(alloc, prefix)?;
+    let prefix = String::from_str(alloc, prefix)?;
+    bindings.reserve(1)?;
+    let hid = shown.insert(key, space)?;
+    bindings.push_reserved(Bound { prefix, space, hid });
     Ok(())
 }

@@ -8,8 +8,9 @@ ghost use Rattle.xml_state.specs.Namespaces as namespaces;
 ghost use Rattle.xml_state.specs.StartTags as tags;
 
 use crate::limits::Limits;
-use crate::scopes::{Scopes, XML_URI};
-use crate::written::{declared_prefix, is_plain, parts_of, says_nothing, text_of};
+use crate::registry::Registry;
+use crate::scopes::XML_URI;
+use crate::written::{declared_prefix, is_plain, says_nothing, text_of};
 use inv_base::is_same_text;
 use xml_tokens::{Attribute, StartTag};
 
@@ -98,18 +99,11 @@ pub(crate) fn has_bad_namespace(attributes: &[Attribute<'_>]) -> bool
     false
 }
 
-fn is_undeclared(scopes: &Scopes, name: &str) -> bool
-    ensures { result ≡ namespaces.is_undeclared scopes.now.bound name.now }
-{
-    let (prefix, _) = parts_of(name);
-    scopes.is_unbound(prefix)
-}
-
-fn has_undeclared_attribute(scopes: &Scopes, attributes: &[Attribute<'_>]) -> bool
+fn has_undeclared_attribute(scopes: &Registry, attributes: &[Attribute<'_>]) -> bool
     ensures { result ≡ list_any (λ (attribute : Written). namespaces.is_undeclared scopes.now.bound attribute.name) (namespaces.undeclaring (map seen_attribute attributes.now)) }
 {
     for attribute in attributes {
-        if is_plain(attribute.name) && is_undeclared(scopes, attribute.name) {
+        if is_plain(attribute.name) && scopes.is_undeclared_attribute(attribute.name) {
             return true;
         }
     }
@@ -117,8 +111,8 @@ fn has_undeclared_attribute(scopes: &Scopes, attributes: &[Attribute<'_>]) -> bo
 }
 
 // Whether some prefix of the tag isn't bound.
-pub(crate) fn has_undeclared_prefix(scopes: &Scopes, tag: &StartTag<'_>) -> bool
+pub(crate) fn has_undeclared_prefix(scopes: &Registry, tag: &StartTag<'_>) -> bool
     ensures { result ≡ spec.has_undeclared_prefix scopes.now.bound (seen_tag tag.now) }
 {
-    is_undeclared(scopes, tag.name) || has_undeclared_attribute(scopes, &tag.attributes)
+    scopes.is_undeclared_element(tag.name) || has_undeclared_attribute(scopes, &tag.attributes)
 }

@@ -7,7 +7,7 @@ ghost use Rattle.xml_state.specs.Taking.{Tells};
 
 use crate::events::Events;
 use crate::names::NameId;
-use crate::scopes::Scopes;
+use crate::registry::Registry;
 use crate::written::{is_plain, text_of};
 use inv_base::Place;
 use std::alloc::AllocError;
@@ -56,7 +56,7 @@ fn tell_tag<E: Events>(
 
 // Tells a tag whose declarations are bound, and opens its element unless it is empty.
 pub(crate) fn tell_and_open<E: Events>(
-    scopes: &mut Scopes,
+    scopes: &mut Registry,
     tag: &StartTag<'_>,
     numbers: &[NameId],
     place: Place,

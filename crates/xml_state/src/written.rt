@@ -1,5 +1,5 @@
 //! Names and attributes as they are written.
-ghost use Rattle.std.specs.Prelude.{◌≡◌, ◌==◌, length, chars, option_map, is_none};
+ghost use Rattle.std.specs.Prelude.{◌≡◌, ◌==◌, length, chars, None, false, option_map, is_none};
 ghost use Rattle.xml_tokens.specs.Seen.{seen_value};
 ghost use Rattle.xml_tokens.specs.WrittenNames.{prefix_of, local_of};
 ghost use Rattle.xml_state.specs.Namespaces as spec;
@@ -17,10 +17,23 @@ pub(crate) fn parts_of(name: &str) -> (&str, &str)
     }
 }
 
+// Whether the name may be that of a declaration, by its first byte. Most names aren't, and need no further look.
+fn may_declare(name: &str) -> bool
+    ensures { result ≡ false → spec.declared_prefix name.now ≡ None }
+{
+    match name.as_bytes() {
+        [first, ..] => *first == b'x',
+        [] => false,
+    }
+}
+
 // The prefix that an attribute of this name declares, empty for the default namespace, where it is a declaration.
 pub(crate) fn declared_prefix(name: &str) -> Option<&str>
     ensures { option_map (λ prefix. prefix.now) result ≡ spec.declared_prefix name.now }
 {
+    if !may_declare(name) {
+        return None;
+    }
     if name == "xmlns" {
         return Some("");
     }

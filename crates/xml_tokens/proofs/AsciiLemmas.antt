@@ -5,7 +5,11 @@ use Rattle.std.specs.List.{list_all}
 use Rattle.std.proofs.lemmas.Str.{chars-IsAscii}
 use Rattle.std.proofs.lemmas.Str.Ascii.{IsAscii-nil, IsAscii-cons}
 use Rattle.std.proofs.lemmas.Bool.Decides.{nat_tests}
+use Rattle.std.proofs.lemmas.Bool.{false≢true}
 use Rattle.inv_base.proofs.TextLemmas.{both}
+use Rattle.inv_base.specs.Characters.{is_name_char, is_name_start}
+use Rattle.xml_tokens.specs.Ascii.{is_plain_name_char, is_plain_name_start, is_plain_ncname}
+use Rattle.xml_tokens.specs.WrittenNames.{is_ncname}
 
 low : (b : ℕ) → nat_lt b 128 ≡ true → b < 128
 low b h = grind (arith, nat_tests)
@@ -30,3 +34,15 @@ module _ (test : ℕ → Bool) where
   plain-all bytes text result same e h =
       let all : list_all is_plain text ≡ true = ap (list_all is_plain) (sym same) ∙ (sym e ∙ h) in
       h ∙ sym (ap (list_all test) (chars-IsAscii text (plain-ascii text all)) ∙ plain-test text all)
+
+-- an NCName of ASCII is one of characters
+plain-ncname-of : (bytes : List ℕ) → is_plain_ncname bytes ≡ true → is_ncname (chars bytes) ≡ true
+plain-ncname-of [] h = absurd (false≢true h)
+plain-ncname-of (b ∷ bytes) h =
+    let parts = both (is_plain_name_start b) (list_all is_plain_name_char bytes) h in
+    let first = both (nat_lt b 128) (is_name_start b) parts.0 in
+    ap is_ncname (chars-IsAscii (b ∷ bytes) (IsAscii-cons b bytes (low b first.0) (plain-ascii is_name_char bytes parts.1)))
+    ∙ (ap (λ t. t && list_all is_name_char bytes) first.1 ∙ plain-test is_name_char bytes parts.1)
+
+pub plain-ncname : (bytes text : List ℕ) (result : Bool) → bytes ≡ text → result ≡ is_plain_ncname bytes → result ≡ true → result ≡ is_ncname (chars text)
+plain-ncname bytes text result same e h = h ∙ sym (plain-ncname-of text (ap is_plain_ncname (sym same) ∙ (sym e ∙ h)))

@@ -69,16 +69,16 @@ lead b bytes h = chosen-false (nat_lt b 0x80) (grind (arith, nat_tests))
     chosen-false t e = ap (λ t. elim t [ true ↦ Character b 1 | false ↦ behind_lead b bytes ]) e
 
 -- the encoding by the size of the character
-encode-two : (c : ℕ) → 128 ≤ c → c < 2048 → encode c ≡ (192 + c / 64) ∷ ((128 + c % 64) ∷ [])
+pub encode-two : (c : ℕ) → 128 ≤ c → c < 2048 → encode c ≡ (192 + c / 64) ∷ ((128 + c % 64) ∷ [])
 unfolding encode
 encode-two c l h = passed (nat_lt c 128) _ _ (grind (arith, nat_tests)) ∙ chosen (nat_lt c 2048) _ _ (grind (arith, nat_tests))
 
-encode-three : (c : ℕ) → 2048 ≤ c → c < 65536 → encode c ≡ (224 + c / 4096) ∷ ((128 + (c / 64) % 64) ∷ ((128 + c % 64) ∷ []))
+pub encode-three : (c : ℕ) → 2048 ≤ c → c < 65536 → encode c ≡ (224 + c / 4096) ∷ ((128 + (c / 64) % 64) ∷ ((128 + c % 64) ∷ []))
 unfolding encode
 encode-three c l h =
     passed (nat_lt c 128) _ _ (grind (arith, nat_tests)) ∙ (passed (nat_lt c 2048) _ _ (grind (arith, nat_tests)) ∙ chosen (nat_lt c 65536) _ _ (grind (arith, nat_tests)))
 
-encode-four : (c : ℕ) → 65536 ≤ c → encode c ≡ (240 + c / 262144) ∷ ((128 + (c / 4096) % 64) ∷ ((128 + (c / 64) % 64) ∷ ((128 + c % 64) ∷ [])))
+pub encode-four : (c : ℕ) → 65536 ≤ c → encode c ≡ (240 + c / 262144) ∷ ((128 + (c / 4096) % 64) ∷ ((128 + (c / 64) % 64) ∷ ((128 + c % 64) ∷ [])))
 unfolding encode
 encode-four c l =
     passed (nat_lt c 128) _ _ (grind (arith, nat_tests)) ∙ (passed (nat_lt c 2048) _ _ (grind (arith, nat_tests)) ∙ passed (nat_lt c 65536) _ _ (grind (arith, nat_tests)))

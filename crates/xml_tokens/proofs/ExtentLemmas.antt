@@ -16,12 +16,12 @@ use Rattle.xml_tokens.specs.Beginnings.{Beginning, bad, later, of_length, extent
 use Rattle.xml_tokens.specs.declared.beginning.Position.{Position}
 use Rattle.xml_tokens.specs.declared.beginning.Position.TheVariants.{Farther}
 use Rattle.xml_tokens.specs.Seen.{Shows, shows_good, shows_bad, shows_later}
-use Rattle.xml_tokens.specs.Searching.{Searched, Fits, open_quote, quote_after}
+use Rattle.xml_tokens.specs.Searching.{Searched, Fits, IsSearched, Keeps, open_quote, quote_after}
 use Rattle.xml_tokens.specs.Told.{Tells, tells_token, tells_kind, IsRight, IsWrong, no_utf8, no_chars, beginning_of, are_chars, BeginsTag, begins_tag, ShowsTag, shows_tag, Ends, ends_behind, ends_not_within, ends_not_yet, shared_with_any, ends_inside_any}
 use Rattle.xml_tokens.specs.declared.scanning.TagEnd.TheVariants.{Behind, NoneWithin, NoneYet}
 use Rattle.xml_tokens.specs.declared.token.Token.{Token}
 use Rattle.xml_tokens.specs.declared.beginning.Beginning as code
-use Rattle.xml_tokens.specs.declared.beginning.Beginning.TheVariants.{Bad, Later}
+use Rattle.xml_tokens.specs.declared.beginning.Beginning.TheVariants.{Good, Bad, Later}
 
 -- Texts.
 pub right-text : (inside text : List ℕ) → text ≡ inside → IsUtf8 inside → are_chars text ≡ true → IsRight inside text
@@ -117,13 +117,17 @@ module _ (front string : List ℕ) (grammar : List ℕ → Result markup.Token X
   within-in : (s : Searched) (bytes : List ℕ) → Fits s (front ++ bytes) → s.searched - length front ≤ length bytes
   within-in s bytes fits = omega (arith, fits.within, length-append front bytes)
 
-  fits-out : (s : Searched) (bytes : List ℕ) → s.searched ≡ length front + length bytes → s.quote ≡ None → None ≡ place_of string bytes → Fits s (front ++ bytes)
-  fits-out s bytes e q none =
-      let all : take s.searched (front ++ bytes) ≡ front ++ bytes = take_all s.searched (front ++ bytes) (omega (arith, length-append front bytes)) in
+  searched-out : (s : Searched) (bytes : List ℕ) → s.searched ≡ length front + length bytes → s.quote ≡ None → None ≡ place_of string bytes → IsSearched s (front ++ bytes)
+  searched-out s bytes e q none =
+      let long : length (front ++ bytes) ≡ length front + length bytes = length-append front bytes in
+      let all : take s.searched (front ++ bytes) ≡ front ++ bytes = take_all s.searched (front ++ bytes) (omega (arith, long)) in
       record {
-        within = omega (arith, length-append front bytes);
-        in_vain = ap (beginning Farther false) all ∙ (computes bytes ∙ through-open string (length front) grammar bytes none);
-        quote = q ∙ sym (ap open_quote all ∙ unquoted bytes);
+        fits = record {
+          within = omega (arith, long);
+          in_vain = ap (beginning Farther false) all ∙ (computes bytes ∙ through-open string (length front) grammar bytes none);
+          quote = q ∙ sym (ap open_quote all ∙ unquoted bytes);
+        };
+        all = λ _. omega (arith, long);
       }
 
 abbrev comment_front : List ℕ
@@ -142,8 +146,8 @@ comment-vain = vain-in comment_front (codes "-->") markup.comment comment-comput
 pub comment-within : (s : Searched) (bytes : List ℕ) → Fits s (comment_front ++ bytes) → s.searched - 4 ≤ length bytes
 comment-within = within-in comment_front (codes "-->") markup.comment comment-computes comment-unquoted
 
-pub comment-out : (s : Searched) (bytes : List ℕ) → s.searched ≡ 4 + length bytes → s.quote ≡ None → None ≡ place_of (codes "-->") bytes → Fits s (comment_front ++ bytes)
-comment-out = fits-out comment_front (codes "-->") markup.comment comment-computes comment-unquoted
+pub comment-out : (s : Searched) (bytes : List ℕ) → s.searched ≡ 4 + length bytes → s.quote ≡ None → None ≡ place_of (codes "-->") bytes → IsSearched s (comment_front ++ bytes)
+comment-out = searched-out comment_front (codes "-->") markup.comment comment-computes comment-unquoted
 
 abbrev section_front : List ℕ
 section_front = 0x3C ∷ (0x21 ∷ (0x5B ∷ (0x43 ∷ (0x44 ∷ (0x41 ∷ (0x54 ∷ (0x41 ∷ (0x5B ∷ []))))))))
@@ -161,8 +165,8 @@ section-vain = vain-in section_front (codes "]]>") markup.section section-comput
 pub section-within : (s : Searched) (bytes : List ℕ) → Fits s (section_front ++ bytes) → s.searched - 9 ≤ length bytes
 section-within = within-in section_front (codes "]]>") markup.section section-computes section-unquoted
 
-pub section-out : (s : Searched) (bytes : List ℕ) → s.searched ≡ 9 + length bytes → s.quote ≡ None → None ≡ place_of (codes "]]>") bytes → Fits s (section_front ++ bytes)
-section-out = fits-out section_front (codes "]]>") markup.section section-computes section-unquoted
+pub section-out : (s : Searched) (bytes : List ℕ) → s.searched ≡ 9 + length bytes → s.quote ≡ None → None ≡ place_of (codes "]]>") bytes → IsSearched s (section_front ++ bytes)
+section-out = searched-out section_front (codes "]]>") markup.section section-computes section-unquoted
 
 abbrev instruction_front : List ℕ
 instruction_front = 0x3C ∷ (0x3F ∷ [])
@@ -180,8 +184,8 @@ instruction-vain = vain-in instruction_front (codes "?>") (markup.instruction fa
 pub instruction-within : (s : Searched) (bytes : List ℕ) → Fits s (instruction_front ++ bytes) → s.searched - 2 ≤ length bytes
 instruction-within = within-in instruction_front (codes "?>") (markup.instruction false) instruction-computes instruction-unquoted
 
-pub instruction-out : (s : Searched) (bytes : List ℕ) → s.searched ≡ 2 + length bytes → s.quote ≡ None → None ≡ place_of (codes "?>") bytes → Fits s (instruction_front ++ bytes)
-instruction-out = fits-out instruction_front (codes "?>") (markup.instruction false) instruction-computes instruction-unquoted
+pub instruction-out : (s : Searched) (bytes : List ℕ) → s.searched ≡ 2 + length bytes → s.quote ≡ None → None ≡ place_of (codes "?>") bytes → IsSearched s (instruction_front ++ bytes)
+instruction-out = searched-out instruction_front (codes "?>") (markup.instruction false) instruction-computes instruction-unquoted
 
 -- How far a tag was searched.
 abbrev tagged : TagEnd → List ℕ → Beginning
@@ -243,18 +247,30 @@ tag-in s bytes (begins_tag c rest e f) fits = by s.searched refl
           quote = fits.quote ∙ (ap (λ n. open_quote (take n (0x3C ∷ (c ∷ rest)))) h ∙ (tag-quote c (take k rest) e f ∙ sym (ap (λ n. quote_after None (take n (c ∷ rest))) some)));
         }
 
-pub tag-out : (s : Searched) (bytes : List ℕ) → BeginsTag bytes → s.searched ≡ 1 + length bytes → s.quote ≡ quote_after None bytes → tag_end bytes None 262143 ≡ none_yet → Fits s (0x3C ∷ bytes)
+pub tag-out : (s : Searched) (bytes : List ℕ) → BeginsTag bytes → s.searched ≡ 1 + length bytes → s.quote ≡ quote_after None bytes → tag_end bytes None 262143 ≡ none_yet → IsSearched s (0x3C ∷ bytes)
 tag-out s bytes (begins_tag c rest e f) h q none =
     let all : take s.searched (0x3C ∷ (c ∷ rest)) ≡ 0x3C ∷ (c ∷ rest) = take_all s.searched (0x3C ∷ (c ∷ rest)) (omega arith) in
     record {
-      within = omega arith;
-      in_vain = ap (beginning Farther false) all ∙ (tag-computes c rest e f ∙ ap (λ x. tagged x (c ∷ rest)) none);
-      quote = q ∙ sym (ap open_quote all ∙ tag-quote c rest e f);
+      fits = record {
+        within = omega arith;
+        in_vain = ap (beginning Farther false) all ∙ (tag-computes c rest e f ∙ ap (λ x. tagged x (c ∷ rest)) none);
+        quote = q ∙ sym (ap open_quote all ∙ tag-quote c rest e f);
+      };
+      all = λ _. omega arith;
     }
 
 -- What a tag shows by its end.
 pub tag-shown : (found : code.Beginning) (bytes inside : List ℕ) (n : ℕ) → tag_end bytes None 262143 ≡ behind n → inside ≡ take n bytes → ShowsTag found (n + 2) inside → Shows found (tag_at bytes)
 tag-shown found bytes inside n e f (shows_tag found' n' inside' shows) = subst (λ x. Shows found (tagged x bytes)) (sym e) (subst (λ x. Shows found (extent (n + 2) x tag)) f shows)
+
+shows-nothing : (x : Beginning) → Shows Later x → x ≡ later
+shows-nothing x shows_later = refl
+
+-- What has an end is a token or a fault, behind which nothing is kept.
+pub ended-kept : (found : code.Beginning) (s : Searched) (n : ℕ) (inside bytes : List ℕ) → ShowsTag found n inside → Keeps found s bytes
+ended-kept found s n inside bytes (shows_tag (Good token k) n' inside' shows) = tt
+ended-kept found s n inside bytes (shows_tag (Bad kind k) n' inside' shows) = tt
+ended-kept found s n inside bytes (shows_tag Later n' inside' shows) = absurd (extent-ended n inside tag (shows-nothing (extent n inside tag) shows))
 
 pub tag-too-far : (bytes : List ℕ) → tag_end bytes None 262143 ≡ none_within → Shows (Bad TagTooLong 262144) (tag_at bytes)
 tag-too-far bytes e = subst (λ x. Shows (Bad TagTooLong 262144) (tagged x bytes)) (sym e) (shows_bad TagTooLong 262144)

@@ -18,6 +18,11 @@ pub mod ExtentLemmas
 pub mod TokenLemmas
 pub mod LiteralLemmas
 pub mod CharacterLemmas
+pub mod CommentLemmas
+pub mod HyphenLemmas
+pub mod Utf8Lemmas
 pub mod RunLemmas
 pub mod PlainLemmas
 pub mod AsciiLemmas
+pub mod CalmLemmas
+pub mod FrontLemmas

@@ -8,6 +8,7 @@ pub mod Literals
 pub mod Markup
 pub mod Tags
 pub mod Beginnings
+pub mod Comments
 pub mod Searching
 pub mod Seen
 pub mod Told

@@ -12,7 +12,7 @@ pub enum Begun<C> {
     Unfinished,
 }
 
-fn is_within(low: u8, high: u8, byte: u8) -> bool
+pub fn is_within(low: u8, high: u8, byte: u8) -> bool
     ensures { result ≡ is_within low high byte }
 {
     low <= byte && byte <= high

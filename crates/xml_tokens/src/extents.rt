@@ -7,7 +7,7 @@ ghost use Rattle.xml_tokens.specs.Seen.{Shows};
 ghost use Rattle.xml_tokens.specs.Searching.{Fits, Keeps};
 ghost use Rattle.xml_tokens.specs.Told as told;
 
-use crate::ascii::are_plain_chars;
+use crate::ascii::are_calm;
 use crate::beginning::{Beginning, Position};
 use crate::kind::XmlKind;
 use crate::markup::{comment, instruction, section};
@@ -23,17 +23,17 @@ use std::str;
 const GREATEST_TAG: usize = 262_144;
 
 /// Whether all characters of the text are Chars.
-pub fn are_chars(text: &str) -> bool
+fn are_chars(text: &str) -> bool
     ensures { result ≡ told.are_chars text.now }
 {
     text.chars().all(|c| is_char(c))
 }
 
-/// The same, sooner for a text that is ASCII throughout.
-fn are_chars_of_markup(text: &str) -> bool
+/// The same, sooner for a text of calm bytes.
+pub fn are_all_chars(text: &str) -> bool
     ensures { result ≡ told.are_chars text.now }
 {
-    are_plain_chars(text.as_bytes()) || are_chars(text)
+    are_calm(text.as_bytes()) || are_chars(text)
 }
 
 /// What stands inside an extent as text, or why it is none.
@@ -41,7 +41,7 @@ fn text_of(inside: &[u8]) -> Result<&str, XmlKind>
     ensures { MatchResult result (λ text. told.IsRight inside.now text.now) (told.IsWrong inside.now) }
 {
     match str::from_utf8(inside) {
-        Ok(text) if are_chars_of_markup(text) => Ok(text),
+        Ok(text) if are_all_chars(text) => Ok(text),
         Ok(_) => Err(XmlKind::BadChar),
         Err(_) => Err(XmlKind::NotUtf8),
     }

@@ -6,6 +6,7 @@
 
 mod ascii;
 mod beginning;
+mod comments;
 mod declaration;
 mod encoding;
 mod extents;
@@ -22,6 +23,7 @@ mod token;
 mod values;
 
 pub use beginning::{Beginning, Position, what_begins};
+pub use comments::{ClosedComment, OpenComment};
 pub use kind::XmlKind;
 pub use run::run_at_front;
 pub use search::Search;

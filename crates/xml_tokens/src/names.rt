@@ -5,7 +5,7 @@ ghost use Rattle.inv_base.specs.Characters as characters;
 ghost use Rattle.xml_tokens.specs.WrittenNames as spec;
 ghost use Rattle.xml_tokens.specs.Told.{IsFirst};
 
-use crate::ascii::are_plain_name_chars;
+use crate::ascii::{are_plain_name_chars, is_plain_ncname};
 use inv_base::{is_name_char, is_name_start};
 
 /// The first character of a text, and what stands behind it.
@@ -23,8 +23,15 @@ fn are_name_chars(text: &str) -> bool
     are_plain_name_chars(text.as_bytes()) || text.chars().all(|c| is_name_char(c))
 }
 
-/// NCName.
+/// NCName, sooner for a name that is ASCII throughout.
 pub fn is_ncname(name: &str) -> bool
+    ensures { result ≡ spec.is_ncname (chars name.now) }
+{
+    is_plain_ncname(name.as_bytes()) || is_ncname_of_characters(name)
+}
+
+/// NCName, character by character.
+fn is_ncname_of_characters(name: &str) -> bool
     ensures { result ≡ spec.is_ncname (chars name.now) }
 {
     match first_of(name) {

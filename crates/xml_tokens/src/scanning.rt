@@ -94,11 +94,14 @@ fn quote_behind(quote: Option<u8>, byte: u8) -> Option<u8>
     }
 }
 
-/// Whether the byte changes nothing: no quote is open, and it stands behind `>` and the quotes in ASCII, as letters do.
+/// Whether the byte changes nothing: it is not the quote that is open, or where none is, neither `>` nor a quote.
 fn is_passed(quote: Option<u8>, byte: u8) -> bool
     ensures { result ≡ true → (spec.ends_tag quote byte ≡ false) × (quote ≡ spec.quote_behind quote byte) }
 {
-    quote.is_none() && byte > b'>'
+    match quote {
+        Some(open) => byte != open,
+        None => byte > b'>' || (byte < b'>' && !is_quote(byte)),
+    }
 }
 
 /// Where the tag ends, by the bytes behind its `<`, given that so many of them were searched in vain, behind which this

@@ -21,6 +21,7 @@ impl<'a> Model for Seq<'a> {
 }
 
 impl<'a> Seq<'a> {
+    /// The empty sequence.
     pub fn new(alloc: Global) -> Seq<'a>
         ensures { result ≡ [] }
     {
@@ -63,6 +64,7 @@ impl<'a> Seq<'a> {
         self.items.append(&mut items)
     }
 
+    /// Its items, in their order.
     pub fn as_slice(&self) -> &[Item<'a>]
         ensures { result.now ≡ self.now }
     {

@@ -31,6 +31,7 @@ impl<'a> Model for Str<'a> {
 }
 
 impl<'a> Str<'a> {
+    /// A text of the document or of the expression.
     pub fn lent(t: &'a str) -> Str<'a>
         ensures { result ≡ chars t.now }
     {
@@ -39,6 +40,7 @@ impl<'a> Str<'a> {
         }
     }
 
+    /// A text that was made.
     pub fn own(t: Txt) -> Str<'a>
         ensures { result ≡ t }
     {
@@ -63,6 +65,7 @@ impl<'a> Str<'a> {
         }
     }
 
+    /// The text itself.
     pub fn as_str(&self) -> &str
         ensures { chars result.now ≡ self.now }
     {

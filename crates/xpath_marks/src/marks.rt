@@ -47,6 +47,7 @@ impl Marks {
         self.nodes.len()
     }
 
+    /// The nodes, in document order.
     pub fn as_slice(&self) -> &[NodeId]
         ensures { result.now ≡ self.now }
     {

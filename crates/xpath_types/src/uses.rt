@@ -46,6 +46,7 @@ impl Uses {
         }
     }
 
+    /// Whether anything of the focus is used.
     pub fn is_any(self) -> bool
         ensures { result ≡ spec.uses_any self }
     {

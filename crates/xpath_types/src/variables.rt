@@ -40,6 +40,7 @@ impl Model for Variables {
 }
 
 impl Variables {
+    /// No variables.
     pub fn new(alloc: Global) -> Variables
         ensures { result ≡ [] }
     {
@@ -49,6 +50,7 @@ impl Variables {
         }
     }
 
+    /// How many are in scope.
     pub fn len(&self) -> usize
         ensures { result ≡ length self.now }
     {

@@ -9,14 +9,14 @@ use Rattle.schematron_faults.specs.Searching.{Goes}
 use Rattle.schematron_faults.specs.Things.{with_entries}
 use Rattle.schematron_faults.proofs.LoopLemmas.{items_turn, items_scope_turn, first_item}
 use Rattle.schematron_faults.proofs.RuleLemmas.{items_inside}
-use Rattle.schematron_faults.proofs.SearchLemmas.{goes_end}
+use Rattle.schematron_faults.proofs.SearchLemmas.{goes_end, goes_turned}
 use Rattle.schematron_faults.proofs.SeenLemmas.{seen_all, seen_items, seen_none, fewer}
 use Rattle.schematron_faults.proofs.patterns.judge_items.Goals as goal
 
 pub items-init : goal.items-init
 items-init c = record {
   goes = λ is u g. subst (λ (es : List Entry). Goes c.args.search.now u (written_items c.args.file.now (seen_instance c.args.instance.now) c.args.scopes.now.all c.args.scopes.now.pattern es))
-      (ap seen_all c.into_iter-e-iterator.ensures.into_iter_gives.0 ∙ c.in_ok-items.ensures) g;
+      (ap seen_all c.into_iter-e-iterator.ensures.into_iter_gives.0 ∙ c.in_ok-items.ensures) (goes_turned c.args.search.now u c.inside_within.new.left _ g);
   of_file = λ is. subst (AreItems c.args.file.now.entries) (sym (ap seen_all c.into_iter-e-iterator.ensures.into_iter_gives.0 ∙ c.in_ok-items.ensures)) (items_inside c.args.file.now c.args.instance.now.body is);
   pattern = ap (with_entries c.args.instance.now.params c.args.scopes.now.pattern) (ap seen_all c.into_iter-e-iterator.ensures.into_iter_gives.0 ∙ c.in_ok-items.ensures);
   rule = refl;

@@ -1,7 +1,7 @@
 use Rattle.std.proofs.Common.{◌<◌, ◌++◌, ◌∙◌, ℕ, ap, map, sym, subst}
 use Rattle.xpath_steps.specs.Variables.{ValuesWithin}
-use Rattle.schematron_rules.specs.Seen.{seen_rule}
 use Rattle.schematron_run.specs.Firsts.{entry, by_entry}
+use Rattle.schematron_run.specs.Ready.{ready_rule}
 use Rattle.schematron_run.specs.Scenes.{nodes_of, count}
 use Rattle.schematron_run.proofs.ListLemmas.{below_at, drop_item, flat_next-plain, flat_done-plain}
 use Rattle.schematron_run.proofs.nodes.judge_nodes.Goals as goal
@@ -19,7 +19,7 @@ judge_by_entry-requires-clause-variables g c = subst (ValuesWithin (count c.args
 pub nodes-preserved : goal.nodes-preserved
 nodes-preserved g c =
     let all = nodes_of c.args.scene.now in
-    let rules = map seen_rule c.args.rules.now in
+    let rules = map ready_rule c.args.rules.now in
     let n = c.n-item.result in (
       c.in_ok-judge_by_entry.ensures.env ∙ c.nodes.invariant.0,
       flat_next-plain (λ (n : ℕ). by_entry all c.args.env.now rules n (entry c.args.table.now n)) c.args.nodes.now c.nodes.n-index n c.nodes.findings c.judge_by_entry.new.findings
@@ -32,5 +32,5 @@ nodes-preserved g c =
 
 pub returns-clause-found : goal.returns-clause-found
 returns-clause-found g c =
-    flat_done-plain (λ (n : ℕ). by_entry (nodes_of c.args.scene.now) c.args.env.now (map seen_rule c.args.rules.now) n (entry c.args.table.now n)) c.args.nodes.now c.nodes.n-index c.nodes.findings
+    flat_done-plain (λ (n : ℕ). by_entry (nodes_of c.args.scene.now) c.args.env.now (map ready_rule c.args.rules.now) n (entry c.args.table.now n)) c.args.nodes.now c.nodes.n-index c.nodes.findings
     c.nodes-test.false c.nodes.invariant.1

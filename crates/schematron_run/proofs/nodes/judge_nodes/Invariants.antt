@@ -1,12 +1,12 @@
 use Rattle.std.proofs.Common.{◌≡◌, ◌++◌, ℕ, List, map, drop}
 use Rattle.schematron_findings.specs.declared.finding.Line.{Line}
 use Rattle.std.specs.List.{flat_map}
-use Rattle.schematron_rules.specs.Seen.{seen_rule}
 use Rattle.schematron_run.specs.Firsts.{entry, by_entry}
+use Rattle.schematron_run.specs.Ready.{ready_rule}
 use Rattle.schematron_run.specs.Scenes.{nodes_of}
 use Rattle.schematron_run.proofs.nodes.judge_nodes.Given as goal
 
 abbrev pub invariant-nodes : goal.invariant-nodes
 invariant-nodes g l =
-    let f : ℕ → List Line = λ n. by_entry (nodes_of l.scene) l.initial.env (map seen_rule l.rules) n (entry l.table n) in
+    let f : ℕ → List Line = λ n. by_entry (nodes_of l.scene) l.initial.env (map ready_rule l.rules) n (entry l.table n) in
     (l.env ≡ l.initial.env) × (l.findings ++ flat_map f (drop l.n-index l.nodes) ≡ l.initial.findings ++ flat_map f l.nodes)

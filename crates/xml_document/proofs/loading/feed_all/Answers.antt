@@ -48,4 +48,4 @@ returns-in-Err-feed-clause-stops g c = λ told is.
     let read = c.in-Ok.ensures in
     let long = length-take c.in-Ok.count c.read.new.buf in
     stops_with_piece (g.S.Shelf.view c.args.shelf.now) (g.S.Shelf.view c.pieces.shelf) (g.S.Shelf.view c.read.new.self) c.args.reader.now.limits c.pieces.reader _
-    (g.E.Events.taken c.args.events.now) (g.E.Events.taken c.pieces.events) c.pieces.invariant read.left (omega (arith, long, c.requires.few))
+    (g.E.Events.taken c.args.events.now) (g.E.Events.taken c.pieces.events) c.settled_stays.ensures c.pieces.invariant read.left (omega (arith, long, c.requires.few))

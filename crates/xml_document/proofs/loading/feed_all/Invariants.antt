@@ -1,5 +1,5 @@
 use Rattle.std.proofs.Common.{◌+◌, ◌-◌}
-use Rattle.xml_document.proofs.LengthLemmas.{bytes_read}
+use Rattle.xml_profile.specs.Keeping.{bytes_taken}
 use Rattle.xml_document.proofs.LoadLemmas.{Feeding}
 use Rattle.xml_document.proofs.loading.feed_all.Given as goal
 
@@ -8,4 +8,4 @@ abbrev pub invariant-pieces : goal.invariant-pieces
 invariant-pieces g l = Feeding (g.S.Shelf.view l.initial.shelf) (g.S.Shelf.view l.shelf) l.initial.reader.limits l.reader (g.E.Events.taken l.initial.events) (g.E.Events.taken l.events)
 
 abbrev pub decreases-pieces : goal.decreases-pieces
-decreases-pieces g l = l.reader.limits.bytes + 2 - bytes_read l.reader.stands
+decreases-pieces g l = l.reader.limits.bytes + 2 - bytes_taken l.reader.stands

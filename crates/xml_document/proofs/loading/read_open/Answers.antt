@@ -38,7 +38,7 @@ pub returns-clause-stops : goal.returns-clause-stops
 returns-clause-stops g c = λ told is.
     let limits = c.args.limits in
     let kept : c.feed_all.new.reader.limits ≡ limits = c.feed_all.ensures.limits ∙ ap (λ (p : Progress). p.limits) c.in_ok-reader.ensures in
-    stops_at_end limits (g.S.Shelf.view c.args.shelf.now).left _ c.feed_all.new.reader _ _ kept c.in-Ok.ensures.fed
+    stops_at_end limits (g.S.Shelf.view c.args.shelf.now).left _ c.feed_all.new.reader _ _ c.settled_stays.ensures kept c.in-Ok.ensures.fed
 
 pub returns-in-Ok-finish-clause-reads : goal.returns-in-Ok-finish-clause-reads
 returns-in-Ok-finish-clause-reads g c =

@@ -4,4 +4,4 @@ use Rattle.xml_state.proofs.NameLemmas.{name_at-kept}
 use Rattle.xml_state.proofs.names.NameTable.local.Goals as goal
 
 pub returns : goal.returns
-returns c = ap chars c.as_str.ensures.value ∙ ap (λ (name : Name). name.local) (name_at-kept _ _ _ c.index.result.now _ _ c.index.ensures c.self.view_is c.id.view_is)
+returns c = ap chars c.as_str.ensures.value ∙ ap (λ (name : Name). name.local) (name_at-kept _ _ _ c.at.result.now _ _ c.at.ensures c.self.view_is c.id.view_is)

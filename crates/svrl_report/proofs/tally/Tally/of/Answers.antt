@@ -1,0 +1,12 @@
+use Rattle.std.proofs.Common.{◌∙◌, ap, [], take, arith}
+use Rattle.svrl_report.specs.Plain.{tally_of}
+use Rattle.svrl_report.proofs.PlainLemmas.{one_behind, all_behind}
+use Rattle.svrl_report.proofs.tally.Tally.of.Goals as goal
+
+pub lines-preserved : goal.lines-preserved
+lines-preserved c =
+    c.with-tally.ensures (take c.lines.line-index c.args.lines.now) c.lines.invariant
+    ∙ ap tally_of (one_behind [] c.args.lines.now c.lines.line-index c.line-item.result c.lines-test.true c.line-item.is)
+
+pub returns : goal.returns
+returns c = c.lines.invariant ∙ ap tally_of (all_behind [] c.args.lines.now c.lines.line-index (omega (arith, c.lines-test.false)))

@@ -1,0 +1,10 @@
+mod NumberLemmas
+mod DigitLemmas
+mod SumLemmas
+mod ValueLemmas
+mod WordLemmas
+mod PlaceLemmas
+mod ListingLemmas
+mod HeadLemmas
+mod LineLemmas
+mod PutLemmas

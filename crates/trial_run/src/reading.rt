@@ -1,0 +1,129 @@
+//! Invoices written to memory, and read from it.
+ghost use Rattle.std.specs.Prelude.{◌≡◌, ◌∷◌, [], IfOk, Some, option_map};
+ghost use Rattle.node_arena.specs.Moves.{tree_nodes};
+ghost use Rattle.trial_run.specs.Memory as spec;
+
+use bind_run::{BindKind, Syntax, Tables, read_document, tables_are_laid, target, write};
+use bind_write::measure;
+use bumpalo::Bump;
+use code_lists::CodeLists;
+use inv_base::{MemShelf, MemSink};
+use inv_terms::Invoice;
+use node_arena::Doc;
+use std::alloc::{AllocError, Global};
+use xml_document::{LoadFault, load};
+use xml_state::Limits;
+
+/// How large a document may be.
+const LIMITS: Limits = Limits {
+    bytes: 16_777_216,
+    nodes: 1_000_000,
+    depth: 100,
+    attributes: 64,
+    name: 200,
+    names: 10_000,
+};
+
+/// The name under which a document is held in memory.
+const HELD: &str = "held";
+
+/// What it takes to read invoices and to write them.
+#[derive(Drop)]
+pub(crate) struct Means {
+    pub(crate) tables: Tables,
+    pub(crate) lists: CodeLists,
+}
+
+impl Means {
+    pub(crate) fn new(alloc: Global) -> Result<Means, AllocError>
+        ensures { IfOk result (λ means. spec.AreBuiltIn means) }
+    {
+        Ok(Means {
+            tables: Tables::built_in(alloc)?,
+            lists: CodeLists::built_in(alloc)?,
+        })
+    }
+}
+
+/// The bytes that an invoice is written as in a syntax, in exactly the room that they take.
+pub(crate) fn written(
+    alloc: Global,
+    invoice: &Invoice,
+    syntax: Syntax,
+    means: &Means,
+) -> Result<MemSink, AllocError>
+    requires { spec.AreBuiltIn means.now }
+    ensures { IfOk result (λ text. text.bytes ≡ spec.written syntax invoice.now) }
+{
+    tables_are_laid();
+    let table = means.tables.table(target(invoice, syntax));
+    let sizes = measure(invoice, table);
+    let mut text = MemSink::new(alloc, sizes.bytes as usize)?;
+    match write(invoice, table, &mut text) {
+        Ok(()) => Ok(text),
+        Err(_) => Err(AllocError),
+    }
+}
+
+/// Bytes as a file in memory.
+fn held(alloc: Global, bytes: &[u8]) -> Result<MemShelf, AllocError>
+    ensures { IfOk result (λ shelf. shelf.files ≡ (HELD.now, bytes.now) ∷ []) }
+{
+    let mut shelf = MemShelf::new(alloc);
+    shelf.add(HELD, bytes)?;
+    Ok(shelf)
+}
+
+/// The document that bytes are, if they are one.
+pub(crate) fn document_in<'a>(
+    alloc: Global,
+    bump: &'a Bump,
+    bytes: &[u8],
+) -> Result<Option<Doc<'a>>, AllocError>
+    ensures { IfOk result (λ doc. option_map tree_nodes doc ≡ spec.nodes_in bytes.now) }
+{
+    let mut shelf = held(alloc, bytes)?;
+    match load(alloc, bump, &mut shelf, HELD, LIMITS) {
+        Ok(doc) => Ok(Some(doc)),
+        Err(LoadFault::Refused(_)) => Ok(None),
+        Err(LoadFault::Read) | Err(LoadFault::Memory) => Err(AllocError),
+    }
+}
+
+/// The invoice that a document is; where there is none, one without entries.
+pub(crate) fn terms_in(
+    alloc: Global,
+    doc: &Option<Doc<'_>>,
+    means: &Means,
+) -> Result<Invoice, AllocError>
+    requires { spec.AreBuiltIn means.now }
+    ensures { IfOk result (λ invoice. invoice ≡ spec.terms_in (option_map tree_nodes doc.now)) }
+{
+    match doc {
+        Some(doc) => terms_of(alloc, doc, means),
+        None => Invoice::new(alloc),
+    }
+}
+
+fn terms_of(alloc: Global, doc: &Doc<'_>, means: &Means) -> Result<Invoice, AllocError>
+    requires { spec.AreBuiltIn means.now }
+    ensures { IfOk result (λ invoice. invoice ≡ spec.terms_in (Some (tree_nodes doc.now))) }
+{
+    match read_document(alloc, doc, &means.tables, &means.lists) {
+        Ok(read) => Ok(read.invoice),
+        Err(fault) => match fault.kind {
+            BindKind::Memory => Err(AllocError),
+            _ => Invoice::new(alloc),
+        },
+    }
+}
+
+/// The terms that bytes say.
+pub(crate) fn terms_read(alloc: Global, bytes: &[u8], means: &Means) -> Result<Invoice, AllocError>
+    requires { spec.AreBuiltIn means.now }
+    ensures { IfOk result (λ invoice. invoice ≡ spec.terms_read bytes.now) }
+{
+    let bump = Bump::new(alloc);
+    let doc = document_in(alloc, &bump, bytes)?;
+    terms_in(alloc, &doc, means)
+}

@@ -1,0 +1,7 @@
+use Rattle.std.proofs.Common.{◌≡◌, ℕ, ◌+◌, drop}
+use Rattle.xml_tokens.specs.Comments.{course}
+use Rattle.xml_tokens.proofs.comments.OpenComment.take.Given as goal
+
+-- what the bytes lead to is what those that are left lead to from here
+abbrev pub invariant-bytes : goal.invariant-bytes
+invariant-bytes l = (n : ℕ) → course n l.fn.self l.bytes ≡ course (n + l.i) l.self (drop l.i l.bytes)

@@ -78,7 +78,7 @@ each-both P Q [] h k = tt
 each-both P Q (x ∷ xs) h k = ((h.0, k.0), each-both P Q xs h.1 k.1)
 
 -- the elements of one are before those of the others, where their origins are
-rising-flat_map : {X Y : Type 0} (R : X → X → Type 0) (S : Y → Y → Type 0) (from : X → Y → Type 0) (f : X → List Y) → ((a b : X) (x y : Y) → R a b → from a x → from b y → S x y)
+pub rising-flat_map : {X Y : Type 0} (R : X → X → Type 0) (S : Y → Y → Type 0) (from : X → Y → Type 0) (f : X → List Y) → ((a b : X) (x y : Y) → R a b → from a x → from b y → S x y)
     → (xs : List X) → Rising R xs → Each (λ a. Rising S (f a) × Each (from a) (f a)) xs → Rising S (flat_map f xs)
 rising-flat_map R S from f later [] h k = tt
 rising-flat_map R S from f later (a ∷ xs) h k =

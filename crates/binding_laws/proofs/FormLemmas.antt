@@ -1,7 +1,9 @@
 -- What is written in a form is read by it: values as the model spells them, and days without dashes.
-use Rattle.std.proofs.Common.{◌≡◌, ℕ, ◌+◌, ◌/◌, ◌%◌, ◌^◌, ◌<◌, zero, suc, Bool, true, false, not, ◌&&◌, List, [], ◌∷◌, ◌++◌, Option, Some, None, refl, sym, ap, ◌∙◌, arith}
-use Rattle.std.specs.Prelude.{nat_le, if◌then◌else◌, option_map, option_and_then}
-use Rattle.std.specs.List.{list_all}
+use Rattle.std.proofs.Common.{◌≡◌, ℕ, ◌+◌, ◌/◌, ◌%◌, ◌^◌, ◌<◌, zero, suc, Bool, true, false, not, ◌&&◌, List, [], ◌∷◌, ◌++◌, ◌||◌, ◌⊎◌, inl, inr, Option, Some, None, refl, sym, ap, ◌∙◌, subst, arith}
+use Rattle.std.specs.Str.{bytes_eq}
+use Rattle.std.proofs.lemmas.Slice.Eq.{bytes_eq-Decides}
+use Rattle.std.specs.Prelude.{codes, nat_le, if◌then◌else◌, option_map, option_and_then}
+use Rattle.std.specs.List.{list_all, list_any}
 use Rattle.std.proofs.lemmas.Option.{same_Some}
 use Rattle.std.proofs.lemmas.Bool.{false≢true}
 use Rattle.std.proofs.lemmas.Bool.Decides.{nat_tests}
@@ -25,11 +27,12 @@ use Rattle.inv_terms.proofs.TrimLemmas.{HasEnds, trimmed-between}
 use Rattle.bind_rows.specs.declared.rows.Form.{Form}
 use Rattle.bind_rows.specs.declared.rows.Form.TheVariants as forms
 use Rattle.bind_meaning.specs.Values as meaning
-use Rattle.bind_meaning.specs.Values.{Said, letter_of, by_type, is_day, suits, form_for, said_in}
+use Rattle.bind_meaning.specs.Values.{Image, images, Said, letter_of, by_type, is_day, suits, form_for, said_in}
 use Rattle.bind_meaning.specs.Elements.{is_full}
 use Rattle.bind_meaning.specs.Writing as writing
 use Rattle.bind_meaning.specs.Writing.{formed}
 use Rattle.binding_laws.specs.Plain.{is_whole}
+use Rattle.binding_laws.specs.Covered.{is_imaged, is_read_back}
 
 both : (a b : Bool) → (a && b) ≡ true → (a ≡ true) × (b ≡ true)
 both true b h = (refl, h)
@@ -204,6 +207,21 @@ as-model law term es c value f =
       full = not-blank (spelled value) (value_of f.letter) value (blank-none f.letter) back;
     }
 
+-- a code has no white space around it
+code-trimmed : (text : List ℕ) (value : Value) → value_of letters.C text ≡ Some value → spelled value ≡ trimmed text
+unfolding value_of
+code-trimmed text value h = go (list_all is_char text) (is_code (trimmed text)) h
+  where
+    go : (a b : Bool) → (if a then option_map values.Code (if b then Some (trimmed text) else None) else None) ≡ Some value → spelled value ≡ trimmed text
+    go true true k = ap spelled (sym (same_Some _ _ k))
+    go true false k = absurd (let z : ◌≡◌ {A = Option Value} None (Some value) = k in cc)
+    go false b k = absurd (let z : ◌≡◌ {A = Option Value} None (Some value) = k in cc)
+
+pub code-as-it-is : Laws → (term : Term) (value : Value) → letter_of term ≡ Some letters.C → Fits term value → trimmed (spelled value) ≡ spelled value
+code-as-it-is laws term value is f =
+    let letter : f.letter ≡ letters.C = same_Some _ _ (sym f.typed.first ∙ is) in
+    sym (code-trimmed (spelled value) value (subst (λ l. value_of l (spelled value) ≡ Some value) letter (laws.values f.letter f.text value f.read)))
+
 as-day : Laws → (term : Term) (es : List Entry) (c : Context) (value : Value) → is_day (letter_of term) ≡ true → Fits term value → ReadsAs forms.PlainDate term es c value
 as-day laws term es c value is f =
     let w = day-value laws.are_days f.letter f.text value (is-day (letter_of term) f.letter f.typed.first is) f.read in
@@ -220,4 +238,48 @@ reads-as laws form term es c value whole f = go (form_for form term) refl whole
     go forms.Model e h = as-model laws.values term es c value f
     go forms.PlainDate e h = as-day laws term es c value (form-day form term (suits form term) refl e) f
     go forms.DueDateTypeCode e h = absurd (false≢true h)
+    go forms.CodedNote e h = absurd (false≢true h)
+
+-- ---- a code that another list spells
+
+one-of-three : (text : List ℕ) → list_any (λ (image : Image). bytes_eq image.code text) images ≡ true → (codes "3" ≡ text) ⊎ ((codes "35" ≡ text) ⊎ (codes "432" ≡ text))
+one-of-three text h = go (bytes_eq (codes "3") text) (bytes_eq (codes "35") text) (bytes_eq (codes "432") text) refl refl refl h
+  where
+    go : (a b c : Bool) → bytes_eq (codes "3") text ≡ a → bytes_eq (codes "35") text ≡ b → bytes_eq (codes "432") text ≡ c → (a || (b || (c || false))) ≡ true
+        → (codes "3" ≡ text) ⊎ ((codes "35" ≡ text) ⊎ (codes "432" ≡ text))
+    go true b c e f g k = inl ((bytes_eq-Decides (codes "3") text).0 e)
+    go false true c e f g k = inr (inl ((bytes_eq-Decides (codes "35") text).0 f))
+    go false false true e f g k = inr (inr ((bytes_eq-Decides (codes "432") text).0 g))
+    go false false false e f g k = absurd (false≢true k)
+
+as-image : (term : Term) (es : List Entry) (c : Context) (value : Value) → is_imaged value ≡ true → ReadsAs forms.DueDateTypeCode term es c value
+unfolding is_white_space
+as-image term es c (values.Code text) h = elim (one-of-three text h) [
+  | inl e ↦ subst (λ x. ReadsAs forms.DueDateTypeCode term es c (values.Code x)) e (record { said = refl; full = refl })
+  | inr m ↦ elim m [
+    | inl e ↦ subst (λ x. ReadsAs forms.DueDateTypeCode term es c (values.Code x)) e (record { said = refl; full = refl })
+    | inr e ↦ subst (λ x. ReadsAs forms.DueDateTypeCode term es c (values.Code x)) e (record { said = refl; full = refl })
+  ]
+]
+as-image term es c (values.Text text) h = absurd (false≢true h)
+as-image term es c (values.Identifier text) h = absurd (false≢true h)
+as-image term es c (values.Amount number) h = absurd (false≢true h)
+as-image term es c (values.Quantity number) h = absurd (false≢true h)
+as-image term es c (values.Percent number) h = absurd (false≢true h)
+as-image term es c (values.Date day) h = absurd (false≢true h)
+as-image term es c (values.Base64 text) h = absurd (false≢true h)
+
+pub whole-back : (form : Form) (value : Value) → is_whole form ≡ true → is_read_back form value ≡ true
+whole-back forms.Model value h = refl
+whole-back forms.PlainDate value h = refl
+whole-back forms.DueDateTypeCode value h = absurd (false≢true h)
+whole-back forms.CodedNote value h = absurd (false≢true h)
+
+pub back-as : Laws → (form : Form) (term : Term) (es : List Entry) (c : Context) (value : Value) → is_read_back (form_for form term) value ≡ true → Fits term value → ReadsAs (form_for form term) term es c value
+back-as laws form term es c value back f = go (form_for form term) refl back
+  where
+    go : (g : Form) → form_for form term ≡ g → is_read_back g value ≡ true → ReadsAs g term es c value
+    go forms.Model e h = as-model laws.values term es c value f
+    go forms.PlainDate e h = as-day laws term es c value (form-day form term (suits form term) refl e) f
+    go forms.DueDateTypeCode e h = as-image term es c value h
     go forms.CodedNote e h = absurd (false≢true h)

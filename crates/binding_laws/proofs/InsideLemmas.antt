@@ -1,27 +1,25 @@
--- Nothing that a row whose path stands alone picks has an element inside.
-use Rattle.std.proofs.Common.{◌≡◌, ℕ, ◌+◌, ◌<◌, ◌≤◌, Bool, true, false, not, ◌&&◌, ◌||◌, List, [], ◌∷◌, ◌++◌, length, map, filter, flat_map, refl, sym, ap, ◌∙◌, subst, arith, inl, inr}
-use Rattle.std.specs.Prelude.{if◌then◌else◌}
+-- Nothing that a row whose path stands apart picks has an element inside.
+use Rattle.std.proofs.Common.{◌≡◌, ℕ, ◌+◌, ◌<◌, ◌≤◌, Bool, true, false, not, ◌&&◌, ◌||◌, List, [], ◌∷◌, ◌++◌, length, map, filter, flat_map, refl, sym, ap, ◌∙◌, subst, arith}
 use Rattle.std.specs.List.{list_any}
-use Rattle.std.proofs.lemmas.Bool.{false≢true}
 use Rattle.std.proofs.lemmas.List.Elements.{filter-append}
-use Rattle.inv_base.specs.Tree.{Forest, no_more, a_text, an_element, Name, Attribute, Node, size, nodes_of, nodes_of_attributes, document_nodes, is_among}
+use Rattle.inv_base.specs.Tree.{Forest, no_more, an_element, Name, Attribute, Node, size, nodes_of, nodes_of_attributes, document_nodes, is_among}
+use Rattle.term_table.specs.declared.terms.Term.{Term}
 use Rattle.inv_terms.specs.declared.entries.Entry.{Entry}
 use Rattle.bind_rows.specs.declared.names.Leaf.{Leaf}
 use Rattle.bind_rows.specs.declared.names.Leaf.TheVariants as leaves
-use Rattle.bind_rows.specs.declared.rows.Step.{Step}
 use Rattle.bind_rows.specs.declared.rows.Row.{Row}
 use Rattle.bind_meaning.specs.Names.{has_plain_name}
 use Rattle.bind_meaning.specs.Elements.{number, is_element, attributes_named, is_blank_at, has_element_inside}
 use Rattle.bind_meaning.specs.Picks.{Pick, last_of, filled, leaves_of, ways, picks_of_way, nodes_picked}
 use Rattle.bind_meaning.specs.Trees.{with_text, document_of}
-use Rattle.binding_laws.specs.Alone.{stands_alone}
-use Rattle.binding_laws.specs.Written.{Spot, written_at}
-use Rattle.binding_laws.proofs.TreeLemmas.{Each, each-weaker, each-append, filter-none, among-older, forest-free, Free, older-free, Lies}
+use Rattle.binding_laws.specs.Apart.{holds_none, stands_apart_without, stands_apart}
+use Rattle.binding_laws.specs.Written.{Spot}
+use Rattle.binding_laws.proofs.TreeLemmas.{Each, each-weaker, each-append, among-older, Lies}
 use Rattle.binding_laws.proofs.NodeLemmas.{and-false}
 use Rattle.binding_laws.proofs.AttributeLemmas.{named-are, far, later-far}
 use Rattle.binding_laws.proofs.ContextLemmas.{each-filter, each-flat_map}
-use Rattle.binding_laws.proofs.RowLemmas.{lasts, ways-last, lone-nil, picked-ends, map-flat_map, map-map, flat_map-same, append-nil}
-use Rattle.bind_table.specs.Lines.{plan_of}
+use Rattle.binding_laws.proofs.RowLemmas.{Place, places_at, ArePlaced, placed-without, placed-at, ends-among}
+use Rattle.binding_laws.proofs.ListLemmas.{map-flat_map, map-map, flat_map-same}
 
 any-none : (p : Node → Bool) (xs : List Node) → Each (λ x. p x ≡ false) xs → list_any p xs ≡ false
 any-none p [] h = refl
@@ -89,34 +87,35 @@ filter-flat_map : {X Y : Type 0} (p : Y → Bool) (f : X → List Y) (xs : List 
 filter-flat_map p f [] = refl
 filter-flat_map p f (x ∷ xs) = filter-append p (f x) (flat_map f xs) ∙ ap (λ l. filter p (f x) ++ l) (filter-flat_map p f xs)
 
-none-at-all : (spots : List Spot) → ◌≡◌ {A = List ℕ} (flat_map (λ (spot : Spot). []) spots) []
+none-at-all : (them : List Place) → ◌≡◌ {A = List ℕ} (flat_map (λ (place : Place). []) them) []
 none-at-all [] = refl
-none-at-all (spot ∷ spots) = none-at-all spots
+none-at-all (place ∷ them) = none-at-all them
 
-picked-nodes : (nodes : List Node) (k : ℕ) (row : Row) (s : Step) (path : List Step) → row.path ≡ s ∷ path
-    → map (λ (pick : Pick). pick.node) (nodes_picked nodes k row) ≡ flat_map (leaves_of nodes row.leaf) (lasts nodes (s ∷ path) 0)
-picked-nodes nodes k row s path e =
+picked-nodes : (nodes : List Node) (k : ℕ) (row : Row) → map (λ (pick : Pick). pick.node) (nodes_picked nodes k row) ≡ flat_map (λ way. leaves_of nodes row.leaf (last_of way)) (ways nodes row.path 0)
+picked-nodes nodes k row =
     map-flat_map (λ (pick : Pick). pick.node) (picks_of_way nodes k row) (ways nodes row.path 0)
-    ∙ (flat_map-same (λ way. map (λ (pick : Pick). pick.node) (picks_of_way nodes k row way)) (λ way. leaves_of nodes row.leaf (last_of way))
+    ∙ flat_map-same (λ way. map (λ (pick : Pick). pick.node) (picks_of_way nodes k row way)) (λ way. leaves_of nodes row.leaf (last_of way))
     (λ way. map-map (λ (pick : Pick). pick.node) (λ n. record { place = k; row = row; elements = way; node = n }) (leaves_of nodes row.leaf (last_of way)) ∙ same (leaves_of nodes row.leaf (last_of way)))
     (ways nodes row.path 0)
-    ∙ (ap (λ p. flat_map (λ way. leaves_of nodes row.leaf (last_of way)) (ways nodes p 0)) e ∙ ways-last nodes (leaves_of nodes row.leaf) s path 0))
   where
     same : (xs : List ℕ) → map (λ x. x) xs ≡ xs
     same [] = refl
     same (x ∷ xs) = ap (λ l. x ∷ l) (same xs)
 
-inside-by : (rows : List Row) (es : List Entry) (k : ℕ) (row : Row) (path : List Step) → row.path ≡ path → stands_alone rows path ≡ true
+pub placed-inside : (rows : List Row) (es : List Entry) (k : ℕ) (row : Row) (them : List Place) → ArePlaced (document_nodes (document_of rows es)) es row.path them
     → filter (has_element_inside (document_nodes (document_of rows es))) (map (λ (pick : Pick). pick.node) (nodes_picked (document_nodes (document_of rows es)) k row)) ≡ []
-inside-by rows es k row [] e h = absurd (lone-nil (plan_of rows) h)
-inside-by rows es k row (s ∷ path) e h =
+placed-inside rows es k row them h =
     let nodes : List Node = document_nodes (document_of rows es) in
-    ap (filter (has_element_inside nodes)) (picked-nodes nodes k row s path e)
-    ∙ (filter-flat_map (has_element_inside nodes) (leaves_of nodes row.leaf) (lasts nodes (s ∷ path) 0)
-    ∙ (picked-ends rows es (λ n. filter (has_element_inside nodes) (leaves_of nodes row.leaf n)) (λ (spot : Spot). [])
-    (λ above n name attrs text rest lies spot a t. filter-none-numbers (has_element_inside nodes) (leaves_of nodes row.leaf n) (leaves-empty nodes above n name attrs text rest lies row.leaf)) s path h
-    ∙ none-at-all (written_at rows es (s ∷ path))))
+    ap (filter (has_element_inside nodes)) (picked-nodes nodes k row)
+    ∙ (filter-flat_map (has_element_inside nodes) (λ way. leaves_of nodes row.leaf (last_of way)) (ways nodes row.path 0)
+    ∙ (ends-among nodes es (λ n. filter (has_element_inside nodes) (leaves_of nodes row.leaf n)) (λ (spot : Spot). [])
+    (λ above n name attrs text rest lies spot a t. filter-none-numbers (has_element_inside nodes) (leaves_of nodes row.leaf n) (leaves-empty nodes above n name attrs text rest lies row.leaf)) row.path them h
+    ∙ none-at-all them))
 
-pub inside-law : (rows : List Row) (es : List Entry) (k : ℕ) (row : Row) → stands_alone rows row.path ≡ true
+pub inside-law : (rows : List Row) (es : List Entry) (k : ℕ) (row : Row) → stands_apart rows row.path ≡ true
     → filter (has_element_inside (document_nodes (document_of rows es))) (map (λ (pick : Pick). pick.node) (nodes_picked (document_nodes (document_of rows es)) k row)) ≡ []
-inside-law rows es k row h = inside-by rows es k row row.path refl h
+inside-law rows es k row h = placed-inside rows es k row (places_at rows es row.path) (placed-at rows es row.path h)
+
+pub inside-without : (gone : List Term) (rows : List Row) (es : List Entry) (k : ℕ) (row : Row) → holds_none gone es ≡ true → stands_apart_without gone rows row.path ≡ true
+    → filter (has_element_inside (document_nodes (document_of rows es))) (map (λ (pick : Pick). pick.node) (nodes_picked (document_nodes (document_of rows es)) k row)) ≡ []
+inside-without gone rows es k row unheld h = placed-inside rows es k row (places_at rows es row.path) (placed-without gone rows es row.path unheld h)

@@ -17,7 +17,7 @@ use Rattle.term_table.specs.declared.terms.TermRow.{TermRow}
 use Rattle.term_table.specs.declared.contexts.Slot.{Slot}
 use Rattle.term_table.specs.declared.contexts.Context.{Context}
 use Rattle.term_table.specs.Contexts.{root_context, slot_group, same_groups, stands_in, outer_group, inner_group, same_slot, same_context}
-use Rattle.term_table.specs.Groups.{same_group}
+use Rattle.term_table.specs.Groups.{same_group, parent_of, occurrence_of}
 use Rattle.term_table.specs.Places.{seat_place, place, slot_place, precedes, first_row}
 use Rattle.term_table.specs.Rows.{row_of, is_row_in}
 use Rattle.term_table.specs.SemanticModel.{same_term, terms}
@@ -31,22 +31,28 @@ use Rattle.inv_terms.proofs.OrderLemmas.{same_members}
 use Rattle.inv_terms.proofs.PushLemmas.{same_slot_is}
 use Rattle.bind_rows.specs.declared.rows.Step.{Step}
 use Rattle.bind_rows.specs.declared.rows.Row.{Row}
-use Rattle.bind_rows.specs.declared.rows.Content.{Content}
-use Rattle.bind_rows.specs.declared.rows.Content.TheVariants as contents
 use Rattle.bind_rows.specs.declared.rows.Form.{Form}
+use Rattle.bind_rows.specs.declared.rows.Written.TheVariants as written
 use Rattle.bind_table.specs.Lines.{Plan, nothing, a_line, plan_of}
 use Rattle.bind_meaning.specs.Values.{form_for, said}
 use Rattle.bind_meaning.specs.Elements.{string_at, is_full}
 use Rattle.bind_meaning.specs.Picks.{Pick, nodes_picked}
-use Rattle.bind_meaning.specs.Writing.{slot_for, context_for, formed, if_due, filled, term_text, row_text, writes_entry}
+use Rattle.bind_meaning.specs.Writing.{slot_for, context_for, formed, if_due, row_text, writes_entry}
 use Rattle.bind_meaning.specs.Trees.{spots, spots_of, outer_spots, inner_spots, outer_count, inner_count, index_in, or_here, is_at_element, document_of}
 use Rattle.binding_laws.specs.Written.{Spot, written_at}
-use Rattle.binding_laws.specs.Plain.{rows_at, groups_of, listed, stands_there, is_whole, IsPlain}
-use Rattle.binding_laws.proofs.TreeLemmas.{Each, each-weaker}
+use Rattle.binding_laws.specs.Plain.{rows_at, groups_of, listed, stands_there, is_beyond, stands_nowhere_else, is_in_groups, is_whole, IsPlain, is_written_by}
+use Rattle.binding_laws.proofs.TreeLemmas.{Each, each-weaker, filter-same}
 use Rattle.binding_laws.proofs.FormLemmas.{Laws, reads-as}
-use Rattle.binding_laws.proofs.RowLemmas.{elements-law, map-map}
-use Rattle.binding_laws.proofs.ContextLemmas.{Later, Rising, in-one, in-group, in-outer, in-groups}
-use Rattle.binding_laws.proofs.ReachLemmas.{Among, among-front, among-back, among-filter, own_text, own-texts, Leads, leads-on, leads-in, leads-through, reached}
+use Rattle.binding_laws.proofs.ValueLemmas as values
+use Rattle.binding_laws.proofs.RowLemmas.{elements-law}
+use Rattle.binding_laws.proofs.ListLemmas.{map-map}
+use Rattle.binding_laws.proofs.CellLemmas.{own_text}
+use Rattle.binding_laws.proofs.NodeLemmas.{and-false}
+use Rattle.binding_laws.proofs.RowLemmas.{Place, places_at, places-spots}
+use Rattle.binding_laws.proofs.PlaceLemmas.{of-map, places-lead}
+use Rattle.binding_laws.proofs.SeatLemmas.{of-spots, leads-nowhere, leads-to-one, leads-to-two}
+use Rattle.binding_laws.proofs.ContextLemmas.{Later, Rising, rising-filter, in-one, in-group, in-outer, in-groups}
+use Rattle.binding_laws.proofs.ReachLemmas.{Among, among-front, among-back, among-filter, own-texts, Leads, leads-on, leads-in, leads-through, reached}
 
 both : (a b : Bool) → (a && b) ≡ true → (a ≡ true) × (b ≡ true)
 both true b h = (refl, h)
@@ -225,7 +231,7 @@ some-number None d h = absurd (false≢true h)
 some-number (Some k) d h = (k, refl)
 
 -- a term that stands in these groups alone, stands there
-groups-are : (e : Entry) (term : Term) (outer inner : Option Group) → e.term ≡ term → is_placed e ≡ true → stands_there term outer inner ≡ true
+pub groups-are : (e : Entry) (term : Term) (outer inner : Option Group) → e.term ≡ term → is_placed e ≡ true → stands_there term outer inner ≡ true
     → (slot_group e.context.outer ≡ outer) × (slot_group e.context.inner ≡ inner)
 groups-are e term outer inner same p there =
     let o : Option Group = slot_group e.context.outer in
@@ -242,6 +248,127 @@ groups-are e term outer inner same p there =
       same_groups_is o (outer_group r.group) here.0 ∙ sym (same_groups_is outer (outer_group r.group) therefore.0),
       same_groups_is i (inner_group r.group) here.1 ∙ sym (same_groups_is inner (inner_group r.group) therefore.1),
     )
+
+-- the groups of a context differ
+abbrev differ : Option Group → Option Group → Bool
+differ (Some g) (Some h) = not (same_group g h)
+differ o i = true
+
+differ-everywhere : list_all (λ (r : TermRow). differ (outer_group r.group) (inner_group r.group)) terms ≡ true
+unfolding terms parent_of occurrence_of
+differ-everywhere = refl
+
+pub groups-differ : (e : Entry) → is_placed e ≡ true → (g h : Group) → slot_group e.context.outer ≡ Some g → slot_group e.context.inner ≡ Some h → same_group g h ≡ false
+groups-differ e p g h a b =
+    let o : Option Group = slot_group e.context.outer in
+    let i : Option Group = slot_group e.context.inner in
+    let n = some-number (row_of e.term e.context) e.context p in
+    let d : TermRow = record { term = e.term; group = groups.Root; letter = letters.T; mark = marks.One; list = None } in
+    let at = position-Some (is_row_in e.term o i) terms n.0 d n.1 in
+    let r : TermRow = get_or terms n.0 d in
+    let is = both (same_term r.term e.term) (stands_in r.group o i) at.1 in
+    let here = both (same_groups o (outer_group r.group)) (same_groups i (inner_group r.group)) is.1 in
+    let outer : outer_group r.group ≡ Some g = sym (same_groups_is o (outer_group r.group) here.0) ∙ a in
+    let inner : inner_group r.group ≡ Some h = sym (same_groups_is i (inner_group r.group) here.1) ∙ b in
+    let k : differ (Some g) (Some h) ≡ true = (λ z. differ ((sym outer) z) ((sym inner) z)) ∙ all-at (λ (x : TermRow). differ (outer_group x.group) (inner_group x.group)) terms n.0 d differ-everywhere at.0 in
+    not-so (same_group g h) k
+  where
+    not-so : (x : Bool) → not x ≡ true → x ≡ false
+    not-so true z = absurd (false≢true z)
+    not-so false z = refl
+
+-- ---- the contexts of a path
+
+abbrev IsAtGroups : Option Group → Option Group → Context → Type 0
+IsAtGroups o i c = (slot_group c.outer ≡ o) × (slot_group c.inner ≡ i)
+
+-- the context is that of the groups, or one around it
+abbrev pub IsReachable : Option Group → Option Group → Context → Type 0
+IsReachable o i c = IsAtGroups o i c ⊎ (IsAtGroups None None c ⊎ (IsAtGroups o None c ⊎ IsAtGroups i None c))
+
+or-of : (c d : Context) (ds : List Context) → Among d (or_here c ds) → (c ≡ d) ⊎ Among d ds
+or-of c d [] (inl e) = inl e
+or-of c d [] (inr a) = absurd a
+or-of c d (x ∷ ds) a = inr a
+
+reach-of : (es : List Entry) (path : List Step) (c : Context) (o i : Option Group) → groups_of path ≡ listed o ++ listed i → (is_some o || is_none i) ≡ true → Leads es path root_context c → IsReachable o i c
+reach-of es path c None None e n l = let w = leads-nowhere es path root_context c e l in inl (ap (λ (x : Context). slot_group x.outer) (sym w), ap (λ (x : Context). slot_group x.inner) (sym w))
+reach-of es path c None (Some g) e n l = absurd (false≢true n)
+reach-of es path c (Some f) None e n l =
+    elim (or-of root_context c (outer_spots f (outer_count es f)) (leads-to-one es path root_context c f e l)) [
+      | inl w ↦ inr (inl (ap (λ (x : Context). slot_group x.outer) (sym w), ap (λ (x : Context). slot_group x.inner) (sym w)))
+      | inr a ↦ let k = of-spots (λ k. record { outer = Some (record { group = f; index = k }); inner = None }) 1 (outer_count es f) c a in
+          inl (ap (λ (x : Context). slot_group x.outer) k.1.1.1, ap (λ (x : Context). slot_group x.inner) k.1.1.1)
+    ]
+reach-of es path c (Some f) (Some g) e n l =
+    let two = leads-to-two es path root_context c f g e l in
+    elim (or-of root_context two.0 (outer_spots f (outer_count es f)) two.1.0) [
+      | inl w ↦ elim (or-of root_context c (outer_spots g (outer_count es g)) (subst (λ x. Among c (spots es x (Some g))) (sym w) two.1.1)) [
+        | inl v ↦ inr (inl (ap (λ (x : Context). slot_group x.outer) (sym v), ap (λ (x : Context). slot_group x.inner) (sym v)))
+        | inr a ↦ let k = of-spots (λ k. record { outer = Some (record { group = g; index = k }); inner = None }) 1 (outer_count es g) c a in
+            inr (inr (inr (ap (λ (x : Context). slot_group x.outer) k.1.1.1, ap (λ (x : Context). slot_group x.inner) k.1.1.1)))
+      ]
+      | inr a ↦ let k = of-spots (λ k. record { outer = Some (record { group = f; index = k }); inner = None }) 1 (outer_count es f) two.0 a in
+          let slot : Slot = record { group = f; index = k.0 } in
+          let here : Context = record { outer = Some slot; inner = None } in
+          elim (or-of here c (inner_spots slot g (inner_count es slot g)) (subst (λ x. Among c (spots es x (Some g))) k.1.1.1 two.1.1)) [
+            | inl v ↦ inr (inr (inl (ap (λ (x : Context). slot_group x.outer) (sym v), ap (λ (x : Context). slot_group x.inner) (sym v))))
+            | inr b ↦ let m = of-spots (λ k. record { outer = Some slot; inner = Some (record { group = g; index = k }) }) 1 (inner_count es slot g) c b in
+                inl (ap (λ (x : Context). slot_group x.outer) m.1.1.1, ap (λ (x : Context). slot_group x.inner) m.1.1.1)
+          ]
+    ]
+
+same-groups-itself : (o : Option Group) → same_groups o o ≡ true
+same-groups-itself None = refl
+same-groups-itself (Some g) = same_group_itself g
+
+-- where such a context is one of the term's, it is that of the groups
+context-there : (e : Entry) (term : Term) (o i : Option Group) → e.term ≡ term → is_placed e ≡ true → stands_nowhere_else term o i ≡ true → IsReachable o i e.context → IsAtGroups o i e.context
+context-there e term o i same p there reach =
+    let eo : Option Group = slot_group e.context.outer in
+    let ei : Option Group = slot_group e.context.inner in
+    let n = some-number (row_of e.term e.context) e.context p in
+    let d : TermRow = record { term = e.term; group = groups.Root; letter = letters.T; mark = marks.One; list = None } in
+    let at = position-Some (is_row_in e.term eo ei) terms n.0 d n.1 in
+    let r : TermRow = get_or terms n.0 d in
+    let is = both (same_term r.term e.term) (stands_in r.group eo ei) at.1 in
+    let so = or-not (same_term r.term term) (stands_in r.group o i || is_beyond r.group o i) (ap (same_term r.term) (sym same) ∙ is.0)
+    (all-at (λ (x : TermRow). not (same_term x.term term) || (stands_in x.group o i || is_beyond x.group o i)) terms n.0 d there at.0) in
+    go r.group (stands_in r.group o i) refl so is.1 reach
+  where
+    not-so : (x : Bool) → not x ≡ true → x ≡ false
+    not-so true z = absurd (false≢true z)
+    not-so false z = refl
+
+    -- it stands in one of the contexts around
+    around : (group : Group) (a b : Option Group) → stands_in group (slot_group e.context.outer) (slot_group e.context.inner) ≡ true → IsAtGroups a b e.context → stands_in group a b ≡ true
+    around group a b h k = (λ z. stands_in group ((sym k.0) z) ((sym k.1) z)) ∙ h
+
+    never : (group : Group) → is_beyond group o i ≡ true → (stands_in group None None ≡ true) ⊎ ((stands_in group o None ≡ true) ⊎ (stands_in group i None ≡ true)) → ⊥
+    never group h (inl k) = false≢true (sym (not-so _ h) ∙ ap (λ b. b || (stands_in group o None || stands_in group i None)) k)
+    never group h (inr (inl k)) = false≢true (sym (not-so _ h) ∙ (ap (λ b. stands_in group None None || (b || stands_in group i None)) k ∙ or-true (stands_in group None None)))
+      where
+        or-true : (b : Bool) → (b || true) ≡ true
+        or-true true = refl
+        or-true false = refl
+    never group h (inr (inr k)) =
+        false≢true (sym (not-so _ h) ∙ (ap (λ b. stands_in group None None || (stands_in group o None || b)) k ∙ (ap (λ b. stands_in group None None || b) (or-true (stands_in group o None)) ∙ or-true (stands_in group None None))))
+      where
+        or-true : (b : Bool) → (b || true) ≡ true
+        or-true true = refl
+        or-true false = refl
+
+    go : (group : Group) (b : Bool) → stands_in group o i ≡ b → (b || is_beyond group o i) ≡ true → stands_in group (slot_group e.context.outer) (slot_group e.context.inner) ≡ true → IsReachable o i e.context → IsAtGroups o i e.context
+    go group b h k l (inl m) = m
+    go group true h k l (inr m) =
+        let here = both (same_groups (slot_group e.context.outer) (outer_group group)) (same_groups (slot_group e.context.inner) (inner_group group)) l in
+        let therefore = both (same_groups o (outer_group group)) (same_groups i (inner_group group)) h in (
+          same_groups_is (slot_group e.context.outer) (outer_group group) here.0 ∙ sym (same_groups_is o (outer_group group) therefore.0),
+          same_groups_is (slot_group e.context.inner) (inner_group group) here.1 ∙ sym (same_groups_is i (inner_group group) therefore.1),
+        )
+    go group false h k l (inr (inl m)) = absurd (never group k (inl (around group None None l m)))
+    go group false h k l (inr (inr (inl m))) = absurd (never group k (inr (inl (around group o None l m))))
+    go group false h k l (inr (inr (inr m))) = absurd (never group k (inr (inr (around group i None l m))))
 
 -- ---- occurrences
 
@@ -308,7 +435,7 @@ slot-of-group : (o : Option Slot) (g : Group) → slot_group o ≡ Some g → (k
 slot-of-group None g h = absurd (let z : ◌≡◌ {A = Option Group} None (Some g) = h in cc)
 slot-of-group (Some s) g h = (s.index, (λ i. Some (record { group = (same_Some _ _ h) i; index = s.index })))
 
-no-slot : (o : Option Slot) → slot_group o ≡ None → o ≡ None
+pub no-slot : (o : Option Slot) → slot_group o ≡ None → o ≡ None
 no-slot None h = refl
 no-slot (Some s) h = absurd (let z : Some s.group ≡ None = h in cc)
 
@@ -388,35 +515,87 @@ module _ (law : Laws) (es : List Entry) (invoice : IsInvoice es) (term : Term) w
       (inl (λ i. record { context = x.context; term = (sym e) i; value = x.value }))))
   among-entries x (spot ∷ spots) e v (inr m) = among-back x (entry_at es term spot.context) (flat_map (λ (y : Spot). entry_at es term y.context) spots) (among-entries x spots e v m)
 
-abbrev pub text_by : Option (List ℕ) → Content → Option (List ℕ)
-text_by o content = elim content [ (contents.Constant text) ↦ Some text | (contents.Term t) ↦ o ]
+  -- entries at elements whose contexts pass a test
+  pub kept : (p : Context → Bool) (d : Context) (spots : List Spot) → p d ≡ true → Among d (map (λ (spot : Spot). spot.context) spots)
+      → Among d (map (λ (spot : Spot). spot.context) (filter (λ (spot : Spot). p spot.context) spots))
+  kept p d [] h a = absurd a
+  kept p d (spot ∷ spots) h (inl s) =
+      subst (λ b. Among d (map (λ (x : Spot). x.context) (if b then spot ∷ filter (λ (x : Spot). p x.context) spots else filter (λ (x : Spot). p x.context) spots))) (sym (ap p s ∙ h)) (inl s)
+  kept p d (spot ∷ spots) h (inr a) = go (p spot.context) (kept p d spots h a)
+    where
+      go : (b : Bool) → Among d (map (λ (x : Spot). x.context) (filter (λ (x : Spot). p x.context) spots))
+          → Among d (map (λ (x : Spot). x.context) (if b then spot ∷ filter (λ (x : Spot). p x.context) spots else filter (λ (x : Spot). p x.context) spots))
+      go true m = inr m
+      go false m = m
 
-abbrev pub or_nothing : Option (List ℕ) → List ℕ
-or_nothing o = elim o [ None ↦ [] | Some text ↦ text ]
+  pub entries-pass : (p : Context → Bool) (spots : List Spot) (x : Entry) → Among x (entries-of (filter (λ (spot : Spot). p spot.context) spots)) → p x.context ≡ true
+  entries-pass p [] x h = absurd h
+  entries-pass p (spot ∷ spots) x h = go (entries-pass p spots x) (p spot.context) refl h
+    where
+      here : (Among x (entries-of (filter (λ (y : Spot). p y.context) spots)) → p x.context ≡ true) → (o : Option Value) → p spot.context ≡ true
+          → Among x ((elim o [ None ↦ [] | Some v ↦ record { context = spot.context; term = term; value = v } ∷ [] ]) ++ flat_map (λ (y : Spot). entry_at es term y.context) (filter (λ (y : Spot). p y.context) spots))
+          → p x.context ≡ true
+      here later None e m = later m
+      here later (Some v) e (inl s) = ap (λ (y : Entry). p y.context) (sym s) ∙ e
+      here later (Some v) e (inr m) = later m
+
+      go : (Among x (entries-of (filter (λ (y : Spot). p y.context) spots)) → p x.context ≡ true) → (b : Bool) → p spot.context ≡ b
+          → Among x (entries-of (if b then spot ∷ filter (λ (y : Spot). p y.context) spots else filter (λ (y : Spot). p y.context) spots)) → p x.context ≡ true
+      go later true e m = here later (value_in es term spot.context) e m
+      go later false e m = later m
 
 module _ (law : Laws) (rows : List Row) (es : List Entry) (invoice : IsInvoice es) (row : Row) (term : Term) (plain : IsPlain rows row term) where
   abbrev spots_at : List Spot
   spots_at = written_at rows es row.path
 
-  written-as : (d : Context) → row_text row es d ≡ option_map (formed (form_for row.form term) es (context_for row d)) (value_in es term (context_for row d))
-  written-as d =
-      ap (λ content. elim content [ (contents.Term t) ↦ term_text row es t (context_for row d) | (contents.Constant text) ↦ None ]) plain.content
-      ∙ (ap (λ rule. elim (value_in es term (context_for row d)) [ None ↦ filled rule es (context_for row d) | Some value ↦ if_due rule es term (context_for row d) (formed (form_for row.form term) es (context_for row d) value) ]) plain.written
-      ∙ mapped (value_in es term (context_for row d)))
-    where
-      mapped : (o : Option Value) → ◌≡◌ {A = Option (List ℕ)} (elim o [ None ↦ None | Some value ↦ Some (formed (form_for row.form term) es (context_for row d) value) ]) (option_map (formed (form_for row.form term) es (context_for row d)) o)
-      mapped None = refl
-      mapped (Some value) = refl
+  abbrev pub due : Context → Option Value → Option (List ℕ)
+  due c o = values.due es row term plain.content (values.by-value es row.written plain.by_value) c o
 
-  pub text-as : (d : Context) → own_text es d row ≡ (elim (value_in es term (context_for row d)) [ None ↦ [] | Some value ↦ formed (form_for row.form term) es (context_for row d) value ])
-  text-as d =
-      ap (λ (content : Content). or_nothing (text_by (row_text row es d) content)) plain.content
-      ∙ (ap or_nothing (written-as d) ∙ mapped (value_in es term (context_for row d)))
+  abbrev pub is_written : Context → Bool
+  is_written c = is_written_by row term es c
+
+  pub written-as : (d : Context) → row_text row es d ≡ values.due es row term plain.content (values.by-value es row.written plain.by_value) (context_for row d) (value_in es term (context_for row d))
+  written-as d = values.written-as es row term plain.content (values.by-value es row.written plain.by_value) d
+
+  abbrev pub value_text : Context → Option Value → List ℕ
+  value_text c o = elim o [ None ↦ [] | Some value ↦ formed (form_for row.form term) es c value ]
+
+  -- at an element in which a value stands, the context is one of the row
+  groups-there : (d : Context) → IsReachable row.outer row.inner d → (o : Option Value) → value_in es term d ≡ o → (b : Bool) → (is_some o && b) ≡ (is_in_groups row d && (is_some o && b))
+  groups-there d reach None e b = sym (and-false (is_in_groups row d))
+  groups-there d reach (Some v) e b =
+      let x : Entry = record { context = d; term = term; value = v } in
+      let at = context-there x term row.outer row.inner refl (placed-at law es invoice term x (at-value law es invoice term d v e)) plain.context reach in
+      sym (ap (λ c. c && b) (pair-of (ap (λ g. same_groups g row.outer) at.0 ∙ same-groups-itself row.outer) (ap (λ g. same_groups g row.inner) at.1 ∙ same-groups-itself row.inner)))
     where
-      mapped : (o : Option Value) → ◌≡◌ {A = List ℕ} (elim (option_map (formed (form_for row.form term) es (context_for row d)) o) [ None ↦ [] | Some text ↦ text ])
-          (elim o [ None ↦ [] | Some value ↦ formed (form_for row.form term) es (context_for row d) value ])
-      mapped None = refl
-      mapped (Some value) = refl
+      pair-of : {x y : Bool} → x ≡ true → y ≡ true → (x && y) ≡ true
+      pair-of e f = rw (e, f) refl
+
+  pub text-as : (d : Context) → context_for row d ≡ d → IsReachable row.outer row.inner d → own_text es d row ≡ (elim (is_written d) [ true ↦ value_text d (value_in es term d) | false ↦ [] ])
+  text-as d own reach =
+      values.text-as es row term plain.content (values.by-value es row.written plain.by_value) d
+      ∙ (ap (λ c. elim (is_some (value_in es term c) && writes_entry row es d) [ true ↦ elim (value_in es term c) [ None ↦ [] | Some value ↦ formed (form_for row.form term) es c value ] | false ↦ [] ]) own
+      ∙ ap (λ b. elim b [ true ↦ elim (value_in es term d) [ None ↦ [] | Some value ↦ formed (form_for row.form term) es d value ] | false ↦ [] ]) (groups-there d reach (value_in es term d) refl (writes_entry row es d)))
+
+  -- its elements are written in such contexts
+  pub reaches : Each (λ (spot : Spot). IsReachable row.outer row.inner spot.context) spots_at
+  reaches = each-reach spots_at (λ x a. a)
+    where
+      one : (x : Spot) → Among x spots_at → IsReachable row.outer row.inner x.context
+      one x a =
+          let w = of-map (λ (q : Place). q.spot) x (places_at rows es row.path) (subst (Among x) (sym (places-spots es (plan_of rows) row.path false root_context 1)) a) in
+          subst (λ (y : Spot). IsReachable row.outer row.inner y.context) w.1.1
+          (reach-of es row.path w.0.spot.context row.outer row.inner plain.through plain.nested (places-lead es (plan_of rows) row.path false root_context 1 w.0 w.1.0))
+
+      each-reach : (xs : List Spot) → ((x : Spot) → Among x xs → Among x spots_at) → Each (λ (spot : Spot). IsReachable row.outer row.inner spot.context) xs
+      each-reach [] f = tt
+      each-reach (x ∷ xs) f = (one x (f x (inl refl)), each-reach xs (λ y a. f y (inr a)))
+
+  -- the groups of a context in which it writes
+  pub written-groups : (c : Context) → is_written c ≡ true → (slot_group c.outer ≡ row.outer) × (slot_group c.inner ≡ row.inner)
+  written-groups c h =
+      let w = both (same_groups (slot_group c.outer) row.outer) (same_groups (slot_group c.inner) row.inner) (both (is_in_groups row c) _ h).0 in
+      (same_groups_is (slot_group c.outer) row.outer w.0, same_groups_is (slot_group c.inner) row.inner w.1)
 
   -- each element is written in a context of the row, in their order
   pub record HasContexts (spots : List Spot) : Type 0 where
@@ -468,17 +647,13 @@ module _ (law : Laws) (rows : List Row) (es : List Entry) (invoice : IsInvoice e
           all-spots (x ∷ xs) f = (f x, all-spots xs f)
 
   -- strings
-  strings : (spots : List Spot) → Each (λ (spot : Spot). spot.text ≡ own_text es spot.context row) spots → Each (λ (spot : Spot). context_for row spot.context ≡ spot.context) spots
-      → filter is_full (map (λ (spot : Spot). spot.text) spots) ≡ map (λ (e : Entry). formed (form_for row.form term) es e.context e.value) (entries-of law es invoice term spots)
-  strings [] h k = refl
-  strings (spot ∷ spots) h k =
-      let text : spot.text ≡ (elim (value_in es term spot.context) [ None ↦ [] | Some value ↦ formed (form_for row.form term) es spot.context value ]) =
-      h.0 ∙ (text-as spot.context ∙ ap (λ c. elim (value_in es term c) [ None ↦ [] | Some value ↦ formed (form_for row.form term) es c value ]) k.0) in
-      one (is_full spot.text) spot.text (filter is_full (map (λ (x : Spot). x.text) spots))
-      ∙ (ap (λ t. (if is_full t then t ∷ [] else []) ++ filter is_full (map (λ (x : Spot). x.text) spots)) text
-      ∙ (ap (λ l. l ++ filter is_full (map (λ (x : Spot). x.text) spots)) (one-string law es invoice term row.form plain.form spot.context (value_in es term spot.context) refl)
-      ∙ (ap (λ l. map (λ (e : Entry). formed (form_for row.form term) es e.context e.value) (entry_at es term spot.context) ++ l) (strings spots h.1 k.1)
-      ∙ sym (map-append (entry_at es term spot.context) (flat_map (λ (x : Spot). entry_at es term x.context) spots)))))
+  abbrev pub written_spots : List Spot → List Spot
+  written_spots spots = filter (λ (spot : Spot). is_written spot.context) spots
+
+  strings : (spots : List Spot) → Each (λ (spot : Spot). spot.text ≡ own_text es spot.context row) spots → Each (λ (spot : Spot). context_for row spot.context ≡ spot.context) spots → Each (λ (spot : Spot). IsReachable row.outer row.inner spot.context) spots
+      → filter is_full (map (λ (spot : Spot). spot.text) spots) ≡ map (λ (e : Entry). formed (form_for row.form term) es e.context e.value) (entries-of law es invoice term (written_spots spots))
+  strings [] h k l = refl
+  strings (spot ∷ spots) h k l = go (strings spots h.1 k.1 l.1) (is_written spot.context) (h.0 ∙ text-as spot.context k.0 l.0)
     where
       one : (b : Bool) (x : List ℕ) (xs : List (List ℕ)) → (if b then x ∷ xs else xs) ≡ (if b then x ∷ [] else []) ++ xs
       one true x xs = refl
@@ -488,77 +663,133 @@ module _ (law : Laws) (rows : List Row) (es : List Entry) (invoice : IsInvoice e
       map-append [] ys = refl
       map-append (x ∷ xs) ys = ap (λ l. formed (form_for row.form term) es x.context x.value ∷ l) (map-append xs ys)
 
-  pub leads : (x : Entry) → Among x es → x.term ≡ term → Leads es row row.path root_context x.context
-  leads x a e = go row.outer row.inner refl refl
-    where
-      at : (slot_group x.context.outer ≡ row.outer) × (slot_group x.context.inner ≡ row.inner)
-      at = groups-are x term row.outer row.inner e (placed-at law es invoice term x a) plain.context
+      go : filter is_full (map (λ (x : Spot). x.text) spots) ≡ map (λ (e : Entry). formed (form_for row.form term) es e.context e.value) (entries-of law es invoice term (written_spots spots))
+          → (b : Bool) → spot.text ≡ (elim b [ true ↦ value_text spot.context (value_in es term spot.context) | false ↦ [] ])
+          → filter is_full (map (λ (x : Spot). x.text) (spot ∷ spots))
+          ≡ map (λ (e : Entry). formed (form_for row.form term) es e.context e.value) (entries-of law es invoice term (if b then spot ∷ written_spots spots else written_spots spots))
+      go later true text =
+          one (is_full spot.text) spot.text (filter is_full (map (λ (x : Spot). x.text) spots))
+          ∙ (ap (λ t. (if is_full t then t ∷ [] else []) ++ filter is_full (map (λ (x : Spot). x.text) spots)) text
+          ∙ (ap (λ l. l ++ filter is_full (map (λ (x : Spot). x.text) spots)) (one-string law es invoice term row.form plain.form spot.context (value_in es term spot.context) refl)
+          ∙ (ap (λ l. map (λ (e : Entry). formed (form_for row.form term) es e.context e.value) (entry_at es term spot.context) ++ l) later
+          ∙ sym (map-append (entry_at es term spot.context) (flat_map (λ (x : Spot). entry_at es term x.context) (written_spots spots))))))
+      go later false text = ap (λ t. if is_full t then t ∷ filter is_full (map (λ (x : Spot). x.text) spots) else filter is_full (map (λ (x : Spot). x.text) spots)) text ∙ later
 
-      go : (o i : Option Group) → row.outer ≡ o → row.inner ≡ i → Leads es row row.path root_context x.context
+  pub leads : (x : Entry) → Among x es → (slot_group x.context.outer ≡ row.outer) × (slot_group x.context.inner ≡ row.inner) → Leads es row.path root_context x.context
+  leads x a at = go row.outer row.inner refl refl
+    where
+      go : (o i : Option Group) → row.outer ≡ o → row.inner ≡ i → Leads es row.path root_context x.context
       go None None p q =
-          subst (Leads es row row.path root_context) (λ k. record { outer = (sym (no-slot x.context.outer (at.0 ∙ p))) k; inner = (sym (no-slot x.context.inner (at.1 ∙ q))) k })
-          (leads-on es row row.path root_context (plain.through ∙ (λ k. listed (p k) ++ listed (q k))))
+          subst (Leads es row.path root_context) (λ k. record { outer = (sym (no-slot x.context.outer (at.0 ∙ p))) k; inner = (sym (no-slot x.context.inner (at.1 ∙ q))) k })
+          (leads-on es row.path root_context (plain.through ∙ (λ k. listed (p k) ++ listed (q k))))
       go None (Some g) p q = absurd (false≢true (sym (λ k. is_some (p k) || is_none (q k)) ∙ plain.nested))
       go (Some f) None p q =
           let w = slot-of-group x.context.outer f (at.0 ∙ p) in
-          subst (Leads es row row.path root_context) (λ k. record { outer = (sym w.1) k; inner = (sym (no-slot x.context.inner (at.1 ∙ q))) k })
-          (leads-in es row row.path root_context (record { outer = Some (record { group = f; index = w.0 }); inner = None }) f (plain.through ∙ (λ k. listed (p k) ++ listed (q k)))
+          subst (Leads es row.path root_context) (λ k. record { outer = (sym w.1) k; inner = (sym (no-slot x.context.inner (at.1 ∙ q))) k })
+          (leads-in es row.path root_context (record { outer = Some (record { group = f; index = w.0 }); inner = None }) f (plain.through ∙ (λ k. listed (p k) ++ listed (q k)))
           (outer-among es x f w.0 a invoice.numbered w.1))
       go (Some f) (Some g) p q =
           let w = slot-of-group x.context.outer f (at.0 ∙ p) in
           let v = slot-of-group x.context.inner g (at.1 ∙ q) in
-          subst (Leads es row row.path root_context) (λ k. record { outer = (sym w.1) k; inner = (sym v.1) k })
-          (leads-through es row row.path root_context (record { outer = Some (record { group = f; index = w.0 }); inner = None })
+          subst (Leads es row.path root_context) (λ k. record { outer = (sym w.1) k; inner = (sym v.1) k })
+          (leads-through es row.path root_context (record { outer = Some (record { group = f; index = w.0 }); inner = None })
           (record { outer = Some (record { group = f; index = w.0 }); inner = Some (record { group = g; index = v.0 }) }) f g (plain.through ∙ (λ k. listed (p k) ++ listed (q k)))
           (outer-among es x f w.0 a invoice.numbered w.1)
           (inner-among es x (record { group = f; index = w.0 }) g v.0 (record { outer = Some (record { group = f; index = w.0 }); inner = None }) a invoice.numbered w.1 v.1 refl))
 
-  pub own-context : (x : Entry) → Among x es → x.term ≡ term → context_for row x.context ≡ x.context
-  own-context x a e =
-      let at = groups-are x term row.outer row.inner e (placed-at law es invoice term x a) plain.context in
+  pub own-context : (x : Entry) → (slot_group x.context.outer ≡ row.outer) × (slot_group x.context.inner ≡ row.inner) → context_for row x.context ≡ x.context
+  own-context x at =
       whole-context row.outer row.inner refl refl x.context (λ k. no-slot x.context.outer (at.0 ∙ k)) (λ k. no-slot x.context.inner (at.1 ∙ k))
 
-  pub writes : (x : Entry) → Among x es → x.term ≡ term → value_in es term x.context ≡ Some x.value → writes_entry row es x.context ≡ true
-  writes x a e v =
-      ap is_some (written-as x.context ∙ (ap (λ c. option_map (formed (form_for row.form term) es c) (value_in es term c)) (own-context x a e) ∙ ap (option_map (formed (form_for row.form term) es x.context)) v))
-
-  known-entry : (x : Entry) → Among x (filter (of_term law es invoice term) es) → Among x (entries-of law es invoice term spots_at)
-  known-entry x h =
-      let w = of-filter (λ (e : Entry). same_term e.term term) x es h in
-      let e : x.term ≡ term = same_term_is x.term term w.1 in
-      let v : value_in es term x.context ≡ Some x.value = ap (λ t. value_in es t x.context) (sym e) ∙ own-value es x invoice.listed w.0 in
-      among-entries law es invoice term x (written_at rows es row.path) e v (there row.path plain.own (leads x w.0 e) (writes x w.0 e v))
+  pub written-some : (c : Context) → is_written c ≡ true → (v : Value) × (value_in es term c ≡ Some v)
+  written-some c h = go (value_in es term c) refl (both (is_some (value_in es term c)) (writes_entry row es c) (both (is_in_groups row c) _ h).1).0
     where
-      there : (path : List Step) → rows_at is_at_element (plan_of rows) path ≡ row ∷ [] → Leads es row path root_context x.context → writes_entry row es x.context ≡ true
-          → Among x.context (map (λ (spot : Spot). spot.context) (written_at rows es path))
+      go : (o : Option Value) → value_in es term c ≡ o → is_some o ≡ true → (v : Value) × (value_in es term c ≡ Some v)
+      go None e k = absurd (false≢true k)
+      go (Some v) e k = (v, e)
+
+  -- it is written at an element of the row
+  pub written-spot : (c : Context) → is_written c ≡ true → Among c (map (λ (spot : Spot). spot.context) spots_at)
+  written-spot c h =
+      let w = written-some c h in
+      let x : Entry = record { context = c; term = term; value = w.0 } in
+      there row.path plain.own (leads x (at-value law es invoice term c w.0 w.1) (written-groups c h)) (both (is_some (value_in es term c)) (writes_entry row es c) (both (is_in_groups row c) _ h).1).1
+    where
+      there : (path : List Step) → rows_at is_at_element (plan_of rows) path ≡ row ∷ [] → Leads es path root_context c → writes_entry row es c ≡ true → Among c (map (λ (spot : Spot). spot.context) (written_at rows es path))
       there [] own l k = absurd (nothing-at (plan_of rows) own)
         where
           nothing-at : (plan : Plan) → rows_at is_at_element plan [] ≡ row ∷ [] → ⊥
           nothing-at nothing z = let y : ◌≡◌ {A = List Row} [] (row ∷ []) = z in cc
           nothing-at (a_line t cells inside rest) z = let y : ◌≡◌ {A = List Row} [] (row ∷ []) = z in cc
-      there (s ∷ path) own l k = (reached es row (plan_of rows) s path false root_context x.context own l k).1
+      there (s ∷ path) own l k = (reached es row (plan_of rows) s path false root_context c own l k).1
 
-  same-entries : entries-of law es invoice term spots_at ≡ filter (of_term law es invoice term) es
+  abbrev pub wanted : Entry → Bool
+  wanted e = same_term e.term term && is_written_by row term es e.context
+
+  wanted-known : (x : Entry) → Among x (filter wanted es) → Among x (entries-of law es invoice term (written_spots spots_at))
+  wanted-known x h =
+      let w = of-filter wanted x es h in
+      let k = both (same_term x.term term) (is_written x.context) w.1 in
+      let e : x.term ≡ term = same_term_is x.term term k.0 in
+      let v : value_in es term x.context ≡ Some x.value = ap (λ t. value_in es t x.context) (sym e) ∙ own-value es x invoice.listed w.0 in
+      among-entries law es invoice term x (written_spots spots_at) e v (kept law es invoice term is_written x.context spots_at k.1 (written-spot x.context k.1))
+
+  known-wanted : (x : Entry) → Among x (entries-of law es invoice term (written_spots spots_at)) → Among x (filter wanted es)
+  known-wanted x h =
+      let w = of-filter (λ (e : Entry). same_term e.term term) x es (entry-known law es invoice term (written_spots spots_at) x h) in
+      among-filter wanted x es (pair w.1 (entries-pass law es invoice term is_written spots_at x h)) w.0
+    where
+      pair : {a b : Bool} → a ≡ true → b ≡ true → (a && b) ≡ true
+      pair e f = rw (e, f) refl
+
+  pub same-entries : entries-of law es invoice term (written_spots spots_at) ≡ filter wanted es
   same-entries =
-      same_members (entries-of law es invoice term spots_at) (filter (of_term law es invoice term) es) (listed-entries law es invoice term spots_at contexts.rising) (listed-filter (of_term law es invoice term) es invoice.listed)
+      same_members (entries-of law es invoice term (written_spots spots_at)) (filter wanted es)
+      (listed-entries law es invoice term (written_spots spots_at) (rising-filter (λ (a : Spot) (b : Spot). Later a.context b.context) (λ (spot : Spot). is_written spot.context) spots_at contexts.rising))
+      (listed-filter wanted es invoice.listed)
       (λ x. (
-        λ h. among-contains x (filter (of_term law es invoice term) es) (entry-known law es invoice term spots_at x (contains-among x (entries-of law es invoice term spots_at) h)),
-        λ h. among-contains x (entries-of law es invoice term spots_at) (known-entry x (contains-among x (filter (of_term law es invoice term) es) h)),
+        λ h. among-contains x (filter wanted es) (known-wanted x (contains-among x (entries-of law es invoice term (written_spots spots_at)) h)),
+        λ h. among-contains x (entries-of law es invoice term (written_spots spots_at)) (wanted-known x (contains-among x (filter wanted es) h)),
       ))
 
   pub plain-law : (k : ℕ) → map (λ (pick : Pick). string_at (document_nodes (document_of rows es)) pick.node) (nodes_picked (document_nodes (document_of rows es)) k row)
-      ≡ map (λ (e : Entry). formed (form_for row.form term) es e.context e.value) (filter (λ (e : Entry). same_term e.term term) es)
+      ≡ map (λ (e : Entry). formed (form_for row.form term) es e.context e.value) (filter (λ (e : Entry). same_term e.term term && is_written_by row term es e.context) es)
   plain-law k =
-      elements-law rows es k row plain.leaf plain.alone
-      ∙ (strings spots_at (own-texts es row (plan_of rows) row.path false root_context plain.own) contexts.own
+      elements-law rows es k row plain.leaf plain.apart
+      ∙ (strings spots_at (own-texts es row (plan_of rows) row.path false root_context plain.own) contexts.own reaches
       ∙ ap (map (λ (e : Entry). formed (form_for row.form term) es e.context e.value)) same-entries)
+
+  -- a row that is always written, writes all values of its term
+  always-written : row.written ≡ written.Always → stands_there term row.outer row.inner ≡ true → (x : Entry) → Among x es → same_term x.term term ≡ true → is_written x.context ≡ true
+  always-written always stands x a same =
+      let e : x.term ≡ term = same_term_is x.term term same in
+      let at = groups-are x term row.outer row.inner e (placed-at law es invoice term x a) stands in
+      let v : value_in es term x.context ≡ Some x.value = ap (λ t. value_in es t x.context) (sym e) ∙ own-value es x invoice.listed a in
+      let text : row_text row es x.context ≡ Some (formed (form_for row.form term) es x.context x.value) =
+      written-as x.context ∙ (ap (λ c. due c (value_in es term c)) (own-context x at)
+      ∙ (ap (due x.context) v ∙ ap (λ rule. if_due rule es term x.context (formed (form_for row.form term) es x.context x.value)) always)) in
+      pair (pair (ap (λ g. same_groups g row.outer) at.0 ∙ same-groups-itself row.outer) (ap (λ g. same_groups g row.inner) at.1 ∙ same-groups-itself row.inner)) (pair (ap is_some v) (ap is_some text))
+    where
+      pair : {a b : Bool} → a ≡ true → b ≡ true → (a && b) ≡ true
+      pair e f = rw (e, f) refl
+
+  pub always-law : row.written ≡ written.Always → stands_there term row.outer row.inner ≡ true → filter (λ (e : Entry). same_term e.term term && is_written_by row term es e.context) es ≡ filter (λ (e : Entry). same_term e.term term) es
+  always-law always stands = filter-same wanted (λ (e : Entry). same_term e.term term) es (each es (λ x a. a))
+    where
+      one : (x : Entry) → Among x es → (b : Bool) → same_term x.term term ≡ b → (b && is_written_by row term es x.context) ≡ b
+      one x a true e = always-written always stands x a e
+      one x a false e = refl
+
+      each : (xs : List Entry) → ((x : Entry) → Among x xs → Among x es) → Each (λ (x : Entry). (same_term x.term term && is_written_by row term es x.context) ≡ same_term x.term term) xs
+      each [] f = tt
+      each (x ∷ xs) f = (one x (f x (inl refl)) (same_term x.term term) refl, each xs (λ y a. f y (inr a)))
 
   -- ---- what the strings say
 
-  said-again : (xs : List Entry) → All (λ (e : Entry). Fits e.term e.value) xs → map (λ s. said row.form term s) (map (λ (e : Entry). formed (form_for row.form term) es e.context e.value) (filter (λ (e : Entry). same_term e.term term) xs))
-      ≡ map (λ (e : Entry). record { term = term; value = Some e.value } ∷ []) (filter (λ (e : Entry). same_term e.term term) xs)
+  said-again : (xs : List Entry) → All (λ (e : Entry). Fits e.term e.value) xs → map (λ s. said row.form term s) (map (λ (e : Entry). formed (form_for row.form term) es e.context e.value) (filter wanted xs))
+      ≡ map (λ (e : Entry). record { term = term; value = Some e.value } ∷ []) (filter wanted xs)
   said-again [] h = refl
-  said-again (e ∷ xs) h = go (same_term e.term term) refl (said-again xs (All-tail (λ (x : Entry). Fits x.term x.value) e xs h))
+  said-again (e ∷ xs) h = go (wanted e) refl (said-again xs (All-tail (λ (x : Entry). Fits x.term x.value) e xs h))
     where
       fits : Fits e.term e.value
       fits = All-head (λ (x : Entry). Fits x.term x.value) e xs h
@@ -566,16 +797,15 @@ module _ (law : Laws) (rows : List Row) (es : List Entry) (invoice : IsInvoice e
       says : e.term ≡ term → said row.form term (formed (form_for row.form term) es e.context e.value) ≡ record { term = term; value = Some e.value } ∷ []
       says t = (reads-as law row.form term es e.context e.value plain.form (subst (λ x. Fits x e.value) t fits)).said
 
-      go : (b : Bool) → same_term e.term term ≡ b
-          → map (λ s. said row.form term s) (map (λ (x : Entry). formed (form_for row.form term) es x.context x.value) (filter (λ (x : Entry). same_term x.term term) xs))
-          ≡ map (λ (x : Entry). record { term = term; value = Some x.value } ∷ []) (filter (λ (x : Entry). same_term x.term term) xs)
-          → map (λ s. said row.form term s) (map (λ (x : Entry). formed (form_for row.form term) es x.context x.value) (if b then e ∷ filter (λ (x : Entry). same_term x.term term) xs else filter (λ (x : Entry). same_term x.term term) xs))
-          ≡ map (λ (x : Entry). record { term = term; value = Some x.value } ∷ []) (if b then e ∷ filter (λ (x : Entry). same_term x.term term) xs else filter (λ (x : Entry). same_term x.term term) xs)
-      go true k more = (λ i. says (same_term_is e.term term k) i ∷ more i)
+      go : (b : Bool) → wanted e ≡ b
+          → map (λ s. said row.form term s) (map (λ (x : Entry). formed (form_for row.form term) es x.context x.value) (filter wanted xs)) ≡ map (λ (x : Entry). record { term = term; value = Some x.value } ∷ []) (filter wanted xs)
+          → map (λ s. said row.form term s) (map (λ (x : Entry). formed (form_for row.form term) es x.context x.value) (if b then e ∷ filter wanted xs else filter wanted xs))
+          ≡ map (λ (x : Entry). record { term = term; value = Some x.value } ∷ []) (if b then e ∷ filter wanted xs else filter wanted xs)
+      go true k more = (λ i. says (same_term_is e.term term (both (same_term e.term term) (is_written e.context) k).0) i ∷ more i)
       go false k more = more
 
   pub says-law : (k : ℕ) → map (λ (pick : Pick). said row.form term (string_at (document_nodes (document_of rows es)) pick.node)) (nodes_picked (document_nodes (document_of rows es)) k row)
-      ≡ map (λ (e : Entry). record { term = term; value = Some e.value } ∷ []) (filter (λ (e : Entry). same_term e.term term) es)
+      ≡ map (λ (e : Entry). record { term = term; value = Some e.value } ∷ []) (filter (λ (e : Entry). same_term e.term term && is_written_by row term es e.context) es)
   says-law k =
       sym (map-map (λ s. said row.form term s) (λ (pick : Pick). string_at (document_nodes (document_of rows es)) pick.node) (nodes_picked (document_nodes (document_of rows es)) k row))
       ∙ (ap (map (λ s. said row.form term s)) (plain-law k) ∙ said-again es invoice.fit)

@@ -1,5 +1,5 @@
 -- A line is written in each context in which its row writes something.
-use Rattle.std.proofs.Common.{◌≡◌, ℕ, Bool, true, false, ◌||◌, List, [], ◌∷◌, ◌++◌, map, filter, flat_map, Some, None, ◌⊎◌, inl, inr, refl, sym, ap, ◌∙◌, subst}
+use Rattle.std.proofs.Common.{◌≡◌, Bool, true, false, ◌||◌, List, [], ◌∷◌, ◌++◌, map, filter, flat_map, Some, ◌⊎◌, inl, inr, refl, sym, ap, ◌∙◌, subst}
 use Rattle.std.specs.Prelude.{if◌then◌else◌}
 use Rattle.std.specs.List.{list_any}
 use Rattle.term_table.specs.declared.groups.Group.{Group}
@@ -11,11 +11,13 @@ use Rattle.bind_rows.specs.Same.{same_step}
 use Rattle.bind_table.specs.Lines.{Cell, Plan, nothing, a_line}
 use Rattle.bind_lines.proofs.SameLemmas.{step-sound}
 use Rattle.bind_meaning.specs.Writing.{writes_entry}
-use Rattle.bind_meaning.specs.Trees.{spots, either, cells_hold, holds, line_holds, is_due, is_emitted, holds_further, attributes, is_at_element, constant_or_text, element_text}
+use Rattle.bind_meaning.specs.Trees.{spots, either, cells_hold, holds, line_holds, is_due, is_emitted, holds_further, attributes, is_at_element, element_text}
 use Rattle.binding_laws.specs.Written.{Spot, emitted, at_end, spots_below}
 use Rattle.binding_laws.specs.Plain.{groups_of, rows_at}
 use Rattle.binding_laws.proofs.TreeLemmas.{Each}
 use Rattle.binding_laws.proofs.ContextLemmas.{each-flat_map, all-each, no-groups, some-group}
+use Rattle.binding_laws.proofs.ListLemmas.{append-nil}
+use Rattle.binding_laws.proofs.CellLemmas.{own_text, text-by-rows}
 
 -- ---- membership, by recursion
 
@@ -65,25 +67,35 @@ any-among p x (y ∷ xs) e (inr h) = ap (λ b. p y || b) (any-among p x xs e h) 
     or-true true = refl
     or-true false = refl
 
+-- ---- the way to a context
+
+module _ (es : List Entry) where
+  -- Along the path one comes from the first context to the second.
+  abbrev pub Leads : List Step → Context → Context → Type 0
+  Leads [] c d = c ≡ d
+  Leads (s ∷ path) c d = (b : Context) × (Among b (spots es c s.group)) × Leads path b d
+
+  pub leads-on : (path : List Step) (c : Context) → groups_of path ≡ [] → Leads path c c
+  leads-on [] c h = refl
+  leads-on (s ∷ path) c h =
+      let k = no-groups s path h in
+      (c, subst (λ o. Among c (spots es c o)) (sym k.0) (inl refl), leads-on path c k.1)
+
+  pub leads-in : (path : List Step) (c d : Context) (g : Group) → groups_of path ≡ g ∷ [] → Among d (spots es c (Some g)) → Leads path c d
+  leads-in [] c d g h a = absurd (let z : ◌≡◌ {A = List Group} [] (g ∷ []) = h in cc)
+  leads-in (s ∷ path) c d g h a = elim (some-group s path g [] h) [
+    | inl w ↦ (c, subst (λ o. Among c (spots es c o)) (sym w.0) (inl refl), leads-in path c d g w.1 a)
+    | inr w ↦ (d, subst (λ o. Among d (spots es c o)) (sym w.0) a, leads-on path d w.1)
+  ]
+
+  pub leads-through : (path : List Step) (c b d : Context) (g i : Group) → groups_of path ≡ g ∷ (i ∷ []) → Among b (spots es c (Some g)) → Among d (spots es b (Some i)) → Leads path c d
+  leads-through [] c b d g i h a k = absurd (let z : ◌≡◌ {A = List Group} [] (g ∷ (i ∷ [])) = h in cc)
+  leads-through (s ∷ path) c b d g i h a k = elim (some-group s path g (i ∷ []) h) [
+    | inl w ↦ (c, subst (λ o. Among c (spots es c o)) (sym w.0) (inl refl), leads-through path c b d g i w.1 a k)
+    | inr w ↦ (b, subst (λ o. Among b (spots es c o)) (sym w.0) a, leads-in path b d i w.1 k)
+  ]
+
 -- ---- what is written of the row alone
-
--- the text of the element of which the row alone says the text
-abbrev pub own_text : List Entry → Context → Row → List ℕ
-own_text es c row = elim (constant_or_text es c row) [ None ↦ [] | Some text ↦ text ]
-
-text-by-rows : (es : List Entry) (c : Context) (cells : List Cell) → element_text es cells c ≡ flat_map (own_text es c) (map (λ (cell : Cell). cell.row) (filter is_at_element cells))
-text-by-rows es c [] = refl
-text-by-rows es c (cell ∷ cells) = go (is_at_element cell) (text-by-rows es c cells)
-  where
-    go : (b : Bool) → element_text es cells c ≡ flat_map (own_text es c) (map (λ (x : Cell). x.row) (filter is_at_element cells))
-        → (elim b [ true ↦ elim (constant_or_text es c cell.row) [ None ↦ [] | Some text ↦ text ] | false ↦ [] ]) ++ element_text es cells c
-        ≡ flat_map (own_text es c) (map (λ (x : Cell). x.row) (if b then cell ∷ filter is_at_element cells else filter is_at_element cells))
-    go true e = ap (λ l. (elim (constant_or_text es c cell.row) [ None ↦ [] | Some text ↦ text ]) ++ l) e
-    go false e = e
-
-append-nil : {X : Type 0} (xs : List X) → xs ++ [] ≡ xs
-append-nil [] = refl
-append-nil (x ∷ xs) = ap (λ l. x ∷ l) (append-nil xs)
 
 module _ (es : List Entry) (row : Row) where
   abbrev HasOwn : Spot → Type 0
@@ -118,33 +130,6 @@ module _ (es : List Entry) (row : Row) where
           (λ d. at_end path (record { context = d; attributes = attributes es t cells d; text = element_text es cells d }) (spots_below es inside path (holds_further es cells inside held d) d))
           (emitted es t cells inside held c) (all-each _ (emitted es t cells inside held c) (here inner path k))
       go inner later false k = later k
-
-  -- ---- the way to a context
-
-  -- Along the path one comes from the first context to the second.
-  abbrev pub Leads : List Step → Context → Context → Type 0
-  Leads [] c d = c ≡ d
-  Leads (s ∷ path) c d = (b : Context) × (Among b (spots es c s.group)) × Leads path b d
-
-  pub leads-on : (path : List Step) (c : Context) → groups_of path ≡ [] → Leads path c c
-  leads-on [] c h = refl
-  leads-on (s ∷ path) c h =
-      let k = no-groups s path h in
-      (c, subst (λ o. Among c (spots es c o)) (sym k.0) (inl refl), leads-on path c k.1)
-
-  pub leads-in : (path : List Step) (c d : Context) (g : Group) → groups_of path ≡ g ∷ [] → Among d (spots es c (Some g)) → Leads path c d
-  leads-in [] c d g h a = absurd (let z : ◌≡◌ {A = List Group} [] (g ∷ []) = h in cc)
-  leads-in (s ∷ path) c d g h a = elim (some-group s path g [] h) [
-    | inl w ↦ (c, subst (λ o. Among c (spots es c o)) (sym w.0) (inl refl), leads-in path c d g w.1 a)
-    | inr w ↦ (d, subst (λ o. Among d (spots es c o)) (sym w.0) a, leads-on path d w.1)
-  ]
-
-  pub leads-through : (path : List Step) (c b d : Context) (g i : Group) → groups_of path ≡ g ∷ (i ∷ []) → Among b (spots es c (Some g)) → Among d (spots es b (Some i)) → Leads path c d
-  leads-through [] c b d g i h a k = absurd (let z : ◌≡◌ {A = List Group} [] (g ∷ (i ∷ [])) = h in cc)
-  leads-through (s ∷ path) c b d g i h a k = elim (some-group s path g (i ∷ []) h) [
-    | inl w ↦ (c, subst (λ o. Among c (spots es c o)) (sym w.0) (inl refl), leads-through path c b d g i w.1 a k)
-    | inr w ↦ (b, subst (λ o. Among b (spots es c o)) (sym w.0) a, leads-in path b d i w.1 k)
-  ]
 
   either-first : (a : Bool) (b : Unit {0} → Bool) → a ≡ true → either a b ≡ true
   either-first a b e = ap (λ x. either x b) e
@@ -182,16 +167,16 @@ module _ (es : List Entry) (row : Row) where
       go later (inl e) = among-front d _ _ (subst (λ x. Among d (map (λ (spot : Spot). spot.context) (f x))) (sym e) k)
       go later (inr m) = among-back d (map (λ (spot : Spot). spot.context) (f a)) _ (later m)
 
-  pub reached : (plan : Plan) (s : Step) (path : List Step) (held : Bool) (c d : Context) → rows_at is_at_element plan (s ∷ path) ≡ row ∷ [] → Leads (s ∷ path) c d → writes_entry row es d ≡ true
+  pub reached : (plan : Plan) (s : Step) (path : List Step) (held : Bool) (c d : Context) → rows_at is_at_element plan (s ∷ path) ≡ row ∷ [] → Leads es (s ∷ path) c d → writes_entry row es d ≡ true
       → (holds es plan c ≡ true) × Among d (map (λ (spot : Spot). spot.context) (spots_below es plan (s ∷ path) held c))
   reached nothing s path held c d h w e = absurd (let z : ◌≡◌ {A = List Row} [] (row ∷ []) = h in cc)
   reached (a_line t cells inside rest) s path held c d h w e =
       go (λ u us b k l. reached inside u us (holds_further es cells inside held b) b d k l e) (λ k. reached rest s path held c d k w e) (same_step s t) refl h
     where
-      here : ((u : Step) (us : List Step) (b : Context) → rows_at is_at_element inside (u ∷ us) ≡ row ∷ [] → Leads (u ∷ us) b d
+      here : ((u : Step) (us : List Step) (b : Context) → rows_at is_at_element inside (u ∷ us) ≡ row ∷ [] → Leads es (u ∷ us) b d
           → (holds es inside b ≡ true) × Among d (map (λ (spot : Spot). spot.context) (spots_below es inside (u ∷ us) (holds_further es cells inside held b) b)))
           → (path : List Step) → (elim path [ [] ↦ map (λ (cell : Cell). cell.row) (filter is_at_element cells) | (u ∷ further) ↦ rows_at is_at_element inside (u ∷ further) ]) ≡ row ∷ []
-          → (b : Context) → Leads path b d
+          → (b : Context) → Leads es path b d
           → (line_holds es cells inside b ≡ true) × Among d (map (λ (spot : Spot). spot.context)
           (at_end path (record { context = b; attributes = attributes es t cells b; text = element_text es cells b }) (spots_below es inside path (holds_further es cells inside held b) b)))
       here inner [] k b l = (either-first (cells_hold es cells b) (λ _. holds es inside b) (ap (cells_hold es cells) l ∙ row-in-cells cells d k e), inl l)
@@ -199,7 +184,7 @@ module _ (es : List Entry) (row : Row) where
           let m = inner u us b k l in
           (either-second (cells_hold es cells b) (λ _. holds es inside b) m.0, m.1)
 
-      go : ((u : Step) (us : List Step) (b : Context) → rows_at is_at_element inside (u ∷ us) ≡ row ∷ [] → Leads (u ∷ us) b d
+      go : ((u : Step) (us : List Step) (b : Context) → rows_at is_at_element inside (u ∷ us) ≡ row ∷ [] → Leads es (u ∷ us) b d
           → (holds es inside b ≡ true) × Among d (map (λ (spot : Spot). spot.context) (spots_below es inside (u ∷ us) (holds_further es cells inside held b) b)))
           → (rows_at is_at_element rest (s ∷ path) ≡ row ∷ [] → (holds es rest c ≡ true) × Among d (map (λ (spot : Spot). spot.context) (spots_below es rest (s ∷ path) held c)))
           → (x : Bool) → same_step s t ≡ x → (elim x [

@@ -1,3 +1,6 @@
-pub mod Alone
+pub mod Apart
+pub mod Covered
+pub mod Faultless
 pub mod Plain
+pub mod Twins
 pub mod Written

@@ -6,9 +6,12 @@ use Rattle.std.specs.Cmp.Lexicographic.{pointwise}
 use Rattle.term_table.specs.declared.groups.Group.{Group}
 use Rattle.term_table.specs.declared.terms.Term.{Term}
 use Rattle.term_table.specs.declared.terms.TermRow.{TermRow}
-use Rattle.term_table.specs.Contexts.{stands_in}
+use Rattle.term_table.specs.declared.contexts.Context.{Context}
+use Rattle.term_table.specs.Contexts.{slot_group, same_groups, stands_in}
 use Rattle.term_table.specs.Groups.{same_group}
 use Rattle.term_table.specs.SemanticModel.{same_term, terms}
+use Rattle.inv_terms.specs.declared.entries.Entry.{Entry}
+use Rattle.inv_terms.specs.Listing.{value_in}
 use Rattle.bind_rows.specs.declared.names.Leaf.{Leaf}
 use Rattle.bind_rows.specs.declared.names.Leaf.TheVariants as leaves
 use Rattle.bind_rows.specs.declared.rows.Step.{Step}
@@ -22,10 +25,11 @@ use Rattle.bind_rows.specs.declared.rows.Written.TheVariants as written
 use Rattle.bind_rows.specs.Same.{same_step, same_or_none}
 use Rattle.bind_table.specs.Lines.{Cell, Plan, nothing, a_line, plan_of}
 use Rattle.bind_meaning.specs.Values.{form_for}
+use Rattle.bind_meaning.specs.Writing.{writes_entry}
 use Rattle.bind_meaning.specs.Currencies.{currency_id}
 use Rattle.bind_meaning.specs.Trees.{is_at_element}
 use Rattle.bind_meaning.specs.Picks.{has_any_term}
-use Rattle.binding_laws.specs.Alone.{is_lone, stands_alone}
+use Rattle.binding_laws.specs.Apart.{is_at_attribute, is_apart, stands_apart}
 
 -- the rows of a sort at the line of a path
 abbrev pub rows_at : (Cell → Bool) → Plan → List Step → List Row
@@ -35,14 +39,6 @@ rows_at is_so (a_line t cells inside rest) (s ∷ path) = elim (same_step s t) [
   | true ↦ elim path [ [] ↦ map (λ (cell : Cell). cell.row) (filter is_so cells) | (u ∷ further) ↦ rows_at is_so inside (u ∷ further) ]
   | false ↦ rows_at is_so rest (s ∷ path)
 ]
-
-abbrev pub is_attribute_named : List ℕ → Leaf → Bool
-is_attribute_named local leaves.Element = false
-is_attribute_named local (leaves.Attribute other) = bytes_eq local other
-
--- The row ends at the attribute of the name.
-abbrev pub is_at_attribute : List ℕ → Cell → Bool
-is_at_attribute local cell = is_attribute_named local cell.row.leaf
 
 -- the groups whose elements a path goes through
 abbrev pub groups_of : List Step → List Group
@@ -57,6 +53,14 @@ listed (Some group) = group ∷ []
 abbrev pub stands_there : Term → Option Group → Option Group → Bool
 stands_there term outer inner = list_all (λ (r : TermRow). not (same_term r.term term) || stands_in r.group outer inner) terms
 
+-- The group's terms stand in none of the other contexts that a path through elements of these groups may have.
+abbrev pub is_beyond : Group → Option Group → Option Group → Bool
+is_beyond group outer inner = not (stands_in group None None || (stands_in group outer None || stands_in group inner None))
+
+-- Where the term stands in a context of such a path, it stands in these groups.
+abbrev pub stands_nowhere_else : Term → Option Group → Option Group → Bool
+stands_nowhere_else term outer inner = list_all (λ (r : TermRow). not (same_term r.term term) || (stands_in r.group outer inner || is_beyond r.group outer inner)) terms
+
 -- A value is written whole, as the model spells it or, for a day, without dashes.
 abbrev pub is_whole : Form → Bool
 is_whole forms.Model = true
@@ -64,20 +68,41 @@ is_whole forms.PlainDate = true
 is_whole forms.DueDateTypeCode = false
 is_whole forms.CodedNote = false
 
+-- Whether it is written hangs on the value and on its scheme alone: nothing stands in its place, and no currency tells it
+-- from another.
+abbrev pub is_by_value : Written → Bool
+is_by_value written.Always = true
+is_by_value written.Never = true
+is_by_value written.IfIban = true
+is_by_value written.IfNotIban = true
+is_by_value written.IfScheme = true
+is_by_value written.IfNoScheme = true
+is_by_value (written.OrFiller filler) = false
+is_by_value written.VatTotal = false
+is_by_value written.AccountingVatTotal = false
+
 -- It is a plain row of the term.
 pub record IsPlain (rows : List Row) (row : Row) (term : Term) : Type 0 where
-  -- its path stands alone, and no other row ends at its element
-  pub alone : stands_alone rows row.path ≡ true
+  -- its path stands apart, and no other row ends at its element
+  pub apart : stands_apart rows row.path ≡ true
   pub own : rows_at is_at_element (plan_of rows) row.path ≡ row ∷ []
   pub leaf : row.leaf ≡ leaves.Element
-  -- it always writes the term's value, whole
+  -- it writes the term's value, whole, or nothing
   pub content : row.content ≡ contents.Term term
   pub form : is_whole (form_for row.form term) ≡ true
-  pub written : row.written ≡ written.Always
-  -- its path goes through one element for each group of its context, and the term stands there
+  pub by_value : is_by_value row.written ≡ true
+  -- its path goes through one element for each group of its context, and the term stands in no context around it
   pub through : groups_of row.path ≡ listed row.outer ++ listed row.inner
   pub nested : (is_some row.outer || is_none row.inner) ≡ true
-  pub context : stands_there term row.outer row.inner ≡ true
+  pub context : stands_nowhere_else term row.outer row.inner ≡ true
+
+-- The context is one of the row.
+abbrev pub is_in_groups : Row → Context → Bool
+is_in_groups row c = same_groups (slot_group c.outer) row.outer && same_groups (slot_group c.inner) row.inner
+
+-- The row writes the term's value in the context.
+abbrev pub is_written_by : Row → Term → List Entry → Context → Bool
+is_written_by row term es c = is_in_groups row c && (is_some (value_in es term c) && writes_entry row es c)
 
 -- ---- the same as a test that computes, for the rows of a table
 
@@ -100,13 +125,13 @@ is_always _ = false
 
 abbrev pub is_plain_in : Plan → Row → Term → Bool
 is_plain_in plan row term =
-    is_lone plan row.path
+    is_apart [] plan row.path
     && (is_one (rows_at is_at_element plan row.path)
     && (is_element row.leaf
     && (has_content term row.content
     && (is_whole (form_for row.form term)
-    && (is_always row.written
-    && (pointwise same_group (groups_of row.path) (listed row.outer ++ listed row.inner) && ((is_some row.outer || is_none row.inner) && stands_there term row.outer row.inner)))))))
+    && (is_by_value row.written
+    && (pointwise same_group (groups_of row.path) (listed row.outer ++ listed row.inner) && ((is_some row.outer || is_none row.inner) && stands_nowhere_else term row.outer row.inner)))))))
 
 -- It is a plain row of the term, if it is one of these rows.
 abbrev pub is_plain : List Row → Row → Term → Bool
@@ -138,7 +163,45 @@ pub record IsPlainAttribute (rows : List Row) (row : Row) (term : Term) (main : 
   pub form : is_whole (form_for row.form term) ≡ true
   pub written : row.written ≡ written.Always
 
--- ---- the same as a test that computes
+-- ---- rows of the whole invoice, written in each of the elements that their paths go through
+
+-- A value of one term is written: whole, or as another list spells its code.
+abbrev pub is_of_one_term : Form → Bool
+is_of_one_term forms.Model = true
+is_of_one_term forms.PlainDate = true
+is_of_one_term forms.DueDateTypeCode = true
+is_of_one_term forms.CodedNote = false
+
+-- It is a spread row of the term: the term stands in the invoice itself, whatever groups the path goes through.
+pub record IsSpread (rows : List Row) (row : Row) (term : Term) : Type 0 where
+  -- its path stands apart, and no other row ends at its element
+  pub apart : stands_apart rows row.path ≡ true
+  pub own : rows_at is_at_element (plan_of rows) row.path ≡ row ∷ []
+  pub leaf : row.leaf ≡ leaves.Element
+  -- it writes the term's value or nothing
+  pub content : row.content ≡ contents.Term term
+  pub form : is_of_one_term (form_for row.form term) ≡ true
+  pub by_value : is_by_value row.written ≡ true
+  -- it is a row of the invoice, and the term stands there
+  pub outer : row.outer ≡ None
+  pub inner : row.inner ≡ None
+  pub context : stands_there term None None ≡ true
+
+abbrev pub is_spread_in : Plan → Row → Term → Bool
+is_spread_in plan row term =
+    is_apart [] plan row.path
+    && (is_one (rows_at is_at_element plan row.path)
+    && (is_element row.leaf
+    && (has_content term row.content && (is_of_one_term (form_for row.form term) && (is_by_value row.written && (is_none row.outer && (is_none row.inner && stands_there term None None)))))))
+
+-- It is a spread row of the term, if it is one of these rows.
+abbrev pub is_spread : List Row → Row → Term → Bool
+is_spread rows row term = is_spread_in (plan_of rows) row term
+
+abbrev pub is_spread_by : Plan → Row → Bool
+is_spread_by plan row = elim row.content [ (contents.Term term) ↦ is_spread_in plan row term | (contents.Constant text) ↦ false ]
+
+-- ---- the same as a test that computes, for rows at attributes
 
 abbrev pub is_part_named : Plan → Row → Leaf → Bool
 is_part_named plan main leaves.Element = false
@@ -165,3 +228,39 @@ is_plain_beside plan row main = elim row.content [
 
 abbrev pub count_attributes : List Row → ℕ
 count_attributes rows = length (filter (λ row. list_any (is_plain_beside (plan_of rows) row) rows) rows)
+
+-- ---- rows at attributes of elements in which a value of the whole invoice is written
+
+-- It is a spread row of the term at an attribute of the element that a spread row of another term writes.
+pub record IsSpreadAttribute (rows : List Row) (row : Row) (term : Term) (main : Row) (main_term : Term) : Type 0 where
+  pub beside : IsSpread rows main main_term
+  pub main_form : is_whole (form_for main.form main_term) ≡ true
+  pub path : row.path ≡ main.path
+  pub outer : row.outer ≡ None
+  pub inner : row.inner ≡ None
+  -- the attribute isn't that of a currency, and no other row ends at it
+  pub local : List ℕ
+  pub leaf : row.leaf ≡ leaves.Attribute local
+  pub other : bytes_eq local currency_id ≡ false
+  pub own : rows_at (is_at_attribute local) (plan_of rows) main.path ≡ row ∷ []
+  -- it always writes the term's value, whole
+  pub content : row.content ≡ contents.Term term
+  pub form : is_whole (form_for row.form term) ≡ true
+  pub written : row.written ≡ written.Always
+
+abbrev pub is_spread_attribute_in : Plan → Row → Term → Row → Term → Bool
+is_spread_attribute_in plan row term main main_term =
+    pointwise same_step row.path main.path
+    && (is_spread_in plan main main_term
+    && (is_whole (form_for main.form main_term)
+    && (is_none row.outer && (is_none row.inner && (is_part_named plan main row.leaf && (has_content term row.content && (is_whole (form_for row.form term) && is_always row.written)))))))
+
+-- It is one, if both are rows of these.
+abbrev pub is_spread_attribute : List Row → Row → Term → Row → Term → Bool
+is_spread_attribute rows row term main main_term = is_spread_attribute_in (plan_of rows) row term main main_term
+
+abbrev pub is_spread_beside : Plan → Row → Row → Bool
+is_spread_beside plan row main = elim row.content [
+  | (contents.Term term) ↦ elim main.content [ (contents.Term main_term) ↦ is_spread_attribute_in plan row term main main_term | (contents.Constant text) ↦ false ]
+  | (contents.Constant text) ↦ false
+]

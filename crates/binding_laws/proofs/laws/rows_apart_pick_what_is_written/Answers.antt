@@ -1,6 +1,6 @@
 use Rattle.binding_laws.proofs.RowLemmas.{elements-law, attributes-law}
 use Rattle.binding_laws.proofs.InsideLemmas.{inside-law}
-use Rattle.binding_laws.proofs.laws.lone_rows_pick_what_is_written.Goals as goal
+use Rattle.binding_laws.proofs.laws.rows_apart_pick_what_is_written.Goals as goal
 
 pub returns-clause-elements : goal.returns-clause-elements
 returns-clause-elements c = elements-law

@@ -1,0 +1,309 @@
+-- Which values of an invoice plain and spread rows of a table write, and those of the two VAT totals, and which terms are
+-- left out: those that other rows of the table speak of, and those beside which a filler stands.
+use Rattle.std.specs.Prelude.{ℕ, Bool, true, false, not, ◌&&◌, ◌||◌, List, [], ◌∷◌, ◌++◌, length, filter, flat_map, map, Option, Some, None, is_none, option_map}
+use Rattle.std.specs.List.{list_all, list_any}
+use Rattle.std.specs.Str.{bytes_eq}
+use Rattle.term_table.specs.declared.terms.Term.{Term}
+use Rattle.term_table.specs.declared.terms.TermRow.{TermRow}
+use Rattle.term_table.specs.SemanticModel.{same_term, terms}
+use Rattle.term_table.specs.Contexts.{root_context}
+use Rattle.inv_terms.specs.declared.entries.Entry.{Entry}
+use Rattle.inv_terms.specs.Values.{trimmed, spelled}
+use Rattle.inv_terms.specs.Listing.{value_in}
+use Rattle.inv_terms.specs.declared.values.Value.{Value}
+use Rattle.inv_terms.specs.declared.values.Value.TheVariants as values
+use Rattle.bind_rows.specs.declared.names.Leaf.{Leaf}
+use Rattle.bind_rows.specs.declared.names.Leaf.TheVariants as leaves
+use Rattle.bind_rows.specs.declared.rows.Content.TheVariants as contents
+use Rattle.bind_rows.specs.declared.rows.Step.{Step}
+use Rattle.bind_rows.specs.declared.rows.Row.{Row}
+use Rattle.bind_rows.specs.declared.rows.Form.{Form}
+use Rattle.bind_rows.specs.declared.rows.Form.TheVariants as forms
+use Rattle.bind_rows.specs.declared.rows.Written.{Written}
+use Rattle.bind_rows.specs.declared.rows.Written.TheVariants as written
+use Rattle.bind_table.specs.Lines.{Cell, Plan, nothing, a_line, plan_of}
+use Rattle.bind_meaning.specs.Currencies.{Currencies, invoice_currency, accounting_currency, currency_id}
+use Rattle.bind_meaning.specs.Picks.{has_term, has_any_term}
+use Rattle.bind_meaning.specs.Values.{Image, images, form_for}
+use Rattle.bind_meaning.specs.Judging.{is_amount}
+use Rattle.bind_meaning.specs.Trees.{is_at_element, is_vat_total}
+use Rattle.binding_laws.specs.Apart.{is_called, is_nothing, is_at_attribute, rows_so, holds_none, is_apart}
+use Rattle.binding_laws.specs.Twins.{same_way, are_twins}
+use Rattle.binding_laws.specs.Faultless.{is_no_row}
+use Rattle.binding_laws.specs.Plain.{rows_at, is_one, is_element, has_content, is_of_one_term, stands_there, is_plain_in, is_plain_attribute_in, is_spread_in, is_spread_attribute_in, is_written_by, is_plain_by, is_spread_by, is_plain_beside, is_spread_beside}
+
+abbrev pub is_or_filler : Written → Bool
+is_or_filler written.Always = false
+is_or_filler written.Never = false
+is_or_filler written.IfIban = false
+is_or_filler written.IfNotIban = false
+is_or_filler written.IfScheme = false
+is_or_filler written.IfNoScheme = false
+is_or_filler (written.OrFiller filler) = true
+is_or_filler written.VatTotal = false
+is_or_filler written.AccountingVatTotal = false
+
+abbrev pub is_filled_there : Plan → Row → Term → Bool
+is_filled_there plan row term =
+    is_apart [] plan row.path
+    && (is_one (rows_at is_at_element plan row.path)
+    && (is_element row.leaf && (has_content term row.content && (is_of_one_term (form_for row.form term) && (is_none row.outer && (is_none row.inner && stands_there term None None))))))
+
+-- The row is spread, but for a filler that may stand in its place.
+abbrev pub is_filled_in : Plan → Row → Term → Bool
+is_filled_in plan row term = elim (is_or_filler row.written) [ true ↦ is_filled_there plan row term | false ↦ false ]
+
+abbrev pub is_filled_by : Plan → Row → Bool
+is_filled_by plan row = elim row.content [ (contents.Term term) ↦ is_filled_in plan row term | (contents.Constant text) ↦ false ]
+
+-- ---- the VAT total, where the one in accounting currency isn't in the invoice
+
+abbrev pub is_total_rule : Written → Bool
+is_total_rule written.VatTotal = true
+is_total_rule _ = false
+
+abbrev pub is_accounting_rule : Written → Bool
+is_accounting_rule written.AccountingVatTotal = true
+is_accounting_rule _ = false
+
+abbrev pub accounting_terms_of : Row → List Term
+accounting_terms_of row = elim (is_accounting_rule row.written) [ true ↦ elim row.content [ (contents.Term term) ↦ term ∷ [] | (contents.Constant text) ↦ [] ] | false ↦ [] ]
+
+-- the terms of VAT totals in accounting currency
+abbrev pub accounting_terms : List Row → List Term
+accounting_terms rows = flat_map accounting_terms_of rows
+
+abbrev pub total_terms_of : Row → List Term
+total_terms_of row = elim (is_total_rule row.written) [ true ↦ elim row.content [ (contents.Term term) ↦ term ∷ [] | (contents.Constant text) ↦ [] ] | false ↦ [] ]
+
+-- the terms of VAT totals
+abbrev pub total_terms : List Row → List Term
+total_terms rows = flat_map total_terms_of rows
+
+-- It is the row of a total of the invoice itself, alone at its element, and its path stands apart without these terms.
+abbrev pub is_total_there : Plan → List Term → Row → Term → Bool
+is_total_there plan gone row term =
+    is_apart gone plan row.path
+    && (is_one (rows_at is_at_element plan row.path)
+    && (is_element row.leaf
+    && (has_content term row.content
+    && (is_of_one_term (form_for row.form term) && (is_no_row (rows_at (is_at_attribute currency_id) plan row.path) && (is_none row.outer && (is_none row.inner && stands_there term None None)))))))
+
+-- ---- both VAT totals, which their currencies alone tell apart
+
+-- the terms beside which a filler stands
+abbrev pub beside_filler : Row → List Term
+beside_filler row = elim row.written [ (written.OrFiller filler) ↦ filler.beside ∷ [] | _ ↦ [] ]
+
+-- It is the row of one of both totals: placed so without the terms of the other, of an amount beside which no filler stands.
+abbrev pub is_half : Plan → List Row → List Term → Row → Bool
+is_half plan rows others row = elim row.content [
+  | (contents.Term term) ↦ is_total_there plan others row term && (is_amount term && not (list_any (λ t. has_term t row) (flat_map beside_filler rows)))
+  | (contents.Constant text) ↦ false
+]
+
+abbrev pub are_pair_there : Plan → List Row → Row → Row → Bool
+are_pair_there plan rows main twin =
+    is_half plan rows (accounting_terms rows) main && (is_half plan rows (total_terms rows) twin && (same_way main.path twin.path && are_twins plan main.path twin.path))
+
+-- They are the rows of the VAT total and of the one in accounting currency, and both lead to the elements of both.
+abbrev pub are_pair : Plan → List Row → Row → Row → Bool
+are_pair plan rows main twin = elim (is_total_rule main.written) [ true ↦ elim (is_accounting_rule twin.written) [ true ↦ are_pair_there plan rows main twin | false ↦ false ] | false ↦ false ]
+
+-- The row is one of two such.
+abbrev pub is_of_pair : Plan → List Row → Row → Bool
+is_of_pair plan rows row = elim (is_vat_total row.written) [ true ↦ list_any (λ other. are_pair plan rows row other || are_pair plan rows other row) rows | false ↦ false ]
+
+abbrev pub is_pair_in : Plan → List Row → Row → Term → Bool
+is_pair_in plan rows row term = elim (is_of_pair plan rows row) [ true ↦ has_content term row.content | false ↦ false ]
+
+abbrev pub is_pair_by : Plan → List Row → Row → Bool
+is_pair_by plan rows row = elim row.content [ (contents.Term term) ↦ is_pair_in plan rows row term | (contents.Constant text) ↦ false ]
+
+-- the terms of VAT totals in accounting currency whose rows aren't so
+abbrev pub unpaired_terms : Plan → List Row → List Term
+unpaired_terms plan rows = flat_map (λ row. elim (is_of_pair plan rows row) [ true ↦ [] | false ↦ accounting_terms_of row ]) rows
+
+-- It is the row of a VAT total, where none of such terms stands.
+abbrev pub is_total_in : Plan → List Row → Row → Term → Bool
+is_total_in plan rows row term = elim (is_total_rule row.written) [ true ↦ is_total_there plan (unpaired_terms plan rows) row term | false ↦ false ]
+
+abbrev pub is_total_by : Plan → List Row → Row → Bool
+is_total_by plan rows row = elim row.content [ (contents.Term term) ↦ is_total_in plan rows row term | (contents.Constant text) ↦ false ]
+
+-- The row is plain or spread, at an element or at an attribute of one, or spread but for a filler, or that of a VAT total.
+abbrev pub is_covered_in : Plan → List Row → Row → Bool
+is_covered_in plan rows row =
+    is_plain_by plan row || (is_spread_by plan row || (list_any (is_plain_beside plan row) rows || (list_any (is_spread_beside plan row) rows || (is_filled_by plan row || (is_total_by plan rows row || is_pair_by plan rows row)))))
+
+abbrev pub is_covered : List Row → Row → Bool
+is_covered rows row = is_covered_in (plan_of rows) rows row
+
+abbrev pub count_covered : List Row → ℕ
+count_covered rows = length (filter (is_covered_in (plan_of rows) rows) rows)
+
+-- ---- values that such rows write
+
+-- The row is one of the entry's term at an attribute of the element in which the main row writes its own term.
+abbrev pub writes_beside : Plan → List Entry → Entry → Row → Row → Bool
+writes_beside plan es e row main = elim main.content [
+  | (contents.Term main_term) ↦ (is_plain_attribute_in plan row e.term main main_term || is_spread_attribute_in plan row e.term main main_term) && is_written_by main main_term es e.context
+  | (contents.Constant text) ↦ false
+]
+
+abbrev pub writes_plainly : Plan → List Row → List Entry → Entry → Row → Bool
+writes_plainly plan rows es e row =
+    (is_plain_in plan row e.term && is_written_by row e.term es e.context)
+    || ((is_spread_in plan row e.term && is_written_by row e.term es e.context)
+    || (list_any (writes_beside plan es e row) rows
+    || ((is_filled_in plan row e.term && is_written_by row e.term es e.context)
+    || ((is_total_in plan rows row e.term && is_written_by row e.term es e.context) || (is_pair_in plan rows row e.term && is_written_by row e.term es e.context)))))
+
+-- Such a row of the table writes the entry's value.
+abbrev pub is_written_plainly_in : Plan → List Row → List Entry → Entry → Bool
+is_written_plainly_in plan rows es e = list_any (writes_plainly plan rows es e) rows
+
+abbrev pub is_written_plainly : List Row → List Entry → Entry → Bool
+is_written_plainly rows es e = is_written_plainly_in (plan_of rows) rows es e
+
+-- ---- values that are read back
+
+-- the code is one that has another spelling
+abbrev pub is_imaged : Value → Bool
+is_imaged (values.Code code) = list_any (λ (image : Image). bytes_eq image.code code) images
+is_imaged _ = false
+
+-- A value that is written in the form is read as it.
+abbrev pub is_read_back : Form → Value → Bool
+is_read_back forms.Model value = true
+is_read_back forms.PlainDate value = true
+is_read_back forms.DueDateTypeCode value = is_imaged value
+is_read_back forms.CodedNote value = false
+
+-- Each row of the entry's term reads what it writes of its value as that value.
+abbrev pub reads_back : List Row → Entry → Bool
+reads_back rows e = list_all (λ row. not (has_term e.term row) || is_read_back (form_for row.form e.term) e.value) rows
+
+-- ---- terms that are left out
+
+-- the rows by which a row picks something at a line: those at its element or attribute, or, where a constant stands at the
+-- attribute, those at the element, since an attribute of a blank element isn't picked
+abbrev pub rows_at_line : Leaf → List Cell → List Row
+rows_at_line leaves.Element cells = rows_so is_at_element cells
+rows_at_line (leaves.Attribute local) cells = elim (list_all has_any_term (rows_so (is_at_attribute local) cells)) [
+  | true ↦ rows_so (is_at_attribute local) cells
+  | false ↦ rows_so is_at_element cells
+]
+
+-- the same at all lines where a path of names ends, whatever the guards are
+abbrev pub rows_named : Leaf → Plan → List Step → List Row
+rows_named leaf nothing path = []
+rows_named leaf (a_line t cells inside rest) [] = []
+rows_named leaf (a_line t cells inside rest) (s ∷ path) = elim (is_called s.name t.name) [
+  | true ↦ (elim path [ [] ↦ rows_at_line leaf cells | (u ∷ further) ↦ rows_named leaf inside (u ∷ further) ]) ++ rows_named leaf rest (s ∷ path)
+  | false ↦ rows_named leaf rest (s ∷ path)
+]
+
+-- No line is below the end of the path of names.
+abbrev pub is_bare : Plan → List Step → Bool
+is_bare nothing path = true
+is_bare (a_line t cells inside rest) [] = false
+is_bare (a_line t cells inside rest) (s ∷ path) = elim (is_called s.name t.name) [
+  | true ↦ (elim path [ [] ↦ is_nothing inside | (u ∷ further) ↦ is_bare inside (u ∷ further) ]) && is_bare rest (s ∷ path)
+  | false ↦ is_bare rest (s ∷ path)
+]
+
+abbrev pub rows_there : Plan → Row → List Row
+rows_there plan row = rows_named row.leaf plan row.path
+
+-- the terms whose values a row looks at
+abbrev pub terms_in : Row → List Term
+terms_in row = elim row.content [
+  | (contents.Term term) ↦ term ∷ elim row.written [ (written.OrFiller filler) ↦ filler.beside ∷ [] | _ ↦ [] ]
+  | (contents.Constant text) ↦ []
+]
+
+-- The row is that of the VAT total in accounting currency, and leads to the elements of a VAT total that is told apart
+-- without it.
+abbrev pub is_shadowed : Plan → List Row → Row → Bool
+is_shadowed plan rows row =
+    is_accounting_rule row.written
+    && (is_element row.leaf
+    && (not (has_term invoice_currency row || has_term accounting_currency row)
+    && (not (list_any (λ term. has_term term row) (flat_map beside_filler rows)) && list_any (λ (main : Row). is_total_by plan rows main && same_way row.path main.path) rows)))
+
+abbrev pub is_other : Plan → List Row → Row → Bool
+is_other plan rows row = has_any_term row && (not (is_covered_in plan rows row) && not (is_shadowed plan rows row))
+
+abbrev pub left_out_in : Plan → List Row → List Term
+left_out_in plan rows = flat_map (λ row. flat_map terms_in (rows_there plan row)) (filter (is_other plan rows) rows) ++ (flat_map beside_filler rows ++ unpaired_terms plan rows)
+
+-- the terms that rows look at which end where rows end that aren't covered, those beside which a filler stands, and those
+-- of VAT totals in accounting currency whose rows aren't covered
+abbrev pub left_out : List Row → List Term
+left_out rows = left_out_in (plan_of rows) rows
+
+-- The leaf is no currency of an amount.
+abbrev pub is_no_currency : Leaf → Bool
+is_no_currency leaves.Element = true
+is_no_currency (leaves.Attribute local) = not (bytes_eq local currency_id)
+
+abbrev pub is_settled_in : Plan → List Row → Bool
+is_settled_in plan rows = list_all (λ row. not (is_other plan rows row) || (list_all has_any_term (rows_there plan row) && (is_bare plan row.path && is_no_currency row.leaf))) rows
+
+-- Where rows end that aren't covered, no constants stand and no lines are below.
+abbrev pub is_settled : List Row → Bool
+is_settled rows = is_settled_in (plan_of rows) rows
+
+-- The term is left out.
+abbrev pub is_left_out : List Row → Term → Bool
+is_left_out rows term = list_any (same_term term) (left_out rows)
+
+-- ---- invoices that such rows write
+
+-- the currency in the invoice
+abbrev pub currency_in : List Entry → Term → Option (List ℕ)
+currency_in es term = option_map spelled (value_in es term root_context)
+
+abbrev pub is_text : Option (List ℕ) → Option (List ℕ) → Bool
+is_text None other = false
+is_text (Some a) None = false
+is_text (Some a) (Some b) = bytes_eq a b
+
+abbrev pub is_other_text : Option (List ℕ) → Option (List ℕ) → Bool
+is_other_text None other = false
+is_other_text (Some a) None = false
+is_other_text (Some a) (Some b) = not (bytes_eq a b)
+
+-- Where a VAT total in accounting currency stands in the invoice, so do its two currencies, and they differ.
+abbrev pub has_currencies : List Row → List Entry → Bool
+has_currencies rows es = holds_none (accounting_terms rows) es || is_other_text (currency_in es invoice_currency) (currency_in es accounting_currency)
+
+-- No term that is left out stands in the invoice, each of its values is read back, and such a row writes it.
+abbrev pub holds_plainly_in : Plan → List Term → List Row → List Entry → Bool
+holds_plainly_in plan left rows es = list_all (λ e. not (list_any (same_term e.term) left) && (reads_back rows e && is_written_plainly_in plan rows es e)) es && has_currencies rows es
+
+abbrev pub holds_plainly : List Row → List Entry → Bool
+holds_plainly rows es = holds_plainly_in (plan_of rows) (left_out rows) rows es
+
+-- the numbers and parts of the terms that are left out, in listing order
+abbrev pub left_out_terms : List Row → List Term
+left_out_terms rows = map (λ (r : TermRow). r.term) (filter (λ (r : TermRow). list_any (same_term r.term) (left_out rows)) terms)
+
+-- ---- currencies
+
+-- The currency of the invoice that is read is that of the invoice, or none is read.
+abbrev pub is_own_currency : List Entry → Option (List ℕ) → Bool
+is_own_currency es None = true
+is_own_currency es (Some text) = elim (value_in es invoice_currency root_context) [ None ↦ false | Some value ↦ bytes_eq text (trimmed (spelled value)) ]
+
+-- the currency in the invoice, as it is read
+abbrev pub currency_text : List Entry → Term → Option (List ℕ)
+currency_text es term = option_map (λ value. trimmed (spelled value)) (value_in es term root_context)
+
+-- So it is, and where a VAT total in accounting currency stands in the invoice, both currencies that are read are those of
+-- the invoice.
+abbrev pub are_own_currencies : List Row → List Entry → Currencies → Bool
+are_own_currencies rows es c =
+    is_own_currency es c.invoice
+    && (holds_none (accounting_terms rows) es || (is_text c.invoice (currency_text es invoice_currency) && is_text c.accounting (currency_text es accounting_currency)))

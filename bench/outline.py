@@ -4,8 +4,10 @@
     python3 bench/outline.py [PROGRAM] [RUNS]
 
 PROGRAM is crates/einv/out/einv if it isn't given, RUNS 5. Prints two tables: documents of 1 and 16 MB, rich in elements, in
-attributes or in text, with both times and their ratio; and one hostile document of each kind, with what einv answers. Each time is the best of the
-runs, wall clock, start-up included. Where xmllint (libxml2-utils) is missing its column is left out with a word.
+attributes or in text, with both times and their ratio; and one hostile document of each kind, with its time, how many times
+that is the time of a document rich in elements of its size, the most memory that einv held, and what it answers. Each time
+is the best of the runs, wall clock, start-up included. Where xmllint (libxml2-utils) is missing its column is left out with
+a word.
 """
 import pathlib
 import shutil
@@ -62,6 +64,24 @@ HOSTILE = {
         + '<p0x0:x p98x63:y="1"/>' * 100_000
         + "".join(f"</e{d}>" for d in reversed(range(99)))
     ).encode(),
+    "64 declarations an element, 97 deep, around 300,000": lambda: (
+        "".join(f"<e{d} " + " ".join(f'xmlns:p{d}x{n}="u{n}"' for n in range(64)) + ">" for d in range(97))
+        + "<p0x0:x/>" * 300_000
+        + "".join(f"</e{d}>" for d in reversed(range(97)))
+    ).encode(),
+    "the same prefix declared at each element": lambda: whole("<r>", '<p:e xmlns:p="u"/>', "</r>", 8 * MEGABYTE),
+    "the default namespace declared at each element": lambda: whole("<r>", '<e xmlns="u"/>', "</r>", 8 * MEGABYTE),
+    "a namespace name of 262,000 bytes, 9,990 names": lambda: (
+        '<r xmlns="' + "U" * 262_000 + '">' + "".join(f"<n{n}/>" for n in range(9_990)) + "</r>"
+    ).encode(),
+    "a namespace name of 262,000 bytes, 100,000 elements": lambda: (
+        '<r xmlns="' + "U" * 262_000 + '">' + "<e/>" * 100_000 + "</r>"
+    ).encode(),
+    "64 attributes an element, 9,000 names": lambda: (
+        "<r>"
+        + "".join("<e " + " ".join(f'a{64 * t + n}=""' for n in range(64)) + "/>" for t in range(140)) * 90
+        + "</r>"
+    ).encode(),
     "10,000 names": lambda: ("<r>" + "".join(f"<n{n}/>" for n in range(9_999)) * 50 + "</r>").encode(),
     "a huge comment": lambda: whole("<a><!--", "- ", "--></a>", GREATEST),
     "a huge comment that doesn't end": lambda: whole("<a><!--", "-", "", GREATEST),
@@ -88,6 +108,23 @@ def seconds(words, runs):
     return best, done.stderr.decode(errors="replace").strip().splitlines()
 
 
+# A process forked from this one would count what this one holds as its own, so a small one forks it.
+MEASURE = """
+import os, sys, time
+begun = time.perf_counter()
+null = os.open(os.devnull, os.O_RDWR)
+pid = os.posix_spawn(sys.argv[1], sys.argv[1:], os.environ, file_actions=[(os.POSIX_SPAWN_DUP2, null, n) for n in (0, 1, 2)])
+held = os.wait4(pid, 0)[2].ru_maxrss
+print(time.perf_counter() - begun, held / 1000)
+"""
+
+
+def measured(words):
+    """The seconds of one run of the command, and the most memory that it held, in MB, at least some 10."""
+    told = subprocess.run([sys.executable, "-S", "-c", MEASURE, *words], stdout=subprocess.PIPE, check=True).stdout
+    return tuple(float(figure) for figure in told.split())
+
+
 def main():
     program = sys.argv[1] if len(sys.argv) > 1 else str(HOME / "crates/einv/out/einv")
     runs = int(sys.argv[2]) if len(sys.argv) > 2 else 5
@@ -105,13 +142,19 @@ def main():
                 theirs = seconds([other, "--noout", str(path)], runs)[0] if other else None
                 right = f"{theirs:.3f} | {mine / theirs:.2f}" if theirs else "- | -"
                 print(f"| {name} | {megabytes} | {mine:.3f} | {right} |" + (f" {said[0]}" if said else ""))
-        print("\n| Hostile document | MB | einv outline | answer |")
-        print("|---|---|---|---|")
+        print("\n| Hostile document | MB | einv outline | by honest | peak, MB | answer |")
+        print("|---|---|---|---|---|---|")
         for name, make in HOSTILE.items():
-            path.write_bytes(make())
-            mine, said = seconds([program, "outline", str(path)], runs)
-            answer = said[0].replace(str(path) + ": ", "") if said else "Done"
-            print(f"| {name} | {path.stat().st_size / MEGABYTE:.1f} | {mine:.3f} | {answer} |")
+            content = make()
+            path.write_bytes(elements(len(content)))
+            honest = seconds([program, "outline", str(path)], runs)[0]
+            path.write_bytes(content)
+            words = [program, "outline", str(path)]
+            mine, said = seconds(words, runs)
+            answer = said[0].replace(str(path) + ": ", "").removeprefix("einv: ") if said else "Done"
+            shown = f"{len(content) / MEGABYTE:.1f} | {mine:.3f} | {mine / honest:.2f} | {measured(words)[1]:.1f}"
+            print(f"| {name} | {shown} | {answer} |")
 
 
-main()
+if __name__ == "__main__":
+    main()

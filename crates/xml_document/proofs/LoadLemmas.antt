@@ -6,7 +6,7 @@ use Rattle.std.proofs.lemmas.List.{take-append-drop, take-append-le}
 use Rattle.std.proofs.lemmas.Option.{none-some}
 use Rattle.inv_base.specs.Outside.{ShelfView, WhereTold, ahead_of}
 use Rattle.inv_base.specs.Tree.{Name}
-use Rattle.xml_tokens.specs.Comments.{open_comment}
+use Rattle.xml_tokens.specs.Asides.{open_aside}
 use Rattle.xml_state.specs.Events.{Event, with_events}
 use Rattle.xml_state.specs.declared.limits.Limits.{Limits}
 use Rattle.xml_state.specs.declared.fault.TheConstants.XmlFault.{WANT_OF_MEMORY}
@@ -254,5 +254,5 @@ wholly_loaded limits told names b doc wholly is =
 
 -- A reader that was given nothing has read nothing.
 pub read_nothing : (limits : Limits) (reader : Progress) → reader ≡ unread limits → HasRead reader []
-unfolding read resume open_comment
+unfolding read resume open_aside
 read_nothing limits reader is = subst (λ (r : Progress). HasRead r []) (sym is) (record { stands = refl })

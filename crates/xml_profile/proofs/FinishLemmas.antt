@@ -150,7 +150,7 @@ module _ (limits : Limits) (cursor : Cursor) (rest : List ℕ) (before after : L
     stopped = λ f same. none-again None cursor rest f same;
   }
 
--- Inside a comment.
+-- Inside a comment or instruction.
 module _ (limits : Limits) (held : Inside) (cursor : Cursor) (rest : List ℕ) (taken : List Event → Type 0) (within : cursor.place + held.came ≤ limits.bytes) where
   inside-is : (at : Standing) (s : Stands at (Some held) cursor rest) → resume true limits at [] ≡ record { events = []; stands = waits cursor.nest cursor.place s.bytes }
   unfolding resume

@@ -1,39 +1,39 @@
--- One turn inside a comment.
-use Rattle.std.proofs.Common.{◌≡◌, ℕ, suc, ◌+◌, ◌-◌, ◌<◌, ◌≤◌, Bool, true, false, nat_le, List, [], ◌∷◌, ◌++◌, length, drop, refl, sym, ap, ◌∙◌, subst, arith, Option, Some, None, if◌then◌else◌, drop-drop, drop_at, append-nil}
+-- One turn inside a comment or instruction.
+use Rattle.std.proofs.Common.{◌≡◌, ℕ, ◌+◌, ◌≤◌, Bool, true, false, nat_le, List, [], ◌∷◌, ◌++◌, length, drop, refl, sym, ap, ◌∙◌, subst, arith, Option, Some, None, if◌then◌else◌, drop-drop, drop_at, append-nil}
 use Rattle.std.proofs.lemmas.List.{length-append}
 use Rattle.std.proofs.lemmas.Bool.Decides.{nat_tests}
 use Rattle.xml_tokens.specs.declared.kind.XmlKind.{XmlKind}
 use Rattle.xml_tokens.specs.declared.kind.XmlKind.TheVariants.{TooLong}
-use Rattle.xml_tokens.specs.declared.comments.OpenComment.{OpenComment}
+use Rattle.xml_tokens.specs.declared.asides.OpenAside.{OpenAside}
 use Rattle.xml_tokens.specs.declared.beginning.Position.{Position}
 use Rattle.xml_tokens.specs.Markup.{an_aside}
-use Rattle.xml_tokens.specs.Beginnings.{later, good, bad, beginning, sure_length}
-use Rattle.xml_tokens.specs.Comments.{open_comment, Course, stays_open, ends_with, course, begins_by, if_open}
+use Rattle.xml_tokens.specs.Beginnings.{later, good, beginning, sure_length}
+use Rattle.xml_tokens.specs.Asides.{open_aside, Course, stays_open, ends_with, course, begins_by, if_open}
 use Rattle.xml_tokens.specs.Searching.{fresh}
-use Rattle.xml_tokens.proofs.CommentLemmas.{open-is, open-begins, open-grows}
+use Rattle.xml_tokens.proofs.OpenLemmas.{open-is, open-begins, open-grows}
 use Rattle.xml_state.specs.Events.{Event, TakesAll}
 use Rattle.xml_state.specs.Faults.{fault_at}
-use Rattle.xml_state.specs.Taking.{Advances, Refused}
+use Rattle.xml_state.specs.Taking.{Advances}
 use Rattle.xml_state.specs.declared.limits.Limits.{Limits}
 use Rattle.xml_state.specs.declared.fault.XmlFault.{XmlFault}
 use Rattle.xml_state.specs.States.{State}
-use Rattle.xml_profile.specs.TokenByToken.{Read, waits, stops_at, read, resume}
+use Rattle.xml_profile.specs.TokenByToken.{waits, stops_at, read}
 use Rattle.xml_profile.specs.Courses.{GoesOn, Breaks, IsInside, StaysInside}
 use Rattle.xml_profile.specs.declared.cursor.Cursor.{Cursor}
 use Rattle.xml_profile.specs.declared.cursor.Inside.{Inside}
 use Rattle.xml_profile.proofs.TurnLemmas.{read-unfinished, breaks-at, goes-on, advanced, is-beyond, is-bad}
 
 -- No bytes are none.
-pub open-nothing : (bytes : List ℕ) → length bytes ≡ 0 → open_comment bytes ≡ None
-unfolding open_comment
-open-nothing [] is = refl
-open-nothing (b ∷ bytes) is = absurd (omega arith)
+pub open-nothing : (position : Position) (bytes : List ℕ) → length bytes ≡ 0 → open_aside position bytes ≡ None
+unfolding open_aside
+open-nothing position [] is = refl
+open-nothing position (b ∷ bytes) is = absurd (omega arith)
 
--- An open comment begins with `<`.
-pub open-first : (bytes more : List ℕ) (comment : OpenComment) → open_comment bytes ≡ Some comment → (a : List ℕ) × (bytes ++ more ≡ 0x3C ∷ a)
-open-first bytes more comment is =
-    let o = open-is bytes comment is in
-    (0x21 ∷ (0x2D ∷ (0x2D ∷ (o.inside ++ more))), ap (λ x. x ++ more) o.is)
+-- An open comment or instruction begins with `<`.
+pub open-first : (position : Position) (bytes more : List ℕ) (aside : OpenAside) → open_aside position bytes ≡ Some aside → (a : List ℕ) × (bytes ++ more ≡ 0x3C ∷ a)
+open-first position bytes more aside is =
+    let o = open-is position bytes aside is in
+    (o.behind ++ more, ap (λ x. x ++ more) o.first)
 
 -- What begins with `<` and isn't whole.
 read-open : (e : Bool) (limits : Limits) (s : State) (place : ℕ) (bytes a : List ℕ) (test : Bool) → bytes ≡ 0x3C ∷ a → beginning s.position e bytes ≡ later → nat_le (place + length bytes) limits.bytes ≡ test
@@ -50,37 +50,37 @@ read-open e limits s place bytes a test is none room =
         let one : length (0x3C ∷ a) ≡ 1 + length a = omega arith in
         one ∙ (λ i. sure_length (first i) (rest i))
 
-module _ (e : Bool) (limits : Limits) (old : Cursor) (held : Inside) (bytes piece : List ℕ) (is : IsInside held bytes) where
+module _ (e : Bool) (limits : Limits) (old : Cursor) (held : Inside) (bytes piece : List ℕ) (is : IsInside old.nest.position held bytes) where
   -- What it begins with the piece.
-  pub inside-begins : (x : Course) → course (length bytes) held.comment piece ≡ x → beginning old.nest.position e (bytes ++ piece) ≡ begins_by x
-  inside-begins x leads = open-begins bytes piece held.comment is.comment old.nest.position e ∙ ap begins_by leads
+  pub inside-begins : (x : Course) → course (length bytes) held.aside piece ≡ x → beginning old.nest.position e (bytes ++ piece) ≡ begins_by x
+  inside-begins x leads = open-begins old.nest.position bytes piece held.aside is.aside e ∙ ap begins_by leads
 
   -- It ends in the piece.
-  pub inside-closed : (fault : Option XmlKind) (len : ℕ) → course (length bytes) held.comment piece ≡ ends_with fault (length bytes + len)
+  pub inside-closed : (fault : Option XmlKind) (len : ℕ) → course (length bytes) held.aside piece ≡ ends_with fault (length bytes + len)
       → beginning old.nest.position e (bytes ++ piece) ≡ begins_by (ends_with fault (held.came + len))
   inside-closed fault len leads = inside-begins (ends_with fault (length bytes + len)) leads ∙ ap (λ n. begins_by (ends_with fault (n + len))) is.came
 
   -- It is open behind the piece.
-  pub inside-stays : (longer : Inside) (before after : List Event → Type 0) → course (length bytes) held.comment piece ≡ stays_open longer.comment → longer.came ≡ held.came + length piece
+  pub inside-stays : (longer : Inside) (before after : List Event → Type 0) → course (length bytes) held.aside piece ≡ stays_open longer.aside → longer.came ≡ held.came + length piece
       → nat_le (old.place + (held.came + length piece)) limits.bytes ≡ true → TakesAll [] before after → StaysInside e limits old old longer (bytes ++ piece) before after
   inside-stays longer before after leads came room told =
-      let first = open-first bytes piece held.comment is.comment in
+      let first = open-first old.nest.position bytes piece held.aside is.aside in
       let long : length (bytes ++ piece) ≡ longer.came = length-append bytes piece ∙ (ap (λ n. n + length piece) is.came ∙ sym came) in
       let fits : nat_le (old.place + length (bytes ++ piece)) limits.bytes ≡ true = ap (λ n. nat_le (old.place + n) limits.bytes) (long ∙ came) ∙ room in
       let ends : old.place + longer.came ≤ limits.bytes = grind (arith, nat_tests) in
       record {
         same = refl;
-        is = read-open e limits old.nest old.place (bytes ++ piece) first.0 true first.1 (inside-begins (stays_open longer.comment) leads) fits;
-        inside = record { comment = open-grows bytes piece held.comment is.comment ∙ ap if_open leads; came = long };
+        is = read-open e limits old.nest old.place (bytes ++ piece) first.0 true first.1 (inside-begins (stays_open longer.aside) leads) fits;
+        inside = record { aside = open-grows old.nest.position bytes piece held.aside is.aside ∙ ap if_open leads; came = long };
         within = ends;
         told = told;
       }
 
   -- It would end beyond the limit.
-  pub inside-beyond : (longer : OpenComment) (before after : List Event → Type 0) → course (length bytes) held.comment piece ≡ stays_open longer → nat_le (old.place + (held.came + length piece)) limits.bytes ≡ false
+  pub inside-beyond : (longer : OpenAside) (before after : List Event → Type 0) → course (length bytes) held.aside piece ≡ stays_open longer → nat_le (old.place + (held.came + length piece)) limits.bytes ≡ false
       → TakesAll [] before after → Breaks e limits old (bytes ++ piece) before after (fault_at TooLong limits.bytes)
   inside-beyond longer before after leads room told =
-      let first = open-first bytes piece held.comment is.comment in
+      let first = open-first old.nest.position bytes piece held.aside is.aside in
       let long : length (bytes ++ piece) ≡ held.came + length piece = length-append bytes piece ∙ ap (λ n. n + length piece) is.came in
       let beyond : nat_le (old.place + length (bytes ++ piece)) limits.bytes ≡ false = ap (λ n. nat_le (old.place + n) limits.bytes) long ∙ room in
       breaks-at e limits old (bytes ++ piece) before after (fault_at TooLong limits.bytes)
@@ -89,13 +89,13 @@ module _ (e : Bool) (limits : Limits) (old : Cursor) (held : Inside) (bytes piec
   -- Where the input ends, it isn't whole.
   pub inside-unended : old.place + held.came ≤ limits.bytes → read e limits old.nest old.place 0 (bytes ++ []) ≡ record { events = []; stands = waits old.nest old.place bytes }
   inside-unended within =
-      let first = open-first bytes [] held.comment is.comment in
+      let first = open-first old.nest.position bytes [] held.aside is.aside in
       let all : bytes ++ [] ≡ bytes = append-nil bytes in
       let fits : nat_le (old.place + length bytes) limits.bytes ≡ true = let came : length bytes ≡ held.came = is.came in grind (arith, nat_tests) in
-      let none : beginning old.nest.position e bytes ≡ later = ap (beginning old.nest.position e) (sym all) ∙ open-begins bytes [] held.comment is.comment old.nest.position e in
+      let none : beginning old.nest.position e bytes ≡ later = ap (beginning old.nest.position e) (sym all) ∙ open-begins old.nest.position bytes [] held.aside is.aside e in
       ap (read e limits old.nest old.place 0) all ∙ read-open e limits old.nest old.place bytes first.0 true (sym all ∙ first.1) none fits
 
--- The end of a comment is beyond the limit.
+-- The end is beyond the limit.
 pub close-beyond : (e : Bool) (limits : Limits) (old : Cursor) (bytes : List ℕ) (before after : List Event → Type 0) (fault : Option XmlKind) (n : ℕ)
     → beginning old.nest.position e bytes ≡ begins_by (ends_with fault n) → nat_le (old.place + n) limits.bytes ≡ false → TakesAll [] before after → Breaks e limits old bytes before after (fault_at TooLong limits.bytes)
 close-beyond e limits old bytes before after None n is room told = is-beyond e limits old bytes before after an_aside n is room told
@@ -116,9 +116,9 @@ pub close-behind : (bytes piece behind : List ℕ) (came len : ℕ) → length b
 close-behind bytes piece behind came len long is = is ∙ (ap (drop len) (sym (drop_at bytes piece came long)) ∙ drop-drop len came (bytes ++ piece))
 
 -- Behind it reading goes on.
-pub passed-comment : (e : Bool) (limits : Limits) (old new : Cursor) (bytes behind : List ℕ) (before after : List Event → Type 0) (nest : State) (n : ℕ) → beginning old.nest.position e bytes ≡ good an_aside n
+pub passed-aside : (e : Bool) (limits : Limits) (old new : Cursor) (bytes behind : List ℕ) (before after : List Event → Type 0) (nest : State) (n : ℕ) → beginning old.nest.position e bytes ≡ good an_aside n
     → old.place + n ≤ limits.bytes → Advances limits old.nest nest an_aside old.place before after → behind ≡ drop n bytes → new ≡ record { nest = nest; place = old.place + n; search = fresh }
     → GoesOn e limits old new bytes behind before after
-passed-comment e limits old new bytes behind before after nest n is room advances rest same =
+passed-aside e limits old new bytes behind before after nest n is room advances rest same =
     let within : nat_le (old.place + n) limits.bytes ≡ true = grind (arith, nat_tests) in
     (advanced e limits bytes before after old new _ behind same (goes-on e limits old bytes before after an_aside n nest behind is within advances rest)).1

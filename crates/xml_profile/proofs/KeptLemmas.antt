@@ -1,9 +1,9 @@
 -- What is kept of where reading stands.
-use Rattle.std.proofs.Common.{◌≡◌, ℕ, ◌+◌, ◌-◌, ◌≤◌, ◌==◌, Bool, true, false, List, [], ◌∷◌, ◌++◌, length, take, drop, refl, sym, ap, ◌∙◌, subst, arith, Option, Some, None, take_all, append-nil, true≢false, Result, Ok, Err, MatchResult, is_ok, is_err, if◌then◌else◌}
-use Rattle.std.proofs.lemmas.List.{length-append, drop_all}
-use Rattle.xml_tokens.specs.declared.comments.OpenComment.{OpenComment}
+use Rattle.std.proofs.Common.{◌≡◌, ℕ, ◌+◌, ◌-◌, ◌≤◌, Bool, false, List, [], ◌∷◌, ◌++◌, length, take, drop, refl, sym, ap, ◌∙◌, subst, arith, Option, Some, None, take_all, append-nil, true≢false, Result, Ok, Err, MatchResult, is_ok, is_err, if◌then◌else◌}
+use Rattle.std.proofs.lemmas.List.{drop_all}
+use Rattle.xml_tokens.specs.declared.asides.OpenAside.{OpenAside}
 use Rattle.xml_tokens.proofs.SearchingLemmas.{fits-goes-on}
-use Rattle.xml_tokens.specs.Comments.{open_comment}
+use Rattle.xml_tokens.specs.Asides.{open_aside}
 use Rattle.xml_tokens.specs.Beginnings.{sure_length}
 use Rattle.xml_state.specs.Events.{Event}
 use Rattle.xml_state.specs.declared.limits.Limits.{Limits}
@@ -12,8 +12,8 @@ use Rattle.xml_state.specs.States.{State}
 use Rattle.xml_profile.specs.TokenByToken as reading
 use Rattle.xml_profile.specs.TokenByToken.{Standing}
 use Rattle.xml_profile.specs.Profile.{settled_of}
-use Rattle.xml_profile.specs.Keeping.{Kept, waits, inside, stopped, kept_by, kept_of, fault_of_kept, bytes_kept, bytes_taken}
-use Rattle.xml_profile.specs.Courses.{IsAt, Reaches, Breaks, IsInside, InsideOf, kept_len, kept_going, IsKeptOf, IsWaiting, IsCommenting, IsGoing, Leaves, GoesOn, StaysInside}
+use Rattle.xml_profile.specs.Keeping.{waits, inside, stopped, kept_by, kept_of, fault_of_kept, bytes_kept, bytes_taken}
+use Rattle.xml_profile.specs.Courses.{IsAt, Reaches, Breaks, IsInside, InsideOf, kept_len, kept_going, IsKeptOf, IsWaiting, StandsInside, IsGoing, Leaves, GoesOn, StaysInside}
 use Rattle.xml_profile.specs.Fields.{kept_with, IsSound}
 use Rattle.xml_profile.specs.declared.cursor.Cursor.{Cursor}
 use Rattle.xml_profile.specs.declared.cursor.Inside.{Inside}
@@ -22,19 +22,19 @@ use Rattle.xml_profile.proofs.CourseLemmas.{takes-both, goes-wrong}
 use Rattle.xml_profile.proofs.InsideLemmas.{open-first}
 
 pub fault-kept : (s : Standing) → fault_of_kept (kept_of s) ≡ settled_of s
-fault-kept (reading.waits s place rest) = by (open_comment rest)
+fault-kept (reading.waits s place rest) = by (open_aside s.position rest)
   where
-    by : (x : Option OpenComment) → fault_of_kept (kept_by s place rest x) ≡ None
+    by : (x : Option OpenAside) → fault_of_kept (kept_by s place rest x) ≡ None
     by None = refl
-    by (Some comment) = refl
+    by (Some aside) = refl
 fault-kept (reading.stopped fault) = refl
 
 pub taken-kept : (s : State) (place : ℕ) (rest : List ℕ) → bytes_taken (kept_of (reading.waits s place rest)) ≡ place + length rest
-taken-kept s place rest = by (open_comment rest)
+taken-kept s place rest = by (open_aside s.position rest)
   where
-    by : (x : Option OpenComment) → bytes_taken (kept_by s place rest x) ≡ place + length rest
+    by : (x : Option OpenAside) → bytes_taken (kept_by s place rest x) ≡ place + length rest
     by None = refl
-    by (Some comment) = refl
+    by (Some aside) = refl
 
 -- Where reading stands, by what is kept of it.
 pub record Stands (at : Standing) (held : Option Inside) (cursor : Cursor) (rest : List ℕ) : Type 0 where
@@ -45,48 +45,48 @@ pub record Stands (at : Standing) (held : Option Inside) (cursor : Cursor) (rest
 pub stands-going : (at : Standing) (held : Option Inside) (cursor : Cursor) (rest : List ℕ) → kept_of at ≡ kept_going held cursor rest → Stands at held cursor rest
 stands-going (reading.waits s place bytes) held cursor rest e = record {
   bytes = bytes;
-  is = (let is = parts (open_comment bytes) held e in λ i. reading.waits (is.0 i) (is.1 i) bytes);
-  kept = (let is = parts (open_comment bytes) held e in sym (λ i. kept_by (is.0 i) (is.1 i) bytes (open_comment bytes)) ∙ e);
+  is = (let is = parts (open_aside s.position bytes) held e in λ i. reading.waits (is.0 i) (is.1 i) bytes);
+  kept = (let is = parts (open_aside s.position bytes) held e in sym (λ i. kept_by (is.0 i) (is.1 i) bytes (open_aside (is.0 i).position bytes)) ∙ e);
 }
   where
-    parts : (x : Option OpenComment) (held : Option Inside) → kept_by s place bytes x ≡ kept_going held cursor rest → (s ≡ cursor.nest) × (place ≡ cursor.place)
+    parts : (x : Option OpenAside) (held : Option Inside) → kept_by s place bytes x ≡ kept_going held cursor rest → (s ≡ cursor.nest) × (place ≡ cursor.place)
     parts None None f = (cc f, cc f)
     parts None (Some held) f = absurd (cc f)
-    parts (Some comment) None f = absurd (cc f)
-    parts (Some comment) (Some held) f = (cc f, cc f)
+    parts (Some aside) None f = absurd (cc f)
+    parts (Some aside) (Some held) f = (cc f, cc f)
 stands-going (reading.stopped fault) None cursor rest e = absurd (cc e)
 stands-going (reading.stopped fault) (Some held) cursor rest e = absurd (cc e)
 
 pub stands-stopped : (at : Standing) (fault : XmlFault) → kept_of at ≡ stopped fault → at ≡ reading.stopped fault
-stands-stopped (reading.waits s place bytes) fault e = absurd (by (open_comment bytes) e)
+stands-stopped (reading.waits s place bytes) fault e = absurd (by (open_aside s.position bytes) e)
   where
-    by : (x : Option OpenComment) → kept_by s place bytes x ≡ stopped fault → ⊥
+    by : (x : Option OpenAside) → kept_by s place bytes x ≡ stopped fault → ⊥
     by None f = cc f
-    by (Some comment) f = cc f
+    by (Some aside) f = cc f
 stands-stopped (reading.stopped f) fault e = let same : f ≡ fault = cc e in ap reading.stopped same
 
 pub kept-rest : (cursor : Cursor) (rest bytes : List ℕ) → IsKeptOf None cursor rest bytes → bytes ≡ rest
-kept-rest cursor rest bytes e = by (open_comment bytes) e
+kept-rest cursor rest bytes e = by (open_aside cursor.nest.position bytes) e
   where
-    by : (x : Option OpenComment) → kept_by cursor.nest cursor.place bytes x ≡ waits cursor.nest cursor.place rest → bytes ≡ rest
+    by : (x : Option OpenAside) → kept_by cursor.nest cursor.place bytes x ≡ waits cursor.nest cursor.place rest → bytes ≡ rest
     by None f = cc f
-    by (Some comment) f = absurd (cc f)
+    by (Some aside) f = absurd (cc f)
 
-pub kept-inside : (cursor : Cursor) (held : Inside) (rest bytes : List ℕ) → IsKeptOf (Some held) cursor rest bytes → IsInside held bytes
-kept-inside cursor held rest bytes e = by (open_comment bytes) refl e
+pub kept-inside : (cursor : Cursor) (held : Inside) (rest bytes : List ℕ) → IsKeptOf (Some held) cursor rest bytes → IsInside cursor.nest.position held bytes
+kept-inside cursor held rest bytes e = by (open_aside cursor.nest.position bytes) refl e
   where
-    by : (x : Option OpenComment) → open_comment bytes ≡ x → kept_by cursor.nest cursor.place bytes x ≡ inside cursor.nest cursor.place held.came held.comment → IsInside held bytes
+    by : (x : Option OpenAside) → open_aside cursor.nest.position bytes ≡ x → kept_by cursor.nest cursor.place bytes x ≡ inside cursor.nest cursor.place held.came held.aside → IsInside cursor.nest.position held bytes
     by None f g = absurd (cc g)
-    by (Some comment) f g =
-        let same : comment ≡ held.comment = cc g in
+    by (Some aside) f g =
+        let same : aside ≡ held.aside = cc g in
         let came : length bytes ≡ held.came = cc g in
-        record { comment = f ∙ ap Some same; came = came }
+        record { aside = f ∙ ap Some same; came = came }
 
-pub inside-kept : (cursor : Cursor) (held : Inside) (rest bytes : List ℕ) → IsInside held bytes → IsKeptOf (Some held) cursor rest bytes
+pub inside-kept : (cursor : Cursor) (held : Inside) (rest bytes : List ℕ) → IsInside cursor.nest.position held bytes → IsKeptOf (Some held) cursor rest bytes
 inside-kept cursor held rest bytes is =
-    ap (kept_by cursor.nest cursor.place bytes) is.comment ∙ ap (λ n. inside cursor.nest cursor.place n held.comment) is.came
+    ap (kept_by cursor.nest cursor.place bytes) is.aside ∙ ap (λ n. inside cursor.nest cursor.place n held.aside) is.came
 
-pub rest-kept : (cursor : Cursor) (rest : List ℕ) → open_comment rest ≡ None → IsKeptOf None cursor rest rest
+pub rest-kept : (cursor : Cursor) (rest : List ℕ) → open_aside cursor.nest.position rest ≡ None → IsKeptOf None cursor rest rest
 rest-kept cursor rest other = ap (kept_by cursor.nest cursor.place rest) other
 
 -- Before a fault none is kept.
@@ -117,22 +117,22 @@ module _ (e : Bool) (limits : Limits) (old new : Cursor) (before after : List Ev
   kept-back None bytes left a = reaches-back e limits old new bytes left before after a
   kept-back (Some held) bytes left a = let all : length bytes - 0 ≡ length bytes = omega arith in ap (λ n. drop n bytes) all ∙ drop_all (length bytes) bytes (omega arith)
 
-  going-reached : (held : Option Inside) (bytes left : List ℕ) → Reaches e limits old new bytes left before after → InsideOf held left → IsGoing limits held new (kept_part held left)
+  going-reached : (held : Option Inside) (bytes left : List ℕ) → Reaches e limits old new bytes left before after → InsideOf new.nest.position held left → IsGoing limits held new (kept_part held left)
   going-reached None bytes left a is = record { at = a.at; searched = a.searched; other = is }
   going-reached (Some held) bytes left a is = record { none = refl; within = within left is a.room; bytes = left; inside = is }
     where
-      within : (left : List ℕ) → IsInside held left → ((b : ℕ) (more : List ℕ) → left ≡ b ∷ more → new.place + sure_length b more ≤ limits.bytes) → new.place + held.came ≤ limits.bytes
+      within : (left : List ℕ) → IsInside new.nest.position held left → ((b : ℕ) (more : List ℕ) → left ≡ b ∷ more → new.place + sure_length b more ≤ limits.bytes) → new.place + held.came ≤ limits.bytes
       within left is room =
-          let o = open-first left [] held.comment is.comment in
+          let o = open-first new.nest.position left [] held.aside is.aside in
           let all : left ≡ 0x3C ∷ o.0 = sym (append-nil left) ∙ o.1 in
           let sure : new.place + (1 + length o.0) ≤ limits.bytes = room 0x3C o.0 all in
           omega (arith, ap length all, is.came)
 
-  kept-reached : (held : Option Inside) (left : List ℕ) → InsideOf held left → IsKeptOf held new (kept_part held left) left
+  kept-reached : (held : Option Inside) (left : List ℕ) → InsideOf new.nest.position held left → IsKeptOf held new (kept_part held left) left
   kept-reached None left is = rest-kept new left is
   kept-reached (Some held) left is = inside-kept new held [] left is
 
-  pub reaches-leaves : (held : Option Inside) (bytes left rest : List ℕ) → Reaches e limits old new bytes left before after → InsideOf held left → rest ≡ kept_part held left
+  pub reaches-leaves : (held : Option Inside) (bytes left rest : List ℕ) → Reaches e limits old new bytes left before after → InsideOf new.nest.position held left → rest ≡ kept_part held left
       → Leaves e limits old new bytes held rest before after
   reaches-leaves held bytes left rest a is same =
       let P : List ℕ → Type 0 = λ r. Leaves e limits old new bytes held r before after in
@@ -144,8 +144,13 @@ module _ (e : Bool) (limits : Limits) (old new : Cursor) (before after : List Ev
     left = bytes;
     is = s.is ∙ (λ i. record { events = []; stands = reading.waits (sym s.same i).nest (sym s.same i).place bytes });
     told = s.told;
-    kept = inside-kept new held rest bytes s.inside;
-    going = record { none = none; within = subst (λ (c : Cursor). c.place + held.came ≤ limits.bytes) (sym s.same) s.within; bytes = bytes; inside = s.inside };
+    kept = inside-kept new held rest bytes (subst (λ (c : Cursor). IsInside c.nest.position held bytes) (sym s.same) s.inside);
+    going = record {
+      none = none;
+      within = subst (λ (c : Cursor). c.place + held.came ≤ limits.bytes) (sym s.same) s.within;
+      bytes = bytes;
+      inside = subst (λ (c : Cursor). IsInside c.nest.position held bytes) (sym s.same) s.inside;
+    };
   }
 
 pub leaves-behind : (e : Bool) (limits : Limits) (old mid new : Cursor) (bytes behind : List ℕ) (held : Option Inside) (rest : List ℕ) (before between after : List Event → Type 0)
@@ -166,13 +171,13 @@ leaves-as e limits old new bytes others held rest before after same l = let P : 
 
 -- What is known by another name: an option as the variant that it is.
 module _ (limits : Limits) (cursor : Cursor) (rest : List ℕ) (some : Option Inside) where
-  pub going-some : (held : Inside) → some ≡ Some held → IsGoing limits some cursor rest → IsCommenting limits held cursor rest
+  pub going-some : (held : Inside) → some ≡ Some held → IsGoing limits some cursor rest → StandsInside limits held cursor rest
   going-some held is going = let P : Option Inside → Type 0 = λ o. IsGoing limits o cursor rest in subst P is going
 
   pub going-rest : some ≡ None → IsGoing limits some cursor rest → IsWaiting limits cursor rest
   going-rest is going = let P : Option Inside → Type 0 = λ o. IsGoing limits o cursor rest in subst P is going
 
-  pub kept-some : (held : Inside) (bytes : List ℕ) → some ≡ Some held → IsKeptOf some cursor rest bytes → IsInside held bytes
+  pub kept-some : (held : Inside) (bytes : List ℕ) → some ≡ Some held → IsKeptOf some cursor rest bytes → IsInside cursor.nest.position held bytes
   kept-some held bytes is kept = let P : Option Inside → Type 0 = λ o. IsKeptOf o cursor rest bytes in kept-inside cursor held rest bytes (subst P is kept)
 
   pub kept-none : (bytes : List ℕ) → some ≡ None → IsKeptOf some cursor rest bytes → bytes ≡ rest

@@ -2,7 +2,8 @@
 use Rattle.std.specs.Prelude.{◌≡◌, ℕ, ◌+◌, ◌<◌, ◌≤◌, Bool, true, ◌==◌, ◌||◌, List, [], ◌∷◌, ◌++◌, length, Option, Some, None}
 use Rattle.xml_tokens.specs.Searching.{Fits, IsSearched}
 use Rattle.xml_tokens.specs.Beginnings.{sure_length}
-use Rattle.xml_tokens.specs.Comments.{open_comment}
+use Rattle.xml_tokens.specs.declared.beginning.Position.{Position}
+use Rattle.xml_tokens.specs.Asides.{open_aside}
 use Rattle.xml_state.specs.Events.{Event, TakesAll}
 use Rattle.xml_state.specs.declared.limits.Limits.{Limits}
 use Rattle.xml_state.specs.declared.fault.TheConstants.XmlFault.{WANT_OF_MEMORY}
@@ -59,61 +60,61 @@ Turns (Behind rest) ended limits old new bytes before after = (length rest.now <
 Turns Unfinished ended limits old new bytes before after = Reaches ended limits old new bytes bytes before after
 Turns (Stopped fault) ended limits old new bytes before after = Breaks ended limits old bytes before after fault
 
--- The bytes are the open comment that is kept, of which so many bytes came.
-pub record IsInside (held : Inside) (bytes : List ℕ) : Type 0 where
-  pub comment : open_comment bytes ≡ Some held.comment
+-- The bytes at such a place are the open comment or instruction that is kept, of which so many bytes came.
+pub record IsInside (position : Position) (held : Inside) (bytes : List ℕ) : Type 0 where
+  pub aside : open_aside position bytes ≡ Some held.aside
   pub came : length bytes ≡ held.came
 
--- what the code found: the open comment that the bytes are, if they are one
-abbrev pub InsideOf : Option Inside → List ℕ → Type 0
-InsideOf None bytes = open_comment bytes ≡ None
-InsideOf (Some held) bytes = IsInside held bytes
+-- what the code found: the open comment or instruction that the bytes are, if they are one
+abbrev pub InsideOf : Position → Option Inside → List ℕ → Type 0
+InsideOf position None bytes = open_aside position bytes ≡ None
+InsideOf position (Some held) bytes = IsInside position held bytes
 
 -- how many bytes of what isn't whole are kept
 abbrev pub kept_len : Option Inside → ℕ → ℕ
 kept_len None n = n
 kept_len (Some held) n = 0
 
--- The comment is open behind all bytes, within the limit.
+-- The comment or instruction is open behind all bytes, within the limit.
 pub record StaysInside (ended : Bool) (limits : Limits) (old new : Cursor) (held : Inside) (bytes : List ℕ) (before after : List Event → Type 0) : Type 0 where
   pub same : new ≡ old
   pub is : read ended limits old.nest old.place 0 bytes ≡ record { events = []; stands = waits old.nest old.place bytes }
-  pub inside : IsInside held bytes
+  pub inside : IsInside old.nest.position held bytes
   pub within : old.place + held.came ≤ limits.bytes
   pub told : TakesAll [] before after
 
--- what one turn inside a comment does, by all its bytes
-abbrev pub CommentTurns : Turn → Bool → Limits → Cursor → Cursor → Inside → List ℕ → (List Event → Type 0) → (List Event → Type 0) → Type 0
-CommentTurns (Behind rest) ended limits old new held bytes before after = GoesOn ended limits old new bytes rest.now before after
-CommentTurns Unfinished ended limits old new held bytes before after = StaysInside ended limits old new held bytes before after
-CommentTurns (Stopped fault) ended limits old new held bytes before after = Breaks ended limits old bytes before after fault
+-- what one turn inside a comment or instruction does, by all its bytes
+abbrev pub AsideTurns : Turn → Bool → Limits → Cursor → Cursor → Inside → List ℕ → (List Event → Type 0) → (List Event → Type 0) → Type 0
+AsideTurns (Behind rest) ended limits old new held bytes before after = GoesOn ended limits old new bytes rest.now before after
+AsideTurns Unfinished ended limits old new held bytes before after = StaysInside ended limits old new held bytes before after
+AsideTurns (Stopped fault) ended limits old new held bytes before after = Breaks ended limits old bytes before after fault
 
--- what is kept before a fault: where reading stands before the rest, or inside a comment
+-- what is kept before a fault: where reading stands before the rest, or inside a comment or instruction
 abbrev pub kept_going : Option Inside → Cursor → List ℕ → Kept
 kept_going None cursor rest = keeping.waits cursor.nest cursor.place rest
-kept_going (Some held) cursor rest = keeping.inside cursor.nest cursor.place held.came held.comment
+kept_going (Some held) cursor rest = keeping.inside cursor.nest cursor.place held.came held.aside
 
 -- The bytes are those of which this is kept.
 abbrev pub IsKeptOf : Option Inside → Cursor → List ℕ → List ℕ → Type 0
-IsKeptOf held cursor rest bytes = kept_by cursor.nest cursor.place bytes (open_comment bytes) ≡ kept_going held cursor rest
+IsKeptOf held cursor rest bytes = kept_by cursor.nest cursor.place bytes (open_aside cursor.nest.position bytes) ≡ kept_going held cursor rest
 
--- Reading stands before the rest, which was searched and is no comment.
+-- Reading stands before the rest, which was searched and is no comment or instruction.
 pub record IsWaiting (limits : Limits) (cursor : Cursor) (rest : List ℕ) : Type 0 where
   pub at : IsAt limits cursor rest
   pub searched : IsSearched cursor.search rest
-  pub other : open_comment rest ≡ None
+  pub other : open_aside cursor.nest.position rest ≡ None
 
--- Reading stands inside a comment, of which no byte is kept: some bytes are the one of which this is.
-pub record IsCommenting (limits : Limits) (held : Inside) (cursor : Cursor) (rest : List ℕ) : Type 0 where
+-- Reading stands inside a comment or instruction, of which no byte is kept: some bytes are the one of which this is.
+pub record StandsInside (limits : Limits) (held : Inside) (cursor : Cursor) (rest : List ℕ) : Type 0 where
   pub none : rest ≡ []
   pub within : cursor.place + held.came ≤ limits.bytes
   pub bytes : List ℕ
-  pub inside : IsInside held bytes
+  pub inside : IsInside cursor.nest.position held bytes
 
 -- the one or the other
 abbrev pub IsGoing : Limits → Option Inside → Cursor → List ℕ → Type 0
 IsGoing limits None cursor rest = IsWaiting limits cursor rest
-IsGoing limits (Some held) cursor rest = IsCommenting limits held cursor rest
+IsGoing limits (Some held) cursor rest = StandsInside limits held cursor rest
 
 -- All was read but what is left, of which this is kept.
 pub record Leaves (ended : Bool) (limits : Limits) (old new : Cursor) (bytes : List ℕ) (held : Option Inside) (rest : List ℕ) (before after : List Event → Type 0) : Type 0 where

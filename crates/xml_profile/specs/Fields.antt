@@ -15,7 +15,7 @@ use Rattle.xml_profile.specs.declared.cursor.Cursor.{Cursor}
 use Rattle.xml_profile.specs.declared.cursor.Inside.{Inside}
 
 -- what is kept, by the fault that was answered if any, and by what stands behind so many bytes before the rest or inside
--- a comment
+-- a comment or instruction
 abbrev pub kept_with : Option XmlFault → Option Inside → Cursor → List ℕ → Kept
 kept_with None held cursor rest = kept_going held cursor rest
 kept_with (Some fault) held cursor rest = stopped fault

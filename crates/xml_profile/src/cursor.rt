@@ -2,7 +2,7 @@
 //! tokens one by one.
 ghost use Rattle.std.specs.Prelude.{◌≡◌, ℕ, ◌∷◌, List, ◌<◌, ◌≤◌, ◌+◌, ◌++◌, ◌-◌, [], ◌^◌, Some, None, drop, length, vec_len, slice_index, nat_le, true, false, MatchResult, if◌then◌else◌};
 ghost use Rattle.xml_tokens.specs.Beginnings.{beginning, good, sure_length};
-ghost use Rattle.xml_tokens.specs.Comments.{begins_by, ends_with};
+ghost use Rattle.xml_tokens.specs.Asides.{begins_by, ends_with};
 ghost use Rattle.xml_tokens.specs.Markup.{an_aside};
 ghost use Rattle.xml_tokens.specs.Searching.{fresh};
 ghost use Rattle.xml_tokens.specs.Seen.{seen_token};
@@ -11,14 +11,13 @@ ghost use Rattle.xml_tokens.specs.declared.kind.XmlKind.TheVariants as kinds;
 ghost use Rattle.xml_state.specs.Faults.{fault_at};
 ghost use Rattle.xml_state.specs.States.{begin, is_outside};
 ghost use Rattle.xml_profile.specs.Profile.{end_fault};
-ghost use Rattle.xml_profile.specs.Courses.{is_blank, IsAt, Turns, Reaches, Breaks, IsInside, InsideOf, kept_len, CommentTurns, IsKeptOf, IsGoing, IsCommenting, Leaves};
+ghost use Rattle.xml_profile.specs.Courses.{is_blank, IsAt, Turns, Reaches, Breaks, IsInside, InsideOf, kept_len, AsideTurns, IsKeptOf, IsGoing, StandsInside, Leaves};
 
 use inv_base::Place;
 use std::alloc::{AllocError, Global};
 use xml_state::{Events, Limits, NameTable, Nest, XmlFault};
 use xml_tokens::{
-    Beginning, ClosedComment, OpenComment, Position, Search, Token, XmlKind, run_at_front,
-    what_begins,
+    Beginning, ClosedAside, OpenAside, Position, Search, Token, XmlKind, run_at_front, what_begins,
 };
 
 /// Where reading stands: what stands behind the tokens before, how many bytes they take, and how far the next one was
@@ -30,10 +29,10 @@ pub(crate) struct Cursor {
     pub search: Search,
 }
 
-/// A comment that is open where reading stands: what can still matter of it, and how many bytes came.
+/// A comment or instruction that is open where reading stands: what can still matter of it, and how many bytes came.
 #[derive(Clone, Copy)]
 pub(crate) struct Inside {
-    pub comment: OpenComment,
+    pub aside: OpenAside,
     pub came: u64,
 }
 
@@ -78,20 +77,20 @@ fn sure_len(bytes: &[u8]) -> usize
     if bytes[0] == b']' { 1 } else { bytes.len() }
 }
 
-/// The open comment that the bytes are, if they are one.
-fn inside_of(bytes: &[u8]) -> Option<Inside>
-    ensures { InsideOf result bytes.now }
+/// The open comment or instruction that the bytes at such a place are, if they are one.
+fn inside_at(position: Position, bytes: &[u8]) -> Option<Inside>
+    ensures { InsideOf position result bytes.now }
 {
-    match OpenComment::of(bytes) {
-        Some(comment) => Some(Inside {
-            comment,
+    match OpenAside::of(position, bytes) {
+        Some(aside) => Some(Inside {
+            aside,
             came: bytes.len() as u64,
         }),
         None => None,
     }
 }
 
-/// How many of the bytes of what isn't whole are kept: of a comment none.
+/// How many of the bytes of what isn't whole are kept: of a comment or instruction none.
 fn kept_len(inside: Option<Inside>, len: usize) -> usize
     ensures { result ≡ kept_len inside len }
 {
@@ -154,6 +153,13 @@ impl Cursor {
             place: 0,
             search: Search::new(),
         }
+    }
+
+    /// The open comment or instruction that the bytes here are, if they are one.
+    fn inside_of(&self, bytes: &[u8]) -> Option<Inside>
+        ensures { InsideOf self.now.nest.position result bytes.now }
+    {
+        inside_at(self.nest.position(), bytes)
     }
 
     /// Whether so many further bytes end within the limit.
@@ -351,8 +357,8 @@ impl Cursor {
         Ok(rest)
     }
 
-    /// Passes over a comment that ends with so many bytes, behind which these are.
-    fn pass_comment<'b, E: Events>(
+    /// Passes over a comment or instruction that ends with so many bytes, behind which these are.
+    fn pass_aside<'b, E: Events>(
         &mut self,
         reading: Reading,
         len: u64,
@@ -361,7 +367,7 @@ impl Cursor {
     ) -> Turn<'b>
         requires { self.old.place + len ≤ reading.limits.bytes }
         ensures { (held : _) (bytes : List ℕ) → beginning self.old.nest.position reading.ended bytes ≡ good an_aside len → behind.now ≡ drop len bytes
-            → CommentTurns result reading.ended reading.limits self.old self.new held bytes (E.taken events.old) (E.taken events.new) }
+            → AsideTurns result reading.ended reading.limits self.old self.new held bytes (E.taken events.old) (E.taken events.new) }
     {
         let place = Place { byte: self.place };
         match self.nest.take(reading.alloc, &reading.limits, &Token::Aside, place, events) {
@@ -373,19 +379,19 @@ impl Cursor {
         }
     }
 
-    /// Takes the end of a comment of which so many bytes came before the piece.
+    /// Takes the end of a comment or instruction of which so many bytes came before the piece.
     fn close<'b, E: Events>(
         &mut self,
         reading: Reading,
         came: u64,
-        closed: ClosedComment,
+        closed: ClosedAside,
         piece: &'b [u8],
         events: &mut E,
     ) -> Turn<'b>
         requires within { self.old.place + came ≤ reading.limits.bytes }
         requires inside { closed.len ≤ length piece.now }
         ensures { (held : _) (bytes : List ℕ) → length bytes ≡ came → beginning self.old.nest.position reading.ended (bytes ++ piece.now) ≡ begins_by (ends_with closed.fault (came + closed.len))
-            → CommentTurns result reading.ended reading.limits self.old self.new held (bytes ++ piece.now) (E.taken events.old) (E.taken events.new) }
+            → AsideTurns result reading.ended reading.limits self.old self.new held (bytes ++ piece.now) (E.taken events.old) (E.taken events.new) }
     {
         if !self.has_room_behind(reading.limits.bytes, came, closed.len) {
             return Turn::Stopped(too_long(reading.limits.bytes));
@@ -394,13 +400,13 @@ impl Cursor {
             Some(kind) => Turn::Stopped(fault_at(kind, self.place)),
             None => {
                 let behind = piece.split_at(closed.len).1;
-                self.pass_comment(reading, came + closed.len as u64, behind, events)
+                self.pass_aside(reading, came + closed.len as u64, behind, events)
             }
         }
     }
 
-    /// Gives a comment that is open the piece, up to its end.
-    fn comment<'b, E: Events>(
+    /// Gives a comment or instruction that is open the piece, up to its end.
+    fn aside<'b, E: Events>(
         &mut self,
         reading: Reading,
         held: &mut Inside,
@@ -408,10 +414,10 @@ impl Cursor {
         events: &mut E,
     ) -> Turn<'b>
         requires { self.old.place + held.old.came ≤ reading.limits.bytes }
-        ensures { (bytes : List ℕ) → IsInside held.old bytes
-            → CommentTurns result reading.ended reading.limits self.old self.new held.new (bytes ++ piece.now) (E.taken events.old) (E.taken events.new) }
+        ensures { (bytes : List ℕ) → IsInside self.old.nest.position held.old bytes
+            → AsideTurns result reading.ended reading.limits self.old self.new held.new (bytes ++ piece.now) (E.taken events.old) (E.taken events.new) }
     {
-        match held.comment.take(piece) {
+        match held.aside.take(piece) {
             Some(closed) => self.close(reading, held.came, closed, piece, events),
             None => {
                 if !self.has_room_behind(reading.limits.bytes, held.came, piece.len()) {
@@ -423,8 +429,8 @@ impl Cursor {
         }
     }
 
-    /// Reads a further piece, behind the rest of those before or inside a comment. Of what isn't a token yet the bytes are
-    /// the new rest, but of a comment none is kept.
+    /// Reads a further piece, behind the rest of those before or inside a comment or instruction. Of what isn't a token
+    /// yet the bytes are the new rest, but of a comment or instruction none is kept.
     pub fn feed<E: Events>(
         &mut self,
         reading: Reading,
@@ -439,13 +445,13 @@ impl Cursor {
             (λ fault. Breaks reading.ended reading.limits self.old (bytes ++ piece.now) (E.taken events.old) (E.taken events.new) fault) }
     {
         match *inside {
-            Some(held) => self.feed_comment(reading, held, inside, rest, piece, events),
+            Some(held) => self.feed_aside(reading, held, inside, rest, piece, events),
             None => self.feed_rest(reading, inside, rest, piece, events),
         }
     }
 
-    /// Reads a piece inside a comment.
-    fn feed_comment<E: Events>(
+    /// Reads a piece inside a comment or instruction.
+    fn feed_aside<E: Events>(
         &mut self,
         reading: Reading,
         held: Inside,
@@ -454,13 +460,13 @@ impl Cursor {
         piece: &[u8],
         events: &mut E,
     ) -> Result<(), XmlFault>
-        requires { IsCommenting reading.limits held self.old rest.old.items }
-        ensures { (bytes : List ℕ) → IsInside held bytes → MatchResult result
+        requires { StandsInside reading.limits held self.old rest.old.items }
+        ensures { (bytes : List ℕ) → IsInside self.old.nest.position held bytes → MatchResult result
             (λ _. Leaves reading.ended reading.limits self.old self.new (bytes ++ piece.now) inside.new rest.new.items (E.taken events.old) (E.taken events.new))
             (λ fault. Breaks reading.ended reading.limits self.old (bytes ++ piece.now) (E.taken events.old) (E.taken events.new) fault) }
     {
         let mut longer = held;
-        match self.comment(reading, &mut longer, piece, events) {
+        match self.aside(reading, &mut longer, piece, events) {
             Turn::Behind(behind) => self.feed_anew(reading, inside, rest, behind, events),
             Turn::Unfinished => {
                 *inside = Some(longer);
@@ -492,7 +498,7 @@ impl Cursor {
         }
         match self.read(reading, rest, events) {
             Ok(left) => {
-                let held = inside_of(left);
+                let held = self.inside_of(left);
                 let len = kept_len(held, left.len());
                 keep_back(rest, len);
                 *inside = held;
@@ -502,7 +508,7 @@ impl Cursor {
         }
     }
 
-    /// Reads bytes where there is no rest: of them only what is left is kept, and of a comment nothing.
+    /// Reads bytes where there is no rest: of them only what is left is kept, and of a comment or instruction nothing.
     fn feed_anew<E: Events>(
         &mut self,
         reading: Reading,
@@ -519,7 +525,7 @@ impl Cursor {
     {
         match self.read(reading, piece, events) {
             Ok(left) => {
-                let held = inside_of(left);
+                let held = self.inside_of(left);
                 let len = kept_len(held, left.len());
                 if rest.extend_from_slice(left.split_at(len).0).is_err() {
                     return Err(XmlFault::WANT_OF_MEMORY);

@@ -9,7 +9,7 @@ use std::marker::Model;
 use xml_state::{Events, Limits, NameTable, XmlFault};
 
 /// Reads a document, in pieces, and tells a receiver what it holds. It keeps the bytes of the unfinished token and
-/// nothing else of the input: of an unfinished comment no byte, but which faults were seen.
+/// nothing else of the input: of an unfinished comment or processing instruction no byte, but which faults were seen.
 #[derive(Drop)]
 pub struct Reader {
     alloc: Global,
@@ -17,8 +17,8 @@ pub struct Reader {
     cursor: Cursor,
     // the bytes of what begins at the cursor and isn't a token yet
     rest: Vec<u8>,
-    // the comment that is open at the cursor, of which no byte is kept
-    comment: Option<Inside>,
+    // the comment or instruction that is open at the cursor, of which no byte is kept
+    aside: Option<Inside>,
     // the fault that was answered
     fault: Option<XmlFault>,
 }
@@ -30,9 +30,9 @@ impl Model for Reader {
 
     ghost use Rattle.xml_profile.specs.Fields.{progress_of, IsSound};
 
-    ghost view = { λ reader. progress_of reader.limits reader.fault reader.comment reader.cursor reader.rest.items };
+    ghost view = { λ reader. progress_of reader.limits reader.fault reader.aside reader.cursor reader.rest.items };
 
-    ghost invariant = { λ reader. IsSound reader.limits reader.fault reader.comment reader.cursor reader.rest.items };
+    ghost invariant = { λ reader. IsSound reader.limits reader.fault reader.aside reader.cursor reader.rest.items };
 }
 
 impl Reader {
@@ -45,7 +45,7 @@ impl Reader {
             limits,
             cursor: Cursor::new(alloc),
             rest: Vec::new(alloc),
-            comment: None,
+            aside: None,
             fault: None,
         })
     }
@@ -75,7 +75,7 @@ impl Reader {
         };
         match self
             .cursor
-            .feed(reading, &mut self.comment, &mut self.rest, piece, events)
+            .feed(reading, &mut self.aside, &mut self.rest, piece, events)
         {
             Ok(()) => Ok(()),
             Err(fault) => {
@@ -87,7 +87,7 @@ impl Reader {
     }
 
     /// How many bytes of the document are kept: those of the unfinished token, and none behind a finished one, inside a
-    /// comment or behind a fault.
+    /// comment, inside a processing instruction that can't be the XML declaration, or behind a fault.
     pub fn kept(&self) -> usize
         ensures { result ≡ kept self.now }
     {
@@ -110,13 +110,13 @@ impl Reader {
             limits,
             mut cursor,
             rest,
-            comment,
+            aside,
             fault,
         } = self;
         if let Some(fault) = fault {
             return Err(fault);
         }
-        if let Some(held) = comment {
+        if let Some(held) = aside {
             return cursor.end(limits.bytes, held.came);
         }
         let reading = Reading {

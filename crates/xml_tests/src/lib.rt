@@ -2,6 +2,8 @@
 #![tactic(auto)]
 
 #[cfg(test)]
+mod kept_cases;
+#[cfg(test)]
 mod reader_cases;
 #[cfg(test)]
 mod xml_tokens_cases;

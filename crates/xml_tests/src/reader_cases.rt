@@ -6,9 +6,10 @@ use std::test::Fail;
 use xml_profile::Reader;
 use xml_state::{Events, Limits, NameId, NameTable, XmlFault};
 
-/// What was told, a word an event: elements and attributes by the numbers of their names, a text's pieces behind one another.
+/// What was told, a word an event: elements and attributes by the numbers of their names, a text's pieces behind one
+/// another.
 #[derive(Drop)]
-struct Recorder {
+pub(crate) struct Recorder {
     alloc: Global,
     told: String,
     in_text: bool,
@@ -43,6 +44,15 @@ impl Events for Recorder {
     }
 }
 
+/// One that was told nothing.
+pub(crate) fn new_recorder(alloc: Global) -> Recorder {
+    Recorder {
+        alloc,
+        told: String::new(alloc),
+        in_text: false,
+    }
+}
+
 fn read(
     reader: Reader,
     document: &[u8],
@@ -58,11 +68,7 @@ fn read(
 
 /// How many names a document has, or its fault, and behind that what was told.
 fn outcome(alloc: Global, limits: Limits, document: &[u8], size: usize) -> Result<String, Fail> {
-    let mut recorder = Recorder {
-        alloc,
-        told: String::new(alloc),
-        in_text: false,
-    };
+    let mut recorder = new_recorder(alloc);
     let answer = match read(Reader::new(alloc, limits)?, document, size, &mut recorder) {
         Ok(names) => format!(in alloc; "{} names", names.len())?,
         Err(fault) => format!(in alloc; "{:?} {}", fault.kind, fault.place.byte)?,
@@ -71,7 +77,7 @@ fn outcome(alloc: Global, limits: Limits, document: &[u8], size: usize) -> Resul
 }
 
 /// The bytes that are written: `%` and two hexadecimal digits are one.
-fn bytes_of(alloc: Global, written: &str) -> Result<Vec<u8>, Fail> {
+pub(crate) fn bytes_of(alloc: Global, written: &str) -> Result<Vec<u8>, Fail> {
     let mut bytes = Vec::new(alloc);
     for (i, part) in written.split('%').enumerate() {
         if i == 0 {
@@ -84,7 +90,7 @@ fn bytes_of(alloc: Global, written: &str) -> Result<Vec<u8>, Fail> {
     Ok(bytes)
 }
 
-const AMPLE: Limits = Limits {
+pub(crate) const AMPLE: Limits = Limits {
     bytes: 16_777_216,
     nodes: 1_000_000,
     depth: 100,
@@ -172,7 +178,7 @@ const BEYOND: &str = "\
 <a>xxxxxxxxxxxxxxxxxxxxxxxxxxxxx => Truncated 32 +0@0 3:xxxxxxxxxxxxxxxxxxxxxxxxxxxxx";
 
 /// Lengths of pieces.
-const SIZES: [usize; 5] = [65_536, 1, 2, 3, 5];
+pub(crate) const SIZES: [usize; 5] = [65_536, 1, 2, 3, 5];
 
 #[test]
 fn documents_are_told(rt: HostRuntime) -> Result<(), Fail> {
@@ -223,11 +229,7 @@ fn a_large_document_is_told_the_same(rt: HostRuntime) -> Result<(), Fail> {
 
 #[test]
 fn a_fault_is_answered_again(rt: HostRuntime) -> Result<(), Fail> {
-    let mut recorder = Recorder {
-        alloc: rt.alloc(),
-        told: String::new(rt.alloc()),
-        in_text: false,
-    };
+    let mut recorder = new_recorder(rt.alloc());
     let mut reader = Reader::new(rt.alloc(), AMPLE)?;
     assert!(rt; reader.feed(b"", &mut recorder).is_ok());
     assert!(rt; reader.feed(b"<a>\r", &mut recorder).is_ok());
@@ -250,11 +252,7 @@ v b";
 
 #[test]
 fn names_are_found(rt: HostRuntime) -> Result<(), Fail> {
-    let mut recorder = Recorder {
-        alloc: rt.alloc(),
-        told: String::new(rt.alloc()),
-        in_text: false,
-    };
+    let mut recorder = new_recorder(rt.alloc());
     let document = b"<a xmlns='u' xmlns:p='v' b='' p:b=''/>";
     let names = read(Reader::new(rt.alloc(), AMPLE)?, document, 4, &mut recorder)?;
     for (k, row) in NAMES.lines().enumerate() {

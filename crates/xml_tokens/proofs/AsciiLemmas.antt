@@ -18,7 +18,7 @@ module _ (test : ℕ → Bool) where
   abbrev is_plain : ℕ → Bool
   is_plain b = nat_lt b 128 && test b
 
-  plain-ascii : (bytes : List ℕ) → list_all is_plain bytes ≡ true → IsAscii bytes
+  pub plain-ascii : (bytes : List ℕ) → list_all is_plain bytes ≡ true → IsAscii bytes
   plain-ascii [] h = IsAscii-nil
   plain-ascii (b ∷ bytes) h =
       let parts = both (is_plain b) (list_all is_plain bytes) h in
@@ -36,7 +36,7 @@ module _ (test : ℕ → Bool) where
       h ∙ sym (ap (list_all test) (chars-IsAscii text (plain-ascii text all)) ∙ plain-test text all)
 
 -- an NCName of ASCII is one of characters
-plain-ncname-of : (bytes : List ℕ) → is_plain_ncname bytes ≡ true → is_ncname (chars bytes) ≡ true
+pub plain-ncname-of : (bytes : List ℕ) → is_plain_ncname bytes ≡ true → is_ncname (chars bytes) ≡ true
 plain-ncname-of [] h = absurd (false≢true h)
 plain-ncname-of (b ∷ bytes) h =
     let parts = both (is_plain_name_start b) (list_all is_plain_name_char bytes) h in

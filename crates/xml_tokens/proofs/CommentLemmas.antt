@@ -1,203 +1,87 @@
--- A comment that is read byte by byte is the comment of the definition, and what it begins with further bytes hangs on
--- what is kept of it alone.
-use Rattle.std.proofs.Common.{◌≡◌, ℕ, suc, ◌+◌, ◌≤◌, ◌==◌, Bool, true, false, not, ◌&&◌, ◌||◌, List, [], ◌∷◌, ◌++◌, length, take, drop, refl, sym, ap, ◌∙◌, subst, arith, if◌then◌else◌, Option, Some, None, option_map, is_none, Result, Ok, Err, true≢false, take-append-drop, append-nil, take_at}
+-- A comment that is read byte by byte is the comment of the definition.
+use Rattle.std.proofs.Common.{◌≡◌, ℕ, suc, ◌+◌, ◌==◌, Bool, true, false, not, ◌&&◌, ◌||◌, List, [], ◌∷◌, ◌++◌, length, take, refl, ap, ◌∙◌, subst, arith, if◌then◌else◌, Option, Some, None, option_map}
 use Rattle.std.specs.Char.{encode_utf8}
 use Rattle.std.specs.Prelude.{codes}
-use Rattle.std.specs.Str.{chars, is_utf8, IsUtf8}
-use Rattle.std.specs.List.{list_all}
-use Rattle.std.proofs.lemmas.Str.{chars-append, IsUtf8-append, IsUtf8-from_is_utf8, is_utf8-from_IsUtf8, IsUtf8-take, IsCharBoundary-at_seam}
-use Rattle.std.proofs.lemmas.List.Folds.{list_all-append}
+use Rattle.std.specs.Str.{chars}
 use Rattle.inv_base.specs.Characters.{is_char}
-use Rattle.xml_tokens.specs.declared.kind.XmlKind.{XmlKind}
-use Rattle.xml_tokens.specs.declared.kind.XmlKind.TheVariants.{NotUtf8, BadChar, BadMarkup}
-use Rattle.xml_tokens.specs.declared.comments.Spelling.{Spelling}
-use Rattle.xml_tokens.specs.declared.comments.Spelling.TheVariants.{Between, Inside, Broken}
+use Rattle.xml_tokens.specs.declared.kind.XmlKind.TheVariants.{BadMarkup}
+use Rattle.xml_tokens.specs.declared.spelling.Spelling.{Spelling}
+use Rattle.xml_tokens.specs.declared.spelling.Spelling.TheVariants.{Between}
+use Rattle.xml_tokens.specs.declared.comments.Hyphens.{Hyphens}
 use Rattle.xml_tokens.specs.declared.comments.Hyphens.TheVariants.{Zero}
-use Rattle.xml_tokens.specs.declared.comments.OpenComment.{OpenComment}
-use Rattle.xml_tokens.specs.declared.beginning.Position.{Position}
-use Rattle.xml_tokens.specs.Searches.{begins_with, place_of}
-use Rattle.xml_tokens.specs.Markup.{Token, an_aside, comment, if_right}
-use Rattle.xml_tokens.specs.Beginnings.{Beginning, good, bad, later, of_length, extent, extent_through, beginning}
-use Rattle.xml_tokens.specs.Comments.{begun, is_ended_by, comment_behind, fault_by, fault_inside, Course, stays_open, ends_with, course, begins_by, if_open, open_comment, are_two}
-use Rattle.xml_tokens.proofs.CutLemmas.{begins-front}
-use Rattle.xml_tokens.proofs.Utf8Lemmas.{Stands, StandsBetween, StandsInside, stands-begun, spelt, stands-all, inside-none}
-use Rattle.xml_tokens.proofs.HyphenLemmas.{Close, one_farther, close_from, close_of, found, closed_at, behind_hyphens, is_right, close-found, ends-in-hyphens}
+use Rattle.xml_tokens.specs.declared.asides.Inner.TheVariants.{Comment}
+use Rattle.xml_tokens.specs.declared.asides.OpenAside.{OpenAside}
+use Rattle.xml_tokens.specs.Searches.{place_of}
+use Rattle.xml_tokens.specs.Markup.{an_aside, comment, if_right}
+use Rattle.xml_tokens.specs.Beginnings.{Beginning, later, of_length, extent, extent_through}
+use Rattle.xml_tokens.specs.Comments.{begun, hyphens_behind, are_two}
+use Rattle.xml_tokens.specs.Spelling.{spelling_behind, ended, is_wrong}
+use Rattle.xml_tokens.specs.Asides.{fault_by, fault_inside, ends_with, course, begins_by}
+use Rattle.xml_tokens.specs.Asides as asides
+use Rattle.xml_tokens.proofs.Utf8Lemmas.{Stands, stands-begun, spelling_all, characters, wrong_all, wrong-told, stands-all}
+use Rattle.xml_tokens.proofs.AsideLemmas.{IsTail, verdict}
+use Rattle.xml_tokens.proofs.HyphenLemmas.{Close, one_farther, close_from, found, closed_at, behind_hyphens, is_right, close-found, ends-in-hyphens}
+
+-- inside a comment
+abbrev a_comment : Spelling → Bool → Hyphens → Bool → OpenAside
+a_comment u wrong h faulty = record { spelling = u; has_wrong = wrong; inner = Comment (record { hyphens = h; is_faulty = faulty }) }
 
 -- where it ends, by its end and the bytes before it
 abbrev closes : ℕ → Spelling → Bool → Option Close → List ℕ → Beginning
-closes n u odd None bytes = later
-closes n u odd (Some x) bytes = begins_by (ends_with (fault_by (spelt u odd (take x.before bytes)).spelling (spelt u odd (take x.before bytes)).has_wrong x.faulty) (n + (x.before + 1)))
+closes n u wrong None bytes = later
+closes n u wrong (Some x) bytes =
+    begins_by (ends_with (fault_by (spelling_all u (take x.before bytes)) (wrong_all u wrong (take x.before bytes)) (if x.faulty then Some BadMarkup else None)) (n + (x.before + 1)))
 
-course-closes : (n : ℕ) (c : OpenComment) (bytes : List ℕ) → begins_by (course n c bytes) ≡ closes n c.spelling c.has_wrong (close_from c.hyphens c.is_faulty bytes) bytes
-course-closes n c [] = refl
-course-closes n c (b ∷ bytes) = by (are_two c.hyphens && b == 0x3E) (course-closes (n + 1) (comment_behind c b) bytes)
+closes-farther : (n : ℕ) (u : Spelling) (wrong : Bool) (b : ℕ) (bytes : List ℕ) (x : Option Close) → closes (n + 1) (spelling_behind u b) (wrong || is_wrong (ended u b)) x bytes ≡ closes n u wrong (option_map one_farther x) (b ∷ bytes)
+closes-farther n u wrong b bytes None = refl
+closes-farther n u wrong b bytes (Some x) =
+    let same : (n + 1) + (x.before + 1) ≡ n + (suc x.before + 1) = omega arith in
+    ap (λ k. begins_by (ends_with (fault_by (spelling_all (spelling_behind u b) (take x.before bytes)) (wrong_all (spelling_behind u b) (wrong || is_wrong (ended u b)) (take x.before bytes)) (if x.faulty then Some BadMarkup else None)) k)) same
+
+course-closes : (n : ℕ) (u : Spelling) (wrong : Bool) (h : Hyphens) (faulty : Bool) (bytes : List ℕ) → begins_by (course n (a_comment u wrong h faulty) bytes) ≡ closes n u wrong (close_from h faulty bytes) bytes
+course-closes n u wrong h faulty [] = refl
+course-closes n u wrong h faulty (b ∷ bytes) =
+    by (are_two h && b == 0x3E) (course-closes (n + 1) (spelling_behind u b) (wrong || is_wrong (ended u b)) (hyphens_behind h b) (faulty || are_two h) bytes)
   where
-    farther : (x : Option Close) → closes (n + 1) (comment_behind c b).spelling (comment_behind c b).has_wrong x bytes ≡ closes n c.spelling c.has_wrong (option_map one_farther x) (b ∷ bytes)
-    farther None = refl
-    farther (Some x) =
-        let same : (n + 1) + (x.before + 1) ≡ n + (suc x.before + 1) = omega arith in
-        ap (λ k. begins_by (ends_with (fault_by (spelt (comment_behind c b).spelling (comment_behind c b).has_wrong (take x.before bytes)).spelling (spelt (comment_behind c b).spelling (comment_behind c b).has_wrong (take x.before bytes)).has_wrong x.faulty) k)) same
-
-    by : (t : Bool) → begins_by (course (n + 1) (comment_behind c b) bytes) ≡ closes (n + 1) (comment_behind c b).spelling (comment_behind c b).has_wrong (close_from (comment_behind c b).hyphens (comment_behind c b).is_faulty bytes) bytes
-        → begins_by (elim t [ true ↦ ends_with (fault_inside c) (n + 1) | false ↦ course (n + 1) (comment_behind c b) bytes ])
-        ≡ closes n c.spelling c.has_wrong (elim t [ true ↦ Some (record { before = 0; faulty = c.is_faulty }) | false ↦ option_map one_farther (close_from (comment_behind c b).hyphens (comment_behind c b).is_faulty bytes) ]) (b ∷ bytes)
-    by true rest = refl
-    by false rest = rest ∙ farther (close_from (comment_behind c b).hyphens (comment_behind c b).is_faulty bytes)
-
--- What is read of the bytes inside, by the tests of the definition.
-abbrev shown : ℕ → Bool → Bool → Bool → Beginning
-shown n t u right = elim t [
-  | false ↦ bad NotUtf8 n
-  | true ↦ elim u [ false ↦ bad BadChar n | true ↦ of_length n (if right then Ok an_aside else Err BadMarkup) ]
-]
-
-extent-shown : (n : ℕ) (inside : List ℕ) → extent n inside comment ≡ shown n (is_utf8 inside) (list_all is_char (chars inside)) (is_right (inside ++ codes "-"))
-unfolding extent comment
-extent-shown n inside = refl
+    by : (t : Bool)
+        → begins_by (course (n + 1) (a_comment (spelling_behind u b) (wrong || is_wrong (ended u b)) (hyphens_behind h b) (faulty || are_two h)) bytes)
+        ≡ closes (n + 1) (spelling_behind u b) (wrong || is_wrong (ended u b)) (close_from (hyphens_behind h b) (faulty || are_two h) bytes) bytes
+        → begins_by (elim t [ true ↦ ends_with (fault_inside (a_comment u wrong h faulty)) (n + 1) | false ↦ course (n + 1) (a_comment (spelling_behind u b) (wrong || is_wrong (ended u b)) (hyphens_behind h b) (faulty || are_two h)) bytes ])
+        ≡ closes n u wrong (elim t [ true ↦ Some (record { before = 0; faulty = faulty }) | false ↦ option_map one_farther (close_from (hyphens_behind h b) (faulty || are_two h) bytes) ]) (b ∷ bytes)
+    by true is = refl
+    by false is = is ∙ closes-farther n u wrong b bytes (close_from (hyphens_behind h b) (faulty || are_two h) bytes)
 
 abbrev hyphens : List ℕ
 hyphens = 0x2D ∷ (0x2D ∷ [])
 
-hyphens-utf8 : IsUtf8 hyphens
-unfolding encode_utf8
-hyphens-utf8 = (hyphens, (refl, refl))
+hyphens-tail : IsTail hyphens
+unfolding encode_utf8 chars is_char
+hyphens-tail = record { utf8 = (hyphens, (refl, refl)); told = refl }
 
-hyphens-chars : list_all is_char (chars hyphens) ≡ true
-unfolding chars is_char
-hyphens-chars = refl
-
-false-by : (t : Bool) → ¬ (t ≡ true) → t ≡ false
-false-by true h = absurd (h refl)
-false-by false h = refl
-
--- What stands inside is UTF-8 where it and the hyphens behind it are.
-inside-utf8 : (inside : List ℕ) → IsUtf8 (inside ++ hyphens) → IsUtf8 inside
-inside-utf8 inside u = subst IsUtf8 (take_at inside hyphens (length inside) refl) (IsUtf8-take (inside ++ hyphens) (length inside) u (IsCharBoundary-at_seam (inside ++ hyphens) inside hyphens refl hyphens-utf8))
-
-not-utf8 : (inside : List ℕ) → ¬ (IsUtf8 (inside ++ hyphens)) → is_utf8 inside ≡ false
-not-utf8 inside none = false-by (is_utf8 inside) (λ is. none (IsUtf8-append inside hyphens (IsUtf8-from_is_utf8 inside is) hyphens-utf8))
-
-and-true : (t : Bool) → (t && true) ≡ t
-and-true true = refl
-and-true false = refl
-
-inside-chars : (inside : List ℕ) → IsUtf8 inside → list_all is_char (chars (inside ++ hyphens)) ≡ list_all is_char (chars inside)
-inside-chars inside u =
-    ap (list_all is_char) (chars-append inside hyphens u)
-    ∙ (list_all-append is_char (chars inside) (chars hyphens) ∙ (ap (λ t. list_all is_char (chars inside) && t) hyphens-chars ∙ and-true (list_all is_char (chars inside))))
-
-shown-whole : (n : ℕ) (u right : Bool) → begins_by (ends_with (fault_by Between (not u) (not right)) n) ≡ shown n true u right
-shown-whole n true true = refl
-shown-whole n true false = refl
-shown-whole n false right = refl
-
--- The fault of where the bytes stand is that of the definition.
-verdict : (n : ℕ) (inside : List ℕ) (u : Spelling) (odd faulty : Bool) → Stands (inside ++ hyphens) u odd → faulty ≡ not (is_right (inside ++ codes "-"))
-    → begins_by (ends_with (fault_by u odd faulty) n) ≡ extent n inside comment
-verdict n inside Between odd faulty s f =
-    let u = inside-utf8 inside s.utf8 in
-    let right = is_right (inside ++ codes "-") in
-    let all = list_all is_char (chars inside) in
-    let wrong : odd ≡ not all = s.wrong ∙ ap not (inside-chars inside u) in
-    (λ i. begins_by (ends_with (fault_by Between (wrong i) (f i)) n))
-    ∙ (shown-whole n all right ∙ (ap (λ t. shown n t all right) (sym (is_utf8-from_IsUtf8 inside u)) ∙ sym (extent-shown n inside)))
-verdict n inside (Inside more low high value) odd faulty s f =
-    ap (λ t. shown n t (list_all is_char (chars inside)) (is_right (inside ++ codes "-"))) (sym (not-utf8 inside (inside-none (inside ++ hyphens) more low high value odd s))) ∙ sym (extent-shown n inside)
-verdict n inside Broken odd faulty s f =
-    let none : is_utf8 (inside ++ hyphens) ≡ false = ap is_utf8 (sym (append-nil (inside ++ hyphens))) ∙ s [] in
-    ap (λ t. shown n t (list_all is_char (chars inside)) (is_right (inside ++ codes "-")))
-    (sym (not-utf8 inside (λ u. true≢false (sym (is_utf8-from_IsUtf8 (inside ++ hyphens) u) ∙ none)))) ∙ sym (extent-shown n inside)
+-- The own fault of a comment is that of the definition.
+comment-own : (n : ℕ) (inside : List ℕ) (right : Bool) → right ≡ is_right (inside ++ codes "-") → begins_by (ends_with (if not right then Some BadMarkup else None) n) ≡ of_length n (comment inside)
+unfolding comment
+comment-own n inside right is = by right ∙ ap (λ t. of_length n (if_right t an_aside BadMarkup)) is
+  where
+    by : (t : Bool) → begins_by (ends_with (if not t then Some BadMarkup else None) n) ≡ of_length n (if_right t an_aside BadMarkup)
+    by true = refl
+    by false = refl
 
 -- Read byte by byte it is the comment of the definition.
-pub comment-course : (bytes : List ℕ) → begins_by (course 4 begun bytes) ≡ extent_through (codes "-->") 4 bytes comment
-comment-course bytes = course-closes 4 begun bytes ∙ (ap (λ x. closes 4 Between false x bytes) (close-found Zero false bytes) ∙ by (place_of (codes "-->") bytes) refl)
+pub comment-course : (bytes : List ℕ) → begins_by (course 4 (asides.begun (Comment begun)) bytes) ≡ extent_through (codes "-->") 4 bytes comment
+comment-course bytes = course-closes 4 Between false Zero false bytes ∙ (ap (λ x. closes 4 Between false x bytes) (close-found Zero false bytes) ∙ by (place_of (codes "-->") bytes) refl)
   where
     by : (x : Option ℕ) → place_of (codes "-->") bytes ≡ x
         → closes 4 Between false (option_map (behind_hyphens 2 false) (found bytes x)) bytes ≡ (elim x [ None ↦ later | (Some n) ↦ extent (4 + (n + length (codes "-->"))) (take n bytes) comment ])
     by None e = refl
     by (Some n) e =
         let front = take (n + 2) bytes in
-        let end = spelt Between false front in
-        let stands : Stands (take n bytes ++ hyphens) end.spelling end.has_wrong =
-        subst (λ x. Stands x end.spelling end.has_wrong) (ends-in-hyphens bytes n e) (stands-all [] Between false front stands-begun) in
+        let u = spelling_all Between front in
+        let cs = characters Between front in
+        let wrong = wrong_all Between false front in
+        let faulty = (closed_at bytes n).faulty in
+        let stands : Stands (take n bytes ++ hyphens) u cs = subst (λ x. Stands x u cs) (ends-in-hyphens bytes n e) (stands-all [] Between [] front stands-begun) in
         let same : 4 + ((n + 2) + 1) ≡ 4 + (n + 3) = omega arith in
-        ap (λ k. begins_by (ends_with (fault_by end.spelling end.has_wrong (closed_at bytes n).faulty) k)) same
-        ∙ verdict (4 + (n + 3)) (take n bytes) end.spelling end.has_wrong (closed_at bytes n).faulty stands refl
-
--- Read in two parts it is read in one.
-abbrev pub going_on : Course → ℕ → List ℕ → Course
-going_on (stays_open c) n bytes = course n c bytes
-going_on (ends_with fault n) m bytes = ends_with fault n
-
-pub course-append : (n : ℕ) (c : OpenComment) (a b : List ℕ) → course n c (a ++ b) ≡ going_on (course n c a) (n + length a) b
-course-append n c [] b = let same : n ≡ n + 0 = omega arith in ap (λ k. course k c b) same
-course-append n c (d ∷ a) b = by (is_ended_by c d) (course-append (n + 1) (comment_behind c d) a b)
-  where
-    by : (t : Bool) → course (n + 1) (comment_behind c d) (a ++ b) ≡ going_on (course (n + 1) (comment_behind c d) a) ((n + 1) + length a) b
-        → (elim t [ true ↦ ends_with (fault_inside c) (n + 1) | false ↦ course (n + 1) (comment_behind c d) (a ++ b) ])
-        ≡ going_on (elim t [ true ↦ ends_with (fault_inside c) (n + 1) | false ↦ course (n + 1) (comment_behind c d) a ]) (n + suc (length a)) b
-    by true rest = refl
-    by false rest = let same : (n + 1) + length a ≡ n + suc (length a) = omega arith in rest ∙ ap (λ k. going_on (course (n + 1) (comment_behind c d) a) k b) same
-
--- What an open comment is.
-abbrev pub opening : List ℕ
-opening = 0x3C ∷ (0x21 ∷ (0x2D ∷ (0x2D ∷ [])))
-
-pub record IsOpen (bytes : List ℕ) (c : OpenComment) : Type 0 where
-  pub inside : List ℕ
-  pub is : bytes ≡ opening ++ inside
-  pub leads : course 4 begun inside ≡ stays_open c
-
-pub open-is : (bytes : List ℕ) (c : OpenComment) → open_comment bytes ≡ Some c → IsOpen bytes c
-unfolding open_comment
-open-is bytes c e = by (begins_with (codes "<!--") bytes) refl e
-  where
-    leads : (x : Course) → if_open x ≡ Some c → x ≡ stays_open c
-    leads (stays_open d) f = let same : d ≡ c = cc f in ap stays_open same
-    leads (ends_with fault n) f = absurd (cc f)
-
-    by : (t : Bool) → begins_with (codes "<!--") bytes ≡ t → (elim t [ true ↦ if_open (course 4 begun (drop 4 bytes)) | false ↦ None ]) ≡ Some c → IsOpen bytes c
-    by true t f = record {
-      inside = drop 4 bytes;
-      is = sym (take-append-drop 4 bytes) ∙ ap (λ x. x ++ drop 4 bytes) (begins-front (codes "<!--") bytes t);
-      leads = leads (course 4 begun (drop 4 bytes)) f;
-    }
-    by false t f = absurd (cc f)
-
-open-computes : (inside : List ℕ) → open_comment (opening ++ inside) ≡ if_open (course 4 begun inside)
-unfolding open_comment
-open-computes inside = refl
-
-comment-computes : (p : Position) (e : Bool) (inside : List ℕ) → beginning p e (opening ++ inside) ≡ extent_through (codes "-->") 4 inside comment
-unfolding beginning
-comment-computes p e inside = refl
-
-module _ (bytes more : List ℕ) (c : OpenComment) (is : open_comment bytes ≡ Some c) where
-  leads-on : course 4 begun ((open-is bytes c is).inside ++ more) ≡ course (length bytes) c more
-  leads-on =
-      let o = open-is bytes c is in
-      let long : 4 + length o.inside ≡ length bytes = omega (arith, ap length o.is) in
-      course-append 4 begun o.inside more ∙ (ap (λ x. going_on x (4 + length o.inside) more) o.leads ∙ ap (λ k. course k c more) long)
-
-  whole-is : bytes ++ more ≡ opening ++ ((open-is bytes c is).inside ++ more)
-  whole-is = ap (λ x. x ++ more) (open-is bytes c is).is
-
-  -- What it begins with further bytes ..
-  pub open-begins : (p : Position) (e : Bool) → beginning p e (bytes ++ more) ≡ begins_by (course (length bytes) c more)
-  open-begins p e =
-      let o = open-is bytes c is in
-      ap (beginning p e) whole-is ∙ (comment-computes p e (o.inside ++ more) ∙ (sym (comment-course (o.inside ++ more)) ∙ ap begins_by leads-on))
-
-  -- .. and the open comment that it is with them.
-  pub open-grows : open_comment (bytes ++ more) ≡ if_open (course (length bytes) c more)
-  open-grows = ap open_comment whole-is ∙ (open-computes ((open-is bytes c is).inside ++ more) ∙ ap if_open leads-on)
-
--- What the code finds of bytes that may be one.
-pub not-open : (bytes : List ℕ) → begins_with (codes "<!--") bytes ≡ false → open_comment bytes ≡ None
-unfolding open_comment
-not-open bytes e = ap (λ t. elim t [ true ↦ if_open (course 4 begun (drop 4 bytes)) | false ↦ None ]) e
-
-pub open-by : (bytes behind : List ℕ) (x : Course) → begins_with (codes "<!--") bytes ≡ true → behind ≡ drop 4 bytes → course 4 begun behind ≡ x → open_comment bytes ≡ if_open x
-unfolding open_comment
-open-by bytes behind x e is leads =
-    ap (λ t. elim t [ true ↦ if_open (course 4 begun (drop 4 bytes)) | false ↦ None ]) e ∙ ap if_open (ap (course 4 begun) (sym is) ∙ leads)
+        ap (λ k. begins_by (ends_with (fault_by u wrong (if faulty then Some BadMarkup else None)) k)) same
+        ∙ verdict hyphens hyphens-tail (take n bytes) (4 + (n + 3)) comment u cs wrong (if faulty then Some BadMarkup else None) stands (wrong-told Between false front)
+        (λ w all. comment-own (4 + (n + 3)) (take n bytes) (is_right (take n bytes ++ codes "-")) refl)

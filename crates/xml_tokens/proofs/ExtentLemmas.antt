@@ -188,7 +188,7 @@ pub instruction-out : (s : Searched) (bytes : List ℕ) → s.searched ≡ 2 + l
 instruction-out = searched-out instruction_front (codes "?>") (markup.instruction false) instruction-computes instruction-unquoted
 
 -- How far a tag was searched.
-abbrev tagged : TagEnd → List ℕ → Beginning
+abbrev pub tagged : TagEnd → List ℕ → Beginning
 tagged x bytes = elim x [ none_within ↦ bad TagTooLong greatest_tag | none_yet ↦ later | (behind n) ↦ extent (n + 2) (take n bytes) tag ]
 
 not-yet : (bytes : List ℕ) → tag_at bytes ≡ later → tag_end bytes None 262143 ≡ none_yet

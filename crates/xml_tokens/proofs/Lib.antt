@@ -18,7 +18,10 @@ pub mod ExtentLemmas
 pub mod TokenLemmas
 pub mod LiteralLemmas
 pub mod CharacterLemmas
+pub mod AsideLemmas
 pub mod CommentLemmas
+pub mod InstructionLemmas
+pub mod OpenLemmas
 pub mod HyphenLemmas
 pub mod Utf8Lemmas
 pub mod RunLemmas
@@ -26,3 +29,4 @@ pub mod PlainLemmas
 pub mod AsciiLemmas
 pub mod CalmLemmas
 pub mod FrontLemmas
+pub mod PlainTagLemmas

@@ -82,7 +82,7 @@ tells-start inside name behind attributes is_empty e f h are g r =
     (subst (λ x. Tells (Ok (StartTag (record { name = name; attributes = attributes.found; is_empty = is_empty }))) (with_valued name.now is_empty x)) (sym (valued are.stand attributes true r are.values)) (tells_token (StartTag (record { name = name; attributes = attributes.found; is_empty = is_empty }))))
 
 -- A tag of either kind.
-no-name : is_qname [] ≡ false
+pub no-name : is_qname [] ≡ false
 unfolding is_qname
 no-name = ap is_ncname chars-nil
 

@@ -1,18 +1,13 @@
 -- Characters at the front of a text, one by one.
-use Rattle.std.proofs.Common.{◌≡◌, ℕ, suc, ◌+◌, ◌-◌, ◌<◌, ◌≤◌, ◌||◌, Bool, true, false, ◌&&◌, List, [], ◌∷◌, ◌++◌, length, take, drop, refl, sym, ap, ◌∙◌, arith, subst, true≢false, cond}
+use Rattle.std.proofs.Common.{◌≡◌, ℕ, suc, ◌+◌, ◌-◌, ◌<◌, ◌≤◌, Bool, true, false, ◌&&◌, List, [], ◌∷◌, ◌++◌, length, take, drop, refl, sym, ap, ◌∙◌, arith, subst, true≢false, cond}
 use Rattle.std.specs.Prelude.{encode_utf8}
 use Rattle.std.specs.Str.{chars, IsUtf8, IsCharBoundary}
 use Rattle.std.specs.List.{list_all, prefix_len}
 use Rattle.std.proofs.lemmas.Str.{chars-nil, IsUtf8-nil, IsUtf8-append, IsUtf8-past_char, chars_past_char, IsCharBoundary-at_seam, IsUtf8-take, length-encode, len_utf8_bounds, chars-append}
 use Rattle.std.proofs.lemmas.List.{append_assoc, append-nil, length-append, take_at, drop_at}
-use Rattle.inv_base.specs.Characters.{is_name_char}
-use Rattle.xml_tokens.specs.WrittenNames.{is_colon}
 use Rattle.xml_tokens.specs.Markup.{target_of}
+use Rattle.xml_tokens.specs.Instructions.{goes_on}
 use Rattle.xml_tokens.specs.Told.{IsTarget}
-
--- may go on a target
-abbrev pub goes_on : ℕ → Bool
-goes_on c = is_colon c || is_name_char c
 
 -- A front of the text, by its characters that pass a test, and the rest.
 pub record Passed (p : ℕ → Bool) (text rest : List ℕ) : Type 0 where

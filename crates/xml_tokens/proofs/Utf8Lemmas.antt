@@ -1,9 +1,8 @@
 -- Where bytes stand in UTF-8, byte by byte.
-use Rattle.std.proofs.Common.{◌≡◌, ℕ, zero, suc, ◌+◌, ◌-◌, ◌*◌, ◌/◌, ◌%◌, ◌<◌, ◌≤◌, ◌==◌, nat_lt, Bool, true, false, not, ◌&&◌, ◌||◌, ◌⊎◌, inl, inr, List, [], ◌∷◌, ◌++◌, length, take, drop, refl, sym, ap, ◌∙◌, subst, arith, if◌then◌else◌, true≢false, append_assoc, append-nil, length-append, take_at, drop_at}
+use Rattle.std.proofs.Common.{◌≡◌, ℕ, zero, suc, ◌+◌, ◌-◌, ◌*◌, ◌/◌, ◌%◌, ◌<◌, ◌≤◌, ◌==◌, nat_lt, Bool, true, false, not, ◌&&◌, ◌||◌, ◌⊎◌, inl, inr, List, [], ◌∷◌, ◌++◌, length, refl, sym, ap, ◌∙◌, subst, arith, if◌then◌else◌, Option, Some, None, true≢false, append_assoc, append-nil, length-append, take_at, drop_at}
 use Rattle.std.specs.Str.{chars, is_utf8, IsUtf8}
 use Rattle.std.specs.List.{list_all}
-use Rattle.std.proofs.lemmas.Str.{chars-nil, chars-append, chars-encodes, IsUtf8-nil, IsUtf8-append, IsUtf8-encode, IsUtf8-drop, IsUtf8-take, IsUtf8-from_is_utf8, is_utf8-from_IsUtf8, IsCharBoundary-from_take, encode_ascii}
-use Rattle.std.proofs.lemmas.List.Folds.{list_all-append}
+use Rattle.std.proofs.lemmas.Str.{chars-nil, chars-append, chars-encodes, IsUtf8-nil, IsUtf8-append, IsUtf8-encode, IsUtf8-drop, IsUtf8-from_is_utf8, is_utf8-from_IsUtf8, IsCharBoundary-from_take, encode_ascii}
 use Rattle.std.proofs.lemmas.Bool.{cases_eq}
 use Rattle.std.proofs.lemmas.Bool.Decides.{nat_tests}
 use lib.Utf8.{scalar, scalars, encode, encodes, low_scalar}
@@ -12,9 +11,9 @@ use Rattle.inv_base.proofs.TextLemmas.{both}
 use Rattle.xml_tokens.specs.Encoding.{character_at, behind_lead, continued}
 use Rattle.xml_tokens.specs.declared.encoding.Begun.{Begun}
 use Rattle.xml_tokens.specs.declared.encoding.Begun.TheVariants.{Character, Broken, Unfinished}
-use Rattle.xml_tokens.specs.declared.comments.Spelling.{Spelling}
-use Rattle.xml_tokens.specs.declared.comments.Spelling.TheVariants as spelling
-use Rattle.xml_tokens.specs.Comments.{behind_first, behind_inner, value_behind, spelling_behind, ends_wrong}
+use Rattle.xml_tokens.specs.declared.spelling.Spelling.{Spelling}
+use Rattle.xml_tokens.specs.declared.spelling.Spelling.TheVariants as spelling
+use Rattle.xml_tokens.specs.Spelling.{behind_first, behind_inner, value_behind, spelling_behind, ended, is_wrong}
 use Rattle.xml_tokens.proofs.CharacterLemmas.{begins, encode-two, encode-three, encode-four}
 
 -- What reads as a character is its bytes.
@@ -185,7 +184,7 @@ behind-front front rest u whole =
     let cut = IsCharBoundary-from_take (front ++ rest) (length front) whole (omega (arith, length-append front rest)) (subst IsUtf8 (sym (take_at front rest (length front) refl)) u) in
     subst IsUtf8 (drop_at front rest (length front) refl) (IsUtf8-drop (front ++ rest) (length front) whole cut)
 
-false-by : (t : Bool) → ¬ (t ≡ true) → t ≡ false
+pub false-by : (t : Bool) → ¬ (t ≡ true) → t ≡ false
 false-by true h = absurd (h refl)
 false-by false h = refl
 
@@ -193,17 +192,17 @@ no-utf8 : (front : List ℕ) (b : ℕ) (bytes : List ℕ) → IsUtf8 front → (
 no-utf8 front b bytes u none = false-by (is_utf8 (front ++ (b ∷ bytes)))
     (λ is. let begun = starts b bytes (behind-front front (b ∷ bytes) u (IsUtf8-from_is_utf8 (front ++ (b ∷ bytes)) is)) in none begun.0 begun.1 begun.2)
 
--- Where bytes stand, of which it is told whether some character is no Char.
-pub record StandsBetween (a : List ℕ) (odd : Bool) : Type 0 where
+-- Where bytes stand, and the characters that they spell so far.
+pub record StandsBetween (a cs : List ℕ) : Type 0 where
   pub utf8 : IsUtf8 a
-  pub wrong : odd ≡ not (list_all is_char (chars a))
+  pub told : cs ≡ chars a
 
-pub record StandsInside (a : List ℕ) (more low high value : ℕ) (odd : Bool) : Type 0 where
+pub record StandsInside (a : List ℕ) (more low high value : ℕ) (cs : List ℕ) : Type 0 where
   pub front : List ℕ
   pub first : ℕ
   pub inner : List ℕ
   pub is : a ≡ front ++ (first ∷ inner)
-  pub before : StandsBetween front odd
+  pub before : StandsBetween front cs
   pub some : 1 ≤ more
   pub few : more ≤ 3
   pub least : 0x80 ≤ low
@@ -213,30 +212,27 @@ pub record StandsInside (a : List ℕ) (more low high value : ℕ) (odd : Bool) 
   pub three : more ≡ 3 → value < 8
   pub reads : (bytes : List ℕ) → character_at first (inner ++ bytes) ≡ continued more low high value (1 + length inner) bytes
 
-abbrev pub Stands : List ℕ → Spelling → Bool → Type 0
-Stands a spelling.Between odd = StandsBetween a odd
-Stands a (spelling.Inside more low high value) odd = StandsInside a more low high value odd
-Stands a spelling.Broken odd = (bytes : List ℕ) → is_utf8 (a ++ bytes) ≡ false
+abbrev pub Stands : List ℕ → Spelling → List ℕ → Type 0
+Stands a spelling.Between cs = StandsBetween a cs
+Stands a (spelling.Inside more low high value) cs = StandsInside a more low high value cs
+Stands a spelling.Broken cs = (bytes : List ℕ) → is_utf8 (a ++ bytes) ≡ false
 
-pub stands-begun : StandsBetween [] false
-stands-begun = record { utf8 = IsUtf8-nil; wrong = sym (ap (λ cs. not (list_all is_char cs)) chars-nil) }
+pub stands-begun : StandsBetween [] []
+stands-begun = record { utf8 = IsUtf8-nil; told = sym chars-nil }
 
-odd-grows : (p q : Bool) → (not p || not q) ≡ not (p && (q && true))
-odd-grows true true = refl
-odd-grows true false = refl
-odd-grows false q = refl
+-- the characters with the one that a byte ends, if any, at their front
+abbrev pub with_ended : Option ℕ → List ℕ → List ℕ
+with_ended None cs = cs
+with_ended (Some c) cs = c ∷ cs
 
 one-character : (c : ℕ) → scalar c ≡ true → chars (encode c) ≡ c ∷ []
 one-character c s = ap chars (sym (append-nil (encode c))) ∙ chars-encodes (c ∷ []) (ap (λ t. t && true) s)
 
 -- Behind one more character.
-adds-character : (a w : List ℕ) (odd : Bool) (c : ℕ) → scalar c ≡ true → w ≡ a ++ encode c → StandsBetween a odd → StandsBetween w (odd || not (is_char c))
-adds-character a w odd c s is stands = record {
+adds-character : (a w cs : List ℕ) (c : ℕ) → scalar c ≡ true → w ≡ a ++ encode c → StandsBetween a cs → StandsBetween w (cs ++ (c ∷ []))
+adds-character a w cs c s is stands = record {
   utf8 = subst IsUtf8 (sym is) (IsUtf8-append a (encode c) stands.utf8 (IsUtf8-encode c s));
-  wrong =
-      let all : list_all is_char (chars w) ≡ (list_all is_char (chars a) && (is_char c && true)) =
-      ap (λ x. list_all is_char (chars x)) is ∙ (ap (list_all is_char) (chars-append a (encode c) stands.utf8 ∙ ap (λ x. chars a ++ x) (one-character c s)) ∙ list_all-append is_char (chars a) (c ∷ [])) in
-      ap (λ t. t || not (is_char c)) stands.wrong ∙ (odd-grows (list_all is_char (chars a)) (is_char c) ∙ sym (ap not all));
+  told = ap (λ x. x ++ (c ∷ [])) stands.told ∙ sym (ap chars is ∙ (chars-append a (encode c) stands.utf8 ∙ ap (λ x. chars a ++ x) (one-character c s)));
 }
 
 -- The first byte of a character.
@@ -293,12 +289,8 @@ lead-opened d p =
     (λ t. opens d 3 0x80 0x8F 4 p (omega arith) (omega arith) (omega arith) (omega arith) (omega arith) (λ k. omega arith) (λ k. omega arith))
     (λ t6 bytes. refl)))))))
 
-or-false : (t : Bool) → t ≡ (t || false)
-or-false true = refl
-or-false false = refl
-
-module _ (a : List ℕ) (odd : Bool) (d : ℕ) (stands : StandsBetween a odd) where
-  by-opened : (u : Spelling) → 0x80 ≤ d → Opened u d (character_at d) → Stands (a ++ (d ∷ [])) u odd
+module _ (a cs : List ℕ) (d : ℕ) (stands : StandsBetween a cs) where
+  by-opened : (u : Spelling) → 0x80 ≤ d → Opened u d (character_at d) → Stands (a ++ (d ∷ [])) u cs
   by-opened spelling.Between p low = absurd (omega arith)
   by-opened (spelling.Inside more low high value) p o = record {
     front = a;
@@ -317,20 +309,20 @@ module _ (a : List ℕ) (odd : Bool) (d : ℕ) (stands : StandsBetween a odd) wh
   }
   by-opened spelling.Broken p o = λ bytes. ap is_utf8 (append_assoc a (d ∷ []) bytes) ∙ no-utf8 a d bytes stands.utf8 (λ c n e. let no : ◌≡◌ {A = Begun ℕ} (Broken 1) (Character c n) = sym (o bytes) ∙ e in cc)
 
-  stands-first : Stands (a ++ (d ∷ [])) (behind_first d) (odd || (nat_lt d 0x80 && not (is_char d)))
+  stands-first : Stands (a ++ (d ∷ [])) (behind_first d) (cs ++ with_ended (if nat_lt d 0x80 then Some d else None) [])
   unfolding character_at
   stands-first = by (nat_lt d 0x80) refl
     where
-      by : (t : Bool) → nat_lt d 0x80 ≡ t → Stands (a ++ (d ∷ [])) (if t then spelling.Between else lead_spelling d) (odd || (t && not (is_char d)))
+      by : (t : Bool) → nat_lt d 0x80 ≡ t → Stands (a ++ (d ∷ [])) (if t then spelling.Between else lead_spelling d) (cs ++ with_ended (if t then Some d else None) [])
       by true t =
           let low : d < 128 = grind (arith, nat_tests) in
-          adds-character a (a ++ (d ∷ [])) odd d (low_scalar d (omega arith)) (ap (λ x. a ++ x) (sym (encode_ascii d low))) stands
+          adds-character a (a ++ (d ∷ [])) cs d (low_scalar d (omega arith)) (ap (λ x. a ++ x) (sym (encode_ascii d low))) stands
       by false t =
           let past : 0x80 ≤ d = grind (arith, nat_tests) in
           let reads : (bytes : List ℕ) → character_at d bytes ≡ behind_lead d bytes = λ bytes. ap (λ s. elim s [ true ↦ Character d 1 | false ↦ behind_lead d bytes ]) t in
           let P : (List ℕ → Begun ℕ) → Type 0 = λ f. Opened (lead_spelling d) d f in
           let opened : Opened (lead_spelling d) d (character_at d) = subst P (sym (λ i bytes. reads bytes i)) (lead-opened d past) in
-          subst (λ o. Stands (a ++ (d ∷ [])) (lead_spelling d) o) (or-false odd) (by-opened (lead_spelling d) past opened)
+          subst (λ x. Stands (a ++ (d ∷ [])) (lead_spelling d) x) (sym (append-nil cs)) (by-opened (lead_spelling d) past opened)
 
 -- A byte more inside a character.
 continued-broken : (more low high value n d : ℕ) (bytes : List ℕ) → 1 ≤ more → is_within low high d ≡ false → continued more low high value n (d ∷ bytes) ≡ Broken (n + 1)
@@ -347,7 +339,7 @@ no-bytes : (xs ys : List ℕ) (n : ℕ) → length (xs ++ ys) ≡ n → length x
 no-bytes xs [] n e f = refl
 no-bytes xs (y ∷ ys) n e f = absurd (omega (arith, length-append xs (y ∷ ys)))
 
-module _ (a : List ℕ) (more low high value : ℕ) (odd : Bool) (d : ℕ) (s : StandsInside a more low high value odd) where
+module _ (a : List ℕ) (more low high value : ℕ) (cs : List ℕ) (d : ℕ) (s : StandsInside a more low high value cs) where
   farther : (bytes : List ℕ) → (a ++ (d ∷ [])) ++ bytes ≡ s.front ++ (s.first ∷ (s.inner ++ (d ∷ bytes)))
   farther bytes = append_assoc a (d ∷ []) bytes ∙ (ap (λ x. x ++ (d ∷ bytes)) s.is ∙ append_assoc s.front (s.first ∷ s.inner) (d ∷ bytes))
 
@@ -362,7 +354,7 @@ module _ (a : List ℕ) (more low high value : ℕ) (odd : Bool) (d : ℕ) (s : 
       let bounds : (0x80 ≤ low) × (high ≤ 0xBF) × (value < 0x8000) = (s.least, s.most, s.fits) in
       omega arith
 
-  stands-last : is_within low high d ≡ true → nat_lt more 2 ≡ true → StandsBetween (a ++ (d ∷ [])) (odd || not (is_char (value_behind value d)))
+  stands-last : is_within low high d ≡ true → nat_lt more 2 ≡ true → StandsBetween (a ++ (d ∷ [])) (cs ++ (value_behind value d ∷ []))
   stands-last w t =
       let some : 1 ≤ more = s.some in
       let one : more - 1 ≡ 0 = grind (arith, nat_tests) in
@@ -374,9 +366,9 @@ module _ (a : List ℕ) (more low high value : ℕ) (odd : Bool) (d : ℕ) (s : 
       let none : is.rest ≡ [] = no-bytes (encode c) is.rest ((1 + length s.inner) + 1) long is.long in
       let whole : a ++ (d ∷ []) ≡ s.front ++ encode c =
       ap (λ x. x ++ (d ∷ [])) s.is ∙ (append_assoc s.front (s.first ∷ s.inner) (d ∷ []) ∙ ap (λ x. s.front ++ x) (is.is ∙ (ap (λ x. encode c ++ x) none ∙ append-nil (encode c)))) in
-      adds-character s.front (a ++ (d ∷ [])) odd c is.scalar whole s.before
+      adds-character s.front (a ++ (d ∷ [])) cs c is.scalar whole s.before
 
-  stands-on : is_within low high d ≡ true → nat_lt more 2 ≡ false → StandsInside (a ++ (d ∷ [])) (more - 1) 0x80 0xBF (value_behind value d) odd
+  stands-on : is_within low high d ≡ true → nat_lt more 2 ≡ false → StandsInside (a ++ (d ∷ [])) (more - 1) 0x80 0xBF (value_behind value d) cs
   stands-on w t =
       let some : 2 ≤ more = grind (arith, nat_tests) in
       let few : more ≤ 3 = s.few in
@@ -408,45 +400,89 @@ module _ (a : List ℕ) (more low high value : ℕ) (odd : Bool) (d : ℕ) (s : 
             ∙ (ap (λ v. continued (more - 1) 0x80 0xBF v ((1 + length s.inner) + 1) bytes) (sym is) ∙ ap (λ n. continued (more - 1) 0x80 0xBF (value_behind value d) n bytes) long)));
       }
 
-  stands-inner : Stands (a ++ (d ∷ [])) (behind_inner more low high value d) (odd || (nat_lt more 2 && not (is_char (value_behind value d))))
+  stands-inner : Stands (a ++ (d ∷ [])) (behind_inner more low high value d) (cs ++ with_ended (if nat_lt more 2 then Some (value_behind value d) else None) [])
   stands-inner = by (is_within low high d) (nat_lt more 2) refl refl
     where
       by : (w t : Bool) → is_within low high d ≡ w → nat_lt more 2 ≡ t
-          → Stands (a ++ (d ∷ [])) (if w then (if t then spelling.Between else spelling.Inside (more - 1) 0x80 0xBF (value_behind value d)) else spelling.Broken) (odd || (t && not (is_char (value_behind value d))))
+          → Stands (a ++ (d ∷ [])) (if w then (if t then spelling.Between else spelling.Inside (more - 1) 0x80 0xBF (value_behind value d)) else spelling.Broken) (cs ++ with_ended (if t then Some (value_behind value d) else None) [])
       by false t e f = stands-broken e
       by true true e f = stands-last e f
-      by true false e f = subst (λ o. StandsInside (a ++ (d ∷ [])) (more - 1) 0x80 0xBF (value_behind value d) o) (or-false odd) (stands-on e f)
+      by true false e f = subst (λ x. StandsInside (a ++ (d ∷ [])) (more - 1) 0x80 0xBF (value_behind value d) x) (sym (append-nil cs)) (stands-on e f)
 
 -- A byte more.
-pub stands-behind : (a : List ℕ) (u : Spelling) (odd : Bool) (d : ℕ) → Stands a u odd → Stands (a ++ (d ∷ [])) (spelling_behind u d) (odd || ends_wrong u d)
-stands-behind a spelling.Between odd d s = stands-first a odd d s
-stands-behind a (spelling.Inside more low high value) odd d s = stands-inner a more low high value odd d s
-stands-behind a spelling.Broken odd d s = λ bytes. ap is_utf8 (append_assoc a (d ∷ []) bytes) ∙ s (d ∷ bytes)
+pub stands-behind : (a : List ℕ) (u : Spelling) (cs : List ℕ) (d : ℕ) → Stands a u cs → Stands (a ++ (d ∷ [])) (spelling_behind u d) (cs ++ with_ended (ended u d) [])
+stands-behind a spelling.Between cs d s = stands-first a cs d s
+stands-behind a (spelling.Inside more low high value) cs d s = stands-inner a more low high value cs d s
+stands-behind a spelling.Broken cs d s = λ bytes. ap is_utf8 (append_assoc a (d ∷ []) bytes) ∙ s (d ∷ bytes)
 
--- where bytes stand behind many more
-pub record Spelt : Type 0 where
-  pub spelling : Spelling
-  pub has_wrong : Bool
+-- where bytes stand behind many more, the characters that they end, and whether one is no Char
+abbrev pub spelling_all : Spelling → List ℕ → Spelling
+spelling_all u [] = u
+spelling_all u (b ∷ bytes) = spelling_all (spelling_behind u b) bytes
 
-abbrev pub spelt : Spelling → Bool → List ℕ → Spelt
-spelt u odd [] = record { spelling = u; has_wrong = odd }
-spelt u odd (b ∷ bytes) = spelt (spelling_behind u b) (odd || ends_wrong u b) bytes
+abbrev pub characters : Spelling → List ℕ → List ℕ
+characters u [] = []
+characters u (b ∷ bytes) = with_ended (ended u b) (characters (spelling_behind u b) bytes)
 
-pub stands-all : (a : List ℕ) (u : Spelling) (odd : Bool) (bytes : List ℕ) → Stands a u odd → Stands (a ++ bytes) (spelt u odd bytes).spelling (spelt u odd bytes).has_wrong
-stands-all a u odd [] s = subst (λ x. Stands x u odd) (sym (append-nil a)) s
-stands-all a u odd (b ∷ bytes) s =
-    let end = spelt (spelling_behind u b) (odd || ends_wrong u b) bytes in
-    subst (λ x. Stands x end.spelling end.has_wrong) (append_assoc a (b ∷ []) bytes) (stands-all (a ++ (b ∷ [])) (spelling_behind u b) (odd || ends_wrong u b) bytes (stands-behind a u odd b s))
+abbrev pub wrong_all : Spelling → Bool → List ℕ → Bool
+wrong_all u wrong [] = wrong
+wrong_all u wrong (b ∷ bytes) = wrong_all (spelling_behind u b) (wrong || is_wrong (ended u b)) bytes
+
+pub wrong-told : (u : Spelling) (wrong : Bool) (bytes : List ℕ) → wrong_all u wrong bytes ≡ (wrong || not (list_all is_char (characters u bytes)))
+wrong-told u wrong [] = or-nothing wrong
+  where
+    or-nothing : (t : Bool) → t ≡ (t || false)
+    or-nothing true = refl
+    or-nothing false = refl
+wrong-told u wrong (b ∷ bytes) = wrong-told (spelling_behind u b) (wrong || is_wrong (ended u b)) bytes ∙ by wrong (ended u b) (characters (spelling_behind u b) bytes)
+  where
+    both-wrong : (t p q : Bool) → ((t || not p) || not q) ≡ (t || not (p && q))
+    both-wrong true p q = refl
+    both-wrong false true q = refl
+    both-wrong false false q = refl
+
+    no-more : (t q : Bool) → ((t || false) || q) ≡ (t || q)
+    no-more true q = refl
+    no-more false q = refl
+
+    by : (t : Bool) (o : Option ℕ) (cs : List ℕ) → ((t || is_wrong o) || not (list_all is_char cs)) ≡ (t || not (list_all is_char (with_ended o cs)))
+    by t None cs = no-more t (not (list_all is_char cs))
+    by t (Some c) cs = both-wrong t (is_char c) (list_all is_char cs)
+
+pub stands-all : (a : List ℕ) (u : Spelling) (cs bytes : List ℕ) → Stands a u cs → Stands (a ++ bytes) (spelling_all u bytes) (cs ++ characters u bytes)
+stands-all a u cs [] s = subst (λ x. Stands x u (cs ++ [])) (sym (append-nil a)) (subst (λ x. Stands a u x) (sym (append-nil cs)) s)
+stands-all a u cs (b ∷ bytes) s =
+    let end = spelling_all (spelling_behind u b) bytes in
+    let rest = characters (spelling_behind u b) bytes in
+    let same : (cs ++ with_ended (ended u b) []) ++ rest ≡ cs ++ with_ended (ended u b) rest = append_assoc cs (with_ended (ended u b) []) rest ∙ ap (λ x. cs ++ x) (more (ended u b) rest) in
+    subst (λ x. Stands x end (cs ++ with_ended (ended u b) rest)) (append_assoc a (b ∷ []) bytes)
+    (subst (λ x. Stands ((a ++ (b ∷ [])) ++ bytes) end x) same (stands-all (a ++ (b ∷ [])) (spelling_behind u b) (cs ++ with_ended (ended u b) []) bytes (stands-behind a u cs b s)))
+  where
+    more : (o : Option ℕ) (rest : List ℕ) → with_ended o [] ++ rest ≡ with_ended o rest
+    more None rest = refl
+    more (Some c) rest = refl
 
 -- Inside a character nothing is whole.
 unfinished : (more low high value n : ℕ) → 1 ≤ more → continued more low high value n [] ≡ Unfinished
 unfinished zero low high value n some = absurd (omega arith)
 unfinished (suc more) low high value n some = refl
 
-pub inside-none : (a : List ℕ) (more low high value : ℕ) (odd : Bool) → StandsInside a more low high value odd → ¬ (IsUtf8 a)
-inside-none a more low high value odd s whole =
+pub inside-none : (a : List ℕ) (more low high value : ℕ) (cs : List ℕ) → StandsInside a more low high value cs → ¬ (IsUtf8 a)
+inside-none a more low high value cs s whole =
     let begun = starts s.first s.inner (behind-front s.front (s.first ∷ s.inner) s.before.utf8 (subst IsUtf8 s.is whole)) in
     let reads : character_at s.first s.inner ≡ Unfinished =
     ap (character_at s.first) (sym (append-nil s.inner)) ∙ (s.reads [] ∙ unfinished more low high value (1 + length s.inner) s.some) in
     let no : ◌≡◌ {A = Begun ℕ} Unfinished (Character begun.0 begun.1) = sym reads ∙ begun.2 in
     cc
+
+pub broken-none : (a : List ℕ) → ((bytes : List ℕ) → is_utf8 (a ++ bytes) ≡ false) → ¬ (IsUtf8 a)
+broken-none a s whole = true≢false (sym (is_utf8-from_IsUtf8 a whole) ∙ (ap is_utf8 (sym (append-nil a)) ∙ s []))
+
+-- Where the bytes are UTF-8, the characters are theirs.
+pub whole-told : (a : List ℕ) (u : Spelling) (cs : List ℕ) → Stands a u cs → IsUtf8 a → cs ≡ chars a
+whole-told a spelling.Between cs s whole = s.told
+whole-told a (spelling.Inside more low high value) cs s whole = absurd (inside-none a more low high value cs s whole)
+whole-told a spelling.Broken cs s whole = absurd (broken-none a s whole)
+
+pub characters-told : (bytes : List ℕ) → IsUtf8 bytes → characters spelling.Between bytes ≡ chars bytes
+characters-told bytes whole = whole-told bytes (spelling_all spelling.Between bytes) (characters spelling.Between bytes) (stands-all [] spelling.Between [] bytes stands-begun) whole

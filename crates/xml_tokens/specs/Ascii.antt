@@ -1,5 +1,5 @@
 -- Tests of single bytes for those of characters.
-use Rattle.std.specs.Prelude.{ℕ, Bool, false, not, ◌&&◌, ◌||◌, ◌==◌, nat_lt, nat_le, List, [], ◌∷◌}
+use Rattle.std.specs.Prelude.{◌≡◌, ℕ, Bool, true, false, not, ◌&&◌, ◌||◌, ◌==◌, nat_lt, nat_le, List, [], ◌∷◌, ◌++◌}
 use Rattle.std.specs.List.{list_all}
 use Rattle.inv_base.specs.Characters.{is_name_char, is_name_start}
 use Rattle.xml_tokens.specs.Told.{ends_run}
@@ -28,3 +28,8 @@ is_plain_name_start b = nat_lt b 128 && is_name_start b
 abbrev pub is_plain_ncname : List ℕ → Bool
 is_plain_ncname [] = false
 is_plain_ncname (b ∷ bytes) = is_plain_name_start b && list_all is_plain_name_char bytes
+
+-- a QName of ASCII
+pub data IsPlainName : List ℕ → Type 0 where
+  plain_local : (name : List ℕ) → is_plain_ncname name ≡ true → IsPlainName name
+  plain_prefixed : (prefix local : List ℕ) → is_plain_ncname prefix ≡ true → is_plain_ncname local ≡ true → IsPlainName (prefix ++ (0x3A ∷ local))

@@ -8,7 +8,10 @@ pub mod Literals
 pub mod Markup
 pub mod Tags
 pub mod Beginnings
+pub mod Spelling
 pub mod Comments
+pub mod Instructions
+pub mod Asides
 pub mod Searching
 pub mod Seen
 pub mod Told

@@ -40,7 +40,8 @@ fn is_marked(table: &[bool; 256], byte: u8) -> bool
     table[byte as usize]
 }
 
-fn is_plain_name_char(byte: u8) -> bool
+/// Whether a name may go on with the byte, which is ASCII.
+pub fn is_plain_name_char(byte: u8) -> bool
     ensures { result ≡ spec.is_plain_name_char byte }
 {
     is_marked(&NAME_CHARS, byte)
@@ -86,8 +87,9 @@ pub fn are_plain_name_chars(bytes: &[u8]) -> bool
     bytes.iter().all(|byte| is_plain_name_char(*byte))
 }
 
+/// Whether a name may begin with the byte, which is ASCII.
 #[tactic(auto, unfolding(inv_base::specs::Characters::is_name_start))]
-fn is_plain_name_start(byte: u8) -> bool
+pub fn is_plain_name_start(byte: u8) -> bool
     ensures { result ≡ spec.is_plain_name_start byte }
 {
     matches!(byte, b'a'..=b'z' | b'A'..=b'Z' | b'_')

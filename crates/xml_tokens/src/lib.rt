@@ -5,25 +5,29 @@
 #![tactic(auto)]
 
 mod ascii;
+mod asides;
 mod beginning;
 mod comments;
 mod declaration;
 mod encoding;
 mod extents;
+mod instructions;
 mod kind;
 mod literals;
 mod markup;
 mod names;
+mod plain_tags;
 mod references;
 mod run;
 mod scanning;
 mod search;
+mod spelling;
 mod tags;
 mod token;
 mod values;
 
+pub use asides::{ClosedAside, OpenAside};
 pub use beginning::{Beginning, Position, what_begins};
-pub use comments::{ClosedComment, OpenComment};
 pub use kind::XmlKind;
 pub use run::run_at_front;
 pub use search::Search;

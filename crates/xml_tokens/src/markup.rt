@@ -44,7 +44,8 @@ pub fn section(inside: &str) -> Result<Token, XmlKind>
     Ok(Token::Section(Section { written: inside }))
 }
 
-fn is_target_char(c: char) -> bool
+/// Whether the character may go on a target.
+pub fn is_target_char(c: char) -> bool
     ensures { result ≡ (is_colon c || characters.is_name_char c) }
 {
     c == ':' || is_name_char(c)

@@ -30,6 +30,11 @@ impl Search {
         }
     }
 
+    /// Whether nothing was searched.
+    pub(crate) fn is_fresh(&self) -> bool {
+        self.searched == 0
+    }
+
     /// How many bytes behind so many at the front were searched.
     pub(crate) fn searched_behind(&self, opening: usize) -> usize
         ensures { result ≡ self.now.searched - opening }

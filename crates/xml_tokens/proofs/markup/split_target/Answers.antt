@@ -1,6 +1,7 @@
 use Rattle.std.proofs.Common.{rules, refl, sym, ◌∙◌}
 use Rattle.std.specs.Str.{chars}
-use Rattle.xml_tokens.proofs.TargetLemmas.{goes_on, Stops, passed-begin, passed-step, passed-smaller, passed-boundary, target-is, stops-nothing, stops-there}
+use Rattle.xml_tokens.specs.Instructions.{goes_on}
+use Rattle.xml_tokens.proofs.TargetLemmas.{Stops, passed-begin, passed-step, passed-smaller, passed-boundary, target-is, stops-nothing, stops-there}
 use Rattle.xml_tokens.proofs.markup.split_target.Goals as goal
 use Rattle.xml_tokens.proofs.markup.split_target.Goals.{in-Some+then-not-is_target_char, in_default}
 

@@ -1,5 +1,4 @@
-use Rattle.std.proofs.Common.{◌++◌, ◌+◌, ◌≤◌, sym, ◌∙◌, arith}
-use Rattle.std.proofs.lemmas.Bool.Decides.{nat_tests}
+use Rattle.std.proofs.Common.{◌++◌, sym, ◌∙◌}
 use Rattle.xml_profile.proofs.TurnLemmas.{breaks-as}
 use Rattle.xml_profile.proofs.InsideLemmas.{close-beyond, close-wrong, close-right, close-behind}
 use Rattle.xml_profile.proofs.cursor.Cursor.close.Goals as goal
@@ -14,4 +13,4 @@ returns-in-Some g c = λ held bytes long is.
 
 pub returns-in-None : goal.returns-in-None
 returns-in-None g c = λ held bytes long is.
-    c.pass_comment.ensures held (bytes ++ c.args.piece.now) (close-right _ _ _ _ _ c.in-None.is is) (close-behind bytes _ _ _ _ long c.split_at.ensures.back)
+    c.pass_aside.ensures held (bytes ++ c.args.piece.now) (close-right _ _ _ _ _ c.in-None.is is) (close-behind bytes _ _ _ _ long c.split_at.ensures.back)

@@ -10,5 +10,5 @@ invariant_of-result c =
     record {
       at = record { within = subst (λ n. n ≤ c.args.limits.bytes) (sym c.new.ensures.1) (omega arith); fits = fits };
       searched = few-searched _ _ fits (omega arith);
-      other = open-nothing _ (omega arith);
+      other = open-nothing _ _ (omega arith);
     }

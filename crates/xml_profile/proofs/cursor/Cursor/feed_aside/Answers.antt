@@ -1,9 +1,9 @@
 use Rattle.std.proofs.Common.{sym}
 use Rattle.xml_profile.proofs.KeptLemmas.{nothing-before, at-as, fed-as, fed-behind, stays-leaves}
-use Rattle.xml_profile.proofs.cursor.Cursor.feed_comment.Goals as goal
+use Rattle.xml_profile.proofs.cursor.Cursor.feed_aside.Goals as goal
 
-pub comment-requires : goal.comment-requires
-comment-requires g c = c.requires.within
+pub aside-requires : goal.aside-requires
+aside-requires g c = c.requires.within
 
 pub feed_anew-requires-clause-at : goal.feed_anew-requires-clause-at
 feed_anew-requires-clause-at g c = at-as _ _ _ _ (sym (nothing-before _ _ c.requires.none)) (c.in-Behind.ensures c.requires.bytes c.requires.inside).at

@@ -1,7 +1,7 @@
 use Rattle.std.proofs.Common.{length, refl, sym, ◌∙◌}
 use Rattle.xml_profile.proofs.TurnLemmas.{breaks-as}
 use Rattle.xml_profile.proofs.InsideLemmas.{inside-closed, inside-stays, inside-beyond}
-use Rattle.xml_profile.proofs.cursor.Cursor.comment.Goals as goal
+use Rattle.xml_profile.proofs.cursor.Cursor.aside.Goals as goal
 
 pub returns-in-Some : goal.returns-in-Some
 returns-in-Some g c = λ bytes inside.

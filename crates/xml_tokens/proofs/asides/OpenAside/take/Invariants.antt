@@ -1,6 +1,6 @@
 use Rattle.std.proofs.Common.{◌≡◌, ℕ, ◌+◌, drop}
-use Rattle.xml_tokens.specs.Comments.{course}
-use Rattle.xml_tokens.proofs.comments.OpenComment.take.Given as goal
+use Rattle.xml_tokens.specs.Asides.{course}
+use Rattle.xml_tokens.proofs.asides.OpenAside.take.Given as goal
 
 -- what the bytes lead to is what those that are left lead to from here
 abbrev pub invariant-bytes : goal.invariant-bytes

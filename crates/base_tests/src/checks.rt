@@ -14,3 +14,16 @@ pub(crate) fn room_for(text: &str, room: usize) -> &[u8] {
     let room = room.min(bytes.len());
     &bytes[..room]
 }
+
+/// The columns of a row, and empty ones behind them.
+pub(crate) fn columns(row: &str, between: char) -> [&str; 5] {
+    let mut columns = [""; 5];
+    let mut count = 0;
+    for text in row.split(between) {
+        if count < 5 {
+            columns[count] = text;
+            count += 1;
+        }
+    }
+    columns
+}

@@ -1,80 +1,109 @@
+//! Files of code lists, and what they allow.
+
+use crate::checks::check;
 use code_lists::{CodeLists, List, ListFault};
 use std::alloc::{AllocError, Global};
 use std::test::Fail;
 
-// What a file is refused with, as it is printed behind the file's name; empty where it isn't refused.
-fn told(alloc: Global, file: &[u8]) -> Result<String, AllocError> {
+/// What a file is refused with, as it is printed behind the file's name, and nothing where it isn't refused.
+fn push_told(alloc: Global, line: &mut String, file: &[u8]) -> Result<(), AllocError> {
     match CodeLists::from_toml(alloc, file) {
-        Ok(_) => String::from_str(alloc, ""),
-        Err(ListFault::NotToml) => String::from_str(alloc, "NotToml"),
-        Err(ListFault::NotALists(key)) => format!(in alloc; "NotALists {}", key.as_str()),
-        Err(ListFault::BadCode(key)) => format!(in alloc; "BadCode {}", key.as_str()),
+        Ok(_) => Ok(()),
+        Err(ListFault::NotToml) => line.push_str("NotToml"),
+        Err(ListFault::NotALists(key)) => write!(line, "NotALists {}", key.as_str()),
+        Err(ListFault::BadCode(key)) => write!(line, "BadCode {}", key.as_str()),
         Err(ListFault::Memory) => Err(AllocError),
     }
 }
 
-// The lists of a file, unless it is refused.
-fn read(alloc: Global, file: &[u8]) -> Result<Option<CodeLists>, AllocError> {
-    match CodeLists::from_toml(alloc, file) {
-        Ok(lists) => Ok(Some(lists)),
-        Err(ListFault::Memory) => Err(AllocError),
-        Err(_) => Ok(None),
+fn is_told(alloc: Global, file: &[u8], want: &str) -> Result<bool, AllocError> {
+    let mut line = String::new(alloc);
+    push_told(alloc, &mut line, file)?;
+    Ok(line.as_str() == want)
+}
+
+/// Files, with `␊` for LF, and what each is refused with. Behind the arrow of one that isn't refused stands nothing.
+const FILES: &str = r#"→NotALists lists
+# nothing␊→NotALists lists
+x→NotToml
+[lists]␊→
+lists = {}␊→
+[lists]␊category = []␊→NotALists category
+[lists]␊point = []␊→NotALists point
+[lists]␊money = []␊→NotALists money
+[lists]␊currency = ["US D"]␊→BadCode currency
+[lists]␊currency = 1␊→NotALists currency
+[lists]␊currency = [1]␊→BadCode currency
+[lists]␊currency = [""]␊→BadCode currency
+[lists]␊currency = [" EUR"]␊→BadCode currency
+[lists]␊currency = ["€"]␊→BadCode currency
+[lists]␊currency = ["EUR", ["USD"]]␊→BadCode currency
+[lists.currency]␊→NotALists currency
+[[lists]]␊→NotALists lists
+lists = 1␊→NotALists lists
+[list]␊→NotALists list
+zzz = 1␊→NotALists lists
+aaa = 1␊→NotALists aaa
+zzz = 1␊lists = 1␊→NotALists lists
+aaa = 1␊lists = 1␊→NotALists aaa
+[a]␊[lists]␊→NotALists a
+[z]␊[lists]␊→NotALists z
+a = 1␊Z = 1␊[lists]␊→NotALists Z
+a = 1␊[lists]␊unit = [1]␊→NotALists a
+zz = 1␊[lists]␊unit = [1]␊→NotALists zz
+[lists]␊unit = []␊unit = []␊→NotToml
+[lists]␊zzz = []␊unit = [1]␊→BadCode unit
+[lists]␊zz = []␊aa = []␊→NotALists aa
+[lists]␊unit = [1]␊category = []␊→NotALists category
+[lists]␊"cur rency" = []␊→NotALists cur rency
+[lists]␊"é" = []␊→NotALists é"#;
+
+fn push_spelled(file: &mut String, written: &str) -> Result<(), AllocError> {
+    for c in written.chars() {
+        file.push(if c == '␊' { '\n' } else { c })?;
     }
+    Ok(())
+}
+
+fn is_row_told(alloc: Global, row: &str) -> Result<bool, AllocError> {
+    let (written, want) = row.split_once('→').unwrap_or((row, "→"));
+    let mut file = String::new(alloc);
+    push_spelled(&mut file, written)?;
+    is_told(alloc, file.as_bytes(), want)
 }
 
 #[test]
 fn files_are_read_or_refused(rt: HostRuntime) -> Result<(), Fail> {
-    let alloc = rt.alloc();
-    for (file, want) in [
-        ("", "NotALists lists"),
-        ("# nothing\n", "NotALists lists"),
-        ("x", "NotToml"),
-        ("[lists]\n", ""),
-        ("lists = {}\n", ""),
-        ("[lists]\ncategory = []\n", "NotALists category"),
-        ("[lists]\npoint = []\n", "NotALists point"),
-        ("[lists]\nmoney = []\n", "NotALists money"),
-        ("[lists]\ncurrency = [\"US D\"]\n", "BadCode currency"),
-        ("[lists]\ncurrency = 1\n", "NotALists currency"),
-        ("[lists]\ncurrency = [1]\n", "BadCode currency"),
-        ("[lists]\ncurrency = [\"\"]\n", "BadCode currency"),
-        ("[lists]\ncurrency = [\" EUR\"]\n", "BadCode currency"),
-        ("[lists]\ncurrency = [\"\u{20AC}\"]\n", "BadCode currency"),
-        (
-            "[lists]\ncurrency = [\"EUR\", [\"USD\"]]\n",
-            "BadCode currency",
-        ),
-        ("[lists.currency]\n", "NotALists currency"),
-        ("[[lists]]\n", "NotALists lists"),
-        ("lists = 1\n", "NotALists lists"),
-        ("[list]\n", "NotALists list"),
-        ("zzz = 1\n", "NotALists lists"),
-        ("aaa = 1\n", "NotALists aaa"),
-        ("zzz = 1\nlists = 1\n", "NotALists lists"),
-        ("aaa = 1\nlists = 1\n", "NotALists aaa"),
-        ("[a]\n[lists]\n", "NotALists a"),
-        ("[z]\n[lists]\n", "NotALists z"),
-        ("a = 1\nZ = 1\n[lists]\n", "NotALists Z"),
-        ("a = 1\n[lists]\nunit = [1]\n", "NotALists a"),
-        ("zz = 1\n[lists]\nunit = [1]\n", "NotALists zz"),
-        ("[lists]\nunit = []\nunit = []\n", "NotToml"),
-        ("[lists]\nzzz = []\nunit = [1]\n", "BadCode unit"),
-        ("[lists]\nzz = []\naa = []\n", "NotALists aa"),
-        ("[lists]\nunit = [1]\ncategory = []\n", "NotALists category"),
-        ("[lists]\n\"cur rency\" = []\n", "NotALists cur rency"),
-        ("[lists]\n\"\u{E9}\" = []\n", "NotALists \u{E9}"),
-    ] {
-        let answer = told(alloc, file.as_bytes())?;
-        assert_eq!(rt; answer.as_str(), want, "{file}");
+    for row in FILES.lines() {
+        check(is_row_told(rt.alloc(), row)?, row)?;
     }
-    let no_text = told(alloc, b"[lists]\nunit = [\"\xFF\"]\n")?;
-    assert_eq!(rt; no_text.as_str(), "NotToml");
-    Ok(())
+    let bytes = b"[lists]\nunit = [\"\xFF\"]\n";
+    check(is_told(rt.alloc(), bytes, "NotToml")?, "no text")
+}
+
+/// Whether this list and no other was given as `A1`, `~!`.
+fn has_its_codes(lists: &CodeLists, list: List) -> bool {
+    lists.allows(list, "A1")
+        & lists.allows(list, "~!")
+        & !lists.allows(list, "a1")
+        & !lists.allows(list, "")
+        & !lists.allows(List::Category, "A1")
+}
+
+fn gives(alloc: Global, file: &str, list: List) -> bool {
+    match CodeLists::from_toml(alloc, file.as_bytes()) {
+        Ok(lists) => has_its_codes(&lists, list),
+        Err(_) => false,
+    }
+}
+
+fn may_be_given(alloc: Global, list: List, key: &str) -> Result<bool, AllocError> {
+    let file = format!(in alloc; "lists = {{ {key} = [\"A1\", \"~!\", \"A1\"] }}")?;
+    Ok(gives(alloc, file.as_str(), list))
 }
 
 #[test]
 fn every_list_may_be_given(rt: HostRuntime) -> Result<(), Fail> {
-    let alloc = rt.alloc();
     for (list, key) in [
         (List::Allowance, "allowance"),
         (List::Charge, "charge"),
@@ -91,72 +120,85 @@ fn every_list_may_be_given(rt: HostRuntime) -> Result<(), Fail> {
         (List::Subject, "subject"),
         (List::UnitOfMeasure, "unit"),
     ] {
-        let file = format!(in alloc; "lists = {{ {key} = [\"A1\", \"~!\", \"A1\"] }}")?;
-        match read(alloc, file.as_bytes())? {
-            Some(lists) => {
-                assert!(rt; lists.allows(list, "A1"), "{key}");
-                assert!(rt; lists.allows(list, "~!"), "{key}");
-                assert!(rt; !lists.allows(list, "a1"), "{key}");
-                assert!(rt; !lists.allows(list, ""), "{key}");
-                assert!(rt; !lists.allows(List::Category, "A1"), "{key}");
-            }
-            None => assert!(rt; false, "{key}"),
+        check(may_be_given(rt.alloc(), list, key)?, key)?;
+    }
+    Ok(())
+}
+
+/// Codes that are categories, that are points, and that are neither.
+const BUILT_IN: &str = "\
+category S Z E AE K G O L M B
+point 3 35 432
+neither A 43";
+
+/// Whether a code of this kind is allowed as that alone by built-in lists, and in lists that aren't given.
+fn is_of(lists: &CodeLists, kind: &str, code: &str) -> bool {
+    let is_category = lists.allows(List::Category, code) == (kind == "category");
+    let is_point = lists.allows(List::Point, code) == (kind == "point");
+    let is_free = lists.allows(List::Currency, code) & lists.allows(List::InvoiceType, code);
+    is_category & is_point & is_free
+}
+
+fn check_built_in(lists: &CodeLists) -> Result<(), Fail> {
+    for row in BUILT_IN.lines() {
+        let (kind, codes) = row.split_once(' ').ok_or(row)?;
+        for code in codes.split(' ') {
+            check(is_of(lists, kind, code), code)?;
         }
     }
     Ok(())
+}
+
+/// Whether no unit is allowed, and all else as before.
+fn has_no_unit(lists: &CodeLists) -> bool {
+    !lists.allows(List::UnitOfMeasure, "C62")
+        & lists.allows(List::Country, "DE")
+        & lists.allows(List::Category, "AE")
+}
+
+fn gives_no_unit(alloc: Global, file: &[u8]) -> bool {
+    match CodeLists::from_toml(alloc, file) {
+        Ok(lists) => has_no_unit(&lists),
+        Err(_) => false,
+    }
 }
 
 #[test]
 fn lists_that_are_not_given_allow_all(rt: HostRuntime) -> Result<(), Fail> {
-    let alloc = rt.alloc();
-    let built_in = CodeLists::built_in(alloc)?;
-    for code in ["S", "Z", "E", "AE", "K", "G", "O", "L", "M", "B"] {
-        assert!(rt; built_in.allows(List::Category, code), "{code}");
-        assert!(rt; !built_in.allows(List::Point, code), "{code}");
-        assert!(rt; built_in.allows(List::Currency, code), "{code}");
-    }
-    for code in ["3", "35", "432"] {
-        assert!(rt; built_in.allows(List::Point, code), "{code}");
-        assert!(rt; !built_in.allows(List::Category, code), "{code}");
-        assert!(rt; built_in.allows(List::InvoiceType, code), "{code}");
-    }
-    assert!(rt; !built_in.allows(List::Category, "A"));
-    assert!(rt; !built_in.allows(List::Point, "43"));
-    match read(alloc, b"[lists]\nunit = []\n")? {
-        Some(lists) => {
-            assert!(rt; !lists.allows(List::UnitOfMeasure, "C62"));
-            assert!(rt; lists.allows(List::Country, "DE"));
-            assert!(rt; lists.allows(List::Category, "AE"));
-        }
-        None => assert!(rt; false),
-    }
-    Ok(())
+    let built_in = CodeLists::built_in(rt.alloc())?;
+    check_built_in(&built_in)?;
+    check(gives_no_unit(rt.alloc(), b"[lists]\nunit = []\n"), "unit")
 }
 
-// A file whose currency is one code of so many letters.
-fn with_code_of(alloc: Global, letters: usize) -> Result<String, AllocError> {
-    let mut file = String::from_str(alloc, "[lists]\ncurrency = [\"")?;
+/// A file whose currency is one code of so many letters.
+fn push_code_of(file: &mut String, letters: u32) -> Result<(), AllocError> {
+    file.push_str("[lists]\ncurrency = [\"")?;
     for _ in 0..letters {
         file.push_str("A")?;
     }
-    file.push_str("\"]\n")?;
-    Ok(file)
+    file.push_str("\"]\n")
 }
+
+fn is_length_told(alloc: Global, letters: u32, want: &str) -> Result<bool, AllocError> {
+    let mut file = String::new(alloc);
+    push_code_of(&mut file, letters)?;
+    is_told(alloc, file.as_bytes(), want)
+}
+
+/// How many letters a code has, and what its file is refused with.
+const LENGTHS: &str = "\
+0→BadCode currency
+1→
+127→
+128→
+129→BadCode currency
+1000→BadCode currency";
 
 #[test]
 fn codes_have_at_most_128_characters(rt: HostRuntime) -> Result<(), Fail> {
-    let alloc = rt.alloc();
-    for (letters, want) in [
-        (0usize, "BadCode currency"),
-        (1, ""),
-        (127, ""),
-        (128, ""),
-        (129, "BadCode currency"),
-        (1000, "BadCode currency"),
-    ] {
-        let file = with_code_of(alloc, letters)?;
-        let answer = told(alloc, file.as_bytes())?;
-        assert_eq!(rt; answer.as_str(), want, "{letters}");
+    for row in LENGTHS.lines() {
+        let (letters, want) = row.split_once('→').ok_or(row)?;
+        check(is_length_told(rt.alloc(), letters.parse()?, want)?, row)?;
     }
     Ok(())
 }

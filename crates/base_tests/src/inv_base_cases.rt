@@ -5,6 +5,7 @@ use inv_base::{
     Buffered, Failed, Kind, Many, MemShelf, MemSink, Place, Printer, Shelf, Sink, Str, Txt,
     is_char, is_name_char, is_name_start, is_same_text, is_white_space, write_all,
 };
+use std::alloc::{AllocError, Global};
 use std::test::Fail;
 
 /// Calls of a shelf whose 7th and 9th open or read fail, and what they answer.
@@ -46,25 +47,33 @@ fn answers(shelf: &mut MemShelf, verb: &str, word: &str, want: &str) -> Result<b
     }
 }
 
-fn reads(shelf: &mut MemShelf, room: usize, want: &str) -> bool {
-    let mut buf = [0; 9];
-    match shelf.read(&mut buf[..room.min(9)]) {
-        Ok(count) => &buf[..count] == want.as_bytes(),
+fn reads_into(shelf: &mut MemShelf, buf: &mut [u8], want: &str) -> bool {
+    match shelf.read(buf) {
+        Ok(count) => count == want.len() && buf.starts_with(want.as_bytes()),
         Err(Failed) => want == "failed",
     }
+}
+
+fn reads(shelf: &mut MemShelf, room: usize, want: &str) -> bool {
+    let mut buf = [0; 9];
+    reads_into(shelf, &mut buf[..room.min(9)], want)
+}
+
+fn check_calls(shelf: &mut MemShelf) -> Result<(), Fail> {
+    shelf.fail_at(9)?;
+    shelf.fail_at(7)?;
+    for row in SHELF_CALLS.lines() {
+        let (call, want) = row.split_once('>').ok_or(row)?;
+        let (verb, word) = call.split_once(' ').unwrap_or((call, ""));
+        check(answers(shelf, verb, word, want)?, row)?;
+    }
+    Ok(())
 }
 
 #[test]
 fn files_in_memory_are_read(rt: HostRuntime) -> Result<(), Fail> {
     let mut shelf = MemShelf::new(rt.alloc());
-    shelf.fail_at(9)?;
-    shelf.fail_at(7)?;
-    for row in SHELF_CALLS.lines() {
-        let (call, want) = row.split_once('>').ok_or("row")?;
-        let (verb, word) = call.split_once(' ').unwrap_or((call, ""));
-        check(answers(&mut shelf, verb, word, want)?, row)?;
-    }
-    Ok(())
+    check_calls(&mut shelf)
 }
 
 /// What a shelf gives that reads at most so many bytes at a time, into a buffer of 4.
@@ -75,16 +84,26 @@ const READS: &str = "\
 4>hell o .
 5>hell o .";
 
+fn reads_pieces(shelf: &mut MemShelf, want: &str) -> bool {
+    let mut same = true;
+    for word in want.split(' ') {
+        same &= reads(shelf, 4, word.trim_end_matches('.'));
+    }
+    same
+}
+
+/// Whether a shelf that reads so many bytes at a time gives these pieces of a file.
+fn gives_pieces(alloc: Global, piece: usize, want: &str) -> Result<bool, AllocError> {
+    let mut shelf = MemShelf::new(alloc).with_piece(piece.max(1));
+    shelf.add("file", b"hello")?;
+    Ok(shelf.open("file").is_ok() && reads_pieces(&mut shelf, want))
+}
+
 #[test]
 fn reads_come_in_pieces(rt: HostRuntime) -> Result<(), Fail> {
     for row in READS.lines() {
-        let (piece, want) = row.split_once('>').ok_or("row")?;
-        let mut shelf = MemShelf::new(rt.alloc()).with_piece(piece.parse::<usize>()?.max(1));
-        shelf.add("file", b"hello")?;
-        check(shelf.open("file").is_ok(), "open")?;
-        for word in want.split(' ') {
-            check(reads(&mut shelf, 4, word.trim_end_matches('.')), row)?;
-        }
+        let (piece, want) = row.split_once('>').ok_or(row)?;
+        check(gives_pieces(rt.alloc(), piece.parse()?, want)?, row)?;
     }
     Ok(())
 }
@@ -99,16 +118,20 @@ three>3
 four>failed
 >failed";
 
-#[test]
-fn a_sink_takes_what_it_has_room_for(rt: HostRuntime) -> Result<(), Fail> {
-    let mut sink = MemSink::new(rt.alloc(), 9)?;
+fn check_pieces(sink: &mut MemSink) -> Result<(), Fail> {
     sink.fail_at(2)?;
     for row in PIECES.lines() {
-        let (piece, want) = row.split_once('>').ok_or("row")?;
+        let (piece, want) = row.split_once('>').ok_or(row)?;
         let taken = sink.write(piece.as_bytes()).ok();
         check(taken == want.parse().ok(), row)?;
     }
     check(sink.bytes() == b"onetwothr".as_slice(), "taken")
+}
+
+#[test]
+fn a_sink_takes_what_it_has_room_for(rt: HostRuntime) -> Result<(), Fail> {
+    let mut sink = MemSink::new(rt.alloc(), 9)?;
+    check_pieces(&mut sink)
 }
 
 /// A sink that takes at most so many bytes at a time, and keeps how many it was given each time.
@@ -129,74 +152,109 @@ impl Sink for Sipping {
     }
 }
 
-#[test]
-fn a_whole_piece_is_written(rt: HostRuntime) -> Result<(), Fail> {
-    for room in 0..8 {
-        let mut sink = MemSink::new(rt.alloc(), room)?;
-        let written = write_all(&mut sink, b"piece");
-        check(written.is_ok() == (5 <= room), "whole")?;
-        check(sink.bytes() == &b"piece"[..room.min(5)], "front")?;
-    }
-    let mut sink = Sipping {
-        most: 2,
-        given: Vec::new(rt.alloc()),
-    };
-    check(write_all(&mut &mut sink, b"piece").is_ok(), "sips")?;
-    check(sink.given.as_slice() == [5, 3, 1].as_slice(), "given")
-}
-
 fn front(bytes: &[u8], length: usize) -> &[u8] {
     let length = length.min(bytes.len());
     &bytes[..length]
 }
 
+fn check_room(sink: &mut MemSink, room: usize) -> Result<(), Fail> {
+    let written = write_all(sink, b"piece");
+    check(written.is_ok() == (5 <= room), "whole")?;
+    check(sink.bytes() == front(b"piece", room), "front")
+}
+
+#[test]
+fn a_whole_piece_is_written(rt: HostRuntime) -> Result<(), Fail> {
+    for room in 0..8 {
+        let mut sink = MemSink::new(rt.alloc(), room)?;
+        check_room(&mut sink, room)?;
+    }
+    Ok(())
+}
+
+fn sipping_sink(alloc: Global, most: usize) -> Sipping {
+    Sipping {
+        most,
+        given: Vec::new(alloc),
+    }
+}
+
+fn check_sips(mut sink: &mut Sipping) -> Result<(), Fail> {
+    check(write_all(&mut sink, b"piece").is_ok(), "sips")?;
+    check(sink.given.as_slice() == [5, 3, 1].as_slice(), "given")
+}
+
+#[test]
+fn a_whole_piece_is_written_in_sips(rt: HostRuntime) -> Result<(), Fail> {
+    let mut sink = sipping_sink(rt.alloc(), 2);
+    check_sips(&mut sink)
+}
+
+/// Whether a piece of each of these lengths is taken.
+fn holds_back(buffered: &mut Buffered<Sipping>, bytes: &[u8]) -> bool {
+    let mut taken = true;
+    for length in [3, 0, 5, 70_000, 65_535, 1, 1] {
+        taken &= buffered.write(front(bytes, length)) == Ok(length);
+    }
+    taken
+}
+
+fn hands_on(mut buffered: Buffered<Sipping>, bytes: &[u8]) -> [bool; 3] {
+    let held = holds_back(&mut buffered, bytes);
+    let (sink, handed) = buffered.finish();
+    let given = sink.given.as_slice() == [8, 70_000, 65_536, 1].as_slice();
+    [held, handed.is_ok(), given]
+}
+
 /// Small pieces go on together. A piece of the room's size isn't held back, and goes on behind what was.
 #[test]
 fn small_pieces_are_held_back(rt: HostRuntime) -> Result<(), Fail> {
-    let sink = Sipping {
-        most: 100_000,
-        given: Vec::new(rt.alloc()),
-    };
     let large = vec![in rt.alloc(); b'x'; 70_000]?;
-    let mut buffered = Buffered::new(rt.alloc(), sink)?;
-    for length in [3, 0, 5, 70_000, 65_535, 1, 1] {
-        check(buffered.write(front(&large, length)) == Ok(length), "held")?;
-    }
-    let (sink, handed) = buffered.finish();
-    check(handed.is_ok(), "handed on")?;
+    let buffered = Buffered::new(rt.alloc(), sipping_sink(rt.alloc(), 100_000))?;
     check(
-        sink.given.as_slice() == [8, 70_000, 65_536, 1].as_slice(),
-        "given",
+        hands_on(buffered, &large) == [true; 3],
+        "held, handed on, given",
     )
+}
+
+fn tells_at_the_end(mut buffered: Buffered<MemSink>) -> [bool; 3] {
+    let held = write_all(&mut buffered, b"held").is_ok();
+    let (sink, handed) = buffered.finish();
+    [held, handed.is_err(), sink.bytes() == b"hel".as_slice()]
 }
 
 #[test]
 fn a_fault_at_the_end_of_a_buffer_is_answered(rt: HostRuntime) -> Result<(), Fail> {
-    let mut buffered = Buffered::new(rt.alloc(), MemSink::new(rt.alloc(), 3)?)?;
-    check(write_all(&mut buffered, b"held").is_ok(), "held")?;
+    let sink = MemSink::new(rt.alloc(), 3)?;
+    let buffered = Buffered::new(rt.alloc(), sink)?;
+    check(
+        tells_at_the_end(buffered) == [true; 3],
+        "held, fault, taken",
+    )
+}
+
+/// What a buffer whose sink fails once answers to three pieces and to its end, and whether the sink took what follows.
+fn answers_behind(mut buffered: Buffered<MemSink>, large: &[u8]) -> [bool; 5] {
+    let first = buffered.write(b"held").is_ok();
+    let second = buffered.write(large).is_ok();
+    let third = buffered.write(large).is_ok();
     let (sink, handed) = buffered.finish();
-    check(handed.is_err(), "handed on")?;
-    check(sink.bytes() == b"hel".as_slice(), "taken")
+    let taken = sink.bytes().len() == 70_004 && sink.bytes().starts_with(b"heldx");
+    [first, second, third, handed.is_ok(), taken]
+}
+
+fn failing_once(alloc: Global) -> Result<MemSink, AllocError> {
+    let mut sink = MemSink::new(alloc, 100_000)?;
+    sink.fail_at(1)?;
+    Ok(sink)
 }
 
 #[test]
 fn a_fault_behind_a_buffer_is_answered(rt: HostRuntime) -> Result<(), Fail> {
-    let mut sink = MemSink::new(rt.alloc(), 100_000)?;
-    sink.fail_at(1)?;
     let large = vec![in rt.alloc(); b'x'; 70_000]?;
-    let mut buffered = Buffered::new(rt.alloc(), sink)?;
-    let answers = [
-        buffered.write(b"held").is_ok(),
-        buffered.write(&large).is_ok(),
-        buffered.write(&large).is_ok(),
-    ];
-    check(answers == [true, false, true], "answers")?;
-    let (sink, handed) = buffered.finish();
-    check(handed.is_ok(), "handed on")?;
-    check(
-        sink.bytes().len() == 70_004 && sink.bytes().starts_with(b"heldx"),
-        "taken",
-    )
+    let buffered = Buffered::new(rt.alloc(), failing_once(rt.alloc())?)?;
+    let answers = answers_behind(buffered, &large);
+    check(answers == [true, false, true, true, true], "answers")
 }
 
 /// Prints some pieces and a quoted text, and answers whether a write failed.
@@ -230,7 +288,8 @@ fn nothing_is_printed_behind_a_failure(rt: HostRuntime) -> Result<(), Fail> {
     check(sink.bytes() == b"a ".as_slice(), "printed")
 }
 
-/// The productions of XML 1.0, fifth edition, by code points: Char, S, and NameStartChar and NameChar without the colon.
+/// The productions of XML 1.0, fifth edition, by code points: Char, S, and NameStartChar and NameChar without the
+/// colon.
 const CLASSES: &str = "\
 Char 9-A D-D 20-D7FF E000-FFFD 10000-10FFFF
 S 9-A D-D 20-20
@@ -291,29 +350,48 @@ fn places_and_kinds_are_compared() -> Result<(), Fail> {
     check(kinds == [false, true], "kinds")
 }
 
+fn is_made_of(alloc: Global, characters: &[char], text: &str) -> Result<bool, AllocError> {
+    let made = Txt::from_characters(alloc, characters)?;
+    Ok(made.as_str() == text && is_made_again(&made, text)?)
+}
+
+fn is_made_again(made: &Txt, text: &str) -> Result<bool, AllocError> {
+    let again = made.try_clone()?;
+    Ok(again.as_str() == text)
+}
+
+fn is_given(alloc: Global, text: &str) -> Result<bool, AllocError> {
+    let given = Txt::of(alloc, text)?;
+    Ok(given.as_str() == text)
+}
+
 /// A text keeps its characters, and so does a second one.
 #[test]
 fn texts_are_kept(rt: HostRuntime) -> Result<(), Fail> {
     for (text, characters) in [("eé€😀", ['e', 'é', '€', '😀'].as_slice()), ("", &[])] {
-        let made = Txt::from_characters(rt.alloc(), characters)?;
-        let again = made.try_clone()?;
-        let given = Txt::of(rt.alloc(), text)?;
-        let texts = [made.as_str(), again.as_str(), given.as_str()];
-        check(texts.iter().all(|held| *held == text), text)?;
+        check(is_made_of(rt.alloc(), characters, text)?, text)?;
+        check(is_given(rt.alloc(), text)?, text)?;
     }
     Ok(())
 }
 
-#[test]
-fn texts_are_put_one_behind_another(rt: HostRuntime) -> Result<(), Fail> {
+fn is_lent(alloc: Global) -> Result<bool, AllocError> {
     let mut string = Str::lent("");
     for text in ["", "ä", "", "bc"] {
-        string = string.followed_by(rt.alloc(), text)?;
+        string = string.followed_by(alloc, text)?;
     }
-    let own = Str::own(Txt::of(rt.alloc(), "äb")?).followed_by(rt.alloc(), "c")?;
-    check(is_same_text(string.as_str(), "äbc"), "lent")?;
-    check(is_same_text(own.as_str(), "äbc"), "own")?;
-    check(!is_same_text(own.as_str(), "äb"), "another")
+    Ok(is_same_text(string.as_str(), "äbc"))
+}
+
+fn is_own(alloc: Global) -> Result<bool, AllocError> {
+    let own = Str::own(Txt::of(alloc, "äb")?).followed_by(alloc, "c")?;
+    Ok(is_same_text(own.as_str(), "äbc") && !is_same_text(own.as_str(), "äb"))
+}
+
+#[test]
+fn texts_are_put_one_behind_another(rt: HostRuntime) -> Result<(), Fail> {
+    check(is_lent(rt.alloc())?, "lent")?;
+    check(is_own(rt.alloc())?, "own")
 }
 
 #[test]

@@ -1,7 +1,8 @@
 //! Numbers and days. The expected values come from Python's integers and calendar.
 
+use crate::checks::{check, columns};
 use inv_decimal::{Day, Dec, Scaled};
-use std::alloc::Global;
+use std::alloc::{AllocError, Global};
 use std::fmt::Debug;
 use std::str::from_utf8;
 use std::test::Fail;
@@ -107,91 +108,125 @@ const WRITTEN: &str = "\
 1000000000000000000>None
 1.0000000000000000000>None";
 
-fn printed(alloc: Global, number: &Dec) -> Result<String, Fail> {
+fn push_number(line: &mut String, number: &Dec) -> Result<(), AllocError> {
     let mut buf = [0; 40];
     let len = number.print(&mut buf);
-    Ok(String::from_str(alloc, from_utf8(&buf[..len])?)?)
+    line.push_str(from_utf8(&buf[..len]).unwrap_or("no text"))
 }
 
-fn text_of<E: Debug + Drop>(alloc: Global, outcome: Result<Dec, E>) -> Result<String, Fail> {
+fn push_outcome<E: Debug + Drop>(
+    line: &mut String,
+    outcome: Result<Dec, E>,
+) -> Result<(), AllocError> {
     match outcome {
-        Ok(number) => printed(alloc, &number),
-        Err(fault) => Ok(format!(in alloc; "{fault:?}")?),
+        Ok(number) => push_number(line, &number),
+        Err(fault) => write!(line, "{fault:?}"),
     }
 }
 
-fn of_two(alloc: Global, x: &Dec, call: &str, y: &Dec) -> Result<String, Fail> {
+fn push_of_two(line: &mut String, x: &Dec, call: &str, y: &Dec) -> Result<(), AllocError> {
     match call {
-        "+" => text_of(alloc, x.add(y)),
-        "-" => text_of(alloc, x.sub(y)),
-        "*" => text_of(alloc, x.mul(y)),
-        "div" => text_of(alloc, x.div(y)),
-        "idiv" => text_of(alloc, x.idiv(y)),
-        "mod" => text_of(alloc, x.rem(y)),
-        _ => Ok(format!(in alloc; "{:?}", x.cmp(y))?),
+        "+" => push_outcome(line, x.add(y)),
+        "-" => push_outcome(line, x.sub(y)),
+        "*" => push_outcome(line, x.mul(y)),
+        "div" => push_outcome(line, x.div(y)),
+        "idiv" => push_outcome(line, x.idiv(y)),
+        "mod" => push_outcome(line, x.rem(y)),
+        _ => write!(line, "{:?}", x.cmp(y)),
     }
 }
 
-fn of_one(alloc: Global, call: &str, x: &Dec) -> Result<String, Fail> {
+fn push_of_one(line: &mut String, call: &str, x: &Dec) -> Result<(), AllocError> {
     match call {
-        "round" => text_of(alloc, x.round()),
-        "floor" => text_of(alloc, x.floor()),
-        "ceiling" => text_of(alloc, x.ceiling()),
-        "neg" => printed(alloc, &x.neg()),
-        _ => printed(alloc, &x.abs()),
+        "round" => push_outcome(line, x.round()),
+        "floor" => push_outcome(line, x.floor()),
+        "ceiling" => push_outcome(line, x.ceiling()),
+        "neg" => push_number(line, &x.neg()),
+        _ => push_number(line, &x.abs()),
     }
+}
+
+fn is_right_of_two(alloc: Global, row: &str) -> Result<bool, AllocError> {
+    let [x, call, y, want, _] = columns(row, ' ');
+    let mut line = String::new(alloc);
+    if let Some(x) = Dec::read(x) {
+        if let Some(y) = Dec::read(y) {
+            push_of_two(&mut line, &x, call, &y)?;
+        }
+    }
+    Ok(line.as_str() == want)
 }
 
 #[test]
 fn calls_of_two_numbers(rt: HostRuntime) -> Result<(), Fail> {
     for row in PAIRS.lines() {
-        let mut words = row.split_whitespace();
-        let x = Dec::read(words.next().ok_or("row")?).ok_or("number")?;
-        let call = words.next().ok_or("row")?;
-        let y = Dec::read(words.next().ok_or("row")?).ok_or("number")?;
-        let answer = of_two(rt.alloc(), &x, call, &y)?;
-        assert_eq!(rt; Some(answer.as_str()), words.next(), "{row}");
+        check(is_right_of_two(rt.alloc(), row)?, row)?;
     }
     Ok(())
+}
+
+fn is_right_of_one(alloc: Global, row: &str) -> Result<bool, AllocError> {
+    let [call, x, want, ..] = columns(row, ' ');
+    let mut line = String::new(alloc);
+    if let Some(x) = Dec::read(x) {
+        push_of_one(&mut line, call, &x)?;
+    }
+    Ok(line.as_str() == want)
 }
 
 #[test]
 fn calls_of_one_number(rt: HostRuntime) -> Result<(), Fail> {
     for row in SINGLES.lines() {
-        let mut words = row.split_whitespace();
-        let call = words.next().ok_or("row")?;
-        let x = Dec::read(words.next().ok_or("row")?).ok_or("number")?;
-        let answer = of_one(rt.alloc(), call, &x)?;
-        assert_eq!(rt; Some(answer.as_str()), words.next(), "{row}");
+        check(is_right_of_one(rt.alloc(), row)?, row)?;
     }
     Ok(())
 }
 
-#[test]
-fn written_numbers(rt: HostRuntime) -> Result<(), Fail> {
+/// Whether a number is printed so, and has as many digits behind its point.
+fn is_printed(number: &Scaled, want: &str) -> bool {
     let mut buf = [0; 40];
+    let len = number.print(&mut buf);
+    let digits = match want.split_once('.') {
+        Some((_, fraction)) => fraction.len(),
+        None => 0,
+    };
+    &buf[..len] == want.as_bytes() && usize::from(number.digits()) == digits
+}
+
+fn is_read(text: &str, want: &str) -> bool {
+    match Scaled::read(text) {
+        Some(read) => is_printed(&read, want) && Dec::read(text) == Some(read.value()),
+        None => want == "None" && Dec::read(text).is_none(),
+    }
+}
+
+#[test]
+fn written_numbers() -> Result<(), Fail> {
     for row in WRITTEN.lines() {
-        let (text, want) = row.split_once('>').ok_or("row")?;
-        let Some(read) = Scaled::read(text) else {
-            assert_eq!(rt; want, "None", "{text}");
-            assert_eq!(rt; Dec::read(text), None, "{text}");
-            continue;
-        };
-        let len = read.print(&mut buf);
-        assert_eq!(rt; from_utf8(&buf[..len])?, want, "{text}");
-        assert_eq!(rt; Dec::read(text), Some(read.value()), "{text}");
-        let point = want
-            .split_once('.')
-            .map_or(0, |(_, fraction)| fraction.len());
-        assert_eq!(rt; usize::from(read.digits()), point, "{text}");
+        let (text, want) = row.split_once('>').ok_or(row)?;
+        check(is_read(text, want), row)?;
     }
     Ok(())
 }
 
 /// The four years round each leap rule, with the days of their February.
 const FEBRUARIES: &str = "\
-1899 28 1900 28 1901 28 1902 28 1999 28 2000 29 2001 28 2002 28
-2023 28 2024 29 2025 28 2026 28 2099 28 2100 28 2101 28 2102 28";
+1899 28
+1900 28
+1901 28
+1902 28
+1999 28
+2000 29
+2001 28
+2002 28
+2023 28
+2024 29
+2025 28
+2026 28
+2099 28
+2100 28
+2101 28
+2102 28";
 
 fn last_day(month: u8, february: u8) -> u8 {
     match month {
@@ -202,33 +237,53 @@ fn last_day(month: u8, february: u8) -> u8 {
     }
 }
 
-fn day_is_right(alloc: Global, year: u16, month: u8, day: u8, exists: bool) -> Result<bool, Fail> {
-    let plain = format!(in alloc; "{year:04}{month:02}{day:02}")?;
-    let dashed = format!(in alloc; "{year:04}-{month:02}-{day:02}")?;
-    let read = Day::read_plain(plain.as_str());
-    let Some(found) = read else {
-        return Ok(!exists && Day::read_dashed(dashed.as_str()).is_none());
-    };
+fn is_printed_so(day: &Day, plain: &str, dashed: &str) -> bool {
     let mut short = [0; 8];
     let mut long = [0; 10];
-    found.print_plain(&mut short);
-    found.print_dashed(&mut long);
-    let printed = from_utf8(&short)? == plain.as_str() && from_utf8(&long)? == dashed.as_str();
-    Ok(exists && printed && Day::read_dashed(dashed.as_str()) == Some(found))
+    day.print_plain(&mut short);
+    day.print_dashed(&mut long);
+    short.as_slice() == plain.as_bytes() && long.as_slice() == dashed.as_bytes()
+}
+
+/// Whether both texts are read as one day that is printed so, or neither where there is no such day.
+fn is_one_day(plain: &str, dashed: &str, exists: bool) -> bool {
+    match Day::read_plain(plain) {
+        Some(day) => {
+            exists && is_printed_so(&day, plain, dashed) && Day::read_dashed(dashed) == Some(day)
+        }
+        None => !exists && Day::read_dashed(dashed).is_none(),
+    }
+}
+
+fn day_is_right(
+    alloc: Global,
+    year: u16,
+    month: u8,
+    day: u8,
+    exists: bool,
+) -> Result<bool, AllocError> {
+    let plain = format!(in alloc; "{year:04}{month:02}{day:02}")?;
+    let dashed = format!(in alloc; "{year:04}-{month:02}-{day:02}")?;
+    Ok(is_one_day(plain.as_str(), dashed.as_str(), exists))
+}
+
+fn check_month(alloc: Global, year: u16, month: u8, last: u8) -> Result<(), Fail> {
+    for day in 0..33 {
+        let exists = 0 < day && day <= last;
+        let right = day_is_right(alloc, year, month, day, exists)?;
+        right.then_some(()).ok_or((year, month, day))?;
+    }
+    Ok(())
 }
 
 #[test]
 fn days_of_years(rt: HostRuntime) -> Result<(), Fail> {
-    let mut words = FEBRUARIES.split_whitespace();
-    while let Some(word) = words.next() {
-        let year = word.parse::<u16>()?;
-        let february = words.next().ok_or("row")?.parse::<u8>()?;
+    for row in FEBRUARIES.lines() {
+        let (year, february) = row.split_once(' ').ok_or(row)?;
+        let year = year.parse::<u16>()?;
+        let february = february.parse::<u8>()?;
         for month in 0..14 {
-            for day in 0..33 {
-                let exists = 0 < day && day <= last_day(month, february);
-                let right = day_is_right(rt.alloc(), year, month, day, exists)?;
-                assert!(rt; right, "{year} {month} {day}");
-            }
+            check_month(rt.alloc(), year, month, last_day(month, february))?;
         }
     }
     Ok(())
@@ -255,18 +310,23 @@ const DAYS: &str = "\
 202402290 no
 9999-12-31 yes";
 
+/// The day of a text that isn't before the last one, or the last one where the text is to be none.
+fn day_behind(last: Day, text: &str, want: &str) -> Option<Day> {
+    match Day::read_dashed(text).or(Day::read_plain(text)) {
+        Some(day) => {
+            let rises = last.cmp(&day).is_le() && day.cmp(&day).is_eq();
+            (want == "yes" && rises).then_some(day)
+        }
+        None => (want == "no").then_some(last),
+    }
+}
+
 #[test]
-fn written_days(rt: HostRuntime) -> Result<(), Fail> {
+fn written_days() -> Result<(), Fail> {
     let mut last = Day::read_plain("00010101").ok_or("day")?;
     for row in DAYS.lines() {
-        let (text, want) = row.split_once(' ').ok_or("row")?;
-        let Some(day) = Day::read_dashed(text).or(Day::read_plain(text)) else {
-            assert_eq!(rt; want, "no", "{text}");
-            continue;
-        };
-        assert_eq!(rt; want, "yes", "{text}");
-        assert!(rt; last.cmp(&day).is_le() && day.cmp(&day).is_eq(), "{text}");
-        last = day;
+        let (text, want) = row.split_once(' ').ok_or(row)?;
+        last = day_behind(last, text, want).ok_or(row)?;
     }
     Ok(())
 }

@@ -1,4 +1,5 @@
-//! The tests of files and outputs in memory, of texts and characters, of canonical text, of numbers and days, and of code lists.
+//! The tests of files and outputs in memory, of texts and characters, of canonical text, of numbers and days, and of
+//! code lists.
 #![tactic(auto)]
 
 #[cfg(test)]

@@ -3,19 +3,19 @@
 ghost use Rattle.std.specs.Prelude.{◌≡◌, IfOk};
 ghost use Rattle.xml_write.specs.Writers.{state_of};
 
-use crate::checks::{check, room_for};
+use crate::checks::{check, columns, room_for};
 use inv_base::{MemSink, Place, Sink};
 use std::alloc::{AllocError, Global};
 use std::test::Fail;
 use xml_profile::Reader;
-use xml_state::{Events, Limits, NameId};
+use xml_state::{Events, Limits, NameId, NameTable, XmlFault};
 use xml_write::{Gauge, Nowhere, Pen, PenState, WriteFault, Writer};
 
 const FIRST_LINE: &str = "<?xml version=\"1.0\" encoding=\"UTF-8\"?>\n";
 
-/// The calls of documents, what is written of each between the first line and the last line feed, and how many nodes it has. A row ends
-/// with `§`. Of a call the first word says what it is: `<` starts an element, `>` ends one, `@` is an attribute, `^` a declaration of a
-/// prefix, `#` a text.
+/// The calls of documents, what is written of each between the first line and the last line feed, and how many nodes it
+/// has. A row ends with `§`. Of a call the first word says what it is: `<` starts an element, `>` ends one, `@` is an
+/// attribute, `^` a declaration of a prefix, `#` a text.
 const DOCUMENTS: &str = "\
 < a|> a⇒<a/>⇒2§\
 < a|# |> a⇒<a/>⇒2§\
@@ -159,19 +159,6 @@ fn fields_of(row: &'static str) -> (&'static str, &'static str, u64) {
     (calls, root, nodes.parse().unwrap_or(0))
 }
 
-/// Whether a document in this room whose write of that number fails is all written, and what the sink took.
-fn written(
-    alloc: Global,
-    calls: &str,
-    room: usize,
-    failing: u64,
-) -> Result<(bool, Vec<u8>), AllocError> {
-    let mut sink = MemSink::new(alloc, room)?;
-    sink.fail_at(failing)?;
-    let whole = write(&mut sink, calls).is_ok();
-    Ok((whole, sink.bytes().to_vec(alloc)?))
-}
-
 /// The bytes of the longest tag. No `>` stands in a value.
 fn longest_in(text: &str) -> u64 {
     let mut longest = 0;
@@ -182,17 +169,36 @@ fn longest_in(text: &str) -> u64 {
     longest as u64
 }
 
+/// Whether a sink with this room holds what fits of a document, and all is written where all fits.
+fn fits(alloc: Global, calls: &str, text: &str, room: usize) -> Result<bool, AllocError> {
+    let mut sink = MemSink::new(alloc, room)?;
+    let whole = write(&mut sink, calls).is_ok();
+    Ok(whole == (room == text.len()) && sink.bytes() == room_for(text, room))
+}
+
+fn check_rooms(alloc: Global, calls: &str, text: &str, row: &'static str) -> Result<(), Fail> {
+    for room in 0..=text.len() {
+        check(fits(alloc, calls, text, room)?, row)?;
+    }
+    Ok(())
+}
+
+fn push_document(text: &mut String, root: &str) -> Result<(), AllocError> {
+    write!(text, "{FIRST_LINE}{root}\n")
+}
+
+fn check_document(alloc: Global, row: &'static str) -> Result<(), Fail> {
+    let (calls, root, _) = fields_of(row);
+    let mut text = String::new(alloc);
+    push_document(&mut text, root)?;
+    check_rooms(alloc, calls, text.as_str(), row)
+}
+
 /// In a room of each size the sink holds what fits.
 #[test]
 fn documents_are_written(rt: HostRuntime) -> Result<(), Fail> {
     for row in DOCUMENTS.split('§') {
-        let (calls, root, _) = fields_of(row);
-        let text = format!(in rt.alloc(); "{FIRST_LINE}{root}\n")?;
-        for room in 0..=text.len() {
-            let (whole, bytes) = written(rt.alloc(), calls, room, 0)?;
-            check(whole == (room == text.len()), row)?;
-            check(bytes.as_slice() == room_for(text.as_str(), room), row)?;
-        }
+        check_document(rt.alloc(), row)?;
     }
     Ok(())
 }
@@ -212,47 +218,81 @@ fn documents_are_measured() -> Result<(), Fail> {
     Ok(())
 }
 
+/// Whether all of a document is written where the write of this number fails. Nothing is told where what is written
+/// isn't a front of it.
+fn writes_all(
+    alloc: Global,
+    calls: &str,
+    text: &str,
+    failing: u64,
+) -> Result<Option<bool>, AllocError> {
+    let mut sink = MemSink::new(alloc, 1000)?;
+    sink.fail_at(failing)?;
+    let whole = write(&mut sink, calls).is_ok();
+    Ok(text.as_bytes().starts_with(sink.bytes()).then_some(whole))
+}
+
+/// The number of the last write, where each that fails leaves a front, else 0.
+fn last_write(alloc: Global, calls: &str, text: &str) -> Result<u64, AllocError> {
+    let mut last = 0u64;
+    for failing in 1..150u64 {
+        match writes_all(alloc, calls, text, failing)? {
+            Some(true) => return Ok(last),
+            Some(false) => last = failing,
+            None => return Ok(0),
+        }
+    }
+    Ok(last)
+}
+
+fn has_writes(alloc: Global, row: &'static str) -> Result<bool, AllocError> {
+    let (calls, root, _) = fields_of(row);
+    let mut text = String::new(alloc);
+    push_document(&mut text, root)?;
+    let last = last_write(alloc, calls, text.as_str())?;
+    Ok(5 <= last && last < 149)
+}
+
 /// Each write fails in turn, up to the first number that no write has.
 #[test]
 fn a_failed_write_is_a_fault(rt: HostRuntime) -> Result<(), Fail> {
     for row in DOCUMENTS.split('§') {
-        let (calls, root, _) = fields_of(row);
-        let text = format!(in rt.alloc(); "{FIRST_LINE}{root}\n")?;
-        let mut last = 0u64;
-        for failing in 1..150u64 {
-            let (whole, bytes) = written(rt.alloc(), calls, 1000, failing)?;
-            check(text.as_bytes().starts_with(bytes.as_slice()), row)?;
-            if whole {
-                break;
-            }
-            last = failing;
-        }
-        check((5..149).contains(&last), row)?;
+        check(has_writes(rt.alloc(), row)?, row)?;
     }
     Ok(())
+}
+
+fn fail_six(sink: &mut MemSink) -> Result<(), AllocError> {
+    for failing in [1, 2, 7, 9, 11, 14] {
+        sink.fail_at(failing)?;
+    }
+    Ok(())
+}
+
+/// Which calls of a pen fail, or don't, as they are to.
+fn calls_behind_faults(sink: &mut MemSink) -> [bool; 9] {
+    let mut pen = Pen::new();
+    [
+        pen.start(sink, "a").is_err(),
+        pen.attribute(sink, "k", "1").is_err(),
+        pen.attribute(sink, "l", "2").is_err(),
+        pen.text(sink, "3&4").is_err(),
+        pen.text(sink, "").is_ok(),
+        pen.start(sink, "b").is_err(),
+        pen.end(sink, "b").is_ok(),
+        pen.end(sink, "a").is_err(),
+        pen.close(sink).is_ok(),
+    ]
 }
 
 /// A fault leaves the pen as if the call had written all, and the next call writes again.
 #[test]
 fn a_pen_goes_on_behind_a_fault(rt: HostRuntime) -> Result<(), Fail> {
     let mut sink = MemSink::new(rt.alloc(), 100)?;
-    for failing in [1, 2, 7, 9, 11, 14] {
-        sink.fail_at(failing)?;
-    }
-    let mut pen = Pen::new();
-    let failed = [
-        pen.start(&mut sink, "a").is_err(),
-        pen.attribute(&mut sink, "k", "1").is_err(),
-        pen.attribute(&mut sink, "l", "2").is_err(),
-        pen.text(&mut sink, "3&4").is_err(),
-        pen.text(&mut sink, "").is_ok(),
-        pen.start(&mut sink, "b").is_err(),
-        pen.end(&mut sink, "b").is_ok(),
-        pen.end(&mut sink, "a").is_err(),
-        pen.close(&mut sink).is_ok(),
-    ];
-    check(failed == [true; 9], "faults")?;
-    check(sink.bytes() == b" l=\"2></></\n".as_slice(), "written")
+    fail_six(&mut sink)?;
+    let are_right = calls_behind_faults(&mut sink) == [true; 9];
+    let is_written = sink.bytes() == b" l=\"2></></\n".as_slice();
+    check(are_right & is_written, "pen")
 }
 
 /// What takes a document and forgets it.
@@ -279,29 +319,36 @@ impl Events for Ignoring {
     }
 }
 
-/// The kind of the fault of a document, or `read`.
-fn read(alloc: Global, document: &[u8]) -> Result<String, Fail> {
-    let limits = Limits {
-        bytes: 16_777_216,
-        nodes: 1_000_000,
-        depth: 100,
-        attributes: 64,
-        name: 200,
-        names: 10_000,
-    };
-    let mut reader = Reader::new(alloc, limits)?;
-    let answer = match reader.feed(document, &mut Ignoring) {
-        Ok(()) => reader.finish(&mut Ignoring).map(|_| ()),
-        Err(fault) => Err(fault),
-    };
-    Ok(match answer {
-        Ok(()) => String::from_str(alloc, "read")?,
-        Err(fault) => format!(in alloc; "{:?} {}", fault.kind, fault.place.byte)?,
-    })
+const LIMITS: Limits = Limits {
+    bytes: 16_777_216,
+    nodes: 1_000_000,
+    depth: 100,
+    attributes: 64,
+    name: 200,
+    names: 10_000,
+};
+
+fn names_in(mut reader: Reader, document: &[u8]) -> Result<NameTable, XmlFault> {
+    reader.feed(document, &mut Ignoring)?;
+    reader.finish(&mut Ignoring)
 }
 
-/// The bytes of a start tag, what stands behind the attribute in the document, and what reading answers. A tag of the greatest length is
-/// read, be it of an element with or without children.
+/// The kind of the fault of a document and its place, or `read`.
+fn push_reading(alloc: Global, line: &mut String, document: &[u8]) -> Result<(), AllocError> {
+    match names_in(Reader::new(alloc, LIMITS)?, document) {
+        Ok(_) => line.push_str("read"),
+        Err(fault) => write!(line, "{:?} {}", fault.kind, fault.place.byte),
+    }
+}
+
+fn reads_as(alloc: Global, document: &[u8], want: &str) -> Result<bool, AllocError> {
+    let mut line = String::new(alloc);
+    push_reading(alloc, &mut line, document)?;
+    Ok(line.as_str() == want)
+}
+
+/// The bytes of a start tag, what stands behind the attribute in the document, and what reading answers. A tag of the
+/// greatest length is read, be it of an element with or without children.
 const LONG_TAGS: &str = "\
 262143||read
 262144||read
@@ -311,25 +358,41 @@ const LONG_TAGS: &str = "\
 262145|# x|TagTooLong 39";
 
 /// The calls of a document whose start tag has this length.
-fn calls_of_length(alloc: Global, length: usize, inside: &str) -> Result<String, Fail> {
+fn push_calls(calls: &mut String, length: u32, inside: &str) -> Result<(), AllocError> {
     let around = if inside.is_empty() { 9 } else { 8 };
-    let value = vec![in alloc; b'x'; length.saturating_sub(around)]?;
-    let value = std::str::from_utf8(value.as_slice())?;
-    Ok(format!(in alloc; "< a|@ k={value}|{inside}|> a")?)
+    calls.push_str("< a|@ k=")?;
+    for _ in around..length {
+        calls.push_str("x")?;
+    }
+    write!(calls, "|{inside}|> a")
+}
+
+/// Whether a document is written as long as it is measured, with a longest tag of this length, and read so.
+fn is_written_and_read(
+    alloc: Global,
+    calls: &str,
+    length: u32,
+    want: &str,
+) -> Result<bool, AllocError> {
+    let mut sink = MemSink::new(alloc, 300_000)?;
+    let whole = write(&mut sink, calls).is_ok();
+    let gauge = measure(calls);
+    let sizes = [gauge.longest_tag, gauge.bytes];
+    let are_right = sizes == [u64::from(length), sink.bytes().len() as u64];
+    Ok(whole && are_right && reads_as(alloc, sink.bytes(), want)?)
+}
+
+fn is_long_tag(alloc: Global, length: u32, inside: &str, want: &str) -> Result<bool, AllocError> {
+    let mut calls = String::new(alloc);
+    push_calls(&mut calls, length, inside)?;
+    is_written_and_read(alloc, calls.as_str(), length, want)
 }
 
 #[test]
 fn the_longest_tag_is_written_and_read(rt: HostRuntime) -> Result<(), Fail> {
     for row in LONG_TAGS.lines() {
-        let (length, rest) = row.split_once('|').ok_or("length")?;
-        let (inside, want) = rest.split_once('|').ok_or("inside")?;
-        let length = length.parse().unwrap_or(0);
-        let calls = calls_of_length(rt.alloc(), length, inside)?;
-        let (whole, bytes) = written(rt.alloc(), calls.as_str(), 300_000, 0)?;
-        let gauge = measure(calls.as_str());
-        let sizes = [gauge.longest_tag, gauge.bytes];
-        check(whole & (sizes == [length as u64, bytes.len() as u64]), row)?;
-        check(read(rt.alloc(), bytes.as_slice())?.as_str() == want, row)?;
+        let [length, inside, want, ..] = columns(row, '|');
+        check(is_long_tag(rt.alloc(), length.parse()?, inside, want)?, row)?;
     }
     Ok(())
 }

@@ -1,80 +1,152 @@
-//! What an expression or a pattern is answered, as a line of text.
+//! What an expression or a pattern is answered, as a line of text, beside what is wanted.
 
 use std::alloc::{AllocError, Global};
 use std::test::Fail;
 use xpath_syntax::{parse, parse_pattern};
 use xpath_types::{Part, Scope, TypeFault, Typed, check, check_pattern};
 
-/// The prefixes `p`, `f`, `t`, `twice` and `other`, of which the last two are given again, and the variables `v` and `p:v`.
-pub(crate) fn scope(alloc: Global) -> Result<Scope, AllocError> {
-    let mut scope = Scope::new(alloc);
-    scope.prefix(alloc, "p", "urn:p")?;
-    scope.prefix(alloc, "f", "http://www.w3.org/2005/xpath-functions")?;
-    scope.prefix(alloc, "t", "http://www.w3.org/2001/XMLSchema")?;
-    scope.prefix(alloc, "twice", "http://www.w3.org/2005/xpath-functions")?;
-    scope.prefix(alloc, "twice", "urn:p")?;
-    scope.prefix(alloc, "other", "urn:p")?;
-    scope.prefix(alloc, "other", "http://www.w3.org/2005/xpath-functions")?;
-    scope.prefix(alloc, "fn", "urn:p")?;
-    scope.variable(alloc, "v")?;
-    scope.variable(alloc, "p:v")?;
-    scope.variable(alloc, "absent:v")?;
-    Ok(scope)
-}
+/// What a scope declares: a prefix and a namespace, or the name of a variable. Three prefixes are given again.
+const DECLARED: &str = "\
+p urn:p
+f http://www.w3.org/2005/xpath-functions
+t http://www.w3.org/2001/XMLSchema
+twice http://www.w3.org/2005/xpath-functions
+twice urn:p
+other urn:p
+other http://www.w3.org/2005/xpath-functions
+fn urn:p
+v
+p:v
+absent:v";
 
-fn push_kind(line: &mut String, holds: bool, name: &str) -> Result<(), AllocError> {
-    if holds {
-        line.push_str(" ")?;
-        line.push_str(name)?;
+fn declare(alloc: Global, scope: &mut Scope) -> Result<(), AllocError> {
+    for row in DECLARED.lines() {
+        match row.split_once(' ') {
+            Some((prefix, uri)) => scope.prefix(alloc, prefix, uri)?,
+            None => scope.variable(alloc, row)?,
+        }
     }
     Ok(())
 }
 
+/// A scope in which all of that is declared.
+pub(crate) fn scope(alloc: Global) -> Result<Scope, AllocError> {
+    let mut scope = Scope::new(alloc);
+    declare(alloc, &mut scope)?;
+    Ok(scope)
+}
+
+fn push_kind(line: &mut String, holds: bool, name: &str) -> Result<(), AllocError> {
+    if holds { line.push_str(name) } else { Ok(()) }
+}
+
+/// The kinds of a part, `*` where it uses the focus, `#` where it uses a position in it, `!` where it depends on the
+/// document alone.
 fn push_part(line: &mut String, part: &Part) -> Result<(), AllocError> {
-    push_kind(line, part.kinds.node, "node")?;
-    push_kind(line, part.kinds.boolean, "boolean")?;
-    push_kind(line, part.may_be_number(), "number")?;
-    push_kind(line, part.kinds.string, "string")?;
-    push_kind(line, part.kinds.untyped, "untyped")?;
-    push_kind(line, part.kinds.date, "date")?;
-    push_kind(line, part.uses_focus, "*")?;
-    push_kind(line, part.uses_position, "#")?;
-    push_kind(line, part.depends_on_document_alone, "!")
+    push_kind(line, part.kinds.node, " node")?;
+    push_kind(line, part.kinds.boolean, " boolean")?;
+    push_kind(line, part.may_be_number(), " number")?;
+    push_kind(line, part.kinds.string, " string")?;
+    push_kind(line, part.kinds.untyped, " untyped")?;
+    push_kind(line, part.kinds.date, " date")?;
+    push_kind(line, part.uses_focus, " *")?;
+    push_kind(line, part.uses_position, " #")?;
+    push_kind(line, part.depends_on_document_alone, " !")
 }
 
-/// The kinds of each part, `*` where it uses the focus, `#` where it uses a position in it, `!` where it depends on the document alone.
-fn parts(alloc: Global, typed: &Typed<'_>) -> Result<String, AllocError> {
-    let mut line = String::new(alloc);
+fn push_parts(line: &mut String, typed: &Typed<'_>) -> Result<(), AllocError> {
     for k in 0..20 {
-        match typed.part(k) {
-            Some(part) => {
-                if k > 0 {
-                    line.push_str(" ;")?;
-                }
-                push_part(&mut line, part)?;
-            }
-            None => return Ok(line),
-        }
+        let Some(part) = typed.part(k) else {
+            return Ok(());
+        };
+        push_kind(line, k > 0, " ;")?;
+        push_part(line, part)?;
     }
-    Ok(line)
+    Ok(())
 }
 
-fn answer(alloc: Global, found: Result<Typed<'_>, TypeFault>) -> Result<String, AllocError> {
-    match found {
-        Ok(typed) => parts(alloc, &typed),
-        Err(TypeFault::Refused { kind, token }) => format!(in alloc; " {kind:?} {token}"),
+fn push_answer(line: &mut String, answer: Result<Typed<'_>, TypeFault>) -> Result<(), AllocError> {
+    match answer {
+        Ok(typed) => push_parts(line, &typed),
+        Err(TypeFault::Refused { kind, token }) => write!(line, " {kind:?} {token}"),
         Err(TypeFault::Memory) => Err(AllocError),
     }
 }
 
-/// What is known of the parts of an expression, or its first refusal.
-pub(crate) fn checked(alloc: Global, text: &str, scope: &Scope) -> Result<String, Fail> {
-    let expression = parse(alloc, text)?;
-    Ok(answer(alloc, check(alloc, &expression, scope))?)
+/// What is known of the parts of an expression, or its first refusal. A text that is no expression is `unread`.
+fn push_expression(
+    alloc: Global,
+    line: &mut String,
+    scope: &Scope,
+    text: &str,
+) -> Result<(), AllocError> {
+    match parse(alloc, text) {
+        Ok(expression) => push_answer(line, check(alloc, &expression, scope)),
+        Err(_) => line.push_str("unread"),
+    }
 }
 
 /// The same of a pattern.
-pub(crate) fn checked_pattern(alloc: Global, text: &str, scope: &Scope) -> Result<String, Fail> {
-    let pattern = parse_pattern(alloc, text)?;
-    Ok(answer(alloc, check_pattern(alloc, &pattern, scope))?)
+fn push_pattern(
+    alloc: Global,
+    line: &mut String,
+    scope: &Scope,
+    text: &str,
+) -> Result<(), AllocError> {
+    match parse_pattern(alloc, text) {
+        Ok(pattern) => push_answer(line, check_pattern(alloc, &pattern, scope)),
+        Err(_) => line.push_str("unread"),
+    }
+}
+
+/// What is wanted of each row.
+#[derive(Clone, Copy)]
+pub(crate) enum Wanted {
+    /// Of an expression the line behind its arrow.
+    Line,
+    /// The same of a pattern.
+    LineOfPattern,
+    /// That it is refused for the number of arguments.
+    WrongArity,
+    /// That no operand is surely wrong.
+    NoSureError,
+}
+
+fn is_wanted(wanted: Wanted, found: &str, line: &str) -> bool {
+    match wanted {
+        Wanted::Line | Wanted::LineOfPattern => found == line,
+        Wanted::WrongArity => found == " WrongArity 0",
+        Wanted::NoSureError => !found.contains("Sure") && !found.contains("unread"),
+    }
+}
+
+/// Whether a row is answered as it is wanted.
+pub(crate) fn holds(
+    alloc: Global,
+    scope: &Scope,
+    wanted: Wanted,
+    row: &str,
+) -> Result<bool, AllocError> {
+    let (text, line) = row.split_once(" →").unwrap_or((row, "→"));
+    let mut found = String::new(alloc);
+    match wanted {
+        Wanted::LineOfPattern => push_pattern(alloc, &mut found, scope, text)?,
+        _ => push_expression(alloc, &mut found, scope, text)?,
+    }
+    Ok(is_wanted(wanted, found.as_str(), line))
+}
+
+/// Fails with the row, or the word, where it isn't so.
+pub(crate) fn expect(holds: bool, row: &'static str) -> Result<(), Fail> {
+    holds.then_some(()).ok_or(row)?;
+    Ok(())
+}
+
+/// Fails with the first row that isn't answered as it is wanted.
+pub(crate) fn expect_rows(alloc: Global, wanted: Wanted, rows: &'static str) -> Result<(), Fail> {
+    let scope = scope(alloc)?;
+    for row in rows.lines() {
+        expect(holds(alloc, &scope, wanted, row)?, row)?;
+    }
+    Ok(())
 }

@@ -1,16 +1,15 @@
 //! What is known of each part of an expression, an outer part before the parts in it.
 //!
-//! A row is an expression and `→`, then the kinds of each part's items, `*` where it uses the focus, and `!` where it depends on the
-//! document alone.
+//! A row is an expression and `→`, then the kinds of each part's items, `*` where it uses the focus, and `!` where it
+//! depends on the document alone.
 
-use crate::checking::{checked, checked_pattern, scope};
-use std::alloc::Global;
-use std::process::Abort;
+use crate::checking::{Wanted, expect, expect_rows, holds, scope};
+use std::alloc::{AllocError, Global};
 use std::test::Fail;
 use xpath_grammar::expr::{Expr, Form};
 use xpath_grammar::operators::Production;
 use xpath_syntax::parse;
-use xpath_types::check;
+use xpath_types::{Scope, Typed, check};
 
 /// Parts without parts in them.
 const LEAVES: &str = "\
@@ -140,76 +139,75 @@ a → node *
 //a[1] → node * ! ; node * ; node * ; number !
 a[. = $v] | b → node * ; node * ; node * ; boolean * ; node * ; node boolean number string untyped date ; node *";
 
-fn check_rows(rt: &impl Abort, alloc: Global, rows: &str) -> Result<(), Fail> {
-    let scope = scope(alloc)?;
-    for row in rows.lines() {
-        let (text, want) = row.split_once(" →").ok_or("row")?;
-        let found = checked(alloc, text, &scope)?;
-        assert_eq!(rt; found.as_str(), want, "{text}");
-    }
-    Ok(())
-}
-
 #[test]
 fn leaves_have_their_facts(rt: HostRuntime) -> Result<(), Fail> {
-    check_rows(&rt, rt.alloc(), LEAVES)
+    expect_rows(rt.alloc(), Wanted::Line, LEAVES)
 }
 
 #[test]
 fn forms_have_their_facts(rt: HostRuntime) -> Result<(), Fail> {
-    check_rows(&rt, rt.alloc(), FORMS)
+    expect_rows(rt.alloc(), Wanted::Line, FORMS)
 }
 
 #[test]
 fn paths_and_predicates_have_their_facts(rt: HostRuntime) -> Result<(), Fail> {
-    check_rows(&rt, rt.alloc(), FOCUSES)
+    expect_rows(rt.alloc(), Wanted::Line, FOCUSES)
 }
 
 #[test]
 fn functions_have_their_facts(rt: HostRuntime) -> Result<(), Fail> {
-    check_rows(&rt, rt.alloc(), FUNCTIONS)
+    expect_rows(rt.alloc(), Wanted::Line, FUNCTIONS)
 }
 
 #[test]
 fn patterns_have_their_facts(rt: HostRuntime) -> Result<(), Fail> {
-    let scope = scope(rt.alloc())?;
-    for row in PATTERNS.lines() {
-        let (text, want) = row.split_once(" →").ok_or("row")?;
-        let found = checked_pattern(rt.alloc(), text, &scope)?;
-        assert_eq!(rt; found.as_str(), want, "{text}");
-    }
-    Ok(())
+    expect_rows(rt.alloc(), Wanted::LineOfPattern, PATTERNS)
 }
 
-/// A typed expression keeps its expression and its scope, and has no part behind the last.
+/// Whether a typed `1 + 2` keeps its expression and its scope, and has no part behind the last.
+fn keeps_its_own(typed: &Typed<'_>) -> bool {
+    let is_sum = matches!(typed.expr(), Expr::Node(Form::Chain(Production::Sum), _));
+    let has_scope = typed.scope().uri("p").unwrap_or("none") == "urn:p";
+    is_sum & has_scope & typed.part(2).is_some() & typed.part(3).is_none()
+}
+
+fn is_kept(alloc: Global, scope: &Scope, text: &str) -> bool {
+    match parse(alloc, text) {
+        Ok(expression) => match check(alloc, &expression, scope) {
+            Ok(typed) => keeps_its_own(&typed),
+            Err(_) => false,
+        },
+        Err(_) => false,
+    }
+}
+
 #[test]
 fn a_typed_expression_keeps_what_it_is_of(rt: HostRuntime) -> Result<(), Fail> {
     let scope = scope(rt.alloc())?;
-    let expression = parse(rt.alloc(), "1 + 2")?;
-    let typed = check(rt.alloc(), &expression, &scope)?;
-    assert_eq!(rt; typed.scope().uri("p"), Some("urn:p"));
-    assert!(rt; matches!(typed.expr(), Expr::Node(Form::Chain(Production::Sum), _)));
-    assert!(rt; typed.part(2).is_some());
-    assert!(rt; typed.part(3).is_none());
-    Ok(())
+    expect(is_kept(rt.alloc(), &scope, "1 + 2"), "1 + 2")
 }
 
-/// What was declared last is taken back.
+/// Whether a variable that was declared last is there, and isn't once it is taken back; and whether an earlier one
+/// still is.
+fn is_cut_back(alloc: Global, scope: &mut Scope) -> Result<bool, AllocError> {
+    let count = scope.count();
+    scope.variable(alloc, "w")?;
+    let is_counted = scope.count() == 4;
+    let is_there = holds(alloc, scope, Wanted::Line, DECLARED)?;
+    scope.truncate(count);
+    let is_gone = holds(alloc, scope, Wanted::Line, TAKEN_BACK)?;
+    let is_left = holds(alloc, scope, Wanted::Line, LEFT)?;
+    Ok(is_counted & is_there & is_gone & is_left)
+}
+
+const DECLARED: &str = "$w → node boolean number string untyped date";
+
+const TAKEN_BACK: &str = "$w → UndeclaredVariable 0";
+
+const LEFT: &str = "$v → node boolean number string untyped date";
+
 #[test]
 fn a_scope_is_cut_back(rt: HostRuntime) -> Result<(), Fail> {
     let mut scope = scope(rt.alloc())?;
-    let count = scope.count();
-    scope.variable(rt.alloc(), "w")?;
-    assert_eq!(rt; scope.count(), 4);
-    let declared = checked(rt.alloc(), "$w", &scope)?;
-    scope.truncate(count);
-    let cut = checked(rt.alloc(), "$w", &scope)?;
-    let kept = checked(rt.alloc(), "$v", &scope)?;
-    assert_eq!(rt;
-        declared.as_str(),
-        " node boolean number string untyped date"
-    );
-    assert_eq!(rt; cut.as_str(), " UndeclaredVariable 0");
-    assert_eq!(rt; kept.as_str(), " node boolean number string untyped date");
-    Ok(())
+    expect(is_cut_back(rt.alloc(), &mut scope)?, "scope")
 }

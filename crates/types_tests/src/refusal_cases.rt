@@ -1,8 +1,6 @@
 //! The first refusal of an expression: the least token, and there the first kind.
 
-use crate::checking::{checked, scope};
-use std::alloc::Global;
-use std::process::Abort;
+use crate::checking::{Wanted, expect, expect_rows, scope};
 use std::test::Fail;
 
 const NAMES: &str = "\
@@ -187,65 +185,46 @@ xs:date(1, 2)
 xs:boolean()
 xs:boolean(1, 2)";
 
-fn check_rows(rt: &impl Abort, alloc: Global, rows: &str) -> Result<(), Fail> {
-    let scope = scope(alloc)?;
-    for row in rows.lines() {
-        let (text, want) = row.split_once(" →").ok_or("row")?;
-        let found = checked(alloc, text, &scope)?;
-        assert_eq!(rt; found.as_str(), want, "{text}");
-    }
-    Ok(())
-}
-
 #[test]
 fn names_that_are_not_there_are_refused(rt: HostRuntime) -> Result<(), Fail> {
-    check_rows(&rt, rt.alloc(), NAMES)
+    expect_rows(rt.alloc(), Wanted::Line, NAMES)
 }
 
 #[test]
 fn the_least_token_and_there_the_first_kind_counts(rt: HostRuntime) -> Result<(), Fail> {
-    check_rows(&rt, rt.alloc(), FIRST)
+    expect_rows(rt.alloc(), Wanted::Line, FIRST)
 }
 
 #[test]
 fn operands_of_a_sure_kind_are_refused(rt: HostRuntime) -> Result<(), Fail> {
-    check_rows(&rt, rt.alloc(), OPERANDS)
+    expect_rows(rt.alloc(), Wanted::Line, OPERANDS)
 }
 
 #[test]
 fn operands_that_may_be_right_are_accepted(rt: HostRuntime) -> Result<(), Fail> {
-    let scope = scope(rt.alloc())?;
-    for text in MAY_BE.lines() {
-        let found = checked(rt.alloc(), text, &scope)?;
-        assert!(rt; !found.as_str().contains("Sure"), "{text}");
-    }
-    Ok(())
+    expect_rows(rt.alloc(), Wanted::NoSureError, MAY_BE)
 }
 
 #[test]
 fn numbers_of_arguments_are_judged(rt: HostRuntime) -> Result<(), Fail> {
-    let scope = scope(rt.alloc())?;
-    for text in ARITIES.lines() {
-        let found = checked(rt.alloc(), text, &scope)?;
-        assert_eq!(rt; found.as_str(), " WrongArity 0", "{text}");
-    }
-    Ok(())
+    expect_rows(rt.alloc(), Wanted::WrongArity, ARITIES)
 }
+
+/// Prefixes, the last of which is empty, and their namespaces.
+const PREFIXES: &str = "\
+p urn:p
+twice http://www.w3.org/2005/xpath-functions
+fn http://www.w3.org/2005/xpath-functions
+xs http://www.w3.org/2001/XMLSchema
+absent none
+ none";
 
 #[test]
 fn the_first_of_one_prefix_counts(rt: HostRuntime) -> Result<(), Fail> {
     let scope = scope(rt.alloc())?;
-    assert_eq!(rt; scope.uri("p"), Some("urn:p"));
-    assert_eq!(rt;
-        scope.uri("twice"),
-        Some("http://www.w3.org/2005/xpath-functions")
-    );
-    assert_eq!(rt;
-        scope.uri("fn"),
-        Some("http://www.w3.org/2005/xpath-functions")
-    );
-    assert_eq!(rt; scope.uri("xs"), Some("http://www.w3.org/2001/XMLSchema"));
-    assert_eq!(rt; scope.uri("absent"), None);
-    assert_eq!(rt; scope.uri(""), None);
+    for row in PREFIXES.lines() {
+        let (prefix, uri) = row.split_once(' ').unwrap_or((row, ""));
+        expect(scope.uri(prefix).unwrap_or("none") == uri, row)?;
+    }
     Ok(())
 }

@@ -6,7 +6,11 @@ mod depth_cases;
 #[cfg(test)]
 mod list_cases;
 #[cfg(test)]
+mod nestings;
+#[cfg(test)]
 mod plan_cases;
+#[cfg(test)]
+mod rows;
 #[cfg(test)]
 mod shown;
 #[cfg(test)]

@@ -1,9 +1,13 @@
-//! Each row: an expression, and its plan. Names are those of the plan's table, `{uri}local`; what stands before a part is its operator.
+//! Expressions and their plans. Names are those of the plan's table, `{uri}local`; what stands before a part is its
+//! operator.
 
+use crate::nestings::{Nesting, push_nesting};
+use crate::rows::{Made, expect, expect_rows};
+use crate::shown::push_number;
 use std::alloc::{AllocError, Global};
-use std::process::Abort;
 use std::test::Fail;
-use xpath_plan::work::{Kind, Link, Simple, StepTest, Work};
+use xpath_grammar::expr::Expr;
+use xpath_plan::work::{Link, Simple, StepTest, Work};
 use xpath_plan::{NameTable, Plan, compile};
 use xpath_syntax::parse;
 use xpath_types::{Scope, check};
@@ -54,167 +58,172 @@ for $x in 1, $y in $x return $y + $x + $v → [Bound(For): 1; $0; Return [Chain:
 for $x in 1 return for $x in $x return $x → [Bound(For): 1; Return [Bound(For): $0; Return $1]]
 (for $x in 1 return $x) + (for $y in 2 return $y) → [Chain: [Only: [Bound(For): 1; Return $0]]; Plus [Only: [Bound(For): 2; Return $0]]]";
 
-fn scope(alloc: Global) -> Result<Scope, AllocError> {
-    let mut scope = Scope::new(alloc);
+/// Declares three prefixes and two variables.
+fn declare(alloc: Global, scope: &mut Scope) -> Result<(), AllocError> {
     scope.prefix(alloc, "p", "urn:p")?;
     scope.prefix(alloc, "f", "http://www.w3.org/2005/xpath-functions")?;
     scope.prefix(alloc, "t", "http://www.w3.org/2001/XMLSchema")?;
     scope.variable(alloc, "v")?;
-    scope.variable(alloc, "p:v")?;
-    Ok(scope)
+    scope.variable(alloc, "p:v")
 }
 
-fn test_shown(alloc: Global, names: &NameTable, test: &StepTest) -> Result<String, AllocError> {
+fn push_test(line: &mut String, names: &NameTable, test: &StepTest) -> Result<(), AllocError> {
     match test {
         StepTest::Named(number) => {
             let uri = names.uri(*number).unwrap_or("none");
             let local = names.local(*number).unwrap_or("none");
-            format!(in alloc; "{{{uri}}}{local}")
+            write!(line, "{{{uri}}}{local}")
         }
-        StepTest::InNamespace(uri) => format!(in alloc; "{{{}}}*", uri.as_str()),
-        StepTest::WithLocal(local) => format!(in alloc; "*:{}", local.as_str()),
-        StepTest::AnyName => String::from_str(alloc, "*"),
-        StepTest::Kind(kind) => format!(in alloc; "{kind:?}"),
+        StepTest::InNamespace(uri) => write!(line, "{{{}}}*", uri.as_str()),
+        StepTest::WithLocal(local) => write!(line, "*:{}", local.as_str()),
+        StepTest::AnyName => line.push_str("*"),
+        StepTest::Kind(kind) => write!(line, "{kind:?}"),
     }
 }
 
-fn number_shown(alloc: Global, whole: u64, fraction: u64) -> Result<String, AllocError> {
-    if fraction == 0 {
-        format!(in alloc; "{whole}")
-    } else {
-        format!(in alloc; "{whole}.{fraction:018}")
-    }
-}
-
-fn simple_shown(alloc: Global, names: &NameTable, simple: &Simple) -> Result<String, AllocError> {
+fn push_simple(line: &mut String, names: &NameTable, simple: &Simple) -> Result<(), AllocError> {
     match simple {
-        Simple::Text(text) => String::from_str(alloc, text.as_str()),
-        Simple::Number(number) => number_shown(alloc, number.whole(), number.fraction()),
-        Simple::Nothing => String::from_str(alloc, "()"),
-        Simple::Item => String::from_str(alloc, "."),
-        Simple::Root => String::from_str(alloc, "/"),
-        Simple::Variable(height) => format!(in alloc; "${height}"),
-        Simple::Outer(name) => format!(in alloc; "${}", name.as_str()),
+        Simple::Text(text) => line.push_str(text.as_str()),
+        Simple::Number(number) => push_number(line, number.whole(), number.fraction()),
+        Simple::Nothing => line.push_str("()"),
+        Simple::Item => line.push_str("."),
+        Simple::Root => line.push_str("/"),
+        Simple::Variable(height) => write!(line, "${height}"),
+        Simple::Outer(name) => write!(line, "${}", name.as_str()),
         Simple::Step(axis, test) => {
-            let test = test_shown(alloc, names, test)?;
-            format!(in alloc; "{axis:?}::{}", test.as_str())
+            write!(line, "{axis:?}::")?;
+            push_test(line, names, test)
         }
-        Simple::Called(function) => format!(in alloc; "{function:?}"),
+        Simple::Called(function) => write!(line, "{function:?}"),
     }
 }
 
-fn link_shown(alloc: Global, link: &Link) -> Result<String, AllocError> {
+fn push_link(line: &mut String, link: &Link) -> Result<(), AllocError> {
     match link {
-        Link::Operator(operator) => format!(in alloc; "{operator:?} "),
-        Link::Comma => String::from_str(alloc, "Comma "),
-        Link::Other => Ok(String::new(alloc)),
+        Link::Operator(operator) => write!(line, "{operator:?} "),
+        Link::Comma => line.push_str("Comma "),
+        Link::Other => Ok(()),
     }
-}
-
-fn kind_shown(alloc: Global, kind: &Kind) -> Result<String, AllocError> {
-    format!(in alloc; "{kind:?}")
 }
 
 fn separator(is_first: bool) -> &'static str {
     if is_first { ": " } else { "; " }
 }
 
-fn shown(alloc: Global, names: &NameTable, work: &Work) -> Result<String, AllocError> {
+fn push_work(line: &mut String, names: &NameTable, work: &Work) -> Result<(), AllocError> {
     match work {
-        Work::Simple(simple) => simple_shown(alloc, names, simple),
+        Work::Simple(simple) => push_simple(line, names, simple),
         Work::Node(kind, parts) => {
-            let mut out = String::from_str(alloc, "[")?;
-            let kind = kind_shown(alloc, kind)?;
-            out.push_str(kind.as_str())?;
+            write!(line, "[{kind:?}")?;
             let mut is_first = true;
             'parts: for (link, part) in parts.as_slice() {
-                out.push_str(separator(is_first))?;
+                line.push_str(separator(is_first))?;
                 is_first = false;
-                let link = link_shown(alloc, link)?;
-                out.push_str(link.as_str())?;
-                let part = shown(alloc, names, part)?;
-                out.push_str(part.as_str())?;
+                push_link(line, link)?;
+                push_work(line, names, part)?;
             }
-            out.push_str("]")?;
-            Ok(out)
+            line.push_str("]")
         }
     }
 }
 
-fn plan_of(alloc: Global, text: &str) -> Result<Plan, Fail> {
-    let scope = scope(alloc)?;
-    let expression = parse(alloc, text)?;
-    let typed = check(alloc, &expression, &scope)?;
-    Ok(compile(alloc, &typed)?)
-}
-
-fn plan_shown(alloc: Global, text: &str) -> Result<String, Fail> {
-    let plan = plan_of(alloc, text)?;
-    Ok(shown(alloc, plan.names(), plan.work())?)
-}
-
-fn check_rows(rt: &impl Abort, alloc: Global, rows: &str) -> Result<(), Fail> {
-    for row in rows.lines() {
-        let (text, want) = row.split_once(" → ").ok_or("row")?;
-        let found = plan_shown(alloc, text)?;
-        assert_eq!(rt; found.as_str(), want, "{text}");
+fn compiled(alloc: Global, scope: &Scope, expression: &Expr) -> Option<Plan> {
+    match check(alloc, expression, scope) {
+        Ok(typed) => compile(alloc, &typed).ok(),
+        Err(_) => None,
     }
-    Ok(())
+}
+
+fn plan_in(alloc: Global, scope: &Scope, text: &str) -> Option<Plan> {
+    match parse(alloc, text) {
+        Ok(expression) => compiled(alloc, scope, &expression),
+        Err(_) => None,
+    }
+}
+
+/// The plan of an expression. It outlives its text and its scope.
+fn plan_of(alloc: Global, text: &str) -> Option<Plan> {
+    let mut scope = Scope::new(alloc);
+    match declare(alloc, &mut scope) {
+        Ok(()) => plan_in(alloc, &scope, text),
+        Err(_) => None,
+    }
+}
+
+/// The plan of an expression, or `none`.
+pub(crate) fn push_plan(alloc: Global, line: &mut String, text: &str) -> Result<(), AllocError> {
+    match plan_of(alloc, text) {
+        Some(plan) => push_work(line, plan.names(), plan.work()),
+        None => line.push_str("none"),
+    }
 }
 
 #[test]
 fn leaves_have_their_plans(rt: HostRuntime) -> Result<(), Fail> {
-    check_rows(&rt, rt.alloc(), LEAVES)
+    expect_rows(rt.alloc(), Made::Plan, LEAVES)
 }
 
 #[test]
 fn forms_have_their_plans(rt: HostRuntime) -> Result<(), Fail> {
-    check_rows(&rt, rt.alloc(), FORMS)
+    expect_rows(rt.alloc(), Made::Plan, FORMS)
 }
 
-/// A plan outlives its text and its scope, and has each name once.
+/// Whether a plan has the names of no namespace and of `p`, each once.
+fn has_two_names(names: &NameTable) -> bool {
+    let uris = [
+        names.uri(0).unwrap_or("none"),
+        names.uri(1).unwrap_or("none"),
+    ];
+    names.len() == 2 && uris == ["", "urn:p"]
+}
+
 #[test]
 fn a_plan_owns_what_it_is_made_of(rt: HostRuntime) -> Result<(), Fail> {
-    let plan = plan_of(rt.alloc(), "a/p:a[a]/@p:a/a")?;
-    let names = plan.names();
-    assert_eq!(rt; names.len(), 2);
-    assert_eq!(rt; names.uri(0).unwrap_or("none"), "");
-    assert_eq!(rt; names.uri(1).unwrap_or("none"), "urn:p");
-    Ok(())
-}
-
-fn long_chain(alloc: Global) -> Result<String, AllocError> {
-    let mut chain = String::from_str(alloc, "1")?;
-    for _ in 0..30_000 {
-        chain.push_str("+1")?;
+    match plan_of(rt.alloc(), "a/p:a[a]/@p:a/a") {
+        Some(plan) => expect(has_two_names(plan.names()), "names"),
+        None => expect(false, "plan"),
     }
-    Ok(chain)
 }
 
-fn many_bindings(alloc: Global) -> Result<String, AllocError> {
-    let mut bindings = String::from_str(alloc, "for $v in 1")?;
-    for k in 0..3_000u32 {
-        let binding = format!(in alloc; ",$v{k} in $v")?;
-        bindings.push_str(binding.as_str())?;
-    }
-    bindings.push_str(" return $v")?;
-    Ok(bindings)
+/// Whether the plan of an expression is printed with such an end.
+fn ends_so(alloc: Global, text: &str, end: &str) -> Result<bool, AllocError> {
+    let mut line = String::new(alloc);
+    push_plan(alloc, &mut line, text)?;
+    Ok(line.as_str().ends_with(end))
 }
 
-/// A chain of 30,000 operands has its plan.
+/// A chain of 30,001 operands.
+const CHAIN: Nesting<'_> = Nesting {
+    openings: 1,
+    open: "1",
+    core: "",
+    close: "+1",
+    closings: 30_000,
+};
+
 #[test]
 fn a_long_chain_has_its_plan(rt: HostRuntime) -> Result<(), Fail> {
-    let chain = long_chain(rt.alloc())?;
-    let shown = plan_shown(rt.alloc(), chain.as_str())?;
-    assert!(rt; shown.as_str().ends_with("; Plus 1; Plus 1]"));
-    Ok(())
+    let mut chain = String::new(rt.alloc());
+    push_nesting(&mut chain, &CHAIN)?;
+    expect(
+        ends_so(rt.alloc(), chain.as_str(), "; Plus 1; Plus 1]")?,
+        "chain",
+    )
 }
 
-/// So have many bindings, each of which reads the first one.
+fn push_bindings(text: &mut String) -> Result<(), AllocError> {
+    text.push_str("for $v in 1")?;
+    for k in 0..3_000u32 {
+        write!(text, ",$v{k} in $v")?;
+    }
+    text.push_str(" return $v")
+}
+
+/// Many bindings have their plan, each of which reads the first one.
 #[test]
 fn many_bindings_have_their_plan(rt: HostRuntime) -> Result<(), Fail> {
-    let bindings = many_bindings(rt.alloc())?;
-    let shown = plan_shown(rt.alloc(), bindings.as_str())?;
-    assert!(rt; shown.as_str().ends_with("; $0; $0; Return $0]"));
-    Ok(())
+    let mut bindings = String::new(rt.alloc());
+    push_bindings(&mut bindings)?;
+    let end = "; $0; $0; Return $0]";
+    expect(ends_so(rt.alloc(), bindings.as_str(), end)?, "bindings")
 }

@@ -1,138 +1,128 @@
 //! Expressions as short texts, a form in braces and operators by names: `{1 Plus {2 Times 3}}`.
 
-use inv_base::Txt;
-use std::alloc::{AllocError, Global};
+use std::alloc::AllocError;
 use xpath_grammar::expr::{Expr, Form, Label, Leaf};
 use xpath_grammar::many::Many;
+use xpath_grammar::operators::Binder;
 use xpath_grammar::step::{AxisForm, Test};
-use xpath_tokens::token::{Name, Number, Operator};
+use xpath_tokens::token::{Name, Operator};
 
-fn name_shown(alloc: Global, name: &Name) -> Result<String, AllocError> {
+fn push_name(line: &mut String, name: &Name) -> Result<(), AllocError> {
     match name {
-        Name::Plain(text) => String::from_str(alloc, text.as_str()),
-        Name::Prefixed(prefix, local) => {
-            format!(in alloc; "{}:{}", prefix.as_str(), local.as_str())
-        }
-        Name::AnyLocal(prefix) => format!(in alloc; "{}:*", prefix.as_str()),
-        Name::AnyPrefix(local) => format!(in alloc; "*:{}", local.as_str()),
+        Name::Plain(text) => line.push_str(text.as_str()),
+        Name::Prefixed(prefix, local) => { write!(line, "{}:{}", prefix.as_str(), local.as_str()) }
+        Name::AnyLocal(prefix) => write!(line, "{}:*", prefix.as_str()),
+        Name::AnyPrefix(local) => write!(line, "*:{}", local.as_str()),
     }
 }
 
-fn number_shown(alloc: Global, number: Number) -> Result<String, AllocError> {
-    let whole = number.whole();
-    let fraction = number.fraction();
+/// A name with what stands in front of it and behind it.
+fn push_named(line: &mut String, front: &str, name: &Name, back: &str) -> Result<(), AllocError> {
+    line.push_str(front)?;
+    push_name(line, name)?;
+    line.push_str(back)
+}
+
+/// A number, with its 18 digits behind the point unless all of them are 0.
+pub(crate) fn push_number(line: &mut String, whole: u64, fraction: u64) -> Result<(), AllocError> {
     if fraction == 0 {
-        format!(in alloc; "{whole}")
+        write!(line, "{whole}")
     } else {
-        format!(in alloc; "{whole}.{fraction:018}")
+        write!(line, "{whole}.{fraction:018}")
     }
 }
 
-fn literal_shown(alloc: Global, text: &Txt) -> Result<String, AllocError> {
-    format!(in alloc; "'{}'", text.as_str())
-}
-
-fn test_shown(alloc: Global, test: &Test) -> Result<String, AllocError> {
+fn push_test(line: &mut String, test: &Test) -> Result<(), AllocError> {
     match test {
-        Test::Name(name) => name_shown(alloc, name),
-        Test::Star => String::from_str(alloc, "*"),
-        Test::Kind(kind) => format!(in alloc; "{kind:?}()"),
+        Test::Name(name) => push_name(line, name),
+        Test::Star => line.push_str("*"),
+        Test::Kind(kind) => write!(line, "{kind:?}()"),
     }
 }
 
-fn step_shown(alloc: Global, form: AxisForm, test: &Test) -> Result<String, AllocError> {
-    let test = test_shown(alloc, test)?;
+fn push_axis(line: &mut String, form: AxisForm) -> Result<(), AllocError> {
     match form {
-        AxisForm::Unwritten => Ok(test),
-        AxisForm::At => format!(in alloc; "@{}", test.as_str()),
-        AxisForm::Written(axis) => format!(in alloc; "{axis:?}::{}", test.as_str()),
+        AxisForm::Unwritten => Ok(()),
+        AxisForm::At => line.push_str("@"),
+        AxisForm::Written(axis) => write!(line, "{axis:?}::"),
     }
 }
 
-fn leaf_shown(alloc: Global, leaf: &Leaf) -> Result<String, AllocError> {
+fn push_leaf(line: &mut String, leaf: &Leaf) -> Result<(), AllocError> {
     match leaf {
-        Leaf::Literal(text) => literal_shown(alloc, text),
-        Leaf::Number(number) => number_shown(alloc, *number),
-        Leaf::Variable(name) => {
-            let name = name_shown(alloc, name)?;
-            format!(in alloc; "${}", name.as_str())
+        Leaf::Literal(text) => write!(line, "'{}'", text.as_str()),
+        Leaf::Number(number) => push_number(line, number.whole(), number.fraction()),
+        Leaf::Variable(name) => push_named(line, "$", name, ""),
+        Leaf::Context => line.push_str("."),
+        Leaf::Parent => line.push_str(".."),
+        Leaf::Empty => line.push_str("()"),
+        Leaf::Root => line.push_str("/"),
+        Leaf::Called(name) => push_named(line, "", name, "()"),
+        Leaf::Step(form, test) => {
+            push_axis(line, *form)?;
+            push_test(line, test)
         }
-        Leaf::Context => String::from_str(alloc, "."),
-        Leaf::Parent => String::from_str(alloc, ".."),
-        Leaf::Empty => String::from_str(alloc, "()"),
-        Leaf::Root => String::from_str(alloc, "/"),
-        Leaf::Called(name) => {
-            let name = name_shown(alloc, name)?;
-            format!(in alloc; "{}()", name.as_str())
-        }
-        Leaf::Step(form, test) => step_shown(alloc, *form, test),
     }
 }
 
-fn signs_shown(alloc: Global, signs: &Many<Operator>) -> Result<String, AllocError> {
-    let mut out = String::new(alloc);
+fn push_signs(line: &mut String, signs: &Many<Operator>) -> Result<(), AllocError> {
     'signs: for sign in signs.as_slice() {
-        let sign = format!(in alloc; "{sign:?} ")?;
-        out.push_str(sign.as_str())?;
+        write!(line, "{sign:?} ")?;
     }
-    Ok(out)
+    Ok(())
 }
 
-fn label_shown(alloc: Global, label: &Label) -> Result<String, AllocError> {
+fn push_binder(line: &mut String, binder: Option<Binder>) -> Result<(), AllocError> {
+    match binder {
+        Some(binder) => write!(line, "{binder:?} "),
+        None => line.push_str(", "),
+    }
+}
+
+fn push_label(line: &mut String, label: &Label) -> Result<(), AllocError> {
     match label {
-        Label::First => Ok(String::new(alloc)),
-        Label::Link(operator) => format!(in alloc; " {operator:?} "),
-        Label::Comma => String::from_str(alloc, ", "),
-        Label::Binding(Some(binder), name) => {
-            let name = name_shown(alloc, name)?;
-            format!(in alloc; "{binder:?} ${} In ", name.as_str())
+        Label::First => Ok(()),
+        Label::Link(operator) => write!(line, " {operator:?} "),
+        Label::Comma => line.push_str(", "),
+        Label::Binding(binder, name) => {
+            push_binder(line, *binder)?;
+            push_named(line, "$", name, " In ")
         }
-        Label::Binding(None, name) => {
-            let name = name_shown(alloc, name)?;
-            format!(in alloc; ", ${} In ", name.as_str())
-        }
-        Label::Condition => String::from_str(alloc, "If "),
-        Label::Then => String::from_str(alloc, " Then "),
-        Label::Signed(signs) => signs_shown(alloc, signs),
-        Label::Predicate => String::from_str(alloc, "["),
-        Label::Again => String::from_str(alloc, "]["),
-        Label::Opened => String::from_str(alloc, "("),
-        Label::Calling(name) => {
-            let name = name_shown(alloc, name)?;
-            format!(in alloc; "{}(", name.as_str())
-        }
+        Label::Condition => line.push_str("If "),
+        Label::Then => line.push_str(" Then "),
+        Label::Signed(signs) => push_signs(line, signs),
+        Label::Predicate => line.push_str("["),
+        Label::Again => line.push_str("]["),
+        Label::Opened => line.push_str("("),
+        Label::Calling(name) => push_named(line, "", name, "("),
     }
 }
 
-// What stands behind the last part.
-fn closing_shown(alloc: Global, form: &Form) -> Result<String, AllocError> {
+/// What stands behind the last part.
+fn push_closing(line: &mut String, form: &Form) -> Result<(), AllocError> {
     match form {
         Form::Cast(word, name, optional) => {
-            let name = name_shown(alloc, name)?;
-            let mark = if *optional { "?" } else { "" };
-            format!(in alloc; " {word:?} {}{mark}", name.as_str())
+            write!(line, " {word:?} ")?;
+            push_named(line, "", name, if *optional { "?" } else { "" })
         }
-        Form::Filter => String::from_str(alloc, "]"),
-        Form::Parentheses | Form::Call => String::from_str(alloc, ")"),
-        _ => Ok(String::new(alloc)),
+        Form::Filter => line.push_str("]"),
+        Form::Parentheses | Form::Call => line.push_str(")"),
+        _ => Ok(()),
     }
 }
 
-pub fn shown(alloc: Global, expression: &Expr) -> Result<String, AllocError> {
+/// The tree of an expression.
+pub(crate) fn push_tree(line: &mut String, expression: &Expr) -> Result<(), AllocError> {
     match expression {
-        Expr::Leaf(leaf) => leaf_shown(alloc, leaf),
+        Expr::Leaf(leaf) => push_leaf(line, leaf),
         Expr::Node(form, parts) => {
-            let mut out = String::from_str(alloc, "{")?;
+            line.push_str("{")?;
             'parts: for (label, part) in parts.as_slice() {
-                let label = label_shown(alloc, label)?;
-                let part = shown(alloc, part)?;
-                out.push_str(label.as_str())?;
-                out.push_str(part.as_str())?;
+                push_label(line, label)?;
+                push_tree(line, part)?;
             }
-            let closing = closing_shown(alloc, form)?;
-            out.push_str(closing.as_str())?;
-            out.push_str("}")?;
-            Ok(out)
+            push_closing(line, form)?;
+            line.push_str("}")
         }
     }
 }

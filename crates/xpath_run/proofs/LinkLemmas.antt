@@ -1,23 +1,25 @@
 -- Chains of operands.
-use Rattle.std.proofs.Common.{◌≡◌, Bool, true, false, List, [], ◌∷◌, map, filter, Ok, Err, refl, ap, ◌∙◌}
+use Rattle.std.proofs.Common.{◌≡◌, Bool, true, false, List, [], ◌∷◌, map, filter, Option, Some, None, IfSome, Bor, Ok, Err, refl, ap, ◌∙◌}
 use Rattle.inv_base.specs.Tree.{Node, Name}
 use Rattle.xpath_tokens.specs.declared.token.Operator.{Operator}
 use Rattle.xpath_tokens.specs.declared.token.Operator.TheVariants as o
+use Rattle.xpath_grammar.specs.declared.step.Axis.TheVariants as a
 use Rattle.xpath_items.specs.declared.item.Item.{Item}
 use Rattle.xpath_meaning.specs.Values.{Value, then_}
 use Rattle.xpath_meaning.specs.Items.{truth}
 use Rattle.xpath_meaning.specs.Comparing.{boolean}
 use Rattle.xpath_meaning.specs.Steps.{path, filtered_by, has_node, node_item}
 use Rattle.xpath_meaning.specs.Expressions as e
-use Rattle.xpath_meaning.specs.Expressions.{Exp}
-use Rattle.xpath_meaning.specs.Resolving.{Operand, all_inside, linked, linked_by, chained_on, kept_of}
+use Rattle.xpath_meaning.specs.Expressions.{Exp, NodeTest}
+use Rattle.xpath_meaning.specs.Resolving.{Operand, all_inside, linked, linked_by, chained_on, kept_of, step_of}
 use Rattle.xpath_meaning.specs.Meaning.{Context, mean, truth_of}
 use Rattle.xpath_plan.specs.declared.work.Link.{Link}
 use Rattle.xpath_plan.specs.declared.work.Link.TheVariants as l
+use Rattle.xpath_plan.specs.declared.work.StepTest.{StepTest}
 use Rattle.xpath_plan.specs.declared.work.Work.{Work}
-use Rattle.xpath_plan.specs.Plans.{label_of, seen}
+use Rattle.xpath_plan.specs.Plans.{label_of, seen, test_seen}
 use Rattle.xpath_run.specs.Contexts.{operands_of}
-use Rattle.xpath_run.specs.Links.{turn, behind, linked_value, chain_value, kept_by_all, linked_parts}
+use Rattle.xpath_run.specs.Links.{turn, behind, linked_value, inside_value, IsInside, chain_value, kept_by_all, linked_parts}
 
 -- a truth that is asked of a value
 both-then : (v : Value) (f : Bool → Value) → then_ (truth_of v) f ≡ then_ v (λ xs. then_ (truth xs) f)
@@ -61,3 +63,18 @@ by-predicates nodes (part ∷ parts) x c = by-predicates nodes parts (e.filtered
 pub ordered-none : (nodes all : List Node) → map node_item (filter (λ node. has_node [] node.number) all) ≡ []
 ordered-none nodes [] = refl
 ordered-none nodes (node ∷ all) = ordered-none nodes all
+
+-- `//` and a step on the child axis
+step-inside : (nodes : List Node) (test : Option NodeTest) (before : Value) (c : Context) → linked_value nodes (l.Operator o.DoubleSlash) before (step_of a.Child test) c ≡ inside_value nodes test before
+step-inside nodes None before c = refl
+step-inside nodes (Some test) before c = refl
+
+inside-is : (link : Link) (operator : Operator) (y : Exp) (test : Option NodeTest) → link ≡ l.Operator operator → operator ≡ o.DoubleSlash → y ≡ step_of a.Child test → IsInside link y test
+inside-is link operator y test is double same = λ nodes before c.
+    ap (λ link. linked_value nodes link before y c) (is ∙ ap l.Operator double)
+    ∙ (ap (λ y. linked_value nodes (l.Operator o.DoubleSlash) before y c) same ∙ step-inside nodes test before c)
+
+pub inside-found : (names : List Name) (link : Link) (operator : Operator) (y : Exp) (found : Option (Bor StepTest)) → link ≡ l.Operator operator → operator ≡ o.DoubleSlash
+    → IfSome found (λ test. y ≡ step_of a.Child (test_seen names test.now)) → IfSome found (λ test. IsInside link y (test_seen names test.now))
+inside-found names link operator y None is double h = tt
+inside-found names link operator y (Some test) is double h = inside-is link operator y (test_seen names test.now) is double h

@@ -1,5 +1,5 @@
 -- What stands before an operand and the value before that come to with it.
-use Rattle.std.specs.Prelude.{◌≡◌, ℕ, Bool, true, false, List, [], ◌∷◌, map, Ok}
+use Rattle.std.specs.Prelude.{◌≡◌, ℕ, Bool, true, false, List, [], ◌∷◌, map, Option, Ok}
 use Rattle.inv_base.specs.Tree.{Node, Name}
 use Rattle.xpath_grammar.specs.declared.operators.Binder.{Binder}
 use Rattle.xpath_tokens.specs.declared.token.Operator.{Operator}
@@ -10,7 +10,7 @@ use Rattle.xpath_meaning.specs.Items.{truth}
 use Rattle.xpath_meaning.specs.Comparing.{boolean}
 use Rattle.xpath_meaning.specs.Steps.{path, filtered_by}
 use Rattle.xpath_meaning.specs.Expressions as e
-use Rattle.xpath_meaning.specs.Expressions.{Exp}
+use Rattle.xpath_meaning.specs.Expressions.{Exp, NodeTest}
 use Rattle.xpath_meaning.specs.Resolving.{Operand, all_inside, bound_all, in_axis_order, kept_of}
 use Rattle.xpath_meaning.specs.Meaning.{Context, at, inside, mean, truth_of, operated, bound_by}
 use Rattle.xpath_plan.specs.declared.work.Link.{Link}
@@ -18,6 +18,7 @@ use Rattle.xpath_plan.specs.declared.work.Link.TheVariants as l
 use Rattle.xpath_plan.specs.declared.work.Work.{Work}
 use Rattle.xpath_plan.specs.Plans.{seen}
 use Rattle.xpath_operators.specs.Nodes.{AreWithin}
+use Rattle.xpath_steps.specs.Steps.{inside_seen}
 use Rattle.xpath_steps.specs.Variables.{ValueWithin}
 use Rattle.xpath_run.specs.declared.linking.Ahead.{Ahead}
 use Rattle.xpath_run.specs.declared.linking.Ahead.TheVariants as a
@@ -55,6 +56,14 @@ chain_value nodes (part ∷ parts) before c = chain_value nodes parts (linked_va
 abbrev pub kept_by_all : (Exp → Item → ℕ → ℕ → Value) → List Operand → List Item → Value
 kept_by_all turns [] items = Ok items
 kept_by_all turns (part ∷ parts) items = then_ (filtered_by (turns part.1) items) (λ kept. kept_by_all turns parts kept)
+
+-- what `//` and a step without predicates on the child axis make of the value before them
+abbrev pub inside_value : List Node → Option NodeTest → Value → Value
+inside_value nodes test before = then_ before (inside_seen nodes test)
+
+-- The link and its operand are `//` and such a step.
+abbrev pub IsInside : Link → Exp → Option NodeTest → Type 0
+IsInside link y test = (nodes : List Node) (before : Value) (c : Context) → linked_value nodes link before y c ≡ inside_value nodes test before
 
 -- what is made of the value before a link and of its operand's
 abbrev pub joined_by : List Node → Link → List Item → List Item → Value

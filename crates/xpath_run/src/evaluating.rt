@@ -17,7 +17,7 @@ ghost use Rattle.xpath_steps.specs.Variables.{ValueWithin};
 use crate::calling::value_of;
 use crate::finishing::{finished, wanted};
 use crate::ground::Ground;
-use crate::linking::{Ahead, ahead_of, joined_by};
+use crate::linking::{Ahead, ahead_of, joined_by, step_inside, test_inside};
 use crate::parts::{append_found, as_step, is_filtered_step, is_operator, keep_if, part_at, sole};
 use crate::simple::{simple, simple_in_axis_order};
 use crate::turns::{Turn, advance, decided, ended, take_turn};
@@ -202,6 +202,9 @@ fn link_on<'a, L: Ledger>(
     ensures within { IfOk result (λ outcome. ValueWithin (count ground.now) (values_spec.value outcome)) }
     ensures kept { bound.new.items ≡ bound.old.items }
 {
+    if let Some(test) = test_inside(link, work) {
+        return step_inside(ground, before, test, steps);
+    }
     match ahead_of(ground, before, link, steps)? {
         Ahead::Done(done) => Ok(done),
         Ahead::Operand(xs) => match evaluate(ground, work, focus, bound, steps) {

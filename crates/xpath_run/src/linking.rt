@@ -1,24 +1,26 @@
 //! What stands between the operands of a chain.
-ghost use Rattle.std.specs.Prelude.{◌≡◌, ℕ, ◌++◌, List, IfOk};
-ghost use Rattle.inv_base.specs.Tree.{Node};
+ghost use Rattle.std.specs.Prelude.{◌≡◌, ℕ, ◌++◌, List, IfOk, IfSome};
+ghost use Rattle.inv_base.specs.Tree.{Node, Name};
 ghost use Rattle.node_arena.specs.Moves.{tree_nodes};
 ghost use Rattle.xpath_items.specs.Faults.{Gives};
 ghost use Rattle.xpath_meaning.specs.Values.{value};
 ghost use Rattle.xpath_operators.specs.Nodes.{AreWithin};
+ghost use Rattle.xpath_plan.specs.Plans.{seen, test_seen};
 ghost use Rattle.xpath_run.specs.Contexts.{IsNumbered, count};
 ghost use Rattle.xpath_run.specs.Links as spec;
 ghost use Rattle.xpath_run.specs.Links.{AheadWithin};
 ghost use Rattle.xpath_steps.specs.Variables.{ValueWithin};
 
 use crate::ground::Ground;
+use crate::parts::child_test;
 use inv_base::Steps;
 use std::alloc::{AllocError, Global};
 use std::sync::ledger::Ledger;
 use xpath_grammar::step::{Axis, KindTest};
 use xpath_items::{DynError, Fault, Outcome, Seq};
 use xpath_operators::{boolean, outcome, truth};
-use xpath_plan::work::{Link, StepTest};
-use xpath_steps::{operated, steps_over};
+use xpath_plan::work::{Link, StepTest, Work};
+use xpath_steps::{inside_over, operated, steps_over};
 use xpath_tokens::token::Operator;
 use xpath_walks::Step;
 
@@ -124,6 +126,44 @@ pub(crate) fn ahead_of<'a, L: Ledger>(
             Link::Comma => Ok(Ahead::Operand(xs)),
             Link::Other => Ok(Ahead::Done(Outcome::Value(Seq::new(ground.alloc)))),
         },
+    }
+}
+
+/// The test of an operand's step, where the link is `//` and the step one on the child axis without predicates.
+pub(crate) fn test_inside(link: Link, work: &Work) -> Option<&StepTest>
+    ensures { (names : List Name) → IfSome result (λ test. spec.IsInside link (seen names work.now) (test_seen names test.now)) }
+{
+    match link {
+        Link::Operator(operator) => match operator {
+            Operator::DoubleSlash => child_test(work),
+            _ => None,
+        },
+        Link::Comma | Link::Other => None,
+    }
+}
+
+/// `//` and such a step, which are one step at the items before them.
+pub(crate) fn step_inside<'a, L: Ledger>(
+    ground: &Ground<'_, 'a>,
+    before: Outcome<'a>,
+    test: &StepTest,
+    steps: &mut Steps<L>,
+) -> Result<Outcome<'a>, AllocError>
+    requires numbered { IsNumbered ground.now }
+    requires within { ValueWithin (count ground.now) (value before) }
+    ensures value { IfOk result (λ found. value found ≡ spec.inside_value (tree_nodes ground.now.doc.now) (test_seen ground.now.names.now test.now) (value before.entry)) }
+    ensures within { IfOk result (λ found. ValueWithin (count ground.now) (value found)) }
+{
+    match before {
+        Outcome::Error(error) => Ok(Outcome::Error(error)),
+        Outcome::Value(xs) => outcome(inside_over(
+            ground.alloc,
+            ground.doc,
+            test,
+            ground.numbers,
+            xs.as_slice(),
+            steps,
+        )),
     }
 }
 

@@ -41,6 +41,17 @@ pub(crate) fn as_step(work: &Work) -> Option<(Axis, &StepTest)>
     }
 }
 
+/// The test of a step on the child axis without predicates, of a work that is one.
+pub(crate) fn child_test(work: &Work) -> Option<&StepTest>
+    ensures { (names : List Name) → IfSome result (λ test. seen names work.now ≡ step_of Axis.Child (test_seen names test.now)) }
+{
+    let (axis, test) = as_step(work)?;
+    match axis {
+        Axis::Child => Some(test),
+        _ => None,
+    }
+}
+
 /// Whether an operator stands there.
 pub(crate) fn is_operator(link: Link) -> bool
     ensures { result ≡ spec.is_operator (label_of link) }

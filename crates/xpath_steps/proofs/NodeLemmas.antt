@@ -18,7 +18,7 @@ pub items_of_numbers : (nodes : List Node) → node_items (node_numbers nodes) �
 items_of_numbers [] = refl
 items_of_numbers (node ∷ nodes) = ap (λ xs. node_item node ∷ xs) (items_of_numbers nodes)
 
-eq_turned : (m n : ℕ) → (m == n) ≡ (n == m)
+pub eq_turned : (m n : ℕ) → (m == n) ≡ (n == m)
 eq_turned m n = grind (arith, nat_tests)
 
 -- a node is among the numbers exactly where it is among the items

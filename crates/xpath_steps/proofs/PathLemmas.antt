@@ -127,12 +127,12 @@ all_nodes : (ns : List ℕ) → list_all is_node (node_items ns) ≡ true
 all_nodes [] = refl
 all_nodes (n ∷ ns) = all_nodes ns
 
-all_of_map : (nodes : List Node) → list_all is_node (map node_item nodes) ≡ true
+pub all_of_map : (nodes : List Node) → list_all is_node (map node_item nodes) ≡ true
 all_of_map [] = refl
 all_of_map (node ∷ nodes) = all_of_map nodes
 
 -- the numbers of all turns, as items
-items_over : (h : ℕ → List ℕ) (items : List Item) → node_items (flat_map (at_number h) items) ≡ flat_map (at_number (λ n. node_items (h n))) items
+pub items_over : (h : ℕ → List ℕ) (items : List Item) → node_items (flat_map (at_number h) items) ≡ flat_map (at_number (λ n. node_items (h n))) items
 items_over h [] = refl
 items_over h (i.Node n ∷ items) = map_append _ (h n) (flat_map (at_number h) items) ∙ ap (λ xs. node_items (h n) ++ xs) (items_over h items)
 items_over h (i.Boolean b ∷ items) = items_over h items
@@ -164,7 +164,7 @@ or_assoc : (x y z : Bool) → ((x || y) || z) ≡ (x || (y || z))
 or_assoc true y z = refl
 or_assoc false y z = refl
 
-has_append : (n : ℕ) (xs ys : List Item) → has_node (xs ++ ys) n ≡ (has_node xs n || has_node ys n)
+pub has_append : (n : ℕ) (xs ys : List Item) → has_node (xs ++ ys) n ≡ (has_node xs n || has_node ys n)
 has_append n [] ys = refl
 has_append n (i.Node m ∷ xs) ys = ap (λ b. m == n || b) (has_append n xs ys) ∙ sym (or_assoc (m == n) (has_node xs n) (has_node ys n))
 has_append n (i.Boolean b ∷ xs) ys = has_append n xs ys
@@ -203,7 +203,7 @@ has_where-true test (node ∷ nodes) (suc k) l h =
     still_there (tree_node nodes k).number node (filter (λ x. test x.number) nodes) (test node.number) (has_where-true test nodes k (omega (arith, l)) h)
 
 -- Of the document's nodes those are there that pass.
-has_where : (test : ℕ → Bool) (nodes : List Node) (k : ℕ) → k < length nodes → has_node (nodes_where nodes test) (tree_node nodes k).number ≡ test (tree_node nodes k).number
+pub has_where : (test : ℕ → Bool) (nodes : List Node) (k : ℕ) → k < length nodes → has_node (nodes_where nodes test) (tree_node nodes k).number ≡ test (tree_node nodes k).number
 has_where test nodes k l = go (test (tree_node nodes k).number) refl
   where
     go : (b : Bool) → test (tree_node nodes k).number ≡ b → has_node (nodes_where nodes test) (tree_node nodes k).number ≡ b

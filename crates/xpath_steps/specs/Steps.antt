@@ -4,12 +4,14 @@ use Rattle.std.specs.List.{flat_map}
 use Rattle.inv_base.specs.Tree.{Node, Name}
 use Rattle.node_arena.specs.Document.{Document}
 use Rattle.xpath_grammar.specs.declared.step.Axis.{Axis}
+use Rattle.xpath_grammar.specs.declared.step.Axis.TheVariants as a
+use Rattle.xpath_grammar.specs.declared.step.KindTest.TheVariants as q
 use Rattle.xpath_items.specs.declared.fault.Fault.{Fault}
 use Rattle.xpath_items.specs.declared.item.Item.{Item}
 use Rattle.xpath_items.specs.declared.outcome.DynError.{DynError}
 use Rattle.xpath_items.specs.declared.outcome.DynError.TheVariants as e
 use Rattle.xpath_items.specs.Faults.{Gives}
-use Rattle.xpath_meaning.specs.Expressions.{NodeTest}
+use Rattle.xpath_meaning.specs.Expressions.{NodeTest, of_kind}
 use Rattle.xpath_meaning.specs.Steps.{step_from, in_document_order, path}
 use Rattle.xpath_meaning.specs.Values.{Value, then_}
 use Rattle.xpath_operators.specs.Nodes.{AreWithin}
@@ -36,6 +38,11 @@ path_seen nodes axis test items = path nodes (λ item position last. step_seen n
 -- the same, where each turn's nodes are in document order
 abbrev pub stepped_path_seen : List Node → Axis → Option NodeTest → List Item → Value
 stepped_path_seen nodes axis test items = path nodes (λ item position last. stepped_seen nodes axis test item) items
+
+-- `//` and a step without predicates on the child axis behind items (XPath 2.0, section 3.2.4)
+abbrev pub inside_seen : List Node → Option NodeTest → List Item → Value
+inside_seen nodes test items =
+    then_ (stepped_path_seen nodes a.DescendantOrSelf (Some (of_kind q.Node)) items) (stepped_path_seen nodes a.Child test)
 
 -- Exactly this is given of the step's test, for any names that the step's numbers are those of.
 abbrev pub GivesOf : {X : Type 0} → Document → Step → Result X Fault → (Option NodeTest → Result X DynError) → Type 0

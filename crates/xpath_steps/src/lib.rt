@@ -17,5 +17,5 @@ pub use nodes::{all_nodes, any_node};
 pub use operating::operated;
 pub use ordering::{document_ordered, of_turns};
 pub use sets::set_of;
-pub use stepping::{root_of, step_from, stepped_from, steps_over};
+pub use stepping::{inside_over, root_of, step_from, stepped_from, steps_over};
 pub use variables::Env;

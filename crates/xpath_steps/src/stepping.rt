@@ -8,7 +8,7 @@ ghost use Rattle.xpath_operators.specs.Nodes.{IsWithin, AreWithin};
 ghost use Rattle.xpath_plan.specs.Plans.{test_seen};
 ghost use Rattle.xpath_steps.specs.Numbers.{at_number};
 ghost use Rattle.xpath_steps.specs.Steps as spec;
-ghost use Rattle.xpath_steps.specs.Steps.{GivesOf, GivesWithin, step_seen, stepped_seen, path_seen, stepped_path_seen, numbers_over};
+ghost use Rattle.xpath_steps.specs.Steps.{GivesOf, GivesWithin, step_seen, stepped_seen, path_seen, stepped_path_seen, inside_seen, numbers_over};
 ghost use Rattle.xpath_walks.specs.Tests.{numbers_of};
 ghost use Rattle.xpath_walks.specs.Walks.{Adds, axis_numbers};
 
@@ -17,6 +17,8 @@ use inv_base::Steps;
 use node_arena::{Doc, NodeId};
 use std::alloc::{AllocError, Global};
 use std::sync::ledger::Ledger;
+use xml_state::NameId;
+use xpath_grammar::step::Axis;
 use xpath_items::{DynError, Fault, Item, Seq};
 use xpath_plan::work::StepTest;
 use xpath_walks::{Step, axis_nodes, documents_are_walkable};
@@ -174,4 +176,31 @@ pub fn steps_over<'a, L: Ledger>(
     }
     let nodes = nodes_over(alloc, doc, step, items, steps)?;
     Ok(ordered(alloc, doc, nodes)?)
+}
+
+/// `//` and a step without predicates on the child axis, taken at each item: the nodes in document order, each once. It
+/// is given the step's test, and of each name of the plan the number that it has in the document. It is one step on the
+/// descendant axis: what is right inside an item or right inside a node inside it is what is inside the item. Where an
+/// item is no node it is XPTY0019.
+pub fn inside_over<'a, L: Ledger>(
+    alloc: Global,
+    doc: &Doc<'_>,
+    test: &StepTest,
+    numbers: &[Option<NameId>],
+    items: &[Item<'_>],
+    steps: &mut Steps<L>,
+) -> Result<Seq<'a>, Fault>
+    requires { AreWithin (length doc.now.nodes) items.now }
+    ensures value { (names : List Name) → numbers.now ≡ numbers_of doc.now.names names
+        → Gives result (inside_seen (tree_nodes doc.now) (test_seen names test.now) items.now) }
+    ensures within { (names : List Name) → numbers.now ≡ numbers_of doc.now.names names
+        → IfOk result (λ found. AreWithin (length doc.now.nodes) found) }
+{
+    documents_are_walkable(doc);
+    let step = Step {
+        axis: Axis::Descendant,
+        test,
+        numbers,
+    };
+    steps_over(alloc, doc, &step, items, steps)
 }

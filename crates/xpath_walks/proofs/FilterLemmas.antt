@@ -1,11 +1,15 @@
 -- Filters of nodes by their places, and the first of a sort.
-use Rattle.std.proofs.Common.{◌≡◌, ℕ, zero, suc, ◌+◌, ◌-◌, ◌<◌, ◌≤◌, Bool, true, false, cond, ⊎_elim, List, [], ◌∷◌, ◌++◌, length, drop, Option, Some, None, option_map, find, refl, ap, sym, ◌∙◌, arith}
+use Rattle.std.proofs.Common.{◌≡◌, ℕ, zero, suc, ◌+◌, ◌-◌, ◌<◌, ◌≤◌, Bool, true, false, cond, ◌&&◌, ⊎_elim, List, [], ◌∷◌, ◌++◌, length, drop, Option, Some, None, IfSome, option_map, find, refl, ap, sym, ◌∙◌, arith}
 use Rattle.std.specs.Prelude.{filter}
 use Rattle.std.proofs.lemmas.List.{get_or-drop, length-drop}
 use Rattle.std.proofs.lemmas.Bool.{cases_Bool}
 use Rattle.inv_base.specs.Tree.{Node}
 use Rattle.node_arena.specs.Moves.{tree_node, first_that}
 use Rattle.xpath_walks.specs.Walks.{from_on}
+
+pub right_none : (b : Bool) → (b && false) ≡ false
+right_none true = refl
+right_none false = refl
 
 filter-no : (p : Node → Bool) (node : Node) (nodes : List Node) → p node ≡ false → filter p (node ∷ nodes) ≡ filter p nodes
 filter-no p node nodes e = ap (λ b. cond b (node ∷ filter p nodes) (filter p nodes)) e
@@ -128,6 +132,17 @@ first_from is_so from nodes m counted e =
       is = ap (λ n. is_so (tree_node nodes n)) (sym same) ∙ (sym (at_drop is_so from f.place nodes) ∙ f.is);
       before = λ k a b. sym (place-sum from k 0 nodes is_so a) ∙ (sym (at_drop is_so from (k - from) nodes) ∙ f.before (k - from) (omega (arith, a, b, same)));
     }
+
+pub first_so : (is_so : Node → Bool) (from : ℕ) (nodes : List Node) (next : Option ℕ) → AreCounted nodes → next ≡ first_that is_so (drop from nodes)
+    → IfSome next (λ m. is_so (tree_node nodes m) ≡ true)
+first_so is_so from nodes None counted e = tt
+first_so is_so from nodes (Some m) counted e = (first_from is_so from nodes m counted (sym e)).is
+
+pub none_first : (is_so : Node → Bool) (nodes : List Node) → ((k : ℕ) → k < length nodes → is_so (tree_node nodes k) ≡ false) → None ≡ first_that is_so nodes
+none_first is_so [] h = refl
+none_first is_so (node ∷ nodes) h =
+    none_first is_so nodes (λ k l. h (suc k) (omega (arith, l)))
+    ∙ ap (λ b. option_map (λ (x : Node). x.number) (cond b (Some node) (find is_so nodes))) (sym (h 0 (omega arith)))
 
 pub none_that : (is_so : Node → Bool) (from : ℕ) (nodes : List Node) → first_that is_so (drop from nodes) ≡ None
     → (k : ℕ) → from ≤ k → k < length nodes → is_so (tree_node nodes k) ≡ false

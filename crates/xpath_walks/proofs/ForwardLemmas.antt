@@ -16,7 +16,7 @@ use Rattle.xpath_walks.specs.declared.walk.Way.{Way}
 use Rattle.xpath_walks.specs.declared.walk.Way.TheVariants as w
 use Rattle.xpath_walks.specs.Tests.{is_passed}
 use Rattle.xpath_walks.specs.Walks.{IsWalkable, Adds, node_numbers, is_on_way, is_taken, is_walked, walked, if_so, found_on, found, axis_numbers}
-use Rattle.xpath_walks.proofs.FilterLemmas.{AreCounted, number_is, skip, alike, none_from, one_more, from_first}
+use Rattle.xpath_walks.proofs.FilterLemmas.{AreCounted, right_none, number_is, skip, alike, none_from, one_more, from_first}
 use Rattle.xpath_walks.proofs.WalkLemmas.{numbers-cond, first_is_on}
 
 -- What is wanted is what a walk takes, where it is nothing before the walk's first place.
@@ -272,10 +272,6 @@ nothing b = elim b [ true ↦ reverse [] | false ↦ [] ]
 none_ordered : (b : Bool) → nothing b ≡ []
 none_ordered true = refl
 none_ordered false = refl
-
-right_none : (b : Bool) → (b && false) ≡ false
-right_none true = refl
-right_none false = refl
 
 pub found_is : (nodes : List Node) (axis : Axis) (n : ℕ) (test : Option NodeTest) → found axis nodes n test ≡ axis_numbers nodes axis n test
 found_is nodes axis n (Some test) = refl

@@ -10,8 +10,8 @@ use Rattle.xpath_grammar.specs.declared.step.Axis.{Axis}
 use Rattle.xpath_meaning.specs.Expressions.{NodeTest}
 use Rattle.xpath_walks.specs.declared.walk.Way.{Way}
 use Rattle.xpath_walks.specs.declared.walk.Way.TheVariants as w
-use Rattle.xpath_walks.specs.Walks.{node_numbers, is_on_way, is_taken, is_walked, walked, if_so}
-use Rattle.xpath_walks.proofs.FilterLemmas.{AreCounted, number_is, none_from, one_more, from_first, first_from}
+use Rattle.xpath_walks.specs.Walks.{node_numbers, is_on_way, is_taken, is_walked, walked, if_so, from_on}
+use Rattle.xpath_walks.proofs.FilterLemmas.{AreCounted, right_none, number_is, none_from, one_more, from_first, first_so}
 
 numbered-at : (n : ℕ) (nodes : List Placed) → AreNumbered n nodes → (k : ℕ) → k < length nodes → (node_at nodes k).number ≡ n + k
 numbered-at n [] h k within = absurd (omega (arith, within))
@@ -106,19 +106,24 @@ walked_at way nodes last axis test n number on le =
 pub suc-one : (n : ℕ) → suc n ≡ n + 1
 suc-one n = omega arith
 
+-- one step from node to node of a sort, where only what is of that sort passes
+pub one_step : (p is_so : Node → Bool) (nodes : List Node) (n : ℕ) (next : Option ℕ) → AreCounted nodes → n < length nodes
+    → ((node : Node) → is_so node ≡ false → p node ≡ false) → next ≡ first_that is_so (behind n nodes)
+    → node_numbers (filter p (drop n nodes)) ≡ if_so (p (tree_node nodes n)) n ++ node_numbers (filter p (from_on next nodes))
+one_step p is_so nodes n next counted within only e =
+    ap node_numbers (one_more p n nodes within)
+    ∙ (numbers-cond (p (tree_node nodes n)) (tree_node nodes n) (filter p (drop (suc n) nodes))
+    ∙ (ap (λ m. if_so (p (tree_node nodes n)) m ++ node_numbers (filter p (drop (suc n) nodes))) (counted n within)
+    ∙ (ap (λ m. if_so (p (tree_node nodes n)) n ++ node_numbers (filter p (drop m nodes))) (suc-one n)
+    ∙ ap (λ ns. if_so (p (tree_node nodes n)) n ++ node_numbers ns) (from_first p is_so (n + 1) nodes next counted only e))))
+
 -- one step of a walk
 pub walked_step : (way : Way) (nodes : List Node) (last : ℕ) (axis : Axis) (test : Option NodeTest) (n : ℕ) (next : Option ℕ) → AreCounted nodes → n < length nodes
     → is_on_way way (tree_node nodes n) ≡ true → n ≤ last → next ≡ first_that (is_on_way way) (behind n nodes)
     → walked way nodes (Some n) last axis test ≡ if_so (is_taken way nodes axis test (tree_node nodes n)) n ++ walked way nodes next last axis test
 walked_step way nodes last axis test n next counted within on le e =
-    let p = is_walked way nodes last axis test in
-    ap node_numbers (one_more p n nodes within)
-    ∙ (numbers-cond (p (tree_node nodes n)) (tree_node nodes n) (filter p (drop (suc n) nodes))
-    ∙ (ap (λ m. if_so (p (tree_node nodes n)) m ++ node_numbers (filter p (drop (suc n) nodes))) (counted n within)
-    ∙ (ap (λ b. if_so b n ++ node_numbers (filter p (drop (suc n) nodes))) (walked_at way nodes last axis test n (counted n within) on le)
-    ∙ (ap (λ m. if_so (is_taken way nodes axis test (tree_node nodes n)) n ++ node_numbers (filter p (drop m nodes))) (suc-one n)
-    ∙ ap (λ ns. if_so (is_taken way nodes axis test (tree_node nodes n)) n ++ node_numbers ns)
-    (from_first p (is_on_way way) (n + 1) nodes next counted (not_on way nodes last axis test) e)))))
+    one_step (is_walked way nodes last axis test) (is_on_way way) nodes n next counted within (not_on way nodes last axis test) e
+    ∙ ap (λ b. if_so b n ++ walked way nodes next last axis test) (walked_at way nodes last axis test n (counted n within) on le)
 
 -- its end
 pub walked_past : (way : Way) (nodes : List Node) (last : ℕ) (axis : Axis) (test : Option NodeTest) (n : ℕ) → AreCounted nodes → last < n
@@ -127,16 +132,11 @@ walked_past way nodes last axis test n counted past =
     ap node_numbers (none_from (is_walked way nodes last axis test) n nodes (λ k a b.
     let t = is_taken way nodes axis test (tree_node nodes k) in
     ap (λ c. is_on_way way (tree_node nodes k) && (c && t)) (ap (λ m. nat_le m last) (counted k b) ∙ lt-leb k last (omega (arith, a, past)))
-    ∙ false_right (is_on_way way (tree_node nodes k))))
-  where
-    false_right : (b : Bool) → (b && false) ≡ false
-    false_right true = refl
-    false_right false = refl
+    ∙ right_none (is_on_way way (tree_node nodes k))))
 
 pub first_is_on : (way : Way) (nodes : List Node) (from : ℕ) (next : Option ℕ) → AreCounted nodes → next ≡ first_that (is_on_way way) (drop from nodes)
     → IfSome next (λ m. is_on_way way (tree_node nodes m) ≡ true)
-first_is_on way nodes from None counted e = tt
-first_is_on way nodes from (Some m) counted e = (first_from (is_on_way way) from nodes m counted (sym e)).is
+first_is_on way nodes from next counted e = first_so (is_on_way way) from nodes next counted e
 
 -- what is out before a step and what is to come of it
 pub put_on : (whole before after taken rest old : List ℕ) → after ≡ before ++ taken → rest ≡ taken ++ old → before ++ rest ≡ whole → after ++ old ≡ whole

@@ -1,11 +1,11 @@
 -- Walks over the nodes of a document by its links.
-use Rattle.std.specs.Prelude.{◌≡◌, ℕ, ◌++◌, ◌<◌, ◌^◌, Bool, true, not, ◌&&◌, nat_le, List, [], ◌∷◌, length, map, filter, drop, Option, Some, None, Result, OnOk, if◌then◌else◌}
+use Rattle.std.specs.Prelude.{◌≡◌, ℕ, ◌++◌, ◌<◌, ◌^◌, Bool, true, false, not, ◌&&◌, nat_le, List, [], ◌∷◌, length, map, filter, drop, Option, Some, None, Result, OnOk, if◌then◌else◌}
 use Rattle.inv_base.specs.Tree.{Node, Name}
 use Rattle.node_arena.specs.Document.{Document}
-use Rattle.node_arena.specs.Moves.{tree_nodes, tree_node, is_attribute, is_child, is_attribute_of, is_inside, is_between, last_inside}
+use Rattle.node_arena.specs.Moves.{tree_nodes, tree_node, has_name, is_attribute, is_child, is_attribute_of, is_inside, is_between, last_inside}
 use Rattle.node_arena.specs.Walks.{LeadsOn}
 use Rattle.xpath_grammar.specs.declared.step.Axis.{Axis}
-use Rattle.xpath_meaning.specs.Expressions.{NodeTest}
+use Rattle.xpath_meaning.specs.Expressions.{NodeTest, named}
 use Rattle.xpath_meaning.specs.Axes.{is_on, in_order_of, on_axis}
 use Rattle.xpath_plan.specs.Plans.{test_seen}
 use Rattle.xpath_walks.specs.declared.step.Step.{Step}
@@ -70,6 +70,15 @@ if_so b n = if b then n ∷ [] else []
 abbrev pub Adds : {X E : Type 0} → Document → Step → Result X E → List ℕ → List ℕ → (Option NodeTest → List ℕ) → Type 0
 Adds document step result old new what =
     (names : List Name) → step.numbers.now ≡ numbers_of document.names names → OnOk result (new ≡ old ++ what (test_seen names step.test.now))
+
+-- The node has the expanded name that the test is for.
+abbrev pub has_wanted : Option NodeTest → Node → Bool
+has_wanted (Some (named name)) node = has_name name node
+has_wanted _ node = false
+
+-- what a walk over all nodes takes from one on
+abbrev pub taken_from : List Node → Option ℕ → Axis → Option NodeTest → List ℕ
+taken_from nodes begin axis test = node_numbers (filter (is_taken w.All nodes axis test) (from_on begin nodes))
 
 -- the numbers of the nodes on the first axis that pass on the second, in the order of the first
 abbrev pub found_on : Axis → Axis → List Node → ℕ → Option NodeTest → List ℕ

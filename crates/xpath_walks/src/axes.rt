@@ -16,8 +16,9 @@ use xpath_grammar::step::Axis;
 
 /// Puts behind the others exactly the nodes on the step's axis from a node that pass the step's test, in the order of
 /// the axis (XPath 2.0, section 3.2.1). It goes along the axis by links: besides its nodes over attributes, where the axis
-/// leads through elements that have them, and for `preceding` over what is around the node. Each move takes a step.
-/// Without memory some of the nodes may have been put there.
+/// leads through elements that have them, and for `preceding` over what is around the node. Descendants of the document's
+/// own node by an expanded name it finds along the elements and attributes of that name. Each move takes a step. Without
+/// memory some of the nodes may have been put there.
 pub fn axis_nodes<L: Ledger>(
     doc: &Doc<'_>,
     step: &Step<'_>,

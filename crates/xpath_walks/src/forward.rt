@@ -1,8 +1,9 @@
 //! The axes that lead forward, each in document order (XPath 2.0, section 3.2.1.1).
-ghost use Rattle.std.specs.Prelude.{◌<◌, length};
+ghost use Rattle.std.specs.Prelude.{◌≡◌, ◌<◌, length, IfSome};
 ghost use Rattle.node_arena.specs.Moves.{tree_nodes};
 ghost use Rattle.xpath_walks.specs.Walks.{Adds, found_on};
 
+use crate::chain::all_named;
 use crate::law::documents_are_walkable;
 use crate::step::Step;
 use crate::walk::{Way, take_passing, walk};
@@ -11,6 +12,7 @@ use node_arena::{Doc, NodeId};
 use std::alloc::AllocError;
 use std::sync::ledger::Ledger;
 use xpath_grammar::step::Axis;
+use xpath_plan::work::StepTest;
 
 pub(crate) fn child<L: Ledger>(
     doc: &Doc<'_>,
@@ -64,6 +66,36 @@ pub(crate) fn itself(
 }
 
 pub(crate) fn descendant<L: Ledger>(
+    doc: &Doc<'_>,
+    step: &Step<'_>,
+    from: NodeId,
+    out: &mut Vec<NodeId>,
+    steps: &mut Steps<L>,
+) -> Result<(), AllocError>
+    requires { from < length doc.now.nodes }
+    ensures { Adds doc.now step.now result out.old.items out.new.items (found_on Axis.Descendant step.now.axis (tree_nodes doc.now) from) }
+{
+    match name_in_whole(step, from) {
+        Some(k) => all_named(doc, step, k, out, steps),
+        None => inside(doc, step, from, out, steps),
+    }
+}
+
+/// Which of the plan's names the step looks for from the document's own node, if it wants an expanded name there.
+fn name_in_whole(step: &Step<'_>, from: NodeId) -> Option<usize>
+    ensures { IfSome result (λ k. (from ≡ 0) × (step.now.test.now ≡ StepTest.Named k)) }
+{
+    if from.number() > 0 {
+        return None;
+    }
+    match step.test {
+        StepTest::Named(k) => Some(*k),
+        _ => None,
+    }
+}
+
+/// Descendants by a walk over all that is inside the node.
+fn inside<L: Ledger>(
     doc: &Doc<'_>,
     step: &Step<'_>,
     from: NodeId,

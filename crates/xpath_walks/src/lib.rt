@@ -2,6 +2,7 @@
 #![tactic(auto)]
 
 mod axes;
+mod chain;
 mod forward;
 mod law;
 mod order;

@@ -85,7 +85,7 @@ fn is_named(doc: &Doc<'_>, numbers: &[Option<NameId>], axis: Axis, k: usize, n: 
 }
 
 /// The number of the k-th name.
-fn number_at(numbers: &[Option<NameId>], k: usize) -> Option<NameId>
+pub(crate) fn number_at(numbers: &[Option<NameId>], k: usize) -> Option<NameId>
     ensures { result ≡ get_or numbers.now k None }
 {
     match numbers.get(k) {

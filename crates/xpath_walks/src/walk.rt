@@ -54,7 +54,7 @@ pub(crate) fn walk<L: Ledger>(
 }
 
 /// Puts the node behind the others if it is meant and passes.
-fn take<L: Ledger>(
+pub(crate) fn take<L: Ledger>(
     doc: &Doc<'_>,
     step: &Step<'_>,
     way: &Way,

@@ -1,4 +1,4 @@
-use Rattle.std.proofs.Common.{rules, ◌≡◌, ◌+◌, ◌-◌, List, [], ◌∷◌, ◌++◌, length, drop, reverse, true, false, Ok, Err, sym, ap, ◌∙◌, subst, arith}
+use Rattle.std.proofs.Common.{rules, ◌≡◌, ◌+◌, ◌-◌, List, [], ◌∷◌, ◌++◌, length, drop, reverse, true, false, Ok, Err, IfOk, sym, ap, ◌∙◌, subst, arith}
 use Rattle.node_arena.specs.Moves.{tree_nodes}
 use Rattle.xpath_items.specs.Faults.{Gives}
 use Rattle.xpath_meaning.specs.Resolving.{in_axis_order}
@@ -35,6 +35,11 @@ along_axis-returns-in-Some g t c = record {
 pub evaluate-returns-in-Node-clause-value : goal.evaluate-returns-in-Node-clause-value
 evaluate-returns-in-Node-clause-value g t c = known.value-along c.by_kind.result c.args.ground.now c.args.focus.now c.args.bound.now.items _ _
     (sym (known.seen-at c.args.ground.now.names.now c.args.work.now c.in-Node.kind c.in-Node.parts _ c.in-Node.is c.as_slice-in-Node.ensures)) c.by_kind.ensures.value
+
+pub link_on-returns-in-Some-clause-value : goal.link_on-returns-in-Some-clause-value
+link_on-returns-in-Some-clause-value g t c =
+    let found = c.in-Some.ensures c.args.ground.now.names.now (tree_nodes c.args.ground.now.doc.now) (value c.args.before) (context c.args.ground.now c.args.focus.now c.args.bound.now.items) in
+    subst (λ v. IfOk c.step_inside.result (λ outcome. value outcome ≡ v)) (sym found) c.step_inside.ensures.value
 
 pub link_on-returns-in-Ok-clause-within : goal.link_on-returns-in-Ok-clause-within
 link_on-returns-in-Ok-clause-within g t c = outcome-within _ c.joined_by.result c.outcome.result c.outcome.ensures c.joined_by.ensures.within

@@ -5,7 +5,7 @@ use Rattle.xpath_walks.specs.declared.walk.Way.TheVariants as w
 use Rattle.xpath_walks.specs.Walks.{walked, found_on}
 use Rattle.xpath_walks.proofs.ForwardLemmas.{adds_same, descendant_is}
 use Rattle.xpath_walks.proofs.WalkLemmas.{next_all}
-use Rattle.xpath_walks.proofs.forward.descendant.Goals as goal
+use Rattle.xpath_walks.proofs.forward.inside.Goals as goal
 
 pub returns : goal.returns
 returns g c =

@@ -30,21 +30,21 @@ use Rattle.bind_meaning.specs.Judging.{is_amount}
 use Rattle.bind_meaning.specs.Writing.{context_for, formed, if_due, row_text, term_text, filled as filled_text}
 use Rattle.bind_meaning.specs.Trees.{attribute, document_of, constant_or_text, is_at_element, is_vat_total}
 use Rattle.binding_laws.specs.Apart.{is_at_attribute, holds_none}
-use Rattle.binding_laws.specs.Plain.{has_content, rows_at}
-use Rattle.binding_laws.specs.Covered.{is_or_filler, beside_filler, is_read_back, is_accounting_rule, accounting_terms_of, accounting_terms, are_pair, is_of_pair, is_pair_in, currency_text, is_other_text}
+use Rattle.binding_laws.specs.Plain.{is_whole, has_content, rows_at}
+use Rattle.binding_laws.specs.Covered.{is_or_filler, beside_filler, is_accounting_rule, accounting_terms_of, accounting_terms, are_pair, is_of_pair, is_pair_in, currency_text, is_other_text}
 use Rattle.binding_laws.specs.Faultless.{is_in_invoice_currency, is_no_row}
 use Rattle.binding_laws.specs.Written.{Spot, values_named}
 use Rattle.binding_laws.proofs.TreeLemmas.{Each}
-use Rattle.binding_laws.proofs.ListLemmas.{append-nil, not-true}
+use Rattle.binding_laws.proofs.ListLemmas.{append-nil, not-true, or-either}
 use Rattle.binding_laws.proofs.CellLemmas.{own_text}
-use Rattle.binding_laws.proofs.ReachLemmas.{Among, among-flat_map, own-texts}
-use Rattle.binding_laws.proofs.FormLemmas.{Laws}
+use Rattle.binding_laws.proofs.ReachLemmas.{Among, among-flat_map, own-texts, any-is, all-is, none-is}
+use Rattle.binding_laws.proofs.FormLemmas.{Laws, whole-back}
 use Rattle.binding_laws.proofs.RowLemmas.{Place, places_at, ArePlaced}
 use Rattle.binding_laws.proofs.PlainLemmas.{at-value}
 use Rattle.binding_laws.proofs.PlacedLemmas.{IsTotalThere, IsPair, test-behind, pair-by-test}
 use Rattle.binding_laws.proofs.CurrencyLemmas.{IsCurrency, IsOwnCurrency, AreNamed, AreOwn, currency_at, is_in, in-accounting, accounting-first, accounting-shown, first-currency, not-accounting, currencies-shown}
 use Rattle.binding_laws.proofs.TwinLemmas.{placed-twins, placed-second}
-use Rattle.binding_laws.proofs.CoverLemmas.{Absent, IsTotal, IsSpreadHere, fact-at, full-string, any-is, all-is, none-is, or-either, row-at}
+use Rattle.binding_laws.proofs.CoverLemmas.{Absent, IsTotal, IsSpreadHere, fact-at, full-string, row-at}
 
 -- ---- the currencies
 
@@ -186,7 +186,7 @@ module _ (law : Laws) (rows : List Row) (es : List Entry) (invoice : IsInvoice e
             let form = accounting-form twin.form in
             let black : is_full (spelled v.0) ≡ true =
             ap (λ f. is_full (formed f es root_context v.0)) (sym form)
-            ∙ full-string law rows es invoice twin accounting_currency x (at-value law es invoice accounting_currency root_context v.0 v.1) refl (ap (λ f. is_read_back f v.0) form) in
+            ∙ full-string law rows es invoice twin accounting_currency x (at-value law es invoice accounting_currency root_context v.0 v.1) refl (whole-back es (form_for twin.form accounting_currency) root_context v.0 (ap is_whole form)) in
             let shown = fact-at law rows es invoice twin.path
             (λ (spot : Spot). is_some (row_text twin es spot.context) ≡ true
             → values_named currency_id spot.attributes ≡ values_named currency_id (elim (value_in es accounting_currency root_context) [ None ↦ [] | Some value ↦ attribute currency_id (spelled value) ∷ [] ]))
@@ -218,7 +218,7 @@ module _ (law : Laws) (rows : List Row) (es : List Entry) (invoice : IsInvoice e
       content = p.first.there.content;
       form = p.first.there.form;
       total = inr (own-total main (accounting_terms rows) p.first.term p.rule p.first.there);
-      unfilled = no-filled main (ap is_or_filler p.rule);
+      unfilled = λ filler e. inl (no-filled main (ap is_or_filler p.rule) filler e);
       outer = p.first.there.outer;
       inner = p.first.there.inner;
       context = p.first.there.context;
@@ -249,7 +249,7 @@ module _ (law : Laws) (rows : List Row) (es : List Entry) (invoice : IsInvoice e
         own = λ c own place a full. ap (λ x. is_in c x (currency_at place.spot)) p.twin_rule ∙ accounting-there place a full c own;
         shown = λ other. absurd (false≢true (sym other ∙ ap is_accounting_rule p.twin_rule));
       });
-      unfilled = no-filled twin (ap is_or_filler p.twin_rule);
+      unfilled = λ filler e. inl (no-filled twin (ap is_or_filler p.twin_rule) filler e);
       outer = p.second.there.outer;
       inner = p.second.there.inner;
       context = p.second.there.context;

@@ -2,7 +2,8 @@
 -- written is picked.
 use Rattle.std.proofs.Common.{◌≡◌, ℕ, suc, ◌+◌, Bool, true, false, ◌&&◌, ◌||◌, List, [], ◌∷◌, ◌++◌, map, filter, flat_map, Option, Some, None, ◌⊎◌, inl, inr, refl, sym, ap, ◌∙◌, subst, arith}
 use Rattle.std.specs.Prelude.{if◌then◌else◌, slice_get, is_some, is_none, option_map, find}
-use Rattle.std.specs.List.{list_all, list_any, range_with_len}
+use Rattle.std.specs.List.{list_any, range_with_len}
+use Rattle.std.specs.Str.{bytes_eq}
 use Rattle.std.proofs.lemmas.Bool.{false≢true}
 use Rattle.inv_base.specs.Tree.{Node, size, document_nodes}
 use Rattle.term_table.specs.declared.groups.Group.{Group}
@@ -12,33 +13,36 @@ use Rattle.term_table.specs.Contexts.{root_context, slot_group}
 use Rattle.term_table.specs.SemanticModel.{same_term}
 use Rattle.inv_terms.specs.declared.values.Value.{Value}
 use Rattle.inv_terms.specs.declared.entries.Entry.{Entry}
+use Rattle.inv_terms.specs.Values.{trimmed}
 use Rattle.inv_terms.specs.Listing.{IsInvoice, Fits, value_in, is_at}
 use Rattle.bind_rows.specs.declared.names.Leaf.{Leaf}
 use Rattle.bind_rows.specs.declared.names.Leaf.TheVariants as leaves
 use Rattle.bind_rows.specs.declared.rows.Content.TheVariants as contents
+use Rattle.bind_rows.specs.declared.rows.Form.TheVariants as forms
 use Rattle.bind_rows.specs.declared.rows.Step.{Step}
 use Rattle.bind_rows.specs.declared.rows.Row.{Row}
 use Rattle.bind_rows.specs.declared.rows.Filler.{Filler}
 use Rattle.bind_rows.specs.declared.rows.Written.{Written}
 use Rattle.bind_rows.specs.declared.rows.Written.TheVariants as written
 use Rattle.bind_table.specs.Lines.{Plan, nothing, a_line, plan_of}
-use Rattle.bind_meaning.specs.Values.{said, form_for}
+use Rattle.bind_meaning.specs.Values.{said, subject_code, form_for}
 use Rattle.bind_meaning.specs.Elements.{number, string_at, is_full, attributes_named}
-use Rattle.bind_meaning.specs.Picks.{Pick, has_term, last_of, filled, leaves_of, picks_of_way, ways, nodes_picked}
+use Rattle.bind_meaning.specs.Picks.{Pick, has_term, has_any_term, rows_where, all_picked, is_filler, last_of, filled, leaves_of, picks_of_way, ways, nodes_picked}
 use Rattle.bind_meaning.specs.Currencies.{Currencies, invoice_currency, accounting_currency, is_in_its_currency}
 use Rattle.bind_meaning.specs.Writing.{slot_for, context_for, formed, if_so, if_due, writes_entry, term_text, filled as filled_text}
 use Rattle.bind_meaning.specs.Trees.{spots, spots_of, or_here, written_lines, document_of, is_at_element, is_vat_total}
-use Rattle.binding_laws.specs.Apart.{stands_apart}
+use Rattle.binding_laws.specs.Apart.{Known, unknown, stands_apart}
 use Rattle.binding_laws.specs.Plain as plain
-use Rattle.binding_laws.specs.Plain.{is_in_groups, groups_of, is_of_one_term, is_by_value, IsPlain, IsPlainAttribute, IsSpread, IsSpreadAttribute, rows_at, is_written_by}
-use Rattle.binding_laws.specs.Covered.{beside_filler, is_read_back, is_accounting_rule}
+use Rattle.binding_laws.specs.Plain.{is_in_groups, groups_of, is_of_one_term, is_by_value, IsPlainThere, IsPlainAttributeThere, IsSpreadWith, IsSpread, IsSpreadAttribute, rows_at, is_written_by}
+use Rattle.binding_laws.specs.Covered.{beside_filler, is_accounting_rule}
 use Rattle.binding_laws.specs.Written.{Spot, written_at, values_named}
 use Rattle.binding_laws.proofs.TreeLemmas.{Each}
 use Rattle.binding_laws.proofs.ListLemmas.{append-nil, both-true}
 use Rattle.binding_laws.proofs.CellLemmas.{own_text, own_strings}
 use Rattle.binding_laws.proofs.ReachLemmas.{Among, among-front, among-back, among-split, among-flat_map, among-filter, among-map, own-texts, Leads, reached}
-use Rattle.binding_laws.proofs.FormLemmas.{Laws, whole-back, back-as}
-use Rattle.binding_laws.proofs.RowLemmas.{Place, places_at, places-spots, IsAt, ArePlaced, placed-at, ends_at, spot-strings, string-ends}
+use Rattle.binding_laws.proofs.KnownLemmas.{Knows, knows-nothing}
+use Rattle.binding_laws.proofs.FormLemmas.{Laws, code_said, IsBack, whole-back, back-as}
+use Rattle.binding_laws.proofs.RowLemmas.{Place, places_at, places-spots, IsAt, ArePlaced, placed-known, placed-at, ends_at, spot-strings, string-ends}
 use Rattle.binding_laws.proofs.ValueLemmas as values
 use Rattle.binding_laws.proofs.PlainLemmas as plain_rows
 use Rattle.binding_laws.proofs.PlainLemmas.{IsReachable, reaches, written-groups, no-slot, groups-are, fits-among, at-value, own-value, contexts, value_text, text-as, written-some, written-spot}
@@ -52,7 +56,7 @@ use Rattle.binding_laws.proofs.TotalLemmas.{amount-of}
 
 -- ---- lists
 
-among-one : {X : Type 0} (x : X) (p : X → Bool) (y : X) → Among y (if p x then x ∷ [] else []) → (x ≡ y) × (p x ≡ true)
+pub among-one : {X : Type 0} (x : X) (p : X → Bool) (y : X) → Among y (if p x then x ∷ [] else []) → (x ≡ y) × (p x ≡ true)
 among-one x p y a = go (p x) refl a
   where
     go : (b : Bool) → p x ≡ b → Among y (if b then x ∷ [] else []) → (x ≡ y) × (p x ≡ true)
@@ -148,6 +152,11 @@ module _ (law : Laws) (rows : List Row) (es : List Entry) (invoice : IsInvoice e
   pub own-among : (front own back : List Place) (place : Place) → Among place own → Among place (front ++ (own ++ back))
   own-among front own back place a = among-back place front (own ++ back) (among-front place own back a)
 
+  -- the value stands, and no value of the term is the filler
+  pub record IsKept (row : Row) (term : Term) (filler : Filler) : Type 0 where
+    pub stands : is_some (value_in es term root_context) ≡ true
+    pub other : (e : Entry) → Among e es → e.term ≡ term → bytes_eq (trimmed (formed (form_for row.form term) es e.context e.value)) filler.text ≡ false
+
   -- a spread row of the term, whose filler doesn't stand if it has one
   pub record IsSpreadHere (row : Row) (term : Term) : Type 0 where
     pub front : List Place
@@ -159,10 +168,14 @@ module _ (law : Laws) (rows : List Row) (es : List Entry) (invoice : IsInvoice e
     pub content : row.content ≡ contents.Term term
     pub form : is_of_one_term (form_for row.form term) ≡ true
     pub total : (is_vat_total row.written ≡ false) ⊎ IsTotal row
-    pub unfilled : (filler : Filler) → row.written ≡ written.OrFiller filler → Absent es filler.beside
+    pub unfilled : (filler : Filler) → row.written ≡ written.OrFiller filler → Absent es filler.beside ⊎ IsKept row term filler
     pub outer : row.outer ≡ None
     pub inner : row.inner ≡ None
     pub context : plain.stands_there term None None ≡ true
+
+  -- Where the row writes subject codes in front of its values, no row has their term.
+  abbrev pub HasCodes : Row → Term → Type 0
+  HasCodes row term = form_for row.form term ≡ forms.CodedNote → list_any (has_term subject_code) rows ≡ false
 
   -- a row that picks values of its term alone, and those that it writes; its path may lead to the elements of another row
   -- too, before its own or behind them
@@ -173,16 +186,17 @@ module _ (law : Laws) (rows : List Row) (es : List Entry) (invoice : IsInvoice e
     pub strange : (place : Place) → Among place front ⊎ Among place back → IsStrange row place
     pub content : row.content ≡ contents.Term term
     pub total : (is_vat_total row.written ≡ false) ⊎ IsTotal row
-    pub unfilled : (filler : Filler) → row.written ≡ written.OrFiller filler → Absent es filler.beside
+    pub unfilled : (filler : Filler) → row.written ≡ written.OrFiller filler → Absent es filler.beside ⊎ IsKept row term filler
     pub through : (g : Group) → row.outer ≡ Some g → groups_of row.path ≡ plain.listed row.outer ++ plain.listed row.inner
     pub nested : (is_some row.outer || is_none row.inner) ≡ true
     pub single : (place : Place) → Among place (places_at rows es row.path) → is_short (spot-strings row.leaf place.spot) ≡ true
+    pub codes : HasCodes row term
     pub writes : Context → Bool
     pub says : (place : Place) → Among place (places_at rows es row.path) → (string : List ℕ) → Among string (spot-strings row.leaf place.spot) → SaysEntry row term place.spot.context string
-    pub reaches : (e : Entry) → Among e es → e.term ≡ term → is_read_back (form_for row.form term) e.value ≡ true → writes e.context ≡ true → IsReached row term e
+    pub reaches : (e : Entry) → Among e es → e.term ≡ term → IsBack es (form_for row.form term) e.context e.value → writes e.context ≡ true → IsReached row term e
 
   -- what is written of a value is what the row's rule lets pass
-  due-of : (row : Row) (term : Term) (content : row.content ≡ contents.Term term) (unfilled : (x : Context) → filled_text row.written es x ≡ None) (d c : Context) (v : Value) → context_for row d ≡ c → value_in es term c ≡ Some v
+  due-of : (row : Row) (term : Term) (content : row.content ≡ contents.Term term) (unfilled : (x : Context) → values.IsUnfilled es row term (context_for row x)) (d c : Context) (v : Value) → context_for row d ≡ c → value_in es term c ≡ Some v
       → writes_entry row es d ≡ true → is_some (if_due row.written es term c (formed (form_for row.form term) es c v)) ≡ true
   due-of row term content unfilled d c v at is w =
       sym (ap is_some (values.written-as es row term content unfilled d
@@ -205,7 +219,7 @@ module _ (law : Laws) (rows : List Row) (es : List Entry) (invoice : IsInvoice e
       let v = of-map (λ (q : Place). q.spot) w.0 (places_at rows es path) (subst (Among w.0) (sym (places-spots es (plan_of rows) path false root_context 1)) w.1.0) in
       (v.0, (v.1.0, ap (λ (spot : Spot). spot.context) v.1.1 ∙ w.1.1))
 
-  pub full-string : (row : Row) (term : Term) (e : Entry) → Among e es → e.term ≡ term → is_read_back (form_for row.form term) e.value ≡ true → is_full (formed (form_for row.form term) es e.context e.value) ≡ true
+  pub full-string : (row : Row) (term : Term) (e : Entry) → Among e es → e.term ≡ term → IsBack es (form_for row.form term) e.context e.value → is_full (formed (form_for row.form term) es e.context e.value) ≡ true
   full-string row term e a t back =
       (back-as law row.form term es e.context e.value back (subst (λ x. Fits x e.value) t (fits-among law es invoice term e es invoice.fit a))).full
 
@@ -216,12 +230,12 @@ module _ (law : Laws) (rows : List Row) (es : List Entry) (invoice : IsInvoice e
   unfolding spot-strings
   short-at row leaf place = ap (λ l. is_short (spot-strings l place.spot)) leaf ∙ short-filter is_full place.spot.text
 
-  pub plain-covers : (row : Row) (term : Term) → IsPlain rows row term → Covers row term
+  pub plain-covers : (row : Row) (term : Term) → IsPlainThere rows row term → ArePlaced nodes es row.path (places_at rows es row.path) → HasCodes row term → Covers row term
   unfolding spot-strings
-  plain-covers row term p = record {
+  plain-covers row term p placed codes = record {
     front = [];
     back = [];
-    placed = only-own row.path (places_at rows es row.path) (placed-at rows es row.path p.apart);
+    placed = only-own row.path (places_at rows es row.path) placed;
     strange = no-strange row;
     content = p.content;
     total = inl (no-total row.written p.by_value);
@@ -229,6 +243,7 @@ module _ (law : Laws) (rows : List Row) (es : List Entry) (invoice : IsInvoice e
     through = λ g o. p.through;
     nested = p.nested;
     single = λ place a. short-at row p.leaf place;
+    codes = codes;
     writes = λ c. is_written_by row term es c;
     says = says_so;
     reaches = reaches_it;
@@ -263,7 +278,7 @@ module _ (law : Laws) (rows : List Row) (es : List Entry) (invoice : IsInvoice e
                 term_is = refl;
                 there = λ g o. refl;
                 string_is = sym w.0 ∙ (text ∙ ap (value_text law rows es invoice row term p place.spot.context) v.1);
-                due = due-of row term p.content (values.by-value es row.written p.by_value) place.spot.context place.spot.context v.0
+                due = due-of row term p.content (values.by-value es row term p.by_value) place.spot.context place.spot.context v.0
                     (fact-at row.path (λ (spot : Spot). context_for row spot.context ≡ spot.context) (contexts law rows es invoice row term p).own place a) v.1
                     (both-true (is_some (value_in es term place.spot.context)) (writes_entry row es place.spot.context) (both-true (is_in_groups row place.spot.context) _ k).1).1;
                 outer = at.0;
@@ -271,7 +286,7 @@ module _ (law : Laws) (rows : List Row) (es : List Entry) (invoice : IsInvoice e
               }
           go false k text w = absurd (false≢true (sym (ap is_full text) ∙ w.1))
 
-      reaches_it : (e : Entry) → Among e es → e.term ≡ term → is_read_back (form_for row.form term) e.value ≡ true → is_written_by row term es e.context ≡ true → IsReached row term e
+      reaches_it : (e : Entry) → Among e es → e.term ≡ term → IsBack es (form_for row.form term) e.context e.value → is_written_by row term es e.context ≡ true → IsReached row term e
       reaches_it e a t back w =
           let q = place-in row.path e.context (written-spot law rows es invoice row term p e.context w) in
           let value : value_in es term e.context ≡ Some e.value = ap (λ x. value_in es x e.context) (sym t) ∙ own-value es e invoice.listed a in
@@ -289,14 +304,14 @@ module _ (law : Laws) (rows : List Row) (es : List Entry) (invoice : IsInvoice e
             inner = at.1;
           }
 
-  pub plain-writes : (row : Row) (term : Term) (p : IsPlain rows row term) (c : Context) → is_written_by row term es c ≡ true → (plain-covers row term p).writes c ≡ true
+  pub plain-writes : (row : Row) (term : Term) (p : IsPlainThere rows row term) (placed : ArePlaced nodes es row.path (places_at rows es row.path)) (codes : HasCodes row term) (c : Context) → is_written_by row term es c ≡ true → (plain-covers row term p placed codes).writes c ≡ true
   unfolding plain-covers
-  plain-writes row term p c h = h
+  plain-writes row term p placed codes c h = h
 
   -- ---- at elements in which a value of the whole invoice is written
 
   -- the context of such a row lies in no group
-  cut-at-root : (row : Row) → row.outer ≡ None → row.inner ≡ None → (d : Context) → context_for row d ≡ root_context
+  pub cut-at-root : (row : Row) → row.outer ≡ None → row.inner ≡ None → (d : Context) → context_for row d ≡ root_context
   cut-at-root row o i d = λ z. record { outer = slot_for (o z) d.outer; inner = slot_for (i z) d.inner }
 
   some-value : (o : Option Value) → is_some o ≡ true → (v : Value) × (o ≡ Some v)
@@ -320,25 +335,28 @@ module _ (law : Laws) (rows : List Row) (es : List Entry) (invoice : IsInvoice e
       (w.0, (b.0, b.1, w.1))
 
   -- no filler stands in place of its value
-  spread-unfilled : (row : Row) (term : Term) → IsSpreadHere row term → (c : Context) → filled_text row.written es c ≡ None
-  spread-unfilled row term p c = go row.written refl
+  spread-unfilled : (row : Row) (term : Term) → IsSpreadHere row term → (d : Context) → values.IsUnfilled es row term (context_for row d)
+  spread-unfilled row term p d = go row.written refl
     where
-      go : (rule : Written) → row.written ≡ rule → filled_text rule es c ≡ None
-      go written.Always e = refl
-      go written.Never e = refl
-      go written.IfIban e = refl
-      go written.IfNotIban e = refl
-      go written.IfScheme e = refl
-      go written.IfNoScheme e = refl
-      go (written.OrFiller filler) e = ap (λ o. if_so (is_some o) filler.text) (no-value es filler.beside (p.unfilled filler e) c)
-      go written.VatTotal e = refl
-      go written.AccountingVatTotal e = refl
+      go : (rule : Written) → row.written ≡ rule → (filled_text rule es (context_for row d) ≡ None) ⊎ (is_some (value_in es term (context_for row d)) ≡ true)
+      go written.Always e = inl refl
+      go written.Never e = inl refl
+      go written.IfIban e = inl refl
+      go written.IfNotIban e = inl refl
+      go written.IfScheme e = inl refl
+      go written.IfNoScheme e = inl refl
+      go (written.OrFiller filler) e = elim (p.unfilled filler e) [
+        | inl absent ↦ inl (ap (λ o. if_so (is_some o) filler.text) (no-value es filler.beside absent (context_for row d)))
+        | inr kept ↦ inr (ap (λ c. is_some (value_in es term c)) (cut-at-root row p.outer p.inner d) ∙ kept.stands)
+      ]
+      go written.VatTotal e = inl refl
+      go written.AccountingVatTotal e = inl refl
 
-  pub spread-here : (row : Row) (term : Term) → IsSpread rows row term → IsSpreadHere row term
-  spread-here row term p = record {
+  pub spread-known : (known : Known) → Knows known es root_context → (row : Row) (term : Term) → IsSpreadWith known rows row term → IsSpreadHere row term
+  spread-known known knows row term p = record {
     front = [];
     back = [];
-    placed = only-own row.path (places_at rows es row.path) (placed-at rows es row.path p.apart);
+    placed = only-own row.path (places_at rows es row.path) (placed-known known rows es row.path knows p.apart);
     strange = no-strange row;
     own = p.own;
     leaf = p.leaf;
@@ -350,6 +368,9 @@ module _ (law : Laws) (rows : List Row) (es : List Entry) (invoice : IsInvoice e
     inner = p.inner;
     context = p.context;
   }
+
+  pub spread-here : (row : Row) (term : Term) → IsSpread rows row term → IsSpreadHere row term
+  spread-here row term p = spread-known unknown (knows-nothing es root_context) row term p
 
   -- what a spread row writes at its elements
   spread-text : (row : Row) (term : Term) (p : IsSpreadHere row term) (place : Place) → Among place (places_at rows es row.path)
@@ -394,7 +415,7 @@ module _ (law : Laws) (rows : List Row) (es : List Entry) (invoice : IsInvoice e
       let at = groups-are e term None None t (plain_rows.placed-at law es invoice term e a) stands in
       (λ i. record { outer = (no-slot e.context.outer at.0) i; inner = (no-slot e.context.inner at.1) i })
 
-  root-value : (e : Entry) → Among e es → e.context ≡ root_context → (term : Term) → e.term ≡ term → value_in es term root_context ≡ Some e.value
+  pub root-value : (e : Entry) → Among e es → e.context ≡ root_context → (term : Term) → e.term ≡ term → value_in es term root_context ≡ Some e.value
   root-value e a root term t = ap (value_in es term) (sym root) ∙ (ap (λ x. value_in es x e.context) (sym t) ∙ own-value es e invoice.listed a)
 
   pair-of : {x y : Bool} → x ≡ true → y ≡ true → (x && y) ≡ true
@@ -413,6 +434,7 @@ module _ (law : Laws) (rows : List Row) (es : List Entry) (invoice : IsInvoice e
     through = λ g o. absurd (let z : ◌≡◌ {A = Option Group} None (Some g) = sym p.outer ∙ o in cc);
     nested = (λ i. is_some (p.outer i) || is_none (p.inner i));
     single = λ place a. short-at row p.leaf place;
+    codes = λ e. absurd (false≢true (sym (ap is_of_one_term e) ∙ p.form));
     writes = λ c. is_written_by row term es c;
     says = says_so;
     reaches = reaches_it;
@@ -446,7 +468,7 @@ module _ (law : Laws) (rows : List Row) (es : List Entry) (invoice : IsInvoice e
               }
           go false k text w = absurd (false≢true (sym (ap is_full text) ∙ w.1))
 
-      reaches_it : (e : Entry) → Among e es → e.term ≡ term → is_read_back (form_for row.form term) e.value ≡ true → is_written_by row term es e.context ≡ true → IsReached row term e
+      reaches_it : (e : Entry) → Among e es → e.term ≡ term → IsBack es (form_for row.form term) e.context e.value → is_written_by row term es e.context ≡ true → IsReached row term e
       reaches_it e a t back w =
           let root : e.context ≡ root_context = root-entry term p.context e a t in
           let value : value_in es term root_context ≡ Some e.value = root-value e a root term t in
@@ -486,7 +508,7 @@ module _ (law : Laws) (rows : List Row) (es : List Entry) (invoice : IsInvoice e
       go true (Some v) = short-filter is_full (formed (form_for row.form term) es c v)
       go false o = refl
 
-  pub part-values : (row : Row) (term : Term) (main : Row) (main_term : Term) (p : IsPlainAttribute rows row term main main_term) (place : Place) → Among place (places_at rows es main.path)
+  pub part-values : (row : Row) (term : Term) (main : Row) (main_term : Term) (p : IsPlainAttributeThere rows row term main main_term) (place : Place) → Among place (places_at rows es main.path)
       → values_named p.local place.spot.attributes ≡ value_strings_of row term place.spot.context (value_in es term place.spot.context)
   part-values row term main main_term p place a =
       fact-at main.path (λ (spot : Spot). values_named p.local spot.attributes ≡ own_strings es spot.context row) (own-values p.local p.other es row (plan_of rows) main.path false root_context p.own) place a
@@ -494,12 +516,12 @@ module _ (law : Laws) (rows : List Row) (es : List Entry) (invoice : IsInvoice e
       ∙ ap (λ c. value_strings_of row term c (value_in es term c))
       (fact-at main.path (λ (spot : Spot). context_for main spot.context ≡ spot.context) (contexts law rows es invoice main main_term p.beside).own place a))
 
-  pub attribute-covers : (row : Row) (term : Term) (main : Row) (main_term : Term) → IsPlainAttribute rows row term main main_term → Covers row term
+  pub attribute-covers : (row : Row) (term : Term) (main : Row) (main_term : Term) → IsPlainAttributeThere rows row term main main_term → ArePlaced nodes es main.path (places_at rows es main.path) → Covers row term
   unfolding spot-strings
-  attribute-covers row term main main_term p = record {
+  attribute-covers row term main main_term p placed = record {
     front = [];
     back = [];
-    placed = only-own row.path (places_at rows es row.path) (placed-at rows es row.path (ap (stands_apart rows) p.path ∙ p.beside.apart));
+    placed = only-own row.path (places_at rows es row.path) (subst (λ path. ArePlaced nodes es path (places_at rows es path)) (sym p.path) placed);
     strange = no-strange row;
     content = p.content;
     total = inl (ap is_vat_total p.written);
@@ -507,6 +529,7 @@ module _ (law : Laws) (rows : List Row) (es : List Entry) (invoice : IsInvoice e
     through = λ g o. ap groups_of p.path ∙ (p.beside.through ∙ (λ i. plain.listed ((sym p.outer) i) ++ plain.listed ((sym p.inner) i)));
     nested = (λ i. is_some (p.outer i) || is_none (p.inner i)) ∙ p.beside.nested;
     single = λ place a. short-beside row term p.local p.leaf place place.spot.context (values-at place a);
+    codes = λ e. absurd (false≢true (sym (ap plain.is_whole e) ∙ p.form));
     writes = λ c. is_written_by main main_term es c;
     says = says_so;
     reaches = reaches_it;
@@ -559,7 +582,7 @@ module _ (law : Laws) (rows : List Row) (es : List Entry) (invoice : IsInvoice e
           }
           go at (Some v) k (inr m) = absurd m
 
-      reaches_it : (e : Entry) → Among e es → e.term ≡ term → is_read_back (form_for row.form term) e.value ≡ true → is_written_by main main_term es e.context ≡ true → IsReached row term e
+      reaches_it : (e : Entry) → Among e es → e.term ≡ term → IsBack es (form_for row.form term) e.context e.value → is_written_by main main_term es e.context ≡ true → IsReached row term e
       reaches_it e a t back w =
           let q = place-in main.path e.context (written-spot law rows es invoice main main_term p.beside e.context w) in
           let there : Among q.0 (places_at rows es row.path) = subst (λ x. Among q.0 (places_at rows es x)) (sym p.path) q.1.0 in
@@ -577,10 +600,10 @@ module _ (law : Laws) (rows : List Row) (es : List Entry) (invoice : IsInvoice e
             inner = at.1;
           }
 
-  pub attribute-writes : (row : Row) (term : Term) (main : Row) (main_term : Term) (p : IsPlainAttribute rows row term main main_term) (c : Context) → is_written_by main main_term es c ≡ true
-      → (attribute-covers row term main main_term p).writes c ≡ true
+  pub attribute-writes : (row : Row) (term : Term) (main : Row) (main_term : Term) (p : IsPlainAttributeThere rows row term main main_term) (placed : ArePlaced nodes es main.path (places_at rows es main.path)) (c : Context)
+      → is_written_by main main_term es c ≡ true → (attribute-covers row term main main_term p placed).writes c ≡ true
   unfolding attribute-covers
-  attribute-writes row term main main_term p c h = h
+  attribute-writes row term main main_term p placed c h = h
 
   -- ---- at attributes of elements in which a value of the whole invoice is written
 
@@ -597,6 +620,7 @@ module _ (law : Laws) (rows : List Row) (es : List Entry) (invoice : IsInvoice e
     through = λ g o. absurd (let z : ◌≡◌ {A = Option Group} None (Some g) = sym p.outer ∙ o in cc);
     nested = (λ i. is_some (p.outer i) || is_none (p.inner i));
     single = λ place a. short-beside row term p.local p.leaf place root_context (values-at place a);
+    codes = λ e. absurd (false≢true (sym (ap plain.is_whole e) ∙ p.form));
     writes = λ c. is_written_by main main_term es c;
     says = says_so;
     reaches = reaches_it;
@@ -608,16 +632,16 @@ module _ (law : Laws) (rows : List Row) (es : List Entry) (invoice : IsInvoice e
       values-at : (place : Place) → Among place (places_at rows es row.path) → values_named p.local place.spot.attributes ≡ value_strings_of row term root_context (value_in es term root_context)
       values-at place a =
           fact-at main.path (λ (spot : Spot). values_named p.local spot.attributes ≡ own_strings es spot.context row) (own-values p.local p.other es row (plan_of rows) main.path false root_context p.own) place (at-main place a)
-          ∙ (values.strings-as es row term p.content (values.by-value es row.written (ap is_by_value p.written)) p.written place.spot.context
+          ∙ (values.strings-as es row term p.content (values.by-value es row term (ap is_by_value p.written)) p.written place.spot.context
           ∙ ap (λ c. value_strings_of row term c (value_in es term c)) (cut-at-root row p.outer p.inner place.spot.context))
 
       full-main : (place : Place) → Among place (places_at rows es row.path) → (v : Value) → value_in es main_term root_context ≡ Some v → writes_entry main es place.spot.context ≡ true → is_full place.spot.text ≡ true
       full-main place a v e w =
           let x : Entry = record { context = root_context; term = main_term; value = v } in
           ap is_full (spread-text main main_term (spread-here main main_term p.beside) place (at-main place a)
-          ∙ (ap (λ b. elim b [ true ↦ values.value_text es main main_term p.beside.content (values.by-value es main.written p.beside.by_value) root_context (value_in es main_term root_context) | false ↦ [] ]) (pair-of (ap is_some e) w)
-          ∙ ap (values.value_text es main main_term p.beside.content (values.by-value es main.written p.beside.by_value) root_context) e))
-          ∙ full-string main main_term x (at-value law es invoice main_term root_context v e) refl (whole-back (form_for main.form main_term) v p.main_form)
+          ∙ (ap (λ b. elim b [ true ↦ values.value_text es main main_term p.beside.content (values.by-value es main main_term p.beside.by_value) root_context (value_in es main_term root_context) | false ↦ [] ]) (pair-of (ap is_some e) w)
+          ∙ ap (values.value_text es main main_term p.beside.content (values.by-value es main main_term p.beside.by_value) root_context) e))
+          ∙ full-string main main_term x (at-value law es invoice main_term root_context v e) refl (whole-back es (form_for main.form main_term) root_context v p.main_form)
 
       of-strings : (spot : Spot) (string : List ℕ) → Among string (spot-strings row.leaf spot) → Among string (values_named p.local spot.attributes)
       of-strings spot string a = go (is_full spot.text) (subst (λ leaf. Among string (spot-strings leaf spot)) p.leaf a)
@@ -648,7 +672,7 @@ module _ (law : Laws) (rows : List Row) (es : List Entry) (invoice : IsInvoice e
           }
           go (Some v) k (inr m) = absurd m
 
-      reaches_it : (e : Entry) → Among e es → e.term ≡ term → is_read_back (form_for row.form term) e.value ≡ true → is_written_by main main_term es e.context ≡ true → IsReached row term e
+      reaches_it : (e : Entry) → Among e es → e.term ≡ term → IsBack es (form_for row.form term) e.context e.value → is_written_by main main_term es e.context ≡ true → IsReached row term e
       reaches_it e a t back w =
           let both = both-true (is_some (value_in es main_term e.context)) (writes_entry main es e.context) (both-true (is_in_groups main e.context) _ w).1 in
           let v = some-value (value_in es main_term e.context) both.0 in
@@ -693,13 +717,13 @@ module _ (law : Laws) (rows : List Row) (es : List Entry) (invoice : IsInvoice e
     pub context : picked.entry.context ≡ e.context
     pub string_is : string_at nodes pick.node ≡ formed (form_for row.form term) es e.context e.value
     pub due : is_some (if_due row.written es term e.context (formed (form_for row.form term) es e.context e.value)) ≡ true
-    pub says : said row.form term (string_at nodes pick.node) ≡ record { term = term; value = Some e.value } ∷ []
+    pub says : said row.form term (string_at nodes pick.node) ≡ record { term = term; value = Some e.value } ∷ code_said (form_for row.form term) es e.context
     pub at : IsAt nodes es picked.place
     pub leaf : Among pick.node (leaves_of nodes row.leaf (last_of picked.place.way))
 
-  -- a pick of a VAT total that isn't in the currency of its row
+  -- a pick of a VAT total that isn't in the currency of its row, or one of a filler
   pub record IsNotTold (pick : Pick) : Type 0 where
-    pub out : (c : Currencies) → AreOwn rows es c → is_in_its_currency nodes c pick ≡ false
+    pub out : ((c : Currencies) → AreOwn rows es c → is_in_its_currency nodes c pick ≡ false) ⊎ (is_filler nodes (all_picked nodes (rows_where has_any_term rows)) pick ≡ true)
     pub no_money : (has_term invoice_currency pick.row || has_term accounting_currency pick.row) ≡ false
     pub beside : (term : Term) → Among term (flat_map beside_filler rows) → has_term term pick.row ≡ false
 
@@ -707,10 +731,10 @@ module _ (law : Laws) (rows : List Row) (es : List Entry) (invoice : IsInvoice e
       → IsNotTold (record { place = k; row = row; elements = way; node = n })
   strange-pick k row way place at n leaf s =
       let m = amount-of nodes es place at n (subst (λ l. Among n (leaves_of nodes l (last_of place.way))) s.leaf leaf) in
-      record { out = λ c own. ap (is_in c row.written) m.0 ∙ s.out c own m.1; no_money = s.no_money; beside = s.beside }
+      record { out = inl (λ c own. ap (is_in c row.written) m.0 ∙ s.out c own m.1); no_money = s.no_money; beside = s.beside }
 
-  said-as : (row : Row) (term : Term) (e : Entry) → Among e es → e.term ≡ term → is_read_back (form_for row.form term) e.value ≡ true → (string : List ℕ) → string ≡ formed (form_for row.form term) es e.context e.value
-      → said row.form term string ≡ record { term = term; value = Some e.value } ∷ []
+  said-as : (row : Row) (term : Term) (e : Entry) → Among e es → e.term ≡ term → IsBack es (form_for row.form term) e.context e.value → (string : List ℕ) → string ≡ formed (form_for row.form term) es e.context e.value
+      → said row.form term string ≡ record { term = term; value = Some e.value } ∷ code_said (form_for row.form term) es e.context
   said-as row term e a t back string is =
       ap (said row.form term) is ∙ (back-as law row.form term es e.context e.value back (subst (λ x. Fits x e.value) t (fits-among law es invoice term e es invoice.fit a))).said
 
@@ -718,7 +742,7 @@ module _ (law : Laws) (rows : List Row) (es : List Entry) (invoice : IsInvoice e
   strings-at row place at =
       string-ends nodes row.leaf at.above (last_of place.way) at.name place.spot.attributes place.spot.text at.more at.lies place.spot refl refl
 
-  pub of-picked : (k : ℕ) (row : Row) (term : Term) → Covers row term → ((e : Entry) → Among e es → e.term ≡ term → is_read_back (form_for row.form term) e.value ≡ true) → (pick : Pick) → Among pick (nodes_picked nodes k row)
+  pub of-picked : (k : ℕ) (row : Row) (term : Term) → Covers row term → ((e : Entry) → Among e es → e.term ≡ term → IsBack es (form_for row.form term) e.context e.value) → (pick : Pick) → Among pick (nodes_picked nodes k row)
       → IsTold pick row term ⊎ IsNotTold pick
   unfolding ends_at
   of-picked k row term cover good pick a =
@@ -778,7 +802,8 @@ module _ (law : Laws) (rows : List Row) (es : List Entry) (invoice : IsInvoice e
     pub node : Among pick.node (map number nodes)
     pub picked : IsPicked rows es invoice pick
     pub context : picked.entry.context ≡ e.context
-    pub says : said row.form term (string_at nodes pick.node) ≡ record { term = term; value = Some e.value } ∷ []
+    pub string_is : string_at nodes pick.node ≡ formed (form_for row.form term) es e.context e.value
+    pub says : said row.form term (string_at nodes pick.node) ≡ record { term = term; value = Some e.value } ∷ code_said (form_for row.form term) es e.context
 
   node-there : (path : List Step) (place : Place) → Among place (places_at rows es path) → Among (last_of place.way) (map number nodes)
   unfolding long
@@ -802,7 +827,7 @@ module _ (law : Laws) (rows : List Row) (es : List Entry) (invoice : IsInvoice e
       among-number x k b = let w = of-map number k (filter (Rattle.bind_meaning.specs.Elements.both (Rattle.node_arena.specs.Moves.is_attribute_of x) (Rattle.bind_meaning.specs.Names.has_plain_name local)) nodes) b in
           subst (λ y. Among y (map number nodes)) w.1.1 (among-map number w.0 nodes (of-filter-any (Rattle.bind_meaning.specs.Elements.both (Rattle.node_arena.specs.Moves.is_attribute_of x) (Rattle.bind_meaning.specs.Names.has_plain_name local)) w.0 nodes w.1.0).0)
 
-  pub to-picked : (k : ℕ) (row : Row) (term : Term) (cover : Covers row term) (e : Entry) → Among e es → e.term ≡ term → is_read_back (form_for row.form term) e.value ≡ true → cover.writes e.context ≡ true → Reached e row term k
+  pub to-picked : (k : ℕ) (row : Row) (term : Term) (cover : Covers row term) (e : Entry) → Among e es → e.term ≡ term → IsBack es (form_for row.form term) e.context e.value → cover.writes e.context ≡ true → Reached e row term k
   unfolding ends_at
   to-picked k row term cover e a t back w =
       let r = cover.reaches e a t back w in
@@ -834,40 +859,11 @@ module _ (law : Laws) (rows : List Row) (es : List Entry) (invoice : IsInvoice e
           through = cover.through;
         };
         context = refl;
+        string_is = v.1.1;
         says = said-as row term e a t back (string_at nodes v.0) v.1.1;
       }
 
 -- ---- rows of a table
-
-pub any-is : {X : Type 0} (p : X → Bool) (xs : List X) → list_any p xs ≡ true → (x : X) × (Among x xs × (p x ≡ true))
-any-is p [] h = absurd (false≢true h)
-any-is {X = X} p (y ∷ xs) h = go (any-is p xs) (p y) refl h
-  where
-    go : (list_any p xs ≡ true → (x : X) × (Among x xs × (p x ≡ true))) → (b : Bool) → p y ≡ b → (b || list_any p xs) ≡ true → (x : X) × (((y ≡ x) ⊎ Among x xs) × (p x ≡ true))
-    go later true e k = (y, (inl refl, e))
-    go later false e k = let w = later k in (w.0, (inr w.1.0, w.1.1))
-
-pub all-is : {X : Type 0} (p : X → Bool) (xs : List X) (x : X) → list_all p xs ≡ true → Among x xs → p x ≡ true
-all-is p [] x h a = absurd a
-all-is p (y ∷ xs) x h (inl s) = ap p (sym s) ∙ (both-true (p y) (list_all p xs) h).0
-all-is p (y ∷ xs) x h (inr a) = all-is p xs x (both-true (p y) (list_all p xs) h).1 a
-
-pub none-is : {X : Type 0} (p : X → Bool) (xs : List X) (x : X) → list_any p xs ≡ false → Among x xs → p x ≡ false
-none-is p [] x h a = absurd a
-none-is p (y ∷ xs) x h (inl s) = ap p (sym s) ∙ first (p y) (list_any p xs) h
-  where
-    first : (a b : Bool) → (a || b) ≡ false → a ≡ false
-    first true b k = absurd (false≢true (sym k))
-    first false b k = refl
-none-is p (y ∷ xs) x h (inr a) = none-is p xs x (second (p y) (list_any p xs) h) a
-  where
-    second : (a b : Bool) → (a || b) ≡ false → b ≡ false
-    second true b k = absurd (false≢true (sym k))
-    second false b k = k
-
-pub or-either : (a b : Bool) → (a || b) ≡ true → (a ≡ true) ⊎ (b ≡ true)
-or-either true b h = inl refl
-or-either false b h = inr h
 
 pub row-at : (rs : List Row) (row : Row) → Among row rs → (j : ℕ) × (slice_get rs j ≡ Some row)
 row-at [] row a = absurd a

@@ -2,7 +2,7 @@
 use Rattle.std.proofs.Common.{◌≡◌, ℕ, ◌+◌, ◌/◌, ◌%◌, ◌^◌, ◌<◌, zero, suc, Bool, true, false, not, ◌&&◌, List, [], ◌∷◌, ◌++◌, ◌||◌, ◌⊎◌, inl, inr, Option, Some, None, refl, sym, ap, ◌∙◌, subst, arith}
 use Rattle.std.specs.Str.{bytes_eq}
 use Rattle.std.proofs.lemmas.Slice.Eq.{bytes_eq-Decides}
-use Rattle.std.specs.Prelude.{codes, nat_le, if◌then◌else◌, option_map, option_and_then}
+use Rattle.std.specs.Prelude.{codes, ◌==◌, nat_le, if◌then◌else◌, option_map, option_and_then}
 use Rattle.std.specs.List.{list_all, list_any}
 use Rattle.std.proofs.lemmas.Option.{same_Some}
 use Rattle.std.proofs.lemmas.Bool.{false≢true}
@@ -18,11 +18,12 @@ use Rattle.term_table.specs.declared.terms.Letter.{Letter}
 use Rattle.term_table.specs.declared.terms.Letter.TheVariants as letters
 use Rattle.term_table.specs.declared.terms.Term.{Term}
 use Rattle.term_table.specs.declared.contexts.Context.{Context}
+use Rattle.term_table.proofs.SeatLemmas.{same_term_is}
 use Rattle.inv_terms.specs.declared.values.Value.{Value}
 use Rattle.inv_terms.specs.declared.values.Value.TheVariants as values
 use Rattle.inv_terms.specs.declared.entries.Entry.{Entry}
 use Rattle.inv_terms.specs.Values.{is_blank, without_leading, without_trailing, trimmed, identifier_in, value_by, spelled, value_of}
-use Rattle.inv_terms.specs.Listing.{Fits}
+use Rattle.inv_terms.specs.Listing.{Fits, value_in}
 use Rattle.inv_terms.proofs.TrimLemmas.{HasEnds, trimmed-between}
 use Rattle.bind_rows.specs.declared.rows.Form.{Form}
 use Rattle.bind_rows.specs.declared.rows.Form.TheVariants as forms
@@ -31,8 +32,12 @@ use Rattle.bind_meaning.specs.Values.{Image, images, Said, letter_of, by_type, i
 use Rattle.bind_meaning.specs.Elements.{is_full}
 use Rattle.bind_meaning.specs.Writing as writing
 use Rattle.bind_meaning.specs.Writing.{formed}
+use Rattle.binding_laws.proofs.ReachLemmas.{Among}
+use Rattle.binding_laws.proofs.ListLemmas.{not-true}
 use Rattle.binding_laws.specs.Plain.{is_whole}
-use Rattle.binding_laws.specs.Covered.{is_imaged, is_read_back}
+use Rattle.binding_laws.specs.Known.{is_trimmed}
+use Rattle.binding_laws.specs.Covered.{is_subject, is_imaged, is_coded_note, is_read_back}
+use Rattle.binding_laws.specs.Faultless.{is_model}
 
 both : (a b : Bool) → (a && b) ≡ true → (a ≡ true) × (b ≡ true)
 both true b h = (refl, h)
@@ -187,9 +192,16 @@ form-day forms.CodedNote term false s e = absurd (let k : forms.Model ≡ forms.
 
 -- ---- by the form of a row
 
+-- what is said beside the value: a subject code in front of a note
+abbrev pub code_said : Form → List Entry → Context → List Said
+code_said forms.Model es c = []
+code_said forms.PlainDate es c = []
+code_said forms.DueDateTypeCode es c = []
+code_said forms.CodedNote es c = elim (value_in es meaning.subject_code c) [ None ↦ [] | Some code ↦ record { term = meaning.subject_code; value = Some code } ∷ [] ]
+
 -- what is written of a value says that value, and isn't blank
 pub record ReadsAs (form : Form) (term : Term) (es : List Entry) (c : Context) (value : Value) : Type 0 where
-  pub said : said_in form term (formed form es c value) ≡ record { term = term; value = Some value } ∷ []
+  pub said : said_in form term (formed form es c value) ≡ record { term = term; value = Some value } ∷ code_said form es c
   pub full : is_full (formed form es c value) ≡ true
 
 not-blank : (text : List ℕ) (f : List ℕ → Option Value) (value : Value) → ((text : List ℕ) → is_blank text ≡ true → f text ≡ None) → f text ≡ Some value → is_full text ≡ true
@@ -222,6 +234,29 @@ code-as-it-is laws term value is f =
     let letter : f.letter ≡ letters.C = same_Some _ _ (sym f.typed.first ∙ is) in
     sym (code-trimmed (spelled value) value (subst (λ l. value_of l (spelled value) ≡ Some value) letter (laws.values f.letter f.text value f.read)))
 
+-- nor has an identifier
+identifier-trimmed : (text : List ℕ) (value : Value) → value_of letters.I text ≡ Some value → spelled value ≡ trimmed text
+unfolding value_of
+identifier-trimmed text value h = go (list_all is_char text) (trimmed text) h
+  where
+    go : (a : Bool) (t : List ℕ) → (if a then option_map values.Identifier (identifier_in t) else None) ≡ Some value → spelled value ≡ t
+    go true (c ∷ t) k = ap spelled (sym (same_Some _ _ k))
+    go true [] k = absurd (let z : ◌≡◌ {A = Option Value} None (Some value) = k in cc)
+    go false t k = absurd (let z : ◌≡◌ {A = Option Value} None (Some value) = k in cc)
+
+pub trimmed-as-it-is : Laws → (term : Term) (value : Value) → is_trimmed (letter_of term) ≡ true → Fits term value → trimmed (spelled value) ≡ spelled value
+trimmed-as-it-is laws term value is f = go f.letter (sym (ap is_trimmed f.typed.first) ∙ is) (laws.values f.letter f.text value f.read)
+  where
+    go : (letter : Letter) → is_trimmed (Some letter) ≡ true → value_of letter (spelled value) ≡ Some value → trimmed (spelled value) ≡ spelled value
+    go letters.I k back = sym (identifier-trimmed (spelled value) value back)
+    go letters.C k back = sym (code-trimmed (spelled value) value back)
+    go letters.T k back = absurd (false≢true k)
+    go letters.A k back = absurd (false≢true k)
+    go letters.Q k back = absurd (false≢true k)
+    go letters.P k back = absurd (false≢true k)
+    go letters.D k back = absurd (false≢true k)
+    go letters.B k back = absurd (false≢true k)
+
 as-day : Laws → (term : Term) (es : List Entry) (c : Context) (value : Value) → is_day (letter_of term) ≡ true → Fits term value → ReadsAs forms.PlainDate term es c value
 as-day laws term es c value is f =
     let w = day-value laws.are_days f.letter f.text value (is-day (letter_of term) f.letter f.typed.first is) f.read in
@@ -239,6 +274,12 @@ reads-as laws form term es c value whole f = go (form_for form term) refl whole
     go forms.PlainDate e h = as-day laws term es c value (form-day form term (suits form term) refl e) f
     go forms.DueDateTypeCode e h = absurd (false≢true h)
     go forms.CodedNote e h = absurd (false≢true h)
+
+pub model-is : (form : Form) → is_model form ≡ true → form ≡ forms.Model
+model-is forms.Model h = refl
+model-is forms.PlainDate h = absurd (false≢true h)
+model-is forms.DueDateTypeCode h = absurd (false≢true h)
+model-is forms.CodedNote h = absurd (false≢true h)
 
 -- ---- a code that another list spells
 
@@ -269,17 +310,112 @@ as-image term es c (values.Percent number) h = absurd (false≢true h)
 as-image term es c (values.Date day) h = absurd (false≢true h)
 as-image term es c (values.Base64 text) h = absurd (false≢true h)
 
-pub whole-back : (form : Form) (value : Value) → is_whole form ≡ true → is_read_back form value ≡ true
-whole-back forms.Model value h = refl
-whole-back forms.PlainDate value h = refl
-whole-back forms.DueDateTypeCode value h = absurd (false≢true h)
-whole-back forms.CodedNote value h = absurd (false≢true h)
+-- ---- notes, with a subject code or without one
 
-pub back-as : Laws → (form : Form) (term : Term) (es : List Entry) (c : Context) (value : Value) → is_read_back (form_for form term) value ≡ true → Fits term value → ReadsAs (form_for form term) term es c value
+plain-note : (text : List ℕ) → is_coded_note text ≡ false → meaning.note_of text ≡ meaning.plain_note text
+plain-note [] h = refl
+plain-note (first ∷ []) h = refl
+plain-note (first ∷ (a ∷ [])) h = refl
+plain-note (first ∷ (a ∷ (b ∷ []))) h = refl
+plain-note (first ∷ (a ∷ (b ∷ (c ∷ [])))) h = refl
+plain-note (first ∷ (a ∷ (b ∷ (c ∷ (last ∷ text))))) h = go ((first == 35) && (last == 35)) (list_all meaning.is_subject_character (a ∷ b ∷ c ∷ []) && not (is_blank text)) h
+  where
+    go : (x y : Bool) → (x && y) ≡ false
+        → (elim x [ true ↦ elim y [ true ↦ meaning.coded (a ∷ b ∷ c ∷ []) text | false ↦ meaning.plain_note (first ∷ (a ∷ (b ∷ (c ∷ (last ∷ text))))) ] | false ↦ meaning.plain_note (first ∷ (a ∷ (b ∷ (c ∷ (last ∷ text))))) ])
+        ≡ meaning.plain_note (first ∷ (a ∷ (b ∷ (c ∷ (last ∷ text)))))
+    go false y k = refl
+    go true false k = refl
+    go true true k = absurd (false≢true (sym k))
+
+coded-note : (code text : List ℕ) → is_subject code ≡ true → is_blank text ≡ false → meaning.note_of (35 ∷ (code ++ (35 ∷ text))) ≡ meaning.coded code text
+coded-note [] text h k = absurd (false≢true h)
+coded-note (a ∷ []) text h k = absurd (false≢true h)
+coded-note (a ∷ (b ∷ [])) text h k = absurd (false≢true h)
+coded-note (a ∷ (b ∷ (c ∷ (d ∷ code)))) text h k = absurd (false≢true h)
+coded-note (a ∷ (b ∷ (c ∷ []))) text h k =
+    (λ i. elim (h i && not (k i)) [ true ↦ meaning.coded (a ∷ b ∷ c ∷ []) text | false ↦ meaning.plain_note (35 ∷ (a ∷ (b ∷ (c ∷ (35 ∷ text))))) ])
+
+by-its-type : ReadsBack → (term : Term) (value : Value) → Fits term value → by_type term (spelled value) ≡ Some value
+by-its-type law term value f = ap (λ x. option_and_then (λ letter. value_of letter (spelled value)) x) f.typed.first ∙ law f.letter f.text value f.read
+
+-- A note is read as it: no subject code is in front and it hasn't the form of one behind a code, or one is in front that is
+-- one by its form.
+abbrev pub IsNote : List Entry → Context → Value → Type 0
+IsNote es c value =
+    ((value_in es meaning.subject_code c ≡ None) × (is_coded_note (spelled value) ≡ false))
+    ⊎ ((code : Value) × ((value_in es meaning.subject_code c ≡ Some code) × ((is_subject (spelled code) ≡ true) × Fits meaning.subject_code code)))
+
+as-note : ReadsBack → (term : Term) (es : List Entry) (c : Context) (value : Value) → term ≡ meaning.note → IsNote es c value → Fits term value → ReadsAs forms.CodedNote term es c value
+unfolding is_white_space
+as-note law term es c value is (inl (none, plain)) f =
+    let model = as-model law term es c value f in
+    let string : formed forms.CodedNote es c value ≡ spelled value = ap (λ o. writing.coded_note o (spelled value)) none in
+    record {
+      said = ap meaning.note_of string ∙ (plain-note (spelled value) plain ∙ (ap (λ t. record { term = t; value = by_type t (spelled value) } ∷ []) (sym is)
+          ∙ (model.said ∙ ap (λ o. record { term = term; value = Some value } ∷ elim o [ None ↦ [] | Some code ↦ record { term = meaning.subject_code; value = Some code } ∷ [] ]) (sym none))));
+      full = ap is_full string ∙ model.full;
+    }
+as-note law term es c value is (inr (code, (at, (subject, fits)))) f =
+    let model = as-model law term es c value f in
+    let string : formed forms.CodedNote es c value ≡ 35 ∷ (spelled code ++ (35 ∷ spelled value)) = ap (λ o. writing.coded_note o (spelled value)) at in
+    record {
+      said = ap meaning.note_of string ∙ (coded-note (spelled code) (spelled value) subject (not-true (is_blank (spelled value)) model.full)
+          ∙ ((λ i. record { term = sym is i; value = by_type (sym is i) (spelled value) } ∷ (record { term = meaning.subject_code; value = by_type meaning.subject_code (spelled code) } ∷ []))
+          ∙ ((λ i. record { term = term; value = by-its-type law term value f i } ∷ (record { term = meaning.subject_code; value = by-its-type law meaning.subject_code code fits i } ∷ []))
+          ∙ ap (λ o. record { term = term; value = Some value } ∷ elim o [ None ↦ [] | Some v ↦ record { term = meaning.subject_code; value = Some v } ∷ [] ]) (sym at))));
+      full = ap is_full string;
+    }
+
+-- a row of that form has the term of notes
+pub note-term : (form : Form) (term : Term) (b : Bool) → suits form term ≡ b → (elim b [ true ↦ form | false ↦ forms.Model ]) ≡ forms.CodedNote → term ≡ meaning.note
+note-term forms.CodedNote term true s e = same_term_is term meaning.note s
+note-term forms.CodedNote term false s e = absurd (let k : forms.Model ≡ forms.CodedNote = e in cc)
+note-term forms.PlainDate term true s e = absurd (let k : forms.PlainDate ≡ forms.CodedNote = e in cc)
+note-term forms.PlainDate term false s e = absurd (let k : forms.Model ≡ forms.CodedNote = e in cc)
+note-term forms.Model term true s e = absurd (let k : forms.Model ≡ forms.CodedNote = e in cc)
+note-term forms.Model term false s e = absurd (let k : forms.Model ≡ forms.CodedNote = e in cc)
+note-term forms.DueDateTypeCode term true s e = absurd (let k : forms.DueDateTypeCode ≡ forms.CodedNote = e in cc)
+note-term forms.DueDateTypeCode term false s e = absurd (let k : forms.Model ≡ forms.CodedNote = e in cc)
+
+-- a value that is written in the form is read as it
+abbrev pub IsBack : List Entry → Form → Context → Value → Type 0
+IsBack es form c value = (is_read_back form value ≡ true) × (form ≡ forms.CodedNote → IsNote es c value)
+
+pub whole-back : (es : List Entry) (form : Form) (c : Context) (value : Value) → is_whole form ≡ true → IsBack es form c value
+whole-back es forms.Model c value h = (refl, λ e. absurd (let z : forms.Model ≡ forms.CodedNote = e in cc))
+whole-back es forms.PlainDate c value h = (refl, λ e. absurd (let z : forms.PlainDate ≡ forms.CodedNote = e in cc))
+whole-back es forms.DueDateTypeCode c value h = absurd (false≢true h)
+whole-back es forms.CodedNote c value h = absurd (false≢true h)
+
+pub back-as : Laws → (form : Form) (term : Term) (es : List Entry) (c : Context) (value : Value) → IsBack es (form_for form term) c value → Fits term value → ReadsAs (form_for form term) term es c value
 back-as laws form term es c value back f = go (form_for form term) refl back
   where
-    go : (g : Form) → form_for form term ≡ g → is_read_back g value ≡ true → ReadsAs g term es c value
+    go : (g : Form) → form_for form term ≡ g → IsBack es g c value → ReadsAs g term es c value
     go forms.Model e h = as-model laws.values term es c value f
     go forms.PlainDate e h = as-day laws term es c value (form-day form term (suits form term) refl e) f
-    go forms.DueDateTypeCode e h = as-image term es c value h
-    go forms.CodedNote e h = absurd (false≢true h)
+    go forms.DueDateTypeCode e h = as-image term es c value h.0
+    go forms.CodedNote e h = as-note laws.values term es c value (note-term form term (suits form term) refl e) (h.1 refl) f
+
+-- what is said beside a value is its subject code
+pub record IsCodeSaid (form : Form) (es : List Entry) (c : Context) (said : Said) : Type 0 where
+  pub code : Value
+  pub at : value_in es meaning.subject_code c ≡ Some code
+  pub is : record { term = meaning.subject_code; value = Some code } ≡ said
+  pub form_is : form ≡ forms.CodedNote
+
+pub of-code-said : (form : Form) (es : List Entry) (c : Context) (said : Said) → Among said (code_said form es c) → IsCodeSaid form es c said
+of-code-said forms.Model es c said a = absurd a
+of-code-said forms.PlainDate es c said a = absurd a
+of-code-said forms.DueDateTypeCode es c said a = absurd a
+of-code-said forms.CodedNote es c said a = go (value_in es meaning.subject_code c) refl a
+  where
+    go : (o : Option Value) → value_in es meaning.subject_code c ≡ o → Among said (elim o [ None ↦ [] | Some code ↦ record { term = meaning.subject_code; value = Some code } ∷ [] ]) → IsCodeSaid forms.CodedNote es c said
+    go None e m = absurd m
+    go (Some code) e (inl is) = record { code = code; at = e; is = is; form_is = refl }
+    go (Some code) e (inr z) = absurd z
+
+pub whole-uncoded : (form : Form) (es : List Entry) (c : Context) → is_whole form ≡ true → code_said form es c ≡ []
+whole-uncoded forms.Model es c h = refl
+whole-uncoded forms.PlainDate es c h = refl
+whole-uncoded forms.DueDateTypeCode es c h = absurd (false≢true h)
+whole-uncoded forms.CodedNote es c h = absurd (false≢true h)

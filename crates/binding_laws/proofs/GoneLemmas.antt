@@ -8,6 +8,7 @@ use Rattle.term_table.specs.declared.contexts.Context.{Context}
 use Rattle.term_table.specs.Contexts.{same_context}
 use Rattle.term_table.specs.SemanticModel.{same_term}
 use Rattle.term_table.proofs.SeatLemmas.{same_term_is}
+use Rattle.inv_terms.specs.declared.values.Value.{Value}
 use Rattle.inv_terms.specs.declared.entries.Entry.{Entry}
 use Rattle.inv_terms.specs.Listing.{value_in, is_at}
 use Rattle.bind_rows.specs.declared.rows.Content.{Content}
@@ -49,27 +50,42 @@ gone-value gone es term c unheld h = ap (option_map (λ (e : Entry). e.value)) (
 pub gone-row : (gone : List Term) (es : List Entry) (row : Row) (c : Context) → holds_none gone es ≡ true → is_gone gone row ≡ true → row_text row es c ≡ None
 gone-row gone es row c unheld h = by-content row.content h
   where
-    unfilled : (rule : Written) (d : Context) → (elim rule [ (written.OrFiller filler) ↦ list_any (same_term filler.beside) gone | _ ↦ true ]) ≡ true → filled rule es d ≡ None
-    unfilled written.Always d k = refl
-    unfilled written.Never d k = refl
-    unfilled written.IfIban d k = refl
-    unfilled written.IfNotIban d k = refl
-    unfilled written.IfScheme d k = refl
-    unfilled written.IfNoScheme d k = refl
-    unfilled (written.OrFiller filler) d k = ap (λ o. if_so (is_some o) filler.text) (gone-value gone es filler.beside d unheld k)
-    unfilled written.VatTotal d k = refl
-    unfilled written.AccountingVatTotal d k = refl
+    none : (rule : Written) (term : Term) (d : Context) → list_any (same_term term) gone ≡ true → filled rule es d ≡ None
+        → ◌≡◌ {A = Option (List ℕ)} (elim (value_in es term d) [ None ↦ filled rule es d | Some value ↦ if_due rule es term d (formed (form_for row.form term) es d value) ]) None
+    none rule term d k unfilled = ap (λ o. elim o [ None ↦ filled rule es d | Some value ↦ if_due rule es term d (formed (form_for row.form term) es d value) ]) (gone-value gone es term d unheld k) ∙ unfilled
+
+    never : (o : Option Value) → ◌≡◌ {A = Option (List ℕ)} (elim o [ None ↦ None | Some value ↦ None ]) None
+    never None = refl
+    never (Some v) = refl
+
+    by-rule : (rule : Written) (term : Term) (d : Context) → (elim rule [
+      | written.Never ↦ true
+      | (written.OrFiller filler) ↦ list_any (same_term term) gone && list_any (same_term filler.beside) gone
+      | _ ↦ list_any (same_term term) gone
+    ]) ≡ true
+        → ◌≡◌ {A = Option (List ℕ)} (elim (value_in es term d) [ None ↦ filled rule es d | Some value ↦ if_due rule es term d (formed (form_for row.form term) es d value) ]) None
+    by-rule written.Always term d k = none written.Always term d k refl
+    by-rule written.Never term d k = never (value_in es term d)
+    by-rule written.IfIban term d k = none written.IfIban term d k refl
+    by-rule written.IfNotIban term d k = none written.IfNotIban term d k refl
+    by-rule written.IfScheme term d k = none written.IfScheme term d k refl
+    by-rule written.IfNoScheme term d k = none written.IfNoScheme term d k refl
+    by-rule (written.OrFiller filler) term d k =
+        let w = both-true (list_any (same_term term) gone) (list_any (same_term filler.beside) gone) k in
+        none (written.OrFiller filler) term d w.0 (ap (λ o. if_so (is_some o) filler.text) (gone-value gone es filler.beside d unheld w.1))
+    by-rule written.VatTotal term d k = none written.VatTotal term d k refl
+    by-rule written.AccountingVatTotal term d k = none written.AccountingVatTotal term d k refl
 
     by-content : (content : Content) → (elim content [
-      | (contents.Term term) ↦ list_any (same_term term) gone && elim row.written [ (written.OrFiller filler) ↦ list_any (same_term filler.beside) gone | _ ↦ true ]
+      | (contents.Term term) ↦ elim row.written [
+        | written.Never ↦ true
+        | (written.OrFiller filler) ↦ list_any (same_term term) gone && list_any (same_term filler.beside) gone
+        | _ ↦ list_any (same_term term) gone
+      ]
       | (contents.Constant text) ↦ true
     ]) ≡ true
         → ◌≡◌ {A = Option (List ℕ)} (elim content [ (contents.Term term) ↦ term_text row es term (context_for row c) | (contents.Constant text) ↦ None ]) None
-    by-content (contents.Term term) k =
-        let w = both-true (list_any (same_term term) gone) _ k in
-        ap (λ o. elim o [ None ↦ filled row.written es (context_for row c) | Some value ↦ if_due row.written es term (context_for row c) (formed (form_for row.form term) es (context_for row c) value) ])
-        (gone-value gone es term (context_for row c) unheld w.0)
-        ∙ unfilled row.written (context_for row c) w.1
+    by-content (contents.Term term) k = by-rule row.written term (context_for row c) k
     by-content (contents.Constant text) k = refl
 
 pub gone-cells : (gone : List Term) (es : List Entry) (cells : List Cell) (c : Context) → holds_none gone es ≡ true → list_all (λ (cell : Cell). is_gone gone cell.row) cells ≡ true → cells_hold es cells c ≡ false

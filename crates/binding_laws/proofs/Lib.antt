@@ -4,6 +4,7 @@ pub mod AttributeLemmas
 pub mod ListLemmas
 pub mod CellLemmas
 pub mod GoneLemmas
+pub mod KnownLemmas
 pub mod GuardLemmas
 pub mod RowLemmas
 pub mod ContextLemmas
@@ -16,12 +17,14 @@ pub mod FormLemmas
 pub mod ValueLemmas
 pub mod PlainLemmas
 pub mod PartLemmas
+pub mod AskedLemmas
 pub mod PlacedLemmas
 pub mod EntryLemmas
 pub mod SilentLemmas
 pub mod TwinLemmas
 pub mod TotalLemmas
 pub mod CoverLemmas
+pub mod FillerLemmas
 pub mod BothLemmas
 pub mod RoundLemmas
 pub mod PairLemmas

@@ -46,15 +46,17 @@ use Rattle.bind_rows.specs.declared.rows.Check.{Check}
 use Rattle.bind_rows.specs.declared.rows.Check.TheVariants as checks
 use Rattle.bind_rows.specs.declared.rows.Content.{Content}
 use Rattle.bind_rows.specs.declared.rows.Content.TheVariants as contents
+use Rattle.bind_rows.specs.declared.rows.Form.{Form}
+use Rattle.bind_rows.specs.declared.rows.Form.TheVariants as forms
 use Rattle.bind_rows.specs.declared.rows.Row.{Row}
 use Rattle.bind_rows.specs.declared.rows.Written.{Written}
 use Rattle.bind_rows.specs.declared.rows.Written.TheVariants as written
 use Rattle.bind_table.specs.Lines.{plan_of}
 use Rattle.bind_table.specs.WellFormed.{first_fault}
 use Rattle.bind_meaning.specs.declared.picked.Seated.{Seated}
-use Rattle.bind_meaning.specs.Values.{Said, form_for}
+use Rattle.bind_meaning.specs.Values.{Said, subject_code, note, suits, form_for}
 use Rattle.bind_meaning.specs.Elements.{attributes_named, string_at, is_full, is_one_of}
-use Rattle.bind_meaning.specs.Picks.{Pick, term_in, has_any_term, Numbered, numbered, rows_where, last_of, leaves_of, picks_of_way, ways, nodes_picked}
+use Rattle.bind_meaning.specs.Picks.{Pick, has_term, term_in, has_any_term, Numbered, numbered, rows_where, last_of, leaves_of, picks_of_way, ways, nodes_picked}
 use Rattle.bind_meaning.specs.Currencies.{Currencies, currencies, currency_id, first_full, amount_currency}
 use Rattle.bind_meaning.specs.Seats.{Placed, placed, slot_of, context_of, Room, outer_room, inner_room, each_once, rooms}
 use Rattle.bind_meaning.specs.declared.fault.BindKind.TheVariants as kinds
@@ -62,25 +64,25 @@ use Rattle.bind_meaning.specs.Judging.{Told, told_by, is_of_seat, may_repeat, ha
 use Rattle.bind_meaning.specs.Terms.{term_picks, constant_picks, place_all, told, entries, passed_over, all_faults, Read, terms_of}
 use Rattle.bind_meaning.specs.Writing.{formed, if_so, scheme_of, if_due, row_text}
 use Rattle.bind_meaning.specs.Trees.{with_text, document_of, is_at_element, is_vat_total}
-use Rattle.binding_laws.specs.Apart.{is_attribute_named, is_at_attribute, is_apart, stands_apart}
+use Rattle.binding_laws.specs.Apart.{is_attribute_named, is_at_attribute, unknown, is_apart, stands_apart}
 use Rattle.binding_laws.specs.Plain as plain
-use Rattle.binding_laws.specs.Plain.{groups_of, is_element, has_content, rows_at, IsPlainAttribute, is_plain_attribute_in}
+use Rattle.binding_laws.specs.Plain.{groups_of, is_element, has_content, rows_at, IsPlainAttributeThere, is_plain_attribute_in}
 use Rattle.binding_laws.specs.Covered.{is_settled, holds_plainly, is_accounting_rule}
 use Rattle.binding_laws.specs.Written.{Spot, values_named}
 use Rattle.binding_laws.specs.Faultless.{is_in_invoice_currency, is_told_once, all_apart, is_if_scheme, is_needed_beside, is_needed_with, scheme_id, is_scheme_beside, has_scheme_of, has_scheme, format_name, are_format, has_format, is_no_row, shows_currency_there, shows_its_currency, are_word, has_word, is_fine, is_faultless}
 use Rattle.binding_laws.proofs.TreeLemmas.{Each}
 use Rattle.binding_laws.proofs.NodeLemmas.{string-is, and-false}
 use Rattle.binding_laws.proofs.GuardLemmas.{text-texts}
-use Rattle.binding_laws.proofs.ListLemmas.{both-true, not-true, map-map, flat_map-map, flat_map-none}
+use Rattle.binding_laws.proofs.ListLemmas.{both-true, not-true, map-map, flat_map-map, flat_map-none, or-either}
 use Rattle.binding_laws.proofs.CellLemmas.{own_text, own_strings, in_a_list}
 use Rattle.binding_laws.proofs.ValueLemmas.{text_by, or_nothing}
 use Rattle.binding_laws.proofs.AttributeLemmas.{attributes-are}
 use Rattle.binding_laws.proofs.ContextLemmas.{Rising, rising-flat_map}
-use Rattle.binding_laws.proofs.ReachLemmas.{Among, among-split, among-filter, among-map, any-among, own-texts}
+use Rattle.binding_laws.proofs.ReachLemmas.{Among, among-split, among-filter, among-map, any-among, own-texts, any-is, all-is}
 use Rattle.binding_laws.proofs.CountLemmas.{each-among}
 use Rattle.binding_laws.proofs.PlaceLemmas.{of-flat_map, of-map, of-filter-any}
 use Rattle.binding_laws.proofs.SeatingLemmas.{each-from}
-use Rattle.binding_laws.proofs.FormLemmas.{Laws}
+use Rattle.binding_laws.proofs.FormLemmas.{Laws, code_said, note-term}
 use Rattle.binding_laws.proofs.RowLemmas.{Place, places_at, IsAt, ArePlaced, placed-at, ends_at, spot-strings, string-ends}
 use Rattle.binding_laws.proofs.PartLemmas.{own-values}
 use Rattle.binding_laws.proofs.PlainLemmas as plain_rows
@@ -93,7 +95,7 @@ use Rattle.binding_laws.proofs.CurrencyLemmas.{IsCurrency, IsOwnCurrency, AreOwn
 use Rattle.binding_laws.proofs.TotalLemmas.{row-of, amount-of}
 use Rattle.binding_laws.proofs.FaultLemmas.{IsFine, IsFair, no-faults}
 use Rattle.binding_laws.proofs.OnceLemmas.{MayBoth, picks-rising, same-place, seat-context}
-use Rattle.binding_laws.proofs.CoverLemmas.{any-is, all-is, or-either, row-at, fact-at, full-string, part-values}
+use Rattle.binding_laws.proofs.CoverLemmas.{row-at, fact-at, full-string, part-values}
 use Rattle.binding_laws.proofs.RoundLemmas.{FromRow, currency-read, numbered-row, row-back, of-picks, context-at, said-at, told-by-pick, told-entry, entry-told, entries-read, none-inside}
 
 -- ---- equal values
@@ -127,6 +129,12 @@ same-value (values.Quantity a) = cmp-itself (int_cmp a.value a.value) (int_cmp_t
 same-value (values.Percent a) = cmp-itself (int_cmp a.value a.value) (int_cmp_total.antisymm a.value a.value)
 same-value (values.Date a) = same-day a
 same-value (values.Base64 a) = same-text a
+
+-- ---- subject codes
+
+no-code-amount : is_amount subject_code ≡ false
+unfolding terms
+no-code-amount = refl
 
 -- ---- rows as the tests say of them
 
@@ -259,12 +267,12 @@ module _ (law : Laws) (rows : List Row) (es : List Entry) (invoice : IsInvoice e
           let row : Row = r.0.row in
           let check : row.check ≡ checks.Indicator term = ap (λ (x : Row). x.check) (sym (row-of doc r.0.place row pick r.1.1)) ∙ e in
           let known : Among row rows = (numbered-row 1 rows r.0 is_among.0).1.1 in
-          let h : (has_any_term row || (is_apart [] (plan_of rows) row.path && (is_element row.leaf && are_word (rows_at is_at_element (plan_of rows) row.path)))) ≡ true =
-          sym (ap (λ x. elim x [ (checks.Indicator t) ↦ has_any_term row || (is_apart [] (plan_of rows) row.path && (is_element row.leaf && are_word (rows_at is_at_element (plan_of rows) row.path))) | _ ↦ true ]) check) ∙ (fine-row row known).word in
-          elim (or-either (has_any_term row) (is_apart [] (plan_of rows) row.path && (is_element row.leaf && are_word (rows_at is_at_element (plan_of rows) row.path))) h) [
+          let h : (has_any_term row || (is_apart unknown (plan_of rows) row.path && (is_element row.leaf && are_word (rows_at is_at_element (plan_of rows) row.path)))) ≡ true =
+          sym (ap (λ x. elim x [ (checks.Indicator t) ↦ has_any_term row || (is_apart unknown (plan_of rows) row.path && (is_element row.leaf && are_word (rows_at is_at_element (plan_of rows) row.path))) | _ ↦ true ]) check) ∙ (fine-row row known).word in
+          elim (or-either (has_any_term row) (is_apart unknown (plan_of rows) row.path && (is_element row.leaf && are_word (rows_at is_at_element (plan_of rows) row.path))) h) [
             | inl has ↦ absurd (false≢true (sym (not-true (has_any_term row) is_among.1) ∙ has))
             | inr k ↦
-                let u = both-true (is_apart [] (plan_of rows) row.path) _ k in
+                let u = both-true (is_apart unknown (plan_of rows) row.path) _ k in
                 let v = both-true (is_element row.leaf) (are_word (rows_at is_at_element (plan_of rows) row.path)) u.1 in
                 by-place u.0 (element-leaf row.leaf v.0) (constant-row (λ text. is_one_of words (trimmed text)) (rows_at is_at_element (plan_of rows) row.path) are_word (λ x. refl) refl (λ x y ys. refl) v.1)
           ]
@@ -535,7 +543,7 @@ module _ (law : Laws) (rows : List Row) (es : List Entry) (invoice : IsInvoice e
       ∙ ap (λ (x : Place). x.spot.context) (same-place rows es pick.row.path f.told_is.picked.place at.place f.told_is.picked.among at.among (sym f.told_is.picked.elements ∙ at.way)))
 
   -- the scheme is written beside it
-  scheme-by-part : (pick : Pick) (f : From pick) (part : Row) → Among part rows → is_attribute_named scheme_id part.leaf ≡ true → IsPlainAttribute rows part (scheme_of f.term) pick.row f.term
+  scheme-by-part : (pick : Pick) (f : From pick) (part : Row) → Among part rows → is_attribute_named scheme_id part.leaf ≡ true → IsPlainAttributeThere rows part (scheme_of f.term) pick.row f.term
       → (v : Value) → value_in es (scheme_of f.term) f.told_is.e.context ≡ Some v → has_attribute doc scheme_id pick.node ≡ true
   scheme-by-part pick f part known named p v value =
       let at = element-told pick f p.beside.leaf in
@@ -564,7 +572,7 @@ module _ (law : Laws) (rows : List Row) (es : List Entry) (invoice : IsInvoice e
       let k = beside-says row f.term w.0 w.1.1 in
       let i = row-at rows w.0 w.1.0 in
       let v = scheme-value pick f u.0 in
-      scheme-by-part pick f w.0 w.1.0 k.0 (attribute-by-test rows i.0 f.j w.0 (scheme_of f.term) row f.term long_paths i.1 f.at k.1) v.0 v.1
+      scheme-by-part pick f w.0 w.1.0 k.0 (attribute-by-test rows i.0 f.j w.0 (scheme_of f.term) row f.term long_paths i.1 f.at k.1).there v.0 v.1
 
   -- ---- formats
 
@@ -658,17 +666,25 @@ module _ (law : Laws) (rows : List Row) (es : List Entry) (invoice : IsInvoice e
 
   -- ---- each that is told, by itself
 
+  -- an amount is in its currency, and a subject code is none
+  own-currency : (pick : Pick) (f : From pick) (e : Entry) → (e ≡ f.told_is.e) ⊎ ((e.term ≡ subject_code) × (form_for pick.row.form f.term ≡ forms.CodedNote))
+      → (elim (is_amount e.term && not (is_accounting_total pick)) [ true ↦ differs money.invoice (amount_currency doc pick.node) | false ↦ false ]) ≡ false
+  own-currency pick f e (inl s) =
+      ap (λ u. elim (is_amount u && not (is_accounting_total pick)) [ true ↦ differs money.invoice (amount_currency doc pick.node) | false ↦ false ]) (ap (λ (x : Entry). x.term) s ∙ f.told_is.term_is) ∙ not-foreign pick f
+  own-currency pick f e (inr k) =
+      ap (λ b. elim (b && not (is_accounting_total pick)) [ true ↦ differs money.invoice (amount_currency doc pick.node) | false ↦ false ]) (ap is_amount k.0 ∙ no-code-amount)
+
   fine-told : (t : Told) → Among t them → IsFine es invoice.listed doc lists money t
   fine-told t a =
       let w = told-by-pick law rows es invoice long_paths fine settled plainly money own_money t a in
       let f : From w.pick = w.from in
-      let e : Entry = f.told_is.e in
+      let e : Entry = w.entry in
       subst (IsFine es invoice.listed doc lists money) w.is
       (record {
         inside = none-inside law rows es invoice long_paths fine settled plainly money own_money (placed doc picks w.pick) (among-contains (placed doc picks w.pick) seated (among-map (placed doc picks) w.pick picks w.among));
         good = breaks-nothing w.pick f;
-        listed = (λ i. is_outside lists (list_of (sym f.told_is.term_is i) (at-entry w.pick w.among f i)) (code_in e.value)) ∙ all-listed es lists is_valid e f.told_is.known (plain_rows.placed-at law es invoice e.term e f.told_is.known);
-        own = not-foreign w.pick f;
+        listed = (λ i. is_outside lists (list_of e.term ((at-entry w.pick w.among f ∙ sym w.context) i)) (code_in e.value)) ∙ all-listed es lists is_valid e w.known (plain_rows.placed-at law es invoice e.term e w.known);
+        own = own-currency w.pick f e w.kind;
       })
 
   -- ---- and beside the others
@@ -676,8 +692,28 @@ module _ (law : Laws) (rows : List Row) (es : List Entry) (invoice : IsInvoice e
   abbrev the_told : (pick : Pick) → From pick → Told
   the_told pick f = record { placed = placed doc picks pick; said = record { term = f.term; value = Some f.told_is.e.value } }
 
+  abbrev the_code : Pick → Value → Told
+  the_code pick code = record { placed = placed doc picks pick; said = record { term = subject_code; value = Some code } }
+
+  -- a subject code in front of what the pick says
+  record IsCodeOf (pick : Pick) (f : From pick) (t : Told) : Type 0 where
+    code : Value
+    at : value_in es subject_code f.told_is.e.context ≡ Some code
+    form : form_for pick.row.form f.term ≡ forms.CodedNote
+    is : record { placed = placed doc picks pick; said = record { term = subject_code; value = Some code } } ≡ t
+
   abbrev IsTheTold : Pick → Told → Type 0
-  IsTheTold pick t = Among pick picks × ((f : From pick) × (the_told pick f ≡ t))
+  IsTheTold pick t = Among pick picks × ((f : From pick) × ((the_told pick f ≡ t) ⊎ IsCodeOf pick f t))
+
+  -- a note's term, if a code is in front
+  is-note : (pick : Pick) (f : From pick) → form_for pick.row.form f.term ≡ forms.CodedNote → f.term ≡ note
+  is-note pick f form = note-term pick.row.form f.term (suits pick.row.form f.term) refl form
+
+  -- a row that writes codes in front leaves their term to no row
+  no-code-row : (x y : Pick) (f : From x) (g : From y) → form_for y.row.form g.term ≡ forms.CodedNote → f.term ≡ subject_code → ⊥
+  no-code-row x y f g form is =
+      false≢true (sym (g.cover.codes form)
+      ∙ any-among (has_term subject_code) x.row rows (ap (λ content. elim (term_in content) [ None ↦ false | Some u ↦ same_term u subject_code ]) f.cover.content ∙ ap (λ u. same_term u subject_code) is) f.known)
 
   abbrev MayBothHere : Pick → Pick → Type 0
   MayBothHere x y = MayBoth law rows es invoice long_paths fine settled plainly (λ row a. (fine-row row a).once) rows-apart money own_money x y
@@ -697,15 +733,78 @@ module _ (law : Laws) (rows : List Row) (es : List Entry) (invoice : IsInvoice e
           same-seat es invoice.listed f.told_is.e g.told_is.e f.told_is.known g.told_is.known (f.told_is.term_is ∙ (one.term ∙ sym g.told_is.term_is)) (sym (at-entry x a f) ∙ (one.context ∙ at-entry y b g)) in
           ap not (ap (λ (z : Entry). same_value f.told_is.e.value z.value) (sym entry) ∙ same-value f.told_is.e.value)
 
+  fair-codes : (x y : Pick) → Among x picks → Among y picks → (f : From x) (g : From y) → MayBothHere x y → (c d : Value) → value_in es subject_code f.told_is.e.context ≡ Some c → value_in es subject_code g.told_is.e.context ≡ Some d
+      → form_for x.row.form f.term ≡ forms.CodedNote → form_for y.row.form g.term ≡ forms.CodedNote → IsFair es invoice.listed doc lists money (the_code x c) (the_code y d)
+  fair-codes x y a b f g h c d at there form other = record { repeats = repeats; agrees = agrees }
+    where
+      repeats : is_of_seat (the_code x c) (the_code y d) ≡ true → may_repeat y.row.repeats ≡ true
+      repeats same =
+          let one = one-seat es invoice.listed (the_code x c) (the_code y d) same in
+          (h a b note (f.cover.content ∙ ap contents.Term (is-note x f form)) (g.cover.content ∙ ap contents.Term (is-note y g other)) one.context).1
+
+      agrees : is_of_seat (the_code x c) (the_code y d) ≡ true → disagree (Some c) (Some d) ≡ false
+      agrees same =
+          let one = one-seat es invoice.listed (the_code x c) (the_code y d) same in
+          let context : f.told_is.e.context ≡ g.told_is.e.context = sym (at-entry x a f) ∙ (one.context ∙ at-entry y b g) in
+          ap not (ap (same_value c) (same_Some _ _ (sym there ∙ (ap (value_in es subject_code) (sym context) ∙ at))) ∙ same-value c)
+
   fair-told : (x y : Pick) (t u : Told) → MayBothHere x y → IsTheTold x t → IsTheTold y u → IsFair es invoice.listed doc lists money t u
-  fair-told x y t u h a b =
-      subst (λ z. IsFair es invoice.listed doc lists money z u) a.1.1 (subst (IsFair es invoice.listed doc lists money (the_told x a.1.0)) b.1.1 (fair-picks x y a.0 b.0 a.1.0 b.1.0 h))
+  fair-told x y t u h (a, (f, p)) (b, (g, q)) = go p q
+    where
+      go : (the_told x f ≡ t) ⊎ IsCodeOf x f t → (the_told y g ≡ u) ⊎ IsCodeOf y g u → IsFair es invoice.listed doc lists money t u
+      go (inl r) (inl s) = subst (λ z. IsFair es invoice.listed doc lists money z u) r (subst (IsFair es invoice.listed doc lists money (the_told x f)) s (fair-picks x y a b f g h))
+      go (inl r) (inr k) =
+          subst (λ z. IsFair es invoice.listed doc lists money z u) r
+          (subst (IsFair es invoice.listed doc lists money (the_told x f)) k.is
+          (record {
+            repeats = λ same. absurd (no-code-row x y f g k.form (one-seat es invoice.listed (the_told x f) (the_code y k.code) same).term);
+            agrees = λ same. absurd (no-code-row x y f g k.form (one-seat es invoice.listed (the_told x f) (the_code y k.code) same).term);
+          }))
+      go (inr k) (inl s) =
+          subst (λ z. IsFair es invoice.listed doc lists money z u) k.is
+          (subst (IsFair es invoice.listed doc lists money (the_code x k.code)) s
+          (record {
+            repeats = λ same. absurd (no-code-row y x g f k.form (sym (one-seat es invoice.listed (the_code x k.code) (the_told y g) same).term));
+            agrees = λ same. absurd (no-code-row y x g f k.form (sym (one-seat es invoice.listed (the_code x k.code) (the_told y g) same).term));
+          }))
+      go (inr k) (inr l) =
+          subst (λ z. IsFair es invoice.listed doc lists money z u) k.is (subst (IsFair es invoice.listed doc lists money (the_code x k.code)) l.is (fair-codes x y a b f g h k.code l.code k.at l.at k.form l.form))
 
   abbrev told_at : Pick → List Told
   told_at pick = told_by doc (placed doc picks pick)
 
-  one-told : (pick : Pick) (f : From pick) → told_at pick ≡ the_told pick f ∷ []
-  one-told pick f = ap (map (λ s. record { placed = placed doc picks pick; said = s })) (said-at law rows es invoice long_paths fine settled plainly money own_money pick f.term f.told_is.e.value f.cover.content f.told_is.says)
+  abbrev codes_of : Pick → (f : Form) → Context → List Told
+  codes_of pick form c = map (λ s. record { placed = placed doc picks pick; said = s }) (code_said form es c)
+
+  told-list : (pick : Pick) (f : From pick) → told_at pick ≡ the_told pick f ∷ codes_of pick (form_for pick.row.form f.term) f.told_is.e.context
+  told-list pick f =
+      ap (map (λ s. record { placed = placed doc picks pick; said = s }))
+      (said-at law rows es invoice long_paths fine settled plainly money own_money pick f.term (record { term = f.term; value = Some f.told_is.e.value } ∷ code_said (form_for pick.row.form f.term) es f.told_is.e.context) f.cover.content f.told_is.says)
+
+  -- a note and the code in front of it are of two terms
+  fair-code : (pick : Pick) (f : From pick) (code : Value) → form_for pick.row.form f.term ≡ forms.CodedNote → IsFair es invoice.listed doc lists money (the_told pick f) (the_code pick code)
+  fair-code pick f code form = record { repeats = λ same. absurd (never same); agrees = λ same. absurd (never same) }
+    where
+      never : is_of_seat (the_told pick f) (the_code pick code) ≡ true → ⊥
+      never same = false≢true (ap (same_term note) (sym (one-seat es invoice.listed (the_told pick f) (the_code pick code) same).term ∙ is-note pick f form))
+
+  told-rising : (pick : Pick) → Among pick picks → (f : From pick)
+      → Rising (IsFair es invoice.listed doc lists money) (the_told pick f ∷ codes_of pick (form_for pick.row.form f.term) f.told_is.e.context)
+      × Each (IsTheTold pick) (the_told pick f ∷ codes_of pick (form_for pick.row.form f.term) f.told_is.e.context)
+  told-rising pick a f = go (form_for pick.row.form f.term) refl
+    where
+      coded : (o : Option Value) → value_in es subject_code f.told_is.e.context ≡ o → form_for pick.row.form f.term ≡ forms.CodedNote
+          → Rising (IsFair es invoice.listed doc lists money) (the_told pick f ∷ map (λ s. record { placed = placed doc picks pick; said = s }) (elim o [ None ↦ [] | Some code ↦ record { term = subject_code; value = Some code } ∷ [] ]))
+          × Each (IsTheTold pick) (the_told pick f ∷ map (λ s. record { placed = placed doc picks pick; said = s }) (elim o [ None ↦ [] | Some code ↦ record { term = subject_code; value = Some code } ∷ [] ]))
+      coded None at form = ((tt, tt), ((a, (f, inl refl)), tt))
+      coded (Some code) at form = (((fair-code pick f code form, tt), (tt, tt)), ((a, (f, inl refl)), ((a, (f, inr (record { code = code; at = at; form = form; is = refl }))), tt)))
+
+      go : (g : Form) → form_for pick.row.form f.term ≡ g
+          → Rising (IsFair es invoice.listed doc lists money) (the_told pick f ∷ codes_of pick g f.told_is.e.context) × Each (IsTheTold pick) (the_told pick f ∷ codes_of pick g f.told_is.e.context)
+      go forms.Model e = ((tt, tt), ((a, (f, inl refl)), tt))
+      go forms.PlainDate e = ((tt, tt), ((a, (f, inl refl)), tt))
+      go forms.DueDateTypeCode e = ((tt, tt), ((a, (f, inl refl)), tt))
+      go forms.CodedNote e = coded (value_in es subject_code f.told_is.e.context) refl e
 
   all-fair : Rising (IsFair es invoice.listed doc lists money) them
   all-fair =
@@ -714,7 +813,7 @@ module _ (law : Laws) (rows : List Row) (es : List Entry) (invoice : IsInvoice e
       (picks-rising law rows es invoice long_paths fine settled plainly (λ row a. (fine-row row a).once) rows-apart money own_money)
       (each-from (λ pick. Rising (IsFair es invoice.listed doc lists money) (told_at pick) × Each (IsTheTold pick) (told_at pick)) picks
       (λ pick a. let f = from pick a in
-      subst (λ l. Rising (IsFair es invoice.listed doc lists money) l × Each (IsTheTold pick) l) (sym (one-told pick f)) ((tt, tt), ((a, (f, refl)), tt)))))
+      subst (λ l. Rising (IsFair es invoice.listed doc lists money) l × Each (IsTheTold pick) l) (sym (told-list pick f)) (told-rising pick a f))))
 
   -- ---- the law
 

@@ -19,7 +19,6 @@ use Rattle.inv_terms.specs.Values.{spelled}
 use Rattle.inv_terms.specs.Listing.{IsInvoice, value_in}
 use Rattle.bind_rows.specs.declared.rows.Content.TheVariants as contents
 use Rattle.bind_rows.specs.declared.rows.Form.{Form}
-use Rattle.bind_rows.specs.declared.rows.Form.TheVariants as forms
 use Rattle.bind_rows.specs.declared.rows.Step.{Step}
 use Rattle.bind_rows.specs.declared.rows.Row.{Row}
 use Rattle.bind_rows.specs.declared.rows.Written.{Written}
@@ -43,21 +42,21 @@ use Rattle.binding_laws.specs.Covered.{is_covered, is_settled, holds_plainly, is
 use Rattle.binding_laws.specs.Written.{Spot, written_at}
 use Rattle.binding_laws.specs.Faultless.{goes_through, is_told_once, excludes, is_model, are_exclusive, are_apart_at, are_apart, all_apart}
 use Rattle.binding_laws.proofs.TreeLemmas.{Each}
-use Rattle.binding_laws.proofs.ListLemmas.{both-true, not-true, flat_map-map}
+use Rattle.binding_laws.proofs.ListLemmas.{both-true, not-true, flat_map-map, or-either}
 use Rattle.binding_laws.proofs.ContextLemmas.{Later, Rising, rising-append, rising-filter, rising-flat_map, in-one, in-group, in-groups}
 use Rattle.binding_laws.proofs.ReachLemmas.{Among, among-front, among-back, among-split}
 use Rattle.binding_laws.proofs.CountLemmas.{Below, each-among, range-rising, rising-one}
 use Rattle.binding_laws.proofs.PlaceLemmas.{of-map, of-filter-any, between, places-lead}
 use Rattle.binding_laws.proofs.SeatLemmas.{leads-nowhere}
 use Rattle.binding_laws.proofs.SeatingLemmas.{IsPicked, each-from, rising-from, rising-with}
-use Rattle.binding_laws.proofs.FormLemmas.{Laws}
+use Rattle.binding_laws.proofs.FormLemmas.{Laws, model-is}
 use Rattle.binding_laws.proofs.RowLemmas.{Place, places_at, places-spots, IsAt, ends_at}
 use Rattle.binding_laws.proofs.PlainLemmas.{no-slot}
 use Rattle.binding_laws.proofs.EntryLemmas.{same-seat}
 use Rattle.binding_laws.proofs.PairLemmas.{rising-all, in-order-rising}
 use Rattle.binding_laws.proofs.CurrencyLemmas.{AreOwn}
 use Rattle.binding_laws.proofs.TotalLemmas.{row-of}
-use Rattle.binding_laws.proofs.CoverLemmas.{Covers, IsStrange, IsNotTold, strange-pick, own-among, is_short, or-either, long, numbers, strings-at}
+use Rattle.binding_laws.proofs.CoverLemmas.{Covers, IsStrange, IsNotTold, strange-pick, own-among, is_short, long, numbers, strings-at}
 use Rattle.binding_laws.proofs.RoundLemmas.{never-told, shadow-of, FromRow, numbered-row, covered-row, other-picks-nothing, of-picks, context-at}
 
 -- ---- lists of one
@@ -87,12 +86,6 @@ later-differs a b (inr l) e =
     omega (arith, less, index)
 
 -- ---- rules that exclude one another
-
-pub model-is : (form : Form) → is_model form ≡ true → form ≡ forms.Model
-model-is forms.Model h = refl
-model-is forms.PlainDate h = absurd (false≢true h)
-model-is forms.DueDateTypeCode h = absurd (false≢true h)
-model-is forms.CodedNote h = absurd (false≢true h)
 
 exclusive : (es : List Entry) (a b : Written) (term : Term) (c : Context) (text : List ℕ) → excludes a b ≡ true → is_some (if_due a es term c text) ≡ true → is_some (if_due b es term c text) ≡ true → ⊥
 exclusive es written.IfIban written.IfNotIban term c text h j k = go (is_iban text) j k
@@ -387,8 +380,10 @@ module _ (law : Laws) (rows : List Row) (es : List Entry) (invoice : IsInvoice e
     where
       go : (b : Bool) → is_covered rows r.row ≡ b → Among r.row rows → has_any_term r.row ≡ true → Rising MayBoth (nodes_picked nodes r.place r.row)
       go true e known has =
-          let cover = covered-row law rows es invoice long_paths fine settled plainly r.row known e in
-          row-rising r.place r.row known cover.term cover.cover
+          elim (covered-row law rows es invoice long_paths fine settled plainly r.row known e) [
+            | inl cover ↦ row-rising r.place r.row known cover.term cover.cover
+            | inr none ↦ rising-all MayBoth (nodes_picked nodes r.place r.row) (λ x y a b one two t i j same. absurd (never-told law rows es invoice long_paths fine settled plainly c own x one (none r.place x a)))
+          ]
       go false e known has = by-shadow (is_shadowed (plan_of rows) rows r.row) refl
         where
           by-shadow : (y : Bool) → is_shadowed (plan_of rows) rows r.row ≡ y → Rising MayBoth (nodes_picked nodes r.place r.row)

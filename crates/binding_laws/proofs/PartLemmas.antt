@@ -25,7 +25,7 @@ use Rattle.bind_meaning.specs.Writing.{context_for, slot_for, formed, if_due, fi
 use Rattle.bind_meaning.specs.Trees.{attributes, element_text, holds_further, document_of}
 use Rattle.binding_laws.specs.Apart.{is_attribute_named, is_at_attribute, stands_apart}
 use Rattle.binding_laws.specs.Written.{Spot, emitted, at_end, spots_below, written_at, values_named}
-use Rattle.binding_laws.specs.Plain.{rows_at, is_in_groups, is_written_by, IsPlainAttribute}
+use Rattle.binding_laws.specs.Plain.{rows_at, is_in_groups, is_written_by, IsPlainAttributeThere}
 use Rattle.binding_laws.proofs.TreeLemmas.{Each, each-weaker, filter-same}
 use Rattle.binding_laws.proofs.FormLemmas.{Laws, reads-as}
 use Rattle.binding_laws.proofs.RowLemmas.{attributes-law}
@@ -72,7 +72,7 @@ own-values local n es row (a_line t cells inside rest) (s ∷ path) held c h =
 
 -- ---- the law
 
-module _ (law : Laws) (rows : List Row) (es : List Entry) (invoice : IsInvoice es) (row : Row) (term : Term) (main : Row) (main_term : Term) (plain : IsPlainAttribute rows row term main main_term) where
+module _ (law : Laws) (rows : List Row) (es : List Entry) (invoice : IsInvoice es) (row : Row) (term : Term) (main : Row) (main_term : Term) (plain : IsPlainAttributeThere rows row term main main_term) where
   abbrev spots : List Spot
   spots = written_at rows es main.path
 
@@ -117,7 +117,7 @@ module _ (law : Laws) (rows : List Row) (es : List Entry) (invoice : IsInvoice e
       go false o h b = refl
       go true None h b = refl
       go true (Some v) h false = refl
-      go true (Some v) h true = (reads-as law main.form main_term es d v plain.beside.form (fits-among law es invoice main_term (record { context = d; term = main_term; value = v }) es invoice.fit (at-value law es invoice main_term d v h))).full
+      go true (Some v) h true = (reads-as law main.form main_term es d v plain.main_form (fits-among law es invoice main_term (record { context = d; term = main_term; value = v }) es invoice.fit (at-value law es invoice main_term d v h))).full
 
   pub full-texts : Each (λ (spot : Spot). is_full spot.text ≡ has_main spot) spots
   full-texts =
@@ -177,10 +177,10 @@ module _ (law : Laws) (rows : List Row) (es : List Entry) (invoice : IsInvoice e
         λ h. among-contains x (entries-of law es invoice term (filter has_main spots)) (wanted-known x (contains-among x (filter wanted_part es) h)),
       ))
 
-  pub part-law : (k : ℕ) → map (λ (pick : Pick). string_at (document_nodes (document_of rows es)) pick.node) (nodes_picked (document_nodes (document_of rows es)) k row)
+  pub part-law : stands_apart rows main.path ≡ true → (k : ℕ) → map (λ (pick : Pick). string_at (document_nodes (document_of rows es)) pick.node) (nodes_picked (document_nodes (document_of rows es)) k row)
       ≡ map (λ (e : Entry). formed (form_for row.form term) es e.context e.value) (filter (λ (e : Entry). same_term e.term term && is_written_by main main_term es e.context) es)
-  part-law k =
-      attributes-law rows es k row plain.local plain.leaf (ap (λ p. stands_apart rows p) plain.path ∙ plain.beside.apart)
+  part-law apart k =
+      attributes-law rows es k row plain.local plain.leaf (ap (λ p. stands_apart rows p) plain.path ∙ apart)
       ∙ (ap (λ p. flat_map (λ (spot : Spot). filter is_full (values_named plain.local spot.attributes)) (filter (λ (spot : Spot). is_full spot.text) (written_at rows es p))) plain.path
       ∙ (ap (flat_map (λ (spot : Spot). filter is_full (values_named plain.local spot.attributes))) (filter-same (λ (spot : Spot). is_full spot.text) has_main spots full-texts)
       ∙ (strings-of (filter has_main spots)

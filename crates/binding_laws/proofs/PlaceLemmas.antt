@@ -42,7 +42,7 @@ of-filter-any p x (y ∷ xs) a = go (p y) refl (of-filter-any p x xs) a
     go true e later (inr m) = let w = later m in (inr w.0, w.1)
     go false e later m = let w = later m in (inr w.0, w.1)
 
-of-sized : (long : Context → ℕ) (x : At) (ds : List Context) (n : ℕ) → Among x (sized long ds n) → Among x.context ds
+pub of-sized : (long : Context → ℕ) (x : At) (ds : List Context) (n : ℕ) → Among x (sized long ds n) → Among x.context ds
 of-sized long x [] n a = absurd a
 of-sized long x (d ∷ ds) n (inl e) = inl (ap (λ (y : At). y.context) e)
 of-sized long x (d ∷ ds) n (inr a) = inr (of-sized long x ds (n + long d) a)
@@ -55,14 +55,14 @@ module _ (es : List Entry) where
       flat_map (λ (x : At). map (behind x.number) (last_places path (spot_of es t cells x.context)
       (places es inside path (holds_further es cells inside held x.context) x.context (begin_in es t cells x)))) (sized (long_of es t cells inside held) (emitted es t cells inside held c) n)
 
-  record IsOwn (t : Step) (cells : List Cell) (inside : Plan) (path : List Step) (held : Bool) (c : Context) (n : ℕ) (place : Place) : Type 0 where
-    x : At
-    at : Among x (sized (long_of es t cells inside held) (emitted es t cells inside held c) n)
-    p : Place
-    within : Among p (last_places path (spot_of es t cells x.context) (places es inside path (holds_further es cells inside held x.context) x.context (begin_in es t cells x)))
-    is : behind x.number p ≡ place
+  pub record IsOwn (t : Step) (cells : List Cell) (inside : Plan) (path : List Step) (held : Bool) (c : Context) (n : ℕ) (place : Place) : Type 0 where
+    pub x : At
+    pub at : Among x (sized (long_of es t cells inside held) (emitted es t cells inside held c) n)
+    pub p : Place
+    pub within : Among p (last_places path (spot_of es t cells x.context) (places es inside path (holds_further es cells inside held x.context) x.context (begin_in es t cells x)))
+    pub is : behind x.number p ≡ place
 
-  of-own : (t : Step) (cells : List Cell) (inside : Plan) (path : List Step) (held : Bool) (c : Context) (n : ℕ) (place : Place) → Among place (own_places t cells inside path held c n) → IsOwn t cells inside path held c n place
+  pub of-own : (t : Step) (cells : List Cell) (inside : Plan) (path : List Step) (held : Bool) (c : Context) (n : ℕ) (place : Place) → Among place (own_places t cells inside path held c n) → IsOwn t cells inside path held c n place
   of-own t cells inside path held c n place a =
       let w = of-flat_map (λ (x : At). map (behind x.number) (last_places path (spot_of es t cells x.context) (places es inside path (holds_further es cells inside held x.context) x.context (begin_in es t cells x)))) place
       (sized (long_of es t cells inside held) (emitted es t cells inside held c) n) a in

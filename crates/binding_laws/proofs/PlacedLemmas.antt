@@ -13,6 +13,8 @@ use Rattle.bind_rows.specs.declared.names.Leaf.{Leaf}
 use Rattle.bind_rows.specs.declared.names.Leaf.TheVariants as leaves
 use Rattle.bind_rows.specs.declared.rows.Content.{Content}
 use Rattle.bind_rows.specs.declared.rows.Content.TheVariants as contents
+use Rattle.bind_rows.specs.declared.rows.Form.{Form}
+use Rattle.bind_rows.specs.declared.rows.Form.TheVariants as forms
 use Rattle.bind_rows.specs.declared.rows.Written.{Written}
 use Rattle.bind_rows.specs.declared.rows.Written.TheVariants as written
 use Rattle.bind_rows.specs.declared.rows.Step.{Step}
@@ -25,17 +27,17 @@ use Rattle.std.specs.Str.{bytes_eq}
 use Rattle.std.proofs.lemmas.Slice.Eq.{bytes_eq-Decides}
 use Rattle.bind_lines.proofs.EndLemmas.{rows-ends}
 use Rattle.bind_lines.proofs.PathLemmas.{step-itself}
-use Rattle.bind_meaning.specs.Values.{form_for}
+use Rattle.bind_meaning.specs.Values.{subject_code, form_for}
 use Rattle.bind_meaning.specs.Judging.{is_amount}
 use Rattle.bind_meaning.specs.Picks.{has_term}
 use Rattle.bind_meaning.specs.Trees.{is_at_element}
 use Rattle.bind_meaning.specs.Currencies.{currency_id}
 use Rattle.binding_laws.specs.Apart as apart
-use Rattle.binding_laws.specs.Apart.{is_attribute_named, is_at_attribute, is_nothing, meets_all, is_off, is_clear, is_apart, stands_apart_without, stands_apart}
-use Rattle.binding_laws.specs.Covered.{is_or_filler, is_filled_there, is_filled_in, is_total_rule, is_accounting_rule, accounting_terms, total_terms, beside_filler, is_total_there, is_half, are_pair_there, are_pair, unpaired_terms, is_total_in}
+use Rattle.binding_laws.specs.Apart.{is_attribute_named, is_at_attribute, is_nothing, Known, without, unknown, beyond, is_met_or_unwritten, is_off, is_clear, is_apart, stands_apart_without, stands_apart}
+use Rattle.binding_laws.specs.Covered.{is_coded, is_noted_in, is_or_filler, is_filled_there, is_filled_in, is_total_rule, is_accounting_rule, accounting_terms, total_terms, beside_filler, is_total_there, is_half, are_pair_there, are_pair, unpaired_terms, is_total_in}
 use Rattle.binding_laws.specs.Twins.{same_way, are_twins}
 use Rattle.binding_laws.specs.Faultless.{is_no_row}
-use Rattle.binding_laws.specs.Plain.{rows_at, stands_there, groups_of, listed, IsPlain, is_one, is_element, is_whole, is_of_one_term, is_always, is_by_value, has_content, is_plain, IsSpread, is_spread, IsSpreadAttribute, is_spread_attribute, IsPlainAttribute, is_part_named, is_plain_attribute}
+use Rattle.binding_laws.specs.Plain.{rows_at, stands_there, groups_of, listed, IsPlainThere, IsPlain, is_one, is_element, is_whole, is_of_one_term, is_always, is_by_value, has_content, is_plain_there, is_plain_with, is_plain, IsSpreadWith, IsSpread, is_spread_with, is_spread, IsSpreadAttribute, is_spread_attribute, IsPlainAttributeThere, IsPlainAttribute, is_part_named, is_plain_attribute_with, is_plain_attribute}
 use Rattle.binding_laws.proofs.RowLemmas.{called-self}
 use Rattle.binding_laws.proofs.ListLemmas.{both-true}
 use Rattle.binding_laws.proofs.ReachLemmas.{Among, among-split, among-filter, among-map}
@@ -62,11 +64,11 @@ among-contains x (y ∷ xs) (inr h) = let w = among-contains x xs h in (suc w.0,
 -- ---- where lines end
 
 -- the first step behind those above, which isn't that of a path that these lines are clear of
-record IsBehind (gone : List Term) (above : List Step) (plan : Plan) (path : List Step) : Type 0 where
+record IsBehind (known : Known) (above : List Step) (plan : Plan) (path : List Step) : Type 0 where
   first : Step
   further : List Step
   is : path ≡ above ++ (first ∷ further)
-  differs : (s : Step) (steps : List Step) → is_clear gone plan (s ∷ steps) ≡ true → s ≡ first → ⊥
+  differs : (s : Step) (steps : List Step) → is_clear known plan (s ∷ steps) ≡ true → s ≡ first → ⊥
 
 not-so : (a : Bool) → not a ≡ true → a ≡ false
 not-so true h = absurd (false≢true h)
@@ -75,16 +77,16 @@ not-so false h = refl
 not-same : (s t : Step) → same_step s t ≡ false → s ≡ t → ⊥
 not-same s t h e = false≢true (sym h ∙ (ap (same_step s) (sym e) ∙ step-itself s))
 
-clear-parts : (gone : List Term) (t : Step) (cells : List Cell) (inside rest : Plan) (s : Step) (steps : List Step) → is_clear gone (a_line t cells inside rest) (s ∷ steps) ≡ true → (s ≡ t → ⊥) × (is_clear gone rest (s ∷ steps) ≡ true)
-clear-parts gone t cells inside rest s steps h = go (apart.is_called s.name t.name) refl h
+clear-parts : (known : Known) (t : Step) (cells : List Cell) (inside rest : Plan) (s : Step) (steps : List Step) → is_clear known (a_line t cells inside rest) (s ∷ steps) ≡ true → (s ≡ t → ⊥) × (is_clear known rest (s ∷ steps) ≡ true)
+clear-parts known t cells inside rest s steps h = go (apart.is_called s.name t.name) refl h
   where
     go : (b : Bool) → apart.is_called s.name t.name ≡ b → (elim b [
-      | true ↦ (not (same_step s t) && (is_off gone s.guards t cells inside || elim steps [ [] ↦ false | (u ∷ further) ↦ is_clear gone inside (u ∷ further) ])) && is_clear gone rest (s ∷ steps)
-      | false ↦ is_clear gone rest (s ∷ steps)
+      | true ↦ (not (same_step s t) && (is_off known s.guards t cells inside || elim steps [ [] ↦ false | (u ∷ further) ↦ is_clear (beyond t.group known) inside (u ∷ further) ])) && is_clear known rest (s ∷ steps)
+      | false ↦ is_clear known rest (s ∷ steps)
     ]) ≡ true
-        → (s ≡ t → ⊥) × (is_clear gone rest (s ∷ steps) ≡ true)
+        → (s ≡ t → ⊥) × (is_clear known rest (s ∷ steps) ≡ true)
     go true e k =
-        let w = both-true _ (is_clear gone rest (s ∷ steps)) k in
+        let w = both-true _ (is_clear known rest (s ∷ steps)) k in
         (not-same s t (not-so (same_step s t) (both-true (not (same_step s t)) _ w.0).0), w.1)
     go false e k = ((λ same. false≢true (sym e ∙ (ap (λ (x : Step). apart.is_called s.name x.name) (sym same) ∙ called-self s.name))), k)
 
@@ -93,27 +95,27 @@ in-cells up e [] h = absurd h
 in-cells up e (c ∷ cells) (inl s) = (c, inl refl, s)
 in-cells up e (c ∷ cells) (inr h) = let w = in-cells up e cells h in (w.0, inr w.1, w.2)
 
-ends-behind : (gone : List Term) (above : List Step) (plan : Plan) (e : End) → Among e (ends above plan) → IsBehind gone above plan e.path
-ends-behind gone above nothing e h = absurd h
-ends-behind gone above (a_line t cells inside rest) e h =
+ends-behind : (known : Known) (above : List Step) (plan : Plan) (e : End) → Among e (ends above plan) → IsBehind known above plan e.path
+ends-behind known above nothing e h = absurd h
+ends-behind known above (a_line t cells inside rest) e h =
     elim (among-split e (map (end_at (above ++ t ∷ [])) cells) (ends (above ++ t ∷ []) inside ++ ends above rest) h) [
       | inl m ↦ let w = in-cells (above ++ t ∷ []) e cells m in
-          record { first = t; further = []; is = sym (ap (λ (x : End). x.path) w.2); differs = λ u us c. (clear-parts gone t cells inside rest u us c).0 }
+          record { first = t; further = []; is = sym (ap (λ (x : End). x.path) w.2); differs = λ u us c. (clear-parts known t cells inside rest u us c).0 }
       | inr n ↦ elim (among-split e (ends (above ++ t ∷ []) inside) (ends above rest) n) [
-        | inl m ↦ let w = ends-behind gone (above ++ t ∷ []) inside e m in
-            record { first = t; further = w.first ∷ w.further; is = w.is ∙ append_assoc above (t ∷ []) (w.first ∷ w.further); differs = λ u us c. (clear-parts gone t cells inside rest u us c).0 }
-        | inr m ↦ let w = ends-behind gone above rest e m in
-            record { first = w.first; further = w.further; is = w.is; differs = λ u us c. w.differs u us (clear-parts gone t cells inside rest u us c).1 }
+        | inl m ↦ let w = ends-behind (beyond t.group known) (above ++ t ∷ []) inside e m in
+            record { first = t; further = w.first ∷ w.further; is = w.is ∙ append_assoc above (t ∷ []) (w.first ∷ w.further); differs = λ u us c. (clear-parts known t cells inside rest u us c).0 }
+        | inr m ↦ let w = ends-behind known above rest e m in
+            record { first = w.first; further = w.further; is = w.is; differs = λ u us c. w.differs u us (clear-parts known t cells inside rest u us c).1 }
       ]
     ]
 
 -- a row at a line that has its path, is one of those at the end of the path
 module _ (is_so : Cell → Bool) where
-  ends-apart : (gone : List Term) (above path : List Step) (plan : Plan) (cell : Cell) → is_apart gone plan path ≡ true → is_so cell ≡ true → Among (end_at (above ++ path) cell) (ends above plan) → Among cell.row (rows_at is_so plan path)
-  ends-apart gone above path nothing cell apart_it at h = absurd h
-  ends-apart gone above [] (a_line t cells inside rest) cell apart_it at h = absurd (false≢true apart_it)
-  ends-apart gone above (s ∷ path) (a_line t cells inside rest) cell apart_it at h =
-      go (λ q. ends-apart gone (above ++ t ∷ []) q inside cell) (λ k. ends-apart gone above (s ∷ path) rest cell k at) (same_step s t) refl apart_it
+  ends-apart : (known : Known) (above path : List Step) (plan : Plan) (cell : Cell) → is_apart known plan path ≡ true → is_so cell ≡ true → Among (end_at (above ++ path) cell) (ends above plan) → Among cell.row (rows_at is_so plan path)
+  ends-apart known above path nothing cell apart_it at h = absurd h
+  ends-apart known above [] (a_line t cells inside rest) cell apart_it at h = absurd (false≢true apart_it)
+  ends-apart known above (s ∷ path) (a_line t cells inside rest) cell apart_it at h =
+      go (λ q. ends-apart (beyond t.group known) (above ++ t ∷ []) q inside cell) (λ k. ends-apart known above (s ∷ path) rest cell k at) (same_step s t) refl apart_it
       (among-split (end_at (above ++ (s ∷ path)) cell) (map (end_at (above ++ t ∷ [])) cells) (ends (above ++ t ∷ []) inside ++ ends above rest) h)
     where
       here : (q : List Step) → (c : Cell) → end_at (above ++ t ∷ []) c ≡ end_at (above ++ (s ∷ q)) cell → (t ≡ s) × (q ≡ []) × (c ≡ cell)
@@ -121,34 +123,34 @@ module _ (is_so : Cell → Bool) where
           let path_is : t ∷ [] ≡ s ∷ q = cancel above (t ∷ []) (s ∷ q) (ap (λ (x : End). x.path) k) in
           (cc, cc, ap (λ (x : End). x.cell) k)
 
-      below : (q : List Step) (p : List Step) → p ≡ above ++ (s ∷ q) → IsBehind gone (above ++ t ∷ []) inside p → (s ≡ t) × ((u : Step) × (us : List Step) × (q ≡ u ∷ us))
+      below : (q : List Step) (p : List Step) → p ≡ above ++ (s ∷ q) → IsBehind (beyond t.group known) (above ++ t ∷ []) inside p → (s ≡ t) × ((u : Step) × (us : List Step) × (q ≡ u ∷ us))
       below q p is w =
           let path_is : s ∷ q ≡ t ∷ (w.first ∷ w.further) = cancel above (s ∷ q) (t ∷ (w.first ∷ w.further)) (sym is ∙ (w.is ∙ append_assoc above (t ∷ []) (w.first ∷ w.further))) in
           (cc, (w.first, w.further, cc))
 
-      beside : (p : List Step) → p ≡ above ++ (s ∷ path) → is_clear gone rest (s ∷ path) ≡ true → IsBehind gone above rest p → ⊥
+      beside : (p : List Step) → p ≡ above ++ (s ∷ path) → is_clear known rest (s ∷ path) ≡ true → IsBehind known above rest p → ⊥
       beside p is clear w =
           let path_is : s ∷ path ≡ w.first ∷ w.further = cancel above (s ∷ path) (w.first ∷ w.further) (sym is ∙ w.is) in
           w.differs s path clear cc
 
       further-on : (b : Bool) → (elim b [
-        | true ↦ (is_off gone s.guards t cells inside || elim path [ [] ↦ false | (u ∷ further) ↦ is_clear gone inside (u ∷ further) ]) && is_apart gone rest (s ∷ path)
-        | false ↦ is_apart gone rest (s ∷ path)
+        | true ↦ (is_off known s.guards t cells inside || elim path [ [] ↦ false | (u ∷ further) ↦ is_clear (beyond t.group known) inside (u ∷ further) ]) && is_apart known rest (s ∷ path)
+        | false ↦ is_apart known rest (s ∷ path)
       ]) ≡ true
-          → is_apart gone rest (s ∷ path) ≡ true
-      further-on true k = (both-true _ (is_apart gone rest (s ∷ path)) k).1
+          → is_apart known rest (s ∷ path) ≡ true
+      further-on true k = (both-true _ (is_apart known rest (s ∷ path)) k).1
       further-on false k = k
 
       at-end : (q : List Step)
-          → ((r : List Step) → is_apart gone inside r ≡ true → is_so cell ≡ true → Among (end_at ((above ++ t ∷ []) ++ r) cell) (ends (above ++ t ∷ []) inside) → Among cell.row (rows_at is_so inside r))
-          → (elim q [ [] ↦ is_nothing inside | (u ∷ further) ↦ is_apart gone inside (u ∷ further) ]) ≡ true → s ≡ t
+          → ((r : List Step) → is_apart (beyond t.group known) inside r ≡ true → is_so cell ≡ true → Among (end_at ((above ++ t ∷ []) ++ r) cell) (ends (above ++ t ∷ []) inside) → Among cell.row (rows_at is_so inside r))
+          → (elim q [ [] ↦ is_nothing inside | (u ∷ further) ↦ is_apart (beyond t.group known) inside (u ∷ further) ]) ≡ true → s ≡ t
           → (Among (end_at (above ++ (s ∷ q)) cell) (map (end_at (above ++ t ∷ [])) cells)) ⊎ (Among (end_at (above ++ (s ∷ q)) cell) (ends (above ++ t ∷ []) inside))
           → Among cell.row (elim q [ [] ↦ map (λ (x : Cell). x.row) (filter is_so cells) | (u ∷ further) ↦ rows_at is_so inside (u ∷ further) ])
       at-end [] inner k same (inl m) =
           let w = in-cells (above ++ t ∷ []) (end_at (above ++ (s ∷ [])) cell) cells m in
           among-map (λ (x : Cell). x.row) cell (filter is_so cells) (among-filter is_so cell cells at (subst (λ c. Among c cells) (here [] w.0 w.2).2 w.1))
       at-end [] inner k same (inr m) =
-          let w = below [] (above ++ (s ∷ [])) refl (ends-behind gone (above ++ t ∷ []) inside (end_at (above ++ (s ∷ [])) cell) m) in
+          let w = below [] (above ++ (s ∷ [])) refl (ends-behind (beyond t.group known) (above ++ t ∷ []) inside (end_at (above ++ (s ∷ [])) cell) m) in
           absurd (let z : ◌≡◌ {A = List Step} [] (w.1.0 ∷ w.1.1) = w.1.2 in cc)
       at-end (u ∷ us) inner k same (inl m) =
           let w = in-cells (above ++ t ∷ []) (end_at (above ++ (s ∷ (u ∷ us))) cell) cells m in
@@ -157,14 +159,14 @@ module _ (is_so : Cell → Bool) where
           inner (u ∷ us) k at
           (subst (λ p. Among (end_at p cell) (ends (above ++ t ∷ []) inside)) (ap (λ x. above ++ (x ∷ (u ∷ us))) same ∙ sym (append_assoc above (t ∷ []) (u ∷ us))) m)
 
-      go : ((r : List Step) → is_apart gone inside r ≡ true → is_so cell ≡ true → Among (end_at ((above ++ t ∷ []) ++ r) cell) (ends (above ++ t ∷ []) inside) → Among cell.row (rows_at is_so inside r))
-          → (is_apart gone rest (s ∷ path) ≡ true → Among (end_at (above ++ (s ∷ path)) cell) (ends above rest) → Among cell.row (rows_at is_so rest (s ∷ path)))
+      go : ((r : List Step) → is_apart (beyond t.group known) inside r ≡ true → is_so cell ≡ true → Among (end_at ((above ++ t ∷ []) ++ r) cell) (ends (above ++ t ∷ []) inside) → Among cell.row (rows_at is_so inside r))
+          → (is_apart known rest (s ∷ path) ≡ true → Among (end_at (above ++ (s ∷ path)) cell) (ends above rest) → Among cell.row (rows_at is_so rest (s ∷ path)))
           → (b : Bool) → same_step s t ≡ b
           → (elim b [
-            | true ↦ meets_all s.guards t cells inside && (is_clear gone rest (s ∷ path) && elim path [ [] ↦ is_nothing inside | (u ∷ further) ↦ is_apart gone inside (u ∷ further) ])
+            | true ↦ is_met_or_unwritten known s.guards t cells inside && (is_clear known rest (s ∷ path) && elim path [ [] ↦ is_nothing inside | (u ∷ further) ↦ is_apart (beyond t.group known) inside (u ∷ further) ])
             | false ↦ elim (apart.is_called s.name t.name) [
-              | true ↦ (is_off gone s.guards t cells inside || elim path [ [] ↦ false | (u ∷ further) ↦ is_clear gone inside (u ∷ further) ]) && is_apart gone rest (s ∷ path)
-              | false ↦ is_apart gone rest (s ∷ path)
+              | true ↦ (is_off known s.guards t cells inside || elim path [ [] ↦ false | (u ∷ further) ↦ is_clear (beyond t.group known) inside (u ∷ further) ]) && is_apart known rest (s ∷ path)
+              | false ↦ is_apart known rest (s ∷ path)
             ]
           ]) ≡ true
           → (Among (end_at (above ++ (s ∷ path)) cell) (map (end_at (above ++ t ∷ [])) cells)) ⊎ (Among (end_at (above ++ (s ∷ path)) cell) (ends (above ++ t ∷ []) inside ++ ends above rest))
@@ -181,14 +183,14 @@ module _ (is_so : Cell → Bool) where
           let further = both-true _ _ parts.1 in
           elim (among-split (end_at (above ++ (s ∷ path)) cell) (ends (above ++ t ∷ []) inside) (ends above rest) n) [
             | inl m ↦ at-end path inner further.1 (step-sound s t k) (inr m)
-            | inr m ↦ absurd (beside (above ++ (s ∷ path)) refl further.0 (ends-behind gone above rest (end_at (above ++ (s ∷ path)) cell) m))
+            | inr m ↦ absurd (beside (above ++ (s ∷ path)) refl further.0 (ends-behind known above rest (end_at (above ++ (s ∷ path)) cell) m))
           ]
       go inner later false k l (inl m) =
           let w = in-cells (above ++ t ∷ []) (end_at (above ++ (s ∷ path)) cell) cells m in
           absurd (not-same s t k (sym (here path w.0 w.2).0))
       go inner later false k l (inr n) =
           elim (among-split (end_at (above ++ (s ∷ path)) cell) (ends (above ++ t ∷ []) inside) (ends above rest) n) [
-            | inl m ↦ absurd (not-same s t k (below path (above ++ (s ∷ path)) refl (ends-behind gone (above ++ t ∷ []) inside (end_at (above ++ (s ∷ path)) cell) m)).0)
+            | inl m ↦ absurd (not-same s t k (below path (above ++ (s ∷ path)) refl (ends-behind (beyond t.group known) (above ++ t ∷ []) inside (end_at (above ++ (s ∷ path)) cell) m)).0)
             | inr m ↦ later (further-on (apart.is_called s.name t.name) l) m
           ]
 
@@ -206,18 +208,14 @@ one-row (r ∷ []) row h (inl s) = ap (λ x. x ∷ []) s
 one-row (r ∷ []) row h (inr a) = absurd a
 one-row (r ∷ (q ∷ rs)) row h a = absurd (false≢true h)
 
-pub row-without : (gone : List Term) (is_so : Cell → Bool) (rows : List Row) (j : ℕ) (row : Row) → All (λ (r : Row). 0 < length r.path) rows → slice_get rows j ≡ Some row → stands_apart_without gone rows row.path ≡ true
+pub row-known : (known : Known) (is_so : Cell → Bool) (rows : List Row) (j : ℕ) (row : Row) → All (λ (r : Row). 0 < length r.path) rows → slice_get rows j ≡ Some row → is_apart known (plan_of rows) row.path ≡ true
     → ((k : ℕ) → is_so (record { number = k; row = row }) ≡ true) → is_one (rows_at is_so (plan_of rows) row.path) ≡ true → rows_at is_so (plan_of rows) row.path ≡ row ∷ []
-row-without gone is_so rows j row long e apart_it so one =
+row-known known is_so rows j row long e apart_it so one =
     let w = own-end rows 0 j row e in
     let cell : Cell = record { number = w.0; row = row } in
     let at = contains-among (end_at row.path cell) (ends [] (plan_of rows)) (Contains-permutation (own_ends 0 rows) (ends [] (plan_of rows)) (end_at row.path cell) (rows-ends rows long)
     (among-contains (end_at row.path cell) (own_ends 0 rows) w.1)) in
-    one-row (rows_at is_so (plan_of rows) row.path) row one (ends-apart is_so gone [] row.path (plan_of rows) cell apart_it (so w.0) at)
-
-pub row-apart : (is_so : Cell → Bool) (rows : List Row) (j : ℕ) (row : Row) → All (λ (r : Row). 0 < length r.path) rows → slice_get rows j ≡ Some row → stands_apart rows row.path ≡ true
-    → ((k : ℕ) → is_so (record { number = k; row = row }) ≡ true) → is_one (rows_at is_so (plan_of rows) row.path) ≡ true → rows_at is_so (plan_of rows) row.path ≡ row ∷ []
-row-apart is_so rows j row long e apart_it so one = row-without [] is_so rows j row long e apart_it so one
+    one-row (rows_at is_so (plan_of rows) row.path) row one (ends-apart is_so known [] row.path (plan_of rows) cell apart_it (so w.0) at)
 
 -- ---- the test
 
@@ -225,7 +223,7 @@ leaf-is : (leaf : Leaf) → is_element leaf ≡ true → leaf ≡ leaves.Element
 leaf-is leaves.Element h = refl
 leaf-is (leaves.Attribute local) h = absurd (false≢true h)
 
-rule-is : (rule : Written) → is_always rule ≡ true → rule ≡ written.Always
+pub rule-is : (rule : Written) → is_always rule ≡ true → rule ≡ written.Always
 rule-is written.Always h = refl
 rule-is written.Never h = absurd (false≢true h)
 rule-is written.IfIban h = absurd (false≢true h)
@@ -243,35 +241,62 @@ content-is (contents.Constant text) term h = absurd (false≢true h)
 at-element : {leaf : Leaf} → leaf ≡ leaves.Element → (elim leaf [ leaves.Element ↦ true | (leaves.Attribute local) ↦ false ]) ≡ true
 at-element e = ap (λ l. elim l [ leaves.Element ↦ true | (leaves.Attribute local) ↦ false ]) e
 
-pub plain-by-test : (rows : List Row) (j : ℕ) (row : Row) (term : Term) → All (λ (r : Row). 0 < length r.path) rows → slice_get rows j ≡ Some row → is_plain rows row term ≡ true → IsPlain rows row term
-plain-by-test rows j row term long e h =
-    let a = both-true (stands_apart rows row.path) _ h in
-    let b = both-true (is_one (rows_at is_at_element (plan_of rows) row.path)) _ a.1 in
+pub plain-there-test : (known : Known) (rows : List Row) (j : ℕ) (row : Row) (term : Term) → All (λ (r : Row). 0 < length r.path) rows → slice_get rows j ≡ Some row → is_apart known (plan_of rows) row.path ≡ true
+    → is_plain_there (plan_of rows) row term ≡ true → IsPlainThere rows row term
+plain-there-test known rows j row term long e apart_it h =
+    let b = both-true (is_one (rows_at is_at_element (plan_of rows) row.path)) _ h in
     let c = both-true (is_element row.leaf) _ b.1 in
     let d = both-true (has_content term row.content) _ c.1 in
-    let f = both-true (is_whole (form_for row.form term)) _ d.1 in
-    let g = both-true (is_by_value row.written) _ f.1 in
+    let g = both-true (is_by_value row.written) _ d.1 in
     let i = both-true (pointwise same_group (groups_of row.path) (listed row.outer ++ listed row.inner)) _ g.1 in
     let l = both-true (is_some row.outer || is_none row.inner) _ i.1 in
     record {
-      apart = a.0;
-      own = row-apart is_at_element rows j row long e a.0 (λ k. at-element (leaf-is row.leaf c.0)) b.0;
+      own = row-known known is_at_element rows j row long e apart_it (λ k. at-element (leaf-is row.leaf c.0)) b.0;
       leaf = leaf-is row.leaf c.0;
       content = content-is row.content term d.0;
-      form = f.0;
       by_value = g.0;
       through = pointwise-sound same_group group-sound (groups_of row.path) (listed row.outer ++ listed row.inner) i.0;
       nested = l.0;
       context = l.1;
     }
 
+-- It is a plain row by what is known of the invoice.
+pub record IsPlainWith (known : Known) (rows : List Row) (row : Row) (term : Term) : Type 0 where
+  pub apart : is_apart known (plan_of rows) row.path ≡ true
+  pub form : is_whole (form_for row.form term) ≡ true
+  pub there : IsPlainThere rows row term
+
+pub plain-with-test : (known : Known) (rows : List Row) (j : ℕ) (row : Row) (term : Term) → All (λ (r : Row). 0 < length r.path) rows → slice_get rows j ≡ Some row → is_plain_with known (plan_of rows) row term ≡ true
+    → IsPlainWith known rows row term
+plain-with-test known rows j row term long e h =
+    let a = both-true (is_apart known (plan_of rows) row.path) _ h in
+    let f = both-true (is_whole (form_for row.form term)) (is_plain_there (plan_of rows) row term) a.1 in
+    record { apart = a.0; form = f.0; there = plain-there-test known rows j row term long e a.0 f.1 }
+
+pub plain-by-test : (rows : List Row) (j : ℕ) (row : Row) (term : Term) → All (λ (r : Row). 0 < length r.path) rows → slice_get rows j ≡ Some row → is_plain rows row term ≡ true → IsPlain rows row term
+plain-by-test rows j row term long e h = let w = plain-with-test unknown rows j row term long e h in record { apart = w.apart; form = w.form; there = w.there }
+
+-- It is plain, but for a subject code in front of its value.
+pub record IsNoted (rows : List Row) (row : Row) (term : Term) : Type 0 where
+  pub form : form_for row.form term ≡ forms.CodedNote
+  pub apart : stands_apart rows row.path ≡ true
+  pub there : IsPlainThere rows row term
+  pub codes : list_any (has_term subject_code) rows ≡ false
+
+coded-is : (form : Form) → is_coded form ≡ true → form ≡ forms.CodedNote
+coded-is forms.Model h = absurd (false≢true h)
+coded-is forms.PlainDate h = absurd (false≢true h)
+coded-is forms.DueDateTypeCode h = absurd (false≢true h)
+coded-is forms.CodedNote h = refl
+
 no-group : (o : Option Group) → is_none o ≡ true → o ≡ None
 no-group None k = refl
 no-group (Some g) k = absurd (false≢true k)
 
-pub spread-by-test : (rows : List Row) (j : ℕ) (row : Row) (term : Term) → All (λ (r : Row). 0 < length r.path) rows → slice_get rows j ≡ Some row → is_spread rows row term ≡ true → IsSpread rows row term
-spread-by-test rows j row term long e h =
-    let a = both-true (stands_apart rows row.path) _ h in
+pub spread-with-test : (known : Known) (rows : List Row) (j : ℕ) (row : Row) (term : Term) → All (λ (r : Row). 0 < length r.path) rows → slice_get rows j ≡ Some row → is_spread_with known (plan_of rows) row term ≡ true
+    → IsSpreadWith known rows row term
+spread-with-test known rows j row term long e h =
+    let a = both-true (is_apart known (plan_of rows) row.path) _ h in
     let b = both-true (is_one (rows_at is_at_element (plan_of rows) row.path)) _ a.1 in
     let c = both-true (is_element row.leaf) _ b.1 in
     let d = both-true (has_content term row.content) _ c.1 in
@@ -281,7 +306,7 @@ spread-by-test rows j row term long e h =
     let l = both-true (is_none row.inner) _ i.1 in
     record {
       apart = a.0;
-      own = row-apart is_at_element rows j row long e a.0 (λ k. at-element (leaf-is row.leaf c.0)) b.0;
+      own = row-known known is_at_element rows j row long e a.0 (λ k. at-element (leaf-is row.leaf c.0)) b.0;
       leaf = leaf-is row.leaf c.0;
       content = content-is row.content term d.0;
       form = f.0;
@@ -290,6 +315,9 @@ spread-by-test rows j row term long e h =
       inner = no-group row.inner l.0;
       context = l.1;
     }
+
+pub spread-by-test : (rows : List Row) (j : ℕ) (row : Row) (term : Term) → All (λ (r : Row). 0 < length r.path) rows → slice_get rows j ≡ Some row → is_spread rows row term ≡ true → IsSpread rows row term
+spread-by-test rows j row term long e h = spread-with-test unknown rows j row term long e h
 
 -- It is spread, but for a filler that may stand in its place.
 pub record IsFilled (rows : List Row) (row : Row) (term : Term) : Type 0 where
@@ -316,7 +344,7 @@ filled-by-test rows j row term long e h =
     record {
       filler = g.0;
       apart = a.0;
-      own = row-apart is_at_element rows j row long e a.0 (λ k. at-element (leaf-is row.leaf c.0)) b.0;
+      own = row-known unknown is_at_element rows j row long e a.0 (λ k. at-element (leaf-is row.leaf c.0)) b.0;
       leaf = leaf-is row.leaf c.0;
       content = content-is row.content term d.0;
       form = f.0;
@@ -357,7 +385,7 @@ there-by-test rows others j row term long e h =
     let l = both-true (is_none row.inner) _ i.1 in
     record {
       apart = a.0;
-      own = row-without others is_at_element rows j row long e a.0 (λ k. at-element (leaf-is row.leaf c.0)) b.0;
+      own = row-known (without others) is_at_element rows j row long e a.0 (λ k. at-element (leaf-is row.leaf c.0)) b.0;
       leaf = leaf-is row.leaf c.0;
       content = content-is row.content term d.0;
       form = f.0;
@@ -414,6 +442,13 @@ accounting-rule-is written.AccountingVatTotal h = refl
 pub test-behind : (b x : Bool) → (elim b [ true ↦ x | false ↦ false ]) ≡ true → (b ≡ true) × (x ≡ true)
 test-behind true x k = (refl, k)
 test-behind false x k = absurd (false≢true k)
+
+pub noted-by-test : (rows : List Row) (j : ℕ) (row : Row) (term : Term) → All (λ (r : Row). 0 < length r.path) rows → slice_get rows j ≡ Some row → is_noted_in (plan_of rows) rows row term ≡ true → IsNoted rows row term
+noted-by-test rows j row term long e h =
+    let g = test-behind (is_coded (form_for row.form term)) (is_apart unknown (plan_of rows) row.path && (is_plain_there (plan_of rows) row term && not (list_any (has_term subject_code) rows))) h in
+    let a = both-true (is_apart unknown (plan_of rows) row.path) _ g.1 in
+    let b = both-true (is_plain_there (plan_of rows) row term) (not (list_any (has_term subject_code) rows)) a.1 in
+    record { form = coded-is (form_for row.form term) g.0; apart = a.0; there = plain-there-test unknown rows j row term long e a.0 b.0; codes = not-so (list_any (has_term subject_code) rows) b.1 }
 
 pub total-by-test : (rows : List Row) (j : ℕ) (row : Row) (term : Term) → All (λ (r : Row). 0 < length r.path) rows → slice_get rows j ≡ Some row → is_total_in (plan_of rows) rows row term ≡ true → IsTotalRow rows row term
 total-by-test rows j row term long e h =
@@ -477,34 +512,41 @@ same-texts a = (bytes_eq-Decides a a).1 refl
 named-itself : (local : List ℕ) (leaf : Leaf) → leaf ≡ leaves.Attribute local → is_attribute_named local leaf ≡ true
 named-itself local leaf e = ap (is_attribute_named local) e ∙ same-texts local
 
-pub attribute-by-test : (rows : List Row) (i j : ℕ) (row : Row) (term : Term) (main : Row) (main_term : Term) → All (λ (r : Row). 0 < length r.path) rows → slice_get rows i ≡ Some row → slice_get rows j ≡ Some main
-    → is_plain_attribute rows row term main main_term ≡ true → IsPlainAttribute rows row term main main_term
-attribute-by-test rows i j row term main main_term long e f h =
+pub attribute-with-test : (known : Known) (rows : List Row) (i j : ℕ) (row : Row) (term : Term) (main : Row) (main_term : Term) → All (λ (r : Row). 0 < length r.path) rows → slice_get rows i ≡ Some row → slice_get rows j ≡ Some main
+    → is_plain_attribute_with known (plan_of rows) row term main main_term ≡ true → (is_apart known (plan_of rows) main.path ≡ true) × IsPlainAttributeThere rows row term main main_term
+attribute-with-test known rows i j row term main main_term long e f h =
     let a = both-true (pointwise same_step row.path main.path) _ h in
-    let b = both-true (is_plain rows main main_term) _ a.1 in
+    let b = both-true (is_plain_with known (plan_of rows) main main_term) _ a.1 in
     let c = both-true (same_or_none row.outer main.outer) _ b.1 in
     let d = both-true (same_or_none row.inner main.inner) _ c.1 in
     let g = both-true (is_part_named (plan_of rows) main row.leaf) _ d.1 in
     let k = both-true (has_content term row.content) _ g.1 in
     let l = both-true (is_whole (form_for row.form term)) (is_always row.written) k.1 in
-    let plain = plain-by-test rows j main main_term long f b.0 in
+    let plain = plain-with-test known rows j main main_term long f b.0 in
     let path : row.path ≡ main.path = pointwise-sound same_step step-sound row.path main.path a.0 in
-    let part = part-is (plan_of rows) main row.leaf g.0 in
-    record {
-      beside = plain;
-      path = path;
-      outer = or_none-is row.outer main.outer c.0;
-      inner = or_none-is row.inner main.inner d.0;
-      local = part.local;
-      leaf = part.is;
-      other = part.other;
-      own = ap (λ p. rows_at (is_at_attribute part.local) (plan_of rows) p) (sym path)
-          ∙ row-apart (is_at_attribute part.local) rows i row long e (ap (stands_apart rows) path ∙ plain.apart) (λ n. named-itself part.local row.leaf part.is)
-          (ap (λ p. is_one (rows_at (is_at_attribute part.local) (plan_of rows) p)) path ∙ part.one);
-      content = content-is row.content term k.0;
-      form = l.0;
-      written = rule-is row.written l.1;
-    }
+    let part = part-is (plan_of rows) main row.leaf g.0 in (
+      plain.apart,
+      record {
+        beside = plain.there;
+        main_form = plain.form;
+        path = path;
+        outer = or_none-is row.outer main.outer c.0;
+        inner = or_none-is row.inner main.inner d.0;
+        local = part.local;
+        leaf = part.is;
+        other = part.other;
+        own = ap (λ p. rows_at (is_at_attribute part.local) (plan_of rows) p) (sym path)
+            ∙ row-known known (is_at_attribute part.local) rows i row long e (ap (is_apart known (plan_of rows)) path ∙ plain.apart) (λ n. named-itself part.local row.leaf part.is)
+            (ap (λ p. is_one (rows_at (is_at_attribute part.local) (plan_of rows) p)) path ∙ part.one);
+        content = content-is row.content term k.0;
+        form = l.0;
+        written = rule-is row.written l.1;
+      },
+    )
+
+pub attribute-by-test : (rows : List Row) (i j : ℕ) (row : Row) (term : Term) (main : Row) (main_term : Term) → All (λ (r : Row). 0 < length r.path) rows → slice_get rows i ≡ Some row → slice_get rows j ≡ Some main
+    → is_plain_attribute rows row term main main_term ≡ true → IsPlainAttribute rows row term main main_term
+attribute-by-test rows i j row term main main_term long e f h = let w = attribute-with-test unknown rows i j row term main main_term long e f h in record { apart = w.0; there = w.1 }
 
 pub spread-attribute-by-test : (rows : List Row) (i j : ℕ) (row : Row) (term : Term) (main : Row) (main_term : Term) → All (λ (r : Row). 0 < length r.path) rows → slice_get rows i ≡ Some row → slice_get rows j ≡ Some main
     → is_spread_attribute rows row term main main_term ≡ true → IsSpreadAttribute rows row term main main_term
@@ -530,7 +572,7 @@ spread-attribute-by-test rows i j row term main main_term long e f h =
       leaf = part.is;
       other = part.other;
       own = ap (λ p. rows_at (is_at_attribute part.local) (plan_of rows) p) (sym path)
-          ∙ row-apart (is_at_attribute part.local) rows i row long e (ap (stands_apart rows) path ∙ spread.apart) (λ n. named-itself part.local row.leaf part.is)
+          ∙ row-known unknown (is_at_attribute part.local) rows i row long e (ap (is_apart unknown (plan_of rows)) path ∙ spread.apart) (λ n. named-itself part.local row.leaf part.is)
           (ap (λ p. is_one (rows_at (is_at_attribute part.local) (plan_of rows) p)) path ∙ part.one);
       content = content-is row.content term k.0;
       form = l.0;

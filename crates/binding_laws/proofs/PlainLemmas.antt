@@ -40,9 +40,10 @@ use Rattle.bind_meaning.specs.Picks.{Pick, nodes_picked}
 use Rattle.bind_meaning.specs.Writing.{slot_for, context_for, formed, if_due, row_text, writes_entry}
 use Rattle.bind_meaning.specs.Trees.{spots, spots_of, outer_spots, inner_spots, outer_count, inner_count, index_in, or_here, is_at_element, document_of}
 use Rattle.binding_laws.specs.Written.{Spot, written_at}
-use Rattle.binding_laws.specs.Plain.{rows_at, groups_of, listed, stands_there, is_beyond, stands_nowhere_else, is_in_groups, is_whole, IsPlain, is_written_by}
+use Rattle.binding_laws.specs.Apart.{stands_apart}
+use Rattle.binding_laws.specs.Plain.{rows_at, groups_of, listed, stands_there, is_beyond, stands_nowhere_else, is_in_groups, is_whole, IsPlainThere, is_written_by}
 use Rattle.binding_laws.proofs.TreeLemmas.{Each, each-weaker, filter-same}
-use Rattle.binding_laws.proofs.FormLemmas.{Laws, reads-as}
+use Rattle.binding_laws.proofs.FormLemmas.{Laws, reads-as, whole-uncoded}
 use Rattle.binding_laws.proofs.ValueLemmas as values
 use Rattle.binding_laws.proofs.RowLemmas.{elements-law}
 use Rattle.binding_laws.proofs.ListLemmas.{map-map}
@@ -279,7 +280,7 @@ groups-differ e p g h a b =
 
 -- ---- the contexts of a path
 
-abbrev IsAtGroups : Option Group → Option Group → Context → Type 0
+abbrev pub IsAtGroups : Option Group → Option Group → Context → Type 0
 IsAtGroups o i c = (slot_group c.outer ≡ o) × (slot_group c.inner ≡ i)
 
 -- the context is that of the groups, or one around it
@@ -291,15 +292,19 @@ or-of c d [] (inl e) = inl e
 or-of c d [] (inr a) = absurd a
 or-of c d (x ∷ ds) a = inr a
 
-reach-of : (es : List Entry) (path : List Step) (c : Context) (o i : Option Group) → groups_of path ≡ listed o ++ listed i → (is_some o || is_none i) ≡ true → Leads es path root_context c → IsReachable o i c
-reach-of es path c None None e n l = let w = leads-nowhere es path root_context c e l in inl (ap (λ (x : Context). slot_group x.outer) (sym w), ap (λ (x : Context). slot_group x.inner) (sym w))
-reach-of es path c None (Some g) e n l = absurd (false≢true n)
-reach-of es path c (Some f) None e n l =
-    elim (or-of root_context c (outer_spots f (outer_count es f)) (leads-to-one es path root_context c f e l)) [
+-- the contexts of a group's elements
+pub spots-reach : (es : List Entry) (f : Group) (c : Context) → Among c (spots es root_context (Some f)) → IsReachable (Some f) None c
+spots-reach es f c a =
+    elim (or-of root_context c (outer_spots f (outer_count es f)) a) [
       | inl w ↦ inr (inl (ap (λ (x : Context). slot_group x.outer) (sym w), ap (λ (x : Context). slot_group x.inner) (sym w)))
       | inr a ↦ let k = of-spots (λ k. record { outer = Some (record { group = f; index = k }); inner = None }) 1 (outer_count es f) c a in
           inl (ap (λ (x : Context). slot_group x.outer) k.1.1.1, ap (λ (x : Context). slot_group x.inner) k.1.1.1)
     ]
+
+reach-of : (es : List Entry) (path : List Step) (c : Context) (o i : Option Group) → groups_of path ≡ listed o ++ listed i → (is_some o || is_none i) ≡ true → Leads es path root_context c → IsReachable o i c
+reach-of es path c None None e n l = let w = leads-nowhere es path root_context c e l in inl (ap (λ (x : Context). slot_group x.outer) (sym w), ap (λ (x : Context). slot_group x.inner) (sym w))
+reach-of es path c None (Some g) e n l = absurd (false≢true n)
+reach-of es path c (Some f) None e n l = spots-reach es f c (leads-to-one es path root_context c f e l)
 reach-of es path c (Some f) (Some g) e n l =
     let two = leads-to-two es path root_context c f g e l in
     elim (or-of root_context two.0 (outer_spots f (outer_count es f)) two.1.0) [
@@ -323,7 +328,7 @@ same-groups-itself None = refl
 same-groups-itself (Some g) = same_group_itself g
 
 -- where such a context is one of the term's, it is that of the groups
-context-there : (e : Entry) (term : Term) (o i : Option Group) → e.term ≡ term → is_placed e ≡ true → stands_nowhere_else term o i ≡ true → IsReachable o i e.context → IsAtGroups o i e.context
+pub context-there : (e : Entry) (term : Term) (o i : Option Group) → e.term ≡ term → is_placed e ≡ true → stands_nowhere_else term o i ≡ true → IsReachable o i e.context → IsAtGroups o i e.context
 context-there e term o i same p there reach =
     let eo : Option Group = slot_group e.context.outer in
     let ei : Option Group = slot_group e.context.inner in
@@ -544,18 +549,18 @@ module _ (law : Laws) (es : List Entry) (invoice : IsInvoice es) (term : Term) w
       go later true e m = here later (value_in es term spot.context) e m
       go later false e m = later m
 
-module _ (law : Laws) (rows : List Row) (es : List Entry) (invoice : IsInvoice es) (row : Row) (term : Term) (plain : IsPlain rows row term) where
+module _ (law : Laws) (rows : List Row) (es : List Entry) (invoice : IsInvoice es) (row : Row) (term : Term) (plain : IsPlainThere rows row term) where
   abbrev spots_at : List Spot
   spots_at = written_at rows es row.path
 
   abbrev pub due : Context → Option Value → Option (List ℕ)
-  due c o = values.due es row term plain.content (values.by-value es row.written plain.by_value) c o
+  due c o = values.due es row term plain.content (values.by-value es row term plain.by_value) c o
 
   abbrev pub is_written : Context → Bool
   is_written c = is_written_by row term es c
 
-  pub written-as : (d : Context) → row_text row es d ≡ values.due es row term plain.content (values.by-value es row.written plain.by_value) (context_for row d) (value_in es term (context_for row d))
-  written-as d = values.written-as es row term plain.content (values.by-value es row.written plain.by_value) d
+  pub written-as : (d : Context) → row_text row es d ≡ values.due es row term plain.content (values.by-value es row term plain.by_value) (context_for row d) (value_in es term (context_for row d))
+  written-as d = values.written-as es row term plain.content (values.by-value es row term plain.by_value) d
 
   abbrev pub value_text : Context → Option Value → List ℕ
   value_text c o = elim o [ None ↦ [] | Some value ↦ formed (form_for row.form term) es c value ]
@@ -573,7 +578,7 @@ module _ (law : Laws) (rows : List Row) (es : List Entry) (invoice : IsInvoice e
 
   pub text-as : (d : Context) → context_for row d ≡ d → IsReachable row.outer row.inner d → own_text es d row ≡ (elim (is_written d) [ true ↦ value_text d (value_in es term d) | false ↦ [] ])
   text-as d own reach =
-      values.text-as es row term plain.content (values.by-value es row.written plain.by_value) d
+      values.text-as es row term plain.content (values.by-value es row term plain.by_value) d
       ∙ (ap (λ c. elim (is_some (value_in es term c) && writes_entry row es d) [ true ↦ elim (value_in es term c) [ None ↦ [] | Some value ↦ formed (form_for row.form term) es c value ] | false ↦ [] ]) own
       ∙ ap (λ b. elim b [ true ↦ elim (value_in es term d) [ None ↦ [] | Some value ↦ formed (form_for row.form term) es d value ] | false ↦ [] ]) (groups-there d reach (value_in es term d) refl (writes_entry row es d)))
 
@@ -650,10 +655,10 @@ module _ (law : Laws) (rows : List Row) (es : List Entry) (invoice : IsInvoice e
   abbrev pub written_spots : List Spot → List Spot
   written_spots spots = filter (λ (spot : Spot). is_written spot.context) spots
 
-  strings : (spots : List Spot) → Each (λ (spot : Spot). spot.text ≡ own_text es spot.context row) spots → Each (λ (spot : Spot). context_for row spot.context ≡ spot.context) spots → Each (λ (spot : Spot). IsReachable row.outer row.inner spot.context) spots
+  strings : is_whole (form_for row.form term) ≡ true → (spots : List Spot) → Each (λ (spot : Spot). spot.text ≡ own_text es spot.context row) spots → Each (λ (spot : Spot). context_for row spot.context ≡ spot.context) spots → Each (λ (spot : Spot). IsReachable row.outer row.inner spot.context) spots
       → filter is_full (map (λ (spot : Spot). spot.text) spots) ≡ map (λ (e : Entry). formed (form_for row.form term) es e.context e.value) (entries-of law es invoice term (written_spots spots))
-  strings [] h k l = refl
-  strings (spot ∷ spots) h k l = go (strings spots h.1 k.1 l.1) (is_written spot.context) (h.0 ∙ text-as spot.context k.0 l.0)
+  strings form [] h k l = refl
+  strings form (spot ∷ spots) h k l = go (strings form spots h.1 k.1 l.1) (is_written spot.context) (h.0 ∙ text-as spot.context k.0 l.0)
     where
       one : (b : Bool) (x : List ℕ) (xs : List (List ℕ)) → (if b then x ∷ xs else xs) ≡ (if b then x ∷ [] else []) ++ xs
       one true x xs = refl
@@ -670,7 +675,7 @@ module _ (law : Laws) (rows : List Row) (es : List Entry) (invoice : IsInvoice e
       go later true text =
           one (is_full spot.text) spot.text (filter is_full (map (λ (x : Spot). x.text) spots))
           ∙ (ap (λ t. (if is_full t then t ∷ [] else []) ++ filter is_full (map (λ (x : Spot). x.text) spots)) text
-          ∙ (ap (λ l. l ++ filter is_full (map (λ (x : Spot). x.text) spots)) (one-string law es invoice term row.form plain.form spot.context (value_in es term spot.context) refl)
+          ∙ (ap (λ l. l ++ filter is_full (map (λ (x : Spot). x.text) spots)) (one-string law es invoice term row.form form spot.context (value_in es term spot.context) refl)
           ∙ (ap (λ l. map (λ (e : Entry). formed (form_for row.form term) es e.context e.value) (entry_at es term spot.context) ++ l) later
           ∙ sym (map-append (entry_at es term spot.context) (flat_map (λ (x : Spot). entry_at es term x.context) (written_spots spots))))))
       go later false text = ap (λ t. if is_full t then t ∷ filter is_full (map (λ (x : Spot). x.text) spots) else filter is_full (map (λ (x : Spot). x.text) spots)) text ∙ later
@@ -752,11 +757,11 @@ module _ (law : Laws) (rows : List Row) (es : List Entry) (invoice : IsInvoice e
         λ h. among-contains x (entries-of law es invoice term (written_spots spots_at)) (wanted-known x (contains-among x (filter wanted es) h)),
       ))
 
-  pub plain-law : (k : ℕ) → map (λ (pick : Pick). string_at (document_nodes (document_of rows es)) pick.node) (nodes_picked (document_nodes (document_of rows es)) k row)
+  pub plain-law : stands_apart rows row.path ≡ true → is_whole (form_for row.form term) ≡ true → (k : ℕ) → map (λ (pick : Pick). string_at (document_nodes (document_of rows es)) pick.node) (nodes_picked (document_nodes (document_of rows es)) k row)
       ≡ map (λ (e : Entry). formed (form_for row.form term) es e.context e.value) (filter (λ (e : Entry). same_term e.term term && is_written_by row term es e.context) es)
-  plain-law k =
-      elements-law rows es k row plain.leaf plain.apart
-      ∙ (strings spots_at (own-texts es row (plan_of rows) row.path false root_context plain.own) contexts.own reaches
+  plain-law apart form k =
+      elements-law rows es k row plain.leaf apart
+      ∙ (strings form spots_at (own-texts es row (plan_of rows) row.path false root_context plain.own) contexts.own reaches
       ∙ ap (map (λ (e : Entry). formed (form_for row.form term) es e.context e.value)) same-entries)
 
   -- a row that is always written, writes all values of its term
@@ -786,16 +791,16 @@ module _ (law : Laws) (rows : List Row) (es : List Entry) (invoice : IsInvoice e
 
   -- ---- what the strings say
 
-  said-again : (xs : List Entry) → All (λ (e : Entry). Fits e.term e.value) xs → map (λ s. said row.form term s) (map (λ (e : Entry). formed (form_for row.form term) es e.context e.value) (filter wanted xs))
+  said-again : is_whole (form_for row.form term) ≡ true → (xs : List Entry) → All (λ (e : Entry). Fits e.term e.value) xs → map (λ s. said row.form term s) (map (λ (e : Entry). formed (form_for row.form term) es e.context e.value) (filter wanted xs))
       ≡ map (λ (e : Entry). record { term = term; value = Some e.value } ∷ []) (filter wanted xs)
-  said-again [] h = refl
-  said-again (e ∷ xs) h = go (wanted e) refl (said-again xs (All-tail (λ (x : Entry). Fits x.term x.value) e xs h))
+  said-again form [] h = refl
+  said-again form (e ∷ xs) h = go (wanted e) refl (said-again form xs (All-tail (λ (x : Entry). Fits x.term x.value) e xs h))
     where
       fits : Fits e.term e.value
       fits = All-head (λ (x : Entry). Fits x.term x.value) e xs h
 
       says : e.term ≡ term → said row.form term (formed (form_for row.form term) es e.context e.value) ≡ record { term = term; value = Some e.value } ∷ []
-      says t = (reads-as law row.form term es e.context e.value plain.form (subst (λ x. Fits x e.value) t fits)).said
+      says t = (reads-as law row.form term es e.context e.value form (subst (λ x. Fits x e.value) t fits)).said ∙ ap (λ l. record { term = term; value = Some e.value } ∷ l) (whole-uncoded (form_for row.form term) es e.context form)
 
       go : (b : Bool) → wanted e ≡ b
           → map (λ s. said row.form term s) (map (λ (x : Entry). formed (form_for row.form term) es x.context x.value) (filter wanted xs)) ≡ map (λ (x : Entry). record { term = term; value = Some x.value } ∷ []) (filter wanted xs)
@@ -804,8 +809,8 @@ module _ (law : Laws) (rows : List Row) (es : List Entry) (invoice : IsInvoice e
       go true k more = (λ i. says (same_term_is e.term term (both (same_term e.term term) (is_written e.context) k).0) i ∷ more i)
       go false k more = more
 
-  pub says-law : (k : ℕ) → map (λ (pick : Pick). said row.form term (string_at (document_nodes (document_of rows es)) pick.node)) (nodes_picked (document_nodes (document_of rows es)) k row)
+  pub says-law : stands_apart rows row.path ≡ true → is_whole (form_for row.form term) ≡ true → (k : ℕ) → map (λ (pick : Pick). said row.form term (string_at (document_nodes (document_of rows es)) pick.node)) (nodes_picked (document_nodes (document_of rows es)) k row)
       ≡ map (λ (e : Entry). record { term = term; value = Some e.value } ∷ []) (filter (λ (e : Entry). same_term e.term term && is_written_by row term es e.context) es)
-  says-law k =
+  says-law apart form k =
       sym (map-map (λ s. said row.form term s) (λ (pick : Pick). string_at (document_nodes (document_of rows es)) pick.node) (nodes_picked (document_nodes (document_of rows es)) k row))
-      ∙ (ap (map (λ s. said row.form term s)) (plain-law k) ∙ said-again es invoice.fit)
+      ∙ (ap (map (λ s. said row.form term s)) (plain-law apart form k) ∙ said-again form es invoice.fit)

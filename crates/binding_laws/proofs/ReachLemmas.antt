@@ -1,7 +1,8 @@
 -- A line is written in each context in which its row writes something.
 use Rattle.std.proofs.Common.{◌≡◌, Bool, true, false, ◌||◌, List, [], ◌∷◌, ◌++◌, map, filter, flat_map, Some, ◌⊎◌, inl, inr, refl, sym, ap, ◌∙◌, subst}
 use Rattle.std.specs.Prelude.{if◌then◌else◌}
-use Rattle.std.specs.List.{list_any}
+use Rattle.std.specs.List.{list_all, list_any}
+use Rattle.std.proofs.lemmas.Bool.{false≢true}
 use Rattle.term_table.specs.declared.groups.Group.{Group}
 use Rattle.term_table.specs.declared.contexts.Context.{Context}
 use Rattle.inv_terms.specs.declared.entries.Entry.{Entry}
@@ -16,7 +17,7 @@ use Rattle.binding_laws.specs.Written.{Spot, emitted, at_end, spots_below}
 use Rattle.binding_laws.specs.Plain.{groups_of, rows_at}
 use Rattle.binding_laws.proofs.TreeLemmas.{Each}
 use Rattle.binding_laws.proofs.ContextLemmas.{each-flat_map, all-each, no-groups, some-group}
-use Rattle.binding_laws.proofs.ListLemmas.{append-nil}
+use Rattle.binding_laws.proofs.ListLemmas.{append-nil, both-true}
 use Rattle.binding_laws.proofs.CellLemmas.{own_text, text-by-rows}
 
 -- ---- membership, by recursion
@@ -66,6 +67,32 @@ any-among p x (y ∷ xs) e (inr h) = ap (λ b. p y || b) (any-among p x xs e h) 
     or-true : (b : Bool) → (b || true) ≡ true
     or-true true = refl
     or-true false = refl
+
+pub any-is : {X : Type 0} (p : X → Bool) (xs : List X) → list_any p xs ≡ true → (x : X) × (Among x xs × (p x ≡ true))
+any-is p [] h = absurd (false≢true h)
+any-is {X = X} p (y ∷ xs) h = go (any-is p xs) (p y) refl h
+  where
+    go : (list_any p xs ≡ true → (x : X) × (Among x xs × (p x ≡ true))) → (b : Bool) → p y ≡ b → (b || list_any p xs) ≡ true → (x : X) × (((y ≡ x) ⊎ Among x xs) × (p x ≡ true))
+    go later true e k = (y, (inl refl, e))
+    go later false e k = let w = later k in (w.0, (inr w.1.0, w.1.1))
+
+pub all-is : {X : Type 0} (p : X → Bool) (xs : List X) (x : X) → list_all p xs ≡ true → Among x xs → p x ≡ true
+all-is p [] x h a = absurd a
+all-is p (y ∷ xs) x h (inl s) = ap p (sym s) ∙ (both-true (p y) (list_all p xs) h).0
+all-is p (y ∷ xs) x h (inr a) = all-is p xs x (both-true (p y) (list_all p xs) h).1 a
+
+pub none-is : {X : Type 0} (p : X → Bool) (xs : List X) (x : X) → list_any p xs ≡ false → Among x xs → p x ≡ false
+none-is p [] x h a = absurd a
+none-is p (y ∷ xs) x h (inl s) = ap p (sym s) ∙ first (p y) (list_any p xs) h
+  where
+    first : (a b : Bool) → (a || b) ≡ false → a ≡ false
+    first true b k = absurd (false≢true (sym k))
+    first false b k = refl
+none-is p (y ∷ xs) x h (inr a) = none-is p xs x (second (p y) (list_any p xs) h) a
+  where
+    second : (a b : Bool) → (a || b) ≡ false → b ≡ false
+    second true b k = absurd (false≢true (sym k))
+    second false b k = k
 
 -- ---- the way to a context
 

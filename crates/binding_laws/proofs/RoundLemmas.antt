@@ -6,6 +6,7 @@ use Rattle.std.specs.Str.{bytes_eq}
 use Rattle.std.proofs.lemmas.Bool.{false≢true}
 use Rattle.std.proofs.lemmas.Bool.Decides.{nat_tests}
 use Rattle.std.proofs.lemmas.Option.{same_Some}
+use Rattle.std.proofs.lemmas.Slice.Eq.{bytes_eq-Decides}
 use Rattle.std.proofs.lemmas.List.Elements.{All-head, All-tail}
 use Rattle.inv_base.specs.Tree.{Node, document_nodes}
 use Rattle.term_table.specs.declared.groups.Group.{Group}
@@ -21,7 +22,7 @@ use Rattle.term_table.proofs.GroupLemmas.{same_group_itself}
 use Rattle.inv_terms.specs.declared.values.Value.{Value}
 use Rattle.inv_terms.specs.declared.entries.Entry.{Entry}
 use Rattle.inv_terms.specs.Values.{trimmed, spelled}
-use Rattle.inv_terms.specs.Listing.{IsInvoice, value_in}
+use Rattle.inv_terms.specs.Listing.{IsInvoice, Fits, value_in}
 use Rattle.bind_rows.specs.declared.names.Leaf.{Leaf}
 use Rattle.bind_rows.specs.declared.names.Leaf.TheVariants as leaves
 use Rattle.bind_rows.specs.declared.rows.Content.{Content}
@@ -38,7 +39,7 @@ use Rattle.bind_table.specs.Lines.{plan_of}
 use Rattle.bind_table.specs.WellFormed.{depth_of, is_carried, first_fault}
 use Rattle.bind_lines.specs.Fronts.{HasGroup}
 use Rattle.bind_lines.proofs.FrontLemmas.{one-element}
-use Rattle.bind_meaning.specs.Values.{letter_of, Said, said, form_for}
+use Rattle.bind_meaning.specs.Values.{letter_of, Said, said, subject_code, note, suits, form_for}
 use Rattle.bind_meaning.specs.Elements.{has_element_inside, number, string_at}
 use Rattle.bind_meaning.specs.Picks.{Pick, has_term, term_in, has_any_term, Numbered, numbered, rows_where, all_picked, around_last, stands_beside, is_filler, without_fillers, last_of, leaves_of, nodes_picked}
 use Rattle.bind_meaning.specs.Currencies.{Currencies, currencies, invoice_currency, accounting_currency, first_string, amount_currency, is_in_its_currency, in_their_currencies}
@@ -51,17 +52,21 @@ use Rattle.bind_meaning.specs.Writing.{context_for, formed, if_so, if_due, row_t
 use Rattle.bind_meaning.specs.Trees.{document_of, constant_or_text, is_vat_total}
 use Rattle.binding_laws.specs.Apart.{holds_none}
 use Rattle.binding_laws.specs.Plain as plain
-use Rattle.binding_laws.specs.Plain.{is_element, groups_of, is_written_by, is_spread, is_spread_in, is_spread_by, is_spread_attribute, is_spread_attribute_in, is_spread_beside, is_plain_in, is_plain, is_plain_by, is_plain_beside, is_plain_attribute, is_plain_attribute_in}
-use Rattle.binding_laws.specs.Covered.{currency_in, is_or_filler, is_filled_in, is_filled_by, is_covered, writes_beside, writes_plainly, is_written_plainly, rows_there, terms_in, beside_filler, is_other, left_out, is_left_out, is_bare, is_no_currency, is_settled, holds_plainly, is_read_back, reads_back, is_accounting_rule, accounting_terms, unpaired_terms, is_total_in, is_total_by, is_pair_in, is_pair_by, is_shadowed, currency_text, is_other_text, has_currencies}
+use Rattle.binding_laws.specs.Plain.{is_element, groups_of, is_written_by, is_spread, is_spread_in, is_spread_by, is_spread_attribute, is_spread_attribute_in, is_spread_beside, is_plain_in, is_plain, is_plain_by, is_plain_beside, is_plain_attribute, is_plain_attribute_in, is_plain_attribute_with, is_plain_with, is_spread_with, IsPlainThere, IsPlainAttributeThere}
+use Rattle.binding_laws.specs.Known.{known_of, is_as_known}
+use Rattle.binding_laws.specs.Covered.{is_coded, is_noted_in, is_noted_by, writes_code, code_terms_of, code_terms, is_subject, is_coded_note, is_misread_note, is_coded_row, is_bad_note, is_known_beside, is_known_by, writes_known_beside, writes_known, currency_in, is_or_filler, is_filled_in, is_filled_by, is_joined, unjoined_terms, is_like_filler, is_unmistaken, is_covered, writes_beside, writes_plainly, is_written_plainly, rows_there, terms_in, beside_filler, is_other, left_out, is_left_out, is_bare, is_no_currency, is_settled, holds_plainly, is_read_back, reads_back, is_accounting_rule, accounting_terms, unpaired_terms, is_total_in, is_total_by, is_pair_in, is_pair_by, is_shadowed, currency_text, is_other_text, has_currencies}
 use Rattle.binding_laws.specs.Twins.{same_way}
 use Rattle.binding_laws.proofs.TreeLemmas.{Each, same-is}
-use Rattle.binding_laws.proofs.ListLemmas.{both-true, not-true}
-use Rattle.binding_laws.proofs.ReachLemmas.{Among, among-front, among-back, among-flat_map, among-filter, among-map}
-use Rattle.binding_laws.proofs.FormLemmas.{code-as-it-is, Laws}
-use Rattle.binding_laws.proofs.RowLemmas.{Place, places_at, IsAt, ArePlaced, placed-without, placed-at}
+use Rattle.binding_laws.proofs.ListLemmas.{both-true, not-true, or-either}
+use Rattle.binding_laws.proofs.ReachLemmas.{Among, among-front, among-back, among-flat_map, among-filter, among-map, any-is, all-is, none-is, any-among}
+use Rattle.binding_laws.proofs.FormLemmas.{code-as-it-is, trimmed-as-it-is, Laws, code_said, IsNote, note-term, IsBack, of-code-said}
+use Rattle.binding_laws.proofs.GoneLemmas.{gone-value}
+use Rattle.binding_laws.proofs.RowLemmas.{Place, places_at, IsAt, ArePlaced, placed-known, placed-without, placed-at}
 use Rattle.binding_laws.proofs.PlainLemmas as plain_rows
-use Rattle.binding_laws.proofs.PlainLemmas.{groups-differ, fits-among, at-value, own-value}
-use Rattle.binding_laws.proofs.PlacedLemmas.{contains-among, among-contains, plain-by-test, spread-by-test, IsFilled, filled-by-test, IsTotalRow, accounting-rule-is, total-by-test, attribute-by-test, spread-attribute-by-test}
+use Rattle.binding_laws.proofs.PlainLemmas.{groups-differ, fits-among, at-value, own-value, written-some}
+use Rattle.binding_laws.proofs.PlacedLemmas.{contains-among, among-contains, plain-with-test, plain-by-test, spread-with-test, spread-by-test, IsFilled, filled-by-test, IsTotalRow, accounting-rule-is, noted-by-test, total-by-test, attribute-with-test, attribute-by-test, spread-attribute-by-test}
+use Rattle.binding_laws.proofs.KnownLemmas.{Knows}
+use Rattle.binding_laws.proofs.AskedLemmas.{knows-asked}
 use Rattle.binding_laws.proofs.PassedLemmas.{nothing-passed}
 use Rattle.binding_laws.proofs.PlaceLemmas.{of-flat_map, of-map, of-filter-any, upto, has_carrier}
 use Rattle.binding_laws.proofs.SeatingLemmas.{IsPicked, AreSeated, context-is}
@@ -71,7 +76,8 @@ use Rattle.binding_laws.proofs.CurrencyLemmas.{IsOwnCurrency, AreNamed, AreOwn, 
 use Rattle.binding_laws.proofs.TotalLemmas.{row-of, amount-of, own-amount}
 use Rattle.binding_laws.proofs.TwinLemmas.{same-ways}
 use Rattle.binding_laws.proofs.SilentLemmas.{IsQuiet, quiet-picks-nothing}
-use Rattle.binding_laws.proofs.CoverLemmas.{plain-writes, spread-writes, attribute-writes, spread-attribute-writes, Absent, no-value, IsTotal, no-strange, only-own, IsSpreadHere, Covers, plain-covers, spread-here, root-entry, spread-covers, attribute-covers, spread-attribute-covers, IsTold, IsNotTold, of-picked, to-picked, any-is, all-is, none-is, or-either, row-at}
+use Rattle.binding_laws.proofs.CoverLemmas.{plain-writes, spread-writes, attribute-writes, spread-attribute-writes, Absent, no-value, IsKept, IsTotal, HasCodes, no-strange, only-own, IsSpreadHere, Covers, plain-covers, spread-known, spread-here, root-entry, root-value, spread-covers, attribute-covers, spread-attribute-covers, IsTold, IsNotTold, of-picked, to-picked, row-at}
+use Rattle.binding_laws.proofs.FillerLemmas.{IsToldFiller, told-by-test, fillers-not-told}
 use Rattle.binding_laws.proofs.BothLemmas.{money-letter, accounting-letter, money-form, accounting-form, total-currencies, own-total, no-filled, pair-of-term}
 
 -- ---- rows of a table
@@ -168,19 +174,22 @@ module _ (law : Laws) (rows : List Row) (es : List Entry) (invoice : IsInvoice e
   held e a =
       let w = both-true (not (is_left_out rows e.term)) (reads_back rows e && is_written_plainly rows es e)
       (all-is (λ (x : Entry). not (is_left_out rows x.term) && (reads_back rows x && is_written_plainly rows es x)) es e
-      (both-true (list_all (λ (x : Entry). not (is_left_out rows x.term) && (reads_back rows x && is_written_plainly rows es x)) es) (has_currencies rows es) plainly).0 a) in
+      (both-true (list_all (λ (x : Entry). not (is_left_out rows x.term) && (reads_back rows x && is_written_plainly rows es x)) es) _ plainly).0 a) in
       let v = both-true (reads_back rows e) (is_written_plainly rows es e) w.1 in
       record { kept = w.0; back = v.0; written_so = v.1 }
 
-  -- a row reads back what it writes of an entry of its term
-  pub row-back : (row : Row) → Among row rows → (term : Term) → row.content ≡ contents.Term term → (e : Entry) → Among e es → e.term ≡ term → is_read_back (form_for row.form term) e.value ≡ true
-  row-back row a term content e b t =
-      let here = all-is (λ (r : Row). not (has_term e.term r) || is_read_back (form_for r.form e.term) e.value) rows row (held e b).back a in
-      let has : has_term e.term row ≡ true = ap (λ x. elim (term_in x) [ None ↦ false | Some u ↦ same_term u e.term ]) content ∙ (ap (λ u. same_term u e.term) (sym t) ∙ same-term-itself e.term) in
-      subst (λ u. is_read_back (form_for row.form u) e.value ≡ true) t (sym (ap (λ b. not b || is_read_back (form_for row.form e.term) e.value) has) ∙ here)
-    where
-      same-term-itself : (u : Term) → same_term u u ≡ true
-      same-term-itself u = grind (arith, nat_tests)
+  -- what is held of the invoice beside that
+  others-held : (has_currencies rows es && list_all (is_unmistaken (plan_of rows) rows es) es) ≡ true
+  others-held = (both-true (list_all (λ (x : Entry). not (is_left_out rows x.term) && (reads_back rows x && is_written_plainly rows es x)) es) _ plainly).1
+
+  unmistaken : (e : Entry) → Among e es → (not (list_any (is_like_filler (plan_of rows) rows es e) rows) ≡ true) × ((is_as_known (known_of rows) es e && not (is_bad_note rows es e)) ≡ true)
+  unmistaken e a =
+      both-true (not (list_any (is_like_filler (plan_of rows) rows es e) rows)) (is_as_known (known_of rows) es e && not (is_bad_note rows es e))
+      (all-is (is_unmistaken (plan_of rows) rows es) es e (both-true (has_currencies rows es) _ others-held).1 a)
+
+  -- what is asked of the invoice is known of it
+  knows : Knows (known_of rows) es root_context
+  knows = knows-asked law rows es invoice (λ e a. (both-true (is_as_known (known_of rows) es e) (not (is_bad_note rows es e)) (unmistaken e a).1).0)
 
   abbrev all_nodes : List Node
   all_nodes = document_nodes (document_of rows es)
@@ -188,15 +197,73 @@ module _ (law : Laws) (rows : List Row) (es : List Entry) (invoice : IsInvoice e
   left-unsaid : (term : Term) → Among term (left_out rows) → (e : Entry) → Among e es → same_term e.term term ≡ false
   left-unsaid term a e b = none-is (same_term e.term) (left_out rows) term (not-true (is_left_out rows e.term) (held e b).kept) a
 
+  -- notes and subject codes are read as they are, where a row writes the ones behind the others
+  good-note : (row : Row) → Among row rows → (term : Term) → row.content ≡ contents.Term term → form_for row.form term ≡ forms.CodedNote → (e : Entry) → Among e es → e.term ≡ term → IsNote es e.context e.value
+  good-note row a term content form e known is = by-code (value_in es subject_code e.context) refl
+    where
+      some-coded : list_any is_coded_row rows ≡ true
+      some-coded = any-among is_coded_row row rows (ap (λ x. elim x [ (contents.Term u) ↦ is_coded (form_for row.form u) | (contents.Constant text) ↦ false ]) content ∙ ap is_coded form) a
+
+      not-misread : (x : Entry) → Among x es → is_misread_note es x ≡ false
+      not-misread x b =
+          ap (λ b. b && is_misread_note es x) (sym some-coded)
+          ∙ not-true (is_bad_note rows es x) (both-true (is_as_known (known_of rows) es x) (not (is_bad_note rows es x)) (unmistaken x b).1).1
+
+      is-note : same_term e.term note ≡ true
+      is-note = ap (λ t. same_term t note) (is ∙ note-term row.form term (suits row.form term) refl form)
+
+      either-false : (a b : Bool) → (a || b) ≡ false → (a ≡ false) × (b ≡ false)
+      either-false true b h = absurd (false≢true (sym h))
+      either-false false b h = (refl, h)
+
+      by-code : (o : Option Value) → value_in es subject_code e.context ≡ o → IsNote es e.context e.value
+      by-code None none = inl (
+        none,
+        (λ i. sym is-note i && (is_none (sym none i) && is_coded_note (spelled e.value)))
+            ∙ (either-false (same_term e.term subject_code && not (is_subject (spelled e.value))) (same_term e.term note && (is_none (value_in es subject_code e.context) && is_coded_note (spelled e.value))) (not-misread e known)).1,
+      )
+      by-code (Some code) at =
+          let x : Entry = record { context = e.context; term = subject_code; value = code } in
+          let x_known = at-value law es invoice subject_code e.context code at in
+          inr (
+            code,
+            (
+              at,
+              (
+                is-true (is_subject (spelled code)) (either-false (not (is_subject (spelled code))) (same_term subject_code note && (is_none (value_in es subject_code e.context) && is_coded_note (spelled code))) (not-misread x x_known)).0,
+                fits-among law es invoice subject_code x es invoice.fit x_known,
+              ),
+            ),
+          )
+        where
+          is-true : (b : Bool) → not b ≡ false → b ≡ true
+          is-true true h = refl
+          is-true false h = absurd (false≢true (sym h))
+
+  -- a row reads back what it writes of an entry of its term
+  pub row-back : (row : Row) → Among row rows → (term : Term) → row.content ≡ contents.Term term → (e : Entry) → Among e es → e.term ≡ term → IsBack es (form_for row.form term) e.context e.value
+  row-back row a term content e b t =
+      let here = all-is (λ (r : Row). not (has_term e.term r) || is_read_back (form_for r.form e.term) e.value) rows row (held e b).back a in
+      let has : has_term e.term row ≡ true = ap (λ x. elim (term_in x) [ None ↦ false | Some u ↦ same_term u e.term ]) content ∙ (ap (λ u. same_term u e.term) (sym t) ∙ same-term-itself e.term) in (
+        subst (λ u. is_read_back (form_for row.form u) e.value ≡ true) t (sym (ap (λ b. not b || is_read_back (form_for row.form e.term) e.value) has) ∙ here),
+        λ form. good-note row a term content form e b t,
+      )
+    where
+      same-term-itself : (u : Term) → same_term u u ≡ true
+      same-term-itself u = grind (arith, nat_tests)
+
   filler-term : (row : Row) → Among row rows → (filler : Filler) → row.written ≡ written.OrFiller filler → Among filler.beside (flat_map beside_filler rows)
   filler-term row a filler e = among-flat_map beside_filler row filler.beside rows a (subst (λ rule. Among filler.beside (elim rule [ (written.OrFiller f) ↦ f.beside ∷ [] | _ ↦ [] ])) (sym e) (inl refl))
 
-  -- the term beside a filler is left out
-  beside-left : (row : Row) → Among row rows → (filler : Filler) → row.written ≡ written.OrFiller filler → Absent es filler.beside
-  beside-left row a filler e =
+  -- the term beside a filler is left out, where that isn't told from values
+  beside-left : (row : Row) → Among row rows → (filler : Filler) → row.written ≡ written.OrFiller filler → is_joined (plan_of rows) rows row ≡ false → Absent es filler.beside
+  beside-left row a filler e apart =
       left-unsaid filler.beside
-      (among-back filler.beside (flat_map (λ (x : Row). flat_map terms_in (rows_there (plan_of rows) x)) (filter (is_other (plan_of rows) rows) rows)) (flat_map beside_filler rows ++ unpaired_terms (plan_of rows) rows)
-      (among-front filler.beside (flat_map beside_filler rows) (unpaired_terms (plan_of rows) rows) (filler-term row a filler e)))
+      (among-back filler.beside (flat_map (λ (x : Row). flat_map terms_in (rows_there (plan_of rows) x)) (filter (is_other (plan_of rows) rows) rows)) (unjoined_terms (plan_of rows) rows ++ unpaired_terms (plan_of rows) rows)
+      (among-front filler.beside (unjoined_terms (plan_of rows) rows) (unpaired_terms (plan_of rows) rows)
+      (among-flat_map (λ (x : Row). elim (is_joined (plan_of rows) rows x) [ true ↦ [] | false ↦ beside_filler x ]) row filler.beside rows a
+      (subst (λ b. Among filler.beside (elim b [ true ↦ [] | false ↦ beside_filler row ])) (sym apart)
+      (subst (λ rule. Among filler.beside (elim rule [ (written.OrFiller f) ↦ f.beside ∷ [] | _ ↦ [] ])) (sym e) (inl refl))))))
 
   -- no term of a VAT total in accounting currency whose row isn't covered stands in the invoice
   unheld : holds_none (unpaired_terms (plan_of rows) rows) es ≡ true
@@ -211,8 +278,8 @@ module _ (law : Laws) (rows : List Row) (es : List Entry) (invoice : IsInvoice e
       none e a true k =
           let w = any-is (same_term e.term) (unpaired_terms (plan_of rows) rows) k in
           absurd (false≢true (sym (left-unsaid w.0
-          (among-back w.0 (flat_map (λ (x : Row). flat_map terms_in (rows_there (plan_of rows) x)) (filter (is_other (plan_of rows) rows) rows)) (flat_map beside_filler rows ++ unpaired_terms (plan_of rows) rows)
-          (among-back w.0 (flat_map beside_filler rows) (unpaired_terms (plan_of rows) rows) w.1.0)) e a) ∙ w.1.1))
+          (among-back w.0 (flat_map (λ (x : Row). flat_map terms_in (rows_there (plan_of rows) x)) (filter (is_other (plan_of rows) rows) rows)) (unjoined_terms (plan_of rows) rows ++ unpaired_terms (plan_of rows) rows)
+          (among-back w.0 (unjoined_terms (plan_of rows) rows) (unpaired_terms (plan_of rows) rows) w.1.0)) e a) ∙ w.1.1))
 
   total-placed : (row : Row) (term : Term) → IsTotalRow rows row term → ArePlaced (document_nodes (document_of rows es)) es row.path (places_at rows es row.path)
   total-placed row term p = placed-without (unpaired_terms (plan_of rows) rows) rows es row.path unheld p.there.apart
@@ -228,7 +295,7 @@ module _ (law : Laws) (rows : List Row) (es : List Entry) (invoice : IsInvoice e
     content = p.there.content;
     form = p.there.form;
     total = inr (own-total law rows es invoice row (unpaired_terms (plan_of rows) rows) term p.rule p.there);
-    unfilled = no-filled law rows es invoice row (ap is_or_filler p.rule);
+    unfilled = λ filler e. inl (no-filled law rows es invoice row (ap is_or_filler p.rule) filler e);
     outer = p.there.outer;
     inner = p.there.inner;
     context = p.there.context;
@@ -237,7 +304,7 @@ module _ (law : Laws) (rows : List Row) (es : List Entry) (invoice : IsInvoice e
   -- the two currencies differ, where a VAT total in accounting currency stands
   currencies-differ : holds_none (accounting_terms rows) es ≡ false → is_other_text (currency_text es invoice_currency) (currency_text es accounting_currency) ≡ true
   currencies-differ some =
-      let h = (both-true (list_all (λ (x : Entry). not (is_left_out rows x.term) && (reads_back rows x && is_written_plainly rows es x)) es) (has_currencies rows es) plainly).1 in
+      let h = (both-true (has_currencies rows es) (list_all (is_unmistaken (plan_of rows) rows es) es) others-held).0 in
       go (value_in es invoice_currency root_context) refl (value_in es accounting_currency root_context) refl (sym (ap (λ b. b || is_other_text (currency_in es invoice_currency) (currency_in es accounting_currency)) some) ∙ h)
     where
       as-it-is : (money : Term) → letter_of money ≡ Some letters.C → (v : Value) → value_in es money root_context ≡ Some v → trimmed (spelled v) ≡ spelled v
@@ -249,8 +316,69 @@ module _ (law : Laws) (rows : List Row) (es : List Entry) (invoice : IsInvoice e
       go (Some v) e None f k = absurd (false≢true k)
       go (Some v) e (Some w) f k = (λ i. not (bytes_eq (as-it-is invoice_currency money-letter v e i) (as-it-is accounting_currency accounting-letter w f i))) ∙ k
 
-  filled-here : (row : Row) → Among row rows → (term : Term) → IsFilled rows row term → IsSpreadHere law rows es invoice row term
-  filled-here row a term p = record {
+  -- whether the filler of a row stands in place of a value
+  abbrev IsUnfilled : Row → Term → Type 0
+  IsUnfilled row term = (filler : Filler) → row.written ≡ written.OrFiller filler → Absent es filler.beside ⊎ IsKept law rows es invoice row term filler
+
+  -- where the value stands, it isn't the filler
+  not-the-filler : (row : Row) → Among row rows → (term : Term) (filler : Filler) → row.written ≡ written.OrFiller filler → is_joined (plan_of rows) rows row ≡ true → IsToldFiller rows row term filler → row.content ≡ contents.Term term
+      → plain.stands_there term None None ≡ true → (x : Entry) → Among x es → x.term ≡ filler.beside → (e : Entry) → Among e es → e.term ≡ term → bytes_eq (trimmed (formed (form_for row.form term) es e.context e.value)) filler.text ≡ false
+  not-the-filler row a term filler rule joined t content alone x x_known x_is e e_known e_is =
+      ap (λ form. bytes_eq (trimmed (formed form es e.context e.value)) filler.text) t.model
+      ∙ (ap (λ s. bytes_eq s filler.text) (trimmed-as-it-is law term e.value t.letter (subst (λ u. Fits u e.value) e_is (fits-among law es invoice e.term e es invoice.fit e_known))) ∙ turned (bytes_eq filler.text (spelled e.value)) refl)
+    where
+      none : is_like_filler (plan_of rows) rows es e row ≡ false
+      none = none-is (is_like_filler (plan_of rows) rows es e) rows row (not-true (list_any (is_like_filler (plan_of rows) rows es e) rows) (unmistaken e e_known).0) a
+
+      root : e.context ≡ root_context
+      root = root-entry law rows es invoice term alone e e_known e_is
+
+      x_root : x.context ≡ root_context
+      x_root = root-entry law rows es invoice filler.beside t.spread.context x x_known x_is
+
+      stands : is_some (value_in es filler.beside e.context) ≡ true
+      stands = ap (λ c. is_some (value_in es filler.beside c)) root ∙ ap is_some (root-value law rows es invoice x x_known x_root filler.beside x_is)
+
+      has : has_term e.term row ≡ true
+      has = ap (λ y. elim (term_in y) [ None ↦ false | Some u ↦ same_term u e.term ]) content ∙ (ap (λ u. same_term u e.term) (sym e_is) ∙ same-term-itself e.term)
+        where
+          same-term-itself : (u : Term) → same_term u u ≡ true
+          same-term-itself u = grind (arith, nat_tests)
+
+      says : (b : Bool) → bytes_eq filler.text (spelled e.value) ≡ b → is_like_filler (plan_of rows) rows es e row ≡ b
+      says b same =
+          ap (λ r. elim r [
+            | (written.OrFiller f) ↦ is_joined (plan_of rows) rows row && (has_term e.term row && (bytes_eq f.text (spelled e.value) && is_some (value_in es f.beside e.context)))
+            | _ ↦ false
+          ]) rule
+          ∙ ((λ i. joined i && (has i && (same i && stands i))) ∙ and-true b)
+        where
+          and-true : (b : Bool) → (b && true) ≡ b
+          and-true true = refl
+          and-true false = refl
+
+      turned : (b : Bool) → bytes_eq filler.text (spelled e.value) ≡ b → bytes_eq (spelled e.value) filler.text ≡ false
+      turned true same = absurd (false≢true (sym none ∙ says true same))
+      turned false same = not-so (bytes_eq (spelled e.value) filler.text) refl
+        where
+          not-so : (b : Bool) → bytes_eq (spelled e.value) filler.text ≡ b → b ≡ false
+          not-so false k = refl
+          not-so true k = absurd (false≢true (sym same ∙ (bytes_eq-Decides filler.text (spelled e.value)).1 (sym ((bytes_eq-Decides (spelled e.value) filler.text).0 k))))
+
+  -- where the value stands, or no term beside its filler
+  kept-or-absent : (row : Row) → Among row rows → (term : Term) → IsFilled rows row term → is_some (value_in es term root_context) ≡ true → IsUnfilled row term
+  kept-or-absent row a term p stands filler rule = go (list_any (λ (x : Entry). same_term x.term filler.beside) es) refl (is_joined (plan_of rows) rows row) refl
+    where
+      go : (b : Bool) → list_any (λ (x : Entry). same_term x.term filler.beside) es ≡ b → (d : Bool) → is_joined (plan_of rows) rows row ≡ d → Absent es filler.beside ⊎ IsKept law rows es invoice row term filler
+      go false none d f = inl (λ e known. none-is (λ (x : Entry). same_term x.term filler.beside) es e none known)
+      go true some false f = inl (beside-left row a filler rule f)
+      go true some true f =
+          let w = any-is (λ (x : Entry). same_term x.term filler.beside) es some in
+          let t = told-by-test rows row term filler long_paths p.content rule f in
+          inr (record { stands = stands; other = not-the-filler row a term filler rule f t p.content p.context w.0 w.1.0 (same_term_is w.0.term filler.beside w.1.1) })
+
+  filled-here : (row : Row) (term : Term) → IsFilled rows row term → IsUnfilled row term → IsSpreadHere law rows es invoice row term
+  filled-here row term p unfilled = record {
     front = [];
     back = [];
     placed = only-own law rows es invoice row.path (places_at rows es row.path) (placed-at rows es row.path p.apart);
@@ -260,7 +388,7 @@ module _ (law : Laws) (rows : List Row) (es : List Entry) (invoice : IsInvoice e
     content = p.content;
     form = p.form;
     total = inl (not-total row.written p.filler);
-    unfilled = beside-left row a;
+    unfilled = unfilled;
     outer = p.outer;
     inner = p.inner;
     context = p.context;
@@ -277,24 +405,76 @@ module _ (law : Laws) (rows : List Row) (es : List Entry) (invoice : IsInvoice e
       not-total written.VatTotal h = absurd (false≢true h)
       not-total written.AccountingVatTotal h = absurd (false≢true h)
 
+  -- a row that writes values whole, writes no codes in front
+  no-codes : (row : Row) (term : Term) → plain.is_whole (form_for row.form term) ≡ true → HasCodes law rows es invoice row term
+  no-codes row term whole e = absurd (false≢true (sym (ap plain.is_whole e) ∙ whole))
+
   pub record HasCover (row : Row) : Type 0 where
     pub term : Term
     pub cover : Covers law rows es invoice row term
 
-  pub covered-row : (row : Row) → Among row rows → is_covered rows row ≡ true → HasCover row
-  covered-row row a h = elim (or-either (is_plain_by (plan_of rows) row) (is_spread_by (plan_of rows) row || (list_any (is_plain_beside (plan_of rows) row) rows || (list_any (is_spread_beside (plan_of rows) row) rows || (is_filled_by (plan_of rows) row || (is_total_by (plan_of rows) rows row || is_pair_by (plan_of rows) rows row))))) h) [
-    | inl k ↦ by-plain row.content refl k
-    | inr m ↦ elim (or-either (is_spread_by (plan_of rows) row) (list_any (is_plain_beside (plan_of rows) row) rows || (list_any (is_spread_beside (plan_of rows) row) rows || (is_filled_by (plan_of rows) row || (is_total_by (plan_of rows) rows row || is_pair_by (plan_of rows) rows row)))) m) [
-      | inl k ↦ by-spread row.content refl k
-      | inr n ↦ elim (or-either (list_any (is_plain_beside (plan_of rows) row) rows) (list_any (is_spread_beside (plan_of rows) row) rows || (is_filled_by (plan_of rows) row || (is_total_by (plan_of rows) rows row || is_pair_by (plan_of rows) rows row))) n) [
-        | inl k ↦ let w = any-is (is_plain_beside (plan_of rows) row) rows k in by-part w.0 w.1.0 row.content refl w.0.content refl w.1.1
-        | inr o ↦ elim (or-either (list_any (is_spread_beside (plan_of rows) row) rows) (is_filled_by (plan_of rows) row || (is_total_by (plan_of rows) rows row || is_pair_by (plan_of rows) rows row)) o) [
-          | inl k ↦ let w = any-is (is_spread_beside (plan_of rows) row) rows k in by-spread-part w.0 w.1.0 row.content refl w.0.content refl w.1.1
-          | inr q ↦ elim (or-either (is_filled_by (plan_of rows) row) (is_total_by (plan_of rows) rows row || is_pair_by (plan_of rows) rows row) q) [
+  -- a row of which nothing is told
+  abbrev pub NoneTold : Row → Type 0
+  NoneTold row = (k : ℕ) (pick : Pick) → Among pick (nodes_picked (document_nodes (document_of rows es)) k row) → IsNotTold law rows es invoice pick
+
+  -- a row that has a filler: what it picks is of its term, or the filler
+  filled-row : (row : Row) → Among row rows → (term : Term) → IsFilled rows row term → HasCover row ⊎ NoneTold row
+  filled-row row a term p = by-value (value_in es term root_context) refl
+    where
+      covers : IsUnfilled row term → HasCover row ⊎ NoneTold row
+      covers unfilled = inl (record { term = term; cover = spread-covers law rows es invoice row term (filled-here row term p unfilled) })
+
+      filler-of : (rule : Written) → is_or_filler rule ≡ true → (filler : Filler) × (rule ≡ written.OrFiller filler)
+      filler-of written.Always h = absurd (false≢true h)
+      filler-of written.Never h = absurd (false≢true h)
+      filler-of written.IfIban h = absurd (false≢true h)
+      filler-of written.IfNotIban h = absurd (false≢true h)
+      filler-of written.IfScheme h = absurd (false≢true h)
+      filler-of written.IfNoScheme h = absurd (false≢true h)
+      filler-of (written.OrFiller filler) h = (filler, refl)
+      filler-of written.VatTotal h = absurd (false≢true h)
+      filler-of written.AccountingVatTotal h = absurd (false≢true h)
+
+      same-filler : (f g : Filler) → row.written ≡ written.OrFiller f → row.written ≡ written.OrFiller g → f ≡ g
+      same-filler f g x y = let z : written.OrFiller f ≡ written.OrFiller g = sym x ∙ y in cc
+
+      only : (filler : Filler) → row.written ≡ written.OrFiller filler → Absent es filler.beside → IsUnfilled row term
+      only filler rule absent f e = inl (subst (λ (x : Filler). Absent es x.beside) (same-filler filler f rule e) absent)
+
+      by-filler : value_in es term root_context ≡ None → (filler : Filler) → row.written ≡ written.OrFiller filler → (b : Bool) → list_any (λ (x : Entry). same_term x.term filler.beside) es ≡ b → (d : Bool) → is_joined (plan_of rows) rows row ≡ d
+          → HasCover row ⊎ NoneTold row
+      by-filler none filler rule false e d f = covers (only filler rule (λ x known. none-is (λ (y : Entry). same_term y.term filler.beside) es x e known))
+      by-filler none filler rule true e false f = covers (only filler rule (beside-left row a filler rule f))
+      by-filler none filler rule true e true f =
+          let w = any-is (λ (x : Entry). same_term x.term filler.beside) es e in
+          let t = told-by-test rows row term filler long_paths p.content rule f in
+          let is : w.0.term ≡ filler.beside = same_term_is w.0.term filler.beside w.1.1 in
+          inr (fillers-not-told law rows es invoice row term filler p rule t w.0 w.1.0 is (row-back t.other t.among filler.beside t.spread.content w.0 w.1.0 is) (row-numbered 1 rows t.other t.among) none)
+
+      by-value : (o : Option Value) → value_in es term root_context ≡ o → HasCover row ⊎ NoneTold row
+      by-value (Some v) e = covers (kept-or-absent row a term p (ap is_some e))
+      by-value None e = let w = filler-of row.written p.filler in by-filler e w.0 w.1 (list_any (λ (x : Entry). same_term x.term w.0.beside) es) refl (is_joined (plan_of rows) rows row) refl
+
+  pub covered-row : (row : Row) → Among row rows → is_covered rows row ≡ true → HasCover row ⊎ NoneTold row
+  covered-row row a h = elim (or-either (is_plain_by (plan_of rows) row) _ h) [
+    | inl k ↦ inl (by-plain row.content refl k)
+    | inr m ↦ elim (or-either (is_spread_by (plan_of rows) row) _ m) [
+      | inl k ↦ inl (by-spread row.content refl k)
+      | inr n ↦ elim (or-either (list_any (is_plain_beside (plan_of rows) row) rows) _ n) [
+        | inl k ↦ let w = any-is (is_plain_beside (plan_of rows) row) rows k in inl (by-part w.0 w.1.0 row.content refl w.0.content refl w.1.1)
+        | inr o ↦ elim (or-either (list_any (is_spread_beside (plan_of rows) row) rows) _ o) [
+          | inl k ↦ let w = any-is (is_spread_beside (plan_of rows) row) rows k in inl (by-spread-part w.0 w.1.0 row.content refl w.0.content refl w.1.1)
+          | inr q ↦ elim (or-either (is_filled_by (plan_of rows) row) _ q) [
             | inl k ↦ by-filled row.content refl k
-            | inr u ↦ elim (or-either (is_total_by (plan_of rows) rows row) (is_pair_by (plan_of rows) rows row) u) [
-              | inl k ↦ by-total row.content refl k
-              | inr k ↦ by-pair row.content refl k
+            | inr u ↦ elim (or-either (is_total_by (plan_of rows) rows row) _ u) [
+              | inl k ↦ inl (by-total row.content refl k)
+              | inr v ↦ elim (or-either (is_pair_by (plan_of rows) rows row) _ v) [
+                | inl k ↦ inl (by-pair row.content refl k)
+                | inr w ↦ elim (or-either (is_known_by (known_of rows) (plan_of rows) rows row) (is_noted_by (plan_of rows) rows row) w) [
+                  | inl k ↦ inl (by-known row.content refl k)
+                  | inr k ↦ inl (by-noted row.content refl k)
+                ]
+              ]
             ]
           ]
         ]
@@ -305,7 +485,8 @@ module _ (law : Laws) (rows : List Row) (es : List Entry) (invoice : IsInvoice e
       by-plain : (content : Content) → row.content ≡ content → (elim content [ (contents.Term term) ↦ is_plain_in (plan_of rows) row term | (contents.Constant text) ↦ false ]) ≡ true → HasCover row
       by-plain (contents.Term term) e k =
           let at = row-at rows row a in
-          record { term = term; cover = plain-covers law rows es invoice row term (plain-by-test rows at.0 row term long_paths at.1 k) }
+          let p = plain-by-test rows at.0 row term long_paths at.1 k in
+          record { term = term; cover = plain-covers law rows es invoice row term p.there (placed-at rows es row.path p.apart) (no-codes row term p.form) }
       by-plain (contents.Constant text) e k = absurd (false≢true k)
 
       by-spread : (content : Content) → row.content ≡ content → (elim content [ (contents.Term term) ↦ is_spread_in (plan_of rows) row term | (contents.Constant text) ↦ false ]) ≡ true → HasCover row
@@ -314,10 +495,10 @@ module _ (law : Laws) (rows : List Row) (es : List Entry) (invoice : IsInvoice e
           record { term = term; cover = spread-covers law rows es invoice row term (spread-here law rows es invoice row term (spread-by-test rows at.0 row term long_paths at.1 k)) }
       by-spread (contents.Constant text) e k = absurd (false≢true k)
 
-      by-filled : (content : Content) → row.content ≡ content → (elim content [ (contents.Term term) ↦ is_filled_in (plan_of rows) row term | (contents.Constant text) ↦ false ]) ≡ true → HasCover row
+      by-filled : (content : Content) → row.content ≡ content → (elim content [ (contents.Term term) ↦ is_filled_in (plan_of rows) row term | (contents.Constant text) ↦ false ]) ≡ true → HasCover row ⊎ NoneTold row
       by-filled (contents.Term term) e k =
           let at = row-at rows row a in
-          record { term = term; cover = spread-covers law rows es invoice row term (filled-here row a term (filled-by-test rows at.0 row term long_paths at.1 k)) }
+          filled-row row a term (filled-by-test rows at.0 row term long_paths at.1 k)
       by-filled (contents.Constant text) e k = absurd (false≢true k)
 
       by-total : (content : Content) → row.content ≡ content → (elim content [ (contents.Term term) ↦ is_total_in (plan_of rows) rows row term | (contents.Constant text) ↦ false ]) ≡ true → HasCover row
@@ -330,6 +511,44 @@ module _ (law : Laws) (rows : List Row) (es : List Entry) (invoice : IsInvoice e
       by-pair (contents.Term term) e k = record { term = term; cover = spread-covers law rows es invoice row term (pair-of-term law rows es invoice currencies-differ long_paths row a term k) }
       by-pair (contents.Constant text) e k = absurd (false≢true k)
 
+      by-noted : (content : Content) → row.content ≡ content → (elim content [ (contents.Term term) ↦ is_noted_in (plan_of rows) rows row term | (contents.Constant text) ↦ false ]) ≡ true → HasCover row
+      by-noted (contents.Term term) e k =
+          let at = row-at rows row a in
+          let p = noted-by-test rows at.0 row term long_paths at.1 k in
+          record { term = term; cover = plain-covers law rows es invoice row term p.there (placed-at rows es row.path p.apart) (λ e. p.codes) }
+      by-noted (contents.Constant text) e k = absurd (false≢true k)
+
+      by-known-part : (term : Term) (main : Row) → Among main rows → (other : Content) → (elim other [ (contents.Term main_term) ↦ is_plain_attribute_with (known_of rows) (plan_of rows) row term main main_term | (contents.Constant text) ↦ false ]) ≡ true → HasCover row
+      by-known-part term main b (contents.Term main_term) k =
+          let at = row-at rows row a in
+          let main_at = row-at rows main b in
+          let p = attribute-with-test (known_of rows) rows at.0 main_at.0 row term main main_term long_paths at.1 main_at.1 k in
+          record { term = term; cover = attribute-covers law rows es invoice row term main main_term p.1 (placed-known (known_of rows) rows es main.path knows p.0) }
+      by-known-part term main b (contents.Constant text) k = absurd (false≢true k)
+
+      by-known : (content : Content) → row.content ≡ content → (elim content [
+        | (contents.Term term) ↦ is_plain_with (known_of rows) (plan_of rows) row term || (is_spread_with (known_of rows) (plan_of rows) row term || list_any (is_known_beside (known_of rows) (plan_of rows) row) rows)
+        | (contents.Constant text) ↦ false
+      ]) ≡ true
+          → HasCover row
+      by-known (contents.Constant text) e k = absurd (false≢true k)
+      by-known (contents.Term term) e k =
+          let at = row-at rows row a in
+          elim (or-either (is_plain_with (known_of rows) (plan_of rows) row term) _ k) [
+            | inl h ↦ let p = plain-with-test (known_of rows) rows at.0 row term long_paths at.1 h in
+                record { term = term; cover = plain-covers law rows es invoice row term p.there (placed-known (known_of rows) rows es row.path knows p.apart) (no-codes row term p.form) }
+            | inr m ↦ elim (or-either (is_spread_with (known_of rows) (plan_of rows) row term) (list_any (is_known_beside (known_of rows) (plan_of rows) row) rows) m) [
+              | inl h ↦ record { term = term; cover = spread-covers law rows es invoice row term (spread-known law rows es invoice (known_of rows) knows row term (spread-with-test (known_of rows) rows at.0 row term long_paths at.1 h)) }
+              | inr n ↦ let w = any-is (is_known_beside (known_of rows) (plan_of rows) row) rows n in
+                  by-known-part term w.0 w.1.0 w.0.content
+                  (sym (ap (λ x. elim x [
+                    | (contents.Term t) ↦ elim w.0.content [ (contents.Term main_term) ↦ is_plain_attribute_with (known_of rows) (plan_of rows) row t w.0 main_term | (contents.Constant text) ↦ false ]
+                    | (contents.Constant text) ↦ false
+                  ]) e)
+                  ∙ w.1.1)
+            ]
+          ]
+
       by-part : (main : Row) → Among main rows → (content : Content) → row.content ≡ content → (other : Content) → main.content ≡ other → (elim content [
         | (contents.Term term) ↦ elim other [ (contents.Term main_term) ↦ is_plain_attribute_in (plan_of rows) row term main main_term | (contents.Constant text) ↦ false ]
         | (contents.Constant text) ↦ false
@@ -338,7 +557,8 @@ module _ (law : Laws) (rows : List Row) (es : List Entry) (invoice : IsInvoice e
       by-part main b (contents.Term term) e (contents.Term main_term) f k =
           let at = row-at rows row a in
           let main_at = row-at rows main b in
-          record { term = term; cover = attribute-covers law rows es invoice row term main main_term (attribute-by-test rows at.0 main_at.0 row term main main_term long_paths at.1 main_at.1 k) }
+          let p = attribute-by-test rows at.0 main_at.0 row term main main_term long_paths at.1 main_at.1 k in
+          record { term = term; cover = attribute-covers law rows es invoice row term main main_term p.there (placed-at rows es main.path p.apart) }
       by-part main b (contents.Term term) e (contents.Constant text) f k = absurd (false≢true k)
       by-part main b (contents.Constant text) e other f k = absurd (false≢true k)
 
@@ -393,7 +613,7 @@ module _ (law : Laws) (rows : List Row) (es : List Entry) (invoice : IsInvoice e
     where
       there : (r : Row) → Among r (rows_there (plan_of rows) row) → (term : Term) → Among term (terms_in r) → Among term (left_out rows)
       there r b term c =
-          among-front term (flat_map (λ (x : Row). flat_map terms_in (rows_there (plan_of rows) x)) (filter (is_other (plan_of rows) rows) rows)) (flat_map beside_filler rows ++ unpaired_terms (plan_of rows) rows)
+          among-front term (flat_map (λ (x : Row). flat_map terms_in (rows_there (plan_of rows) x)) (filter (is_other (plan_of rows) rows) rows)) (unjoined_terms (plan_of rows) rows ++ unpaired_terms (plan_of rows) rows)
           (among-flat_map (λ (x : Row). flat_map terms_in (rows_there (plan_of rows) x)) row term (filter (is_other (plan_of rows) rows) rows)
           (among-filter (is_other (plan_of rows) rows) row rows other a) (among-flat_map terms_in r term (rows_there (plan_of rows) row) b c))
 
@@ -435,8 +655,8 @@ module _ (law : Laws) (rows : List Row) (es : List Entry) (invoice : IsInvoice e
       let is : row ≡ pick.row = sym (row-of all_nodes k row pick m) in
       let amount : IsOwnCurrency es (amount_currency all_nodes pick.node) = by-content at w.0.content v.0 (leaf-of row.leaf b.0) v.1 in
       record {
-        out = λ c own. ap (λ (x : Row). is_in c x.written (amount_currency all_nodes pick.node)) (sym is)
-            ∙ (ap (λ rule. is_in c rule (amount_currency all_nodes pick.node)) (accounting-rule-is row.written a.0) ∙ not-accounting es c own.0 (amount_currency all_nodes pick.node) amount);
+        out = inl (λ c own. ap (λ (x : Row). is_in c x.written (amount_currency all_nodes pick.node)) (sym is)
+            ∙ (ap (λ rule. is_in c rule (amount_currency all_nodes pick.node)) (accounting-rule-is row.written a.0) ∙ not-accounting es c own.0 (amount_currency all_nodes pick.node) amount));
         no_money = ap (λ (x : Row). has_term invoice_currency x || has_term accounting_currency x) (sym is) ∙ not-true (has_term invoice_currency row || has_term accounting_currency row) d.0;
         beside = λ term t. ap (has_term term) (sym is) ∙ none-is (λ u. has_term u row) (flat_map beside_filler rows) term (not-true (list_any (λ u. has_term u row) (flat_map beside_filler rows)) f.0) t;
       }
@@ -461,8 +681,13 @@ module _ (law : Laws) (rows : List Row) (es : List Entry) (invoice : IsInvoice e
     where
       go : (j : ℕ) × ((slice_get rows j ≡ Some r.row) × Among r.row rows) → (x : Bool) → is_covered rows r.row ≡ x → has_any_term r.row ≡ true → FromRow pick ⊎ IsNotToldHere pick
       go at true e has =
-          let cover = covered-row r.row at.1.1 e in
-          elim (of-picked law rows es invoice r.place r.row cover.term cover.cover (row-back r.row at.1.1 cover.term cover.cover.content) pick b) [
+          elim (covered-row r.row at.1.1 e) [
+            | inl cover ↦ by-cover cover
+            | inr none ↦ inr (none r.place pick b)
+          ]
+        where
+          by-cover : HasCover r.row → FromRow pick ⊎ IsNotToldHere pick
+          by-cover cover = elim (of-picked law rows es invoice r.place r.row cover.term cover.cover (row-back r.row at.1.1 cover.term cover.cover.content) pick b) [
             | inl is ↦ inl (subst (λ row. (slice_get rows at.0 ≡ Some row) → Among row rows → Covers law rows es invoice row cover.term → IsTold law rows es invoice pick row cover.term → Among pick (nodes_picked all_nodes r.place row) → FromRow pick) is.row_is
                 (λ at_it known covers told picked. record { j = at.0; at = at_it; known = known; term = cover.term; cover = covers; told_is = told; k = r.place; here = picked }) at.1.0 at.1.1 cover.cover is b)
             | inr n ↦ inr n
@@ -479,11 +704,12 @@ module _ (law : Laws) (rows : List Row) (es : List Entry) (invoice : IsInvoice e
     abbrev picks : List Pick
     picks = term_picks all_nodes c rows
 
-    -- a pick comes from a row with a term, and is in its currency
+    -- a pick comes from a row with a term, is no filler, and is in its currency
     pub record IsDue (pick : Pick) : Type 0 where
       pub row : Numbered
       pub known : Among row (rows_where has_any_term rows)
       pub picked : Among pick (nodes_picked all_nodes row.place row.row)
+      pub unfilled : not (is_filler all_nodes picked_at_all pick) ≡ true
       pub currency : is_in_its_currency all_nodes c pick ≡ true
 
     pub due-pick : (pick : Pick) → Among pick picks → IsDue pick
@@ -493,11 +719,15 @@ module _ (law : Laws) (rows : List Row) (es : List Entry) (invoice : IsInvoice e
         let u = of-filter-any (is_in_its_currency all_nodes c) pick (without_fillers all_nodes picked_at_all) v.0 in
         let t = of-filter-any (λ (x : Pick). not (is_filler all_nodes picked_at_all x)) pick picked_at_all u.0 in
         let r = of-flat_map (λ (x : Numbered). nodes_picked all_nodes x.place x.row) pick (rows_where has_any_term rows) t.0 in
-        record { row = r.0; known = r.1.0; picked = r.1.1; currency = u.1 }
+        record { row = r.0; known = r.1.0; picked = r.1.1; unfilled = t.1; currency = u.1 }
 
     -- none of those that aren't told is one of them
     pub never-told : (pick : Pick) → Among pick picks → IsNotToldHere pick → ⊥
-    never-told pick a n = false≢true (sym (n.out c own) ∙ (due-pick pick a).currency)
+    never-told pick a n = go n.out
+      where
+        go : ((d : Currencies) → AreOwn rows es d → is_in_its_currency all_nodes d pick ≡ false) ⊎ (is_filler all_nodes picked_at_all pick ≡ true) → ⊥
+        go (inl out) = false≢true (sym (out c own) ∙ (due-pick pick a).currency)
+        go (inr filler) = false≢true (sym (ap not filler) ∙ (due-pick pick a).unfilled)
 
     pub of-picks : (pick : Pick) → Among pick picks → FromRow pick
     of-picks pick a =
@@ -529,15 +759,17 @@ module _ (law : Laws) (rows : List Row) (es : List Entry) (invoice : IsInvoice e
         go true = no-other picked_at_all none
         go false = refl
 
-    record ToPick (e : Entry) : Type 0 where
+    -- a pick of the row that says the entry first
+    record ToPick (row : Row) (e : Entry) : Type 0 where
       pick : Pick
+      row_is : pick.row ≡ row
       among : Among pick picks
       picked : IsPicked rows es invoice pick
       context : picked.entry.context ≡ e.context
       content : pick.row.content ≡ contents.Term e.term
-      says : said pick.row.form e.term (string_at all_nodes pick.node) ≡ record { term = e.term; value = Some e.value } ∷ []
+      says : said pick.row.form e.term (string_at all_nodes pick.node) ≡ record { term = e.term; value = Some e.value } ∷ code_said (form_for row.form e.term) es e.context
 
-    by-row : (e : Entry) → Among e es → (row : Row) → Among row rows → (cover : Covers law rows es invoice row e.term) → cover.writes e.context ≡ true → ToPick e
+    by-row : (e : Entry) → Among e es → (row : Row) → Among row rows → (cover : Covers law rows es invoice row e.term) → cover.writes e.context ≡ true → ToPick row e
     by-row e a row b cover w =
         let n = row-numbered 1 rows row b in
         let r = to-picked law rows es invoice n.0 row e.term cover e a refl (row-back row b e.term cover.content e a refl) w in
@@ -549,12 +781,13 @@ module _ (law : Laws) (rows : List Row) (es : List Entry) (invoice : IsInvoice e
         ap (λ (x : Row). is_in c x.written (amount_currency all_nodes pick.node)) r.row_is ∙ in-due pick.node r.place r.own r.at r.leaf cover.total in
         let second : Among pick (without_fillers all_nodes picked_at_all) =
         among-filter (λ (x : Pick). not (is_filler all_nodes picked_at_all x)) pick picked_at_all
-        (ap not (not-filler pick.row.written _ (λ filler f. let rule = sym (ap (λ (x : Row). x.written) r.row_is) ∙ f in no-pick-beside filler pick (cover.unfilled filler rule) (filler-term row b filler rule)))) first in
+        (ap not (not-filler pick.row.written _ (λ filler f. let rule = sym (ap (λ (x : Row). x.written) r.row_is) ∙ f in no-filler-there pick r.string_is filler rule (cover.unfilled filler rule)))) first in
         let third : Among pick (in_their_currencies all_nodes c (without_fillers all_nodes picked_at_all)) =
         among-filter (is_in_its_currency all_nodes c) pick (without_fillers all_nodes picked_at_all) due second in
         let node = of-map number pick.node all_nodes r.node in
         record {
           pick = pick;
+          row_is = r.row_is;
           among = among-flat_map (λ (x : Node). filter (λ (y : Pick). y.node == x.number) (in_their_currencies all_nodes c (without_fillers all_nodes picked_at_all))) node.0 pick all_nodes node.1.0
               (among-filter (λ (y : Pick). y.node == node.0.number) pick (in_their_currencies all_nodes c (without_fillers all_nodes picked_at_all))
               (subst (λ x. (pick.node == x) ≡ true) (sym node.1.1) (same-is pick.node)) third);
@@ -564,6 +797,12 @@ module _ (law : Laws) (rows : List Row) (es : List Entry) (invoice : IsInvoice e
           says = ap (λ (x : Row). said x.form e.term (string_at all_nodes pick.node)) r.row_is ∙ r.says;
         }
       where
+        no-filler-there : (pick : Pick) → string_at all_nodes pick.node ≡ formed (form_for row.form e.term) es e.context e.value → (filler : Filler) → row.written ≡ written.OrFiller filler → Absent es filler.beside ⊎ IsKept law rows es invoice row e.term filler
+            → (elim (bytes_eq (trimmed (string_at all_nodes pick.node)) filler.text) [ true ↦ stands_beside picked_at_all filler pick | false ↦ false ]) ≡ false
+        no-filler-there pick string_is filler rule (inl absent) = no-pick-beside filler pick absent (filler-term row b filler rule)
+        no-filler-there pick string_is filler rule (inr kept) =
+            ap (λ z. elim z [ true ↦ stands_beside picked_at_all filler pick | false ↦ false ]) (ap (λ s. bytes_eq (trimmed s) filler.text) string_is ∙ kept.other e a refl)
+
         in-due : (n : ℕ) (place : Place) → Among place (places_at rows es row.path) → IsAt all_nodes es place → Among n (leaves_of all_nodes row.leaf (last_of place.way)) → (is_vat_total row.written ≡ false) ⊎ IsTotal law rows es invoice row
             → is_in c row.written (amount_currency all_nodes n) ≡ true
         in-due n place a at leaf (inl h) = in-currency row.written _ _ h
@@ -571,64 +810,171 @@ module _ (law : Laws) (rows : List Row) (es : List Entry) (invoice : IsInvoice e
             let m = amount-of all_nodes es place at n (subst (λ l. Among n (leaves_of all_nodes l (last_of place.way))) t.leaf leaf) in
             ap (is_in c row.written) m.0 ∙ t.own c own place a m.1
 
-    by-spread : (e : Entry) → Among e es → (row : Row) → Among row rows → IsSpreadHere law rows es invoice row e.term → is_written_by row e.term es e.context ≡ true → ToPick e
+    by-spread : (e : Entry) → Among e es → (row : Row) → Among row rows → IsSpreadHere law rows es invoice row e.term → is_written_by row e.term es e.context ≡ true → ToPick row e
     by-spread e a row b p w = by-row e a row b (spread-covers law rows es invoice row e.term p) (spread-writes law rows es invoice row e.term p e.context w)
 
-    to-pick : (e : Entry) → Among e es → ToPick e
+    -- a pick that says the entry
+    record ToldPick (e : Entry) : Type 0 where
+      pick : Pick
+      among : Among pick picks
+      picked : IsPicked rows es invoice pick
+      context : picked.entry.context ≡ e.context
+      term : Term
+      content : pick.row.content ≡ contents.Term term
+      sayings : List Said
+      says : said pick.row.form term (string_at all_nodes pick.node) ≡ sayings
+      tells : Among (record { term = e.term; value = Some e.value }) sayings
+      of_term : (term ≡ e.term) ⊎ (e.term ≡ subject_code)
+
+    own-told : (row : Row) (e : Entry) → ToPick row e → ToldPick e
+    own-told row e t = record {
+      pick = t.pick;
+      among = t.among;
+      picked = t.picked;
+      context = t.context;
+      term = e.term;
+      content = t.content;
+      sayings = record { term = e.term; value = Some e.value } ∷ code_said (form_for row.form e.term) es e.context;
+      says = t.says;
+      tells = inl refl;
+      of_term = inl refl;
+    }
+
+    -- a subject code in front of another entry's value
+    code-told : (row : Row) (x e : Entry) → x.context ≡ e.context → form_for row.form x.term ≡ forms.CodedNote → e.term ≡ subject_code → Among e es → ToPick row x → ToldPick e
+    code-told row x e same form is a t = record {
+      pick = t.pick;
+      among = t.among;
+      picked = t.picked;
+      context = t.context ∙ same;
+      term = x.term;
+      content = t.content;
+      sayings = record { term = x.term; value = Some x.value } ∷ code_said (form_for row.form x.term) es x.context;
+      says = t.says;
+      tells = inr (subst (Among (record { term = e.term; value = Some e.value })) (sym here) (inl (λ i. record { term = sym is i; value = Some e.value })));
+      of_term = inr is;
+    }
+      where
+        here : code_said (form_for row.form x.term) es x.context ≡ record { term = subject_code; value = Some e.value } ∷ []
+        here =
+            (λ i. code_said (form i) es (same i))
+            ∙ ap (λ o. elim o [ None ↦ [] | Some code ↦ record { term = subject_code; value = Some code } ∷ [] ]) (ap (λ u. value_in es u e.context) (sym is) ∙ own-value es e invoice.listed a)
+
+    to-pick : (e : Entry) → Among e es → ToldPick e
     to-pick e a =
         let w = any-is (writes_plainly (plan_of rows) rows es e) rows (held e a).written_so in
-        elim (or-either (is_plain rows w.0 e.term && is_written_by w.0 e.term es e.context)
-        ((is_spread rows w.0 e.term && is_written_by w.0 e.term es e.context)
-        || (list_any (writes_beside (plan_of rows) es e w.0) rows || ((is_filled_in (plan_of rows) w.0 e.term && is_written_by w.0 e.term es e.context)
-        || ((is_total_in (plan_of rows) rows w.0 e.term && is_written_by w.0 e.term es e.context) || (is_pair_in (plan_of rows) rows w.0 e.term && is_written_by w.0 e.term es e.context)))))
-        w.1.1) [
+        elim (or-either (is_plain rows w.0 e.term && is_written_by w.0 e.term es e.context) _ w.1.1) [
           | inl k ↦ let v = both-true (is_plain rows w.0 e.term) (is_written_by w.0 e.term es e.context) k in
               let at = row-at rows w.0 w.1.0 in
               let p = plain-by-test rows at.0 w.0 e.term long_paths at.1 v.0 in
-              by-row e a w.0 w.1.0 (plain-covers law rows es invoice w.0 e.term p) (plain-writes law rows es invoice w.0 e.term p e.context v.1)
-          | inr m ↦ elim (or-either (is_spread rows w.0 e.term && is_written_by w.0 e.term es e.context)
-              (list_any (writes_beside (plan_of rows) es e w.0) rows || ((is_filled_in (plan_of rows) w.0 e.term && is_written_by w.0 e.term es e.context)
-              || ((is_total_in (plan_of rows) rows w.0 e.term && is_written_by w.0 e.term es e.context) || (is_pair_in (plan_of rows) rows w.0 e.term && is_written_by w.0 e.term es e.context))))
-              m) [
-                | inl k ↦ let v = both-true (is_spread rows w.0 e.term) (is_written_by w.0 e.term es e.context) k in
+              by-plain w.0 w.1.0 p.there (placed-at rows es w.0.path p.apart) (no-codes w.0 e.term p.form) v.1
+          | inr m ↦ elim (or-either (is_spread rows w.0 e.term && is_written_by w.0 e.term es e.context) _ m) [
+            | inl k ↦ let v = both-true (is_spread rows w.0 e.term) (is_written_by w.0 e.term es e.context) k in
+                let at = row-at rows w.0 w.1.0 in
+                spread-told w.0 w.1.0 (spread-here law rows es invoice w.0 e.term (spread-by-test rows at.0 w.0 e.term long_paths at.1 v.0)) v.1
+            | inr n ↦ elim (or-either (list_any (writes_beside (plan_of rows) es e w.0) rows) _ n) [
+              | inl k ↦ let v = any-is (writes_beside (plan_of rows) es e w.0) rows k in by-main w.0 w.1.0 v.0 v.1.0 v.0.content v.1.1
+              | inr q ↦ elim (or-either (is_filled_in (plan_of rows) w.0 e.term && is_written_by w.0 e.term es e.context) _ q) [
+                | inl k ↦ let v = both-true (is_filled_in (plan_of rows) w.0 e.term) (is_written_by w.0 e.term es e.context) k in
                     let at = row-at rows w.0 w.1.0 in
-                    by-spread e a w.0 w.1.0 (spread-here law rows es invoice w.0 e.term (spread-by-test rows at.0 w.0 e.term long_paths at.1 v.0)) v.1
-                | inr n ↦ elim (or-either (list_any (writes_beside (plan_of rows) es e w.0) rows) ((is_filled_in (plan_of rows) w.0 e.term && is_written_by w.0 e.term es e.context)
-                    || ((is_total_in (plan_of rows) rows w.0 e.term && is_written_by w.0 e.term es e.context) || (is_pair_in (plan_of rows) rows w.0 e.term && is_written_by w.0 e.term es e.context))) n) [
-                      | inl k ↦ let v = any-is (writes_beside (plan_of rows) es e w.0) rows k in by-main w.0 w.1.0 v.0 v.1.0 v.0.content v.1.1
-                      | inr q ↦ elim (or-either (is_filled_in (plan_of rows) w.0 e.term && is_written_by w.0 e.term es e.context)
-                          ((is_total_in (plan_of rows) rows w.0 e.term && is_written_by w.0 e.term es e.context) || (is_pair_in (plan_of rows) rows w.0 e.term && is_written_by w.0 e.term es e.context)) q) [
-                            | inl k ↦ let v = both-true (is_filled_in (plan_of rows) w.0 e.term) (is_written_by w.0 e.term es e.context) k in
-                                let at = row-at rows w.0 w.1.0 in
-                                by-spread e a w.0 w.1.0 (filled-here w.0 w.1.0 e.term (filled-by-test rows at.0 w.0 e.term long_paths at.1 v.0)) v.1
-                            | inr u ↦ elim (or-either (is_total_in (plan_of rows) rows w.0 e.term && is_written_by w.0 e.term es e.context) (is_pair_in (plan_of rows) rows w.0 e.term && is_written_by w.0 e.term es e.context) u) [
-                              | inl k ↦ let v = both-true (is_total_in (plan_of rows) rows w.0 e.term) (is_written_by w.0 e.term es e.context) k in
-                                  let at = row-at rows w.0 w.1.0 in
-                                  by-spread e a w.0 w.1.0 (total-here w.0 e.term (total-by-test rows at.0 w.0 e.term long_paths at.1 v.0)) v.1
-                              | inr k ↦ let v = both-true (is_pair_in (plan_of rows) rows w.0 e.term) (is_written_by w.0 e.term es e.context) k in
-                                  by-spread e a w.0 w.1.0 (pair-of-term law rows es invoice currencies-differ long_paths w.0 w.1.0 e.term v.0) v.1
-                            ]
-                          ]
+                    let p = filled-by-test rows at.0 w.0 e.term long_paths at.1 v.0 in
+                    let stands : is_some (value_in es e.term root_context) ≡ true = ap is_some (root-value law rows es invoice e a (root-entry law rows es invoice e.term p.context e a refl) e.term refl) in
+                    spread-told w.0 w.1.0 (filled-here w.0 e.term p (kept-or-absent w.0 w.1.0 e.term p stands)) v.1
+                | inr u ↦ elim (or-either (is_total_in (plan_of rows) rows w.0 e.term && is_written_by w.0 e.term es e.context) _ u) [
+                  | inl k ↦ let v = both-true (is_total_in (plan_of rows) rows w.0 e.term) (is_written_by w.0 e.term es e.context) k in
+                      let at = row-at rows w.0 w.1.0 in
+                      spread-told w.0 w.1.0 (total-here w.0 e.term (total-by-test rows at.0 w.0 e.term long_paths at.1 v.0)) v.1
+                  | inr t ↦ elim (or-either (is_pair_in (plan_of rows) rows w.0 e.term && is_written_by w.0 e.term es e.context) _ t) [
+                    | inl k ↦ let v = both-true (is_pair_in (plan_of rows) rows w.0 e.term) (is_written_by w.0 e.term es e.context) k in
+                        spread-told w.0 w.1.0 (pair-of-term law rows es invoice currencies-differ long_paths w.0 w.1.0 e.term v.0) v.1
+                    | inr x ↦ elim (or-either (writes_known (known_of rows) (plan_of rows) rows es e w.0) _ x) [
+                      | inl k ↦ by-known w.0 w.1.0 k
+                      | inr y ↦ elim (or-either (is_noted_in (plan_of rows) rows w.0 e.term && is_written_by w.0 e.term es e.context) (writes_code (plan_of rows) rows es e w.0) y) [
+                        | inr k ↦ by-code w.0 w.1.0 w.0.content k
+                        | inl k ↦ let v = both-true (is_noted_in (plan_of rows) rows w.0 e.term) (is_written_by w.0 e.term es e.context) k in
+                            let at = row-at rows w.0 w.1.0 in
+                            let p = noted-by-test rows at.0 w.0 e.term long_paths at.1 v.0 in
+                            by-plain w.0 w.1.0 p.there (placed-at rows es w.0.path p.apart) (λ f. p.codes) v.1
+                      ]
                     ]
+                  ]
+                ]
               ]
+            ]
+          ]
         ]
       where
+        spread-told : (row : Row) → Among row rows → IsSpreadHere law rows es invoice row e.term → is_written_by row e.term es e.context ≡ true → ToldPick e
+        spread-told row b p w = own-told row e (by-spread e a row b p w)
+
+        by-plain : (row : Row) → Among row rows → IsPlainThere rows row e.term → ArePlaced all_nodes es row.path (places_at rows es row.path) → HasCodes law rows es invoice row e.term → is_written_by row e.term es e.context ≡ true → ToldPick e
+        by-plain row b p placed codes w = own-told row e (by-row e a row b (plain-covers law rows es invoice row e.term p placed codes) (plain-writes law rows es invoice row e.term p placed codes e.context w))
+
+        by-attribute : (row : Row) → Among row rows → (main : Row) (main_term : Term) → IsPlainAttributeThere rows row e.term main main_term → ArePlaced all_nodes es main.path (places_at rows es main.path) → is_written_by main main_term es e.context ≡ true → ToldPick e
+        by-attribute row b main main_term p placed w =
+            own-told row e (by-row e a row b (attribute-covers law rows es invoice row e.term main main_term p placed) (attribute-writes law rows es invoice row e.term main main_term p placed e.context w))
+
+        -- a subject code, by the row of its note
+        by-code : (row : Row) → Among row rows → (content : Content) → (elim content [
+          | (contents.Term term) ↦ same_term e.term subject_code && (is_noted_in (plan_of rows) rows row term && is_written_by row term es e.context)
+          | (contents.Constant text) ↦ false
+        ]) ≡ true
+            → ToldPick e
+        by-code row b (contents.Constant text) k = absurd (false≢true k)
+        by-code row b (contents.Term term) k =
+            let u = both-true (same_term e.term subject_code) (is_noted_in (plan_of rows) rows row term && is_written_by row term es e.context) k in
+            let v = both-true (is_noted_in (plan_of rows) rows row term) (is_written_by row term es e.context) u.1 in
+            let at = row-at rows row b in
+            let p = noted-by-test rows at.0 row term long_paths at.1 v.0 in
+            let placed = placed-at rows es row.path p.apart in
+            let y = written-some law rows es invoice row term p.there e.context v.1 in
+            let x : Entry = record { context = e.context; term = term; value = y.0 } in
+            code-told row x e refl p.form (same_term_is e.term subject_code u.0) a
+            (by-row x (at-value law es invoice term e.context y.0 y.1) row b (plain-covers law rows es invoice row term p.there placed (λ f. p.codes)) (plain-writes law rows es invoice row term p.there placed (λ f. p.codes) e.context v.1))
+
         by-main : (row : Row) → Among row rows → (main : Row) → Among main rows → (content : Content) → (elim content [
           | (contents.Term main_term) ↦ (is_plain_attribute rows row e.term main main_term || is_spread_attribute rows row e.term main main_term) && is_written_by main main_term es e.context
           | (contents.Constant text) ↦ false
         ]) ≡ true
-            → ToPick e
+            → ToldPick e
         by-main row b main d (contents.Term main_term) k =
             let v = both-true (is_plain_attribute rows row e.term main main_term || is_spread_attribute rows row e.term main main_term) (is_written_by main main_term es e.context) k in
             let at = row-at rows row b in
             let main_at = row-at rows main d in
             elim (or-either (is_plain_attribute rows row e.term main main_term) (is_spread_attribute rows row e.term main main_term) v.0) [
-              | inl h ↦ let p = (attribute-by-test rows at.0 main_at.0 row e.term main main_term long_paths at.1 main_at.1 h) in
-                  by-row e a row b (attribute-covers law rows es invoice row e.term main main_term p) (attribute-writes law rows es invoice row e.term main main_term p e.context v.1)
+              | inl h ↦ let p = attribute-by-test rows at.0 main_at.0 row e.term main main_term long_paths at.1 main_at.1 h in
+                  by-attribute row b main main_term p.there (placed-at rows es main.path p.apart) v.1
               | inr h ↦ let p = (spread-attribute-by-test rows at.0 main_at.0 row e.term main main_term long_paths at.1 main_at.1 h) in
-                  by-row e a row b (spread-attribute-covers law rows es invoice row e.term main main_term p) (spread-attribute-writes law rows es invoice row e.term main main_term p e.context v.1)
+                  own-told row e (by-row e a row b (spread-attribute-covers law rows es invoice row e.term main main_term p) (spread-attribute-writes law rows es invoice row e.term main main_term p e.context v.1))
             ]
         by-main row b main d (contents.Constant text) k = absurd (false≢true k)
+
+        by-known-main : (row : Row) → Among row rows → (main : Row) → Among main rows → (content : Content) → (elim content [
+          | (contents.Term main_term) ↦ is_plain_attribute_with (known_of rows) (plan_of rows) row e.term main main_term && is_written_by main main_term es e.context
+          | (contents.Constant text) ↦ false
+        ]) ≡ true
+            → ToldPick e
+        by-known-main row b main d (contents.Term main_term) k =
+            let v = both-true (is_plain_attribute_with (known_of rows) (plan_of rows) row e.term main main_term) (is_written_by main main_term es e.context) k in
+            let at = row-at rows row b in
+            let main_at = row-at rows main d in
+            let p = attribute-with-test (known_of rows) rows at.0 main_at.0 row e.term main main_term long_paths at.1 main_at.1 v.0 in
+            by-attribute row b main main_term p.1 (placed-known (known_of rows) rows es main.path knows p.0) v.1
+        by-known-main row b main d (contents.Constant text) k = absurd (false≢true k)
+
+        by-known : (row : Row) → Among row rows → writes_known (known_of rows) (plan_of rows) rows es e row ≡ true → ToldPick e
+        by-known row b h = elim (or-either (is_plain_with (known_of rows) (plan_of rows) row e.term && is_written_by row e.term es e.context) _ h) [
+          | inl k ↦ let v = both-true (is_plain_with (known_of rows) (plan_of rows) row e.term) (is_written_by row e.term es e.context) k in
+              let at = row-at rows row b in
+              let p = plain-with-test (known_of rows) rows at.0 row e.term long_paths at.1 v.0 in
+              by-plain row b p.there (placed-known (known_of rows) rows es row.path knows p.apart) (no-codes row e.term p.form) v.1
+          | inr m ↦ elim (or-either (is_spread_with (known_of rows) (plan_of rows) row e.term && is_written_by row e.term es e.context) (list_any (writes_known_beside (known_of rows) (plan_of rows) es e row) rows) m) [
+            | inl k ↦ let v = both-true (is_spread_with (known_of rows) (plan_of rows) row e.term) (is_written_by row e.term es e.context) k in
+                let at = row-at rows row b in
+                spread-told row b (spread-known law rows es invoice (known_of rows) knows row e.term (spread-with-test (known_of rows) rows at.0 row e.term long_paths at.1 v.0)) v.1
+            | inr k ↦ let v = any-is (writes_known_beside (known_of rows) (plan_of rows) es e row) rows k in by-known-main row b v.0 v.1.0 v.0.content v.1.1
+          ]
+        ]
 
     -- ---- where they stand
 
@@ -674,16 +1020,19 @@ module _ (law : Laws) (rows : List Row) (es : List Entry) (invoice : IsInvoice e
     abbrev them : List Told
     them = told all_nodes (place_all all_nodes picks)
 
-    pub said-at : (pick : Pick) (term : Term) (v : Value) → pick.row.content ≡ contents.Term term → said pick.row.form term (string_at all_nodes pick.node) ≡ record { term = term; value = Some v } ∷ []
-        → said_by all_nodes (placed all_nodes picks pick) ≡ record { term = term; value = Some v } ∷ []
-    said-at pick term v e s = ap (λ x. elim (term_in x) [ None ↦ [] | Some t ↦ said pick.row.form t (string_at all_nodes pick.node) ]) e ∙ s
+    pub said-at : (pick : Pick) (term : Term) (sayings : List Said) → pick.row.content ≡ contents.Term term → said pick.row.form term (string_at all_nodes pick.node) ≡ sayings → said_by all_nodes (placed all_nodes picks pick) ≡ sayings
+    said-at pick term sayings e s = ap (λ x. elim (term_in x) [ None ↦ [] | Some t ↦ said pick.row.form t (string_at all_nodes pick.node) ]) e ∙ s
 
-    -- what is told, with its pick
+    -- what is told, with its pick and its entry: the one that the row writes, or a subject code in front of that
     pub record ToldBy (t : Told) : Type 0 where
       pub pick : Pick
       pub among : Among pick picks
       pub from : FromRow pick
-      pub is : record { placed = placed all_nodes picks pick; said = record { term = from.term; value = Some from.told_is.e.value } } ≡ t
+      pub entry : Entry
+      pub known : Among entry es
+      pub context : entry.context ≡ from.told_is.e.context
+      pub is : record { placed = placed all_nodes picks pick; said = record { term = entry.term; value = Some entry.value } } ≡ t
+      pub kind : (entry ≡ from.told_is.e) ⊎ ((entry.term ≡ subject_code) × (form_for pick.row.form from.term ≡ forms.CodedNote))
 
     pub told-by-pick : (t : Told) → Among t them → ToldBy t
     told-by-pick t a =
@@ -692,24 +1041,48 @@ module _ (law : Laws) (rows : List Row) (es : List Entry) (invoice : IsInvoice e
         let pick : Pick = v.0 in
         let from = of-picks pick v.1.0 in
         let p : Placed = placed all_nodes picks pick in
+        let sayings : List Said = record { term = from.term; value = Some from.told_is.e.value } ∷ code_said (form_for pick.row.form from.term) es from.told_is.e.context in
         let told_here : Among t (map (λ s. record { placed = p; said = s }) (said_by all_nodes p)) = subst (λ q. Among t (told_by all_nodes q)) (sym v.1.1) w.1.1 in
-        let one : Among t (map (λ s. record { placed = p; said = s }) (record { term = from.term; value = Some from.told_is.e.value } ∷ [])) =
-        subst (λ l. Among t (map (λ s. record { placed = p; said = s }) l)) (said-at pick from.term from.told_is.e.value from.cover.content from.told_is.says) told_here in
-        record { pick = pick; among = v.1.0; from = from; is = elim one [ inl s ↦ s | inr z ↦ absurd z ] }
+        by-saying pick v.1.0 from (subst (λ l. Among t (map (λ s. record { placed = p; said = s }) l)) (said-at pick from.term sayings from.cover.content from.told_is.says) told_here)
+      where
+        by-saying : (pick : Pick) → Among pick picks → (from : FromRow pick)
+            → Among t (map (λ s. record { placed = placed all_nodes picks pick; said = s }) (record { term = from.term; value = Some from.told_is.e.value } ∷ code_said (form_for pick.row.form from.term) es from.told_is.e.context)) → ToldBy t
+        by-saying pick b from (inl s) = record {
+          pick = pick;
+          among = b;
+          from = from;
+          entry = from.told_is.e;
+          known = from.told_is.known;
+          context = refl;
+          is = ap (λ u. record { placed = placed all_nodes picks pick; said = record { term = u; value = Some from.told_is.e.value } }) from.told_is.term_is ∙ s;
+          kind = inl refl;
+        }
+        by-saying pick b from (inr m) =
+            let w = of-map (λ s. record { placed = placed all_nodes picks pick; said = s }) t (code_said (form_for pick.row.form from.term) es from.told_is.e.context) m in
+            let k = of-code-said (form_for pick.row.form from.term) es from.told_is.e.context w.0 w.1.0 in
+            record {
+              pick = pick;
+              among = b;
+              from = from;
+              entry = record { context = from.told_is.e.context; term = subject_code; value = k.code };
+              known = at-value law es invoice subject_code from.told_is.e.context k.code k.at;
+              context = refl;
+              is = ap (λ s. record { placed = placed all_nodes picks pick; said = s }) k.is ∙ w.1.1;
+              kind = inr (refl, k.form_is);
+            }
 
     pub context-at : (pick : Pick) → Among pick picks → (from : FromRow pick) → context_of (placed all_nodes picks pick) ≡ from.told_is.e.context
     context-at pick a from = context-is rows es invoice picks seats pick a from.told_is.picked ∙ from.told_is.context
 
     pub told-entry : (t : Told) → Among t them → (e : Entry) × (Among e es × Tells es invoice.listed t e)
     told-entry t a =
-        let w = told-by-pick t a in
-        let is = w.from.told_is in (
-          is.e,
+        let w = told-by-pick t a in (
+          w.entry,
           (
-            is.known,
+            w.known,
             record {
-              said = ap (λ (x : Told). x.said) (sym w.is) ∙ ap (λ x. record { term = x; value = Some is.e.value }) (sym is.term_is);
-              context = ap (λ (x : Told). context_of x.placed) (sym w.is) ∙ context-at w.pick w.among w.from;
+              said = ap (λ (x : Told). x.said) (sym w.is);
+              context = ap (λ (x : Told). context_of x.placed) (sym w.is) ∙ (context-at w.pick w.among w.from ∙ sym w.context);
             },
           ),
         )
@@ -720,11 +1093,12 @@ module _ (law : Laws) (rows : List Row) (es : List Entry) (invoice : IsInvoice e
         let w = to-pick e a in
         let pick : Pick = w.pick in
         let p : Placed = placed all_nodes picks pick in
-        let t : Told = record { placed = p; said = record { term = e.term; value = Some e.value } } in (
+        let said_so : Said = record { term = e.term; value = Some e.value } in
+        let t : Told = record { placed = p; said = said_so } in (
           t,
           (
             among-flat_map (told_by all_nodes) p t (place_all all_nodes picks) (among-map (placed all_nodes picks) pick picks w.among)
-                (subst (λ l. Among t (map (λ s. record { placed = p; said = s }) l)) (sym (said-at pick e.term e.value w.content w.says)) (inl refl)),
+                (among-map (λ s. record { placed = p; said = s }) said_so (said_by all_nodes p) (subst (Among said_so) (sym (said-at pick w.term w.sayings w.content w.says)) w.tells)),
             record { said = refl; context = context-is rows es invoice picks seats pick w.among w.picked ∙ w.context },
           ),
         )
@@ -732,34 +1106,72 @@ module _ (law : Laws) (rows : List Row) (es : List Entry) (invoice : IsInvoice e
     pub entries-read : entries them ≡ es
     entries-read = entries-are es invoice.listed them told-entry entry-told
 
-    -- each pick says an entry, and each entry is said, where it stands
+    -- what is told is an entry where it stands, and each entry is told
+    pub told-says : (t : Told) → Contains them t → (e : Entry) × (Contains es e × ((t.said ≡ record { term = e.term; value = Some e.value }) × (context_of t.placed ≡ e.context)))
+    told-says t there = let w = told-entry t (contains-among t them there) in (w.0, (among-contains w.0 es w.1.0, (w.1.1.said, w.1.1.context)))
+
+    pub entry-says : (e : Entry) → Contains es e → (t : Told) × (Contains them t × ((t.said ≡ record { term = e.term; value = Some e.value }) × (context_of t.placed ≡ e.context)))
+    entry-says e there = let w = entry-told e (contains-among e es there) in (w.0, (among-contains w.0 them w.1.0, (w.1.1.said, w.1.1.context)))
+
+    -- each pick says an entry, and each entry is said, where it stands, if no subject code stands in front of a note
     abbrev pub Says : Placed → Entry → Type 0
     Says p e = (said_by all_nodes p ≡ record { term = e.term; value = Some e.value } ∷ []) × (context_of p ≡ e.context)
 
-    pub picks-say : (p : Placed) → Contains (place_all all_nodes picks) p → (e : Entry) × (Contains es e × Says p e)
-    picks-say p there =
-        let v = of-map (placed all_nodes picks) p picks (contains-among p (place_all all_nodes picks) there) in
-        let pick : Pick = v.0 in
-        let from = of-picks pick v.1.0 in
-        let is = from.told_is in (
-          is.e,
-          (
-            among-contains is.e es is.known,
-            subst (λ (q : Placed). Says q is.e) v.1.1
-                (said-at pick from.term is.e.value from.cover.content is.says ∙ ap (λ x. record { term = x; value = Some is.e.value } ∷ []) (sym is.term_is), context-is rows es invoice picks seats pick v.1.0 is.picked ∙ is.context),
-          ),
-        )
+    module _ (unheld_codes : holds_none (code_terms rows) es ≡ true) where
+      no-code-said : (row : Row) → Among row rows → (term : Term) → row.content ≡ contents.Term term → HasCodes law rows es invoice row term → (d : Context) → code_said (form_for row.form term) es d ≡ []
+      no-code-said row a term content codes d = go (form_for row.form term) refl
+        where
+          go : (form : Form) → form_for row.form term ≡ form → code_said form es d ≡ []
+          go forms.Model e = refl
+          go forms.PlainDate e = refl
+          go forms.DueDateTypeCode e = refl
+          go forms.CodedNote e =
+              ap (λ o. elim o [ None ↦ [] | Some code ↦ record { term = subject_code; value = Some code } ∷ [] ])
+              (gone-value (code_terms rows) es subject_code d unheld_codes
+              (any-among (same_term subject_code) subject_code (code_terms rows) refl
+              (subst (λ b. Among subject_code (elim b [ true ↦ [] | false ↦ flat_map code_terms_of rows ])) (sym (codes e))
+              (among-flat_map code_terms_of row subject_code rows a
+              (subst (Among subject_code)
+              (sym (ap (λ x. elim x [ (contents.Term u) ↦ elim (is_coded (form_for row.form u)) [ true ↦ subject_code ∷ [] | false ↦ [] ] | (contents.Constant text) ↦ [] ]) content
+              ∙ ap (λ f. elim (is_coded f) [ true ↦ subject_code ∷ [] | false ↦ [] ]) e))
+              (inl refl))))))
 
-    pub entries-said : (e : Entry) → Contains es e → (p : Placed) × (Contains (place_all all_nodes picks) p × Says p e)
-    entries-said e there =
-        let w = to-pick e (contains-among e es there) in
-        let pick : Pick = w.pick in (
-          placed all_nodes picks pick,
-          (
-            among-contains (placed all_nodes picks pick) (place_all all_nodes picks) (among-map (placed all_nodes picks) pick picks w.among),
-            (said-at pick e.term e.value w.content w.says, context-is rows es invoice picks seats pick w.among w.picked ∙ w.context),
-          ),
-        )
+      one-said : (pick : Pick) (from : FromRow pick) → said_by all_nodes (placed all_nodes picks pick) ≡ record { term = from.told_is.e.term; value = Some from.told_is.e.value } ∷ []
+      one-said pick from =
+          said-at pick from.term (record { term = from.term; value = Some from.told_is.e.value } ∷ code_said (form_for pick.row.form from.term) es from.told_is.e.context) from.cover.content from.told_is.says
+          ∙ ((λ i. record { term = sym from.told_is.term_is i; value = Some from.told_is.e.value } ∷ no-code-said pick.row from.known from.term from.cover.content from.cover.codes from.told_is.e.context i))
+
+      pub picks-say : (p : Placed) → Contains (place_all all_nodes picks) p → (e : Entry) × (Contains es e × Says p e)
+      picks-say p there =
+          let v = of-map (placed all_nodes picks) p picks (contains-among p (place_all all_nodes picks) there) in
+          let pick : Pick = v.0 in
+          let from = of-picks pick v.1.0 in (
+            from.told_is.e,
+            (
+              among-contains from.told_is.e es from.told_is.known,
+              subst (λ (q : Placed). Says q from.told_is.e) v.1.1 (one-said pick from, context-is rows es invoice picks seats pick v.1.0 from.told_is.picked ∙ from.told_is.context),
+            ),
+          )
+
+      pub entries-said : (e : Entry) → Contains es e → (p : Placed) × (Contains (place_all all_nodes picks) p × Says p e)
+      entries-said e there =
+          let w = to-pick e (contains-among e es there) in
+          let pick : Pick = w.pick in
+          let from = of-picks pick w.among in
+          let said_so : Said = record { term = e.term; value = Some e.value } in
+          let one = one-said pick from in
+          let same : record { term = from.told_is.e.term; value = Some from.told_is.e.value } ≡ said_so =
+          only (record { term = from.told_is.e.term; value = Some from.told_is.e.value }) said_so (subst (Among said_so) (sym (said-at pick w.term w.sayings w.content w.says) ∙ one) w.tells) in (
+            placed all_nodes picks pick,
+            (
+              among-contains (placed all_nodes picks pick) (place_all all_nodes picks) (among-map (placed all_nodes picks) pick picks w.among),
+              (one ∙ ap (λ x. x ∷ []) same, context-is rows es invoice picks seats pick w.among w.picked ∙ w.context),
+            ),
+          )
+        where
+          only : (x y : Said) → Among y (x ∷ []) → x ≡ y
+          only x y (inl s) = s
+          only x y (inr z) = absurd z
 
     -- what is told of one seat is one value
     pub seats-agree : (a b : Told) → Contains them a → Contains them b → is_of_seat a b ≡ true → a.said ≡ b.said
@@ -795,7 +1207,7 @@ module _ (law : Laws) (rows : List Row) (es : List Entry) (invoice : IsInvoice e
   accounting-alone = refl
 
   -- one of the two currencies
-  module _ (money : Term) (form_is : (form : Form) → form_for form money ≡ forms.Model) (alone : plain.stands_there money None None ≡ true) (told : (pick : Pick) → IsNotToldHere pick → has_term money pick.row ≡ false) where
+  module _ (money : Term) (form_is : (form : Form) → form_for form money ≡ forms.Model) (alone : plain.stands_there money None None ≡ true) (told : (pick : Pick) → IsNotToldHere pick → has_term money pick.row ≡ false) (no_code : same_term money subject_code ≡ false) where
     abbrev money_picks : List Pick
     money_picks = all_picked all_nodes (rows_where (has_term money) rows)
 
@@ -846,7 +1258,7 @@ module _ (law : Laws) (rows : List Row) (es : List Entry) (invoice : IsInvoice e
         let t = to-pick c own e (at-value law es invoice money root_context v is) in
         let d = due-pick c own t.pick t.among in
         let has : has_term money d.row.row ≡ true =
-        ap (has_term money) (sym (row-of all_nodes d.row.place d.row.row t.pick d.picked)) ∙ (ap (λ content. elim (term_in content) [ None ↦ false | Some u ↦ same_term u money ]) t.content ∙ same-term-itself money) in
+        ap (has_term money) (sym (row-of all_nodes d.row.place d.row.row t.pick d.picked)) ∙ (ap (λ content. elim (term_in content) [ None ↦ false | Some u ↦ same_term u money ]) t.content ∙ is-money t.term t.of_term) in
         let known = of-filter-any (λ (x : Numbered). has_any_term x.row) d.row (numbered 1 rows) d.known in
         let there : Among t.pick (all_picked all_nodes (rows_where (has_term money) rows)) =
         among-flat_map (λ (r : Numbered). nodes_picked all_nodes r.place r.row) d.row t.pick (rows_where (has_term money) rows) (among-filter (λ (x : Numbered). has_term money x.row) d.row (numbered 1 rows) has known.0) d.picked in
@@ -854,6 +1266,10 @@ module _ (law : Laws) (rows : List Row) (es : List Entry) (invoice : IsInvoice e
       where
         same-term-itself : (u : Term) → same_term u u ≡ true
         same-term-itself u = grind (arith, nat_tests)
+
+        is-money : (term : Term) → (term ≡ money) ⊎ (money ≡ subject_code) → same_term term money ≡ true
+        is-money term (inl s) = ap (λ u. same_term u money) s ∙ same-term-itself money
+        is-money term (inr s) = absurd (false≢true (sym no_code ∙ (ap (same_term money) (sym s) ∙ same-term-itself money)))
 
         go : (ps : List Pick) → ((pick : Pick) → Among pick ps → IsMoney (string_at all_nodes pick.node)) → (pick : Pick) → Among pick ps → first_string all_nodes ps ≡ currency_text es money
         go [] f pick a = absurd a
@@ -892,12 +1308,12 @@ module _ (law : Laws) (rows : List Row) (es : List Entry) (invoice : IsInvoice e
             second = trimmed (spelled w);
             first_is = first_is;
             second_is = second_is;
-            first_read = money-named invoice_currency money-form in-invoice-alone not-money c own v e ∙ first_is;
-            second_read = money-named accounting_currency accounting-form accounting-alone not-accounting-money c own w f ∙ second_is;
+            first_read = money-named invoice_currency money-form in-invoice-alone not-money refl c own v e ∙ first_is;
+            second_read = money-named accounting_currency accounting-form accounting-alone not-accounting-money refl c own w f ∙ second_is;
           }
 
   pub currency-read : AreOwn rows es (currencies all_nodes rows)
-  currency-read = (money-read invoice_currency money-form in-invoice-alone not-money, go (holds_none (accounting_terms rows) es) refl)
+  currency-read = (money-read invoice_currency money-form in-invoice-alone not-money refl, go (holds_none (accounting_terms rows) es) refl)
     where
       go : (b : Bool) → holds_none (accounting_terms rows) es ≡ b → (holds_none (accounting_terms rows) es ≡ true) ⊎ AreNamed es (currencies all_nodes rows)
       go true e = inl e

@@ -23,14 +23,16 @@ use Rattle.bind_meaning.specs.Elements.{children_named, attributes_named, string
 use Rattle.bind_meaning.specs.Picks.{Pick, ways, last_of, filled, leaves_of, picks_of_way, nodes_picked}
 use Rattle.bind_meaning.specs.Trees.{name_of, spots, is_emitted, holds_further, attributes, element_text, with_text, elements, written_lines, document_of}
 use Rattle.binding_laws.specs.Apart as apart
-use Rattle.binding_laws.specs.Apart.{is_nothing, meets_all, fails_some, holds_none, is_unwritten, is_off, is_clear, is_apart, stands_apart_without, stands_apart}
+use Rattle.binding_laws.specs.Apart.{is_nothing, Known, without, unknown, beyond, meets_all, fails_some, holds_none, is_unwritten, is_off, is_met_or_unwritten, is_clear, is_apart, stands_apart_without, stands_apart}
 use Rattle.binding_laws.specs.Written.{Spot, emitted, at_end, spots_below, written_at, values_named}
 use Rattle.binding_laws.proofs.TreeLemmas.{Each, each-weaker, each-append, Lies, behind-text, behind-element}
 use Rattle.binding_laws.proofs.NodeLemmas.{Top, tops, is_called, Holds, document-holds, children-are, texts, inside-holds, string-is}
 use Rattle.binding_laws.proofs.AttributeLemmas.{attributes-are}
-use Rattle.binding_laws.proofs.ListLemmas.{flat_map-map, map-flat_map, map-map, map-append, flat_map-same, flat_map-filter, flat_map-each, flat_map-none, each-map, append-nil, map-filter, both-true}
+use Rattle.binding_laws.proofs.ListLemmas.{flat_map-map, map-flat_map, map-map, map-append, flat_map-same, flat_map-filter, flat_map-each, flat_map-none, each-map, append-nil, map-filter, both-true, or-either}
+use Rattle.binding_laws.proofs.ReachLemmas.{Among}
+use Rattle.binding_laws.proofs.KnownLemmas.{Knows, knows-without, knows-nothing, known-inside}
 use Rattle.binding_laws.proofs.GuardLemmas.{met-as, own-met, other-unmet, at-nothing, text-texts}
-use Rattle.binding_laws.proofs.GoneLemmas.{none-of-none, never-written}
+use Rattle.binding_laws.proofs.GoneLemmas.{never-written}
 
 -- ---- the elements that are written of a line, with their numbers
 
@@ -183,16 +185,16 @@ module _ {X : Type 0} (nodes : List Node) (name : ElementName) (g : ℕ → List
       go later false = later n
 
   -- each of them lies in the document, and so does what is behind them
-  pub elements-lie : (P : At → Type 0) → ((d : Context) (n : ℕ) (more : Forest) → is_there d ≡ true → Lies nodes above n (an_element written (attrs d) (inside d) more) → P (record { context = d; number = n }))
-      → (ds : List Context) (n : ℕ) → Lies nodes above n (some ds) → Each P (sized long (filter is_there ds) n) × Lies nodes above (past long (filter is_there ds) n) rest
-  elements-lie P each [] n lies = (tt, lies)
-  elements-lie P each (d ∷ ds) n lies = go (elements-lie P each ds) (is_there d) refl lies
+  pub elements-lie : (P : At → Type 0) (ds : List Context) → ((d : Context) → Among d ds → (n : ℕ) (more : Forest) → is_there d ≡ true → Lies nodes above n (an_element written (attrs d) (inside d) more) → P (record { context = d; number = n }))
+      → (n : ℕ) → Lies nodes above n (some ds) → Each P (sized long (filter is_there ds) n) × Lies nodes above (past long (filter is_there ds) n) rest
+  elements-lie P [] each n lies = (tt, lies)
+  elements-lie P (d ∷ ds) each n lies = go (elements-lie P ds (λ e a. each e (inr a))) (is_there d) refl lies
     where
       go : ((m : ℕ) → Lies nodes above m (some ds) → Each P (sized long (filter is_there ds) m) × Lies nodes above (past long (filter is_there ds) m) rest) → (b : Bool) → is_there d ≡ b → Lies nodes above n (elim b [ true ↦ an_element written (attrs d) (inside d) (some ds) | false ↦ some ds ])
           → Each P (sized long (if b then d ∷ filter is_there ds else filter is_there ds) n) × Lies nodes above (past long (if b then d ∷ filter is_there ds else filter is_there ds) n) rest
       go later true e k =
           let w = later (n + long d) (behind-element nodes above n written (attrs d) (inside d) (some ds) k) in
-          ((each d n (some ds) e k, w.0), w.1)
+          ((each d (inl refl) n (some ds) e k, w.0), w.1)
       go later false e k = later n k
 
 -- ---- ways
@@ -211,10 +213,6 @@ in-its-text : {X : Type 0} (nodes : List Node) (name : ElementName) (g : ℕ →
 in-its-text nodes name g [] f above n h = (h, refl)
 in-its-text nodes name g (c ∷ text) f above n h = (behind-text nodes above n (c ∷ text) f h, refl)
 
-or-either : (a b : Bool) → (a || b) ≡ true → (a ≡ true) ⊎ (b ≡ true)
-or-either true b h = inl refl
-or-either false b h = inr h
-
 module _ (nodes : List Node) (es : List Entry) where
   -- an element of the line, with what is inside it
   abbrev pub Found : Step → List Cell → Plan → Bool → List ℕ → Context → ℕ → Forest → Type 0
@@ -229,20 +227,20 @@ module _ (nodes : List Node) (es : List Entry) where
       let text = in-its-text nodes u.name (step_ways nodes u us) (element_text es cells d) (written_lines es inside (holds_further es cells inside held d) d) (m ∷ above) place holds.lies in
       (text.0, inside-ways nodes m above place (written_in es cells inside held d) u us holds ∙ text.1)
 
-  -- nothing is found at the elements of a line
-  abbrev pub Silent : {X : Type 0} → (ℕ → List X) → Step → List Cell → Plan → Bool → List ℕ → Type 0
-  Silent g t cells inside held above = (d : Context) (m : ℕ) (more : Forest) → is_emitted es t cells inside held d ≡ true → Found t cells inside held above d m more → g m ≡ []
+  -- nothing is found at the elements of a line inside an element in the context
+  abbrev pub Silent : {X : Type 0} → (ℕ → List X) → Step → List Cell → Plan → Bool → List ℕ → Context → Type 0
+  Silent g t cells inside held above c = (d : Context) → Among d (spots es c t.group) → (m : ℕ) (more : Forest) → is_emitted es t cells inside held d ≡ true → Found t cells inside held above d m more → g m ≡ []
 
-  pub clear-line : (gone : List Term) → holds_none gone es ≡ true → (s : Step) (path : List Step) (t : Step) (cells : List Cell) (inside : Plan) (held : Bool) (above : List ℕ)
-      → ((u : Step) (us : List Step) (d : Context) (around : List ℕ) (m : ℕ) → Lies nodes around m (written_lines es inside (holds_further es cells inside held d) d) → is_clear gone inside (u ∷ us) ≡ true
+  pub clear-line : (known : Known) (c : Context) → Knows known es c → (s : Step) (path : List Step) (t : Step) (cells : List Cell) (inside : Plan) (held : Bool) (above : List ℕ)
+      → ((u : Step) (us : List Step) (d : Context) → Among d (spots es c t.group) → (around : List ℕ) (m : ℕ) → Lies nodes around m (written_lines es inside (holds_further es cells inside held d) d) → is_clear (beyond t.group known) inside (u ∷ us) ≡ true
       → found u.name (step_ways nodes u us) m (written_lines es inside (holds_further es cells inside held d) d) ≡ [])
-      → (is_off gone s.guards t cells inside || elim path [ [] ↦ false | (u ∷ further) ↦ is_clear gone inside (u ∷ further) ]) ≡ true → Silent (step_ways nodes s path) t cells inside held above
+      → (is_off known s.guards t cells inside || elim path [ [] ↦ false | (u ∷ further) ↦ is_clear (beyond t.group known) inside (u ∷ further) ]) ≡ true → Silent (step_ways nodes s path) t cells inside held above c
   unfolding step_ways
-  clear-line gone unheld s path t cells inside held above inner h d m more e there = elim (or-either (is_off gone s.guards t cells inside) (elim path [ [] ↦ false | (u ∷ further) ↦ is_clear gone inside (u ∷ further) ]) h) [
-    | inl k ↦ elim (or-either (fails_some s.guards t cells inside) (is_unwritten gone t cells inside) k) [
+  clear-line known c knows s path t cells inside held above inner h d a m more e there = elim (or-either (is_off known s.guards t cells inside) (elim path [ [] ↦ false | (u ∷ further) ↦ is_clear (beyond t.group known) inside (u ∷ further) ]) h) [
+    | inl k ↦ elim (or-either (fails_some known s.guards t cells inside) (is_unwritten known.gone t cells inside) k) [
       | inl l ↦ ap (λ b. elim b [ true ↦ map (λ way. m ∷ way) (ways nodes path m) | false ↦ [] ])
-          (met-as nodes s.guards above m (name_of t.name) (attributes es t cells d) (written_in es cells inside held d) more there ∙ other-unmet es s.guards t cells inside held d l e)
-      | inr l ↦ absurd (never-written gone es t cells inside held d unheld l e)
+          (met-as nodes s.guards above m (name_of t.name) (attributes es t cells d) (written_in es cells inside held d) more there ∙ other-unmet es known c knows s.guards t cells inside held d a l e)
+      | inr l ↦ absurd (never-written known.gone es t cells inside held d knows.gone l e)
     ]
     | inr k ↦ go path k
   ]
@@ -251,25 +249,25 @@ module _ (nodes : List Node) (es : List Entry) where
       none true ws k = ap (map (λ way. m ∷ way)) k
       none false ws k = refl
 
-      go : (path : List Step) → (elim path [ [] ↦ false | (u ∷ further) ↦ is_clear gone inside (u ∷ further) ]) ≡ true → ◌≡◌ {A = List (List ℕ)} (elim (are_met nodes s.guards m) [ true ↦ map (λ way. m ∷ way) (ways nodes path m) | false ↦ [] ]) []
+      go : (path : List Step) → (elim path [ [] ↦ false | (u ∷ further) ↦ is_clear (beyond t.group known) inside (u ∷ further) ]) ≡ true → ◌≡◌ {A = List (List ℕ)} (elim (are_met nodes s.guards m) [ true ↦ map (λ way. m ∷ way) (ways nodes path m) | false ↦ [] ]) []
       go [] k = absurd (false≢true k)
       go (u ∷ us) k =
           let w = inside-element t cells inside held above d m more u us there in
-          none (are_met nodes s.guards m) (ways nodes (u ∷ us) m) (w.1 ∙ inner u us d (m ∷ above) (begin_in es t cells (record { context = d; number = m })) w.0 k)
+          none (are_met nodes s.guards m) (ways nodes (u ∷ us) m) (w.1 ∙ inner u us d a (m ∷ above) (begin_in es t cells (record { context = d; number = m })) w.0 k)
 
   -- what is found of a line that is passed over, and of those behind it
   pub past-line : {X : Type 0} (s : Step) (g : ℕ → List X) (t : Step) (cells : List Cell) (inside rest : Plan) (held : Bool) (c : Context) (above : List ℕ) (n : ℕ)
-      → Lies nodes above n (written_lines es (a_line t cells inside rest) held c) → (apart.is_called s.name t.name ≡ false) ⊎ Silent g t cells inside held above
+      → Lies nodes above n (written_lines es (a_line t cells inside rest) held c) → (apart.is_called s.name t.name ≡ false) ⊎ Silent g t cells inside held above c
       → Lies nodes above (past (long_of es t cells inside held) (emitted es t cells inside held c) n) (written_lines es rest held c)
       × (found s.name g n (written_lines es (a_line t cells inside rest) held c) ≡ found s.name g (past (long_of es t cells inside held) (emitted es t cells inside held c) n) (written_lines es rest held c))
   past-line s g t cells inside rest held c above n lies (inl k) = (
-    (elements-lie nodes s.name g (name_of t.name) (attributes es t cells) (written_in es cells inside held) (is_emitted es t cells inside held) (written_lines es rest held c) above (λ x. Unit {0}) (λ d m more e there. tt)
-        (spots es c t.group) n lies).1,
+    (elements-lie nodes s.name g (name_of t.name) (attributes es t cells) (written_in es cells inside held) (is_emitted es t cells inside held) (written_lines es rest held c) above (λ x. Unit {0})
+        (spots es c t.group) (λ d a m more e there. tt) n lies).1,
     found-other nodes s.name g (name_of t.name) (attributes es t cells) (written_in es cells inside held) (is_emitted es t cells inside held) (written_lines es rest held c) above k (spots es c t.group) n,
   )
   past-line s g t cells inside rest held c above n lies (inr silent) =
-      let w = elements-lie nodes s.name g (name_of t.name) (attributes es t cells) (written_in es cells inside held) (is_emitted es t cells inside held) (written_lines es rest held c) above (λ x. g x.number ≡ []) silent
-      (spots es c t.group) n lies in
+      let w = elements-lie nodes s.name g (name_of t.name) (attributes es t cells) (written_in es cells inside held) (is_emitted es t cells inside held) (written_lines es rest held c) above (λ x. g x.number ≡ [])
+      (spots es c t.group) silent n lies in
       (w.1, by-name (apart.is_called s.name t.name) refl w.0)
     where
       by-name : (b : Bool) → apart.is_called s.name t.name ≡ b → Each (λ (x : At). g x.number ≡ []) (sized (long_of es t cells inside held) (emitted es t cells inside held c) n)
@@ -280,24 +278,24 @@ module _ (nodes : List Node) (es : List Entry) where
       by-name false k none =
           found-other nodes s.name g (name_of t.name) (attributes es t cells) (written_in es cells inside held) (is_emitted es t cells inside held) (written_lines es rest held c) above k (spots es c t.group) n
 
-  pub clear-found : (gone : List Term) → holds_none gone es ≡ true → (plan : Plan) (s : Step) (path : List Step) (held : Bool) (c : Context) (above : List ℕ) (n : ℕ) → Lies nodes above n (written_lines es plan held c) → is_clear gone plan (s ∷ path) ≡ true
+  pub clear-found : (known : Known) (plan : Plan) (s : Step) (path : List Step) (held : Bool) (c : Context) → Knows known es c → (above : List ℕ) (n : ℕ) → Lies nodes above n (written_lines es plan held c) → is_clear known plan (s ∷ path) ≡ true
       → found s.name (step_ways nodes s path) n (written_lines es plan held c) ≡ []
-  clear-found gone unheld nothing s path held c above n lies h = refl
-  clear-found gone unheld (a_line t cells inside rest) s path held c above n lies h =
-      go (λ u us further d around m there z. clear-found gone unheld inside u us further d around m there z) (λ m there z. clear-found gone unheld rest s path held c above m there z) (apart.is_called s.name t.name) refl h
+  clear-found known nothing s path held c knows above n lies h = refl
+  clear-found known (a_line t cells inside rest) s path held c knows above n lies h =
+      go (λ u us further d k around m there z. clear-found (beyond t.group known) inside u us further d k around m there z) (λ m there z. clear-found known rest s path held c knows above m there z) (apart.is_called s.name t.name) refl h
     where
-      go : ((u : Step) (us : List Step) (further : Bool) (d : Context) (around : List ℕ) (m : ℕ) → Lies nodes around m (written_lines es inside further d) → is_clear gone inside (u ∷ us) ≡ true
+      go : ((u : Step) (us : List Step) (further : Bool) (d : Context) → Knows (beyond t.group known) es d → (around : List ℕ) (m : ℕ) → Lies nodes around m (written_lines es inside further d) → is_clear (beyond t.group known) inside (u ∷ us) ≡ true
           → found u.name (step_ways nodes u us) m (written_lines es inside further d) ≡ [])
-          → ((m : ℕ) → Lies nodes above m (written_lines es rest held c) → is_clear gone rest (s ∷ path) ≡ true → found s.name (step_ways nodes s path) m (written_lines es rest held c) ≡ [])
+          → ((m : ℕ) → Lies nodes above m (written_lines es rest held c) → is_clear known rest (s ∷ path) ≡ true → found s.name (step_ways nodes s path) m (written_lines es rest held c) ≡ [])
           → (b : Bool) → apart.is_called s.name t.name ≡ b → (elim b [
-            | true ↦ (not (same_step s t) && (is_off gone s.guards t cells inside || elim path [ [] ↦ false | (u ∷ further) ↦ is_clear gone inside (u ∷ further) ])) && is_clear gone rest (s ∷ path)
-            | false ↦ is_clear gone rest (s ∷ path)
+            | true ↦ (not (same_step s t) && (is_off known s.guards t cells inside || elim path [ [] ↦ false | (u ∷ further) ↦ is_clear (beyond t.group known) inside (u ∷ further) ])) && is_clear known rest (s ∷ path)
+            | false ↦ is_clear known rest (s ∷ path)
           ]) ≡ true
           → found s.name (step_ways nodes s path) n (written_lines es (a_line t cells inside rest) held c) ≡ []
       go inner later true e k =
-          let w = both-true _ (is_clear gone rest (s ∷ path)) k in
+          let w = both-true _ (is_clear known rest (s ∷ path)) k in
           let p = past-line s (step_ways nodes s path) t cells inside rest held c above n lies
-          (inr (clear-line gone unheld s path t cells inside held above (λ u us d around m there z. inner u us (holds_further es cells inside held d) d around m there z) (both-true (not (same_step s t)) _ w.0).1)) in
+          (inr (clear-line known c knows s path t cells inside held above (λ u us d a around m there z. inner u us (holds_further es cells inside held d) d (known-inside known es t.group c d a knows) around m there z) (both-true (not (same_step s t)) _ w.0).1)) in
           p.1 ∙ later (past (long_of es t cells inside held) (emitted es t cells inside held c) n) p.0 w.1
       go inner later false e k =
           let p = past-line s (step_ways nodes s path) t cells inside rest held c above n lies (inl e) in
@@ -339,19 +337,24 @@ module _ (nodes : List Node) (es : List Entry) where
     pub ways_are : step_ways nodes s path n ≡ map (λ (place : Place). place.way) (map (behind n) them)
     pub each : Each IsAt (map (behind n) them)
 
-  pub own-line : (gone : List Term) → holds_none gone es ≡ true → (s : Step) (path : List Step) (t : Step) (cells : List Cell) (inside : Plan) (held : Bool) (above : List ℕ)
-      → ((u : Step) (us : List Step) (d : Context) (around : List ℕ) (m : ℕ) → Lies nodes around m (written_lines es inside (holds_further es cells inside held d) d) → is_apart gone inside (u ∷ us) ≡ true
+  pub own-line : (known : Known) (c : Context) → Knows known es c → (s : Step) (path : List Step) (t : Step) (cells : List Cell) (inside : Plan) (held : Bool) (above : List ℕ)
+      → ((u : Step) (us : List Step) (d : Context) → Among d (spots es c t.group) → (around : List ℕ) (m : ℕ) → Lies nodes around m (written_lines es inside (holds_further es cells inside held d) d) → is_apart (beyond t.group known) inside (u ∷ us) ≡ true
       → AreFound u us (written_lines es inside (holds_further es cells inside held d) d) m (places es inside (u ∷ us) (holds_further es cells inside held d) d m))
-      → meets_all s.guards t cells inside ≡ true → (elim path [ [] ↦ is_nothing inside | (u ∷ further) ↦ is_apart gone inside (u ∷ further) ]) ≡ true
-      → (d : Context) (m : ℕ) (more : Forest) → is_emitted es t cells inside held d ≡ true → Found t cells inside held above d m more
+      → is_met_or_unwritten known s.guards t cells inside ≡ true → (elim path [ [] ↦ is_nothing inside | (u ∷ further) ↦ is_apart (beyond t.group known) inside (u ∷ further) ]) ≡ true
+      → (d : Context) → Among d (spots es c t.group) → (m : ℕ) (more : Forest) → is_emitted es t cells inside held d ≡ true → Found t cells inside held above d m more
       → IsOwn s path m (last_places path (spot_of es t cells d) (places es inside path (holds_further es cells inside held d) d (begin_in es t cells (record { context = d; number = m }))))
   unfolding step_ways
-  own-line gone unheld s path t cells inside held above inner meets h d m more e there = go path h
+  own-line known c knows s path t cells inside held above inner meets h d a m more e there = go path h
     where
       are-met : are_met nodes s.guards m ≡ true
-      are-met = met-as nodes s.guards above m (name_of t.name) (attributes es t cells d) (written_in es cells inside held d) more there ∙ own-met es s.guards t cells inside held d meets e
+      are-met =
+          met-as nodes s.guards above m (name_of t.name) (attributes es t cells d) (written_in es cells inside held d) more there
+          ∙ elim (or-either (meets_all known s.guards t cells inside) (is_unwritten known.gone t cells inside) meets) [
+            | inl k ↦ own-met es known c knows s.guards t cells inside held d a k e
+            | inr k ↦ absurd (never-written known.gone es t cells inside held d knows.gone k e)
+          ]
 
-      go : (path : List Step) → (elim path [ [] ↦ is_nothing inside | (u ∷ further) ↦ is_apart gone inside (u ∷ further) ]) ≡ true
+      go : (path : List Step) → (elim path [ [] ↦ is_nothing inside | (u ∷ further) ↦ is_apart (beyond t.group known) inside (u ∷ further) ]) ≡ true
           → IsOwn s path m (last_places path (spot_of es t cells d) (places es inside path (holds_further es cells inside held d) d (begin_in es t cells (record { context = d; number = m }))))
       go [] k = record {
         ways_are = ap (λ b. elim b [ true ↦ map (λ way. m ∷ way) (ways nodes [] m) | false ↦ [] ]) are-met;
@@ -371,7 +374,7 @@ module _ (nodes : List Node) (es : List Entry) where
       go (u ∷ us) k =
           let w = inside-element t cells inside held above d m more u us there in
           let start : ℕ = begin_in es t cells (record { context = d; number = m }) in
-          let v = inner u us d (m ∷ above) start w.0 k in
+          let v = inner u us d a (m ∷ above) start w.0 k in
           let them : List Place = places es inside (u ∷ us) (holds_further es cells inside held d) d start in
           record {
             ways_are = ap (λ b. elim b [ true ↦ map (λ way. m ∷ way) (ways nodes (u ∷ us) m) | false ↦ [] ]) are-met ∙ (ap (map (λ way. m ∷ way)) (w.1 ∙ v.ways_are) ∙ ways-behind m them);
@@ -387,39 +390,39 @@ module _ (nodes : List Node) (es : List Entry) where
         each-append IsAt (map (behind x.number) (them x)) (flat_map (λ (y : At). map (behind y.number) (them y)) xs) h.0.each w.1,
       )
 
-  pub lines-found : (gone : List Term) → holds_none gone es ≡ true → (plan : Plan) (s : Step) (path : List Step) (held : Bool) (c : Context) (above : List ℕ) (n : ℕ) → Lies nodes above n (written_lines es plan held c) → is_apart gone plan (s ∷ path) ≡ true
+  pub lines-found : (known : Known) (plan : Plan) (s : Step) (path : List Step) (held : Bool) (c : Context) → Knows known es c → (above : List ℕ) (n : ℕ) → Lies nodes above n (written_lines es plan held c) → is_apart known plan (s ∷ path) ≡ true
       → AreFound s path (written_lines es plan held c) n (places es plan (s ∷ path) held c n)
-  lines-found gone unheld nothing s path held c above n lies h = absurd (false≢true h)
-  lines-found gone unheld (a_line t cells inside rest) s path held c above n lies h =
-      go (λ u us further d around m there z. lines-found gone unheld inside u us further d around m there z) (λ m there z. lines-found gone unheld rest s path held c above m there z) (same_step s t) refl h
+  lines-found known nothing s path held c knows above n lies h = absurd (false≢true h)
+  lines-found known (a_line t cells inside rest) s path held c knows above n lies h =
+      go (λ u us further d k around m there z. lines-found (beyond t.group known) inside u us further d k around m there z) (λ m there z. lines-found known rest s path held c knows above m there z) (same_step s t) refl h
     where
-      on : ((m : ℕ) → Lies nodes above m (written_lines es rest held c) → is_apart gone rest (s ∷ path) ≡ true → AreFound s path (written_lines es rest held c) m (places es rest (s ∷ path) held c m))
-          → (apart.is_called s.name t.name ≡ false) ⊎ Silent (step_ways nodes s path) t cells inside held above → is_apart gone rest (s ∷ path) ≡ true
+      on : ((m : ℕ) → Lies nodes above m (written_lines es rest held c) → is_apart known rest (s ∷ path) ≡ true → AreFound s path (written_lines es rest held c) m (places es rest (s ∷ path) held c m))
+          → (apart.is_called s.name t.name ≡ false) ⊎ Silent (step_ways nodes s path) t cells inside held above c → is_apart known rest (s ∷ path) ≡ true
           → AreFound s path (written_lines es (a_line t cells inside rest) held c) n (places es rest (s ∷ path) held c (past (long_of es t cells inside held) (emitted es t cells inside held c) n))
       on later passed k =
           let p = past-line s (step_ways nodes s path) t cells inside rest held c above n lies passed in
           let w = later (past (long_of es t cells inside held) (emitted es t cells inside held c) n) p.0 k in
           record { ways_are = p.1 ∙ w.ways_are; each = w.each }
 
-      by-name : ((m : ℕ) → Lies nodes above m (written_lines es rest held c) → is_apart gone rest (s ∷ path) ≡ true → AreFound s path (written_lines es rest held c) m (places es rest (s ∷ path) held c m))
+      by-name : ((m : ℕ) → Lies nodes above m (written_lines es rest held c) → is_apart known rest (s ∷ path) ≡ true → AreFound s path (written_lines es rest held c) m (places es rest (s ∷ path) held c m))
           → (b : Bool) → apart.is_called s.name t.name ≡ b → (elim b [
-            | true ↦ (is_off gone s.guards t cells inside || elim path [ [] ↦ false | (u ∷ further) ↦ is_clear gone inside (u ∷ further) ]) && is_apart gone rest (s ∷ path)
-            | false ↦ is_apart gone rest (s ∷ path)
+            | true ↦ (is_off known s.guards t cells inside || elim path [ [] ↦ false | (u ∷ further) ↦ is_clear (beyond t.group known) inside (u ∷ further) ]) && is_apart known rest (s ∷ path)
+            | false ↦ is_apart known rest (s ∷ path)
           ]) ≡ true
           → AreFound s path (written_lines es (a_line t cells inside rest) held c) n (places es rest (s ∷ path) held c (past (long_of es t cells inside held) (emitted es t cells inside held c) n))
       by-name later true e k =
-          let w = both-true _ (is_apart gone rest (s ∷ path)) k in
-          on later (inr (clear-line gone unheld s path t cells inside held above (λ u us d around m there z. clear-found gone unheld inside u us (holds_further es cells inside held d) d around m there z) w.0)) w.1
+          let w = both-true _ (is_apart known rest (s ∷ path)) k in
+          on later (inr (clear-line known c knows s path t cells inside held above (λ u us d a around m there z. clear-found (beyond t.group known) inside u us (holds_further es cells inside held d) d (known-inside known es t.group c d a knows) around m there z) w.0)) w.1
       by-name later false e k = on later (inl e) k
 
-      go : ((u : Step) (us : List Step) (further : Bool) (d : Context) (around : List ℕ) (m : ℕ) → Lies nodes around m (written_lines es inside further d) → is_apart gone inside (u ∷ us) ≡ true
+      go : ((u : Step) (us : List Step) (further : Bool) (d : Context) → Knows (beyond t.group known) es d → (around : List ℕ) (m : ℕ) → Lies nodes around m (written_lines es inside further d) → is_apart (beyond t.group known) inside (u ∷ us) ≡ true
           → AreFound u us (written_lines es inside further d) m (places es inside (u ∷ us) further d m))
-          → ((m : ℕ) → Lies nodes above m (written_lines es rest held c) → is_apart gone rest (s ∷ path) ≡ true → AreFound s path (written_lines es rest held c) m (places es rest (s ∷ path) held c m))
+          → ((m : ℕ) → Lies nodes above m (written_lines es rest held c) → is_apart known rest (s ∷ path) ≡ true → AreFound s path (written_lines es rest held c) m (places es rest (s ∷ path) held c m))
           → (b : Bool) → same_step s t ≡ b → (elim b [
-            | true ↦ meets_all s.guards t cells inside && (is_clear gone rest (s ∷ path) && elim path [ [] ↦ is_nothing inside | (u ∷ further) ↦ is_apart gone inside (u ∷ further) ])
+            | true ↦ is_met_or_unwritten known s.guards t cells inside && (is_clear known rest (s ∷ path) && elim path [ [] ↦ is_nothing inside | (u ∷ further) ↦ is_apart (beyond t.group known) inside (u ∷ further) ])
             | false ↦ elim (apart.is_called s.name t.name) [
-              | true ↦ (is_off gone s.guards t cells inside || elim path [ [] ↦ false | (u ∷ further) ↦ is_clear gone inside (u ∷ further) ]) && is_apart gone rest (s ∷ path)
-              | false ↦ is_apart gone rest (s ∷ path)
+              | true ↦ (is_off known s.guards t cells inside || elim path [ [] ↦ false | (u ∷ further) ↦ is_clear (beyond t.group known) inside (u ∷ further) ]) && is_apart known rest (s ∷ path)
+              | false ↦ is_apart known rest (s ∷ path)
             ]
           ]) ≡ true
           → AreFound s path (written_lines es (a_line t cells inside rest) held c) n (elim b [
@@ -428,19 +431,19 @@ module _ (nodes : List Node) (es : List Entry) where
             | false ↦ places es rest (s ∷ path) held c (past (long_of es t cells inside held) (emitted es t cells inside held c) n)
           ])
       go inner later true e k =
-          let parts = both-true (meets_all s.guards t cells inside) _ k in
-          let further = both-true (is_clear gone rest (s ∷ path)) _ parts.1 in
+          let parts = both-true (is_met_or_unwritten known s.guards t cells inside) _ k in
+          let further = both-true (is_clear known rest (s ∷ path)) _ parts.1 in
           let called : apart.is_called s.name t.name ≡ true = ap (λ (x : Step). apart.is_called x.name t.name) (step-sound s t e) ∙ called-self t.name in
           let them : At → List Place = λ x. last_places path (spot_of es t cells x.context) (places es inside path (holds_further es cells inside held x.context) x.context (begin_in es t cells x)) in
           let w = elements-lie nodes s.name (step_ways nodes s path) (name_of t.name) (attributes es t cells) (written_in es cells inside held) (is_emitted es t cells inside held) (written_lines es rest held c) above
-          (λ x. IsOwn s path x.number (them x))
-          (own-line gone unheld s path t cells inside held above (λ u us d around m there z. inner u us (holds_further es cells inside held d) d around m there z) parts.0 further.1) (spots es c t.group) n lies in
+          (λ x. IsOwn s path x.number (them x)) (spots es c t.group)
+          (own-line known c knows s path t cells inside held above (λ u us d a around m there z. inner u us (holds_further es cells inside held d) d (known-inside known es t.group c d a knows) around m there z) parts.0 further.1) n lies in
           let all = join-own s path them (sized (long_of es t cells inside held) (emitted es t cells inside held c) n) w.0 in
           record {
             ways_are = found-called nodes s.name (step_ways nodes s path) (name_of t.name) (attributes es t cells) (written_in es cells inside held) (is_emitted es t cells inside held) (written_lines es rest held c) above called
                 (spots es c t.group) n
                 ∙ (ap (λ l. flat_map (λ (x : At). step_ways nodes s path x.number) (sized (long_of es t cells inside held) (emitted es t cells inside held c) n) ++ l)
-                (clear-found gone unheld rest s path held c above (past (long_of es t cells inside held) (emitted es t cells inside held c) n) w.1 further.0)
+                (clear-found known rest s path held c knows above (past (long_of es t cells inside held) (emitted es t cells inside held c) n) w.1 further.0)
                 ∙ (append-nil (flat_map (λ (x : At). step_ways nodes s path x.number) (sized (long_of es t cells inside held) (emitted es t cells inside held c) n)) ∙ all.0));
             each = all.1;
           }
@@ -448,9 +451,9 @@ module _ (nodes : List Node) (es : List Entry) where
 
 -- ---- the document
 
-pub apart-nil : (gone : List Term) (plan : Plan) → is_apart gone plan [] ≡ true → ⊥
-apart-nil gone nothing h = false≢true h
-apart-nil gone (a_line t cells inside rest) h = false≢true h
+pub apart-nil : (known : Known) (plan : Plan) → is_apart known plan [] ≡ true → ⊥
+apart-nil known nothing h = false≢true h
+apart-nil known (a_line t cells inside rest) h = false≢true h
 
 -- the elements that the document has at the end of a path, with those on the way to them
 abbrev pub places_at : List Row → List Entry → List Step → List Place
@@ -460,19 +463,23 @@ pub record ArePlaced (nodes : List Node) (es : List Entry) (path : List Step) (t
   pub ways_are : ways nodes path 0 ≡ map (λ (place : Place). place.way) them
   pub each : Each (IsAt nodes es) them
 
-pub placed-without : (gone : List Term) (rows : List Row) (es : List Entry) (path : List Step) → holds_none gone es ≡ true → stands_apart_without gone rows path ≡ true
+pub placed-known : (known : Known) (rows : List Row) (es : List Entry) (path : List Step) → Knows known es root_context → is_apart known (plan_of rows) path ≡ true
     → ArePlaced (document_nodes (document_of rows es)) es path (places_at rows es path)
 unfolding document_of
-placed-without gone rows es [] unheld h = absurd (apart-nil gone (plan_of rows) h)
-placed-without gone rows es (s ∷ path) unheld h =
+placed-known known rows es [] knows h = absurd (apart-nil known (plan_of rows) h)
+placed-known known rows es (s ∷ path) knows h =
     let nodes : List Node = document_nodes (document_of rows es) in
     let f : Forest = written_lines es (plan_of rows) false root_context in
     let holds : Holds nodes 0 [] 1 f = document-holds f in
-    let w = lines-found nodes es gone unheld (plan_of rows) s path false root_context (0 ∷ []) 1 holds.lies h in
+    let w = lines-found nodes es known (plan_of rows) s path false root_context knows (0 ∷ []) 1 holds.lies h in
     record { ways_are = inside-ways nodes 0 [] 1 f s path holds ∙ w.ways_are; each = w.each }
 
+pub placed-without : (gone : List Term) (rows : List Row) (es : List Entry) (path : List Step) → holds_none gone es ≡ true → stands_apart_without gone rows path ≡ true
+    → ArePlaced (document_nodes (document_of rows es)) es path (places_at rows es path)
+placed-without gone rows es path unheld h = placed-known (without gone) rows es path (knows-without gone es root_context unheld) h
+
 pub placed-at : (rows : List Row) (es : List Entry) (path : List Step) → stands_apart rows path ≡ true → ArePlaced (document_nodes (document_of rows es)) es path (places_at rows es path)
-placed-at rows es path h = placed-without [] rows es path (none-of-none es) h
+placed-at rows es path h = placed-known unknown rows es path (knows-nothing es root_context) h
 
 -- ---- the strings at the end of a way
 

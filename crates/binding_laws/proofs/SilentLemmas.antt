@@ -120,8 +120,8 @@ module _ (nodes : List Node) (es : List Entry) (leaf : Leaf) (other : is_no_curr
           → is_bare inside (u ∷ us) ≡ true → found u.name (picked_behind u us) m (written_lines es inside further d) ≡ [])
           → (path : List Step) → (path ≡ [] → is_nothing inside ≡ true) → ((u : Step) (us : List Step) → path ≡ u ∷ us → is_bare inside (u ∷ us) ≡ true)
           → Each (IsQuiet es) (elim path [ [] ↦ rows_at_line leaf cells | (u ∷ further) ↦ rows_named leaf inside (u ∷ further) ])
-          → Silent nodes es (picked_behind s path) t cells inside held above
-      silent inner path e f q d m more there lying = by-guard (are_met nodes s.guards m) (behind path e f q)
+          → Silent nodes es (picked_behind s path) t cells inside held above c
+      silent inner path e f q d a m more there lying = by-guard (are_met nodes s.guards m) (behind path e f q)
         where
           by-guard : (b : Bool) → flat_map (λ way. leaves_of nodes leaf (last_of way)) (map (λ way. m ∷ way) (ways nodes path m)) ≡ []
               → flat_map (λ way. leaves_of nodes leaf (last_of way)) (elim b [ true ↦ map (λ way. m ∷ way) (ways nodes path m) | false ↦ [] ]) ≡ []

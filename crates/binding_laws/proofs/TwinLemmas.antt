@@ -18,7 +18,7 @@ use Rattle.bind_meaning.specs.Elements.{children_named, are_met, met}
 use Rattle.bind_meaning.specs.Picks.{ways}
 use Rattle.bind_meaning.specs.Trees.{name_of, spots, is_emitted, holds_further, attributes, written_lines, document_of}
 use Rattle.binding_laws.specs.Apart as apart
-use Rattle.binding_laws.specs.Apart.{is_unguarded, is_nothing, meets_all, is_off, is_clear, is_apart}
+use Rattle.binding_laws.specs.Apart.{is_unguarded, is_nothing, unknown, beyond, meets_all, is_unwritten, is_off, is_clear, is_apart}
 use Rattle.binding_laws.specs.Twins.{same_look, same_way, are_twins}
 use Rattle.binding_laws.specs.Written.{emitted}
 use Rattle.binding_laws.proofs.TreeLemmas.{each-append, Lies}
@@ -26,7 +26,8 @@ use Rattle.binding_laws.proofs.NodeLemmas.{Top, tops, is_called, Holds, document
 use Rattle.binding_laws.proofs.ListLemmas.{flat_map-same, map-append, append-nil, each-map, both-true}
 use Rattle.binding_laws.proofs.TreeLemmas.{each-weaker}
 use Rattle.binding_laws.proofs.GuardLemmas.{met-as, own-met}
-use Rattle.binding_laws.proofs.GoneLemmas.{none-of-none}
+use Rattle.binding_laws.proofs.ReachLemmas.{Among}
+use Rattle.binding_laws.proofs.KnownLemmas.{knows-nothing, known-inside}
 use Rattle.binding_laws.proofs.RowLemmas.{At, sized, past, written_in, long_of, begin_in, Place, spot_of, behind, last_places, places, called-self, found, found-called, elements-lie, step_ways, inside-ways, inside-element, Silent, Found, clear-line, past-line, clear-found, IsAt, AreFound, behind-at, ways-behind, IsOwn, own-line, join-own, lines-found, places_at, ArePlaced}
 
 -- ---- two steps that look alike
@@ -120,7 +121,7 @@ module _ (nodes : List Node) (es : List Entry) where
       called e = ap (λ (x : Step). apart.is_called x.name t.name) (step-sound s t e) ∙ called-self t.name
 
       -- what is found at the line and behind it
-      at-line : same_step s t ≡ true → (them : At → List Place) → ((d : Context) (m : ℕ) (more : Forest) → is_emitted es t cells inside held d ≡ true → Found nodes es t cells inside held above d m more
+      at-line : same_step s t ≡ true → (them : At → List Place) → ((d : Context) → Among d (spots es c t.group) → (m : ℕ) (more : Forest) → is_emitted es t cells inside held d ≡ true → Found nodes es t cells inside held above d m more
           → IsOwn nodes es s path m (them (record { context = d; number = m })))
           → (later : List Place) → (Lies nodes above (past (long_of es t cells inside held) (emitted es t cells inside held c) n) (written_lines es rest held c)
           → AreFound nodes es s path (written_lines es rest held c) (past (long_of es t cells inside held) (emitted es t cells inside held c) n) later)
@@ -128,7 +129,7 @@ module _ (nodes : List Node) (es : List Entry) where
           (flat_map (λ (x : At). map (behind x.number) (them x)) (sized (long_of es t cells inside held) (emitted es t cells inside held c) n) ++ later)
       at-line e them each later behind_it =
           let w = elements-lie nodes s.name (step_ways nodes s path) (name_of t.name) (attributes es t cells) (written_in es cells inside held) (is_emitted es t cells inside held) (written_lines es rest held c) above
-          (λ x. IsOwn nodes es s path x.number (them x)) each (spots es c t.group) n lies in
+          (λ x. IsOwn nodes es s path x.number (them x)) (spots es c t.group) each n lies in
           let all = join-own nodes es s path them (sized (long_of es t cells inside held) (emitted es t cells inside held c) n) w.0 in
           let own : List Place = flat_map (λ (x : At). map (behind x.number) (them x)) (sized (long_of es t cells inside held) (emitted es t cells inside held c) n) in
           let further = behind_it w.1 in
@@ -142,7 +143,7 @@ module _ (nodes : List Node) (es : List Entry) where
       -- the line is that of both
       shared : ((u : Step) (us : List Step) (w : Step) (ws : List Step) (further : Bool) (d : Context) (around : List ℕ) (m : ℕ) → Lies nodes around m (written_lines es inside further d) → same_look u w ≡ true → same_way us ws ≡ true
           → are_twins inside (u ∷ us) (w ∷ ws) ≡ true → AreFound nodes es u us (written_lines es inside further d) m (places es inside (u ∷ us) further d m ++ places es inside (w ∷ ws) further d m))
-          → same_step s t ≡ true → meets_all s.guards t cells inside ≡ true → is_none t.group ≡ true → is_clear [] rest (s ∷ path) ≡ true → are_twins inside path other ≡ true → (path_is other_is : List Step) → path ≡ path_is → other ≡ other_is
+          → same_step s t ≡ true → meets_all unknown s.guards t cells inside ≡ true → is_none t.group ≡ true → is_clear unknown rest (s ∷ path) ≡ true → are_twins inside path other ≡ true → (path_is other_is : List Step) → path ≡ path_is → other ≡ other_is
           → AreFound nodes es s path (written_lines es (a_line t cells inside rest) held c) n (own_at t cells inside path held c n ++ own_at t cells inside other held c n)
       shared inner e meets group clear twins [] other_is p q = absurd (no-twins inside other (subst (λ l. are_twins inside l other ≡ true) p twins))
       shared inner e meets group clear twins (u ∷ us) [] p q = absurd (no-twins-behind inside path (subst (λ l. are_twins inside path l ≡ true) q twins))
@@ -154,20 +155,20 @@ module _ (nodes : List Node) (es : List Entry) where
           subst (AreFound nodes es s path (written_lines es (a_line t cells inside rest) held c) n)
           (append-nil (flat_map (λ (x : At). map (behind x.number) (one x ++ two x)) (sized (long_of es t cells inside held) (emitted es t cells inside held c) n))
           ∙ in-two-at es (long_of es t cells inside held) c n one two (is_emitted es t cells inside held) t.group group)
-          (at-line e (λ x. one x ++ two x) (λ d m more there lying. here d m more there lying same.0 same.1 twin) []
-          (λ there. record { ways_are = clear-found nodes es [] (none-of-none es) rest s path held c above next there clear; each = tt }))
+          (at-line e (λ x. one x ++ two x) (λ d a m more there lying. here d a m more there lying same.0 same.1 twin) []
+          (λ there. record { ways_are = clear-found nodes es unknown rest s path held c (knows-nothing es c) above next there clear; each = tt }))
         where
-          here : (d : Context) (m : ℕ) (more : Forest) → is_emitted es t cells inside held d ≡ true → Found nodes es t cells inside held above d m more → same_look u w ≡ true → same_way us ws ≡ true → are_twins inside (u ∷ us) (w ∷ ws) ≡ true
+          here : (d : Context) → Among d (spots es c t.group) → (m : ℕ) (more : Forest) → is_emitted es t cells inside held d ≡ true → Found nodes es t cells inside held above d m more → same_look u w ≡ true → same_way us ws ≡ true → are_twins inside (u ∷ us) (w ∷ ws) ≡ true
               → IsOwn nodes es s path m
               (last_places path (spot_of es t cells d) (places es inside path (holds_further es cells inside held d) d (begin_in es t cells (record { context = d; number = m })))
               ++ last_places other (spot_of es t cells d) (places es inside other (holds_further es cells inside held d) d (begin_in es t cells (record { context = d; number = m }))))
-          here d m more there lying a b z =
+          here d at m more there lying a b z =
               let start : ℕ = begin_in es t cells (record { context = d; number = m }) in
               let inside_it = inside-element nodes es t cells inside held above d m more u us lying in
               let k = inner u us w ws (holds_further es cells inside held d) d (m ∷ above) start inside_it.0 a b z in
               let them : List Place = places es inside (u ∷ us) (holds_further es cells inside held d) d start ++ places es inside (w ∷ ws) (holds_further es cells inside held d) d start in
               let are-met : are_met nodes s.guards m ≡ true =
-              met-as nodes s.guards above m (name_of t.name) (attributes es t cells d) (written_in es cells inside held d) more lying ∙ own-met es s.guards t cells inside held d meets there in
+              met-as nodes s.guards above m (name_of t.name) (attributes es t cells d) (written_in es cells inside held d) more lying ∙ own-met es unknown c (knows-nothing es c) s.guards t cells inside held d at meets there in
               subst (λ (l : List Step × List Step). IsOwn nodes es s l.0 m
               (last_places l.0 (spot_of es t cells d) (places es inside l.0 (holds_further es cells inside held d) d (begin_in es t cells (record { context = d; number = m })))
               ++ last_places l.1 (spot_of es t cells d) (places es inside l.1 (holds_further es cells inside held d) d (begin_in es t cells (record { context = d; number = m })))))
@@ -178,21 +179,22 @@ module _ (nodes : List Node) (es : List Entry) where
               })
 
       -- the line is that of the first, and that of the second is behind it
-      parted : same_step s t ≡ true → meets_all s.guards t cells inside ≡ true → is_apart [] rest (v ∷ other) ≡ true → (elim path [ [] ↦ is_nothing inside | (u ∷ further) ↦ is_apart [] inside (u ∷ further) ]) ≡ true
+      parted : same_step s t ≡ true → meets_all unknown s.guards t cells inside ≡ true → is_apart unknown rest (v ∷ other) ≡ true → (elim path [ [] ↦ is_nothing inside | (u ∷ further) ↦ is_apart (beyond t.group unknown) inside (u ∷ further) ]) ≡ true
           → AreFound nodes es s path (written_lines es (a_line t cells inside rest) held c) n
           (own_at t cells inside path held c n ++ places es rest (v ∷ other) held c (past (long_of es t cells inside held) (emitted es t cells inside held c) n))
       parted e meets behind_it further =
           at-line e (λ x. last_places path (spot_of es t cells x.context) (places es inside path (holds_further es cells inside held x.context) x.context (begin_in es t cells x)))
-          (own-line nodes es [] (none-of-none es) s path t cells inside held above
-          (λ u us d around m there z. lines-found nodes es [] (none-of-none es) inside u us (holds_further es cells inside held d) d around m there z) meets further)
+          (own-line nodes es unknown c (knows-nothing es c) s path t cells inside held above
+          (λ u us d a around m there z. lines-found nodes es (beyond t.group unknown) inside u us (holds_further es cells inside held d) d (known-inside unknown es t.group c d a (knows-nothing es c)) around m there z)
+          (ap (λ b. b || is_unwritten [] t cells inside) meets) further)
           (places es rest (v ∷ other) held c next)
-          (λ there. let k = lines-found nodes es [] (none-of-none es) rest v other held c above next there behind_it in
+          (λ there. let k = lines-found nodes es unknown rest v other held c (knows-nothing es c) above next there behind_it in
           record { ways_are = same-found nodes s path v other look way next (written_lines es rest held c) ∙ k.ways_are; each = k.each })
 
       -- the line is that of neither
       passed : ((m : ℕ) → Lies nodes above m (written_lines es rest held c) → are_twins rest (s ∷ path) (v ∷ other) ≡ true
           → AreFound nodes es s path (written_lines es rest held c) m (places es rest (s ∷ path) held c m ++ places es rest (v ∷ other) held c m))
-          → (apart.is_called s.name t.name ≡ false) ⊎ Silent nodes es (step_ways nodes s path) t cells inside held above → are_twins rest (s ∷ path) (v ∷ other) ≡ true
+          → (apart.is_called s.name t.name ≡ false) ⊎ Silent nodes es (step_ways nodes s path) t cells inside held above c → are_twins rest (s ∷ path) (v ∷ other) ≡ true
           → AreFound nodes es s path (written_lines es (a_line t cells inside rest) held c) n
           (places es rest (s ∷ path) held c (past (long_of es t cells inside held) (emitted es t cells inside held c) n)
           ++ places es rest (v ∷ other) held c (past (long_of es t cells inside held) (emitted es t cells inside held c) n))
@@ -204,7 +206,7 @@ module _ (nodes : List Node) (es : List Entry) where
       by-name : ((m : ℕ) → Lies nodes above m (written_lines es rest held c) → are_twins rest (s ∷ path) (v ∷ other) ≡ true
           → AreFound nodes es s path (written_lines es rest held c) m (places es rest (s ∷ path) held c m ++ places es rest (v ∷ other) held c m))
           → (b : Bool) → apart.is_called s.name t.name ≡ b → (elim b [
-            | true ↦ (is_off [] s.guards t cells inside || elim path [ [] ↦ false | (u ∷ further) ↦ is_clear [] inside (u ∷ further) ]) && are_twins rest (s ∷ path) (v ∷ other)
+            | true ↦ (is_off unknown s.guards t cells inside || elim path [ [] ↦ false | (u ∷ further) ↦ is_clear (beyond t.group unknown) inside (u ∷ further) ]) && are_twins rest (s ∷ path) (v ∷ other)
             | false ↦ are_twins rest (s ∷ path) (v ∷ other)
           ]) ≡ true
           → AreFound nodes es s path (written_lines es (a_line t cells inside rest) held c) n
@@ -212,8 +214,8 @@ module _ (nodes : List Node) (es : List Entry) where
           ++ places es rest (v ∷ other) held c (past (long_of es t cells inside held) (emitted es t cells inside held c) n))
       by-name later true e k =
           let w = both-true _ (are_twins rest (s ∷ path) (v ∷ other)) k in
-          passed later (inr (clear-line nodes es [] (none-of-none es) s path t cells inside held above
-          (λ u us d around m there z. clear-found nodes es [] (none-of-none es) inside u us (holds_further es cells inside held d) d around m there z) w.0)) w.1
+          passed later (inr (clear-line nodes es unknown c (knows-nothing es c) s path t cells inside held above
+          (λ u us d a around m there z. clear-found nodes es (beyond t.group unknown) inside u us (holds_further es cells inside held d) d (known-inside unknown es t.group c d a (knows-nothing es c)) around m there z) w.0)) w.1
       by-name later false e k = passed later (inl e) k
 
       go : ((u : Step) (us : List Step) (w : Step) (ws : List Step) (further : Bool) (d : Context) (around : List ℕ) (m : ℕ) → Lies nodes around m (written_lines es inside further d) → same_look u w ≡ true → same_way us ws ≡ true
@@ -221,12 +223,12 @@ module _ (nodes : List Node) (es : List Entry) where
           → ((m : ℕ) → Lies nodes above m (written_lines es rest held c) → are_twins rest (s ∷ path) (v ∷ other) ≡ true
           → AreFound nodes es s path (written_lines es rest held c) m (places es rest (s ∷ path) held c m ++ places es rest (v ∷ other) held c m))
           → (b : Bool) → same_step s t ≡ b → (d : Bool) → same_step v t ≡ d → (elim b [
-            | true ↦ meets_all s.guards t cells inside && elim d [
-              | true ↦ is_none t.group && (is_clear [] rest (s ∷ path) && are_twins inside path other)
-              | false ↦ is_apart [] rest (v ∷ other) && elim path [ [] ↦ is_nothing inside | (u ∷ further) ↦ is_apart [] inside (u ∷ further) ]
+            | true ↦ meets_all unknown s.guards t cells inside && elim d [
+              | true ↦ is_none t.group && (is_clear unknown rest (s ∷ path) && are_twins inside path other)
+              | false ↦ is_apart unknown rest (v ∷ other) && elim path [ [] ↦ is_nothing inside | (u ∷ further) ↦ is_apart (beyond t.group unknown) inside (u ∷ further) ]
             ]
             | false ↦ not d && elim (apart.is_called s.name t.name) [
-              | true ↦ (is_off [] s.guards t cells inside || elim path [ [] ↦ false | (u ∷ further) ↦ is_clear [] inside (u ∷ further) ]) && are_twins rest (s ∷ path) (v ∷ other)
+              | true ↦ (is_off unknown s.guards t cells inside || elim path [ [] ↦ false | (u ∷ further) ↦ is_clear (beyond t.group unknown) inside (u ∷ further) ]) && are_twins rest (s ∷ path) (v ∷ other)
               | false ↦ are_twins rest (s ∷ path) (v ∷ other)
             ]
           ]) ≡ true
@@ -242,13 +244,13 @@ module _ (nodes : List Node) (es : List Entry) where
             | false ↦ places es rest (v ∷ other) held c (past (long_of es t cells inside held) (emitted es t cells inside held c) n)
           ]))
       go inner later true e true f k =
-          let a = both-true (meets_all s.guards t cells inside) _ k in
+          let a = both-true (meets_all unknown s.guards t cells inside) _ k in
           let g = both-true (is_none t.group) _ a.1 in
-          let l = both-true (is_clear [] rest (s ∷ path)) (are_twins inside path other) g.1 in
+          let l = both-true (is_clear unknown rest (s ∷ path)) (are_twins inside path other) g.1 in
           shared inner e a.0 g.0 l.0 l.1 path other refl refl
       go inner later true e false f k =
-          let a = both-true (meets_all s.guards t cells inside) _ k in
-          let l = both-true (is_apart [] rest (v ∷ other)) _ a.1 in
+          let a = both-true (meets_all unknown s.guards t cells inside) _ k in
+          let l = both-true (is_apart unknown rest (v ∷ other)) _ a.1 in
           parted e a.0 l.0 l.1
       go inner later false e true f k = absurd (false≢true k)
       go inner later false e false f k = by-name later (apart.is_called s.name t.name) refl k

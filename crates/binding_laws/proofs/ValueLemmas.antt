@@ -23,19 +23,26 @@ text_by o content = elim content [ (contents.Constant text) ↦ Some text | (con
 abbrev pub or_nothing : Option (List ℕ) → List ℕ
 or_nothing o = elim o [ None ↦ [] | Some text ↦ text ]
 
--- a rule on the value and its scheme alone has no filler
-pub by-value : (es : List Entry) (rule : Written) → is_by_value rule ≡ true → (c : Context) → filled rule es c ≡ None
-by-value es written.Always h c = refl
-by-value es written.Never h c = refl
-by-value es written.IfIban h c = refl
-by-value es written.IfNotIban h c = refl
-by-value es written.IfScheme h c = refl
-by-value es written.IfNoScheme h c = refl
-by-value es (written.OrFiller filler) h c = absurd (false≢true h)
-by-value es written.VatTotal h c = refl
-by-value es written.AccountingVatTotal h c = refl
+-- Nothing stands in place of the value, or it stands itself.
+abbrev pub IsUnfilled : List Entry → Row → Term → Context → Type 0
+IsUnfilled es row term c = (filled row.written es c ≡ None) ⊎ (is_some (value_in es term c) ≡ true)
 
-module _ (es : List Entry) (row : Row) (term : Term) (content : row.content ≡ contents.Term term) (unfilled : (c : Context) → filled row.written es c ≡ None) where
+-- a rule on the value and its scheme alone has no filler
+no-filler : (es : List Entry) (rule : Written) → is_by_value rule ≡ true → (c : Context) → filled rule es c ≡ None
+no-filler es written.Always h c = refl
+no-filler es written.Never h c = refl
+no-filler es written.IfIban h c = refl
+no-filler es written.IfNotIban h c = refl
+no-filler es written.IfScheme h c = refl
+no-filler es written.IfNoScheme h c = refl
+no-filler es (written.OrFiller filler) h c = absurd (false≢true h)
+no-filler es written.VatTotal h c = refl
+no-filler es written.AccountingVatTotal h c = refl
+
+pub by-value : (es : List Entry) (row : Row) (term : Term) → is_by_value row.written ≡ true → (d : Context) → IsUnfilled es row term (context_for row d)
+by-value es row term h d = inl (no-filler es row.written h (context_for row d))
+
+module _ (es : List Entry) (row : Row) (term : Term) (content : row.content ≡ contents.Term term) (unfilled : (d : Context) → IsUnfilled es row term (context_for row d)) where
   -- what the row writes of a value
   abbrev pub due : Context → Option Value → Option (List ℕ)
   due c o = elim o [ None ↦ None | Some value ↦ if_due row.written es term c (formed (form_for row.form term) es c value) ]
@@ -43,8 +50,22 @@ module _ (es : List Entry) (row : Row) (term : Term) (content : row.content ≡ 
   pub written-as : (d : Context) → row_text row es d ≡ due (context_for row d) (value_in es term (context_for row d))
   written-as d =
       ap (λ x. elim x [ (contents.Term t) ↦ term_text row es t (context_for row d) | (contents.Constant text) ↦ None ]) content
-      ∙ ap (λ o. elim (value_in es term (context_for row d)) [ None ↦ o | Some value ↦ if_due row.written es term (context_for row d) (formed (form_for row.form term) es (context_for row d) value) ])
-      (unfilled (context_for row d))
+      ∙ go (unfilled d)
+    where
+      standing : (o : Option Value) → is_some o ≡ true
+          → ◌≡◌ {A = Option (List ℕ)} (elim o [ None ↦ filled row.written es (context_for row d) | Some value ↦ if_due row.written es term (context_for row d) (formed (form_for row.form term) es (context_for row d) value) ])
+          (elim o [ None ↦ None | Some value ↦ if_due row.written es term (context_for row d) (formed (form_for row.form term) es (context_for row d) value) ])
+      standing None k = absurd (false≢true k)
+      standing (Some v) k = refl
+
+      go : IsUnfilled es row term (context_for row d)
+          → ◌≡◌ {A = Option (List ℕ)} (elim (value_in es term (context_for row d)) [
+            | None ↦ filled row.written es (context_for row d)
+            | Some value ↦ if_due row.written es term (context_for row d) (formed (form_for row.form term) es (context_for row d) value)
+          ])
+          (elim (value_in es term (context_for row d)) [ None ↦ None | Some value ↦ if_due row.written es term (context_for row d) (formed (form_for row.form term) es (context_for row d) value) ])
+      go (inl none) = ap (λ o. elim (value_in es term (context_for row d)) [ None ↦ o | Some value ↦ if_due row.written es term (context_for row d) (formed (form_for row.form term) es (context_for row d) value) ]) none
+      go (inr stands) = standing (value_in es term (context_for row d)) stands
 
   -- a rule lets the whole text pass, or nothing
   due-or-not : (rule : Written) (c : Context) (text : List ℕ) → (if_due rule es term c text ≡ None) ⊎ (if_due rule es term c text ≡ Some text)

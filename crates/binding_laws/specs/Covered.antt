@@ -1,6 +1,6 @@
 -- Which values of an invoice plain and spread rows of a table write, and those of the two VAT totals, and which terms are
--- left out: those that other rows of the table speak of, and those beside which a filler stands.
-use Rattle.std.specs.Prelude.{ℕ, Bool, true, false, not, ◌&&◌, ◌||◌, List, [], ◌∷◌, ◌++◌, length, filter, flat_map, map, Option, Some, None, is_none, option_map}
+-- left out: those that other rows of the table speak of, and those beside which a filler stands that isn't told from values.
+use Rattle.std.specs.Prelude.{ℕ, ◌==◌, Bool, true, false, not, ◌&&◌, ◌||◌, List, [], ◌∷◌, ◌++◌, length, filter, flat_map, map, Option, Some, None, is_some, is_none, option_map}
 use Rattle.std.specs.List.{list_all, list_any}
 use Rattle.std.specs.Str.{bytes_eq}
 use Rattle.term_table.specs.declared.terms.Term.{Term}
@@ -8,7 +8,7 @@ use Rattle.term_table.specs.declared.terms.TermRow.{TermRow}
 use Rattle.term_table.specs.SemanticModel.{same_term, terms}
 use Rattle.term_table.specs.Contexts.{root_context}
 use Rattle.inv_terms.specs.declared.entries.Entry.{Entry}
-use Rattle.inv_terms.specs.Values.{trimmed, spelled}
+use Rattle.inv_terms.specs.Values.{is_blank, trimmed, spelled}
 use Rattle.inv_terms.specs.Listing.{value_in}
 use Rattle.inv_terms.specs.declared.values.Value.{Value}
 use Rattle.inv_terms.specs.declared.values.Value.TheVariants as values
@@ -17,20 +17,23 @@ use Rattle.bind_rows.specs.declared.names.Leaf.TheVariants as leaves
 use Rattle.bind_rows.specs.declared.rows.Content.TheVariants as contents
 use Rattle.bind_rows.specs.declared.rows.Step.{Step}
 use Rattle.bind_rows.specs.declared.rows.Row.{Row}
+use Rattle.bind_rows.specs.declared.rows.Filler.{Filler}
 use Rattle.bind_rows.specs.declared.rows.Form.{Form}
 use Rattle.bind_rows.specs.declared.rows.Form.TheVariants as forms
 use Rattle.bind_rows.specs.declared.rows.Written.{Written}
 use Rattle.bind_rows.specs.declared.rows.Written.TheVariants as written
+use Rattle.bind_rows.specs.Same.{same_step}
 use Rattle.bind_table.specs.Lines.{Cell, Plan, nothing, a_line, plan_of}
 use Rattle.bind_meaning.specs.Currencies.{Currencies, invoice_currency, accounting_currency, currency_id}
 use Rattle.bind_meaning.specs.Picks.{has_term, has_any_term}
-use Rattle.bind_meaning.specs.Values.{Image, images, form_for}
+use Rattle.bind_meaning.specs.Values.{Image, images, subject_code, note, is_subject_character, letter_of, form_for}
 use Rattle.bind_meaning.specs.Judging.{is_amount}
 use Rattle.bind_meaning.specs.Trees.{is_at_element, is_vat_total}
-use Rattle.binding_laws.specs.Apart.{is_called, is_nothing, is_at_attribute, rows_so, holds_none, is_apart}
+use Rattle.binding_laws.specs.Apart.{is_called, is_nothing, is_at_attribute, rows_so, Known, without, unknown, holds_none, is_apart}
 use Rattle.binding_laws.specs.Twins.{same_way, are_twins}
-use Rattle.binding_laws.specs.Faultless.{is_no_row}
-use Rattle.binding_laws.specs.Plain.{rows_at, is_one, is_element, has_content, is_of_one_term, stands_there, is_plain_in, is_plain_attribute_in, is_spread_in, is_spread_attribute_in, is_written_by, is_plain_by, is_spread_by, is_plain_beside, is_spread_beside}
+use Rattle.binding_laws.specs.Known.{is_trimmed, known_of, is_as_known}
+use Rattle.binding_laws.specs.Faultless.{is_model, is_no_row}
+use Rattle.binding_laws.specs.Plain.{rows_at, is_one, is_element, is_always, has_content, is_of_one_term, stands_there, is_plain_there, is_plain_in, is_plain_with, is_plain_attribute_in, is_plain_attribute_with, is_spread_in, is_spread_with, is_spread_attribute_in, is_written_by, is_plain_by, is_spread_by, is_plain_beside, is_spread_beside}
 
 abbrev pub is_or_filler : Written → Bool
 is_or_filler written.Always = false
@@ -45,7 +48,7 @@ is_or_filler written.AccountingVatTotal = false
 
 abbrev pub is_filled_there : Plan → Row → Term → Bool
 is_filled_there plan row term =
-    is_apart [] plan row.path
+    is_apart unknown plan row.path
     && (is_one (rows_at is_at_element plan row.path)
     && (is_element row.leaf && (has_content term row.content && (is_of_one_term (form_for row.form term) && (is_none row.outer && (is_none row.inner && stands_there term None None))))))
 
@@ -83,7 +86,7 @@ total_terms rows = flat_map total_terms_of rows
 -- It is the row of a total of the invoice itself, alone at its element, and its path stands apart without these terms.
 abbrev pub is_total_there : Plan → List Term → Row → Term → Bool
 is_total_there plan gone row term =
-    is_apart gone plan row.path
+    is_apart (without gone) plan row.path
     && (is_one (rows_at is_at_element plan row.path)
     && (is_element row.leaf
     && (has_content term row.content
@@ -131,10 +134,135 @@ is_total_in plan rows row term = elim (is_total_rule row.written) [ true ↦ is_
 abbrev pub is_total_by : Plan → List Row → Row → Bool
 is_total_by plan rows row = elim row.content [ (contents.Term term) ↦ is_total_in plan rows row term | (contents.Constant text) ↦ false ]
 
--- The row is plain or spread, at an element or at an attribute of one, or spread but for a filler, or that of a VAT total.
+-- ---- fillers that are told from values
+
+-- Both paths end right inside one element, which is no occurrence of a group.
+abbrev pub are_beside : List Step → List Step → Bool
+are_beside [] other = false
+are_beside (s ∷ path) [] = false
+are_beside (s ∷ []) (v ∷ []) = true
+are_beside (s ∷ []) (v ∷ (w ∷ other)) = false
+are_beside (s ∷ (u ∷ path)) (v ∷ []) = false
+are_beside (s ∷ (u ∷ path)) (v ∷ (w ∷ other)) = same_step s v && (is_none s.group && are_beside (u ∷ path) (w ∷ other))
+
+-- The other row writes the term beside the filler, wherever it stands, in an element beside the filler's.
+abbrev pub is_row_beside : Plan → Row → Filler → Row → Bool
+is_row_beside plan row filler other = is_spread_in plan other filler.beside && (is_always other.written && are_beside row.path other.path)
+
+abbrev pub is_told_filler : Plan → List Row → Row → Term → Filler → Bool
+is_told_filler plan rows row term filler =
+    list_any (is_row_beside plan row filler) rows
+    && (bytes_eq (trimmed filler.text) filler.text
+    && (is_model (form_for row.form term)
+    && (is_trimmed (letter_of term) && (not (has_term invoice_currency row || has_term accounting_currency row) && not (list_any (λ t. has_term t row) (flat_map beside_filler rows))))))
+
+-- What the row writes is told from its filler, since the term beside that is written next to it.
+abbrev pub is_joined : Plan → List Row → Row → Bool
+is_joined plan rows row = elim row.content [
+  | (contents.Term term) ↦ elim row.written [ (written.OrFiller filler) ↦ is_told_filler plan rows row term filler | _ ↦ false ]
+  | (contents.Constant text) ↦ false
+]
+
+-- the terms beside fillers that aren't
+abbrev pub unjoined_terms : Plan → List Row → List Term
+unjoined_terms plan rows = flat_map (λ row. elim (is_joined plan rows row) [ true ↦ [] | false ↦ beside_filler row ]) rows
+
+-- The entry's value is the filler, and the term beside it stands too.
+abbrev pub is_like_filler : Plan → List Row → List Entry → Entry → Row → Bool
+is_like_filler plan rows es e row = elim row.written [
+  | (written.OrFiller filler) ↦ is_joined plan rows row && (has_term e.term row && (bytes_eq filler.text (spelled e.value) && is_some (value_in es filler.beside e.context)))
+  | _ ↦ false
+]
+
+-- ---- rows that values tell apart
+
+-- The row is plain or spread, at an element or at an attribute of one, by what is known of the invoice.
+abbrev pub is_known_beside : Known → Plan → Row → Row → Bool
+is_known_beside known plan row main = elim row.content [
+  | (contents.Term term) ↦ elim main.content [ (contents.Term main_term) ↦ is_plain_attribute_with known plan row term main main_term | (contents.Constant text) ↦ false ]
+  | (contents.Constant text) ↦ false
+]
+
+abbrev pub is_known_by : Known → Plan → List Row → Row → Bool
+is_known_by known plan rows row = elim row.content [
+  | (contents.Term term) ↦ is_plain_with known plan row term || (is_spread_with known plan row term || list_any (is_known_beside known plan row) rows)
+  | (contents.Constant text) ↦ false
+]
+
+abbrev pub writes_known_beside : Known → Plan → List Entry → Entry → Row → Row → Bool
+writes_known_beside known plan es e row main = elim main.content [
+  | (contents.Term main_term) ↦ is_plain_attribute_with known plan row e.term main main_term && is_written_by main main_term es e.context
+  | (contents.Constant text) ↦ false
+]
+
+abbrev pub writes_known : Known → Plan → List Row → List Entry → Entry → Row → Bool
+writes_known known plan rows es e row =
+    (is_plain_with known plan row e.term && is_written_by row e.term es e.context)
+    || ((is_spread_with known plan row e.term && is_written_by row e.term es e.context) || list_any (writes_known_beside known plan es e row) rows)
+
+-- ---- notes with a subject code in front
+
+abbrev pub is_coded : Form → Bool
+is_coded forms.Model = false
+is_coded forms.PlainDate = false
+is_coded forms.DueDateTypeCode = false
+is_coded forms.CodedNote = true
+
+-- The row is plain, but for a subject code that it writes in front of its value, and no row has that term.
+abbrev pub is_noted_in : Plan → List Row → Row → Term → Bool
+is_noted_in plan rows row term = elim (is_coded (form_for row.form term)) [
+  | true ↦ is_apart unknown plan row.path && (is_plain_there plan row term && not (list_any (has_term subject_code) rows))
+  | false ↦ false
+]
+
+abbrev pub is_noted_by : Plan → List Row → Row → Bool
+is_noted_by plan rows row = elim row.content [ (contents.Term term) ↦ is_noted_in plan rows row term | (contents.Constant text) ↦ false ]
+
+-- The row writes the entry's value, a subject code, in front of its own.
+abbrev pub writes_code : Plan → List Row → List Entry → Entry → Row → Bool
+writes_code plan rows es e row = elim row.content [
+  | (contents.Term term) ↦ same_term e.term subject_code && (is_noted_in plan rows row term && is_written_by row term es e.context)
+  | (contents.Constant text) ↦ false
+]
+
+-- the term that the row writes in front of its value
+abbrev pub code_terms_of : Row → List Term
+code_terms_of row = elim row.content [ (contents.Term term) ↦ elim (is_coded (form_for row.form term)) [ true ↦ subject_code ∷ [] | false ↦ [] ] | (contents.Constant text) ↦ [] ]
+
+-- the same of all rows, if no row has that term
+abbrev pub code_terms : List Row → List Term
+code_terms rows = elim (list_any (has_term subject_code) rows) [ true ↦ [] | false ↦ flat_map code_terms_of rows ]
+
+abbrev pub is_subject : List ℕ → Bool
+is_subject (a ∷ (b ∷ (c ∷ []))) = list_all is_subject_character (a ∷ b ∷ c ∷ [])
+is_subject _ = false
+
+-- The text is read as a note behind a subject code.
+abbrev pub is_coded_note : List ℕ → Bool
+is_coded_note (first ∷ (a ∷ (b ∷ (c ∷ (last ∷ text))))) = (first == 35 && last == 35) && (list_all is_subject_character (a ∷ b ∷ c ∷ []) && not (is_blank text))
+is_coded_note _ = false
+
+-- A subject code that isn't one by its form, or a note that has the form of one behind a code, and has none.
+abbrev pub is_misread_note : List Entry → Entry → Bool
+is_misread_note es e =
+    (same_term e.term subject_code && not (is_subject (spelled e.value))) || (same_term e.term note && (is_none (value_in es subject_code e.context) && is_coded_note (spelled e.value)))
+
+abbrev pub is_coded_row : Row → Bool
+is_coded_row row = elim row.content [ (contents.Term term) ↦ is_coded (form_for row.form term) | (contents.Constant text) ↦ false ]
+
+abbrev pub is_bad_note : List Row → List Entry → Entry → Bool
+is_bad_note rows es e = list_any is_coded_row rows && is_misread_note es e
+
+-- ---- rows that are covered
+
+-- The row is plain or spread, at an element or at an attribute of one, or spread but for a filler, or that of a VAT total,
+-- or values tell it apart, or it would be plain but for a subject code in front.
 abbrev pub is_covered_in : Plan → List Row → Row → Bool
 is_covered_in plan rows row =
-    is_plain_by plan row || (is_spread_by plan row || (list_any (is_plain_beside plan row) rows || (list_any (is_spread_beside plan row) rows || (is_filled_by plan row || (is_total_by plan rows row || is_pair_by plan rows row)))))
+    is_plain_by plan row
+    || (is_spread_by plan row
+    || (list_any (is_plain_beside plan row) rows
+    || (list_any (is_spread_beside plan row) rows || (is_filled_by plan row || (is_total_by plan rows row || (is_pair_by plan rows row || (is_known_by (known_of rows) plan rows row || is_noted_by plan rows row)))))))
 
 abbrev pub is_covered : List Row → Row → Bool
 is_covered rows row = is_covered_in (plan_of rows) rows row
@@ -157,7 +285,9 @@ writes_plainly plan rows es e row =
     || ((is_spread_in plan row e.term && is_written_by row e.term es e.context)
     || (list_any (writes_beside plan es e row) rows
     || ((is_filled_in plan row e.term && is_written_by row e.term es e.context)
-    || ((is_total_in plan rows row e.term && is_written_by row e.term es e.context) || (is_pair_in plan rows row e.term && is_written_by row e.term es e.context)))))
+    || ((is_total_in plan rows row e.term && is_written_by row e.term es e.context)
+    || ((is_pair_in plan rows row e.term && is_written_by row e.term es e.context)
+    || (writes_known (known_of rows) plan rows es e row || ((is_noted_in plan rows row e.term && is_written_by row e.term es e.context) || writes_code plan rows es e row)))))))
 
 -- Such a row of the table writes the entry's value.
 abbrev pub is_written_plainly_in : Plan → List Row → List Entry → Entry → Bool
@@ -178,7 +308,7 @@ abbrev pub is_read_back : Form → Value → Bool
 is_read_back forms.Model value = true
 is_read_back forms.PlainDate value = true
 is_read_back forms.DueDateTypeCode value = is_imaged value
-is_read_back forms.CodedNote value = false
+is_read_back forms.CodedNote value = true
 
 -- Each row of the entry's term reads what it writes of its value as that value.
 abbrev pub reads_back : List Row → Entry → Bool
@@ -236,10 +366,10 @@ abbrev pub is_other : Plan → List Row → Row → Bool
 is_other plan rows row = has_any_term row && (not (is_covered_in plan rows row) && not (is_shadowed plan rows row))
 
 abbrev pub left_out_in : Plan → List Row → List Term
-left_out_in plan rows = flat_map (λ row. flat_map terms_in (rows_there plan row)) (filter (is_other plan rows) rows) ++ (flat_map beside_filler rows ++ unpaired_terms plan rows)
+left_out_in plan rows = flat_map (λ row. flat_map terms_in (rows_there plan row)) (filter (is_other plan rows) rows) ++ (unjoined_terms plan rows ++ unpaired_terms plan rows)
 
--- the terms that rows look at which end where rows end that aren't covered, those beside which a filler stands, and those
--- of VAT totals in accounting currency whose rows aren't covered
+-- the terms that rows look at which end where rows end that aren't covered, those beside fillers that aren't told from
+-- values, and those of VAT totals in accounting currency whose rows aren't covered
 abbrev pub left_out : List Row → List Term
 left_out rows = left_out_in (plan_of rows) rows
 
@@ -279,9 +409,15 @@ is_other_text (Some a) (Some b) = not (bytes_eq a b)
 abbrev pub has_currencies : List Row → List Entry → Bool
 has_currencies rows es = holds_none (accounting_terms rows) es || is_other_text (currency_in es invoice_currency) (currency_in es accounting_currency)
 
--- No term that is left out stands in the invoice, each of its values is read back, and such a row writes it.
+-- The entry isn't taken for something else, and nothing else for it.
+abbrev pub is_unmistaken : Plan → List Row → List Entry → Entry → Bool
+is_unmistaken plan rows es e = not (list_any (is_like_filler plan rows es e) rows) && (is_as_known (known_of rows) es e && not (is_bad_note rows es e))
+
+-- No term that is left out stands in the invoice, each of its values is read back, and such a row writes it; none is taken
+-- for something else.
 abbrev pub holds_plainly_in : Plan → List Term → List Row → List Entry → Bool
-holds_plainly_in plan left rows es = list_all (λ e. not (list_any (same_term e.term) left) && (reads_back rows e && is_written_plainly_in plan rows es e)) es && has_currencies rows es
+holds_plainly_in plan left rows es =
+    list_all (λ e. not (list_any (same_term e.term) left) && (reads_back rows e && is_written_plainly_in plan rows es e)) es && (has_currencies rows es && list_all (is_unmistaken plan rows es) es)
 
 abbrev pub holds_plainly : List Row → List Entry → Bool
 holds_plainly rows es = holds_plainly_in (plan_of rows) (left_out rows) rows es

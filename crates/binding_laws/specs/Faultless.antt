@@ -30,7 +30,7 @@ use Rattle.bind_meaning.specs.Picks.{has_term, has_any_term}
 use Rattle.bind_meaning.specs.Trees.{is_at_element, is_vat_total}
 use Rattle.bind_meaning.specs.Values.{form_for}
 use Rattle.bind_meaning.specs.Writing.{scheme_of}
-use Rattle.binding_laws.specs.Apart.{is_attribute_named, is_at_attribute, is_apart}
+use Rattle.binding_laws.specs.Apart.{is_attribute_named, is_at_attribute, unknown, is_apart}
 use Rattle.binding_laws.specs.Plain.{rows_at, groups_of, listed, is_element, has_content, is_plain_attribute_in}
 
 -- ---- each term is told once in a context, or may be told again
@@ -155,7 +155,7 @@ are_word (row ∷ (other ∷ rows)) = false
 -- An indicator is one of the words, in an element of its own.
 abbrev pub has_word : Plan → Row → Bool
 has_word plan row = elim row.check [
-  | (checks.Indicator term) ↦ has_any_term row || (is_apart [] plan row.path && (is_element row.leaf && are_word (rows_at is_at_element plan row.path)))
+  | (checks.Indicator term) ↦ has_any_term row || (is_apart unknown plan row.path && (is_element row.leaf && are_word (rows_at is_at_element plan row.path)))
   | _ ↦ true
 ]
 

@@ -29,7 +29,7 @@ use Rattle.bind_meaning.specs.Writing.{writes_entry}
 use Rattle.bind_meaning.specs.Currencies.{currency_id}
 use Rattle.bind_meaning.specs.Trees.{is_at_element}
 use Rattle.bind_meaning.specs.Picks.{has_any_term}
-use Rattle.binding_laws.specs.Apart.{is_at_attribute, is_apart, stands_apart}
+use Rattle.binding_laws.specs.Apart.{is_at_attribute, Known, unknown, is_apart, stands_apart}
 
 -- the rows of a sort at the line of a path
 abbrev pub rows_at : (Cell → Bool) → Plan → List Step → List Row
@@ -81,20 +81,25 @@ is_by_value (written.OrFiller filler) = false
 is_by_value written.VatTotal = false
 is_by_value written.AccountingVatTotal = false
 
--- It is a plain row of the term.
-pub record IsPlain (rows : List Row) (row : Row) (term : Term) : Type 0 where
-  -- its path stands apart, and no other row ends at its element
-  pub apart : stands_apart rows row.path ≡ true
+-- It is a plain row of the term, but for whether its path stands apart, and for its form.
+pub record IsPlainThere (rows : List Row) (row : Row) (term : Term) : Type 0 where
+  -- no other row ends at its element
   pub own : rows_at is_at_element (plan_of rows) row.path ≡ row ∷ []
   pub leaf : row.leaf ≡ leaves.Element
-  -- it writes the term's value, whole, or nothing
+  -- it writes the term's value or nothing
   pub content : row.content ≡ contents.Term term
-  pub form : is_whole (form_for row.form term) ≡ true
   pub by_value : is_by_value row.written ≡ true
   -- its path goes through one element for each group of its context, and the term stands in no context around it
   pub through : groups_of row.path ≡ listed row.outer ++ listed row.inner
   pub nested : (is_some row.outer || is_none row.inner) ≡ true
   pub context : stands_nowhere_else term row.outer row.inner ≡ true
+
+-- It is a plain row of the term.
+pub record IsPlain (rows : List Row) (row : Row) (term : Term) : Type 0 where
+  pub apart : stands_apart rows row.path ≡ true
+  -- it writes the value whole
+  pub form : is_whole (form_for row.form term) ≡ true
+  pub there : IsPlainThere rows row term
 
 -- The context is one of the row.
 abbrev pub is_in_groups : Row → Context → Bool
@@ -123,15 +128,20 @@ abbrev pub is_always : Written → Bool
 is_always written.Always = true
 is_always _ = false
 
-abbrev pub is_plain_in : Plan → Row → Term → Bool
-is_plain_in plan row term =
-    is_apart [] plan row.path
-    && (is_one (rows_at is_at_element plan row.path)
+abbrev pub is_plain_there : Plan → Row → Term → Bool
+is_plain_there plan row term =
+    is_one (rows_at is_at_element plan row.path)
     && (is_element row.leaf
     && (has_content term row.content
-    && (is_whole (form_for row.form term)
     && (is_by_value row.written
-    && (pointwise same_group (groups_of row.path) (listed row.outer ++ listed row.inner) && ((is_some row.outer || is_none row.inner) && stands_nowhere_else term row.outer row.inner)))))))
+    && (pointwise same_group (groups_of row.path) (listed row.outer ++ listed row.inner) && ((is_some row.outer || is_none row.inner) && stands_nowhere_else term row.outer row.inner)))))
+
+-- by what is known of the invoice
+abbrev pub is_plain_with : Known → Plan → Row → Term → Bool
+is_plain_with known plan row term = is_apart known plan row.path && (is_whole (form_for row.form term) && is_plain_there plan row term)
+
+abbrev pub is_plain_in : Plan → Row → Term → Bool
+is_plain_in plan row term = is_plain_with unknown plan row term
 
 -- It is a plain row of the term, if it is one of these rows.
 abbrev pub is_plain : List Row → Row → Term → Bool
@@ -147,9 +157,11 @@ count_plain rows = length (filter (is_plain_by (plan_of rows)) rows)
 abbrev pub count_terms : List Row → ℕ
 count_terms rows = length (filter has_any_term rows)
 
--- It is a plain row of the term at an attribute of the element that a plain row of another term writes.
-pub record IsPlainAttribute (rows : List Row) (row : Row) (term : Term) (main : Row) (main_term : Term) : Type 0 where
-  pub beside : IsPlain rows main main_term
+-- It is a plain row of the term at an attribute of the element that a plain row of another term writes, but for whether
+-- their path stands apart.
+pub record IsPlainAttributeThere (rows : List Row) (row : Row) (term : Term) (main : Row) (main_term : Term) : Type 0 where
+  pub beside : IsPlainThere rows main main_term
+  pub main_form : is_whole (form_for main.form main_term) ≡ true
   pub path : row.path ≡ main.path
   pub outer : row.outer ≡ main.outer
   pub inner : row.inner ≡ main.inner
@@ -163,6 +175,11 @@ pub record IsPlainAttribute (rows : List Row) (row : Row) (term : Term) (main : 
   pub form : is_whole (form_for row.form term) ≡ true
   pub written : row.written ≡ written.Always
 
+-- It is a plain row of the term at an attribute of the element that a plain row of another term writes.
+pub record IsPlainAttribute (rows : List Row) (row : Row) (term : Term) (main : Row) (main_term : Term) : Type 0 where
+  pub apart : stands_apart rows main.path ≡ true
+  pub there : IsPlainAttributeThere rows row term main main_term
+
 -- ---- rows of the whole invoice, written in each of the elements that their paths go through
 
 -- A value of one term is written: whole, or as another list spells its code.
@@ -172,10 +189,11 @@ is_of_one_term forms.PlainDate = true
 is_of_one_term forms.DueDateTypeCode = true
 is_of_one_term forms.CodedNote = false
 
--- It is a spread row of the term: the term stands in the invoice itself, whatever groups the path goes through.
-pub record IsSpread (rows : List Row) (row : Row) (term : Term) : Type 0 where
+-- It is a spread row of the term by what is known of the invoice: the term stands in the invoice itself, whatever groups the
+-- path goes through.
+pub record IsSpreadWith (known : Known) (rows : List Row) (row : Row) (term : Term) : Type 0 where
   -- its path stands apart, and no other row ends at its element
-  pub apart : stands_apart rows row.path ≡ true
+  pub apart : is_apart known (plan_of rows) row.path ≡ true
   pub own : rows_at is_at_element (plan_of rows) row.path ≡ row ∷ []
   pub leaf : row.leaf ≡ leaves.Element
   -- it writes the term's value or nothing
@@ -187,12 +205,19 @@ pub record IsSpread (rows : List Row) (row : Row) (term : Term) : Type 0 where
   pub inner : row.inner ≡ None
   pub context : stands_there term None None ≡ true
 
-abbrev pub is_spread_in : Plan → Row → Term → Bool
-is_spread_in plan row term =
-    is_apart [] plan row.path
+abbrev pub IsSpread : List Row → Row → Term → Type 0
+IsSpread rows row term = IsSpreadWith unknown rows row term
+
+-- by what is known of the invoice
+abbrev pub is_spread_with : Known → Plan → Row → Term → Bool
+is_spread_with known plan row term =
+    is_apart known plan row.path
     && (is_one (rows_at is_at_element plan row.path)
     && (is_element row.leaf
     && (has_content term row.content && (is_of_one_term (form_for row.form term) && (is_by_value row.written && (is_none row.outer && (is_none row.inner && stands_there term None None)))))))
+
+abbrev pub is_spread_in : Plan → Row → Term → Bool
+is_spread_in plan row term = is_spread_with unknown plan row term
 
 -- It is a spread row of the term, if it is one of these rows.
 abbrev pub is_spread : List Row → Row → Term → Bool
@@ -207,13 +232,17 @@ abbrev pub is_part_named : Plan → Row → Leaf → Bool
 is_part_named plan main leaves.Element = false
 is_part_named plan main (leaves.Attribute local) = not (bytes_eq local currency_id) && is_one (rows_at (is_at_attribute local) plan main.path)
 
-abbrev pub is_plain_attribute_in : Plan → Row → Term → Row → Term → Bool
-is_plain_attribute_in plan row term main main_term =
+-- by what is known of the invoice
+abbrev pub is_plain_attribute_with : Known → Plan → Row → Term → Row → Term → Bool
+is_plain_attribute_with known plan row term main main_term =
     pointwise same_step row.path main.path
-    && (is_plain_in plan main main_term
+    && (is_plain_with known plan main main_term
     && (same_or_none row.outer main.outer
     && (same_or_none row.inner main.inner
     && (is_part_named plan main row.leaf && (has_content term row.content && (is_whole (form_for row.form term) && is_always row.written))))))
+
+abbrev pub is_plain_attribute_in : Plan → Row → Term → Row → Term → Bool
+is_plain_attribute_in plan row term main main_term = is_plain_attribute_with unknown plan row term main main_term
 
 -- It is a plain row at an attribute, if both are rows of these.
 abbrev pub is_plain_attribute : List Row → Row → Term → Row → Term → Bool

@@ -5,7 +5,7 @@ use Rattle.std.specs.Cmp.Lexicographic.{pointwise}
 use Rattle.bind_rows.specs.declared.rows.Step.{Step}
 use Rattle.bind_rows.specs.Same.{same_name, same_step}
 use Rattle.bind_table.specs.Lines.{Plan, nothing, a_line}
-use Rattle.binding_laws.specs.Apart.{is_called, is_unguarded, is_nothing, meets_all, is_off, is_clear, is_apart}
+use Rattle.binding_laws.specs.Apart.{is_called, is_unguarded, is_nothing, unknown, beyond, meets_all, is_off, is_clear, is_apart}
 
 -- two paths that lead to the same elements of any document
 abbrev pub same_look : Step → Step → Bool
@@ -21,12 +21,12 @@ are_twins nothing path other = false
 are_twins (a_line t cells inside rest) [] other = false
 are_twins (a_line t cells inside rest) (s ∷ path) [] = false
 are_twins (a_line t cells inside rest) (s ∷ path) (v ∷ other) = elim (same_step s t) [
-  | true ↦ meets_all s.guards t cells inside && elim (same_step v t) [
-    | true ↦ is_none t.group && (is_clear [] rest (s ∷ path) && are_twins inside path other)
-    | false ↦ is_apart [] rest (v ∷ other) && elim path [ [] ↦ is_nothing inside | (u ∷ further) ↦ is_apart [] inside (u ∷ further) ]
+  | true ↦ meets_all unknown s.guards t cells inside && elim (same_step v t) [
+    | true ↦ is_none t.group && (is_clear unknown rest (s ∷ path) && are_twins inside path other)
+    | false ↦ is_apart unknown rest (v ∷ other) && elim path [ [] ↦ is_nothing inside | (u ∷ further) ↦ is_apart (beyond t.group unknown) inside (u ∷ further) ]
   ]
   | false ↦ not (same_step v t) && elim (is_called s.name t.name) [
-    | true ↦ (is_off [] s.guards t cells inside || elim path [ [] ↦ false | (u ∷ further) ↦ is_clear [] inside (u ∷ further) ]) && are_twins rest (s ∷ path) (v ∷ other)
+    | true ↦ (is_off unknown s.guards t cells inside || elim path [ [] ↦ false | (u ∷ further) ↦ is_clear (beyond t.group unknown) inside (u ∷ further) ]) && are_twins rest (s ∷ path) (v ∷ other)
     | false ↦ are_twins rest (s ∷ path) (v ∷ other)
   ]
 ]

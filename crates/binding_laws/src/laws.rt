@@ -1,6 +1,6 @@
 //! Each call does nothing: what it ensures is the law. Where a law speaks of an invoice whose values covered rows write, it
 //! asks of one with a VAT total in accounting currency too that its two currencies stand in it and differ.
-ghost use Rattle.std.specs.Prelude.{◌≡◌, not, ◌&&◌, ◌||◌, ◌<◌, ℕ, List, [], ◌∷◌, All, Contains, length, true, false, Some, Ok, filter, flat_map, map, slice_get};
+ghost use Rattle.std.specs.Prelude.{codes, ◌≡◌, not, ◌&&◌, ◌||◌, ◌<◌, ℕ, List, [], ◌∷◌, All, Contains, length, true, false, Some, Ok, filter, flat_map, map, slice_get};
 ghost use Rattle.inv_base.specs.Tree.{document_nodes};
 ghost use Rattle.term_table.specs.declared.terms.Term.{Term};
 ghost use Rattle.term_table.specs.SemanticModel.{same_term};
@@ -12,6 +12,7 @@ ghost use Rattle.bind_rows.specs.declared.names.Leaf.TheVariants as leaves;
 ghost use Rattle.bind_rows.specs.declared.rows.Row.{Row};
 ghost use Rattle.bind_rows.specs.declared.rows.Written.TheVariants as rules;
 ghost use Rattle.std.specs.List.{list_all};
+ghost use Rattle.std.specs.Str.{bytes_eq};
 ghost use Rattle.bind_meaning.specs.Values.{said, form_for};
 ghost use Rattle.bind_meaning.specs.Elements.{string_at, is_full, has_element_inside};
 ghost use Rattle.bind_meaning.specs.Picks.{has_term, nodes_picked};
@@ -24,8 +25,9 @@ ghost use Rattle.bind_meaning.specs.declared.tables.Which.{Which};
 ghost use Rattle.bind_meaning.specs.Tables.{rows_of};
 ghost use Rattle.bind_meaning.specs.Trees.{document_of};
 ghost use Rattle.bind_meaning.specs.Writing.{formed};
-ghost use Rattle.binding_laws.specs.Apart.{holds_none, stands_apart_without, stands_apart};
-ghost use Rattle.binding_laws.specs.Covered.{count_covered, is_settled, holds_plainly, are_own_currencies, left_out_terms};
+ghost use Rattle.binding_laws.specs.Apart.{Unlike, Together, unknown, holds_none, stands_apart_without, stands_apart};
+ghost use Rattle.binding_laws.specs.Known.{known_of};
+ghost use Rattle.binding_laws.specs.Covered.{code_terms, count_covered, is_settled, holds_plainly, are_own_currencies, left_out_terms};
 ghost use Rattle.binding_laws.specs.Faultless.{is_faultless};
 ghost use Rattle.binding_laws.specs.Plain.{IsPlain, stands_there, IsPlainAttribute, is_written_by, is_plain, is_plain_attribute, count_terms, count_plain, count_attributes};
 ghost use Rattle.ubl_binding.specs.Tables.{invoice_rows, credit_note_rows};
@@ -123,22 +125,31 @@ pub fn tables_have_plain_rows()
 {}
 
 /// Where covered rows write all values of an invoice, and it holds no term that is left out, what the rows of a well-formed
-/// table pick in its document says exactly its entries, each where it stands: occurrences are numbered as reading numbers
-/// them. Each pick says the value of one entry, and each entry is said by a pick. No pick has an element inside, and what
-/// is told of one term in one context agrees. All this holds for any two currencies the first of which is that of the
-/// invoice or isn't named, as are those that are read of the document; where a VAT total in accounting currency stands in
-/// the invoice, both of them are to be those of the invoice, as these are too.
+/// table pick in its document tells exactly its entries, each where it stands: occurrences are numbered as reading numbers
+/// them. A pick may tell two, a note and the subject code in front of it. Where no such code stands, each pick says the
+/// value of one entry, and each entry is said by a pick. No pick has an element inside, and what is told of one term in one
+/// context agrees. All this holds for any two currencies the first of which is that of the invoice or isn't named, as are
+/// those that are read of the document; where a VAT total in accounting currency stands in the invoice, both of them are to
+/// be those of the invoice, as these are too.
 pub fn picks_say_the_entries_where_they_stand()
     ensures currency { (rows : List Row) (es : List Entry) → IsInvoice es → All (λ r. 0 < length r.path) rows → first_fault rows ≡ Ok tt → is_settled rows ≡ true → holds_plainly rows es ≡ true
         → are_own_currencies rows es (currencies (document_nodes (document_of rows es)) rows) ≡ true }
     ensures said { (rows : List Row) (es : List Entry) (c : Currencies) (p : Placed) → IsInvoice es → All (λ r. 0 < length r.path) rows → first_fault rows ≡ Ok tt
-        → is_settled rows ≡ true → holds_plainly rows es ≡ true → are_own_currencies rows es c ≡ true
+        → is_settled rows ≡ true → holds_plainly rows es ≡ true → are_own_currencies rows es c ≡ true → holds_none (code_terms rows) es ≡ true
         → Contains (place_all (document_nodes (document_of rows es)) (term_picks (document_nodes (document_of rows es)) c rows)) p
         → (e : Entry) × (Contains es e × ((said_by (document_nodes (document_of rows es)) p ≡ record { term = e.term; value = Some e.value } ∷ []) × (context_of p ≡ e.context))) }
     ensures all { (rows : List Row) (es : List Entry) (c : Currencies) (e : Entry) → IsInvoice es → All (λ r. 0 < length r.path) rows → first_fault rows ≡ Ok tt
-        → is_settled rows ≡ true → holds_plainly rows es ≡ true → are_own_currencies rows es c ≡ true → Contains es e
+        → is_settled rows ≡ true → holds_plainly rows es ≡ true → are_own_currencies rows es c ≡ true → holds_none (code_terms rows) es ≡ true → Contains es e
         → (p : Placed) × (Contains (place_all (document_nodes (document_of rows es)) (term_picks (document_nodes (document_of rows es)) c rows)) p
         × ((said_by (document_nodes (document_of rows es)) p ≡ record { term = e.term; value = Some e.value } ∷ []) × (context_of p ≡ e.context))) }
+    ensures told { (rows : List Row) (es : List Entry) (c : Currencies) (t : Told) → IsInvoice es → All (λ r. 0 < length r.path) rows → first_fault rows ≡ Ok tt
+        → is_settled rows ≡ true → holds_plainly rows es ≡ true → are_own_currencies rows es c ≡ true
+        → Contains (told (document_nodes (document_of rows es)) (place_all (document_nodes (document_of rows es)) (term_picks (document_nodes (document_of rows es)) c rows))) t
+        → (e : Entry) × (Contains es e × ((t.said ≡ record { term = e.term; value = Some e.value }) × (context_of t.placed ≡ e.context))) }
+    ensures all_told { (rows : List Row) (es : List Entry) (c : Currencies) (e : Entry) → IsInvoice es → All (λ r. 0 < length r.path) rows → first_fault rows ≡ Ok tt
+        → is_settled rows ≡ true → holds_plainly rows es ≡ true → are_own_currencies rows es c ≡ true → Contains es e
+        → (t : Told) × (Contains (told (document_nodes (document_of rows es)) (place_all (document_nodes (document_of rows es)) (term_picks (document_nodes (document_of rows es)) c rows))) t
+        × ((t.said ≡ record { term = e.term; value = Some e.value }) × (context_of t.placed ≡ e.context))) }
     ensures inside { (rows : List Row) (es : List Entry) (c : Currencies) (p : Placed) → IsInvoice es → All (λ r. 0 < length r.path) rows → first_fault rows ≡ Ok tt
         → is_settled rows ≡ true → holds_plainly rows es ≡ true → are_own_currencies rows es c ≡ true
         → Contains (place_all (document_nodes (document_of rows es)) (term_picks (document_nodes (document_of rows es)) c rows)) p
@@ -228,10 +239,17 @@ pub fn valid_invoices_are_converted_back()
 }
 
 /// How many rows with a term of each of the three tables are covered, which is to say plain or spread, at an element or an
-/// attribute, or spread but for a filler, or that of a VAT total; the tables are settled and faultless, and leave these
-/// terms out, by their numbers in listing order: CII leaves out none.
+/// attribute, or spread but for a filler, or plain but for a subject code in front, or that of a VAT total, or told apart
+/// by values: all of them. The tables are settled and faultless, and leave no terms out. So that values tell rows apart, UBL
+/// asks that the scheme of BT-29 and that of BT-60 aren't `SEPA`, and that BT-29 has its scheme where it may have one; CII
+/// asks nothing.
 pub fn tables_leave_terms_out()
-    ensures invoice { (count_covered invoice_rows ≡ 173) × (is_settled invoice_rows ≡ true) × (is_faultless invoice_rows ≡ true) × (map (λ t. t.number) (left_out_terms invoice_rows) ≡ 14 ∷ (22 ∷ (29 ∷ (29 ∷ (29 ∷ (60 ∷ (60 ∷ (90 ∷ [])))))))) }
-    ensures credit_note { (count_covered credit_note_rows ≡ 173) × (is_settled credit_note_rows ≡ true) × (is_faultless credit_note_rows ≡ true) × (map (λ t. t.number) (left_out_terms credit_note_rows) ≡ 14 ∷ (22 ∷ (29 ∷ (29 ∷ (29 ∷ (60 ∷ (60 ∷ (90 ∷ [])))))))) }
+    ensures invoice { (count_covered invoice_rows ≡ 181) × (is_settled invoice_rows ≡ true) × (is_faultless invoice_rows ≡ true) × (map (λ t. t.number) (left_out_terms invoice_rows) ≡ []) }
+    ensures credit_note { (count_covered credit_note_rows ≡ 181) × (is_settled credit_note_rows ≡ true) × (is_faultless credit_note_rows ≡ true) × (map (λ t. t.number) (left_out_terms credit_note_rows) ≡ []) }
     ensures cii { (count_covered cii_rows ≡ 185) × (is_settled cii_rows ≡ true) × (is_faultless cii_rows ≡ true) × (map (λ t. t.number) (left_out_terms cii_rows) ≡ []) }
+    ensures asked_invoice { (list_all (λ (u : Unlike). (same_term u.term (record { number = 29; part = 1 }) || same_term u.term (record { number = 60; part = 1 })) && bytes_eq u.text (codes "SEPA")) (known_of invoice_rows).unlike ≡ true)
+        × (map (λ (x : Together). x.term.number) (known_of invoice_rows).together ≡ 29 ∷ []) }
+    ensures asked_credit_note { (list_all (λ (u : Unlike). (same_term u.term (record { number = 29; part = 1 }) || same_term u.term (record { number = 60; part = 1 })) && bytes_eq u.text (codes "SEPA")) (known_of credit_note_rows).unlike ≡ true)
+        × (map (λ (x : Together). x.term.number) (known_of credit_note_rows).together ≡ 29 ∷ []) }
+    ensures asked_cii { known_of cii_rows ≡ unknown }
 {}

@@ -1,0 +1,13 @@
+pub mod ListLemmas
+pub mod ValueLemmas
+pub mod LineLemmas
+pub mod TreeLemmas
+pub mod NameLemmas
+pub mod TagLemmas
+pub mod RootLemmas
+pub mod NumberLemmas
+pub mod WritableLemmas
+pub mod ReadLemmas
+pub mod CarryLemmas
+pub mod Rows
+pub mod TableLemmas

@@ -1,0 +1,9 @@
+pub mod Disjuncts
+pub mod ConditionLemmas
+pub mod ModelLemmas
+pub mod WrittenLemmas
+pub mod MistakenLemmas
+pub mod HeldLemmas
+pub mod Computed
+pub mod TableLemmas
+pub mod Witness

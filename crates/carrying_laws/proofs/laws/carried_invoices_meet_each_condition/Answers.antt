@@ -1,0 +1,27 @@
+use Rattle.binding_laws.proofs.PlacedLemmas.{contains-among}
+use Rattle.carrying_laws.proofs.ConditionLemmas.{carried-keeps, part-kept, creditor-kept, filler-kept, note-kept, code-kept, means-kept, currency-kept}
+use Rattle.carrying_laws.proofs.laws.carried_invoices_meet_each_condition.Goals as goal
+
+pub returns-clause-carried : goal.returns-clause-carried
+returns-clause-carried c = carried-keeps
+
+pub returns-clause-part : goal.returns-clause-part
+returns-clause-part c = λ rows es e keeps known. part-kept rows es keeps e (contains-among e es known)
+
+pub returns-clause-creditor : goal.returns-clause-creditor
+returns-clause-creditor c = λ rows es e keeps known. creditor-kept rows es keeps e (contains-among e es known)
+
+pub returns-clause-filler : goal.returns-clause-filler
+returns-clause-filler c = λ rows es e keeps known. filler-kept rows es keeps e (contains-among e es known)
+
+pub returns-clause-note : goal.returns-clause-note
+returns-clause-note c = λ rows es e keeps known. note-kept rows es keeps e (contains-among e es known)
+
+pub returns-clause-code : goal.returns-clause-code
+returns-clause-code c = λ rows es e keeps known. code-kept rows es keeps e (contains-among e es known)
+
+pub returns-clause-means : goal.returns-clause-means
+returns-clause-means c = λ rows es e keeps known. means-kept rows es keeps e (contains-among e es known)
+
+pub returns-clause-currency : goal.returns-clause-currency
+returns-clause-currency c = λ rows es e keeps known. currency-kept rows es keeps e (contains-among e es known)

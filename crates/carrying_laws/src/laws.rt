@@ -1,0 +1,82 @@
+//! Each call does nothing: what it ensures is the law. An invoice is carried where it meets all eight conditions of
+//! bind_carrying; the laws ask for those that its entries show alone (`entries_fail`), and not for the limits on sizes.
+ghost use Rattle.std.specs.Prelude.{◌≡◌, List, [], Contains, true, false, None, Ok};
+ghost use Rattle.inv_base.specs.Tree.{document_nodes};
+ghost use Rattle.code_lists.specs.CodeFiles.{Lists};
+ghost use Rattle.inv_terms.specs.declared.entries.Entry.{Entry};
+ghost use Rattle.inv_terms.specs.Listing.{IsInvoice};
+ghost use Rattle.inv_lacks.specs.Whole.{IsValid};
+ghost use Rattle.bind_rows.specs.declared.rows.Row.{Row};
+ghost use Rattle.bind_meaning.specs.declared.tables.Which.{Which};
+ghost use Rattle.bind_meaning.specs.declared.tables.Which.TheVariants as which;
+ghost use Rattle.bind_meaning.specs.Tables.{rows_of};
+ghost use Rattle.bind_meaning.specs.Terms.{Read, terms_of};
+ghost use Rattle.bind_meaning.specs.Trees.{document_of};
+ghost use Rattle.bind_carrying.specs.Tables.{which_of};
+ghost use Rattle.bind_carrying.specs.Carrying.{stands_alone, marks_creditor, is_filler, is_bad_note, has_bad_code, lacks_means, has_no_currency, entries_fail, carrying};
+ghost use Rattle.binding_laws.specs.Apart.{holds_none};
+ghost use Rattle.binding_laws.specs.Covered.{left_out, holds_plainly};
+ghost use Rattle.carrying_laws.specs.Complete.{is_complete};
+
+use binding_laws::{valid_invoices_are_converted_back, valid_invoices_are_read_exactly};
+
+/// Each of the three tables is complete: its rows write each term of the semantic model in each context that it has.
+/// None of them leaves a term out.
+pub fn tables_are_complete()
+    ensures complete { (table : Which) → is_complete (rows_of table) ≡ true }
+    ensures left { (table : Which) → left_out (rows_of table) ≡ [] }
+{}
+
+/// A complete table, whatever its rows are, holds each valid invoice that meets the conditions of carrying and in which
+/// no term stands that the table leaves out: each value is read back, a covered row writes it, and it isn't taken for
+/// something else.
+pub fn complete_tables_hold_carried_invoices()
+    ensures { (rows : List Row) (es : List Entry) (lists : Lists) → IsInvoice es → IsValid es lists → is_complete rows ≡ true
+        → entries_fail rows es ≡ None → holds_none (left_out rows) es ≡ true → holds_plainly rows es ≡ true }
+{}
+
+/// Where an invoice meets the conditions of carrying, or is carried, each of the seven that its entries show holds of
+/// each entry, in the order of bind_carrying.
+pub fn carried_invoices_meet_each_condition()
+    ensures carried { (rows : List Row) (es : List Entry) → carrying rows es ≡ Ok tt → entries_fail rows es ≡ None }
+    ensures part { (rows : List Row) (es : List Entry) (e : Entry) → entries_fail rows es ≡ None → Contains es e → stands_alone (which_of rows) es e ≡ false }
+    ensures creditor { (rows : List Row) (es : List Entry) (e : Entry) → entries_fail rows es ≡ None → Contains es e → marks_creditor (which_of rows) e ≡ false }
+    ensures filler { (rows : List Row) (es : List Entry) (e : Entry) → entries_fail rows es ≡ None → Contains es e → is_filler (which_of rows) es e ≡ false }
+    ensures note { (rows : List Row) (es : List Entry) (e : Entry) → entries_fail rows es ≡ None → Contains es e → is_bad_note (which_of rows) es e ≡ false }
+    ensures code { (rows : List Row) (es : List Entry) (e : Entry) → entries_fail rows es ≡ None → Contains es e → has_bad_code (which_of rows) e ≡ false }
+    ensures means { (rows : List Row) (es : List Entry) (e : Entry) → entries_fail rows es ≡ None → Contains es e → lacks_means (which_of rows) es e ≡ false }
+    ensures currency { (rows : List Row) (es : List Entry) (e : Entry) → entries_fail rows es ≡ None → Contains es e → has_no_currency es e ≡ false }
+{}
+
+/// In each of the three tables: a valid invoice that meets the conditions of carrying is held.
+pub fn carried_invoices_are_held()
+    ensures { (table : Which) (es : List Entry) (lists : Lists) → IsInvoice es → IsValid es lists → entries_fail (rows_of table) es ≡ None
+        → holds_plainly (rows_of table) es ≡ true }
+{}
+
+/// In each of the three tables: reading the document of such an invoice answers exactly that invoice, with nothing
+/// passed over.
+pub fn carried_invoices_are_read_exactly()
+    ensures { (table : Which) (es : List Entry) (lists : Lists) → IsInvoice es → IsValid es lists → entries_fail (rows_of table) es ≡ None
+        → terms_of (document_nodes (document_of (rows_of table) es)) (rows_of table) lists ≡ Ok (record { entries = es; passed_over = 0 }) }
+{
+    valid_invoices_are_read_exactly();
+}
+
+/// Of each two of the three tables: such an invoice of both, converted to the one syntax, to the other and back, is the
+/// first document again, with its terms; no reading finds a fault.
+pub fn carried_invoices_are_converted_back()
+    ensures { (first second : Which) (es : List Entry) (lists : Lists) → IsInvoice es → IsValid es lists
+        → entries_fail (rows_of first) es ≡ None → entries_fail (rows_of second) es ≡ None
+        → (read : Read) × ((terms_of (document_nodes (document_of (rows_of first) es)) (rows_of first) lists ≡ Ok read)
+        × ((again : Read) × ((terms_of (document_nodes (document_of (rows_of second) read.entries)) (rows_of second) lists ≡ Ok again)
+        × ((again.entries ≡ es) × (document_of (rows_of first) again.entries ≡ document_of (rows_of first) es))))) }
+{
+    valid_invoices_are_converted_back();
+}
+
+/// Some invoice meets all that these laws ask of one, in UBL and in CII.
+pub fn some_invoice_is_carried()
+    ensures { (es : List Entry) × ((lists : Lists) × (IsInvoice es × (IsValid es lists
+        × ((carrying (rows_of which.Invoice) es ≡ Ok tt) × (carrying (rows_of which.Cii) es ≡ Ok tt))))) }
+{}

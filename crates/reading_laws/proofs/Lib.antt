@@ -1,0 +1,14 @@
+pub mod ListLemmas
+pub mod SayingLemmas
+pub mod EntryLemmas
+pub mod FaultLemmas
+pub mod FitLemmas
+pub mod WholeLemmas
+pub mod RowLemmas
+pub mod PlaceLemmas
+pub mod OrderLemmas
+pub mod CountLemmas
+pub mod NumberLemmas
+pub mod NodeLemmas
+pub mod InvoiceLemmas
+pub mod FrontLemmas

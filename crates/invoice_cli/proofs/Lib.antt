@@ -5,3 +5,4 @@ pub mod InvoiceLemmas
 mod QueryLemmas
 mod CheckLemmas
 mod TrialLemmas
+mod ConversionLemmas

@@ -6,4 +6,5 @@ pub mod Queries
 pub mod Checks
 pub mod Answer
 pub mod Answers
+pub mod Conversions
 pub mod Adapters

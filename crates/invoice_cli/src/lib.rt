@@ -3,6 +3,7 @@
 
 mod adapters;
 mod checks;
+mod conversions;
 mod invoices;
 mod options;
 mod printing;

@@ -4,8 +4,10 @@ ghost use Rattle.job_course.specs.Runs.{Runs};
 ghost use Rattle.invoice_cli.specs.Job.{job, words_of};
 ghost use Rattle.invoice_cli.specs.Answer.{outline_course};
 ghost use Rattle.invoice_cli.specs.Answers.{Answers, Says};
+ghost use Rattle.invoice_cli.specs.Conversions.{ConversionsReturn};
 
 use crate::checks::{Checking, check};
+use crate::conversions::conversions_return;
 use crate::invoices::{convert, extract, show};
 use crate::printing::print_outline;
 use crate::queries::query;
@@ -24,7 +26,28 @@ use std::alloc::Global;
 /// content, the status and what is written are exactly the answer to the job that the words name, but for
 /// the number of steps that the last line of a trial tells. Only words that name files or a trial end for
 /// want of memory.
+///
+/// An answer to `convert` means the invoice that was read (`conversions`): what is written of one that the syntax carries
+/// is read as exactly its terms; converting it to the other syntax, where that carries it too, and this back, writes the
+/// first bytes again.
 pub fn run<S: Shelf, O: Sink, E: Sink>(
+    alloc: Global,
+    words: &[String],
+    shelf: &mut S,
+    out: &mut O,
+    err: &mut E,
+) -> Status
+    ensures answers { (steps : ℕ) × Answers steps (job (words_of words.now))
+        (record { shelf = S.view shelf.old; out = O.view out.old; err = E.view err.old })
+        (record { shelf = S.view shelf.new; out = O.view out.new; err = E.view err.new }) result }
+    ensures conversions { ConversionsReturn }
+{
+    conversions_return();
+    answer(alloc, words, shelf, out, err)
+}
+
+/// Answers the command that the words name.
+fn answer<S: Shelf, O: Sink, E: Sink>(
     alloc: Global,
     words: &[String],
     shelf: &mut S,

@@ -8,7 +8,7 @@ use Rattle.invoice_cli.specs.Job.{outline, show, convert, check, extract, query,
 use Rattle.invoice_cli.specs.declared.usage.TheConstants.{HELP, VERSION}
 use Rattle.invoice_cli.proofs.AnswersLemmas.{asked_is, answers_said, answers_tried, answers_bad_word, answers_of_run}
 use Rattle.invoice_cli.proofs.TrialLemmas.{lines_are_few}
-use Rattle.invoice_cli.proofs.program.run.Goals as goal
+use Rattle.invoice_cli.proofs.program.answer.Goals as goal
 
 pub returns-in-Outline : goal.returns-in-Outline
 returns-in-Outline g c = (

@@ -6,8 +6,8 @@
 PROGRAM is crates/einv/out/einv if it isn't given, RUNS 5. Prints two tables: documents of 1 and 16 MB, rich in elements, in
 attributes or in text, with both times and their ratio; and one hostile document of each kind, with its time, how many times
 that is the time of a document rich in elements of its size, the most memory that einv held, and what it answers. Each time
-is the best of the runs, wall clock, start-up included. Where xmllint (libxml2-utils) is missing its column is left out with
-a word.
+is the best of the runs, in which the two take turns, wall clock, start-up included. Where xmllint (libxml2-utils) is missing
+its column is left out with a word.
 """
 import pathlib
 import shutil
@@ -97,15 +97,17 @@ HOSTILE = {
 }
 
 
-def seconds(words, runs):
-    """The best time of the command, and what it said on standard error at last."""
-    best = None
-    for _ in range(runs):
-        begun = time.perf_counter()
-        done = subprocess.run(words, stdin=subprocess.DEVNULL, stdout=subprocess.DEVNULL, stderr=subprocess.PIPE)
-        taken = time.perf_counter() - begun
-        best = taken if best is None else min(best, taken)
-    return best, done.stderr.decode(errors="replace").strip().splitlines()
+def once(words):
+    """The time of one run of the command, and what it said on standard error."""
+    begun = time.perf_counter()
+    done = subprocess.run(words, stdin=subprocess.DEVNULL, stdout=subprocess.DEVNULL, stderr=subprocess.PIPE)
+    return time.perf_counter() - begun, done.stderr.decode(errors="replace").strip().splitlines()
+
+
+def seconds(commands, runs):
+    """The best time of each of the commands, which take turns, and what the first said at last."""
+    rounds = [[once(words) for words in commands] for _ in range(runs)]
+    return [min(done[0] for done in column) for column in zip(*rounds)], rounds[-1][0][1]
 
 
 # A process forked from this one would count what this one holds as its own, so a small one forks it.
@@ -138,19 +140,19 @@ def main():
         for name, make in (("elements", elements), ("attributes", attributes), ("texts", texts)):
             for megabytes in (1, 16):
                 path.write_bytes(make(megabytes * MEGABYTE))
-                mine, said = seconds([program, "outline", str(path)], runs)
-                theirs = seconds([other, "--noout", str(path)], runs)[0] if other else None
-                right = f"{theirs:.3f} | {mine / theirs:.2f}" if theirs else "- | -"
+                beside = [[other, "--noout", str(path)]] if other else []
+                (mine, *theirs), said = seconds([[program, "outline", str(path)], *beside], runs)
+                right = f"{theirs[0]:.3f} | {mine / theirs[0]:.2f}" if theirs else "- | -"
                 print(f"| {name} | {megabytes} | {mine:.3f} | {right} |" + (f" {said[0]}" if said else ""))
         print("\n| Hostile document | MB | einv outline | by honest | peak, MB | answer |")
         print("|---|---|---|---|---|---|")
         for name, make in HOSTILE.items():
             content = make()
             path.write_bytes(elements(len(content)))
-            honest = seconds([program, "outline", str(path)], runs)[0]
+            honest = seconds([[program, "outline", str(path)]], runs)[0][0]
             path.write_bytes(content)
             words = [program, "outline", str(path)]
-            mine, said = seconds(words, runs)
+            (mine,), said = seconds([words], runs)
             answer = said[0].replace(str(path) + ": ", "").removeprefix("einv: ") if said else "Done"
             shown = f"{len(content) / MEGABYTE:.1f} | {mine:.3f} | {mine / honest:.2f} | {measured(words)[1]:.1f}"
             print(f"| {name} | {shown} | {answer} |")

@@ -19,7 +19,7 @@ use term_table::Term;
 use xml_write::Gauge;
 
 /// Why a table can't carry an invoice.
-#[derive(Clone, Copy, Debug, PartialEq, Eq)]
+#[derive(Clone, Copy, PartialEq, Eq)]
 pub struct NotCarried {
     /// The least condition that fails, from 1 to 8.
     pub condition: u8,

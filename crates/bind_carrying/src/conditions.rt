@@ -13,7 +13,7 @@ use inv_terms::{Entry, Invoice, Value};
 use term_table::{ROOT, Term};
 
 /// What has to hold of each entry so that a table can carry the invoice, in the order in which it is asked.
-#[derive(Clone, Copy, Debug)]
+#[derive(Clone, Copy)]
 pub(crate) enum Condition {
     /// A part that is written as an attribute stands beside its main term.
     Part,

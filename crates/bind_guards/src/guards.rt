@@ -16,11 +16,19 @@ use std::alloc::{AllocError, Global};
 use std::sync::ledger::Ledger;
 
 /// A guard of a table with its names as the document has them.
-#[derive(Drop)]
 pub struct FoundGuard {
     pub path: Many<Option<u32>>,
     pub leaf: FoundLeaf,
     pub test: Test,
+}
+
+impl Drop for FoundGuard {
+    fn drop(self) {
+        let FoundGuard { path, leaf, test } = self;
+        drop(path);
+        drop(leaf);
+        drop(test);
+    }
 }
 
 /// Guards with their names as the document has them.

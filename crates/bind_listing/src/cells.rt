@@ -8,7 +8,7 @@ use term_table::Term;
 
 /// What stands at an element or at an attribute. Terms are told by their numbers, and one with a part by two: BT-18-1
 /// is 18 and 1.
-#[derive(Clone, Copy, Debug)]
+#[derive(Clone, Copy)]
 pub enum Cell {
     /// A term, once in its context.
     Bt(u16),

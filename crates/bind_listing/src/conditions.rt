@@ -7,14 +7,14 @@ use inv_base::Txt;
 use std::alloc::{AllocError, Global};
 
 /// The name of an element.
-#[derive(Clone, Copy, Debug)]
+#[derive(Clone, Copy)]
 pub struct Tag {
     pub namespace: Namespace,
     pub local: &'static str,
 }
 
 /// What is asked of the nodes at a place, as in `bind_rows::Test`.
-#[derive(Clone, Copy, Debug)]
+#[derive(Clone, Copy)]
 pub enum Asked {
     OneOf(&'static [&'static str]),
     NoneOf(&'static [&'static str]),
@@ -23,7 +23,7 @@ pub enum Asked {
 }
 
 /// A condition of an element: where to look below it, and what is asked there.
-#[derive(Clone, Copy, Debug)]
+#[derive(Clone, Copy)]
 pub struct Condition {
     pub path: &'static [Tag],
     pub attribute: Option<&'static str>,

@@ -8,7 +8,7 @@ use std::alloc::{AllocError, Global};
 use term_table::Group;
 
 /// How an element of a table begins.
-#[derive(Clone, Copy, Debug)]
+#[derive(Clone, Copy)]
 pub struct Head {
     pub tag: Tag,
     /// Whether it is written even where nothing is in it.
@@ -19,7 +19,7 @@ pub struct Head {
 }
 
 /// A piece of a table as it is listed.
-#[derive(Clone, Copy, Debug)]
+#[derive(Clone, Copy)]
 pub enum TableItem {
     /// An element. What stands in it follows, up to its end.
     Element(Head),

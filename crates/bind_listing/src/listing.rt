@@ -11,7 +11,7 @@ use std::alloc::{AllocError, Global};
 use term_table::Group;
 
 /// The groups of which a context has an occurrence.
-#[derive(Clone, Copy, Debug)]
+#[derive(Clone, Copy)]
 struct Seat {
     outer: Option<Group>,
     inner: Option<Group>,

@@ -2,7 +2,7 @@ use inv_lacks::Name;
 use node_arena::NodeId;
 
 /// Why a document isn't an invoice of a table. Of several kinds at one node and row the first of this order counts.
-#[derive(Clone, Copy, Debug, PartialEq, Eq)]
+#[derive(Clone, Copy, PartialEq, Eq)]
 pub enum BindKind {
     /// The root element is that of no table.
     UnknownRoot,
@@ -26,7 +26,7 @@ pub enum BindKind {
 
 /// The first fault of a document as an invoice: its kind, the term or group, and the node, which for a missing one is the element of
 /// its context.
-#[derive(Clone, Copy, Debug, PartialEq, Eq)]
+#[derive(Clone, Copy, PartialEq, Eq)]
 pub struct BindFault {
     pub kind: BindKind,
     pub name: Name,

@@ -2,7 +2,7 @@ use node_arena::NodeId;
 use term_table::Slot;
 
 /// A node that a row of a table picks. In their order picks stand in document order, at one node by their rows.
-#[derive(Clone, Copy, Debug, PartialEq, Eq, PartialOrd, Ord)]
+#[derive(Clone, Copy, PartialEq, Eq, PartialOrd, Ord)]
 pub struct Picked {
     /// The node.
     pub node: NodeId,
@@ -15,14 +15,14 @@ pub struct Picked {
 }
 
 /// An occurrence of a group, and the element that is it.
-#[derive(Clone, Copy, Debug, PartialEq, Eq)]
+#[derive(Clone, Copy, PartialEq, Eq)]
 pub struct Seated {
     pub slot: Slot,
     pub element: NodeId,
 }
 
 /// A pick with the occurrences in which it stands.
-#[derive(Clone, Copy, Debug, PartialEq, Eq)]
+#[derive(Clone, Copy, PartialEq, Eq)]
 pub struct SeatedPick {
     pub picked: Picked,
     pub outer: Option<Seated>,

@@ -1,5 +1,5 @@
 /// The three binding tables.
-#[derive(Clone, Copy, Debug, PartialEq, Eq)]
+#[derive(Clone, Copy, PartialEq, Eq)]
 pub enum Which {
     /// UBL 2.1 Invoice
     Invoice,
@@ -10,7 +10,7 @@ pub enum Which {
 }
 
 /// The syntaxes in which invoices are written.
-#[derive(Clone, Copy, Debug, PartialEq, Eq)]
+#[derive(Clone, Copy, PartialEq, Eq)]
 pub enum Syntax {
     /// UBL 2.1
     Ubl,

@@ -1,7 +1,7 @@
 use inv_base::Txt;
 
 /// The namespaces in which UBL 2.1 and CII D16B declare their elements.
-#[derive(Clone, Copy, Debug, PartialEq, Eq)]
+#[derive(Clone, Copy, PartialEq, Eq)]
 pub enum Namespace {
     /// `urn:oasis:names:specification:ubl:schema:xsd:Invoice-2`
     UblInvoice,
@@ -22,14 +22,23 @@ pub enum Namespace {
 }
 
 /// The expanded name of an element.
-#[derive(Debug, Drop)]
 pub struct ElementName {
     pub namespace: Namespace,
     pub local: Txt,
 }
 
+impl Drop for ElementName {
+    fn drop(self) {
+        let ElementName {
+            namespace: _,
+            local,
+        } = self;
+        drop(local);
+    }
+}
+
 /// Where a path ends: at its last element, or at an attribute of it. Attributes have no namespace.
-#[derive(Debug, Drop)]
+#[derive(Drop)]
 pub enum Leaf {
     Element,
     Attribute(Txt),

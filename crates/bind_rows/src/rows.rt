@@ -4,7 +4,6 @@ use inv_base::{Many, Txt};
 use term_table::{Group, Term};
 
 /// An element on the path of a row.
-#[derive(Debug, Drop)]
 pub struct Step {
     pub name: ElementName,
     /// The number of the element in its table, from 1, in the order in which elements are written.
@@ -16,8 +15,22 @@ pub struct Step {
     pub guards: Many<Guard>,
 }
 
+impl Drop for Step {
+    fn drop(self) {
+        let Step {
+            name,
+            number: _,
+            always: _,
+            group: _,
+            guards,
+        } = self;
+        drop(name);
+        drop(guards);
+    }
+}
+
 /// What stands at the end of a row's path.
-#[derive(Debug, Drop)]
+#[derive(Drop)]
 pub enum Content {
     /// The value of a business term.
     Term(Term),
@@ -26,7 +39,7 @@ pub enum Content {
 }
 
 /// How the value of a term is spelled.
-#[derive(Clone, Copy, Debug, PartialEq, Eq)]
+#[derive(Clone, Copy, PartialEq, Eq)]
 pub enum Form {
     /// As the semantic model spells it: a date with dashes, the code of BT-8 as 3, 35 or 432 (UNTDID 2005), a note by
     /// itself.
@@ -40,7 +53,7 @@ pub enum Form {
 }
 
 /// How often a term's value may stand in its context.
-#[derive(Clone, Copy, Debug, PartialEq, Eq)]
+#[derive(Clone, Copy, PartialEq, Eq)]
 pub enum Repeats {
     Once,
     /// Several times with one value.
@@ -50,7 +63,7 @@ pub enum Repeats {
 }
 
 /// What is written where an element would have to stand and holds no entry of its own.
-#[derive(Debug, Drop)]
+#[derive(Drop)]
 pub struct Filler {
     pub text: Txt,
     /// The term beside it in its element: the filler is written where that term stands, and isn't read as a value
@@ -59,7 +72,7 @@ pub struct Filler {
 }
 
 /// When a row is written. All rows are read.
-#[derive(Debug, Drop)]
+#[derive(Drop)]
 pub enum Written {
     Always,
     Never,
@@ -78,7 +91,7 @@ pub enum Written {
 }
 
 /// What reading judges at a row's nodes, beside the form of a value.
-#[derive(Clone, Copy, Debug)]
+#[derive(Clone, Copy)]
 pub enum Check {
     Nothing,
     /// The element has to have a `schemeID`.
@@ -90,7 +103,6 @@ pub enum Check {
 }
 
 /// A row of a binding table.
-#[derive(Debug, Drop)]
 pub struct Row {
     /// The elements from the root on.
     pub path: Many<Step>,
@@ -103,4 +115,24 @@ pub struct Row {
     pub repeats: Repeats,
     pub written: Written,
     pub check: Check,
+}
+
+impl Drop for Row {
+    fn drop(self) {
+        let Row {
+            path,
+            leaf,
+            outer: _,
+            inner: _,
+            content,
+            form: _,
+            repeats: _,
+            written,
+            check: _,
+        } = self;
+        drop(path);
+        drop(leaf);
+        drop(content);
+        drop(written);
+    }
 }

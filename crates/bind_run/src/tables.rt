@@ -11,7 +11,6 @@ use bind_table::Binding;
 use std::alloc::{AllocError, Global};
 
 /// The three tables, by which documents are read and written.
-#[derive(Drop)]
 pub struct Tables {
     /// UBL Invoice
     pub invoice: Binding,
@@ -19,6 +18,19 @@ pub struct Tables {
     pub credit_note: Binding,
     /// CII CrossIndustryInvoice
     pub cii: Binding,
+}
+
+impl Drop for Tables {
+    fn drop(self) {
+        let Tables {
+            invoice,
+            credit_note,
+            cii,
+        } = self;
+        drop(invoice);
+        drop(credit_note);
+        drop(cii);
+    }
 }
 
 impl Tables {

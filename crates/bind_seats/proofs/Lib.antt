@@ -11,3 +11,4 @@ pub mod GroupLemmas
 pub mod SeatLemmas
 pub mod KnownLemmas
 pub mod WholeLemmas
+pub mod SeatingLemmas

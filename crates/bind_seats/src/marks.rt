@@ -6,7 +6,7 @@ ghost use Rattle.bind_seats.specs.Marks as spec;
 
 /// Something of a kind that stands in a node, and has a number there: an occurrence of a group in the element of its
 /// outer one, or a term picked in an element.
-#[derive(Clone, Copy, Debug, PartialEq, Eq, PartialOrd, Ord)]
+#[derive(Clone, Copy, PartialEq, Eq, PartialOrd, Ord)]
 pub(crate) struct Mark {
     /// The number of the node.
     pub(crate) around: u32,

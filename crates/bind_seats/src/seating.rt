@@ -19,12 +19,22 @@ use std::alloc::{AllocError, Global};
 use std::sync::ledger::Ledger;
 
 /// The picks of a document's terms with the occurrences of groups in which they stand.
-#[derive(Drop)]
 pub struct Seating {
     /// In document order, at one node by their rows.
     pub picks: Vec<SeatedPick>,
     /// The currency of the invoice, as its document names it (BT-5).
     pub invoice_currency: Option<Txt>,
+}
+
+impl Drop for Seating {
+    fn drop(self) {
+        let Seating {
+            picks,
+            invoice_currency,
+        } = self;
+        drop(picks);
+        drop(invoice_currency);
+    }
 }
 
 /// The picks of rows with a term, without fillers and without VAT totals of the other currency, each with the occurrences
@@ -45,22 +55,67 @@ pub fn seat<L: Ledger>(
     ensures currency { IfOk result (λ s. s.invoice_currency ≡ (currencies (tree_nodes doc.now) table.now).invoice) }
 {
     nodes_are_sound(doc);
+    let named = Currencies::named(alloc, doc, table.rows(), picks, steps)?;
+    match seats_of(alloc, doc, table, &named, picks, steps) {
+        Ok(picks) => {
+            let Currencies {
+                invoice,
+                accounting,
+            } = named;
+            drop(accounting);
+            Ok(Seating {
+                picks,
+                invoice_currency: invoice,
+            })
+        }
+        Err(error) => {
+            drop(named);
+            Err(error)
+        }
+    }
+}
+
+/// The picks that count, each with the occurrences of groups in which it stands.
+fn seats_of<L: Ledger>(
+    alloc: Global,
+    doc: &Doc<'_>,
+    table: &Binding,
+    named: &Currencies,
+    picks: &[Picked],
+    steps: &mut Steps<L>,
+) -> Result<Vec<SeatedPick>, AllocError>
+    requires formed { first_fault table.now ≡ Ok tt }
+    requires picks { picks.now
+        ≡ all_kept (in_order (tree_nodes doc.now) (all_picked (tree_nodes doc.now) (rows_where has_any_term table.now))) }
+    requires named { record { invoice = named.now.invoice; accounting = named.now.accounting }
+        ≡ currencies (tree_nodes doc.now) table.now }
+    ensures { IfOk result (λ seats. seats.items ≡ all_kept_seats (place_all (tree_nodes doc.now)
+        (term_picks (tree_nodes doc.now) (currencies (tree_nodes doc.now) table.now) table.now))) }
+{
+    nodes_are_sound(doc);
     same_steps_are_equal();
+    let kept = kept_picks(alloc, doc, table, named, picks, steps)?;
+    all_seated(alloc, table.rows(), kept.as_slice())
+}
+
+/// The picks that are no fillers and no VAT totals of the other currency.
+fn kept_picks<L: Ledger>(
+    alloc: Global,
+    doc: &Doc<'_>,
+    table: &Binding,
+    named: &Currencies,
+    picks: &[Picked],
+    steps: &mut Steps<L>,
+) -> Result<Vec<Picked>, AllocError>
+    requires picks { picks.now
+        ≡ all_kept (in_order (tree_nodes doc.now) (all_picked (tree_nodes doc.now) (rows_where has_any_term table.now))) }
+    requires named { record { invoice = named.now.invoice; accounting = named.now.accounting }
+        ≡ currencies (tree_nodes doc.now) table.now }
+    ensures { IfOk result (λ kept. kept.items
+        ≡ all_kept (term_picks (tree_nodes doc.now) (currencies (tree_nodes doc.now) table.now) table.now)) }
+{
+    nodes_are_sound(doc);
     let rows = table.rows();
-    let currencies = Currencies::named(alloc, doc, rows, picks, steps)?;
     let marks = marks_beside(alloc, doc, rows, picks, steps)?;
-    let kept = staying(
-        alloc,
-        doc,
-        rows,
-        &currencies,
-        marks.as_slice(),
-        picks,
-        steps,
-    )?;
-    let seats = all_seated(alloc, rows, kept.as_slice())?;
-    Ok(Seating {
-        picks: seats,
-        invoice_currency: currencies.invoice,
-    })
+    staying(alloc, doc, rows, named, marks.as_slice(), picks, steps)
 }

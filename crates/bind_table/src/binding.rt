@@ -11,11 +11,22 @@ use std::alloc::{AllocError, Global};
 use std::marker::Model;
 
 /// A binding table. Contracts see the list of its rows. The same rows as a tree of lines are kept beside them.
-#[derive(Drop)]
 pub struct Binding {
     alloc: Global,
     rows: Vec<Row>,
     lines: Vec<Line>,
+}
+
+impl Drop for Binding {
+    fn drop(self) {
+        let Binding {
+            alloc: _,
+            rows,
+            lines,
+        } = self;
+        drop(rows);
+        drop(lines);
+    }
 }
 
 impl Model for Binding {

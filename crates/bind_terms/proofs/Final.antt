@@ -34,9 +34,12 @@ use Rattle.node_arena.proofs.FoundLemmas.{AreInOrder}
 use Rattle.bind_values.specs.Sayings.{FitsIts}
 use Rattle.bind_terms.specs.declared.found.Found.{Found as Kept}
 use Rattle.bind_terms.specs.declared.firsts.First.{First}
+use Rattle.bind_terms.specs.declared.judging.Verdict.{Verdict}
+use Rattle.bind_terms.specs.declared.judging.Verdict.TheVariants as verdicts
 use Rattle.bind_terms.specs.Entries.{FitsFirst, entries_of}
+use Rattle.bind_terms.specs.Passes.{IsVerdict}
 use Rattle.bind_terms.specs.Faults.{found_of, with_found, least_of}
-use Rattle.bind_terms.specs.Reading.{indicator_picks, term_places, reading, AreSorted}
+use Rattle.bind_terms.specs.Reading.{indicator_picks, term_places, reading, Answers, AreSorted}
 use Rattle.bind_terms.specs.Telling.{seat_of_first, first_of, Entries, told_place, arranged, is_placed, IsAtItsPlace, Holds}
 use Rattle.bind_terms.specs.Steps.{HasRow, IsOfRow, IsPickOfRow, IsWithin, TellsAll}
 use Rattle.bind_terms.proofs.Tolds.{append-nil, least-append}
@@ -266,3 +269,12 @@ module _ (nodes : List Node) (order : AreInOrder nodes) (some : 0 < length nodes
           | None ↦ Ok (record { entries = entries (told nodes (term_places nodes rows)); passed_over = passed_over nodes rows })
         ]) none
         ∙ (λ i. Ok (record { entries = (sym entries_are) i; passed_over = passed_over nodes rows }))
+
+    pub told-verdict : (v : Verdict) → IsVerdict firsts last v → Answers nodes lists rows v
+    told-verdict v is = by last refl v is
+      where
+        by : (o : Option Found) → last ≡ o → (v : Verdict) → IsVerdict firsts o v → Answers nodes lists rows v
+        by None e (verdicts.Invoice invoice) is = told-invoice invoice e is
+        by None e (verdicts.Fault fault) is = absurd is
+        by (Some found) e (verdicts.Invoice invoice) is = absurd is
+        by (Some found) e (verdicts.Fault fault) is = told-fault found e ∙ ap Err (sym is)

@@ -1,5 +1,6 @@
 pub mod Entries
 pub mod Faults
+pub mod Passes
 pub mod Reading
 pub mod Rooms
 pub mod Steps

@@ -45,6 +45,9 @@ fn push_entry(invoice: &mut Invoice, entry: Entry) -> Result<(), AllocError>
 {
     match invoice.push(entry) {
         Ok(()) => Ok(()),
-        Err(_) => Err(AllocError),
+        Err(fault) => {
+            drop(fault);
+            Err(AllocError)
+        }
     }
 }

@@ -1,11 +1,14 @@
 //! The invoice that a document is, or its first fault.
-ghost use Rattle.std.specs.Prelude.{◌≡◌, ◌≢◌, chars, option_map, IfOk, IfErr, Ok, Err, map};
+ghost use Rattle.std.specs.Prelude.{◌≡◌, ◌≢◌, [], All, chars, option_map, IfOk, IfErr, Ok, Err, map};
 ghost use Rattle.node_arena.specs.Moves.{tree_nodes};
 ghost use Rattle.bind_table.specs.WellFormed.{first_fault};
 ghost use Rattle.bind_meaning.specs.declared.fault.BindKind.TheVariants as kinds;
 ghost use Rattle.bind_meaning.specs.Currencies.{currencies};
 ghost use Rattle.bind_meaning.specs.Kept.{all_kept, all_kept_seats};
 ghost use Rattle.bind_meaning.specs.Terms.{in_order, passed_over};
+ghost use Rattle.bind_terms.specs.Entries.{FitsFirst};
+ghost use Rattle.bind_terms.specs.Faults.{found_of};
+ghost use Rattle.bind_terms.specs.Passes.{HasTold, IsVerdict};
 ghost use Rattle.bind_terms.specs.Reading.{indicator_picks, term_places, reading, Answers, AreSorted};
 
 use crate::entries::invoice_of;
@@ -90,20 +93,68 @@ fn judged<L: Ledger>(
 {
     doc.is_of_a_tree();
     let mut told = BTreeMap::new(alloc);
-    let at_nodes = tell_picks(
+    let least = first_at_nodes(
         alloc,
         doc,
         table,
         lists,
         invoice_currency,
         picks,
+        indicators,
         &mut told,
         steps,
     )?;
-    let with_words = with_wrong_words(alloc, doc, table, indicators, at_nodes, steps)?;
     let firsts = in_listing_order(alloc, told)?;
-    match with_lacks(alloc, doc, &firsts, picks, with_words, steps)? {
-        Some(found) => Ok(Verdict::Fault(found.fault)),
+    let fault = with_lacks(alloc, doc, &firsts, picks, least, steps)?;
+    verdict_of(alloc, firsts, fault)
+}
+
+// What the picks say is put by, and the first fault at a node is answered: of what they say, and of the indicators.
+fn first_at_nodes<L: Ledger>(
+    alloc: Global,
+    doc: &Doc<'_>,
+    table: &Binding,
+    lists: &CodeLists,
+    invoice_currency: Option<&str>,
+    picks: &[SeatedPick],
+    indicators: &[Picked],
+    told: &mut Firsts,
+    steps: &mut Steps<L>,
+) -> Result<Option<Found>, AllocError>
+    requires currency { option_map (λ text. chars text.now) invoice_currency ≡ (currencies (tree_nodes doc.now) table.now).invoice }
+    requires picks { picks.now ≡ all_kept_seats (term_places (tree_nodes doc.now) table.now) }
+    requires indicators { indicators.now ≡ all_kept (in_order (tree_nodes doc.now) (indicator_picks (tree_nodes doc.now) table.now)) }
+    requires none { told.old.entries ≡ [] }
+    ensures { IfOk result (λ least. HasTold (tree_nodes doc.now) lists.now table.now indicators.now told.new.entries (option_map found_of least)) }
+{
+    doc.is_of_a_tree();
+    let at_picks = tell_picks(
+        alloc,
+        doc,
+        table,
+        lists,
+        invoice_currency,
+        picks,
+        told,
+        steps,
+    )?;
+    with_wrong_words(alloc, doc, table, indicators, at_picks, steps)
+}
+
+// The fault if there is one, or else the invoice of what was told first.
+fn verdict_of(
+    alloc: Global,
+    firsts: Vec<First>,
+    fault: Option<Found>,
+) -> Result<Verdict, AllocError>
+    requires { All FitsFirst firsts.items }
+    ensures { IfOk result (IsVerdict firsts.items (option_map found_of fault)) }
+{
+    match fault {
+        Some(found) => {
+            drop(firsts);
+            Ok(Verdict::Fault(found.fault))
+        }
         None => Ok(Verdict::Invoice(invoice_of(alloc, firsts)?)),
     }
 }

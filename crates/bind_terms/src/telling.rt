@@ -254,7 +254,10 @@ fn tell<L: Ledger>(
             put_first(firsts, place, First { context, said })?;
             Ok(with_cause(least, kind, pick, term))
         }
-        None => Err(AllocError),
+        None => {
+            drop(said);
+            Err(AllocError)
+        }
     }
 }
 
@@ -274,9 +277,10 @@ fn put_first(firsts: &mut Firsts, place: ListingPlace, first: First) -> Result<(
     ensures look_up { OnOk result ((q : List ℕ) → kept_at q firsts.new.entries ≡ kept_behind q firsts.old.entries place first) }
 {
     if firsts.contains_key(&place) {
+        drop(first);
         return Ok(());
     }
-    firsts.insert(place, first)?;
+    drop(firsts.insert(place, first)?);
     Ok(())
 }
 

@@ -12,14 +12,14 @@ use std::alloc::{AllocError, Global};
 use term_table::Term;
 
 /// A value that a string says of a term. None where it is no value of the term.
-#[derive(Debug, Drop)]
+#[derive(Drop)]
 pub struct Said {
     pub term: Term,
     pub value: Option<Value>,
 }
 
 /// All that one string says: of one term, or of two, a note and the subject code in front of it.
-#[derive(Debug, Drop)]
+#[derive(Drop)]
 pub enum Sayings {
     One(Said),
     Two(Said, Said),

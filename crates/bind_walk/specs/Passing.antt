@@ -102,6 +102,12 @@ pub record Visits (d : Document) (lines : List FoundLine) (roots : List Plan) (m
   pub inside : SpansOf d lines visit.inside (state d roots m)
   pub passed : visit.passed ≡ is_passed d roots (tree_node (tree_nodes d) m)
 
+-- It is known of one node more where its names lead, and whether it is passed over.
+pub record IsVisited (d : Document) (lines : List FoundLine) (roots : List Plan) (m : ℕ) (passed : Bool) (before after : List (List Span)) : Type 0 where
+  pub inside : List Span
+  pub visits : Visits d lines roots m (record { inside = inside; passed = passed })
+  pub more : after ≡ before ++ inside ∷ []
+
 abbrev pub no_span : List Span → Bool
 no_span [] = true
 no_span (span ∷ spans) = false

@@ -41,7 +41,6 @@ pub(crate) struct FoundRow {
 }
 
 /// A line of the table, with those of its rows that are read.
-#[derive(Drop)]
 pub(crate) struct FoundLine {
     pub(crate) name: Option<u32>,
     pub(crate) guards: Many<FoundGuard>,
@@ -49,6 +48,20 @@ pub(crate) struct FoundLine {
     pub(crate) rows: Many<FoundRow>,
     /// How many lines stand inside this one.
     pub(crate) size: usize,
+}
+
+impl Drop for FoundLine {
+    fn drop(self) {
+        let FoundLine {
+            name: _,
+            guards,
+            group: _,
+            rows,
+            size: _,
+        } = self;
+        drop(guards);
+        drop(rows);
+    }
 }
 
 pub(crate) fn find_lines(

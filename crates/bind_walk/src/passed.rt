@@ -47,9 +47,8 @@ pub(crate) fn count_passed<L: Ledger>(
     let mut passed = 0;
     let mut n = doc.document();
     'nodes: while let Some(m) = doc.next_node(n, steps) {
-        let visit = visit_node(alloc, doc, lines, &reached, m, steps)?;
-        passed = counted(passed, visit.passed);
-        reached.push(visit.inside)?;
+        let is_passed = reach(alloc, doc, lines, &mut reached, m, steps)?;
+        passed = counted(passed, is_passed);
         n = m;
     }
     Ok(passed)
@@ -85,6 +84,26 @@ fn names_lead_through(doc: &Doc<'_>)
     chains_lead_on(doc);
     names_are_found_by_number();
     moves_lead_on();
+}
+
+/// Notes where the names of a node lead, and answers whether it is passed over.
+fn reach<L: Ledger>(
+    alloc: Global,
+    doc: &Doc<'_>,
+    lines: &[FoundLine],
+    reached: &mut Vec<Many<Span>>,
+    m: NodeId,
+    steps: &mut Steps<L>,
+) -> Result<bool, AllocError>
+    requires within { m < length doc.now.nodes }
+    requires behind { 0 < m }
+    requires reached { spec.AreReached doc.now lines.now reached.old.items m }
+    ensures { IfOk result (λ passed. (roots : List Plan) → spec.Reaches doc.now lines.now roots reached.old.items m
+        → spec.IsVisited doc.now lines.now roots m passed reached.old.items reached.new.items) }
+{
+    let visit = visit_node(alloc, doc, lines, reached.as_slice(), m, steps)?;
+    reached.push(visit.inside)?;
+    Ok(visit.passed)
 }
 
 /// Where the names of a node lead, once it is known where those of the nodes before it do.

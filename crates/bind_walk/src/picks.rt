@@ -1,6 +1,7 @@
 //! What the rows of a table pick in a document.
 
 ghost use Rattle.std.specs.Prelude.{◌≡◌, [], All, IfOk};
+ghost use Rattle.std.specs.List.{flat_map};
 ghost use Rattle.node_arena.specs.Moves.{tree_nodes};
 ghost use Rattle.bind_table.specs.Limits.{HasSteps};
 ghost use Rattle.bind_lines.specs.Picks.{walked};
@@ -10,7 +11,9 @@ ghost use Rattle.bind_meaning.specs.Picks.{has_any_term, rows_where, all_picked}
 ghost use Rattle.bind_meaning.specs.Terms.{in_order, passed_over};
 ghost use Rattle.bind_walk.specs.Lines.{lined};
 ghost use Rattle.bind_walk.specs.Picks.{is_indicator};
-ghost use Rattle.bind_walk.specs.Walks.{sight, AreLined};
+ghost use Rattle.bind_walk.specs.Sorting.{Sorts};
+ghost use Rattle.bind_walk.specs.Walks.{sight, AreLined, picked_for};
+ghost use Rattle.bind_walk.specs.declared.lines.Wanted.TheVariants as wants;
 ghost use Rattle.bind_walk.specs.Finding as spec;
 
 use crate::lines::{FoundLine, Wanted, find_lines};
@@ -28,7 +31,6 @@ use std::alloc::{AllocError, Global};
 use std::sync::ledger::Ledger;
 
 /// What the rows of a table pick in a document, in document order and at one node by their rows.
-#[derive(Drop)]
 pub struct Picks {
     /// What rows with a term pick, before any rule on fillers and currencies.
     pub terms: Vec<Picked>,
@@ -37,6 +39,18 @@ pub struct Picks {
     /// How many elements the table passes over: those whose names lead no further along any row, right inside one whose names do,
     /// guards aside.
     pub passed_over: u32,
+}
+
+impl Drop for Picks {
+    fn drop(self) {
+        let Picks {
+            terms,
+            indicators,
+            passed_over: _,
+        } = self;
+        drop(terms);
+        drop(indicators);
+    }
 }
 
 /// What the rows of the table pick, each by itself over the whole document: one walk over the table's lines and the document finds it.
@@ -53,13 +67,44 @@ pub fn pick_all<L: Ledger>(
     ensures passed_over { IfOk result (λ picks. picks.passed_over ≡ passed_over (tree_nodes doc.now) table.now) }
 {
     let lines = lines_of(alloc, doc, table)?;
-    let finds = find_all(alloc, doc, &lines, steps)?;
+    let picks = picks_by(alloc, doc, table, &lines, steps);
+    drop(lines);
+    picks
+}
+
+/// What the rows of the table pick, by its lines.
+fn picks_by<L: Ledger>(
+    alloc: Global,
+    doc: &Doc<'_>,
+    table: &Binding,
+    lines: &[FoundLine],
+    steps: &mut Steps<L>,
+) -> Result<Picks, AllocError>
+    requires steps { All HasSteps table.now }
+    requires lines { lines.now ≡ lined doc.now (plan_of table.now) }
+    ensures terms { IfOk result (λ picks. picks.terms.items ≡ all_kept (in_order (tree_nodes doc.now) (all_picked (tree_nodes doc.now) (rows_where has_any_term table.now)))) }
+    ensures indicators { IfOk result (λ picks. picks.indicators.items ≡ all_kept (in_order (tree_nodes doc.now) (all_picked (tree_nodes doc.now) (rows_where is_indicator table.now)))) }
+    ensures passed_over { IfOk result (λ picks. picks.passed_over ≡ passed_over (tree_nodes doc.now) table.now) }
+{
     rows_are_walked();
     picks_are_sorted_finds(doc);
+    let finds = find_all(alloc, doc, lines, steps)?;
+    let passed_over = count_passed(alloc, doc, table.rows(), lines, steps)?;
+    sorted_picks(alloc, &finds, passed_over)
+}
+
+/// What was found, sorted by nodes and then by rows.
+fn sorted_picks(alloc: Global, finds: &[Find], passed_over: u32) -> Result<Picks, AllocError>
+    ensures terms { IfOk result (λ picks. Sorts (flat_map (picked_for wants.Term) finds.now) picks.terms.items) }
+    ensures indicators { IfOk result (λ picks. Sorts (flat_map (picked_for wants.Indicator) finds.now) picks.indicators.items) }
+    ensures passed_over { IfOk result (λ picks. picks.passed_over ≡ passed_over) }
+{
+    let terms = sorted(alloc, finds, Wanted::Term)?;
+    let indicators = sorted(alloc, finds, Wanted::Indicator)?;
     Ok(Picks {
-        terms: sorted(alloc, &finds, Wanted::Term)?,
-        indicators: sorted(alloc, &finds, Wanted::Indicator)?,
-        passed_over: count_passed(alloc, doc, table.rows(), &lines, steps)?,
+        terms,
+        indicators,
+        passed_over,
     })
 }
 

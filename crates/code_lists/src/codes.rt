@@ -28,9 +28,15 @@ fn is_printed(text: &str) -> bool
 }
 
 /// The codes of a list, each once, in the order in which they were first given.
-#[derive(Drop)]
 pub struct Codes {
     texts: IndexSet<String>,
+}
+
+impl Drop for Codes {
+    fn drop(self) {
+        let Codes { texts } = self;
+        drop(texts);
+    }
 }
 
 impl Model for Codes {

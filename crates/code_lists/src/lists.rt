@@ -12,9 +12,15 @@ use std::marker::Model;
 
 /// The codes of the lists that are built in or were given. Contracts see each list with its codes, the
 /// built-in ones first.
-#[derive(Drop)]
 pub struct CodeLists {
     lists: Vec<(List, Codes)>,
+}
+
+impl Drop for CodeLists {
+    fn drop(self) {
+        let CodeLists { lists } = self;
+        drop(lists);
+    }
 }
 
 impl Model for CodeLists {

@@ -2,7 +2,7 @@ ghost use Rattle.std.specs.Prelude.{◌≡◌, codes, chars, encode_utf8_all};
 ghost use Rattle.code_lists.specs.ListNames.{name_of, list_named};
 
 /// The lists that EN 16931-1 has its codes from.
-#[derive(Clone, Copy, Debug, PartialEq, Eq, Hash)]
+#[derive(Clone, Copy, PartialEq, Eq, Hash)]
 pub enum List {
     /// Reasons of allowances: UNTDID 5189.
     Allowance,

@@ -4,7 +4,7 @@ use std::alloc::{AllocError, Global};
 use std::marker::Model;
 
 /// A list that contracts see as its items alone, so that what holds such lists is plain data.
-#[derive(Debug, Drop)]
+#[derive(Drop)]
 pub struct Many<T> {
     items: Vec<T>,
 }

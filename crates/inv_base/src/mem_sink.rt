@@ -11,13 +11,26 @@ use std::marker::Model;
 /// Its writes are counted from 1. It fails exactly at its listed calls and where its room is full. It
 /// counts its calls and its faults in numbers that stop at the greatest `u64`, and every later call has
 /// that last number.
-#[derive(Drop)]
 pub struct MemSink {
     bytes: Vec<u8>,
     room: usize,
     failing: Vec<u64>,
     calls: u64,
     faults: u64,
+}
+
+impl Drop for MemSink {
+    fn drop(self) {
+        let MemSink {
+            bytes,
+            room: _,
+            failing,
+            calls: _,
+            faults: _,
+        } = self;
+        drop(bytes);
+        drop(failing);
+    }
 }
 
 impl Model for MemSink {

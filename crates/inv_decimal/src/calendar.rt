@@ -10,7 +10,7 @@ use std::cmp::Ordering;
 use std::marker::Model;
 
 /// A day of the years 1 to 9999 that the Gregorian calendar has (ISO 8601).
-#[derive(Debug, Clone, Copy, PartialEq, Eq)]
+#[derive(Clone, Copy, PartialEq, Eq)]
 pub struct Day {
     year: u16,
     month: u8,

@@ -21,7 +21,7 @@ const LIMIT: i128 = 1_000_000_000_000_000_000_000_000_000_000_000_000;
 
 /// A decimal number with at most 18 digits before the point and 18 behind it.
 /// Contracts see it as a whole number, in units of `10^-18`.
-#[derive(Debug, Clone, Copy, PartialEq, Eq)]
+#[derive(Clone, Copy, PartialEq, Eq)]
 pub struct Dec {
     pub(crate) units: i128,
 }

@@ -10,7 +10,7 @@ use std::marker::Model;
 
 /// A decimal number that keeps how many digits behind the point it was written with.
 /// There are at most 18 of them, and the number has no more.
-#[derive(Debug, Clone, Copy, PartialEq, Eq)]
+#[derive(Clone, Copy, PartialEq, Eq)]
 pub struct Scaled {
     value: Dec,
     digits: u8,

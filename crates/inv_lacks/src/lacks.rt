@@ -1,7 +1,7 @@
 use term_table::{Group, ListingPlace, Term};
 
 /// What a fault names: a business term, a group, or neither.
-#[derive(Clone, Copy, Debug, PartialEq, Eq)]
+#[derive(Clone, Copy, PartialEq, Eq)]
 pub enum Name {
     Term(Term),
     Group(Group),
@@ -9,7 +9,7 @@ pub enum Name {
 }
 
 /// What is wrong with an invoice.
-#[derive(Clone, Copy, Debug, PartialEq, Eq)]
+#[derive(Clone, Copy, PartialEq, Eq)]
 pub enum TermFault {
     /// A mandatory term, or a group that has to stand at least once, isn't there.
     Missing(Name),
@@ -18,7 +18,7 @@ pub enum TermFault {
 }
 
 /// A lack with its place in listing order. The place of a group is that of its first row.
-#[derive(Clone, Copy, Debug, PartialEq, Eq)]
+#[derive(Clone, Copy, PartialEq, Eq)]
 pub struct Lack {
     pub place: ListingPlace,
     pub fault: TermFault,

@@ -2,7 +2,7 @@ use crate::values::Value;
 use term_table::{Context, Seat, Seated, Term};
 
 /// A business term with its value.
-#[derive(Debug, Drop)]
+#[derive(Drop)]
 pub struct Entry {
     /// Where the term stands.
     pub context: Context,

@@ -14,7 +14,7 @@ use std::marker::Model;
 use term_table::{Context, Term, run_in};
 
 /// Why an entry wasn't added to an invoice, with the entry.
-#[derive(Debug, Drop)]
+#[derive(Drop)]
 pub enum PushFault {
     /// The entry isn't listed behind the last one.
     OutOfOrder(Entry),
@@ -26,9 +26,15 @@ pub enum PushFault {
 
 /// An invoice: its entries in listing order, each with a context that its term has and a value that fits it, the
 /// occurrences of each group numbered from 1 without a gap. Contracts see the list of its entries.
-#[derive(Drop)]
 pub struct Invoice {
     entries: Vec<Entry>,
+}
+
+impl Drop for Invoice {
+    fn drop(self) {
+        let Invoice { entries } = self;
+        drop(entries);
+    }
 }
 
 impl Model for Invoice {

@@ -6,7 +6,7 @@ use crate::entries::Entry;
 use term_table::{Context, Group, Slot, place_of};
 
 /// Why an entry may not be added to an invoice.
-#[derive(Clone, Copy, Debug)]
+#[derive(Clone, Copy)]
 pub(crate) enum Refusal {
     /// It isn't listed behind the last one.
     OutOfOrder,

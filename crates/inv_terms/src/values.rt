@@ -19,7 +19,7 @@ use std::str::from_utf8;
 use term_table::Letter;
 
 /// The value of a business term. A number keeps how many digits it was written with behind the point.
-#[derive(Debug, Drop)]
+#[derive(Drop)]
 pub enum Value {
     /// A text as it was given, not blank.
     Text(Txt),

@@ -1,22 +1,16 @@
 -- What the program answers.
-use Rattle.std.specs.Prelude.{ℕ, List, []}
+use Rattle.std.specs.Prelude.{ℕ}
 use Rattle.inv_base.specs.Files.{Files}
-use Rattle.xml_profile.specs.Profile.{tree_of}
-use Rattle.xml_profile.specs.Profile as profile
 use Rattle.job_course.specs.declared.status.Status.TheVariants as statuses
-use Rattle.job_course.specs.Course.{Answer, Course, ends, done, refusal, answer_of, document_course}
+use Rattle.job_course.specs.Course.{Answer, Course, ends, done, refusal, answer_of}
 use Rattle.job_course.specs.Lines.{bad_word_line}
 use Rattle.trial_run.specs.Trials.{trial_of, trial_text}
 use Rattle.invoice_cli.specs.declared.usage.TheConstants.{HELP, VERSION}
 use Rattle.invoice_cli.specs.Job.{Job, outline, show, convert, check, extract, query, trial, help, version, bad_word}
-use Rattle.invoice_cli.specs.Invoices.{show_course, convert_course, extract_course}
-use Rattle.invoice_cli.specs.Outline.{outline_text}
-use Rattle.invoice_cli.specs.Queries.{query_course}
-use Rattle.invoice_cli.specs.Checks.{check_course}
-
--- the outline of the document's tree
-abbrev pub outline_course : List ℕ → Course
-outline_course file = document_course file (λ found. ends (done (outline_text (tree_of found))))
+use Rattle.invoice_jobs.specs.Invoices.{show_course, convert_course, extract_course}
+use Rattle.document_jobs.specs.Outline.{outline_course}
+use Rattle.document_jobs.specs.Queries.{query_course}
+use Rattle.document_jobs.specs.Checks.{check_course}
 
 -- What a job reads and answers. Only the last line of a trial tells how many steps its judging took, which nothing defines.
 abbrev pub course_of : ℕ → Job → Course

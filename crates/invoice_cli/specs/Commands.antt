@@ -1,6 +1,7 @@
 -- A command of the program's, as the words' job.
-use Rattle.std.specs.Prelude.{List, ℕ, map, take, Some, None, option_map, Result, Ok, Err}
+use Rattle.std.specs.Prelude.{List, ℕ, take, Some, None, option_map, Result, Ok, Err}
 use Rattle.std.specs.Borrow.{Bor}
+use Rattle.job_course.specs.Views.{text_of, texts_of}
 use Rattle.invoice_cli.specs.Job.{Job, outline, show, convert, check, extract, query, trial, help, version, bad_word, Options, words_of}
 use Rattle.invoice_cli.specs.declared.words.Asked.{Asked}
 use Rattle.invoice_cli.specs.declared.words.Command.{Command}
@@ -8,12 +9,6 @@ use Rattle.invoice_cli.specs.declared.words.Command.TheVariants as commands
 use Rattle.invoice_cli.specs.declared.options.Given.{Given}
 use Rattle.invoice_cli.specs.declared.options.RuleFiles.{RuleFiles}
 use Rattle.invoice_cli.specs.declared.options.Scanned.{Scanned}
-
-abbrev pub text_of : Bor (List ℕ) → List ℕ
-text_of text = text.now
-
-abbrev pub texts_of : List (Bor (List ℕ)) → List (List ℕ)
-texts_of texts = map text_of texts
 
 -- the files that were named so far
 abbrev pub named_files : RuleFiles → List (List ℕ)

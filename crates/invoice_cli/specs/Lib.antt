@@ -1,9 +1,5 @@
 pub mod Job
 pub mod Commands
-pub mod Outline
-pub mod Invoices
-pub mod Queries
-pub mod Checks
 pub mod Answer
 pub mod Answers
 pub mod Conversions

@@ -1,11 +1,7 @@
 //! What conversions promise, whatever runs.
 ghost use Rattle.invoice_cli.specs.Conversions.{ConversionsReturn};
 
-use carrying_laws::{carried_invoices_are_read_exactly, carried_invoices_meet_each_condition};
-use node_arena::events_build_the_nodes_of_their_tree;
-use reading_laws::{numbers_of_nodes_rise, read_invoices_are_valid};
-use written_laws::carried_invoices_are_read_by_their_tables;
-use xml_laws::read_tells_its_tree;
+use invoice_jobs::{carried_texts_are_read_exactly, read_files_are_valid_invoices};
 
 /// Converting an invoice that the syntax carries writes the syntax's document of it. What was written is read as exactly
 /// its terms; converting it to another syntax that carries them, and that back, writes the first bytes again. It has no
@@ -13,11 +9,6 @@ use xml_laws::read_tells_its_tree;
 pub(crate) fn conversions_return()
     ensures { ConversionsReturn }
 {
-    read_tells_its_tree();
-    events_build_the_nodes_of_their_tree();
-    numbers_of_nodes_rise();
-    read_invoices_are_valid();
-    carried_invoices_are_read_exactly();
-    carried_invoices_meet_each_condition();
-    carried_invoices_are_read_by_their_tables();
+    read_files_are_valid_invoices();
+    carried_texts_are_read_exactly();
 }

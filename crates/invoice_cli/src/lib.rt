@@ -2,14 +2,9 @@
 #![tactic(auto)]
 
 mod adapters;
-mod checks;
 mod conversions;
-mod invoices;
 mod options;
-mod printing;
 mod program;
-mod queries;
-mod refusals;
 mod trials;
 mod usage;
 mod words;

@@ -3,7 +3,8 @@ ghost use Rattle.std.specs.Prelude.{◌≡◌, ◌<◌, ◌+◌, ◌++◌, ◌�
 ghost use Rattle.invoice_cli.specs.Job as spec;
 ghost use Rattle.invoice_cli.specs.Job.{Job, Options, words_of};
 ghost use Rattle.invoice_cli.specs.declared.options.Switch.TheVariants as switches;
-ghost use Rattle.invoice_cli.specs.Commands.{texts_of, named_files, given_options, followed};
+ghost use Rattle.job_course.specs.Views.{texts_of};
+ghost use Rattle.invoice_cli.specs.Commands.{named_files, given_options, followed};
 
 use bind_meaning::Syntax;
 
@@ -11,7 +12,7 @@ use bind_meaning::Syntax;
 const MOST_RULE_FILES: usize = 16;
 
 /// The rule files that were named, in their order.
-#[derive(Clone, Copy, Drop)]
+#[derive(Clone, Copy)]
 pub(crate) struct RuleFiles<'w> {
     names: [&'w str; MOST_RULE_FILES],
     count: usize,
@@ -58,7 +59,7 @@ impl<'w> RuleFiles<'w> {
 }
 
 /// The options that were given.
-#[derive(Clone, Copy, Drop)]
+#[derive(Clone, Copy)]
 pub(crate) struct Given<'w> {
     /// The file of code lists.
     pub(crate) codes_file: Option<&'w str>,
@@ -81,7 +82,7 @@ pub(crate) const NONE_GIVEN: Given<'static> = Given {
 };
 
 /// What the words behind a command are: its options, the number of the word behind them, and the words from there on.
-#[derive(Clone, Copy, Drop)]
+#[derive(Clone, Copy)]
 pub(crate) struct Scanned<'w> {
     /// The number of a word that fits none; then the others say nothing.
     pub(crate) bad: Option<u64>,
@@ -91,7 +92,7 @@ pub(crate) struct Scanned<'w> {
 }
 
 /// A command that has options.
-#[derive(Clone, Copy, Debug, Drop)]
+#[derive(Clone, Copy)]
 pub(crate) enum Optioned {
     Show,
     Convert,
@@ -99,7 +100,7 @@ pub(crate) enum Optioned {
 }
 
 /// An option.
-#[derive(Clone, Copy, Debug, Drop)]
+#[derive(Clone, Copy)]
 enum Switch {
     CodeLists,
     SyntaxToWrite,

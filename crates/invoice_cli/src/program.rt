@@ -1,22 +1,16 @@
-ghost use Rattle.std.specs.Prelude.{◌≡◌, ℕ};
-ghost use Rattle.inv_base.specs.Counts.{next_count};
-ghost use Rattle.job_course.specs.Runs.{Runs};
+ghost use Rattle.std.specs.Prelude.{ℕ};
 ghost use Rattle.invoice_cli.specs.Job.{job, words_of};
-ghost use Rattle.invoice_cli.specs.Answer.{outline_course};
 ghost use Rattle.invoice_cli.specs.Answers.{Answers, Says};
 ghost use Rattle.invoice_cli.specs.Conversions.{ConversionsReturn};
 
-use crate::checks::{Checking, check};
 use crate::conversions::conversions_return;
-use crate::invoices::{convert, extract, show};
-use crate::printing::print_outline;
-use crate::queries::query;
 use crate::trials::trial;
 use crate::usage::{HELP, VERSION};
 use crate::words::{Command, command_of};
-use bumpalo::Bump;
+use document_jobs::{Checking, check, outline, query};
 use inv_base::{Shelf, Sink, write_all};
-use job_course::{Status, load_document, tell_bad_word};
+use invoice_jobs::{convert, extract, show};
+use job_course::{Status, tell_bad_word};
 use std::alloc::Global;
 
 /// Answers the words behind the program's name: reads the files that they name from the shelf, and writes
@@ -83,31 +77,6 @@ fn answer<S: Shelf, O: Sink, E: Sink>(
             tell_bad_word(number, err);
             Status::BadWords
         }
-    }
-}
-
-/// Writes the outline of a document.
-fn outline<S: Shelf, O: Sink, E: Sink>(
-    alloc: Global,
-    file: &str,
-    shelf: &mut S,
-    out: &mut O,
-    err: &mut E,
-) -> Status
-    ensures runs { Runs (outline_course file.now)
-        (record { shelf = S.view shelf.old; out = O.view out.old; err = E.view err.old })
-        (record { shelf = S.view shelf.new; out = O.view out.new; err = E.view err.new }) result }
-    ensures opens { (S.view shelf.new).opens ≡ next_count (S.view shelf.old).opens }
-{
-    let bump = Bump::new(alloc);
-    let doc = match load_document(alloc, &bump, shelf, file, err) {
-        Ok(doc) => doc,
-        Err(status) => return status,
-    };
-    if print_outline(&doc, out) {
-        Status::WriteFault
-    } else {
-        Status::Done
     }
 }
 

@@ -12,7 +12,7 @@ use trial_invoice::MOST_LINES;
 const MOST_DOCUMENTS: u32 = 9_999;
 
 /// What the words ask for.
-#[derive(Drop)]
+#[derive(Clone, Copy)]
 pub(crate) enum Command<'w> {
     Outline(&'w str),
     /// With the file of code lists, if one is named.
@@ -33,7 +33,7 @@ pub(crate) enum Command<'w> {
 }
 
 /// A command with the rule files that are named.
-#[derive(Drop)]
+#[derive(Clone, Copy)]
 pub(crate) struct Asked<'w> {
     pub(crate) command: Command<'w>,
     pub(crate) rules: RuleFiles<'w>,

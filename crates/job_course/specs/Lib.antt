@@ -2,3 +2,4 @@ pub mod Lines
 pub mod Course
 pub mod Outside
 pub mod Runs
+pub mod Views

@@ -1,5 +1,5 @@
 /// How the program ends. Its number is the exit status.
-#[derive(Clone, Copy, Debug, PartialEq, Eq)]
+#[derive(Clone, Copy, PartialEq, Eq)]
 pub enum Status {
     /// The output is the answer.
     Done,

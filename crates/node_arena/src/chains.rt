@@ -18,13 +18,29 @@ pub(crate) enum Family {
 
 /// The links along the chains: of each node to its first child and its first attribute, to the next child or attribute
 /// of the same parent, and to the next node of its name; of each name to the first node that has it.
-#[derive(Drop)]
 pub(crate) struct Links {
     pub(crate) first_child: Vec<Link>,
     pub(crate) first_attribute: Vec<Link>,
     pub(crate) next_beside: Vec<Link>,
     pub(crate) next_named: Vec<Link>,
     pub(crate) first_named: Vec<Link>,
+}
+
+impl Drop for Links {
+    fn drop(self) {
+        let Links {
+            first_child,
+            first_attribute,
+            next_beside,
+            next_named,
+            first_named,
+        } = self;
+        drop(first_child);
+        drop(first_attribute);
+        drop(next_beside);
+        drop(next_named);
+        drop(first_named);
+    }
 }
 
 impl Links {
@@ -35,19 +51,41 @@ impl Links {
         requires named { AreNamed names (kept nodes.now) }
         ensures { IfOk result (λ links. AreLinks (kept nodes.now) names links) }
     {
-        let mut first_child = no_links(alloc, nodes.len())?;
-        let mut first_attribute = no_links(alloc, nodes.len())?;
-        let mut next_beside = no_links(alloc, nodes.len())?;
-        let mut next_named = no_links(alloc, nodes.len())?;
-        let mut first_named = no_links(alloc, names)?;
-        link(nodes, Family::Children, &mut first_child, &mut next_beside);
+        let mut links = Links::none(alloc, nodes.len(), names)?;
+        link(
+            nodes,
+            Family::Children,
+            &mut links.first_child,
+            &mut links.next_beside,
+        );
         link(
             nodes,
             Family::Attributes,
-            &mut first_attribute,
-            &mut next_beside,
+            &mut links.first_attribute,
+            &mut links.next_beside,
         );
-        link(nodes, Family::Named, &mut first_named, &mut next_named);
+        link(
+            nodes,
+            Family::Named,
+            &mut links.first_named,
+            &mut links.next_named,
+        );
+        Ok(links)
+    }
+
+    /// Room for the links of so many nodes and names, none of which leads anywhere.
+    fn none(alloc: Global, nodes: usize, names: usize) -> Result<Links, AllocError>
+        ensures first_child { IfOk result (λ links. links.first_child.items ≡ replicate nodes None) }
+        ensures first_attribute { IfOk result (λ links. links.first_attribute.items ≡ replicate nodes None) }
+        ensures next_beside { IfOk result (λ links. links.next_beside.items ≡ replicate nodes None) }
+        ensures next_named { IfOk result (λ links. links.next_named.items ≡ replicate nodes None) }
+        ensures first_named { IfOk result (λ links. links.first_named.items ≡ replicate names None) }
+    {
+        let first_child = no_links(alloc, nodes)?;
+        let first_attribute = no_links(alloc, nodes)?;
+        let next_beside = no_links(alloc, nodes)?;
+        let next_named = no_links(alloc, nodes)?;
+        let first_named = no_links(alloc, names)?;
         Ok(Links {
             first_child,
             first_attribute,

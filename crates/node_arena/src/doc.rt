@@ -13,7 +13,7 @@ use std::marker::Model;
 use xml_state::{NameId, NameTable};
 
 /// The number of a node in its document: how many nodes stand before it in document order.
-#[derive(Clone, Copy, Debug, PartialEq, Eq, Hash, PartialOrd, Ord)]
+#[derive(Clone, Copy, PartialEq, Eq, Hash, PartialOrd, Ord)]
 pub struct NodeId {
     pub(crate) number: u32,
 }
@@ -39,12 +39,26 @@ impl NodeId {
 /// children. The document is node 0. Texts are lent from the arena that the builder was given.
 ///
 /// A move answers None exactly where the tree has no such node, and takes one step.
-#[derive(Drop)]
 pub struct Doc<'a> {
     pub(crate) nodes: Vec<Slot<'a>>,
     pub(crate) ends: Vec<u32>,
     pub(crate) links: Links,
     pub(crate) names: NameTable,
+}
+
+impl Drop for Doc<'_> {
+    fn drop(self) {
+        let Doc {
+            nodes,
+            ends,
+            links,
+            names,
+        } = self;
+        drop(nodes);
+        drop(ends);
+        drop(links);
+        drop(names);
+    }
 }
 
 impl<'a> Model for Doc<'a> {

@@ -6,7 +6,7 @@ ghost use Rattle.node_locations.specs.Counting.{seen, key};
 use node_arena::{Doc, NodeId};
 
 /// How many children of a name were seen so far, and of which parent: those of any other are none.
-#[derive(Clone, Copy, Debug, Drop)]
+#[derive(Clone, Copy, Drop)]
 pub(crate) struct Seen {
     parent: u32,
     count: u32,

@@ -22,7 +22,7 @@ use std::alloc::Global;
 use std::sync::ledger::Ledger;
 
 /// Why there are no rules.
-#[derive(Clone, Copy, Debug)]
+#[derive(Clone, Copy)]
 pub enum RuleFault {
     /// The first fault of the file. Its node is one of the document's.
     Refused(Fault),

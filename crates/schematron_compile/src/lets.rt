@@ -1,5 +1,6 @@
 //! Lets, each in the scope of those before it.
-ghost use Rattle.std.specs.Prelude.{◌≡◌, IfOk, OnOk};
+ghost use Rattle.std.specs.Prelude.{◌≡◌, [], IfOk, OnOk};
+ghost use Rattle.schematron_meaning.specs.Lookup.{is_let, inside};
 ghost use Rattle.schematron_meaning.specs.Rules as spec;
 ghost use Rattle.schematron_meaning.specs.Written.{with_let, with_lets};
 ghost use Rattle.schematron_entries.specs.Seen.{seen_entry};
@@ -7,12 +8,13 @@ ghost use Rattle.schematron_rules.specs.Seen.{seen_let, seen_lets};
 ghost use Rattle.schematron_compile.specs.Lent.{lent_entries};
 
 use crate::budget::Budget;
-use crate::texts::text_or_empty;
+use crate::texts::{plan_at, text_or_empty};
 use inv_base::Many;
 use schematron_entries::Entry;
+use schematron_expansion::{RuleFile, Sort};
 use schematron_meaning::Attribute;
 use schematron_rules::Let;
-use schematron_scopes::{declare_let, plan_of};
+use schematron_scopes::declare_let;
 use schematron_texts::Parameters;
 use std::alloc::{AllocError, Global};
 use xpath_types::Scope;
@@ -29,9 +31,13 @@ fn let_of(
 {
     budget.take_thing()?;
     let name = text_or_empty(alloc, budget, params, Attribute::Name, e)?;
-    let value = text_or_empty(alloc, budget, params, Attribute::Value, e)?;
-    let plan = plan_of(alloc, false, value.as_str(), before)?;
-    Ok(Let { name, plan })
+    match plan_at(alloc, budget, params, before, Attribute::Value, e) {
+        Ok(plan) => Ok(Let { name, plan }),
+        Err(error) => {
+            drop(name);
+            Err(error)
+        }
+    }
 }
 
 /// A let, whose name is declared for what follows.
@@ -66,6 +72,39 @@ pub(crate) fn lets_behind(
         found.push(declared_let(alloc, budget, params, scope, e)?)?;
     }
     Ok(found)
+}
+
+/// The lets in an element, of which each declares its name for those behind it, and all for what follows.
+pub(crate) fn lets_inside(
+    alloc: Global,
+    budget: &mut Budget,
+    file: &RuleFile<'_, '_>,
+    params: &Parameters,
+    scope: &mut Scope,
+    element: u32,
+) -> Result<Many<Let>, AllocError>
+    ensures lets { IfOk result (λ found. seen_lets found ≡ spec.lets_behind params.now scope.old (inside is_let file.now.entries element)) }
+    ensures scope { OnOk result (scope.new ≡ with_lets params.now scope.old (inside is_let file.now.entries element)) }
+{
+    let lets = file.inside(alloc, Sort::Lets, element)?;
+    lets_behind(alloc, budget, params, scope, lets)
+}
+
+/// The same where texts have no parameters.
+pub(crate) fn plain_lets_inside(
+    alloc: Global,
+    budget: &mut Budget,
+    file: &RuleFile<'_, '_>,
+    scope: &mut Scope,
+    element: u32,
+) -> Result<Many<Let>, AllocError>
+    ensures lets { IfOk result (λ found. seen_lets found ≡ spec.lets_behind [] scope.old (inside is_let file.now.entries element)) }
+    ensures scope { OnOk result (scope.new ≡ with_lets [] scope.old (inside is_let file.now.entries element)) }
+{
+    let none = Parameters::new(alloc);
+    let lets = lets_inside(alloc, budget, file, &none, scope, element);
+    drop(none);
+    lets
 }
 
 /// Declares lets for what follows.

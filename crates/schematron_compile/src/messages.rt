@@ -1,38 +1,20 @@
 //! Messages of assertions.
-ghost use Rattle.std.specs.Prelude.{◌≡◌, false, map, IfOk};
-ghost use Rattle.xpath_plan.specs.Plans.{expression};
+ghost use Rattle.std.specs.Prelude.{◌≡◌, map, IfOk};
 ghost use Rattle.schematron_meaning.specs.Rules as spec;
 ghost use Rattle.schematron_meaning.specs.Entries as meaning;
-ghost use Rattle.schematron_meaning.specs.declared.attribute.Attribute.TheVariants.{Select};
 ghost use Rattle.schematron_entries.specs.Seen.{seen_entry};
 ghost use Rattle.schematron_rules.specs.Seen.{seen_part};
 
 use crate::budget::Budget;
-use crate::texts::text_or_empty;
+use crate::texts::plan_at;
 use inv_base::Many;
 use schematron_entries::Entry;
 use schematron_expansion::{RuleFile, Sort};
 use schematron_meaning::{Attribute, Role};
 use schematron_rules::Part;
-use schematron_scopes::plan_of;
 use schematron_texts::Parameters;
 use std::alloc::{AllocError, Global};
-use xpath_plan::Plan;
 use xpath_types::Scope;
-
-/// What a part of a message asks for.
-fn value_of(
-    alloc: Global,
-    budget: &mut Budget,
-    params: &Parameters,
-    scope: &Scope,
-    e: &Entry<'_>,
-) -> Result<Plan, AllocError>
-    ensures { IfOk result (λ plan. expression plan ≡ (spec.shown Select false params.now scope.now (seen_entry e.now)).expression) }
-{
-    let text = text_or_empty(alloc, budget, params, Attribute::Select, e)?;
-    plan_of(alloc, false, text.as_str(), scope)
-}
 
 fn part_of(
     alloc: Global,
@@ -45,7 +27,10 @@ fn part_of(
 {
     budget.take_thing()?;
     match e.role {
-        Role::ValueOf => Ok(Part::Values(value_of(alloc, budget, params, scope, e)?)),
+        Role::ValueOf => {
+            let value = plan_at(alloc, budget, params, scope, Attribute::Select, e)?;
+            Ok(Part::Values(value))
+        }
         Role::NodeName => Ok(Part::Name),
         _ => Ok(Part::Words(budget.copied(alloc, e.text)?)),
     }

@@ -1,11 +1,12 @@
 //! Rules with what they extend.
 ghost use Rattle.std.specs.Prelude.{◌≡◌, map, IfOk, OnOk};
+ghost use Rattle.schematron_meaning.specs.Expansion as expansion;
 ghost use Rattle.schematron_meaning.specs.Lookup as lookup;
 ghost use Rattle.schematron_meaning.specs.Rules as spec;
 ghost use Rattle.schematron_meaning.specs.Written as written;
 ghost use Rattle.schematron_entries.specs.Seen.{seen_entry};
 ghost use Rattle.schematron_expansion.specs.Seen.{seen_instance};
-ghost use Rattle.schematron_rules.specs.Seen.{seen_rule};
+ghost use Rattle.schematron_rules.specs.Seen.{seen_assertion, seen_lets, seen_rule};
 ghost use Rattle.schematron_compile.specs.Lent.{lent_entries, lent_puts};
 
 use crate::assertions::assertions_of;
@@ -17,7 +18,8 @@ use inv_base::Many;
 use schematron_entries::Entry;
 use schematron_expansion::{Instance, Put, RuleFile, Sort};
 use schematron_meaning::{Attribute, Role};
-use schematron_rules::Rule;
+use schematron_rules::{Assertion, Let, Rule};
+use schematron_texts::Parameters;
 use std::alloc::{AllocError, Global};
 use xpath_types::Scope;
 
@@ -61,7 +63,95 @@ fn assertions_among<'e, 'd>(
     Ok(found)
 }
 
+/// The lets among what a rule has, of which each is declared for what follows.
+fn lets_of(
+    alloc: Global,
+    budget: &mut Budget,
+    params: &Parameters,
+    scope: &mut Scope,
+    puts: &[Put<'_, '_>],
+) -> Result<Many<Let>, AllocError>
+    ensures lets { IfOk result (λ lets. seen_lets lets ≡ spec.lets_behind params.now scope.old (written.lets_among (lent_puts puts.now))) }
+    ensures scope { OnOk result (scope.new ≡ written.with_lets params.now scope.old (written.lets_among (lent_puts puts.now))) }
+{
+    let lets = lets_among(alloc, puts)?;
+    lets_behind(alloc, budget, params, scope, lets)
+}
+
+/// The assertions among what a rule has.
+fn asserted(
+    alloc: Global,
+    budget: &mut Budget,
+    file: &RuleFile<'_, '_>,
+    params: &Parameters,
+    scope: &Scope,
+    puts: &[Put<'_, '_>],
+) -> Result<Many<Assertion>, AllocError>
+    ensures { IfOk result (λ found. map seen_assertion found
+        ≡ map (spec.assertion_of file.now.entries params.now scope.now) (spec.assertions_among (lent_puts puts.now))) }
+{
+    let found = assertions_among(alloc, puts)?;
+    assertions_of(alloc, budget, file, params, scope, found)
+}
+
+/// The lets of a rule, declared for what follows, and its assertions in the scope behind them.
+fn lets_and_assertions(
+    alloc: Global,
+    budget: &mut Budget,
+    file: &RuleFile<'_, '_>,
+    params: &Parameters,
+    scope: &mut Scope,
+    puts: &[Put<'_, '_>],
+) -> Result<(Many<Let>, Many<Assertion>), AllocError>
+    ensures lets { IfOk result (λ both. seen_lets both.0 ≡ spec.lets_behind params.now scope.old (written.lets_among (lent_puts puts.now))) }
+    ensures assertions { IfOk result (λ both. map seen_assertion both.1
+        ≡ map (spec.assertion_of file.now.entries params.now scope.new) (spec.assertions_among (lent_puts puts.now))) }
+    ensures scope { OnOk result (scope.new ≡ written.with_lets params.now scope.old (written.lets_among (lent_puts puts.now))) }
+{
+    let lets = lets_of(alloc, budget, params, scope, puts)?;
+    match asserted(alloc, budget, file, params, scope, puts) {
+        Ok(assertions) => Ok((lets, assertions)),
+        Err(error) => {
+            drop(lets);
+            Err(error)
+        }
+    }
+}
+
 /// A rule in the scope of its pattern, which is the same behind it: its own lets aren't there yet in its context.
+fn rule_with(
+    alloc: Global,
+    budget: &mut Budget,
+    file: &RuleFile<'_, '_>,
+    instance: &Instance<'_, '_>,
+    scope: &mut Scope,
+    e: &Entry<'_>,
+    puts: &[Put<'_, '_>],
+) -> Result<Rule, AllocError>
+    requires { lent_puts puts.now ≡ expansion.puts file.now instance.now.stand (seen_entry e.now).number }
+    ensures rule { IfOk result (λ rule. seen_rule rule ≡ spec.rule_of file.now (seen_instance instance.now) scope.old (seen_entry e.now)) }
+    ensures scope { OnOk result (scope.new ≡ scope.old) }
+{
+    let params = &instance.params;
+    let context = shown(alloc, budget, params, scope, true, Attribute::Context, e)?;
+    let count = scope.count();
+    match lets_and_assertions(alloc, budget, file, params, scope, puts) {
+        Ok((lets, assertions)) => {
+            scope.truncate(count);
+            Ok(Rule {
+                context,
+                lets,
+                assertions,
+            })
+        }
+        Err(error) => {
+            drop(context);
+            Err(error)
+        }
+    }
+}
+
+/// The same with what it extends.
 fn rule_of(
     alloc: Global,
     budget: &mut Budget,
@@ -75,26 +165,9 @@ fn rule_of(
 {
     budget.take_thing()?;
     let puts = file.puts(alloc, MOST_PUTS, instance.stand, e.node.number())?;
-    let context = shown(
-        alloc,
-        budget,
-        &instance.params,
-        scope,
-        true,
-        Attribute::Context,
-        e,
-    )?;
-    let count = scope.count();
-    let lets = lets_among(alloc, &puts)?;
-    let lets = lets_behind(alloc, budget, &instance.params, scope, lets)?;
-    let found = assertions_among(alloc, &puts)?;
-    let assertions = assertions_of(alloc, budget, file, &instance.params, scope, found)?;
-    scope.truncate(count);
-    Ok(Rule {
-        context,
-        lets,
-        assertions,
-    })
+    let rule = rule_with(alloc, budget, file, instance, scope, e, &puts);
+    drop(puts);
+    rule
 }
 
 /// The rules of a pattern in its scope, which is the same behind them.

@@ -1,9 +1,10 @@
 //! Attributes with the parameters' values in them.
-ghost use Rattle.std.specs.Prelude.{◌≡◌, chars, IfOk};
+ghost use Rattle.std.specs.Prelude.{◌≡◌, false, chars, IfOk};
 ghost use Rattle.schematron_texts.specs.Replacing.{replaced};
 ghost use Rattle.schematron_meaning.specs.Rules as spec;
 ghost use Rattle.schematron_entries.specs.Seen.{seen_entry};
 ghost use Rattle.schematron_rules.specs.Seen.{seen_shown};
+ghost use Rattle.xpath_plan.specs.Plans.{expression};
 
 use crate::budget::Budget;
 use inv_base::Txt;
@@ -13,6 +14,7 @@ use schematron_rules::Shown;
 use schematron_scopes::plan_of;
 use schematron_texts::{Parameters, replaced_within};
 use std::alloc::{AllocError, Global};
+use xpath_plan::Plan;
 use xpath_types::Scope;
 
 /// A text with the parameters' values in it.
@@ -76,6 +78,28 @@ pub(crate) fn shown(
     ensures { IfOk result (λ found. seen_shown found ≡ spec.shown name is_pattern params.now scope.now (seen_entry e.now)) }
 {
     let text = text_or_empty(alloc, budget, params, name, e)?;
-    let plan = plan_of(alloc, is_pattern, text.as_str(), scope)?;
-    Ok(Shown { text, plan })
+    match plan_of(alloc, is_pattern, text.as_str(), scope) {
+        Ok(plan) => Ok(Shown { text, plan }),
+        Err(error) => {
+            drop(text);
+            Err(error)
+        }
+    }
+}
+
+/// The expression of an attribute.
+pub(crate) fn plan_at(
+    alloc: Global,
+    budget: &mut Budget,
+    params: &Parameters,
+    scope: &Scope,
+    name: Attribute,
+    e: &Entry<'_>,
+) -> Result<Plan, AllocError>
+    ensures { IfOk result (λ plan. expression plan ≡ (spec.shown name false params.now scope.now (seen_entry e.now)).expression) }
+{
+    let text = text_or_empty(alloc, budget, params, name, e)?;
+    let plan = plan_of(alloc, false, text.as_str(), scope);
+    drop(text);
+    plan
 }

@@ -22,16 +22,40 @@ pub fn first_too_many(alloc: Global, file: &RuleFile<'_, '_>) -> Result<Option<F
     ensures { IfOk result (λ found. found ≡ first_passing file.now) }
 {
     file.is_of_its_entries();
-    let entries = file.entries();
-    let puts = assertions(alloc, entries, file.graph())?;
-    let inside = assertions_inside(alloc, entries, file.graph())?;
-    let counted = counted(alloc, entries)?;
-    let sizes = sizes_of(alloc, file, &inside)?;
-    Ok(first_of(file, &puts, &counted, &sizes))
+    let puts = assertions(alloc, file.entries(), file.graph())?;
+    match counted(alloc, file.entries()) {
+        Ok(counted) => {
+            let found = first_by(alloc, file, &puts, &counted);
+            drop(puts);
+            drop(counted);
+            found
+        }
+        Err(error) => {
+            drop(puts);
+            Err(error)
+        }
+    }
 }
 
-/// The same where it is known of each entry how many assertions it puts and whether it stands in a rule that counts,
-/// and of each element what its rules come to.
+/// The same where it is known of each entry how many assertions it puts and whether it stands in a rule that counts.
+fn first_by(
+    alloc: Global,
+    file: &RuleFile<'_, '_>,
+    puts: &[u64],
+    counted: &[bool],
+) -> Result<Option<Found>, AllocError>
+    requires puts { puts.now ≡ assertions_among file.now file.now.entries }
+    requires counted { counted.now ≡ counted_among file.now.entries file.now.entries }
+    ensures { IfOk result (λ found. found ≡ first_passing file.now) }
+{
+    file.is_of_its_entries();
+    let entries = file.entries();
+    let inside = assertions_inside(alloc, entries, file.graph())?;
+    let sizes = sizes_of(alloc, file, &inside)?;
+    Ok(first_of(file, puts, counted, &sizes))
+}
+
+/// The same where it is known besides of each element what its rules come to.
 fn first_of(
     file: &RuleFile<'_, '_>,
     puts: &[u64],

@@ -13,7 +13,7 @@ use schematron_meaning::Role;
 use std::alloc::{AllocError, Global};
 
 /// How many rules an element has, and how many assertions these have, in numbers that stop.
-#[derive(Clone, Copy, Debug)]
+#[derive(Clone, Copy)]
 pub(crate) struct Size {
     pub rules: u64,
     pub assertions: u64,

@@ -4,7 +4,7 @@ ghost use Rattle.schematron_meaning.specs.Counts as meaning;
 ghost use Rattle.schematron_counts.specs.Stopped as spec;
 
 /// Numbers that stop at the greatest `u64`.
-#[derive(Clone, Copy, Debug)]
+#[derive(Clone, Copy)]
 pub(crate) struct Sums {
     pub patterns: u64,
     pub rules: u64,

@@ -9,17 +9,31 @@ use std::alloc::{AllocError, Global};
 use std::marker::Model;
 
 /// Numbers in order, as the elements that entries stand in. Contracts see them as a list.
-#[derive(Drop)]
 pub struct Chains {
     numbers: Vec<u32>,
     links: Links,
 }
 
+impl Drop for Chains {
+    fn drop(self) {
+        let Chains { numbers, links } = self;
+        drop(numbers);
+        drop(links);
+    }
+}
+
 /// Where the first of each number is, and from each the next that is the same.
-#[derive(Drop)]
 struct Links {
     first: IndexMap<u32, usize>,
     next: Vec<Option<usize>>,
+}
+
+impl Drop for Links {
+    fn drop(self) {
+        let Links { first, next } = self;
+        drop(first);
+        drop(next);
+    }
 }
 
 impl Model for Chains {

@@ -11,14 +11,13 @@ use schematron_meaning::{Attribute, Role};
 use xpath_grammar::words::Worded;
 
 /// An attribute in no namespace.
-#[derive(Clone, Copy, Debug)]
+#[derive(Clone, Copy)]
 pub struct Given<'d> {
     pub name: &'d str,
     pub value: &'d str,
 }
 
 /// An element that counts, or a text of a message. Its texts are lent by the document.
-#[derive(Debug, Drop)]
 pub struct Entry<'d> {
     /// Its node.
     pub node: NodeId,
@@ -30,6 +29,19 @@ pub struct Entry<'d> {
     pub given: Vec<Given<'d>>,
     /// The characters of a text.
     pub text: &'d str,
+}
+
+impl Drop for Entry<'_> {
+    fn drop(self) {
+        let Entry {
+            node: _,
+            role: _,
+            parent: _,
+            given,
+            text: _,
+        } = self;
+        drop(given);
+    }
 }
 
 impl<'d> Entry<'d> {

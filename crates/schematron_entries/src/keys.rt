@@ -8,7 +8,7 @@ use std::alloc::{AllocError, Global};
 use std::marker::Model;
 
 /// What a name is one of.
-#[derive(Clone, Copy, Debug, PartialEq, Eq, Hash)]
+#[derive(Clone, Copy, PartialEq, Eq, Hash)]
 pub(crate) enum Sort {
     /// All patterns.
     Patterns,
@@ -27,7 +27,7 @@ pub(crate) enum Sort {
 }
 
 /// A name of a sort, in an element where that counts, else in 0.
-#[derive(Clone, Copy, Debug, PartialEq, Eq, Hash)]
+#[derive(Clone, Copy, PartialEq, Eq, Hash)]
 pub(crate) struct Key<'d> {
     pub sort: Sort,
     pub reach: u32,
@@ -35,9 +35,15 @@ pub(crate) struct Key<'d> {
 }
 
 /// A set of names. Contracts see them as a list, in the order in which they were put in.
-#[derive(Drop)]
 pub(crate) struct KeySet<'d> {
     keys: IndexSet<Key<'d>>,
+}
+
+impl Drop for KeySet<'_> {
+    fn drop(self) {
+        let KeySet { keys } = self;
+        drop(keys);
+    }
 }
 
 impl<'d> Model for KeySet<'d> {

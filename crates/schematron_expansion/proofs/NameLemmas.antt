@@ -132,7 +132,7 @@ rules_on entries i e nodes more names new within here f r = subst (AreRules more
 
 -- ---- what is found of each entry
 
-pub sizes_on : (f : Entry → ℕ) (entries : List Read) (i : ℕ) (e : Read) (sizes more : List ℕ) (size : ℕ) → i < length entries → e ≡ get_or entries i e → sizes ≡ map f (seen_entries (take i entries))
+pub sizes_on : {X : Type 0} (f : Entry → X) (entries : List Read) (i : ℕ) (e : Read) (sizes more : List X) (size : X) → i < length entries → e ≡ get_or entries i e → sizes ≡ map f (seen_entries (take i entries))
     → more ≡ sizes ++ size ∷ [] → size ≡ f (seen_entry e) → more ≡ map f (seen_entries (take (i + 1) entries))
 sizes_on f entries i e sizes more size within here h m is = m ∙ ((λ k. h k ++ is k ∷ [])
     ∙ (sym (map-append f (seen_entries (take i entries)) (seen_entry e ∷ [])) ∙ ap (map f) (sym (one_more entries i e within here))))

@@ -13,12 +13,19 @@ use schematron_meaning::{Attribute, Role};
 use std::alloc::{AllocError, Global};
 
 /// The abstract rules in their order.
-#[derive(Drop)]
 pub(crate) struct AbstractRules<'d> {
     /// The nodes of all.
     pub nodes: Vec<u32>,
     /// Of each name the place of the first that has it.
     pub names: IndexMap<&'d str, usize>,
+}
+
+impl Drop for AbstractRules<'_> {
+    fn drop(self) {
+        let AbstractRules { nodes, names } = self;
+        drop(nodes);
+        drop(names);
+    }
 }
 
 /// The abstract rules of these entries.

@@ -20,11 +20,45 @@ pub fn graph_of(alloc: Global, entries: &[Entry<'_>]) -> Result<Graph, AllocErro
     ensures { IfOk result (λ graph. graph ≡ bodies.bodies (seen_entries entries.now)) }
 {
     let rules = abstract_rules(alloc, entries)?;
-    let chains = Chains::of(alloc, parents(alloc, entries)?)?;
-    Graph::new(
-        alloc,
-        all_bodies(alloc, entries, &chains, &rules.names, &rules.nodes)?,
-    )
+    let graph = graph_with(alloc, entries, &rules.names, &rules.nodes);
+    drop(rules);
+    graph
+}
+
+fn graph_with<'d>(
+    alloc: Global,
+    entries: &[Entry<'d>],
+    names: &IndexMap<&'d str, usize>,
+    nodes: &[u32],
+) -> Result<Graph, AllocError>
+    requires names { spec.AreNames (spec.named_in (λ key. key.now) names.now) (bodies.abstract_rules (seen_entries entries.now)) }
+    ensures { IfOk result (λ graph. graph ≡ spec.bodies_at (seen_entries entries.now) nodes.now) }
+{
+    let chains = parents_chained(alloc, entries)?;
+    let graph = graph_by(alloc, entries, &chains, names, nodes);
+    drop(chains);
+    graph
+}
+
+fn parents_chained(alloc: Global, entries: &[Entry<'_>]) -> Result<Chains, AllocError>
+    ensures { IfOk result (λ chains. chains ≡ spec.parents (seen_entries entries.now)) }
+{
+    Chains::of(alloc, parents(alloc, entries)?)
+}
+
+/// What the rules at these nodes put.
+pub(crate) fn graph_by<'d>(
+    alloc: Global,
+    entries: &[Entry<'d>],
+    chains: &Chains,
+    names: &IndexMap<&'d str, usize>,
+    nodes: &[u32],
+) -> Result<Graph, AllocError>
+    requires chains { chains.now ≡ spec.parents (seen_entries entries.now) }
+    requires names { spec.AreNames (spec.named_in (λ key. key.now) names.now) (bodies.abstract_rules (seen_entries entries.now)) }
+    ensures { IfOk result (λ graph. graph ≡ spec.bodies_at (seen_entries entries.now) nodes.now) }
+{
+    Graph::new(alloc, all_bodies(alloc, entries, chains, names, nodes)?)
 }
 
 /// The elements that entries stand in.

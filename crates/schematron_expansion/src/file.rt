@@ -22,7 +22,7 @@ use std::alloc::{AllocError, Global};
 use std::marker::Model;
 
 /// Which things of an element are asked for.
-#[derive(Clone, Copy, Debug, PartialEq, Eq)]
+#[derive(Clone, Copy, PartialEq, Eq)]
 pub enum Sort {
     /// Lets.
     Lets,
@@ -42,10 +42,16 @@ pub enum Sort {
 
 /// The entries of a rule file, with what stands in each, its abstract patterns and rules by their names, and what
 /// abstract rules put. Contracts see it as the definition's file.
-#[derive(Drop)]
 pub struct RuleFile<'e, 'd> {
     entries: &'e [Entry<'d>],
     links: Links<'d>,
+}
+
+impl Drop for RuleFile<'_, '_> {
+    fn drop(self) {
+        let RuleFile { entries: _, links } = self;
+        drop(links);
+    }
 }
 
 impl<'e, 'd> Model for RuleFile<'e, 'd> {

@@ -6,7 +6,7 @@ use schematron_meaning::Fault;
 
 /// A fault, with the number of the element at which it stands: the one by which faults are ordered. It may be another
 /// than the one that the fault tells.
-#[derive(Clone, Copy, Debug)]
+#[derive(Clone, Copy)]
 pub struct Found {
     pub at: u32,
     pub fault: Fault,

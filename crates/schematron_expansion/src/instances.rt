@@ -12,7 +12,6 @@ use schematron_texts::Parameters;
 use std::alloc::{AllocError, Global};
 
 /// A pattern that is judged.
-#[derive(Drop)]
 pub struct Instance<'e, 'd> {
     pub pattern: &'e Entry<'d>,
     /// The number of the element whose lets and rules it has: its own, or that of the pattern that it uses.
@@ -20,6 +19,18 @@ pub struct Instance<'e, 'd> {
     /// Where faults of what it uses stand: at itself. None where it has its own.
     pub stand: Option<u32>,
     pub params: Parameters,
+}
+
+impl Drop for Instance<'_, '_> {
+    fn drop(self) {
+        let Instance {
+            pattern: _,
+            body: _,
+            stand: _,
+            params,
+        } = self;
+        drop(params);
+    }
 }
 
 impl<'e, 'd> RuleFile<'e, 'd> {

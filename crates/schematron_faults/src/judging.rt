@@ -24,7 +24,7 @@ use xpath_types::Scope;
 const EACH: u64 = 16;
 
 /// Where an expression is written.
-#[derive(Clone, Copy, Debug)]
+#[derive(Clone, Copy)]
 pub(crate) struct Asked {
     /// The element at which its fault stands.
     pub at: u32,

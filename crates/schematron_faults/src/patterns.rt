@@ -1,5 +1,5 @@
 //! Patterns that are judged, with what they have or use.
-ghost use Rattle.std.specs.Prelude.{◌≡◌, [], OnOk};
+ghost use Rattle.std.specs.Prelude.{◌≡◌, [], IfOk, OnOk};
 ghost use Rattle.schematron_meaning.specs.Lookup.{inside};
 ghost use Rattle.schematron_meaning.specs.Written as written;
 ghost use Rattle.schematron_entries.specs.Seen.{seen_entry};
@@ -18,7 +18,6 @@ use std::alloc::{AllocError, Global};
 use xpath_types::Scope;
 
 /// What is declared, while a pattern is gone over.
-#[derive(Drop)]
 pub(crate) struct Scopes {
     /// Before a let of the pattern.
     pub pattern: Scope,
@@ -26,6 +25,36 @@ pub(crate) struct Scopes {
     pub rule: Scope,
     /// In all of a rule.
     pub all: Scope,
+}
+
+impl Drop for Scopes {
+    fn drop(self) {
+        let Scopes { pattern, rule, all } = self;
+        drop(pattern);
+        drop(rule);
+        drop(all);
+    }
+}
+
+/// The scopes of a pattern before anything of it is declared.
+fn scopes_of(alloc: Global, file: &RuleFile<'_, '_>) -> Result<Scopes, AllocError>
+    ensures { IfOk result (λ scopes. spec.AreAll scopes (written.outer_scope file.now.entries)) }
+{
+    let pattern = outer_scope(alloc, file)?;
+    match outer_scope(alloc, file) {
+        Ok(rule) => match outer_scope(alloc, file) {
+            Ok(all) => Ok(Scopes { pattern, rule, all }),
+            Err(error) => {
+                drop(pattern);
+                drop(rule);
+                Err(error)
+            }
+        },
+        Err(error) => {
+            drop(pattern);
+            Err(error)
+        }
+    }
 }
 
 /// Goes over the patterns that are judged.
@@ -36,11 +65,7 @@ pub(crate) fn judge_patterns(
 ) -> Result<(), AllocError>
     ensures { OnOk result (IsRead file.now → spec.Goes search.old search.new (things.written_patterns file.now)) }
 {
-    let mut scopes = Scopes {
-        pattern: outer_scope(alloc, file)?,
-        rule: outer_scope(alloc, file)?,
-        all: outer_scope(alloc, file)?,
-    };
+    let mut scopes = scopes_of(alloc, file)?;
     let instances = file.instances(alloc)?;
     'instances: for instance in &instances {
         judge_instance(alloc, search, file, &mut scopes, instance)?;

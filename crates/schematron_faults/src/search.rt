@@ -16,7 +16,7 @@ const MOST_WORK: u64 = 67_108_864;
 const MOST_TURNS: u64 = 16_777_216;
 
 /// How far a search is.
-#[derive(Clone, Copy, Debug)]
+#[derive(Clone, Copy)]
 pub(crate) struct Search {
     /// The soonest so far.
     pub best: Option<Found>,

@@ -4,7 +4,7 @@ use node_arena::NodeId;
 use xpath_items::DynError;
 
 /// What an assertion came to at a node.
-#[derive(Clone, Copy, Debug, PartialEq, Eq)]
+#[derive(Clone, Copy, PartialEq, Eq)]
 pub enum FindingKind {
     /// The test of an `assert` is false.
     Failed,
@@ -15,7 +15,6 @@ pub enum FindingKind {
 }
 
 /// An assertion that is told. Test, id, flag and role are those of the rule file, after parameters were put in.
-#[derive(Drop)]
 pub struct Finding {
     pub outcome: FindingKind,
     pub test: Txt,
@@ -26,6 +25,27 @@ pub struct Finding {
     pub flag: Option<Txt>,
     pub role: Option<Txt>,
     pub level: Level,
+}
+
+impl Drop for Finding {
+    fn drop(self) {
+        let Finding {
+            outcome: _,
+            test,
+            location,
+            message,
+            id,
+            flag,
+            role,
+            level: _,
+        } = self;
+        drop(test);
+        drop(location);
+        drop(message);
+        drop(id);
+        drop(flag);
+        drop(role);
+    }
 }
 
 /// A line of what is found, in the order of a report.

@@ -5,9 +5,15 @@ use std::alloc::{AllocError, Global};
 use std::marker::Model;
 
 /// What one rule file finds in a document, in the order of judging. Contracts see the list of lines.
-#[derive(Drop)]
 pub struct Findings {
     lines: Vec<Line>,
+}
+
+impl Drop for Findings {
+    fn drop(self) {
+        let Findings { lines } = self;
+        drop(lines);
+    }
 }
 
 impl Model for Findings {

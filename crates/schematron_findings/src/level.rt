@@ -4,7 +4,7 @@ ghost use Rattle.schematron_findings.specs.Levels as spec;
 use inv_base::is_same_text;
 
 /// How much an assertion that fails weighs.
-#[derive(Clone, Copy, Debug, PartialEq, Eq)]
+#[derive(Clone, Copy, PartialEq, Eq)]
 pub enum Level {
     /// The document is refused.
     Fatal,

@@ -9,7 +9,7 @@ use crate::ranked::Ranked;
 use std::alloc::{AllocError, Global};
 
 /// What stands at the place of a rule that ends.
-#[derive(Clone, Copy, Debug, PartialEq, Eq)]
+#[derive(Clone, Copy, PartialEq, Eq)]
 pub(crate) enum Put {
     Nothing,
     /// A thing, or a rank of two parts or more.

@@ -17,12 +17,26 @@ use std::alloc::{AllocError, Global};
 use std::marker::Model;
 
 /// Rules by their numbers, each of which may put the things of others. Contracts see their bodies.
-#[derive(Drop)]
 pub struct Graph {
     rules: Vec<Vec<Part>>,
     ranked: Ranked,
     puts: Vec<Option<Put>>,
     labels: Vec<usize>,
+}
+
+impl Drop for Graph {
+    fn drop(self) {
+        let Graph {
+            rules,
+            ranked,
+            puts,
+            labels,
+        } = self;
+        drop(rules);
+        drop(ranked);
+        drop(puts);
+        drop(labels);
+    }
 }
 
 impl Model for Graph {

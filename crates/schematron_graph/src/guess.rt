@@ -23,7 +23,6 @@ struct Step {
 }
 
 /// The walk so far. Entries are 0 where there is nothing yet.
-#[derive(Drop)]
 struct Walk {
     guess: Guess,
     /// By rule: when it was met, from 1 on.
@@ -35,6 +34,56 @@ struct Walk {
     path: Vec<Step>,
     clock: usize,
     label: usize,
+}
+
+impl Drop for Walk {
+    fn drop(self) {
+        drop(self.into_guess());
+    }
+}
+
+impl Walk {
+    /// Before anything is met, with room for no rule.
+    fn new(alloc: Global) -> Walk {
+        Walk {
+            guess: Guess {
+                order: Vec::new(alloc),
+                labels: Vec::new(alloc),
+            },
+            met: Vec::new(alloc),
+            low: Vec::new(alloc),
+            waiting: Vec::new(alloc),
+            path: Vec::new(alloc),
+            clock: 0,
+            label: 0,
+        }
+    }
+
+    /// Makes room for so many rules.
+    fn make_room(&mut self, alloc: Global, count: usize) -> Result<(), AllocError> {
+        self.guess.labels = zeros(alloc, count)?;
+        self.met = zeros(alloc, count)?;
+        self.low = zeros(alloc, count)?;
+        Ok(())
+    }
+
+    /// What was found.
+    fn into_guess(self) -> Guess {
+        let Walk {
+            guess,
+            met,
+            low,
+            waiting,
+            path,
+            clock: _,
+            label: _,
+        } = self;
+        drop(met);
+        drop(low);
+        drop(waiting);
+        drop(path);
+        guess
+    }
 }
 
 fn get(values: &[usize], place: usize) -> usize {
@@ -61,26 +110,26 @@ fn turns_of(rules: &[Vec<Part>]) -> usize {
 }
 
 pub(crate) fn guessed(alloc: Global, rules: &[Vec<Part>]) -> Result<Guess, AllocError> {
-    let count = rules.len();
-    let mut walk = Walk {
-        guess: Guess {
-            order: Vec::new(alloc),
-            labels: zeros(alloc, count)?,
-        },
-        met: zeros(alloc, count)?,
-        low: zeros(alloc, count)?,
-        waiting: Vec::new(alloc),
-        path: Vec::new(alloc),
-        clock: 0,
-        label: 0,
-    };
-    let turns = turns_of(rules);
-    'roots: for root in 0..count {
-        if get(&walk.met, root) == 0 {
-            walk_from(rules, &mut walk, root, turns)?;
+    let mut walk = Walk::new(alloc);
+    match walk_all(alloc, rules, &mut walk) {
+        Ok(()) => Ok(walk.into_guess()),
+        Err(error) => {
+            drop(walk);
+            Err(error)
         }
     }
-    Ok(walk.guess)
+}
+
+/// Goes over all rules.
+fn walk_all(alloc: Global, rules: &[Vec<Part>], walk: &mut Walk) -> Result<(), AllocError> {
+    walk.make_room(alloc, rules.len())?;
+    let turns = turns_of(rules);
+    'roots: for root in 0..rules.len() {
+        if get(&walk.met, root) == 0 {
+            walk_from(rules, walk, root, turns)?;
+        }
+    }
+    Ok(())
 }
 
 /// Goes from a rule to all that it leads to and that weren't met.
@@ -205,15 +254,34 @@ fn came_from(
 ) -> Result<Vec<usize>, AllocError> {
     let mut came = zeros(alloc, rules.len())?;
     let mut met = Vec::new(alloc);
+    let reached = meet_from(rules, from, goal, &mut came, &mut met);
+    drop(met);
+    match reached {
+        Ok(()) => Ok(came),
+        Err(error) => {
+            drop(came);
+            Err(error)
+        }
+    }
+}
+
+/// Meets rules on the ways from one, until the goal is met.
+fn meet_from(
+    rules: &[Vec<Part>],
+    from: usize,
+    goal: usize,
+    came: &mut [usize],
+    met: &mut Vec<usize>,
+) -> Result<(), AllocError> {
     met.push(from)?;
     'met: for turn in 0..rules.len() {
-        if get(&came, goal) != 0 || turn >= met.len() {
+        if get(came, goal) != 0 || turn >= met.len() {
             break;
         }
-        let rule = get(&met, turn);
-        meet_all(body(rules, rule), rule, &mut came, &mut met)?;
+        let rule = get(met, turn);
+        meet_all(body(rules, rule), rule, came, met)?;
     }
-    Ok(came)
+    Ok(())
 }
 
 /// Meets the rules that a body puts and that weren't met.

@@ -67,11 +67,36 @@ fn once(
 {
     let mut gone: IndexSet<usize> = IndexSet::new(alloc);
     let mut things = Vec::new(alloc);
+    let pushed = push_parts(alloc, left, bodies, body, &mut gone, &mut things);
+    drop(gone);
+    match pushed {
+        Ok(()) => Ok(things),
+        Err(error) => {
+            drop(things);
+            Err(error)
+        }
+    }
+}
+
+/// Adds the things of each part, where nothing was gone over.
+fn push_parts(
+    alloc: Global,
+    left: &mut Turns,
+    bodies: &[Vec<Part>],
+    body: &[Part],
+    gone: &mut IndexSet<usize>,
+    things: &mut Vec<Thing>,
+) -> Result<(), AllocError>
+    requires ranked { are_ranked 0 (bodies_of bodies.now) ≡ true }
+    requires gone { gone.old.keys ≡ [] }
+    requires things { things.old.items ≡ [] }
+    ensures { OnOk result (spec.Alike things.new.items (flat_map (things_of (found (things_behind (bodies_of bodies.now)))) body.now)) }
+{
     'parts: for part in body {
         left.take()?;
-        push_part_once(alloc, left, bodies, *part, &mut gone, &mut things)?;
+        push_part_once(alloc, left, bodies, *part, gone, things)?;
     }
-    Ok(things)
+    Ok(())
 }
 
 /// Adds the things of a part, unless it puts a rule that was gone over.

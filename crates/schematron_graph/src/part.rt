@@ -1,5 +1,5 @@
 /// A thing of a rule's own, as a let or an assertion.
-#[derive(Clone, Copy, Debug, PartialEq, Eq)]
+#[derive(Clone, Copy, PartialEq, Eq)]
 pub struct Thing {
     /// Its number, which means nothing here.
     pub number: u32,
@@ -8,7 +8,7 @@ pub struct Thing {
 }
 
 /// What stands in the body of a rule.
-#[derive(Clone, Copy, Debug, PartialEq, Eq)]
+#[derive(Clone, Copy, PartialEq, Eq)]
 pub enum Part {
     /// A thing of its own.
     Own(Thing),
@@ -17,7 +17,7 @@ pub enum Part {
 }
 
 /// A place in the bodies: a rule, and how many of its parts are before it.
-#[derive(Clone, Copy, Debug, PartialEq, Eq)]
+#[derive(Clone, Copy, PartialEq, Eq)]
 pub struct Spot {
     pub rule: usize,
     pub part: usize,

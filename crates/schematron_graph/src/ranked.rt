@@ -16,10 +16,17 @@ use std::marker::Model;
 /// Rules in an order in which each puts only earlier ones, by their places in it: their ranks.
 ///
 /// How large each is has been counted before anything is built.
-#[derive(Drop)]
 pub struct Ranked {
     bodies: Vec<Vec<Part>>,
     sizes: Vec<u64>,
+}
+
+impl Drop for Ranked {
+    fn drop(self) {
+        let Ranked { bodies, sizes } = self;
+        drop(bodies);
+        drop(sizes);
+    }
 }
 
 impl Model for Ranked {

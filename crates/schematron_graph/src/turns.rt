@@ -3,7 +3,7 @@ ghost use Rattle.std.specs.Prelude.{◌≡◌, ◌+◌, OnOk, OnErr};
 use std::alloc::AllocError;
 
 /// How many turns a walk may still take, so that its caller bounds what many walks take together.
-#[derive(Clone, Copy, Debug, PartialEq, Eq)]
+#[derive(Clone, Copy, PartialEq, Eq)]
 pub struct Turns {
     pub left: u64,
 }

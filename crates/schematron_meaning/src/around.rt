@@ -1,7 +1,7 @@
 use crate::role::Role;
 
 /// What a node is to those that stand in it.
-#[derive(Clone, Copy, Debug, PartialEq, Eq)]
+#[derive(Clone, Copy, PartialEq, Eq)]
 pub struct Around {
     pub role: Role,
     /// The number of the element that they stand in, where those that give their texts are left out.

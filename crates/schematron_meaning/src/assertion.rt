@@ -1,5 +1,5 @@
 /// What an assertion says of its test.
-#[derive(Clone, Copy, Debug, PartialEq, Eq)]
+#[derive(Clone, Copy, PartialEq, Eq)]
 pub enum AssertionKind {
     /// It fails where its test is false.
     Assert,

@@ -3,7 +3,7 @@ ghost use Rattle.schematron_meaning.specs.Words as spec;
 use xpath_grammar::words::Worded;
 
 /// An attribute of a rule file that counts. All are in no namespace.
-#[derive(Clone, Copy, Debug, PartialEq, Eq)]
+#[derive(Clone, Copy, PartialEq, Eq)]
 pub enum Attribute {
     /// `queryBinding`
     QueryBinding,

@@ -4,7 +4,7 @@ use xpath_tokens::token::SyntaxFault;
 use xpath_types::TypeKind;
 
 /// Why an expression of a rule file is refused.
-#[derive(Clone, Copy, Debug)]
+#[derive(Clone, Copy)]
 pub enum ExpressionFault {
     /// No expression is spelled so. This never says that memory ran out.
     Syntax(SyntaxFault),
@@ -13,7 +13,7 @@ pub enum ExpressionFault {
 }
 
 /// Why a rule file is refused. Of several faults at one element the first in this order counts.
-#[derive(Clone, Copy, Debug)]
+#[derive(Clone, Copy)]
 pub enum RuleKind {
     /// The root isn't Schematron's `schema`.
     NotSchematron,
@@ -38,7 +38,7 @@ pub enum RuleKind {
 }
 
 /// A fault of a rule file: its kind, the element that it tells, and the attribute if it has one.
-#[derive(Clone, Copy, Debug)]
+#[derive(Clone, Copy)]
 pub struct Fault {
     pub kind: RuleKind,
     pub node: NodeId,
@@ -46,7 +46,7 @@ pub struct Fault {
 }
 
 /// Why there is no phase of a name.
-#[derive(Clone, Copy, Debug, PartialEq, Eq)]
+#[derive(Clone, Copy, PartialEq, Eq)]
 pub enum PhaseFault {
     /// No phase has the name, or it leads to none.
     NoPhase,

@@ -1,5 +1,5 @@
 /// What the names of some elements have to differ among.
-#[derive(Clone, Copy, Debug, PartialEq, Eq, Hash)]
+#[derive(Clone, Copy, PartialEq, Eq, Hash)]
 pub enum Space {
     /// All patterns, by their identifiers.
     Patterns,

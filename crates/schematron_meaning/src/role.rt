@@ -1,5 +1,5 @@
 /// What a node of a rule file is, by its name, its attributes and what it stands in.
-#[derive(Clone, Copy, Debug, PartialEq, Eq)]
+#[derive(Clone, Copy, PartialEq, Eq)]
 pub enum Role {
     /// The document's own node.
     Outside,

@@ -3,7 +3,7 @@ ghost use Rattle.schematron_meaning.specs.Words as spec;
 use xpath_grammar::words::Worded;
 
 /// An element of Schematron that may stand somewhere in a rule file, by its local name.
-#[derive(Clone, Copy, Debug, PartialEq, Eq)]
+#[derive(Clone, Copy, PartialEq, Eq)]
 pub enum Tag {
     Schema,
     Title,

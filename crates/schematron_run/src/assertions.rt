@@ -4,7 +4,7 @@ ghost use Rattle.std.specs.List.{All};
 ghost use Rattle.node_locations.specs.Locations.{location};
 ghost use Rattle.xpath_steps.specs.Variables.{ValuesWithin};
 ghost use Rattle.schematron_run.specs.Judging as spec;
-ghost use Rattle.schematron_run.specs.Ready.{ready_assertion, IsAssertionFor};
+ghost use Rattle.schematron_run.specs.Ready.{ready_assertion, ready_part, IsAssertionFor};
 ghost use Rattle.schematron_run.specs.Scenes.{nodes_of, count, IsSet};
 
 use crate::messages::message_at;
@@ -16,6 +16,7 @@ use node_arena::NodeId;
 use node_locations::push_location;
 use schematron_findings::{Finding, FindingKind, Findings, Line};
 use schematron_meaning::AssertionKind;
+use schematron_rules::Assertion;
 use std::alloc::AllocError;
 use std::sync::ledger::Ledger;
 use xpath_items::DynError;
@@ -72,6 +73,62 @@ fn location_at<L: Ledger>(
     Txt::of(scene.alloc, text.as_str())
 }
 
+/// Where a node stands, and what an assertion says there.
+fn location_and_message<'a, L: Ledger>(
+    scene: &Scene<'_, 'a>,
+    assertion: &ReadyAssertion<'_, '_, 'a>,
+    n: NodeId,
+    env: &Env<'a>,
+    steps: &mut Steps<L>,
+) -> Result<(Txt, Txt), AllocError>
+    requires ready { IsAssertionFor scene.now.doc.now assertion.now }
+    requires within { n < count scene.now }
+    requires set { IsSet scene.now }
+    requires variables { ValuesWithin (count scene.now) env.now }
+    ensures location { IfOk result (λ both. both.0 ≡ location (nodes_of scene.now) n) }
+    ensures message { IfOk result (λ both. both.1 ≡ spec.message_at (nodes_of scene.now) n env.now (map ready_part assertion.now.message.items)) }
+{
+    let location = location_at(scene, n, steps)?;
+    match message_at(scene, assertion.message.as_slice(), n, env, steps) {
+        Ok(message) => Ok((location, message)),
+        Err(error) => {
+            drop(location);
+            Err(error)
+        }
+    }
+}
+
+/// The flag and the role of an assertion once more.
+fn flag_and_role(source: &Assertion) -> Result<(Option<Txt>, Option<Txt>), AllocError>
+    ensures flag { IfOk result (λ both. both.0 ≡ source.now.flag) }
+    ensures role { IfOk result (λ both. both.1 ≡ source.now.role) }
+{
+    let flag = copied(&source.flag)?;
+    match copied(&source.role) {
+        Ok(role) => Ok((flag, role)),
+        Err(error) => {
+            drop(flag);
+            Err(error)
+        }
+    }
+}
+
+/// The identifier, the flag and the role of an assertion once more.
+fn labels_of(source: &Assertion) -> Result<(Option<Txt>, Option<Txt>, Option<Txt>), AllocError>
+    ensures id { IfOk result (λ labels. labels.0 ≡ source.now.id) }
+    ensures flag { IfOk result (λ labels. labels.1 ≡ source.now.flag) }
+    ensures role { IfOk result (λ labels. labels.2 ≡ source.now.role) }
+{
+    let id = copied(&source.id)?;
+    match flag_and_role(source) {
+        Ok((flag, role)) => Ok((id, flag, role)),
+        Err(error) => {
+            drop(id);
+            Err(error)
+        }
+    }
+}
+
 fn finding_of<'a, L: Ledger>(
     scene: &Scene<'_, 'a>,
     assertion: &ReadyAssertion<'_, '_, 'a>,
@@ -86,23 +143,32 @@ fn finding_of<'a, L: Ledger>(
     requires variables { ValuesWithin (count scene.now) env.now }
     ensures { IfOk result (λ finding. finding ≡ spec.finding_of (nodes_of scene.now) n env.now (ready_assertion assertion.now) outcome) }
 {
-    let location = location_at(scene, n, steps)?;
-    let message = message_at(scene, assertion.message.as_slice(), n, env, steps)?;
     let source = assertion.source;
     let test = source.test.text.try_clone()?;
-    let id = copied(&source.id)?;
-    let flag = copied(&source.flag)?;
-    let role = copied(&source.role)?;
-    Ok(Finding {
-        outcome,
-        test,
-        location,
-        message,
-        id,
-        flag,
-        role,
-        level: source.level,
-    })
+    match location_and_message(scene, assertion, n, env, steps) {
+        Ok((location, message)) => match labels_of(source) {
+            Ok((id, flag, role)) => Ok(Finding {
+                outcome,
+                test,
+                location,
+                message,
+                id,
+                flag,
+                role,
+                level: source.level,
+            }),
+            Err(error) => {
+                drop(test);
+                drop(location);
+                drop(message);
+                Err(error)
+            }
+        },
+        Err(error) => {
+            drop(test);
+            Err(error)
+        }
+    }
 }
 
 /// Adds what is told of an assertion, if anything is.

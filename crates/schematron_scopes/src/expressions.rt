@@ -1,5 +1,7 @@
 //! Expressions of a rule file, judged in their scopes.
 ghost use Rattle.std.specs.Prelude.{◌≡◌, chars, IfOk, Some, None};
+ghost use Rattle.xpath_grammar.specs.declared.expr.Expr.TheVariants as x;
+ghost use Rattle.xpath_grammar.specs.declared.expr.Leaf.TheVariants as l;
 ghost use Rattle.xpath_meaning.specs.Expressions as e;
 ghost use Rattle.schematron_meaning.specs.Faults as faults;
 ghost use Rattle.schematron_meaning.specs.Rules.{expression_in};
@@ -42,12 +44,20 @@ pub fn judged(
 {
     if is_pattern {
         match parse_pattern(alloc, text) {
-            Ok(pattern) => planned(alloc, check_pattern(alloc, &pattern, scope)),
+            Ok(pattern) => {
+                let plan = planned(alloc, check_pattern(alloc, &pattern, scope));
+                drop(pattern);
+                plan
+            }
             Err(fault) => misspelled(fault),
         }
     } else {
         match parse(alloc, text) {
-            Ok(expression) => planned(alloc, check(alloc, &expression, scope)),
+            Ok(expression) => {
+                let plan = planned(alloc, check(alloc, &expression, scope));
+                drop(expression);
+                plan
+            }
             Err(fault) => misspelled(fault),
         }
     }
@@ -84,7 +94,16 @@ fn nothing(alloc: Global, scope: &Scope) -> Result<Plan, AllocError>
     ensures { IfOk result (λ plan. expression plan ≡ e.nothing) }
 {
     let expression = Expr::Leaf(Leaf::Empty);
-    match check(alloc, &expression, scope) {
+    let plan = plan_of_nothing(alloc, &expression, scope);
+    drop(expression);
+    plan
+}
+
+fn plan_of_nothing(alloc: Global, nothing: &Expr, scope: &Scope) -> Result<Plan, AllocError>
+    requires { nothing.now ≡ x.Leaf l.Empty }
+    ensures { IfOk result (λ plan. expression plan ≡ e.nothing) }
+{
+    match check(alloc, nothing, scope) {
         Ok(typed) => compile(alloc, &typed),
         Err(TypeFault::Refused { kind: _, token: _ }) => unreachable!(),
         Err(TypeFault::Memory) => Err(AllocError),

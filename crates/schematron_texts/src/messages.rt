@@ -7,7 +7,7 @@ use std::alloc::{AllocError, Global};
 use std::marker::Model;
 
 /// What was told of the spaces so far.
-#[derive(Clone, Copy, Debug, PartialEq, Eq)]
+#[derive(Clone, Copy, PartialEq, Eq)]
 struct Spacing {
     /// A character that is no space has come.
     begun: bool,
@@ -19,10 +19,17 @@ struct Spacing {
 /// one piece to the next, and there is none at the ends.
 ///
 /// Behind an error of `push` it is good for `clear` alone.
-#[derive(Drop)]
 pub struct Message {
     text: String,
     spacing: Spacing,
+}
+
+impl Drop for Message {
+    fn drop(self) {
+        let Message { text, spacing } = self;
+        drop(text);
+        drop(spacing);
+    }
 }
 
 impl Model for Message {

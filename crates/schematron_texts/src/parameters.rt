@@ -7,9 +7,15 @@ use std::marker::Model;
 
 /// The parameters of a use of an abstract pattern. Contracts see them as a list in the order in which they were given,
 /// without those whose name stood before.
-#[derive(Drop)]
 pub struct Parameters {
     values: IndexMap<String, String>,
+}
+
+impl Drop for Parameters {
+    fn drop(self) {
+        let Parameters { values } = self;
+        drop(values);
+    }
 }
 
 impl Model for Parameters {

@@ -5,7 +5,7 @@ ghost use Rattle.svrl_report.specs.Plain as spec;
 use schematron_findings::{Finding, FindingKind, Level, Line};
 
 /// How many findings there are of each sort. The numbers stop at the greatest `u64`.
-#[derive(Clone, Copy, Debug, PartialEq, Eq)]
+#[derive(Clone, Copy, PartialEq, Eq)]
 pub struct Tally {
     /// Fatal assertions that failed.
     pub failed: u64,

@@ -5,7 +5,7 @@ use crate::groups::Group;
 use crate::terms::Term;
 
 /// One occurrence of a group that may stand several times.
-#[derive(Clone, Copy, Debug, PartialEq, Eq)]
+#[derive(Clone, Copy, PartialEq, Eq)]
 pub struct Slot {
     pub group: Group,
     /// The number of the occurrence, from 1.
@@ -14,14 +14,14 @@ pub struct Slot {
 
 /// Where a term stands: in the invoice itself, which has no slots, in one occurrence of a group that may stand several
 /// times (`outer`), or in one occurrence of such a group (`inner`) inside an invoice line (`outer`).
-#[derive(Clone, Copy, Debug, PartialEq, Eq)]
+#[derive(Clone, Copy, PartialEq, Eq)]
 pub struct Context {
     pub outer: Option<Slot>,
     pub inner: Option<Slot>,
 }
 
 /// A term in a context: where one value may stand.
-#[derive(Clone, Copy, Debug, PartialEq, Eq)]
+#[derive(Clone, Copy, PartialEq, Eq)]
 pub struct Seat {
     pub term: Term,
     pub context: Context,

@@ -4,7 +4,7 @@ ghost use Rattle.term_table.specs.Contexts.{outer_group, inner_group};
 
 /// The groups of business terms of EN 16931-1, the invoice itself, and three groups of this program for the terms
 /// that the standard lets stand several times by themselves (BT-29 and BT-158).
-#[derive(Clone, Copy, Debug, PartialEq, Eq)]
+#[derive(Clone, Copy, PartialEq, Eq)]
 pub enum Group {
     /// The invoice itself, which is no group of the standard.
     Root,
@@ -81,7 +81,7 @@ pub enum Group {
 }
 
 /// How often a group stands in the one around it.
-#[derive(Clone, Copy, Debug, PartialEq, Eq)]
+#[derive(Clone, Copy, PartialEq, Eq)]
 pub enum Occurrence {
     /// 1: it is always there.
     Once,

@@ -11,7 +11,7 @@ use std::marker::Model;
 
 /// A place in listing order. Contracts see its five numbers: where the outer group begins and the number of its
 /// occurrence, the same for the inner group, and the row.
-#[derive(Clone, Copy, Debug, PartialEq, Eq, PartialOrd, Ord)]
+#[derive(Clone, Copy, PartialEq, Eq, PartialOrd, Ord)]
 pub struct ListingPlace {
     numbers: [usize; 5],
 }

@@ -5,7 +5,7 @@ use crate::groups::Group;
 use code_lists::List;
 
 /// The number of a business term: BT-18-1 is 18 and 1, BT-18 is 18 and 0.
-#[derive(Clone, Copy, Debug, PartialEq, Eq)]
+#[derive(Clone, Copy, PartialEq, Eq)]
 pub struct Term {
     /// The number behind `BT-`.
     pub number: u16,
@@ -23,7 +23,7 @@ impl Term {
 }
 
 /// The type of a term's value, by its initial.
-#[derive(Clone, Copy, Debug, PartialEq, Eq)]
+#[derive(Clone, Copy, PartialEq, Eq)]
 pub enum Letter {
     /// Text.
     T,
@@ -44,7 +44,7 @@ pub enum Letter {
 }
 
 /// Whether a term has to stand in its group.
-#[derive(Clone, Copy, Debug, PartialEq, Eq)]
+#[derive(Clone, Copy, PartialEq, Eq)]
 pub enum Mark {
     /// It is mandatory in its group.
     One,
@@ -55,7 +55,7 @@ pub enum Mark {
 }
 
 /// What EN 16931-1 says of a term in a group.
-#[derive(Clone, Copy, Debug, PartialEq, Eq)]
+#[derive(Clone, Copy, PartialEq, Eq)]
 pub struct TermRow {
     pub term: Term,
     /// The group that it stands in.

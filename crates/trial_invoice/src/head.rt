@@ -1,6 +1,8 @@
 //! What stands before the lines: who, when and what for, and the totals.
-ghost use Rattle.std.specs.Prelude.{◌≡◌, ◌<◌, ◌^◌, ◌++◌, ◌∷◌, [], OnOk};
+ghost use Rattle.std.specs.Prelude.{◌≡◌, ◌<◌, ◌^◌, ◌++◌, ◌∷◌, [], OnOk, true};
+ghost use Rattle.inv_terms.specs.declared.values.Value.TheVariants as values;
 ghost use Rattle.trial_invoice.specs.Generated as spec;
+ghost use Rattle.trial_invoice.specs.Written.{is_ascii};
 
 use crate::values::{amount, issue_day, ones, word};
 use inv_terms::{Entry, Value};
@@ -22,6 +24,60 @@ pub(crate) fn put(
         value,
     })?;
     Ok(())
+}
+
+/// Adds a term with a text of ASCII as an identifier.
+fn put_identifier(
+    alloc: Global,
+    entries: &mut Vec<Entry>,
+    number: u16,
+    text: &str,
+) -> Result<(), AllocError>
+    requires { is_ascii text.now ≡ true }
+    ensures { OnOk result (entries.new.items ≡ entries.old.items ++ spec.at_root number (values.Identifier text.now) ∷ []) }
+{
+    put(entries, ROOT, number, Value::Identifier(word(alloc, text)?))
+}
+
+/// Adds a term with a text of ASCII.
+fn put_text(
+    alloc: Global,
+    entries: &mut Vec<Entry>,
+    number: u16,
+    text: &str,
+) -> Result<(), AllocError>
+    requires { is_ascii text.now ≡ true }
+    ensures { OnOk result (entries.new.items ≡ entries.old.items ++ spec.at_root number (values.Text text.now) ∷ []) }
+{
+    put(entries, ROOT, number, Value::Text(word(alloc, text)?))
+}
+
+/// Adds a term with a code of ASCII.
+pub(crate) fn put_code(
+    alloc: Global,
+    entries: &mut Vec<Entry>,
+    context: Context,
+    number: u16,
+    text: &str,
+) -> Result<(), AllocError>
+    requires { is_ascii text.now ≡ true }
+    ensures { OnOk result (entries.new.items ≡ entries.old.items ++ spec.entry context number (values.Code text.now) ∷ []) }
+{
+    put(entries, context, number, Value::Code(word(alloc, text)?))
+}
+
+/// Adds a term with an amount of so many hundredths.
+pub(crate) fn put_amount(
+    alloc: Global,
+    entries: &mut Vec<Entry>,
+    context: Context,
+    number: u16,
+    n: u64,
+) -> Result<(), AllocError>
+    requires { n < 10 ^ 18 }
+    ensures { OnOk result (entries.new.items ≡ entries.old.items ++ spec.entry context number (spec.amount n) ∷ []) }
+{
+    put(entries, context, number, amount(alloc, n)?)
 }
 
 /// The occurrence of a group of the invoice.
@@ -49,22 +105,21 @@ pub(crate) fn put_head(alloc: Global, sum: u64, entries: &mut Vec<Entry>) -> Res
 fn put_beginning(alloc: Global, entries: &mut Vec<Entry>) -> Result<(), AllocError>
     ensures { OnOk result (entries.new.items ≡ entries.old.items ++ spec.beginning) }
 {
-    put(entries, ROOT, 1, Value::Identifier(word(alloc, "T")?))?;
+    put_identifier(alloc, entries, 1, "T")?;
     put(entries, ROOT, 2, Value::Date(issue_day()))?;
-    put(entries, ROOT, 3, Value::Code(word(alloc, "380")?))?;
-    put(entries, ROOT, 5, Value::Code(word(alloc, "EUR")?))
+    put_code(alloc, entries, ROOT, 3, "380")?;
+    put_code(alloc, entries, ROOT, 5, "EUR")
 }
 
 /// Adds what the invoice follows, and who sells and buys.
 fn put_parties(alloc: Global, entries: &mut Vec<Entry>) -> Result<(), AllocError>
     ensures { OnOk result (entries.new.items ≡ entries.old.items ++ spec.parties) }
 {
-    let standard = word(alloc, "urn:cen.eu:en16931:2017")?;
-    put(entries, ROOT, 24, Value::Identifier(standard))?;
-    put(entries, ROOT, 27, Value::Text(word(alloc, "S")?))?;
-    put(entries, ROOT, 40, Value::Code(word(alloc, "DE")?))?;
-    put(entries, ROOT, 44, Value::Text(word(alloc, "B")?))?;
-    put(entries, ROOT, 55, Value::Code(word(alloc, "FR")?))
+    put_identifier(alloc, entries, 24, "urn:cen.eu:en16931:2017")?;
+    put_text(alloc, entries, 27, "S")?;
+    put_code(alloc, entries, ROOT, 40, "DE")?;
+    put_text(alloc, entries, 44, "B")?;
+    put_code(alloc, entries, ROOT, 55, "FR")
 }
 
 /// Adds the totals.
@@ -72,11 +127,11 @@ fn put_totals(alloc: Global, sum: u64, entries: &mut Vec<Entry>) -> Result<(), A
     requires { sum < 10 ^ 12 }
     ensures { OnOk result (entries.new.items ≡ entries.old.items ++ spec.totals sum) }
 {
-    put(entries, ROOT, 106, amount(alloc, 100 * sum)?)?;
-    put(entries, ROOT, 109, amount(alloc, 100 * sum)?)?;
-    put(entries, ROOT, 110, amount(alloc, 20 * sum)?)?;
-    put(entries, ROOT, 112, amount(alloc, 120 * sum)?)?;
-    put(entries, ROOT, 115, amount(alloc, 120 * sum)?)
+    put_amount(alloc, entries, ROOT, 106, 100 * sum)?;
+    put_amount(alloc, entries, ROOT, 109, 100 * sum)?;
+    put_amount(alloc, entries, ROOT, 110, 20 * sum)?;
+    put_amount(alloc, entries, ROOT, 112, 120 * sum)?;
+    put_amount(alloc, entries, ROOT, 115, 120 * sum)
 }
 
 /// Adds the one breakdown of the tax.
@@ -85,8 +140,8 @@ fn put_breakdown(alloc: Global, sum: u64, entries: &mut Vec<Entry>) -> Result<()
     ensures { OnOk result (entries.new.items ≡ entries.old.items ++ spec.breakdown sum) }
 {
     let breakdown = occurrence(Group::VatBreakdown, 1);
-    put(entries, breakdown, 116, amount(alloc, 100 * sum)?)?;
-    put(entries, breakdown, 117, amount(alloc, 20 * sum)?)?;
-    put(entries, breakdown, 118, Value::Code(word(alloc, "S")?))?;
+    put_amount(alloc, entries, breakdown, 116, 100 * sum)?;
+    put_amount(alloc, entries, breakdown, 117, 20 * sum)?;
+    put_code(alloc, entries, breakdown, 118, "S")?;
     put(entries, breakdown, 119, Value::Percent(ones(20)))
 }

@@ -4,7 +4,7 @@ ghost use Rattle.node_arena.specs.Moves.{tree_nodes};
 ghost use Rattle.schematron_rules.specs.Seen.{seen_rules};
 ghost use Rattle.schematron_run.specs.Contexts.{HasPatterns};
 ghost use Rattle.svrl_report.specs.Plain.{tally_of};
-ghost use Rattle.trial_run.specs.Memory.{AreBuiltIn, terms_read};
+ghost use Rattle.trial_run.specs.Memory.{AreBuiltIn, terms_in, terms_read};
 ghost use Rattle.trial_run.specs.Trials as spec;
 
 use crate::reading::{Means, document_in, terms_in};
@@ -42,7 +42,9 @@ fn compiled_by<L: Ledger>(alloc: Global, ledger: Blank) -> Result<Option<Rules>,
     let mut steps = Steps::<L>::new(ledger);
     let bump = Bump::new(alloc);
     let doc = document_in(alloc, &bump, rule_file().as_bytes())?;
-    rules_in(alloc, &doc, &mut steps)
+    let rules = rules_in(alloc, &doc, &mut steps);
+    drop(doc);
+    rules
 }
 
 /// What the rule file of a document says; nothing where it is refused.
@@ -74,10 +76,16 @@ fn rules_of<L: Ledger>(
 }
 
 /// What bytes say as an invoice, and how many findings of each sort the built-in rule file has in them.
-#[derive(Drop)]
 pub(crate) struct Seen {
     pub(crate) invoice: Invoice,
     pub(crate) tally: Tally,
+}
+
+impl Drop for Seen {
+    fn drop(self) {
+        let Seen { invoice, tally: _ } = self;
+        drop(invoice);
+    }
 }
 
 /// What is seen of bytes as a document. The judging takes its steps.
@@ -95,8 +103,26 @@ pub(crate) fn see<L: Ledger>(
 {
     let bump = Bump::new(alloc);
     let doc = document_in(alloc, &bump, bytes)?;
-    let invoice = terms_in(alloc, &doc, means)?;
-    let tally = found_in(alloc, &doc, rules, steps)?;
+    let seen = seen_in(alloc, &doc, means, rules, steps);
+    drop(doc);
+    seen
+}
+
+/// What is seen of a document, if there is one.
+fn seen_in<L: Ledger>(
+    alloc: Global,
+    doc: &Option<Doc<'_>>,
+    means: &Means,
+    rules: &Option<Rules>,
+    steps: &mut Steps<L>,
+) -> Result<Seen, AllocError>
+    requires means { AreBuiltIn means.now }
+    requires rules { option_map seen_rules rules.now ≡ spec.trial_rules }
+    ensures invoice { IfOk result (λ seen. seen.invoice ≡ terms_in (option_map tree_nodes doc.now)) }
+    ensures tally { IfOk result (λ seen. seen.tally ≡ tally_of (spec.found_in spec.trial_rules (option_map tree_nodes doc.now))) }
+{
+    let invoice = terms_in(alloc, doc, means)?;
+    let tally = found_in(alloc, doc, rules, steps)?;
     Ok(Seen { invoice, tally })
 }
 

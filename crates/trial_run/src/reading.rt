@@ -28,10 +28,17 @@ const LIMITS: Limits = Limits {
 const HELD: &str = "held";
 
 /// What it takes to read invoices and to write them.
-#[derive(Drop)]
 pub(crate) struct Means {
     pub(crate) tables: Tables,
     pub(crate) lists: CodeLists,
+}
+
+impl Drop for Means {
+    fn drop(self) {
+        let Means { tables, lists } = self;
+        drop(tables);
+        drop(lists);
+    }
 }
 
 impl Means {
@@ -125,5 +132,7 @@ pub(crate) fn terms_read(alloc: Global, bytes: &[u8], means: &Means) -> Result<I
 {
     let bump = Bump::new(alloc);
     let doc = document_in(alloc, &bump, bytes)?;
-    terms_in(alloc, &doc, means)
+    let terms = terms_in(alloc, &doc, means);
+    drop(doc);
+    terms
 }

@@ -94,15 +94,21 @@ fn read_open<'a, S: Shelf>(
     // Laws, which have no code.
     read_builds_its_tree();
     settled_stays();
-    let mut builder = Builder::new(alloc, bump)?;
     let mut reader = Reader::new(alloc, limits)?;
+    let mut builder = Builder::new(alloc, bump)?;
     match feed_all(&mut reader, &mut builder, piece, shelf) {
         Ok(()) => {}
-        Err(fault) => return Err(fault),
+        Err(fault) => {
+            drop(builder);
+            return Err(fault);
+        }
     }
     match reader.finish(&mut builder) {
         Ok(names) => Ok(builder.finish(names)?),
-        Err(fault) => Err(fault_of_reader(fault)),
+        Err(fault) => {
+            drop(builder);
+            Err(fault_of_reader(fault))
+        }
     }
 }
 

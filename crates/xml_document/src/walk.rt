@@ -9,7 +9,7 @@ use node_arena::{Doc, NodeId, moves_lead_on};
 use std::sync::ledger::Ledger;
 
 /// Where a walk stands: a node, and how many nodes it is inside.
-#[derive(Clone, Copy, Debug)]
+#[derive(Clone, Copy)]
 pub struct Walk {
     /// The node where it stands.
     pub node: NodeId,

@@ -22,11 +22,22 @@ use xml_tokens::{
 
 /// Where reading stands: what stands behind the tokens before, how many bytes they take, and how far the next one was
 /// searched.
-#[derive(Drop)]
 pub(crate) struct Cursor {
     pub nest: Nest,
     pub place: u64,
     pub search: Search,
+}
+
+impl Drop for Cursor {
+    fn drop(self) {
+        let Cursor {
+            nest,
+            place: _,
+            search,
+        } = self;
+        drop(nest);
+        drop(search);
+    }
 }
 
 /// A comment or instruction that is open where reading stands: what can still matter of it, and how many bytes came.

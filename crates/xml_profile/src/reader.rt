@@ -10,7 +10,6 @@ use xml_state::{Events, Limits, NameTable, XmlFault};
 
 /// Reads a document, in pieces, and tells a receiver what it holds. It keeps the bytes of the unfinished token and
 /// nothing else of the input: of an unfinished comment or processing instruction no byte, but which faults were seen.
-#[derive(Drop)]
 pub struct Reader {
     alloc: Global,
     limits: Limits,
@@ -21,6 +20,21 @@ pub struct Reader {
     aside: Option<Inside>,
     // the fault that was answered
     fault: Option<XmlFault>,
+}
+
+impl Drop for Reader {
+    fn drop(self) {
+        let Reader {
+            alloc: _,
+            limits: _,
+            cursor,
+            rest,
+            aside: _,
+            fault: _,
+        } = self;
+        drop(cursor);
+        drop(rest);
+    }
 }
 
 impl Model for Reader {

@@ -17,11 +17,18 @@ pub(crate) struct Kept {
 }
 
 // Expanded names.
-#[derive(Drop)]
 pub(crate) struct KeptNames {
     names: Vec<Kept>,
     // By the number of a namespace, the places of the local names in it.
     places: Vec<BTreeMap<String, usize>>,
+}
+
+impl Drop for KeptNames {
+    fn drop(self) {
+        let KeptNames { names, places } = self;
+        drop(names);
+        drop(places);
+    }
 }
 
 impl Model for KeptNames {

@@ -1,5 +1,5 @@
 /// The greatest sizes of a document that is read.
-#[derive(Clone, Copy, Debug, PartialEq, Eq)]
+#[derive(Clone, Copy, PartialEq, Eq)]
 pub struct Limits {
     /// Bytes of the whole document.
     pub bytes: u64,

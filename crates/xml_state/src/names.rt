@@ -10,7 +10,7 @@ use std::alloc::{AllocError, Global};
 use std::marker::Model;
 
 /// The number of an expanded name in a document's table of names, from 0 in first-seen order.
-#[derive(Clone, Copy, Debug, PartialEq, Eq, Hash)]
+#[derive(Clone, Copy, PartialEq, Eq, Hash)]
 pub struct NameId {
     number: u32,
 }
@@ -44,11 +44,18 @@ impl NameId {
 }
 
 /// The expanded names of a document, numbered in first-seen order.
-#[derive(Drop)]
 pub struct NameTable {
     // Each namespace name once, empty for none: it may be far longer than the names in it.
     spaces: Spaces,
     names: KeptNames,
+}
+
+impl Drop for NameTable {
+    fn drop(self) {
+        let NameTable { spaces, names } = self;
+        drop(spaces);
+        drop(names);
+    }
 }
 
 impl Model for NameTable {

@@ -24,7 +24,6 @@ use std::marker::Model;
 use xml_tokens::{Position, StartTag, Token, XmlKind};
 
 /// What stands behind tokens.
-#[derive(Drop)]
 pub struct Nest {
     scopes: Registry,
     // The numbers of the names of the tag that is read, in place, so that they take no memory at each tag.
@@ -33,6 +32,21 @@ pub struct Nest {
     root_seen: bool,
     in_text: bool,
     nodes: u32,
+}
+
+impl Drop for Nest {
+    fn drop(self) {
+        let Nest {
+            scopes,
+            numbers,
+            position: _,
+            root_seen: _,
+            in_text: _,
+            nodes: _,
+        } = self;
+        drop(scopes);
+        drop(numbers);
+    }
 }
 
 impl Model for Nest {

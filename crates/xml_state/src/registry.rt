@@ -16,7 +16,6 @@ use std::marker::Model;
 use xml_tokens::Attribute;
 
 // The open elements and the names, with names that were numbered before.
-#[derive(Drop)]
 pub(crate) struct Registry {
     scopes: Scopes,
     // It rises whenever other bindings come into force: what was kept under another stamp says nothing.
@@ -24,6 +23,20 @@ pub(crate) struct Registry {
     elements: Vec<Slot>,
     // Their own, since the default namespace doesn't reach attributes.
     attributes: Vec<Slot>,
+}
+
+impl Drop for Registry {
+    fn drop(self) {
+        let Registry {
+            scopes,
+            stamp: _,
+            elements,
+            attributes,
+        } = self;
+        drop(scopes);
+        drop(elements);
+        drop(attributes);
+    }
 }
 
 impl Model for Registry {

@@ -38,7 +38,6 @@ struct Frame {
 }
 
 // The open elements, what is bound in the tag that is read, and the names that were seen.
-#[derive(Drop)]
 pub(crate) struct Scopes {
     written: Vec<u8>,
     bindings: Vec<Bound>,
@@ -49,6 +48,25 @@ pub(crate) struct Scopes {
     // Each namespace name once, since it may be far longer than the names in it. Bindings and names have its number.
     spaces: Spaces,
     names: KeptNames,
+}
+
+impl Drop for Scopes {
+    fn drop(self) {
+        let Scopes {
+            written,
+            bindings,
+            shown,
+            frames,
+            spaces,
+            names,
+        } = self;
+        drop(written);
+        drop(bindings);
+        drop(shown);
+        drop(frames);
+        drop(spaces);
+        drop(names);
+    }
 }
 
 impl Model for Scopes {

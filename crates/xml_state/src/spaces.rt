@@ -10,10 +10,17 @@ use std::collections::BTreeMap;
 use std::marker::Model;
 
 // Namespace names, of which one may be far longer than the names in it.
-#[derive(Drop)]
 pub(crate) struct Spaces {
     texts: Vec<String>,
     places: BTreeMap<String, usize>,
+}
+
+impl Drop for Spaces {
+    fn drop(self) {
+        let Spaces { texts, places } = self;
+        drop(texts);
+        drop(places);
+    }
 }
 
 impl Model for Spaces {

@@ -21,14 +21,14 @@ use crate::scanning::{begins_with, ends_inside};
 use crate::spelling::{Spelling, ended, spelling_behind};
 
 /// What can still matter of the inside, but for its characters.
-#[derive(Clone, Copy, Debug)]
+#[derive(Clone, Copy)]
 pub enum Inner {
     Comment(InComment),
     Instruction(InInstruction),
 }
 
 /// A comment or a processing instruction that has begun and not ended, by what of its bytes can still matter.
-#[derive(Clone, Copy, Debug)]
+#[derive(Clone, Copy)]
 pub struct OpenAside {
     pub(crate) spelling: Spelling,
     pub(crate) has_wrong: bool,
@@ -36,7 +36,7 @@ pub struct OpenAside {
 }
 
 /// The end of a comment or an instruction.
-#[derive(Clone, Copy, Debug)]
+#[derive(Clone, Copy)]
 pub struct ClosedAside {
     /// Why it is none, if so.
     pub fault: Option<XmlKind>,

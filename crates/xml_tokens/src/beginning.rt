@@ -16,7 +16,7 @@ use crate::token::Token;
 use std::alloc::{AllocError, Global};
 
 /// Where a place is, which decides whether the byte order mark and the declaration may stand there.
-#[derive(Clone, Copy, Debug, PartialEq, Eq)]
+#[derive(Clone, Copy, PartialEq, Eq)]
 pub enum Position {
     /// At the start of the bytes.
     AtStart,

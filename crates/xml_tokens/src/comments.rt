@@ -5,7 +5,7 @@ ghost use Rattle.xml_tokens.specs.Comments as spec;
 use crate::kind::XmlKind;
 
 /// How many hyphens stand at the end, at most two.
-#[derive(Clone, Copy, Debug)]
+#[derive(Clone, Copy)]
 pub enum Hyphens {
     Zero,
     One,
@@ -13,7 +13,7 @@ pub enum Hyphens {
 }
 
 /// The inside of an open comment: the hyphens at its end, and whether `--` stands in it.
-#[derive(Clone, Copy, Debug)]
+#[derive(Clone, Copy)]
 pub struct InComment {
     pub hyphens: Hyphens,
     pub is_faulty: bool,

@@ -7,7 +7,7 @@ use crate::markup::is_target_char;
 use inv_base::{is_name_char, is_name_start, is_white_space};
 
 /// How many letters of `xml` were met, or that it is another name.
-#[derive(Clone, Copy, Debug)]
+#[derive(Clone, Copy)]
 pub enum Letters {
     Zero,
     One,
@@ -17,7 +17,7 @@ pub enum Letters {
 }
 
 /// Whether nothing has come of a name, or a name, or what begins none.
-#[derive(Clone, Copy, Debug)]
+#[derive(Clone, Copy)]
 pub enum Naming {
     Empty,
     Good,
@@ -25,7 +25,7 @@ pub enum Naming {
 }
 
 /// What of a target has come: whether it is a name, and the letters of `xml` as written, and in any case.
-#[derive(Clone, Copy, Debug)]
+#[derive(Clone, Copy)]
 pub struct Written {
     pub naming: Naming,
     pub exact: Letters,
@@ -33,14 +33,14 @@ pub struct Written {
 }
 
 /// The target of an instruction: it may go on, or has ended, with a fault or none.
-#[derive(Clone, Copy, Debug)]
+#[derive(Clone, Copy)]
 pub enum Target {
     Going(Written),
     Ended(Option<XmlKind>),
 }
 
 /// The inside of an open instruction: its target, and what it was before the last byte, which is a `?` or not.
-#[derive(Clone, Copy, Debug)]
+#[derive(Clone, Copy)]
 pub struct InInstruction {
     pub before: Target,
     pub target: Target,

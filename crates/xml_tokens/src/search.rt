@@ -5,7 +5,7 @@ use std::marker::Model;
 
 /// How far the unfinished token at the front of the bytes was searched for its end in vain, so that no byte is searched
 /// twice.
-#[derive(Debug, Drop)]
+#[derive(Drop)]
 pub struct Search {
     searched: usize,
     quote: Option<u8>,

@@ -6,7 +6,7 @@ use crate::encoding::is_within;
 
 /// Where bytes stand in UTF-8: between two characters; inside one, of which so many bytes are still to come, the next
 /// one within these bounds, and those that came have this value; or they are no UTF-8, whatever follows.
-#[derive(Clone, Copy, Debug)]
+#[derive(Clone, Copy)]
 pub enum Spelling {
     Between,
     Inside(u8, u8, u8, u32),

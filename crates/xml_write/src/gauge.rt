@@ -13,7 +13,7 @@ use inv_base::Sink;
 /// Measures canonical text that isn't written: its calls are those of a pen, made in the same order.
 ///
 /// The numbers count bytes of UTF-8, and each stops at the greatest `u64`.
-#[derive(Clone, Copy, Debug, PartialEq, Eq)]
+#[derive(Clone, Copy, PartialEq, Eq)]
 pub struct Gauge {
     /// How far a pen would be.
     pub state: PenState,

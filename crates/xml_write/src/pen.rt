@@ -11,7 +11,7 @@ use inv_base::Sink;
 use std::marker::Model;
 
 /// How far a pen is.
-#[derive(Clone, Copy, Debug, PartialEq, Eq)]
+#[derive(Clone, Copy, PartialEq, Eq)]
 pub enum PenState {
     /// It has written nothing.
     Fresh,
@@ -39,7 +39,7 @@ impl PenState {
 ///
 /// Names are written as they are given, with their prefixes. After a fault the sink holds a front of what the call was to
 /// append, and the pen is in the state as if it had appended all.
-#[derive(Debug, Drop)]
+#[derive(Drop)]
 pub struct Pen {
     state: PenState,
 }

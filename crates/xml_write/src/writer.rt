@@ -65,7 +65,7 @@ pub trait Writer {
 }
 
 /// A sink for who only measures: it takes everything, keeps nothing, and never fails.
-#[derive(Clone, Copy, Debug, PartialEq, Eq)]
+#[derive(Clone, Copy, PartialEq, Eq)]
 pub struct Nowhere;
 
 impl Sink for Nowhere {

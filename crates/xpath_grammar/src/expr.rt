@@ -5,7 +5,7 @@ use inv_base::Txt;
 use xpath_tokens::token::{Name, Number, Operator};
 
 /// An expression without parts.
-#[derive(Debug, Drop)]
+#[derive(Drop)]
 pub enum Leaf {
     Literal(Txt),
     Number(Number),
@@ -25,7 +25,7 @@ pub enum Leaf {
 }
 
 /// What kind of expression stands over its parts.
-#[derive(Debug, Drop)]
+#[derive(Drop)]
 pub enum Form {
     /// Operands with operators of one production between them. A path may begin with its operator.
     Chain(Production),
@@ -45,7 +45,7 @@ pub enum Form {
 }
 
 /// What is written before a part of an expression.
-#[derive(Debug, Drop)]
+#[derive(Drop)]
 pub enum Label {
     /// Nothing
     First,
@@ -70,7 +70,7 @@ pub enum Label {
 }
 
 /// An expression as it is written (XPath 2.0, appendix A.1, in a subset): what can be written differently is different.
-#[derive(Debug, Drop)]
+#[derive(Drop)]
 pub enum Expr {
     Leaf(Leaf),
     /// Each part behind what is written before it.

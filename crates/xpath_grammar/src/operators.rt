@@ -4,7 +4,7 @@ ghost use Rattle.xpath_grammar.specs.Comparisons.{comparison_of};
 use xpath_tokens::token::Operator;
 
 /// What joins operands of one precedence (XPath 2.0, appendix A.1), from the loosest on.
-#[derive(Clone, Copy, Debug)]
+#[derive(Clone, Copy)]
 pub enum Production {
     /// `,`
     Sequence,
@@ -45,7 +45,7 @@ pub enum Binder {
 }
 
 /// A comparison: of any pair of items, or of two items.
-#[derive(Clone, Copy, Debug)]
+#[derive(Clone, Copy)]
 pub enum Op {
     /// `=`
     Equal,

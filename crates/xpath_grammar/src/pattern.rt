@@ -19,9 +19,15 @@ pub enum PatternKind {
 }
 
 /// An expression that is a pattern (XSLT 2.0, section 5.5.2, in a subset).
-#[derive(Debug, Drop)]
 pub struct Pattern {
     expression: Expr,
+}
+
+impl Drop for Pattern {
+    fn drop(self) {
+        let Pattern { expression } = self;
+        drop(expression);
+    }
 }
 
 impl Model for Pattern {

@@ -64,7 +64,7 @@ pub const AXES: [Axis; 12] = [
 ];
 
 /// How a step says its axis.
-#[derive(Clone, Copy, Debug)]
+#[derive(Clone, Copy)]
 pub enum AxisForm {
     /// Not at all: `a`
     Unwritten,
@@ -116,7 +116,7 @@ pub const KIND_TESTS: [KindTest; 5] = [
 ];
 
 /// What a step wants of the nodes on its axis (XPath 2.0, section 3.2.1.2).
-#[derive(Debug, Drop)]
+#[derive(Drop)]
 pub enum Test {
     /// `a`, `a:b`, `a:*`, `*:b`
     Name(Name),

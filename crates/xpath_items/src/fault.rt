@@ -5,7 +5,7 @@ use crate::outcome::DynError;
 use std::alloc::{AllocError, AllocFailed};
 
 /// Why no value was made: want of memory, or an error of evaluation.
-#[derive(Clone, Copy, Debug, PartialEq, Eq)]
+#[derive(Clone, Copy, PartialEq, Eq)]
 pub enum Fault {
     Memory,
     Error(DynError),

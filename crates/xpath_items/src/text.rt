@@ -15,9 +15,15 @@ enum Held<'a> {
 }
 
 /// The text of an item. Contracts see the list of its characters.
-#[derive(Drop)]
 pub struct Str<'a> {
     held: Held<'a>,
+}
+
+impl Drop for Str<'_> {
+    fn drop(self) {
+        let Str { held } = self;
+        drop(held);
+    }
 }
 
 impl<'a> Model for Str<'a> {

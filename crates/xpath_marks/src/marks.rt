@@ -19,9 +19,15 @@ use xpath_run::{Env, Ground};
 use xpath_walks::{documents_are_walkable, numbers_in};
 
 /// The nodes of a document that a pattern matches, in document order. Contracts see the list of their numbers.
-#[derive(Drop)]
 pub struct Marks {
     nodes: Vec<NodeId>,
+}
+
+impl Drop for Marks {
+    fn drop(self) {
+        let Marks { nodes } = self;
+        drop(nodes);
+    }
 }
 
 impl Model for Marks {

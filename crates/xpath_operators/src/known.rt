@@ -12,9 +12,15 @@ use xpath_items::Item;
 
 /// Items that were seen, of equal ones the first. Contracts see the list of them, in the order of `item_cmp`. To ask
 /// and to add takes time by the logarithm of their number.
-#[derive(Drop)]
 pub struct KnownItems<'s, 'a> {
     set: BTreeSet<Ranked<'s, 'a>>,
+}
+
+impl Drop for KnownItems<'_, '_> {
+    fn drop(self) {
+        let KnownItems { set } = self;
+        drop(set);
+    }
 }
 
 impl<'s, 'a> Model for KnownItems<'s, 'a> {

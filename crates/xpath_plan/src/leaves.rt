@@ -2,7 +2,7 @@
 ghost use Rattle.std.specs.Prelude.{◌≡◌, ◌++◌, List, Option, Some, None, option_map, chars, IfOk, OnOk, length, take};
 ghost use Rattle.inv_base.specs.Tree.{Name};
 ghost use Rattle.xpath_types.specs.Scopes.{written_name};
-ghost use Rattle.xpath_meaning.specs.Expressions.{no_more};
+ghost use Rattle.xpath_meaning.specs.Expressions.{no_more, named};
 ghost use Rattle.xpath_meaning.specs.Resolving as meaning;
 ghost use Rattle.xpath_plan.specs.Plans as spec;
 
@@ -31,6 +31,20 @@ fn axis_of(form: AxisForm, test: &Test) -> Axis
     }
 }
 
+/// The test of the local name in the namespace.
+fn named_in(
+    alloc: Global,
+    names: &mut NameTable,
+    uri: &str,
+    local: &Txt,
+) -> Result<Option<StepTest>, AllocError>
+    ensures test { IfOk result (λ test. (later : List Name) → spec.test_in (names.new ++ later) test ≡ Some (named (record { uri = chars uri.now; local = local.now }))) }
+    ensures grown { OnOk result (take (length names.old) names.new ≡ names.old) }
+{
+    let number = names.number(alloc, uri, local.as_str())?;
+    Ok(Some(StepTest::Named(number)))
+}
+
 /// The test of a name, none where its prefix isn't bound.
 fn name_test(
     alloc: Global,
@@ -42,13 +56,9 @@ fn name_test(
     ensures grown { OnOk result (take (length names.old) names.new ≡ names.old) }
 {
     match name {
-        token::Name::Plain(local) => Ok(Some(StepTest::Named(names.number(
-            alloc,
-            "",
-            local.as_str(),
-        )?))),
+        token::Name::Plain(local) => named_in(alloc, names, "", local),
         token::Name::Prefixed(prefix, local) => match scope.uri(prefix.as_str()) {
-            Some(uri) => Ok(Some(StepTest::Named(names.number(alloc, uri, local.as_str())?))),
+            Some(uri) => named_in(alloc, names, uri, local),
             None => Ok(None),
         },
         token::Name::AnyLocal(prefix) => match scope.uri(prefix.as_str()) {

@@ -6,16 +6,22 @@ use std::alloc::{AllocError, Global};
 use std::marker::Model;
 
 /// An expanded name: a namespace name, empty for none, and a local name.
-#[derive(Debug, PartialEq, Eq, Hash, Drop)]
+#[derive(PartialEq, Eq, Hash, Drop)]
 pub(crate) struct Kept {
     pub uri: String,
     pub local: String,
 }
 
 /// The expanded names of a plan, each once, numbered in first-seen order.
-#[derive(Debug, Drop)]
 pub struct NameTable {
     names: IndexSet<Kept>,
+}
+
+impl Drop for NameTable {
+    fn drop(self) {
+        let NameTable { names } = self;
+        drop(names);
+    }
 }
 
 impl Model for NameTable {

@@ -13,10 +13,17 @@ use xpath_types::heights::Heights;
 
 /// An expression that is ready to be evaluated: its prefixes, functions and types are looked up, its variables found and its names
 /// numbered. It owns all that it holds, and outlives the text and the scope that it was made from.
-#[derive(Debug, Drop)]
 pub struct Plan {
     names: NameTable,
     work: Work,
+}
+
+impl Drop for Plan {
+    fn drop(self) {
+        let Plan { names, work } = self;
+        drop(names);
+        drop(work);
+    }
 }
 
 impl Model for Plan {

@@ -8,7 +8,7 @@ use xpath_grammar::step::{Axis, KindTest};
 use xpath_tokens::token::{Number, Operator};
 
 /// What a step wants of the nodes on its axis (XPath 2.0, section 3.2.1.2).
-#[derive(Debug, Drop)]
+#[derive(Drop)]
 pub enum StepTest {
     /// The expanded name that has this number in the plan's table.
     Named(usize),
@@ -23,7 +23,7 @@ pub enum StepTest {
 }
 
 /// An expression without parts.
-#[derive(Debug, Drop)]
+#[derive(Drop)]
 pub enum Simple {
     Text(Txt),
     Number(Number),
@@ -44,7 +44,7 @@ pub enum Simple {
 }
 
 /// What stands before a part.
-#[derive(Clone, Copy, Debug)]
+#[derive(Clone, Copy)]
 pub enum Link {
     /// An operator; at the first part of a path, the one that it begins with.
     Operator(Operator),
@@ -54,7 +54,7 @@ pub enum Link {
 }
 
 /// What is made of the parts.
-#[derive(Debug, Drop)]
+#[derive(Drop)]
 pub enum Kind {
     /// Operands with operators of one production between them, which are taken from the left. One that begins with an
     /// operator begins at the root.
@@ -80,7 +80,7 @@ pub enum Kind {
 }
 
 /// An expression of a plan.
-#[derive(Debug, Drop)]
+#[derive(Drop)]
 pub enum Work {
     Simple(Simple),
     /// The parts in their order, each with what stands before it.

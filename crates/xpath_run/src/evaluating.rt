@@ -339,6 +339,15 @@ fn keep_all<'a, L: Ledger>(
     Ok(kept)
 }
 
+/// Whether a predicate of this value keeps the item at the position.
+fn judged(position: u64, answer: Seq<'_>) -> Result<bool, DynError>
+    ensures { result ≡ steps_spec.keeps position answer.entry }
+{
+    let is_kept = keeps(position, &answer);
+    drop(answer);
+    is_kept
+}
+
 /// The items that a predicate keeps.
 #[cycle(evaluating)]
 fn keep<'a, L: Ledger>(
@@ -366,7 +375,7 @@ fn keep<'a, L: Ledger>(
             last,
         };
         let answer = evaluate(ground, predicate, &focus, bound, steps)?;
-        let is_kept = keeps(position, &answer)?;
+        let is_kept = judged(position, answer)?;
         keep_if(&mut kept, is_kept, focus)?;
     }
     Ok(kept)

@@ -22,11 +22,21 @@ use xpath_steps::Env;
 use xpath_walks::numbers_in;
 
 /// A plan over a document, in which the plan's names are looked up once. Contracts see the two.
-#[derive(Drop)]
 pub struct Run<'p, 'd, 'a> {
     plan: &'p Plan,
     doc: &'d Doc<'a>,
     numbers: Vec<Option<NameId>>,
+}
+
+impl Drop for Run<'_, '_, '_> {
+    fn drop(self) {
+        let Run {
+            plan: _,
+            doc: _,
+            numbers,
+        } = self;
+        drop(numbers);
+    }
 }
 
 impl<'p, 'd, 'a> Model for Run<'p, 'd, 'a> {

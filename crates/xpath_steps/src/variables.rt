@@ -12,17 +12,33 @@ use std::marker::Model;
 use xpath_items::{Fault, Item, Outcome, Seq};
 
 /// A variable and its value.
-#[derive(Drop)]
 struct Variable<'a> {
     name: Txt,
     outcome: Outcome<'a>,
 }
 
+impl Drop for Variable<'_> {
+    fn drop(self) {
+        let Variable { name, outcome } = self;
+        drop(name);
+        drop(outcome);
+    }
+}
+
 /// Variables with their values, of which the last of a name counts. Contracts see the list of them.
-#[derive(Drop)]
 pub struct Env<'a> {
     alloc: Global,
     variables: Vec<Variable<'a>>,
+}
+
+impl Drop for Env<'_> {
+    fn drop(self) {
+        let Env {
+            alloc: _,
+            variables,
+        } = self;
+        drop(variables);
+    }
 }
 
 impl<'a> Model for Env<'a> {

@@ -99,3 +99,13 @@ last_value _ = None
 abbrev pub MayMake : {X : Type 0} → Result X SyntaxFault → Option X → Type 0
 MayMake (Ok made) wanted = wanted ≡ Some made
 MayMake (Err fault) wanted = elim fault as (λ _. Type 0) [ f.Memory ↦ Unit {0} | f.Syntax ↦ wanted ≡ None | _ ↦ ⊥ ]
+
+-- what is read so far keeps the token that stands behind it, or a part of it
+abbrev pub keeps_token : Mode Value Parts → Bool
+keeps_token d.Want = true
+keeps_token d.Slash = true
+keeps_token d.Dollar = true
+keeps_token (d.OnAxis form) = true
+keeps_token (d.BindDollar binder lead parts) = true
+keeps_token (d.CastAs word v) = true
+keeps_token _ = false

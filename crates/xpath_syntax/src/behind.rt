@@ -68,12 +68,23 @@ fn begin_chain(
         (machine.begin_chain values production label value stack.old) }
 {
     match production {
-        None => Err(SyntaxFault::Syntax),
+        None => {
+            drop(label);
+            drop(value);
+            Err(SyntaxFault::Syntax)
+        }
         Some(production) => {
             if stack.has_place(rank_of(production)) {
-                let parts = Parts::nothing(alloc).and_then(Label::First, value)?;
-                opening(Form::Chain(production), parts, label, stack)
+                match Parts::nothing(alloc).and_then(Label::First, value) {
+                    Ok(parts) => opening(Form::Chain(production), parts, label, stack),
+                    Err(fault) => {
+                        drop(label);
+                        Err(fault)
+                    }
+                }
             } else {
+                drop(label);
+                drop(value);
                 Err(SyntaxFault::Syntax)
             }
         }
@@ -94,11 +105,23 @@ fn link(
         None => begin_chain(alloc, production, label, value, stack),
         Some(Frame::Open(form, parts, before)) => {
             if goes_on(&form, &before, &label) {
-                let parts = parts.and_then(before, value)?;
-                opening(form, parts, label, stack)
+                match parts.and_then(before, value) {
+                    Ok(parts) => opening(form, parts, label, stack),
+                    Err(fault) => {
+                        drop(form);
+                        drop(label);
+                        Err(fault)
+                    }
+                }
             } else {
-                stack.push(Frame::Open(form, parts, before))?;
-                begin_chain(alloc, production, label, value, stack)
+                match stack.push(Frame::Open(form, parts, before)) {
+                    Ok(()) => begin_chain(alloc, production, label, value, stack),
+                    Err(fault) => {
+                        drop(label);
+                        drop(value);
+                        Err(fault)
+                    }
+                }
             }
         }
     }
@@ -128,6 +151,7 @@ fn operator_met(
             if stack.has_place(rank_of_cast(word)) {
                 Ok(Mode::Casting(word, value))
             } else {
+                drop(value);
                 Err(SyntaxFault::Syntax)
             }
         }
@@ -169,8 +193,13 @@ fn comma_behind(
 ) -> Result<Mode<Value, Parts>, SyntaxFault>
     ensures { spec.Gives result stack.new (machine.link values commas.Comma value (frame ∷ stack.old)) }
 {
-    stack.push(frame)?;
-    link(alloc, Label::Comma, value, stack)
+    match stack.push(frame) {
+        Ok(()) => link(alloc, Label::Comma, value, stack),
+        Err(fault) => {
+            drop(value);
+            Err(fault)
+        }
+    }
 }
 
 fn comma_met(
@@ -230,13 +259,21 @@ fn parenthesis_met(value: Value, stack: &mut Stack) -> Result<Mode<Value, Parts>
     ensures { spec.Gives result stack.new (machine.parenthesis_met values value stack.old) }
 {
     match stack.pop() {
-        None => Err(SyntaxFault::Syntax),
+        None => {
+            drop(value);
+            Err(SyntaxFault::Syntax)
+        }
         Some(Frame::Open(form, parts, label)) => {
             if is_parenthesized(&form) {
                 parenthesized(form, parts, label, value)
             } else if in_condition(&form, &label) {
+                drop(form);
                 decided(parts, label, value)
             } else {
+                drop(form);
+                drop(parts);
+                drop(label);
+                drop(value);
                 Err(SyntaxFault::Syntax)
             }
         }
@@ -256,12 +293,20 @@ fn bracket_met(value: Value, stack: &mut Stack) -> Result<Mode<Value, Parts>, Sy
     ensures { spec.Gives result stack.new (machine.bracket_met values value stack.old) }
 {
     match stack.pop() {
-        None => Err(SyntaxFault::Syntax),
+        None => {
+            drop(value);
+            Err(SyntaxFault::Syntax)
+        }
         Some(Frame::Open(form, parts, label)) => {
-            if in_predicate(&form, &label) {
+            let holds = in_predicate(&form, &label);
+            drop(form);
+            if holds {
                 let parts = parts.and_then(label, value)?;
                 Ok(Mode::Filtered(parts))
             } else {
+                drop(parts);
+                drop(label);
+                drop(value);
                 Err(SyntaxFault::Syntax)
             }
         }
@@ -281,7 +326,10 @@ fn met(
         Token::Comma => comma_met(alloc, value, stack),
         Token::RightParenthesis => parenthesis_met(value, stack),
         Token::RightBracket => bracket_met(value, stack),
-        _ => Err(SyntaxFault::Syntax),
+        _ => {
+            drop(value);
+            Err(SyntaxFault::Syntax)
+        }
     }
 }
 
@@ -319,12 +367,16 @@ pub fn behind(
     ensures { spec.Gives result stack.new (machine.behind values token.now rank value stack.old) }
 {
     match strength_of(token) {
-        None => Err(SyntaxFault::Syntax),
+        None => {
+            drop(value);
+            Err(SyntaxFault::Syntax)
+        }
         Some(strength) => {
             if strength < rank {
                 let value = close(strength, value, stack)?;
                 met(alloc, token, value, stack)
             } else {
+                drop(value);
                 Err(SyntaxFault::Syntax)
             }
         }

@@ -28,7 +28,10 @@ pub fn behind_bind(
 {
     match token {
         Token::Dollar => Ok(Mode::BindDollar(binder, lead, parts)),
-        _ => Err(SyntaxFault::Syntax),
+        _ => {
+            drop(parts);
+            Err(SyntaxFault::Syntax)
+        }
     }
 }
 
@@ -48,10 +51,16 @@ pub fn behind_bind_dollar(
             if is_full(&name) {
                 Ok(Mode::BindName(binder, lead, parts, name))
             } else {
+                drop(name);
+                drop(parts);
                 Err(SyntaxFault::Syntax)
             }
         }
-        _ => Err(SyntaxFault::Syntax),
+        token => {
+            drop(token);
+            drop(parts);
+            Err(SyntaxFault::Syntax)
+        }
     }
 }
 
@@ -74,7 +83,11 @@ pub fn behind_bind_name(
             Label::Binding(lead, name),
             stack,
         ),
-        _ => Err(SyntaxFault::Syntax),
+        _ => {
+            drop(parts);
+            drop(name);
+            Err(SyntaxFault::Syntax)
+        }
     }
 }
 
@@ -108,7 +121,10 @@ pub fn behind_decided(
 {
     match token {
         Token::Operator(Operator::Then) => opening(Form::Conditional, parts, Label::Then, stack),
-        _ => Err(SyntaxFault::Syntax),
+        _ => {
+            drop(parts);
+            Err(SyntaxFault::Syntax)
+        }
     }
 }
 
@@ -124,7 +140,10 @@ pub fn behind_casting(
 {
     match token {
         Token::Operator(Operator::As) => Ok(Mode::CastAs(word, value)),
-        _ => Err(SyntaxFault::Syntax),
+        _ => {
+            drop(value);
+            Err(SyntaxFault::Syntax)
+        }
     }
 }
 
@@ -143,10 +162,16 @@ pub fn behind_cast_as(
             if is_full(&name) {
                 Ok(Mode::Typed(word, value, name))
             } else {
+                drop(name);
+                drop(value);
                 Err(SyntaxFault::Syntax)
             }
         }
-        _ => Err(SyntaxFault::Syntax),
+        token => {
+            drop(token);
+            drop(value);
+            Err(SyntaxFault::Syntax)
+        }
     }
 }
 

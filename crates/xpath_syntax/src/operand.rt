@@ -48,10 +48,17 @@ pub fn behind_slash(
     if begins_step(&token) {
         let label = Label::Link(Operator::Slash);
         let path = Frame::Open(Form::Chain(Production::Path), Parts::nothing(alloc), label);
-        stack.push(path)?;
-        wanted(alloc, token, stack)
+        match stack.push(path) {
+            Ok(()) => wanted(alloc, token, stack),
+            Err(fault) => {
+                drop(token);
+                Err(fault)
+            }
+        }
     } else {
-        behind(alloc, &token, 14, leaf(Leaf::Root), stack)
+        let next = behind(alloc, &token, 14, leaf(Leaf::Root), stack);
+        drop(token);
+        next
     }
 }
 
@@ -64,10 +71,14 @@ pub fn behind_dollar(token: Token, stack: &Stack) -> Result<Mode<Value, Parts>, 
             if is_full(&name) {
                 Ok(Mode::Have(leaf(Leaf::Variable(name))))
             } else {
+                drop(name);
                 Err(SyntaxFault::Syntax)
             }
         }
-        _ => Err(SyntaxFault::Syntax),
+        token => {
+            drop(token);
+            Err(SyntaxFault::Syntax)
+        }
     }
 }
 
@@ -81,7 +92,10 @@ fn call_or_kind(
         (machine.call_or_kind values (grammar.kind_of name) name stack.old) }
 {
     match kind_of(&name) {
-        Some(test) => Ok(Mode::Kind(AxisForm::Unwritten, test)),
+        Some(test) => {
+            drop(name);
+            Ok(Mode::Kind(AxisForm::Unwritten, test))
+        }
         None => {
             if is_full(&name) {
                 opening(
@@ -91,6 +105,7 @@ fn call_or_kind(
                     stack,
                 )
             } else {
+                drop(name);
                 Err(SyntaxFault::Syntax)
             }
         }
@@ -119,7 +134,11 @@ pub fn behind_name(
 {
     match token {
         Token::LeftParenthesis => call_or_kind(alloc, name, stack),
-        Token::DoubleColon => axis_named(&name, stack),
+        Token::DoubleColon => {
+            let next = axis_named(&name, stack);
+            drop(name);
+            next
+        }
         _ => {
             let step = leaf(Leaf::Step(AxisForm::Unwritten, Test::Name(name)));
             behind_primary(alloc, token, step, stack)
@@ -138,7 +157,10 @@ pub fn behind_axis(
     match token {
         Token::Name(name) => Ok(Mode::NamedOn(form, name)),
         Token::Star => Ok(Mode::Have(leaf(Leaf::Step(form, Test::Star)))),
-        _ => Err(SyntaxFault::Syntax),
+        token => {
+            drop(token);
+            Err(SyntaxFault::Syntax)
+        }
     }
 }
 
@@ -165,7 +187,11 @@ pub fn behind_named_on(
         (machine.behind_named_on values token.now form name stack.old) }
 {
     match token {
-        Token::LeftParenthesis => kind_on(&name, form, stack),
+        Token::LeftParenthesis => {
+            let next = kind_on(&name, form, stack);
+            drop(name);
+            next
+        }
         _ => {
             let step = leaf(Leaf::Step(form, Test::Name(name)));
             behind_primary(alloc, token, step, stack)

@@ -39,6 +39,7 @@ fn pattern_of(value: Value) -> Result<Pattern, SyntaxFault>
     ensures { result ≡ spec.pattern_of value }
 {
     if matches!(value.kind, PatternKind::Other) {
+        drop(value);
         return Err(SyntaxFault::Syntax);
     }
     match expression_of(value) {

@@ -12,9 +12,15 @@ use xpath_grammar::machine::Frame;
 use xpath_tokens::token::SyntaxFault;
 
 /// What is open, the last frame on top. Contracts see the frames from the top down.
-#[derive(Drop)]
 pub struct Stack {
     frames: Vec<Frame<Parts>>,
+}
+
+impl Drop for Stack {
+    fn drop(self) {
+        let Stack { frames } = self;
+        drop(frames);
+    }
 }
 
 impl Model for Stack {

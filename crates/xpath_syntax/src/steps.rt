@@ -1,5 +1,6 @@
 //! The tokens one after another.
 
+ghost use Rattle.std.specs.Prelude.{◌≡◌, false};
 ghost use Rattle.xpath_grammar.specs.Machine as machine;
 ghost use Rattle.xpath_syntax.specs.Values.{values};
 ghost use Rattle.xpath_syntax.specs.Stacks as spec;
@@ -21,6 +22,40 @@ use xpath_grammar::machine::Mode;
 use xpath_grammar::step::{AxisForm, Test};
 use xpath_tokens::token::{SyntaxFault, Token};
 
+/// What was read behind the last frame, with one more token of which nothing is kept.
+fn step_past(
+    alloc: Global,
+    token: &Token,
+    mode: Mode<Value, Parts>,
+    stack: &mut Stack,
+) -> Result<Mode<Value, Parts>, SyntaxFault>
+    requires { spec.keeps_token mode ≡ false }
+    ensures { spec.Gives result stack.new (machine.step_in values token.now mode stack.old) }
+{
+    match mode {
+        Mode::Named(name) => behind_name(alloc, token, name, stack),
+        Mode::NamedOn(form, name) => behind_named_on(alloc, token, form, name, stack),
+        Mode::Kind(form, test) => behind_kind(token, form, test, stack),
+        Mode::Have(value) => behind_primary(alloc, token, value, stack),
+        Mode::Filtered(parts) => behind_filter(alloc, token, parts, stack),
+        Mode::Whole(rank, value) => behind(alloc, token, rank, value, stack),
+        Mode::Bind(binder, lead, parts) => behind_bind(token, binder, lead, parts, stack),
+        Mode::BindName(binder, lead, parts, name) => {
+            behind_bind_name(token, binder, lead, parts, name, stack)
+        }
+        Mode::If => behind_if(alloc, token, stack),
+        Mode::Decided(parts) => behind_decided(token, parts, stack),
+        Mode::Casting(word, value) => behind_casting(token, word, value, stack),
+        Mode::Typed(word, value, name) => behind_typed(alloc, token, word, value, name, stack),
+        Mode::Want
+        | Mode::Slash
+        | Mode::Dollar
+        | Mode::OnAxis(_)
+        | Mode::BindDollar(_, _, _)
+        | Mode::CastAs(_, _) => unreachable!(),
+    }
+}
+
 /// What was read behind the last frame, with one more token.
 fn step(
     alloc: Global,
@@ -34,25 +69,16 @@ fn step(
         Mode::Want => wanted(alloc, token, stack),
         Mode::Slash => behind_slash(alloc, token, stack),
         Mode::Dollar => behind_dollar(token, stack),
-        Mode::Named(name) => behind_name(alloc, &token, name, stack),
         Mode::OnAxis(form) => behind_axis(token, form, stack),
-        Mode::NamedOn(form, name) => behind_named_on(alloc, &token, form, name, stack),
-        Mode::Kind(form, test) => behind_kind(&token, form, test, stack),
-        Mode::Have(value) => behind_primary(alloc, &token, value, stack),
-        Mode::Filtered(parts) => behind_filter(alloc, &token, parts, stack),
-        Mode::Whole(rank, value) => behind(alloc, &token, rank, value, stack),
-        Mode::Bind(binder, lead, parts) => behind_bind(&token, binder, lead, parts, stack),
         Mode::BindDollar(binder, lead, parts) => {
             behind_bind_dollar(token, binder, lead, parts, stack)
         }
-        Mode::BindName(binder, lead, parts, name) => {
-            behind_bind_name(&token, binder, lead, parts, name, stack)
-        }
-        Mode::If => behind_if(alloc, &token, stack),
-        Mode::Decided(parts) => behind_decided(&token, parts, stack),
-        Mode::Casting(word, value) => behind_casting(&token, word, value, stack),
         Mode::CastAs(word, value) => behind_cast_as(token, word, value, stack),
-        Mode::Typed(word, value, name) => behind_typed(alloc, &token, word, value, name, stack),
+        mode => {
+            let next = step_past(alloc, &token, mode, stack);
+            drop(token);
+            next
+        }
     }
 }
 
@@ -68,17 +94,10 @@ fn last_value(alloc: Global, mode: Mode<Value, Parts>) -> Result<Value, SyntaxFa
         Mode::Filtered(parts) => Ok(parts.node(Form::Filter)),
         Mode::Whole(_, value) => Ok(value),
         Mode::Typed(word, value, name) => cast_node(alloc, word, name, false, value),
-        Mode::Want
-        | Mode::Dollar
-        | Mode::OnAxis(_)
-        | Mode::Kind(_, _)
-        | Mode::Bind(_, _, _)
-        | Mode::BindDollar(_, _, _)
-        | Mode::BindName(_, _, _, _)
-        | Mode::If
-        | Mode::Decided(_)
-        | Mode::Casting(_, _)
-        | Mode::CastAs(_, _) => Err(SyntaxFault::Syntax),
+        mode => {
+            drop(mode);
+            Err(SyntaxFault::Syntax)
+        }
     }
 }
 
@@ -91,6 +110,7 @@ fn ended(alloc: Global, mode: Mode<Value, Parts>, stack: &mut Stack) -> Result<V
     if stack.is_empty() {
         Ok(value)
     } else {
+        drop(value);
         Err(SyntaxFault::Syntax)
     }
 }

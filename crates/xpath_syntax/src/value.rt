@@ -123,14 +123,27 @@ fn kept_with(
     ensures { spec.Makes result (spec.kept_with parts label value) }
 {
     match parts {
-        None => Ok(None),
+        None => {
+            drop(label);
+            drop(value);
+            Ok(None)
+        }
         Some(KeptParts { mut parts, deepest }) => match value {
-            None => Ok(None),
-            Some(Kept { expression, level }) => {
-                parts.push((label, expression))?;
-                let deepest = deepest.max(level);
-                Ok(Some(KeptParts { parts, deepest }))
+            None => {
+                drop(parts);
+                drop(label);
+                Ok(None)
             }
+            Some(Kept { expression, level }) => match parts.push((label, expression)) {
+                Ok(()) => {
+                    let deepest = deepest.max(level);
+                    Ok(Some(KeptParts { parts, deepest }))
+                }
+                Err(fault) => {
+                    drop(parts);
+                    Err(fault.into())
+                }
+            },
         },
     }
 }
@@ -139,7 +152,10 @@ fn kept_node(form: Form, parts: Option<KeptParts>) -> Option<Kept>
     ensures { result ≡ spec.kept_node form parts }
 {
     match parts {
-        None => None,
+        None => {
+            drop(form);
+            None
+        }
         Some(KeptParts { parts, deepest }) => {
             if deepest < MOST_LEVELS {
                 Some(Kept {
@@ -147,6 +163,8 @@ fn kept_node(form: Form, parts: Option<KeptParts>) -> Option<Kept>
                     level: deepest + 1,
                 })
             } else {
+                drop(form);
+                drop(parts);
                 None
             }
         }

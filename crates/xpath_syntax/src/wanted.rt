@@ -23,15 +23,10 @@ fn leaf_closed(label: Label) -> Option<Leaf>
     match label {
         Label::Opened => Some(Leaf::Empty),
         Label::Calling(name) => Some(Leaf::Called(name)),
-        Label::First
-        | Label::Link(_)
-        | Label::Comma
-        | Label::Binding(_, _)
-        | Label::Condition
-        | Label::Then
-        | Label::Signed(_)
-        | Label::Predicate
-        | Label::Again => None,
+        label => {
+            drop(label);
+            None
+        }
     }
 }
 
@@ -41,10 +36,14 @@ fn close_empty(stack: &mut Stack) -> Result<Mode<Value, Parts>, SyntaxFault>
 {
     match stack.pop() {
         None => Err(SyntaxFault::Syntax),
-        Some(Frame::Open(_, _, label)) => match leaf_closed(label) {
-            None => Err(SyntaxFault::Syntax),
-            Some(closed) => Ok(Mode::Have(leaf(closed))),
-        },
+        Some(Frame::Open(form, parts, label)) => {
+            drop(form);
+            drop(parts);
+            match leaf_closed(label) {
+                None => Err(SyntaxFault::Syntax),
+                Some(closed) => Ok(Mode::Have(leaf(closed))),
+            }
+        }
     }
 }
 
@@ -112,8 +111,14 @@ fn sign(
         None => first_sign(alloc, operator, stack),
         Some(Frame::Open(form, parts, label)) => {
             if is_signed(&form, &label) {
-                let label = signed_with(label, operator)?;
-                opening(form, parts, label, stack)
+                match signed_with(label, operator) {
+                    Ok(label) => opening(form, parts, label, stack),
+                    Err(fault) => {
+                        drop(form);
+                        drop(parts);
+                        Err(fault)
+                    }
+                }
             } else {
                 stack.push(Frame::Open(form, parts, label))?;
                 first_sign(alloc, operator, stack)

@@ -1,6 +1,7 @@
-ghost use Rattle.std.specs.Prelude.{◌≡◌, IfOk};
+ghost use Rattle.std.specs.Prelude.{◌≡◌, IfOk, codes, if◌then◌else◌};
 ghost use Rattle.std.specs.Str.{bytes_eq};
 ghost use Rattle.xpath_tokens.specs.Tokens as spec;
+ghost use Rattle.xpath_tokens.specs.declared.token.Name.TheVariants as names;
 
 use crate::pieces::{spells, split};
 use crate::spelled::operator_word;
@@ -19,12 +20,19 @@ fn name_of(alloc: Global, word: &[char]) -> Result<Name, AllocError>
     if spells(prefix, b"*") {
         return Ok(Name::AnyPrefix(Txt::from_characters(alloc, local)?));
     }
-    let prefix_text = Txt::from_characters(alloc, prefix)?;
+    let prefix = Txt::from_characters(alloc, prefix)?;
+    name_behind(alloc, prefix, local)
+}
+
+/// The name of a prefix and what stands behind its colon.
+fn name_behind(alloc: Global, prefix: Txt, local: &[char]) -> Result<Name, AllocError>
+    ensures { IfOk result (λ name. name ≡ (if bytes_eq local.now (codes "*") then names.AnyLocal prefix else names.Prefixed prefix local.now)) }
+{
     if spells(local, b"*") {
-        return Ok(Name::AnyLocal(prefix_text));
+        return Ok(Name::AnyLocal(prefix));
     }
-    let local_text = Txt::from_characters(alloc, local)?;
-    Ok(Name::Prefixed(prefix_text, local_text))
+    let local = Txt::from_characters(alloc, local)?;
+    Ok(Name::Prefixed(prefix, local))
 }
 
 /// The keyword that a word is, given the word behind it.

@@ -1,4 +1,4 @@
-ghost use Rattle.std.specs.Prelude.{◌≡◌, [], ◌∷◌};
+ghost use Rattle.std.specs.Prelude.{◌≡◌, [], ◌∷◌, take, drop};
 ghost use Rattle.xpath_tokens.specs.Tokens as spec;
 
 use crate::pieces::spells;
@@ -18,6 +18,16 @@ pub fn operator_word(word: &[char]) -> Option<Operator>
 fn value_operator(word: &[char]) -> Option<Operator>
     ensures { result ≡ spec.entry_of spec.value_words word.now }
 {
+    match calculating_operator(word) {
+        Some(operator) => Some(operator),
+        None => comparing_operator(word),
+    }
+}
+
+/// The logical or arithmetic operator that a word is.
+fn calculating_operator(word: &[char]) -> Option<Operator>
+    ensures { result ≡ spec.entry_of (take 5 spec.value_words) word.now }
+{
     if spells(word, b"and") {
         Some(Operator::And)
     } else if spells(word, b"or") {
@@ -28,7 +38,16 @@ fn value_operator(word: &[char]) -> Option<Operator>
         Some(Operator::Idiv)
     } else if spells(word, b"mod") {
         Some(Operator::Mod)
-    } else if spells(word, b"eq") {
+    } else {
+        None
+    }
+}
+
+/// The operator that compares values, or makes a sequence, that a word is.
+fn comparing_operator(word: &[char]) -> Option<Operator>
+    ensures { result ≡ spec.entry_of (drop 5 spec.value_words) word.now }
+{
+    if spells(word, b"eq") {
         Some(Operator::Eq)
     } else if spells(word, b"ne") {
         Some(Operator::Ne)

@@ -154,7 +154,7 @@ pub enum Token {
 }
 
 /// What may stand behind a token, as far as the reading of a word depends on it.
-#[derive(Clone, Copy, Debug)]
+#[derive(Clone, Copy)]
 pub enum Place {
     /// An operand: at the beginning, behind `@ :: ( [ ,` and behind operators.
     Operand,

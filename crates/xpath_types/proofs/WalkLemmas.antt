@@ -1,5 +1,5 @@
 -- One step of the walk over the parts of an expression.
-use Rattle.std.proofs.Common.{◌≡◌, ℕ, ◌+◌, ◌<◌, ◌≤◌, ◌-◌, ◌==◌, Bool, true, false, List, [], ◌∷◌, length, get_or, map, drop, refl, sym, ap, ◌∙◌, arith}
+use Rattle.std.proofs.Common.{◌≡◌, ℕ, ◌+◌, ◌<◌, ◌≤◌, ◌-◌, ◌==◌, Bool, true, false, List, [], ◌∷◌, length, get_or, map, drop, Result, Ok, Err, OnOk, refl, sym, ap, ◌∙◌, arith}
 use Rattle.std.proofs.lemmas.List.{drop_more, at_drop_all, length-drop}
 use Rattle.std.proofs.lemmas.Bool.Decides.{nat_tests}
 use Rattle.std.proofs.Math.Dec.{eqb-suc-zero}
@@ -96,3 +96,12 @@ module _ (declared : Declared) (focus : Kinds) (bound : List (List ℕ × Kinds)
       sym (ap (walked_parts declared form inner bound'' first so_far' s'') left) ∙ (goes ∙ (λ j. walked_parts declared form focus (binds j) true (begins j) (sees j) (viewed items))) in
       (λ j. node_ended declared focus (high j) (at j) form (map (λ part. part.0) items) (gone j))
       ∙ (λ j. node_ended declared focus (length bound) (length s.parts) form (sym named j) (walked_parts declared form focus bound true (node_begun declared token form (sym named j)) (seen_begun declared token form (sym named j) s) (viewed items)))
+
+-- what the call behind the parts leaves as it was before them
+pub kept-behind : {X E V : Type 0} (r : Result X E) (outer before after : V) → before ≡ outer → OnOk r (after ≡ before) → OnOk r (after ≡ outer)
+kept-behind (Ok x) outer before after is kept = kept ∙ is
+kept-behind (Err e) outer before after is kept = tt
+
+pub longer-behind : {X E : Type 0} (r : Result X E) (outer before after : ℕ) → outer ≤ before → OnOk r (after ≡ before) → OnOk r (outer ≤ after)
+longer-behind (Ok x) outer before after less long = omega (arith, less, long)
+longer-behind (Err e) outer before after less long = tt

@@ -16,7 +16,7 @@ pub enum TypeKind {
 }
 
 /// Why an expression isn't typed.
-#[derive(Clone, Copy, Debug)]
+#[derive(Clone, Copy)]
 pub enum TypeFault {
     /// The first refusal, with the number of the token that it stands at, from 0.
     Refused { kind: TypeKind, token: u32 },

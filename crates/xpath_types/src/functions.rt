@@ -15,7 +15,7 @@ pub(crate) const FUNCTIONS_URI: &str = "http://www.w3.org/2005/xpath-functions";
 pub(crate) const TYPES_URI: &str = "http://www.w3.org/2001/XMLSchema";
 
 /// What a name stands for as that of a function or a type.
-#[derive(Clone, Copy, Debug)]
+#[derive(Clone, Copy)]
 pub enum Resolved {
     /// Its prefix is bound to no namespace.
     Unbound,

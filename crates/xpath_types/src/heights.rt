@@ -15,12 +15,19 @@ pub(crate) struct Bound {
 }
 
 /// Names of bound variables. Contracts see the names, the innermost first.
-#[derive(Drop)]
 pub struct Heights {
     /// The innermost last.
     stack: Vec<Bound>,
     /// How high each name stands. The name of a variable that was let go stays.
     heights: IndexMap<String, Option<usize>>,
+}
+
+impl Drop for Heights {
+    fn drop(self) {
+        let Heights { stack, heights } = self;
+        drop(stack);
+        drop(heights);
+    }
 }
 
 impl Model for Heights {

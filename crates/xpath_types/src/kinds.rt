@@ -2,7 +2,7 @@ ghost use Rattle.std.specs.Prelude.{◌≡◌};
 ghost use Rattle.xpath_types.specs.Kinds as spec;
 
 /// Kinds of items: those that the items of a value may have.
-#[derive(Clone, Copy, Debug)]
+#[derive(Clone, Copy)]
 pub struct Kinds {
     pub node: bool,
     pub boolean: bool,

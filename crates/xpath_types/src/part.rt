@@ -3,7 +3,7 @@ ghost use Rattle.std.specs.Prelude.{◌≡◌};
 use crate::kinds::Kinds;
 
 /// What is known of a part of an expression before it is evaluated.
-#[derive(Clone, Copy, Debug)]
+#[derive(Clone, Copy)]
 pub struct Part {
     /// The kinds that the items of its value may have.
     pub kinds: Kinds,

@@ -9,10 +9,20 @@ use xpath_tokens::texts::is_text;
 
 /// What is declared outside an expression: prefixes with the namespaces that they are bound to, and
 /// names of variables. The prefixes `fn` and `xs` are always bound.
-#[derive(Drop)]
 pub struct Scope {
     prefixes: IndexMap<String, String>,
     variables: IndexSet<String>,
+}
+
+impl Drop for Scope {
+    fn drop(self) {
+        let Scope {
+            prefixes,
+            variables,
+        } = self;
+        drop(prefixes);
+        drop(variables);
+    }
 }
 
 impl Model for Scope {

@@ -14,11 +14,21 @@ use xpath_grammar::expr::Expr;
 use xpath_grammar::pattern::Pattern;
 
 /// An expression that is typed in a scope.
-#[derive(Drop)]
 pub struct Typed<'e> {
     expression: &'e Expr,
     scope: &'e Scope,
     parts: Vec<Part>,
+}
+
+impl Drop for Typed<'_> {
+    fn drop(self) {
+        let Typed {
+            expression: _,
+            scope: _,
+            parts,
+        } = self;
+        drop(parts);
+    }
 }
 
 impl<'e> Model for Typed<'e> {

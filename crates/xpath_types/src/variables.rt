@@ -19,11 +19,18 @@ pub(crate) struct Reading {
 }
 
 /// Bound variables. Contracts see their names and kinds, the innermost first.
-#[derive(Drop)]
 pub(crate) struct Variables {
     names: Heights,
     /// The innermost last.
     kinds: Vec<Kinds>,
+}
+
+impl Drop for Variables {
+    fn drop(self) {
+        let Variables { names, kinds } = self;
+        drop(names);
+        drop(kinds);
+    }
 }
 
 impl Model for Variables {

@@ -1,6 +1,8 @@
 //! The walk over an expression that judges it.
-ghost use Rattle.std.specs.Prelude.{◌≡◌, ◌≤◌, ◌<◌, ◌+◌, map, length, IfOk, OnOk};
+ghost use Rattle.std.specs.Prelude.{◌≡◌, ◌≤◌, ◌<◌, ◌+◌, ◌==◌, map, length, IfOk, OnOk};
+ghost use Rattle.xpath_grammar.specs.Grammar.{label_tokens};
 ghost use Rattle.xpath_grammar.specs.View.{view};
+ghost use Rattle.xpath_types.specs.Judging.{is_sure_error};
 ghost use Rattle.xpath_types.specs.Walking as spec;
 
 use crate::facts::Facts;
@@ -59,6 +61,38 @@ fn further(token: u32, count: usize) -> Result<u32, AllocError>
     }
 }
 
+/// The number of the first token of the part behind the label.
+fn start_of(so_far: Walked, label: &Label) -> Result<u32, AllocError>
+    ensures { IfOk result (λ start. start ≡ so_far.end + length (label_tokens label.now)) }
+{
+    further(so_far.end, label_length(label))
+}
+
+/// Whether the part at the place is sure to be an error there, if it has these kinds.
+fn is_sure(form: &Form, parts: &[(Label, Expr)], place: usize, kinds: Kinds) -> bool
+    requires { place < length parts.now }
+    ensures { result ≡ is_sure_error form.now (place + 1 == length parts.now) kinds }
+{
+    is_sure_error(form, place + 1 == parts.len(), kinds)
+}
+
+/// What is known behind the part, by what was known before it.
+fn joined(
+    form: &Form,
+    label: &Label,
+    first: bool,
+    sure: bool,
+    so_far: Walked,
+    part: Walked,
+) -> Walked
+    ensures { result ≡ record { facts = spec.with_part form.now label.now first sure so_far.facts part.facts; end = part.end } }
+{
+    Walked {
+        facts: with_part(form, label, first, sure, so_far.facts, part.facts),
+        end: part.end,
+    }
+}
+
 /// Judges the expression, whose first token has the number, at a focus of these kinds.
 pub(crate) fn walk(
     alloc: Global,
@@ -82,16 +116,13 @@ pub(crate) fn walk(
             let mut so_far = begin(scope, state, token, form, parts)?;
             let mut inner = focus;
             'parts: for (i, part) in parts.iter().enumerate() {
-                let start = further(so_far.end, label_length(&part.0))?;
+                let start = start_of(so_far, &part.0)?;
                 let focus = focus_inside(form, &part.0, inner);
                 let walked = walk(alloc, scope, state, focus, start, &part.1)?;
                 inner = focus_behind(form, &part.0, walked.facts.kinds, inner);
-                let sure = is_sure_error(form, i + 1 == parts.len(), walked.facts.kinds);
+                let sure = is_sure(form, parts, i, walked.facts.kinds);
                 refuse_operand(&mut state.first, start, sure);
-                so_far = Walked {
-                    facts: with_part(form, &part.0, i == 0, sure, so_far.facts, walked.facts),
-                    end: walked.end,
-                };
+                so_far = joined(form, &part.0, i == 0, sure, so_far, walked);
                 bind(alloc, &mut state.variables, &part.0, walked.facts.kinds)?;
             }
             state.variables.truncate(height);

@@ -1,89 +1,20 @@
-use Rattle.std.proofs.Common.{◌≡◌, ℕ, List, length, Option, sym, ap, subst, ◌∙◌}
-use Rattle.std.specs.Prelude.{filter, Ok}
-use Rattle.inv_base.specs.Tree.{Node}
+use Rattle.std.proofs.Common.{ap}
 use Rattle.node_arena.specs.Moves.{tree_nodes}
-use Rattle.bind_rows.specs.declared.rows.Row.{Row}
-use Rattle.bind_table.specs.WellFormed.{first_fault}
-use Rattle.bind_meaning.specs.declared.picked.Picked.{Picked}
-use Rattle.bind_meaning.specs.declared.picked.SeatedPick.{SeatedPick}
-use Rattle.bind_meaning.specs.Kept.{all_kept, all_kept_seats}
-use Rattle.bind_meaning.specs.Currencies.{Currencies, currencies}
-use Rattle.bind_meaning.specs.Terms.{term_picks, place_all}
-use Rattle.bind_seats.specs.declared.marks.Mark.{Mark}
-use Rattle.bind_seats.specs.Marks.{has_mark}
-use Rattle.bind_seats.specs.Nodes.{Sound}
-use Rattle.bind_seats.specs.Rowed.{AreWithin, AreRowed}
-use Rattle.bind_seats.specs.Currency.{named_currencies}
-use Rattle.bind_seats.specs.Fillers.{marks_beside, stays}
-use Rattle.bind_seats.specs.Occurrences.{IsSeated}
+use Rattle.bind_meaning.specs.Currencies.{Currencies}
 use Rattle.bind_seats.proofs.AttributeLemmas.{long}
-use Rattle.bind_seats.proofs.GroupLemmas.{StepLaw}
-use Rattle.bind_seats.proofs.WholeLemmas.{whole, picks-rowed, picks-within, terms-rowed, currencies-of, staying-of, seats-of}
+use Rattle.bind_seats.proofs.SeatingLemmas.{within, same_currencies}
 use Rattle.bind_seats.proofs.seating.seat.Goals as goal
-
--- the rows are the table's: what the calls ask of the picks
-within : (nodes : List Node) (count : ℕ) → length nodes ≡ count → Sound nodes → (rows : List Row) (qs : List Picked) → qs ≡ all_kept (whole nodes rows) → AreWithin count qs
-within nodes count e s rows qs h = subst (λ n. AreWithin n qs) e (picks-within nodes s rows qs h)
-
-rowed : (nodes : List Node) → Sound nodes → (rows table : List Row) → rows ≡ table → (qs : List Picked) → qs ≡ all_kept (whole nodes table) → AreRowed (length rows) qs
-rowed nodes s rows table e qs h = subst (λ (r : List Row). AreRowed (length r) qs) (sym e) (picks-rowed nodes s table qs h)
-
-same_currencies : (nodes : List Node) → Sound nodes → (rows table : List Row) → rows ≡ table → (qs : List Picked) → qs ≡ all_kept (whole nodes table) → (a b : Option (List ℕ))
-    → a ≡ (named_currencies nodes rows qs).invoice → b ≡ (named_currencies nodes rows qs).accounting → record { invoice = a; accounting = b } ≡ currencies nodes table
-same_currencies nodes s rows table e qs h a b x y =
-    let named : record { invoice = a; accounting = b } ≡ named_currencies nodes rows qs = λ i. record { invoice = x i; accounting = y i } in
-    named ∙ (ap (λ (r : List Row). named_currencies nodes r qs) e ∙ currencies-of nodes s table qs h)
-
-kept_terms : (nodes : List Node) → Sound nodes → (rows table : List Row) → rows ≡ table → (qs : List Picked) → qs ≡ all_kept (whole nodes table) → (c : Currencies) → c ≡ currencies nodes table
-    → (marks others : List Mark) → marks ≡ others → ((m : Mark) → has_mark others m ≡ has_mark (marks_beside nodes rows qs) m) → (kept : List Picked) → kept ≡ filter (stays nodes rows c marks) qs
-    → kept ≡ all_kept (term_picks nodes (currencies nodes table) table)
-kept_terms nodes s rows table e qs h c same marks others is has kept k =
-    k ∙ (ap (λ (ms : List Mark). filter (stays nodes rows c ms) qs) is
-    ∙ (ap (λ (r : List Row). filter (stays nodes r c others) qs) e
-    ∙ staying-of nodes s table qs h c (currencies nodes table) same others (λ m. has m ∙ ap (λ (r : List Row). has_mark (marks_beside nodes r qs) m) e)))
-
-seated_terms : StepLaw → (nodes : List Node) → Sound nodes → (rows table : List Row) → rows ≡ table → first_fault table ≡ Ok tt → (c : Currencies) (qs kept : List Picked) → qs ≡ kept
-    → kept ≡ all_kept (term_picks nodes c table) → (seats : List SeatedPick) → IsSeated rows qs seats → seats ≡ all_kept_seats (place_all nodes (term_picks nodes c table))
-seated_terms law nodes s rows table e formed c qs kept is k seats h =
-    seats-of law nodes s table formed c qs (is ∙ k) seats (subst (λ (r : List Row). IsSeated r qs seats) e h)
 
 pub named-requires : goal.named-requires
 named-requires g c = within _ _ (long c.args.doc.now) c.nodes_are_sound.ensures c.args.table.now c.args.picks.now c.requires.picks
 
-pub marks_beside-requires : goal.marks_beside-requires
-marks_beside-requires g c = record {
-  within = within _ _ (long c.args.doc.now) c.nodes_are_sound.ensures c.args.table.now c.args.picks.now c.requires.picks;
-  rowed = rowed _ c.nodes_are_sound.ensures c.rows-rows.result.now c.args.table.now c.rows-rows.ensures c.args.picks.now c.requires.picks;
-}
+pub seats_of-requires-clause-named : goal.seats_of-requires-clause-named
+seats_of-requires-clause-named g c =
+    same_currencies (tree_nodes c.args.doc.now) c.nodes_are_sound.ensures c.rows.result.now c.args.table.now c.rows.ensures c.args.picks.now c.requires.picks _ _
+    c.in_ok-named.ensures.invoice c.in_ok-named.ensures.accounting
 
-pub staying-requires-clause-within : goal.staying-requires-clause-within
-staying-requires-clause-within g c = within _ _ (long c.args.doc.now) c.nodes_are_sound.ensures c.args.table.now c.args.picks.now c.requires.picks
-
-pub staying-requires-clause-rowed : goal.staying-requires-clause-rowed
-staying-requires-clause-rowed g c = rowed _ c.nodes_are_sound.ensures c.rows-rows.result.now c.args.table.now c.rows-rows.ensures c.args.picks.now c.requires.picks
-
-pub all_seated-requires : goal.all_seated-requires
-all_seated-requires g c =
-    let nodes = tree_nodes c.args.doc.now in
-    let table = c.args.table.now in
-    let sound = c.nodes_are_sound.ensures in
-    let same = same_currencies nodes sound c.rows-rows.result.now table c.rows-rows.ensures c.args.picks.now c.requires.picks _ _ c.in_ok-currencies.ensures.invoice c.in_ok-currencies.ensures.accounting in
-    let kept = kept_terms nodes sound c.rows-rows.result.now table c.rows-rows.ensures c.args.picks.now c.requires.picks _ same c.as_slice.result.now c.in_ok-marks.marks.items c.as_slice.ensures.value
-    c.in_ok-marks.ensures.same c.in_ok-kept.kept.items c.in_ok-kept.ensures in
-    subst (λ (r : List Row). AreRowed (length r) c.as_slice-2.result.now) (sym c.rows-rows.ensures) (terms-rowed nodes sound table (currencies nodes table) c.as_slice-2.result.now (c.as_slice-2.ensures.value ∙ kept))
-
-pub returns-clause-picks : goal.returns-clause-picks
-returns-clause-picks g c =
-    let nodes = tree_nodes c.args.doc.now in
-    let table = c.args.table.now in
-    let sound = c.nodes_are_sound.ensures in
-    let same = same_currencies nodes sound c.rows-rows.result.now table c.rows-rows.ensures c.args.picks.now c.requires.picks _ _ c.in_ok-currencies.ensures.invoice c.in_ok-currencies.ensures.accounting in
-    let kept = kept_terms nodes sound c.rows-rows.result.now table c.rows-rows.ensures c.args.picks.now c.requires.picks _ same c.as_slice.result.now c.in_ok-marks.marks.items c.as_slice.ensures.value
-    c.in_ok-marks.ensures.same c.in_ok-kept.kept.items c.in_ok-kept.ensures in
-    seated_terms c.same_steps_are_equal.ensures nodes sound c.rows-rows.result.now table c.rows-rows.ensures c.requires.formed (currencies nodes table) c.as_slice-2.result.now c.in_ok-kept.kept.items
-    c.as_slice-2.ensures.value kept c.in_ok-seats.seats.items c.in_ok-seats.ensures
-
-pub returns-clause-currency : goal.returns-clause-currency
-returns-clause-currency g c =
+pub returns-in-Ok-clause-currency : goal.returns-in-Ok-clause-currency
+returns-in-Ok-clause-currency g c =
     ap (λ (x : Currencies). x.invoice)
-    (same_currencies _ c.nodes_are_sound.ensures c.rows-rows.result.now c.args.table.now c.rows-rows.ensures c.args.picks.now c.requires.picks _ _ c.in_ok-currencies.ensures.invoice c.in_ok-currencies.ensures.accounting)
+    (same_currencies (tree_nodes c.args.doc.now) c.nodes_are_sound.ensures c.rows.result.now c.args.table.now c.rows.ensures c.args.picks.now c.requires.picks _ _
+    c.in_ok-named.ensures.invoice c.in_ok-named.ensures.accounting)

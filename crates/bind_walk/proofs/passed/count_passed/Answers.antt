@@ -1,4 +1,4 @@
-use Rattle.std.proofs.Common.{◌++◌, ◌+◌, [], ◌∷◌, ap, sym, ◌∙◌, subst}
+use Rattle.std.proofs.Common.{◌++◌, [], ◌∷◌, ap, sym, ◌∙◌, subst}
 use Rattle.bind_walk.specs.Passing.{Reaches, roots_of}
 use Rattle.bind_walk.proofs.PassLemmas.{counting_begin, counting_more}
 use Rattle.bind_walk.proofs.passed.count_passed.Goals as goal
@@ -12,7 +12,6 @@ pub nodes-preserved : goal.nodes-preserved
 nodes-preserved g c =
     let roots = roots_of c.args.rows.now in
     let reaches = c.nodes.invariant.reaches in
-    counting_more _ _ _ _ _ _ c.in-Some.m c.in_ok-visit.visit _ _ c.nodes.invariant c.in-Some.ensures.node.0 c.in-Some.ensures.node.1
-    (c.in_ok-visit.ensures roots (subst (λ m. Reaches c.args.doc.now c.args.lines.now roots c.deref.result.now m) (sym c.in-Some.ensures.node.1)
-    (subst (λ rs. Reaches c.args.doc.now c.args.lines.now roots rs (c.nodes.n + 1)) (sym c.deref.ensures.value) reaches)))
-    c.in_ok-push-2.ensures.items c.counted-passed.ensures
+    let visited = c.in_ok-is_passed.ensures roots (subst (λ m. Reaches c.args.doc.now c.args.lines.now roots c.nodes.reached.items m) (sym c.in-Some.ensures.node.1) reaches) in
+    counting_more _ _ _ _ _ _ c.in-Some.m (record { inside = visited.inside; passed = c.in_ok-is_passed.is_passed }) _ _ c.nodes.invariant c.in-Some.ensures.node.0 c.in-Some.ensures.node.1
+    visited.visits visited.more c.counted-passed.ensures

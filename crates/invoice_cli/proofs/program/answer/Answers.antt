@@ -2,8 +2,9 @@ use Rattle.std.proofs.Common.{refl, sym, subst}
 use Rattle.std.specs.Prelude.{option_map}
 use Rattle.job_course.specs.Outside.{Outside}
 use Rattle.job_course.specs.Runs.{Runs}
-use Rattle.invoice_cli.specs.Checks.{check_course}
-use Rattle.invoice_cli.specs.Commands.{text_of, named_files}
+use Rattle.document_jobs.specs.Checks.{check_course}
+use Rattle.job_course.specs.Views.{text_of}
+use Rattle.invoice_cli.specs.Commands.{named_files}
 use Rattle.invoice_cli.specs.Job.{outline, show, convert, check, extract, query, trial, help, version, words_of}
 use Rattle.invoice_cli.specs.declared.usage.TheConstants.{HELP, VERSION}
 use Rattle.invoice_cli.proofs.AnswersLemmas.{asked_is, answers_said, answers_tried, answers_bad_word, answers_of_run}

@@ -1,15 +1,13 @@
-use Rattle.std.proofs.Common.{take, refl, ap}
-use Rattle.std.specs.Prelude.{codes}
-use Rattle.term_table.specs.Contexts.{root_context}
-use Rattle.inv_terms.specs.declared.values.Value.TheVariants as values
+use Rattle.std.proofs.Common.{take}
 use Rattle.trial_invoice.specs.Generated.{parties}
-use Rattle.trial_invoice.proofs.PutLemmas.{on-ok, put-none, put-more}
+use Rattle.trial_invoice.proofs.PutLemmas.{on-ok, put-none, put-all}
 use Rattle.trial_invoice.proofs.head.put_parties.Goals as goal
 
 pub returns : goal.returns
 returns c =
-    let put1 = put-more c.args.entries.now.items (take 0 parties) c.args.entries.now.items c.put.new.entries.items root_context root_context 24 (values.Identifier c.in_ok-standard.standard) (values.Identifier (codes "urn:cen.eu:en16931:2017")) (put-none c.args.entries.now.items) c.in_ok-put.ensures refl (ap values.Identifier c.in_ok-standard.ensures) in
-    let put2 = put-more c.args.entries.now.items (take 1 parties) c.put.new.entries.items c.put-2.new.entries.items root_context root_context 27 (values.Text c.in_ok-word.field-0) (values.Text (codes "S")) put1 c.in_ok-put-2.ensures refl (ap values.Text c.in_ok-word.ensures) in
-    let put3 = put-more c.args.entries.now.items (take 2 parties) c.put-2.new.entries.items c.put-3.new.entries.items root_context root_context 40 (values.Code c.in_ok-word-2.field-0) (values.Code (codes "DE")) put2 c.in_ok-put-3.ensures refl (ap values.Code c.in_ok-word-2.ensures) in
-    let put4 = put-more c.args.entries.now.items (take 3 parties) c.put-3.new.entries.items c.put-4.new.entries.items root_context root_context 44 (values.Text c.in_ok-word-3.field-0) (values.Text (codes "B")) put3 c.in_ok-put-4.ensures refl (ap values.Text c.in_ok-word-3.ensures) in
-    on-ok c.put-5.result (λ last. put-more c.args.entries.now.items (take 4 parties) c.put-4.new.entries.items c.put-5.new.entries.items root_context root_context 55 (values.Code c.in_ok-word-4.field-0) (values.Code (codes "FR")) put4 last refl (ap values.Code c.in_ok-word-4.ensures)) c.put-5.ensures
+    let es = c.args.entries.now.items in
+    let put1 = put-all es (take 0 parties) _ _ _ (put-none es) c.in_ok-put_identifier.ensures in
+    let put2 = put-all es (take 1 parties) _ _ _ put1 c.in_ok-put_text.ensures in
+    let put3 = put-all es (take 2 parties) _ _ _ put2 c.in_ok-put_code.ensures in
+    let put4 = put-all es (take 3 parties) _ _ _ put3 c.in_ok-put_text-2.ensures in
+    on-ok c.put_code-2.result (λ last. put-all es (take 4 parties) _ _ _ put4 last) c.put_code-2.ensures

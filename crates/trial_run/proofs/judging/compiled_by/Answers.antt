@@ -8,4 +8,4 @@ use Rattle.trial_run.proofs.judging.compiled_by.Goals as goal
 pub returns : goal.returns
 unfolding trial_rules
 returns g c =
-    subst (λ nodes. IfOk c.rules_in.result (λ rules. option_map seen_rules rules ≡ rules_in nodes)) (c.in_ok-doc.ensures ∙ ap nodes_in (c.as_bytes.ensures.value ∙ c.rule_file.ensures)) c.rules_in.ensures
+    subst (λ nodes. IfOk c.rules_in-rules.result (λ rules. option_map seen_rules rules ≡ rules_in nodes)) (c.in_ok-doc.ensures ∙ ap nodes_in (c.as_bytes.ensures.value ∙ c.rule_file.ensures)) c.rules_in-rules.ensures

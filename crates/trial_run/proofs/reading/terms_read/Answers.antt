@@ -5,4 +5,4 @@ use Rattle.trial_run.proofs.reading.terms_read.Goals as goal
 
 pub returns : goal.returns
 unfolding terms_read
-returns c = subst (λ nodes. IfOk c.terms_in.result (λ invoice. invoice ≡ terms_in nodes)) c.in_ok-doc.ensures c.terms_in.ensures
+returns c = subst (λ nodes. IfOk c.terms_in-terms.result (λ invoice. invoice ≡ terms_in nodes)) c.in_ok-doc.ensures c.terms_in-terms.ensures

@@ -15,8 +15,8 @@ finish-requires-in-Ok-finish g c =
     (read_wholly limits (g.S.Shelf.view c.args.shelf.now).left _ c.feed_all.new.reader c.in_ok-builder.builder c.feed_all.new.events c.finish.new.events c.in-Ok-finish.names kept c.in_ok-builder.ensures fed
     (c.in-Ok-finish.ensures.ended fed.fed fed.read) (λ found is. c.read_builds_its_tree.ensures limits fed.fed found (omega arith) is))
 
-pub returns-in-Ok-finish-clause-loaded : goal.returns-in-Ok-finish-clause-loaded
-returns-in-Ok-finish-clause-loaded g c =
+pub returns-in_ok-finish-in-Ok-finish-clause-loaded : goal.returns-in_ok-finish-in-Ok-finish-clause-loaded
+returns-in_ok-finish-in-Ok-finish-clause-loaded g c =
     let limits = c.args.limits in
     let fed = c.in-Ok.ensures.fed in
     let kept : c.feed_all.new.reader.limits ≡ limits = c.feed_all.ensures.limits ∙ ap (λ (p : Progress). p.limits) c.in_ok-reader.ensures in
@@ -25,8 +25,8 @@ returns-in-Ok-finish-clause-loaded g c =
     (c.in-Ok-finish.ensures.ended fed.fed fed.read) (λ found is. c.read_builds_its_tree.ensures limits fed.fed found (omega arith) is))
     c.in_ok-finish-in-Ok-finish.ensures
 
-pub returns-clause-refused : goal.returns-clause-refused
-returns-clause-refused g c = λ told is.
+pub returns-in-Err-finish-clause-refused : goal.returns-in-Err-finish-clause-refused
+returns-in-Err-finish-clause-refused g c = λ told is.
     let limits = c.args.limits in
     let fed = c.in-Ok.ensures.fed in
     let kept : c.feed_all.new.reader.limits ≡ limits = c.feed_all.ensures.limits ∙ ap (λ (p : Progress). p.limits) c.in_ok-reader.ensures in
@@ -34,18 +34,18 @@ returns-clause-refused g c = λ told is.
     refused_at_end limits c.feed_all.new.reader.limits (g.S.Shelf.view c.args.shelf.now).left fed.fed _ _ c.in-Err-finish.fault told kept (c.in-Err-finish.ensures.ended fed.fed fed.read)
     found.1 found.0 fed.whole
 
-pub returns-clause-stops : goal.returns-clause-stops
-returns-clause-stops g c = λ told is.
+pub returns-in-Err-finish-clause-stops : goal.returns-in-Err-finish-clause-stops
+returns-in-Err-finish-clause-stops g c = λ told is.
     let limits = c.args.limits in
     let kept : c.feed_all.new.reader.limits ≡ limits = c.feed_all.ensures.limits ∙ ap (λ (p : Progress). p.limits) c.in_ok-reader.ensures in
     stops_at_end limits (g.S.Shelf.view c.args.shelf.now).left _ c.feed_all.new.reader _ _ c.settled_stays.ensures kept c.in-Ok.ensures.fed
 
-pub returns-in-Ok-finish-clause-reads : goal.returns-in-Ok-finish-clause-reads
-returns-in-Ok-finish-clause-reads g c =
+pub returns-in_ok-finish-in-Ok-finish-clause-reads : goal.returns-in_ok-finish-in-Ok-finish-clause-reads
+returns-in_ok-finish-in-Ok-finish-clause-reads g c =
     let reads = c.in-Ok.ensures.reads in
     record { held = reads.held; opens = reads.opens; rose = λ is. cc; rises = reads.rises; quiet = λ other. reads.quiet (λ is. cc) }
 
-pub returns-clause-reads : goal.returns-clause-reads
-returns-clause-reads g c =
+pub returns-in-Err-finish-clause-reads : goal.returns-in-Err-finish-clause-reads
+returns-in-Err-finish-clause-reads g c =
     let reads = c.in-Ok.ensures.reads in
     record { held = reads.held; opens = reads.opens; rose = λ is. absurd (c.fault_of_reader.ensures.read cc); rises = reads.rises; quiet = λ other. reads.quiet (λ is. cc) }

@@ -10,7 +10,7 @@ use Rattle.xpath_types.specs.Refusals.{first_of}
 use Rattle.xpath_types.specs.Walking.{Seen, seen, with_part, walked}
 use Rattle.xpath_types.proofs.VariableLemmas.{none-dropped, still, still-high}
 use Rattle.xpath_grammar.proofs.ViewLaws.{view-leaf, view-node}
-use Rattle.xpath_types.proofs.WalkLemmas.{step, node-walked}
+use Rattle.xpath_types.proofs.WalkLemmas.{step, node-walked, kept-behind, longer-behind}
 use Rattle.xpath_types.proofs.walk.+walk.Goals as goal
 
 pub parts-init : goal.parts-init
@@ -23,15 +23,14 @@ pub parts-preserved : goal.parts-preserved
 parts-preserved t c =
     let at : c.walk.new.state.variables ≡ c.parts.state.variables = c.in_ok-walked-in-Node.ensures.kept in
     let binds = c.in_ok-bind-in-Node.ensures ∙ ap (variables_behind c.index-parts-i.result.0 c.in_ok-walked-in-Node.walked.facts.kinds) at in
-    let facts = c.with_part.ensures ∙ ap (λ sure. with_part c.in-Node.form c.index-parts-i.result.0 (c.parts.i == 0) sure c.parts.so_far.facts c.in_ok-walked-in-Node.walked.facts) c.is_sure_error-sure.ensures in
-    let first = c.refuse_operand.ensures ∙ ap (λ sure. first_of c.walk.new.state.first (sure_refusals c.in_ok-start-in-Node.start sure)) c.is_sure_error-sure.ensures in
+    let first = c.refuse_operand.ensures ∙ ap (λ sure. first_of c.walk.new.state.first (sure_refusals c.in_ok-start-in-Node.start sure)) c.is_sure-sure.ensures in
     record {
       same = sym (step c.args.scope.now c.in-Node.form c.as_slice-parts.result.now c.parts.i c.index-parts-i.result c.index-parts-i.is (omega arith) c.parts.inner _ c.parts.state.variables _ c.parts.so_far _
           c.in_ok-walked-in-Node.walked (seen c.parts.state) (seen c.walk.new.state) _ c.in_ok-start-in-Node.start
-          (c.in_ok-start-in-Node.ensures ∙ ap (λ n. c.parts.so_far.end + n) c.label_length.ensures)
+          c.in_ok-start-in-Node.ensures
           (c.in_ok-walked-in-Node.ensures.walked ∙ ap (λ (focus : Kinds). (walked c.args.scope.now focus c.parts.state.variables c.in_ok-start-in-Node.start (seen c.parts.state) (view c.index-parts-i.result.1)).0) c.focus_inside-focus.ensures)
           (c.in_ok-walked-in-Node.ensures.seen ∙ ap (λ (focus : Kinds). (walked c.args.scope.now focus c.parts.state.variables c.in_ok-start-in-Node.start (seen c.parts.state) (view c.index-parts-i.result.1)).1) c.focus_inside-focus.ensures)
-          c.focus_behind-inner.ensures (λ j. record { facts = facts j; end = c.in_ok-walked-in-Node.walked.end }) (λ j. record { parts = c.walk.new.state.parts.items; first = first j })
+          c.focus_behind-inner.ensures (c.joined-so_far.ensures ∙ (λ j. record { facts = with_part c.in-Node.form c.index-parts-i.result.0 (c.parts.i == 0) (c.is_sure-sure.ensures j) c.parts.so_far.facts c.in_ok-walked-in-Node.walked.facts; end = c.in_ok-walked-in-Node.walked.end })) (λ j. record { parts = c.walk.new.state.parts.items; first = first j })
           binds) ∙ c.parts.invariant.same;
       kept = still _ _ c.index-parts-i.result.0 c.in_ok-walked-in-Node.walked.facts.kinds _ binds c.parts.invariant.high c.parts.invariant.kept;
       high = still-high _ _ c.index-parts-i.result.0 c.in_ok-walked-in-Node.walked.facts.kinds _ binds c.parts.invariant.high;
@@ -75,3 +74,11 @@ returns-after-parts-clause-seen t c =
     (length c.truncate.new.self) c.len-index.result (ap length vars) count in
     let tree : view c.args.x.now ≡ g.node c.in-Node.form (viewed c.as_slice-parts.result.now) = ap view c.in-Node.is ∙ (view-node c.in-Node.form c.in-Node.parts ∙ ap (λ items. g.node c.in-Node.form (viewed items)) (sym c.as_slice-parts.ensures)) in
     subst (λ (r : Walked × Seen). OnOk c.end.result (seen c.end.new.state ≡ r.1)) (whole ∙ ap (λ (x : Tree). walked c.args.scope.now c.args.focus c.args.state.now.variables c.args.token (seen c.args.state.now) x) (sym tree)) c.end.ensures.seen
+
+pub returns-after-parts-clause-kept : goal.returns-after-parts-clause-kept
+returns-after-parts-clause-kept t c = kept-behind c.end.result _ _ _ (c.truncate.ensures ∙ (c.parts.invariant.kept ∙ c.in_ok-so_far-in-Node.ensures.kept)) c.end.ensures.kept
+
+pub returns-after-parts-clause-longer : goal.returns-after-parts-clause-longer
+returns-after-parts-clause-longer t c =
+    let begun : length c.begin.new.state.parts.items ≡ length c.args.state.now.parts.items + 1 = ap (λ (s : Seen). length s.parts) c.in_ok-so_far-in-Node.ensures.seen ∙ length_push c.args.state.now.parts.items _ in
+    longer-behind c.end.result _ _ _ (omega (arith, c.parts.invariant.longer, begun)) c.end.ensures.long

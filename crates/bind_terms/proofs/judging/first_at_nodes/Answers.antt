@@ -1,0 +1,44 @@
+use Rattle.std.proofs.Common.{ℕ, ◌<◌, List, length, option_map, arith}
+use Rattle.std.specs.Str.{chars}
+use Rattle.std.specs.Borrow.{Bor}
+use Rattle.std.proofs.lemmas.Result.{IfOk-weaker}
+use Rattle.node_arena.specs.Document.{Document}
+use Rattle.node_arena.specs.Moves.{tree_nodes}
+use Rattle.bind_faults.proofs.NodeLists.{ordered, long}
+use Rattle.bind_terms.specs.Faults.{found_of}
+use Rattle.bind_terms.proofs.Final.{standing, picks-within, indicators-within, picks-rowed, indicators-rowed}
+use Rattle.bind_terms.proofs.judging.first_at_nodes.Goals as goal
+
+some-nodes : (document : Document) → 1 < length document.nodes → 0 < length (tree_nodes document)
+some-nodes document h = omega (arith, h, long document)
+
+pub tell_picks-requires-clause-within : goal.tell_picks-requires-clause-within
+tell_picks-requires-clause-within g c =
+    picks-within (tree_nodes c.args.doc.now) (ordered c.args.doc.now c.is_of_a_tree.ensures.numbers) (some-nodes c.args.doc.now c.is_of_a_tree.ensures.rooted) c.args.lists.now c.args.table.now
+    _ c.args.picks.now (long c.args.doc.now) c.requires.picks
+
+pub tell_picks-requires-clause-rows : goal.tell_picks-requires-clause-rows
+tell_picks-requires-clause-rows g c =
+    picks-rowed (tree_nodes c.args.doc.now) (ordered c.args.doc.now c.is_of_a_tree.ensures.numbers) (some-nodes c.args.doc.now c.is_of_a_tree.ensures.rooted) c.args.lists.now c.args.table.now
+    c.args.picks.now c.requires.picks
+
+pub with_wrong_words-requires-clause-rows : goal.with_wrong_words-requires-clause-rows
+with_wrong_words-requires-clause-rows g c =
+    indicators-rowed (tree_nodes c.args.doc.now) (ordered c.args.doc.now c.is_of_a_tree.ensures.numbers) (some-nodes c.args.doc.now c.is_of_a_tree.ensures.rooted) c.args.lists.now c.args.table.now
+    c.args.indicators.now c.requires.indicators
+
+pub with_wrong_words-requires-clause-within : goal.with_wrong_words-requires-clause-within
+with_wrong_words-requires-clause-within g c =
+    indicators-within (tree_nodes c.args.doc.now) (ordered c.args.doc.now c.is_of_a_tree.ensures.numbers) (some-nodes c.args.doc.now c.is_of_a_tree.ensures.rooted) c.args.lists.now c.args.table.now
+    _ c.args.indicators.now (long c.args.doc.now) c.requires.indicators
+
+pub returns : goal.returns
+returns g c =
+    IfOk-weaker c.with_wrong_words.result _ _
+    (λ least words. record {
+      at_picks = option_map found_of c.in_ok-at_picks.at_picks;
+      holds = standing (tree_nodes c.args.doc.now) (ordered c.args.doc.now c.is_of_a_tree.ensures.numbers) (some-nodes c.args.doc.now c.is_of_a_tree.ensures.rooted) c.args.lists.now c.args.table.now (option_map (λ (text : Bor (List ℕ)). chars text.now) c.args.invoice_currency) c.args.picks.now
+          c.tell_picks.new.firsts.entries (option_map found_of c.in_ok-at_picks.at_picks) c.requires.currency c.requires.picks c.in_ok-at_picks.ensures;
+      words = words;
+    })
+    c.with_wrong_words.ensures

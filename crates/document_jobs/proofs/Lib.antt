@@ -1,0 +1,3 @@
+pub mod OutlineLemmas
+mod QueryLemmas
+mod CheckLemmas

@@ -1,0 +1,209 @@
+-- What is answered to a check: what rule files find in a document (ISO/IEC 19757-3).
+use Rattle.std.specs.Prelude.{◌≡◌, ℕ, Bool, true, false, ◌||◌, List, [], ◌∷◌, ◌++◌, map, codes, decimal, chars, encode_utf8_all, Option, Some, None, Result, Ok, Err, if◌then◌else◌}
+use Rattle.std.proofs.Common.{◌⊎◌}
+use Rattle.std.specs.List.{All, list_any}
+use Rattle.inv_base.specs.Outside.{SinkView}
+use Rattle.inv_base.specs.Tree.{Node}
+use Rattle.inv_base.specs.Writing.{WritesAll, WritesFront}
+use Rattle.xml_profile.specs.Profile as profile
+use Rattle.node_arena.specs.Document.{Document, node_at}
+use Rattle.node_arena.specs.Moves.{tree_nodes}
+use Rattle.schematron_meaning.specs.declared.attribute.Attribute.{Attribute}
+use Rattle.schematron_meaning.specs.Words.{attribute_word}
+use Rattle.schematron_meaning.specs.declared.fault.Fault.{Fault}
+use Rattle.schematron_meaning.specs.declared.fault.RuleKind.{RuleKind}
+use Rattle.schematron_meaning.specs.declared.fault.RuleKind.TheVariants as k
+use Rattle.schematron_meaning.specs.declared.fault.ExpressionFault.{ExpressionFault}
+use Rattle.schematron_meaning.specs.declared.fault.ExpressionFault.TheVariants as x
+use Rattle.schematron_meaning.specs.Rules.{Rules, rules_of}
+use Rattle.schematron_meaning.specs.Phases.{Active, active_of, the_default}
+use Rattle.schematron_rules.specs.Seen.{seen_rules, seen_active}
+use Rattle.schematron_compile.specs.declared.compiling.RuleFault.{RuleFault}
+use Rattle.schematron_compile.specs.declared.compiling.RuleFault.TheVariants as f
+use Rattle.schematron_findings.specs.declared.level.Level.{Level}
+use Rattle.schematron_findings.specs.declared.finding.FindingKind.{FindingKind}
+use Rattle.schematron_findings.specs.declared.finding.Finding.{Finding}
+use Rattle.schematron_findings.specs.declared.finding.Line.{Line}
+use Rattle.schematron_run.specs.Judging.{findings}
+use Rattle.schematron_run.specs.Contexts.{HasPatterns}
+use Rattle.svrl_report.specs.Plain.{is_failed_by, is_error_by, is_found, all_lines, plain_report}
+use Rattle.svrl_report.specs.Svrl.{svrl_report}
+use Rattle.job_course.specs.declared.status.Status.{Status}
+use Rattle.job_course.specs.declared.status.Status.TheVariants as statuses
+use Rattle.job_course.specs.Outside.{TakesOrFails}
+use Rattle.job_course.specs.Course.{Answer, Course, ends, refusal, by_result, document_course, rules_course}
+use Rattle.job_course.specs.Views.{document_read}
+use Rattle.document_jobs.specs.Queries.{placed, syntax_text, type_text}
+use Rattle.document_jobs.specs.declared.checks.Named as code
+use Rattle.document_jobs.specs.declared.checks.Chosen as chosen_code
+
+-- ---- why a rule file is refused
+
+-- the name of a kind of fault
+abbrev pub rule_kind_text : RuleKind → List ℕ
+rule_kind_text k.NotSchematron = codes "NotSchematron"
+rule_kind_text k.BadBinding = codes "BadBinding"
+rule_kind_text k.BadElement = codes "BadElement"
+rule_kind_text k.MissingAttribute = codes "MissingAttribute"
+rule_kind_text k.DuplicateId = codes "DuplicateId"
+rule_kind_text k.NoSuchPattern = codes "NoSuchPattern"
+rule_kind_text k.NoSuchRule = codes "NoSuchRule"
+rule_kind_text k.Cycle = codes "Cycle"
+rule_kind_text (k.Expression fault) = codes "Expression"
+rule_kind_text k.TooMany = codes "TooMany"
+
+abbrev pub rule_attribute_text : Option Attribute → List ℕ
+rule_attribute_text None = 0x2D ∷ []
+rule_attribute_text (Some name) = attribute_word name
+
+-- why an expression is refused, with the number of the character or the token where there is one
+abbrev pub rule_expression_text : ExpressionFault → List ℕ
+rule_expression_text (x.Syntax fault) = syntax_text fault
+rule_expression_text (x.Type kind token) = placed (type_text kind) token
+
+-- what is told behind the attribute
+abbrev pub reason_text : RuleKind → List ℕ
+reason_text (k.Expression fault) = codes ": " ++ rule_expression_text fault
+reason_text _ = []
+
+-- a fault with its place, which is that of its node, and its attribute, or `-`
+abbrev pub rule_line : List ℕ → Document → Fault → List ℕ
+rule_line file document fault =
+    codes "einv: " ++ (file ++ (codes ": " ++ (rule_kind_text fault.kind ++ (codes " at " ++ (decimal (node_at document.nodes fault.node).place
+    ++ (0x20 ∷ (rule_attribute_text fault.attribute ++ (reason_text fault.kind ++ 0xA ∷ []))))))))
+
+abbrev pub no_phase_line : List ℕ → List ℕ → List ℕ
+no_phase_line file phase = codes "einv: " ++ (file ++ (codes ": NoPhase " ++ (phase ++ 0xA ∷ [])))
+
+-- ---- rule files
+
+-- what follows by the rules of a file, or its first fault
+abbrev pub by_rules : List ℕ → Document → (Rules → Course) → Result Rules Fault → Course
+by_rules name document next found = by_result (λ fault. ends (refusal statuses.RulesRefused (rule_line name document fault))) next found
+
+-- what the rule file of that name says, and what follows by it
+abbrev pub said_course : List ℕ → (Rules → Course) → Course
+said_course name next = rules_course name (λ found. by_rules name (document_read found) next (rules_of (tree_nodes (document_read found))))
+
+-- a rule file with its name
+pub record Named : Type 0 where
+  pub name : List ℕ
+  pub rules : Rules
+
+abbrev pub with_name : List ℕ → Rules → Named
+with_name name rules = record { name = name; rules = rules }
+
+-- what the rule files of these names say, one after another, and what follows by all of them
+abbrev pub all_said : List (List ℕ) → (List Named → Course) → Course
+all_said [] next = next []
+all_said (name ∷ names) next = said_course name (λ rules. all_said names (λ others. next (with_name name rules ∷ others)))
+
+-- rules with what is active of them
+pub record Chosen : Type 0 where
+  pub rules : Rules
+  pub active : Active
+
+abbrev pub with_active : Rules → Active → Chosen
+with_active rules active = record { rules = rules; active = active }
+
+abbrev pub with_more : Chosen → Result (List Chosen) (List ℕ) → Result (List Chosen) (List ℕ)
+with_more one (Ok others) = Ok (one ∷ others)
+with_more one (Err name) = Err name
+
+-- what is active in each file by the name of a phase, or the name of the first file that has no such phase
+abbrev pub chosen : List ℕ → List Named → Result (List Chosen) (List ℕ)
+chosen phase [] = Ok []
+chosen phase (file ∷ files) = elim (active_of file.rules (chars phase)) [
+  | None ↦ Err file.name
+  | (Some active) ↦ with_more (with_active file.rules active) (chosen phase files)
+]
+
+-- what follows by what is active, or the refusal of a file without the phase
+abbrev pub by_phase : List ℕ → (List Chosen → Course) → Result (List Chosen) (List ℕ) → Course
+by_phase phase next found = by_result (λ name. ends (refusal statuses.RulesRefused (no_phase_line name phase))) next found
+
+-- the phase that is asked for where none is named
+abbrev pub phase_asked : Option (List ℕ) → List ℕ
+phase_asked None = the_default
+phase_asked (Some phase) = phase
+
+-- what is active of the rule files, of which all are read before one is refused for its phases, and what follows by it
+abbrev pub chosen_course : List ℕ → List (List ℕ) → (List Chosen → Course) → Course
+chosen_course phase names next = all_said names (λ files. by_phase phase next (chosen phase files))
+
+-- ---- the report
+
+-- all that is found, file by file
+unfoldable pub all_found : List Node → List Chosen → List (List Line)
+all_found nodes files = map (λ (file : Chosen). findings file.rules file.active nodes) files
+
+-- a fatal assertion failed, or one is in error
+abbrev pub finding_counts : FindingKind → Level → Bool
+finding_counts outcome level = is_failed_by outcome level || is_error_by outcome
+
+-- the line tells one that counts against the document
+abbrev pub counts : Line → Bool
+counts = is_found (λ (f : Finding). finding_counts f.outcome f.level)
+
+unfoldable pub finding_status : List (List Line) → Status
+finding_status found = if list_any counts (all_lines found) then statuses.Findings else statuses.Done
+
+-- the report in SVRL, or the plain one
+abbrev pub report_text : Bool → List (List Line) → List ℕ
+report_text true found = encode_utf8_all (svrl_report found)
+report_text false found = plain_report found
+
+abbrev pub reported : Bool → List (List Line) → Answer
+reported svrl found = record { status = finding_status found; out = report_text svrl found; err = [] }
+
+-- the rule files before the document, and one report over all of them
+abbrev pub check_course : Bool → Option (List ℕ) → List (List ℕ) → List ℕ → Course
+check_course svrl phase names file =
+    chosen_course (phase_asked phase) names (λ files. document_course file (λ found. ends (reported svrl (all_found (tree_nodes (document_read found)) files))))
+
+-- ---- what the code has
+
+-- what is judged once it is known what is active: the document
+abbrev pub judged_next : Bool → List Chosen → profile.Document → Course
+judged_next svrl files found = ends (reported svrl (all_found (tree_nodes (document_read found)) files))
+
+abbrev pub chosen_next : Bool → List ℕ → List Chosen → Course
+chosen_next svrl file files = document_course file (judged_next svrl files)
+
+-- what follows once all rule files are read
+abbrev pub said_next : Bool → List ℕ → List ℕ → List Named → Course
+said_next svrl phase file files = by_phase phase (chosen_next svrl file) (chosen phase files)
+
+-- a rule file as the definitions have it
+abbrev pub named_of : code.Named → Named
+named_of file = with_name file.name.now (seen_rules file.rules)
+
+abbrev pub chosen_of : chosen_code.Chosen → Chosen
+chosen_of file = with_active (seen_rules file.rules.now) (seen_active file.active)
+
+-- A document can be judged by the rules: their contexts have the shape of patterns.
+unfoldable pub CanJudge : Rules → Type 0
+CanJudge rules = HasPatterns rules
+
+abbrev pub AreNamed : List Named → Type 0
+AreNamed files = All (λ (file : Named). CanJudge file.rules) files
+
+abbrev pub AreChosen : List Chosen → Type 0
+AreChosen files = All (λ (file : Chosen). CanJudge file.rules) files
+
+-- The status of a fault of a rule file, whose line was told; want of memory has none.
+abbrev pub IsRuleRefusal : Document → List ℕ → RuleFault → Status → SinkView → SinkView → Type 0
+IsRuleRefusal document file f.Memory status before after = (status ≡ statuses.Memory) × (after ≡ before)
+IsRuleRefusal document file (f.Refused fault) status before after = (status ≡ statuses.RulesRefused) × TakesOrFails (rule_line file document fault) before after
+
+-- A file has no such phase, and its line was told; or memory ran out.
+abbrev pub IsPhaseRefusal : List ℕ → Result (List Chosen) (List ℕ) → Status → SinkView → SinkView → Type 0
+IsPhaseRefusal phase found status before after =
+    ((status ≡ statuses.Memory) × (after ≡ before))
+    ⊎ ((name : List ℕ) × (found ≡ Err name) × (status ≡ statuses.RulesRefused) × TakesOrFails (no_phase_line name phase) before after)
+
+-- The report was written, or a front of it where a write failed; where memory ran out nothing was.
+abbrev pub Reports : Status → Bool → List (List Line) → SinkView → SinkView → Type 0
+Reports status svrl found before after =
+    ((status ≡ finding_status found) × WritesAll (report_text svrl found) before after)
+    ⊎ (((status ≡ statuses.WriteFault) × WritesFront (report_text svrl found) before after) ⊎ ((status ≡ statuses.Memory) × (after ≡ before)))

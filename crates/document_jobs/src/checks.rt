@@ -1,0 +1,360 @@
+//! The job that judges a document by rule files.
+ghost use Rattle.std.specs.Prelude.{◌≡◌, ◌<◌, length, map, option_map, IfOk, IfErr, OnOk};
+ghost use Rattle.std.specs.List.{list_any};
+ghost use Rattle.inv_base.specs.Writing.{Writes};
+ghost use Rattle.node_arena.specs.Moves.{tree_nodes};
+ghost use Rattle.schematron_rules.specs.Seen.{seen_rules};
+ghost use Rattle.schematron_compile.specs.Answers.{IsOfANode};
+ghost use Rattle.job_course.specs.Runs.{Runs, Continues, Fails};
+ghost use Rattle.job_course.specs.Views.{text_of, texts_of};
+ghost use Rattle.document_jobs.specs.Checks as spec;
+ghost use Rattle.document_jobs.specs.Checks.{named_of, chosen_of, CanJudge, AreNamed, AreChosen, IsRuleRefusal, IsPhaseRefusal, Reports, said_course, all_said, chosen_next, said_next, check_course};
+
+use crate::refusals::{tell_no_phase, tell_rule_fault};
+use bumpalo::Bump;
+use inv_base::{Shelf, Sink, Steps};
+use job_course::{Status, load_document, load_rules};
+use node_arena::Doc;
+use schematron_compile::{RuleFault, compile};
+use schematron_findings::{Finding, FindingKind, Findings, Level, Line};
+use schematron_meaning::PhaseFault;
+use schematron_rules::{Active, Rules};
+use schematron_run::{compiled_rules_have_patterns, judge};
+use std::alloc::{AllocError, Global};
+use std::marker::Brand;
+use std::sync::ledger::{Blank, Ledger};
+use svrl_report::{write_plain, write_svrl};
+use xml_write::WriteFault;
+
+/// The name under which a file says what is active by default.
+const DEFAULT_PHASE: &str = "#DEFAULT";
+
+/// What is asked of rule files and a document.
+#[derive(Clone, Copy)]
+pub struct Checking<'c, 'w> {
+    /// Whether the report is to be SVRL.
+    pub svrl: bool,
+    /// The phase whose patterns are judged, where one is named.
+    pub phase: Option<&'w str>,
+    pub rules: &'c [&'w str],
+    /// The document.
+    pub file: &'w str,
+}
+
+/// What a rule file says, with the file's name.
+struct Named<'f> {
+    name: &'f str,
+    rules: Rules,
+}
+
+impl Drop for Named<'_> {
+    fn drop(self) {
+        let Named { name: _, rules } = self;
+        drop(rules);
+    }
+}
+
+/// Rules with what is active of them.
+struct Chosen<'r> {
+    rules: &'r Rules,
+    active: Active,
+}
+
+impl Drop for Chosen<'_> {
+    fn drop(self) {
+        let Chosen { rules: _, active } = self;
+        drop(active);
+    }
+}
+
+/// Reports what the rule files find in a document. All refusals are settled before the first byte of the report.
+pub fn check<S: Shelf, O: Sink, E: Sink>(
+    alloc: Global,
+    asked: &Checking<'_, '_>,
+    shelf: &mut S,
+    out: &mut O,
+    err: &mut E,
+) -> Status
+    ensures { Runs (check_course asked.now.svrl (option_map text_of asked.now.phase) (texts_of asked.now.rules.now) asked.now.file.now)
+        (record { shelf = S.view shelf.old; out = O.view out.old; err = E.view err.old })
+        (record { shelf = S.view shelf.new; out = O.view out.new; err = E.view err.new }) result }
+{
+    check_by::<Brand, S, O, E>(alloc, asked, Blank::new(1), shelf, out, err)
+}
+
+/// The same by steps that nobody asks for.
+fn check_by<L: Ledger, S: Shelf, O: Sink, E: Sink>(
+    alloc: Global,
+    asked: &Checking<'_, '_>,
+    ledger: Blank,
+    shelf: &mut S,
+    out: &mut O,
+    err: &mut E,
+) -> Status
+    requires name { ledger.name ≡ L.name }
+    requires parts { ledger.parts ≡ L.parts }
+    requires some { 0 < ledger.parts }
+    ensures { Runs (check_course asked.now.svrl (option_map text_of asked.now.phase) (texts_of asked.now.rules.now) asked.now.file.now)
+        (record { shelf = S.view shelf.old; out = O.view out.old; err = E.view err.old })
+        (record { shelf = S.view shelf.new; out = O.view out.new; err = E.view err.new }) result }
+{
+    let mut steps = Steps::<L>::new(ledger);
+    match load_all(alloc, asked.rules, shelf, err, &mut steps) {
+        Ok(files) => {
+            let status = check_with(alloc, asked, &files, shelf, out, err, &mut steps);
+            drop(files);
+            status
+        }
+        Err(status) => status,
+    }
+}
+
+/// The same once all rule files are read.
+fn check_with<L: Ledger, S: Shelf, O: Sink, E: Sink>(
+    alloc: Global,
+    asked: &Checking<'_, '_>,
+    files: &[Named<'_>],
+    shelf: &mut S,
+    out: &mut O,
+    err: &mut E,
+    steps: &mut Steps<L>,
+) -> Status
+    requires { AreNamed (map named_of files.now) }
+    ensures { Runs (said_next asked.now.svrl (spec.phase_asked (option_map text_of asked.now.phase)) asked.now.file.now (map named_of files.now))
+        (record { shelf = S.view shelf.old; out = O.view out.old; err = E.view err.old })
+        (record { shelf = S.view shelf.new; out = O.view out.new; err = E.view err.new }) result }
+{
+    match choose(alloc, phase_asked(asked.phase), files, err) {
+        Ok(chosen) => {
+            let status = check_document(alloc, asked, &chosen, shelf, out, err, steps);
+            drop(chosen);
+            status
+        }
+        Err(status) => status,
+    }
+}
+
+/// The same once it is known what is active in each.
+fn check_document<L: Ledger, S: Shelf, O: Sink, E: Sink>(
+    alloc: Global,
+    asked: &Checking<'_, '_>,
+    chosen: &[Chosen<'_>],
+    shelf: &mut S,
+    out: &mut O,
+    err: &mut E,
+    steps: &mut Steps<L>,
+) -> Status
+    requires { AreChosen (map chosen_of chosen.now) }
+    ensures { Runs (chosen_next asked.now.svrl asked.now.file.now (map chosen_of chosen.now))
+        (record { shelf = S.view shelf.old; out = O.view out.old; err = E.view err.old })
+        (record { shelf = S.view shelf.new; out = O.view out.new; err = E.view err.new }) result }
+{
+    let bump = Bump::new(alloc);
+    let doc = match load_document(alloc, &bump, shelf, asked.file, err) {
+        Ok(doc) => doc,
+        Err(status) => return status,
+    };
+    report(alloc, asked.svrl, chosen, &doc, out, steps)
+}
+
+/// The phase that is asked for.
+fn phase_asked(phase: Option<&str>) -> &str
+    ensures { result.now ≡ spec.phase_asked (option_map text_of phase.entry) }
+{
+    match phase {
+        Some(phase) => phase,
+        None => DEFAULT_PHASE,
+    }
+}
+
+/// What the rule files say, or the status with which the job ends.
+fn load_all<'f, L: Ledger, S: Shelf, E: Sink>(
+    alloc: Global,
+    names: &[&'f str],
+    shelf: &mut S,
+    err: &mut E,
+    steps: &mut Steps<L>,
+) -> Result<Vec<Named<'f>>, Status>
+    ensures goes_on { IfOk result (λ files. Continues (all_said (texts_of names.now)) (map named_of files.items)
+        (S.view shelf.old) (S.view shelf.new) (E.view err.old) (E.view err.new)) }
+    ensures patterns { IfOk result (λ files. AreNamed (map named_of files.items)) }
+    ensures fails { IfErr result (λ status. Fails (all_said (texts_of names.now)) status
+        (S.view shelf.old) (S.view shelf.new) (E.view err.old) (E.view err.new)) }
+{
+    let mut files = Vec::new(alloc);
+    'files: for name in names {
+        let rules = match load_said(alloc, name, shelf, err, steps) {
+            Ok(rules) => rules,
+            Err(status) => return Err(status),
+        };
+        if files.push(Named { name, rules }).is_err() {
+            return Err(Status::Memory);
+        }
+    }
+    Ok(files)
+}
+
+/// What a rule file says, or the status with which the job ends. The rules outlive the document of their file.
+fn load_said<L: Ledger, S: Shelf, E: Sink>(
+    alloc: Global,
+    name: &str,
+    shelf: &mut S,
+    err: &mut E,
+    steps: &mut Steps<L>,
+) -> Result<Rules, Status>
+    ensures goes_on { IfOk result (λ rules. Continues (said_course name.now) (seen_rules rules)
+        (S.view shelf.old) (S.view shelf.new) (E.view err.old) (E.view err.new)) }
+    ensures patterns { IfOk result (λ rules. CanJudge (seen_rules rules)) }
+    ensures fails { IfErr result (λ status. Fails (said_course name.now) status
+        (S.view shelf.old) (S.view shelf.new) (E.view err.old) (E.view err.new)) }
+{
+    compiled_rules_have_patterns();
+    let bump = Bump::new(alloc);
+    let doc = match load_rules(alloc, &bump, shelf, name, err) {
+        Ok(doc) => doc,
+        Err(status) => return Err(status),
+    };
+    match compile(alloc, &doc, steps) {
+        Ok(rules) => Ok(rules),
+        Err(fault) => Err(refuse_rules(&doc, name, &fault, err)),
+    }
+}
+
+/// The status with which a job ends whose rule file is refused; its line is told.
+fn refuse_rules<E: Sink>(doc: &Doc<'_>, file: &str, fault: &RuleFault, err: &mut E) -> Status
+    requires { IsOfANode (length doc.now.nodes) fault.now }
+    ensures { IsRuleRefusal doc.now file.now fault.now result (E.view err.old) (E.view err.new) }
+{
+    match fault {
+        RuleFault::Memory => Status::Memory,
+        RuleFault::Refused(fault) => {
+            tell_rule_fault(doc, file, fault, err);
+            Status::RulesRefused
+        }
+    }
+}
+
+/// What is active in each file, or the status with which the job ends where the first file hasn't the phase.
+fn choose<'r, E: Sink>(
+    alloc: Global,
+    phase: &str,
+    files: &'r [Named<'_>],
+    err: &mut E,
+) -> Result<Vec<Chosen<'r>>, Status>
+    requires { AreNamed (map named_of files.now) }
+    ensures chosen { IfOk result (λ chosen. spec.chosen phase.now (map named_of files.now) ≡ Ok (map chosen_of chosen.items)) }
+    ensures patterns { IfOk result (λ chosen. AreChosen (map chosen_of chosen.items)) }
+    ensures quiet { OnOk result (E.view err.new ≡ E.view err.old) }
+    ensures fails { IfErr result (λ status. IsPhaseRefusal phase.now (spec.chosen phase.now (map named_of files.now)) status (E.view err.old) (E.view err.new)) }
+{
+    let mut chosen = Vec::new(alloc);
+    'files: for file in files {
+        let active = match file.rules.phase(alloc, phase) {
+            Ok(active) => active,
+            Err(PhaseFault::Memory) => return Err(Status::Memory),
+            Err(PhaseFault::NoPhase) => {
+                tell_no_phase(file.name, phase, err);
+                return Err(Status::RulesRefused);
+            }
+        };
+        let one = Chosen {
+            rules: &file.rules,
+            active,
+        };
+        if chosen.push(one).is_err() {
+            return Err(Status::Memory);
+        }
+    }
+    Ok(chosen)
+}
+
+/// Writes what the rules find in a document. All of it is found before the first byte is written.
+fn report<L: Ledger, O: Sink>(
+    alloc: Global,
+    svrl: bool,
+    chosen: &[Chosen<'_>],
+    doc: &Doc<'_>,
+    out: &mut O,
+    steps: &mut Steps<L>,
+) -> Status
+    requires { AreChosen (map chosen_of chosen.now) }
+    ensures { Reports result svrl (spec.all_found (tree_nodes doc.now) (map chosen_of chosen.now)) (O.view out.old) (O.view out.new) }
+{
+    let found = match judge_all(alloc, chosen, doc, steps) {
+        Ok(found) => found,
+        Err(_) => return Status::Memory,
+    };
+    match write_report(svrl, &found, out) {
+        Ok(()) => finding_status(&found),
+        Err(_) => Status::WriteFault,
+    }
+}
+
+/// What the rules find, file by file.
+fn judge_all<L: Ledger>(
+    alloc: Global,
+    chosen: &[Chosen<'_>],
+    doc: &Doc<'_>,
+    steps: &mut Steps<L>,
+) -> Result<Vec<Findings>, AllocError>
+    requires { AreChosen (map chosen_of chosen.now) }
+    ensures { IfOk result (λ found. found.items ≡ spec.all_found (tree_nodes doc.now) (map chosen_of chosen.now)) }
+{
+    let mut found = Vec::new(alloc);
+    'files: for file in chosen {
+        found.push(judge(alloc, file.rules, &file.active, doc, steps)?)?;
+    }
+    Ok(found)
+}
+
+/// Writes the report in SVRL, or the plain one.
+fn write_report<O: Sink>(svrl: bool, found: &[Findings], out: &mut O) -> Result<(), WriteFault>
+    ensures { Writes result (spec.report_text svrl found.now) (O.view out.old) (O.view out.new) }
+{
+    if svrl {
+        write_svrl(found, out)
+    } else {
+        write_plain(found, out)
+    }
+}
+
+/// The status of a report.
+fn finding_status(found: &[Findings]) -> Status
+    ensures { result ≡ spec.finding_status found.now }
+{
+    'files: for file in found {
+        if any_counts(file.lines()) {
+            return Status::Findings;
+        }
+    }
+    Status::Done
+}
+
+fn any_counts(lines: &[Line]) -> bool
+    ensures { result ≡ list_any spec.counts lines.now }
+{
+    lines.iter().any(|line| counts(line))
+}
+
+/// Whether a fatal assertion failed, or one is in error.
+fn counts(line: &Line) -> bool
+    ensures { result ≡ spec.counts line.now }
+{
+    match line {
+        Line::Found(finding) => finding_counts(finding),
+        _ => false,
+    }
+}
+
+fn finding_counts(finding: &Finding) -> bool
+    ensures { result ≡ spec.finding_counts finding.now.outcome finding.now.level }
+{
+    match finding.outcome {
+        FindingKind::Failed => match finding.level {
+            Level::Fatal => true,
+            Level::Warning | Level::Information => false,
+        },
+        FindingKind::Reported => false,
+        FindingKind::Error(_) => true,
+    }
+}

@@ -1,0 +1,2 @@
+pub mod InvoiceLemmas
+pub mod ConversionLemmas

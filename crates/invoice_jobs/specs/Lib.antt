@@ -1,0 +1,2 @@
+pub mod Invoices
+pub mod Conversions

@@ -1,0 +1,93 @@
+//! The lines of invoices that are refused, or of which something can't be done.
+ghost use Rattle.std.specs.Prelude.{◌≡◌, ◌<◌, length};
+ghost use Rattle.inv_base.specs.Printing.{Prints};
+ghost use Rattle.job_course.specs.Outside.{TakesOrFails};
+ghost use Rattle.invoice_jobs.specs.Invoices.{invoice_line, bind_kind_text, condition_line, condition_term, attachment_line, attach_fault_text};
+
+use bind_run::{BindFault, BindKind, NotCarried};
+use inv_base::{Printer, Sink};
+use inv_listing::{print_name, print_term};
+use inv_terms::AttachFault;
+use itoa::Buffer;
+use node_arena::Doc;
+use term_table::Term;
+
+/// Tells why a document isn't an invoice, and where.
+pub(crate) fn tell_invoice_fault<E: Sink>(doc: &Doc<'_>, file: &str, fault: &BindFault, err: &mut E)
+    requires { fault.now.node < length doc.now.nodes }
+    ensures { TakesOrFails (invoice_line file.now doc.now fault.now) (E.view err.old) (E.view err.new) }
+{
+    let mut digits = Buffer::new();
+    let mut printer = Printer::new();
+    printer.put(err, b"einv: ");
+    printer.put(err, file.as_bytes());
+    printer.put(err, b": ");
+    printer.put(err, kind_name(fault.kind).as_bytes());
+    print_name(fault.name, &mut printer, err);
+    printer.put(err, b" at ");
+    printer.put(err, digits.format(doc.place(fault.node).byte).as_bytes());
+    printer.put(err, b"\n");
+}
+
+/// The name of a kind of fault.
+fn kind_name(kind: BindKind) -> &'static str
+    ensures { result.now ≡ bind_kind_text kind }
+{
+    match kind {
+        BindKind::UnknownRoot => "UnknownRoot",
+        BindKind::Excess => "Excess",
+        BindKind::ElementInValue => "ElementInValue",
+        BindKind::BadValue => "BadValue",
+        BindKind::CodeNotListed => "CodeNotListed",
+        BindKind::CurrencyDiffers => "CurrencyDiffers",
+        BindKind::Disagree => "Disagree",
+        BindKind::Missing => "Missing",
+        BindKind::Memory => "Memory",
+    }
+}
+
+/// Tells the condition on which an invoice can't be carried, with the term of its first entry, or `-`.
+pub(crate) fn tell_condition<E: Sink>(fault: &NotCarried, err: &mut E)
+    ensures { TakesOrFails (condition_line fault.now) (E.view err.old) (E.view err.new) }
+{
+    let mut digits = Buffer::new();
+    let mut printer = Printer::new();
+    printer.put(err, b"einv: condition ");
+    printer.put(err, digits.format(fault.condition).as_bytes());
+    printer.put(err, b" ");
+    print_condition_term(fault.term, &mut printer, err);
+    printer.put(err, b"\n");
+}
+
+fn print_condition_term<E: Sink>(term: Option<Term>, printer: &mut Printer, err: &mut E)
+    ensures { Prints (condition_term term) printer.old.failed printer.new.failed (E.view err.old) (E.view err.new) }
+{
+    match term {
+        None => printer.put(err, b"-"),
+        Some(term) => print_term(term, printer, err),
+    }
+}
+
+/// Tells why an attached document can't be extracted.
+pub(crate) fn tell_attach_fault<E: Sink>(number: u32, fault: AttachFault, err: &mut E)
+    ensures { TakesOrFails (attachment_line number fault) (E.view err.old) (E.view err.new) }
+{
+    let mut digits = Buffer::new();
+    let mut printer = Printer::new();
+    printer.put(err, b"einv: attachment ");
+    printer.put(err, digits.format(number).as_bytes());
+    printer.put(err, b": ");
+    printer.put(err, attach_fault_name(&fault).as_bytes());
+    printer.put(err, b"\n");
+}
+
+fn attach_fault_name(fault: &AttachFault) -> &'static str
+    ensures { result.now ≡ attach_fault_text fault.now }
+{
+    match fault {
+        AttachFault::NoSuch => "NoSuch",
+        AttachFault::NotBase64 => "NotBase64",
+        AttachFault::WriteFault => "WriteFault",
+        AttachFault::Memory => "Memory",
+    }
+}

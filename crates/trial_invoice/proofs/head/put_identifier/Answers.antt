@@ -1,0 +1,12 @@
+use Rattle.std.proofs.Common.{[], ◌∷◌, ◌++◌, ap, ◌∙◌}
+use Rattle.term_table.specs.Contexts.{root_context}
+use Rattle.inv_terms.specs.declared.values.Value.TheVariants as values
+use Rattle.trial_invoice.specs.Generated.{entry}
+use Rattle.trial_invoice.proofs.PutLemmas.{on-ok}
+use Rattle.trial_invoice.proofs.head.put_identifier.Goals as goal
+
+pub returns : goal.returns
+returns c =
+    on-ok c.put.result
+    (λ last. last ∙ ap (λ text. c.args.entries.now.items ++ entry root_context c.args.number (values.Identifier text) ∷ []) c.in_ok-word.ensures)
+    c.put.ensures

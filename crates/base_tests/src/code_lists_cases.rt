@@ -1,25 +1,27 @@
 //! Files of code lists, and what they allow.
 
-use crate::checks::check;
+use crate::texts::halves;
 use code_lists::{CodeLists, List, ListFault};
 use std::alloc::{AllocError, Global};
 use std::test::Fail;
+use test_rows::{Holds, Shown, expect, expect_rows, expect_shown};
 
 /// What a file is refused with, as it is printed behind the file's name, and nothing where it isn't refused.
-fn push_told(alloc: Global, line: &mut String, file: &[u8]) -> Result<(), AllocError> {
+fn told(alloc: Global, file: &[u8]) -> Result<String, AllocError> {
     match CodeLists::from_toml(alloc, file) {
-        Ok(_) => Ok(()),
-        Err(ListFault::NotToml) => line.push_str("NotToml"),
-        Err(ListFault::NotALists(key)) => write!(line, "NotALists {}", key.as_str()),
-        Err(ListFault::BadCode(key)) => write!(line, "BadCode {}", key.as_str()),
+        Ok(lists) => {
+            drop(lists);
+            Ok(String::new(alloc))
+        }
+        Err(ListFault::NotToml) => String::from_str(alloc, "NotToml"),
+        Err(ListFault::NotALists(key)) => key_told(alloc, "NotALists", key.as_str()),
+        Err(ListFault::BadCode(key)) => key_told(alloc, "BadCode", key.as_str()),
         Err(ListFault::Memory) => Err(AllocError),
     }
 }
 
-fn is_told(alloc: Global, file: &[u8], want: &str) -> Result<bool, AllocError> {
-    let mut line = String::new(alloc);
-    push_told(alloc, &mut line, file)?;
-    Ok(line.as_str() == want)
+fn key_told(alloc: Global, fault: &str, key: &str) -> Result<String, AllocError> {
+    format!(in alloc; "{fault} {key}")
 }
 
 /// Files, with `␊` for LF, and what each is refused with. Behind the arrow of one that isn't refused stands nothing.
@@ -65,20 +67,21 @@ fn push_spelled(file: &mut String, written: &str) -> Result<(), AllocError> {
     Ok(())
 }
 
-fn is_row_told(alloc: Global, row: &str) -> Result<bool, AllocError> {
-    let (written, want) = row.split_once('→').unwrap_or((row, "→"));
-    let mut file = String::new(alloc);
-    push_spelled(&mut file, written)?;
-    is_told(alloc, file.as_bytes(), want)
+struct Files;
+
+impl Shown for Files {
+    fn shown(&self, alloc: Global, written: &'static str) -> Result<String, Fail> {
+        let mut file = String::new(alloc);
+        push_spelled(&mut file, written)?;
+        Ok(told(alloc, file.as_bytes())?)
+    }
 }
 
 #[test]
 fn files_are_read_or_refused(rt: HostRuntime) -> Result<(), Fail> {
-    for row in FILES.lines() {
-        check(is_row_told(rt.alloc(), row)?, row)?;
-    }
+    expect_shown(rt.alloc(), &Files, "→", FILES)?;
     let bytes = b"[lists]\nunit = [\"\xFF\"]\n";
-    check(is_told(rt.alloc(), bytes, "NotToml")?, "no text")
+    expect(told(rt.alloc(), bytes)?.as_str() == "NotToml", "no text")
 }
 
 /// Whether this list and no other was given as `A1`, `~!`.
@@ -102,25 +105,28 @@ fn may_be_given(alloc: Global, list: List, key: &str) -> Result<bool, AllocError
     Ok(gives(alloc, file.as_str(), list))
 }
 
+/// The lists that may be given, and their keys in a file.
+const LISTS: [(List, &str); 14] = [
+    (List::Allowance, "allowance"),
+    (List::Charge, "charge"),
+    (List::Classification, "classification"),
+    (List::Country, "country"),
+    (List::Currency, "currency"),
+    (List::Endpoint, "endpoint"),
+    (List::Exemption, "exemption"),
+    (List::InvoiceType, "type"),
+    (List::Means, "means"),
+    (List::Mime, "mime"),
+    (List::Object, "object"),
+    (List::Scheme, "scheme"),
+    (List::Subject, "subject"),
+    (List::UnitOfMeasure, "unit"),
+];
+
 #[test]
 fn every_list_may_be_given(rt: HostRuntime) -> Result<(), Fail> {
-    for (list, key) in [
-        (List::Allowance, "allowance"),
-        (List::Charge, "charge"),
-        (List::Classification, "classification"),
-        (List::Country, "country"),
-        (List::Currency, "currency"),
-        (List::Endpoint, "endpoint"),
-        (List::Exemption, "exemption"),
-        (List::InvoiceType, "type"),
-        (List::Means, "means"),
-        (List::Mime, "mime"),
-        (List::Object, "object"),
-        (List::Scheme, "scheme"),
-        (List::Subject, "subject"),
-        (List::UnitOfMeasure, "unit"),
-    ] {
-        check(may_be_given(rt.alloc(), list, key)?, key)?;
+    for (list, key) in LISTS {
+        expect(may_be_given(rt.alloc(), list, key)?, key)?;
     }
     Ok(())
 }
@@ -139,14 +145,24 @@ fn is_of(lists: &CodeLists, kind: &str, code: &str) -> bool {
     is_category & is_point & is_free
 }
 
-fn check_built_in(lists: &CodeLists) -> Result<(), Fail> {
-    for row in BUILT_IN.lines() {
-        let (kind, codes) = row.split_once(' ').ok_or(row)?;
-        for code in codes.split(' ') {
-            check(is_of(lists, kind, code), code)?;
-        }
+fn are_of(lists: &CodeLists, kind: &str, codes: &str) -> bool {
+    let mut held = true;
+    for code in codes.split(' ') {
+        held &= is_of(lists, kind, code);
     }
-    Ok(())
+    held
+}
+
+#[derive(Clone, Copy)]
+struct BuiltIn<'a> {
+    lists: &'a CodeLists,
+}
+
+impl Holds for BuiltIn<'_> {
+    fn holds(&self, _: Global, row: &'static str) -> Result<bool, Fail> {
+        let (kind, codes) = halves(row, ' ');
+        Ok(are_of(self.lists, kind, codes))
+    }
 }
 
 /// Whether no unit is allowed, and all else as before.
@@ -165,9 +181,11 @@ fn gives_no_unit(alloc: Global, file: &[u8]) -> bool {
 
 #[test]
 fn lists_that_are_not_given_allow_all(rt: HostRuntime) -> Result<(), Fail> {
-    let built_in = CodeLists::built_in(rt.alloc())?;
-    check_built_in(&built_in)?;
-    check(gives_no_unit(rt.alloc(), b"[lists]\nunit = []\n"), "unit")
+    let lists = CodeLists::built_in(rt.alloc())?;
+    let allowed = expect_rows(rt.alloc(), &BuiltIn { lists: &lists }, BUILT_IN);
+    drop(lists);
+    allowed?;
+    expect(gives_no_unit(rt.alloc(), b"[lists]\nunit = []\n"), "unit")
 }
 
 /// A file whose currency is one code of so many letters.
@@ -179,12 +197,6 @@ fn push_code_of(file: &mut String, letters: u32) -> Result<(), AllocError> {
     file.push_str("\"]\n")
 }
 
-fn is_length_told(alloc: Global, letters: u32, want: &str) -> Result<bool, AllocError> {
-    let mut file = String::new(alloc);
-    push_code_of(&mut file, letters)?;
-    is_told(alloc, file.as_bytes(), want)
-}
-
 /// How many letters a code has, and what its file is refused with.
 const LENGTHS: &str = "\
 0→BadCode currency
@@ -194,11 +206,18 @@ const LENGTHS: &str = "\
 129→BadCode currency
 1000→BadCode currency";
 
+struct Lengths;
+
+impl Shown for Lengths {
+    fn shown(&self, alloc: Global, letters: &'static str) -> Result<String, Fail> {
+        let letters = letters.parse().unwrap_or(0);
+        let mut file = String::new(alloc);
+        push_code_of(&mut file, letters)?;
+        Ok(told(alloc, file.as_bytes())?)
+    }
+}
+
 #[test]
 fn codes_have_at_most_128_characters(rt: HostRuntime) -> Result<(), Fail> {
-    for row in LENGTHS.lines() {
-        let (letters, want) = row.split_once('→').ok_or(row)?;
-        check(is_length_told(rt.alloc(), letters.parse()?, want)?, row)?;
-    }
-    Ok(())
+    expect_shown(rt.alloc(), &Lengths, "→", LENGTHS)
 }

@@ -1,12 +1,13 @@
 //! Files and outputs in memory, buffered output, printing, and the characters of XML.
 
-use crate::checks::{check, room_for};
+use crate::texts::{halves, room_for};
 use inv_base::{
     Buffered, Failed, Kind, Many, MemShelf, MemSink, Place, Printer, Shelf, Sink, Str, Txt,
     is_char, is_name_char, is_name_start, is_same_text, is_white_space, write_all,
 };
 use std::alloc::{AllocError, Global};
 use std::test::Fail;
+use test_rows::{Holds, expect, expect_rows};
 
 /// Calls of a shelf whose 7th and 9th open or read fail, and what they answer.
 const SHELF_CALLS: &str = "\
@@ -35,14 +36,13 @@ read 9>bytes
 open >failed";
 
 /// Whether a call of the shelf answers this: `ok`, the bytes that were read, or `failed`.
-fn answers(shelf: &mut MemShelf, verb: &str, word: &str, want: &str) -> Result<bool, Fail> {
+fn answers(shelf: &mut MemShelf, verb: &str, word: &str, want: &str) -> bool {
     match verb {
-        "open" => Ok(shelf.open(word).is_ok() == (want == "ok")),
-        "read" => Ok(reads(shelf, word.parse()?, want)),
+        "open" => shelf.open(word).is_ok() == (want == "ok"),
+        "read" => reads(shelf, word.parse().unwrap_or(0), want),
         _ => {
-            let (name, content) = word.split_once('=').ok_or("file")?;
-            shelf.add(name, content.as_bytes())?;
-            Ok(want == "ok")
+            let (name, content) = halves(word, '=');
+            shelf.add(name, content.as_bytes()).is_ok() == (want == "ok")
         }
     }
 }
@@ -59,13 +59,17 @@ fn reads(shelf: &mut MemShelf, room: usize, want: &str) -> bool {
     reads_into(shelf, &mut buf[..room.min(9)], want)
 }
 
-fn check_calls(shelf: &mut MemShelf) -> Result<(), Fail> {
+fn expect_call(shelf: &mut MemShelf, row: &'static str) -> Result<(), Fail> {
+    let (call, want) = halves(row, '>');
+    let (verb, word) = halves(call, ' ');
+    expect(answers(shelf, verb, word, want), row)
+}
+
+fn expect_calls(shelf: &mut MemShelf) -> Result<(), Fail> {
     shelf.fail_at(9)?;
     shelf.fail_at(7)?;
     for row in SHELF_CALLS.lines() {
-        let (call, want) = row.split_once('>').ok_or(row)?;
-        let (verb, word) = call.split_once(' ').unwrap_or((call, ""));
-        check(answers(shelf, verb, word, want)?, row)?;
+        expect_call(shelf, row)?;
     }
     Ok(())
 }
@@ -73,7 +77,9 @@ fn check_calls(shelf: &mut MemShelf) -> Result<(), Fail> {
 #[test]
 fn files_in_memory_are_read(rt: HostRuntime) -> Result<(), Fail> {
     let mut shelf = MemShelf::new(rt.alloc());
-    check_calls(&mut shelf)
+    let held = expect_calls(&mut shelf);
+    drop(shelf);
+    held
 }
 
 /// What a shelf gives that reads at most so many bytes at a time, into a buffer of 4.
@@ -92,20 +98,27 @@ fn reads_pieces(shelf: &mut MemShelf, want: &str) -> bool {
     same
 }
 
-/// Whether a shelf that reads so many bytes at a time gives these pieces of a file.
-fn gives_pieces(alloc: Global, piece: usize, want: &str) -> Result<bool, AllocError> {
-    let mut shelf = MemShelf::new(alloc).with_piece(piece.max(1));
+fn gives_pieces(shelf: &mut MemShelf, want: &str) -> Result<bool, AllocError> {
     shelf.add("file", b"hello")?;
-    Ok(shelf.open("file").is_ok() && reads_pieces(&mut shelf, want))
+    Ok(shelf.open("file").is_ok() && reads_pieces(shelf, want))
+}
+
+struct ReadPieces;
+
+impl Holds for ReadPieces {
+    fn holds(&self, alloc: Global, row: &'static str) -> Result<bool, Fail> {
+        let (piece, want) = halves(row, '>');
+        let piece: usize = piece.parse().unwrap_or(0);
+        let mut shelf = MemShelf::new(alloc).with_piece(piece.max(1));
+        let given = gives_pieces(&mut shelf, want);
+        drop(shelf);
+        Ok(given?)
+    }
 }
 
 #[test]
 fn reads_come_in_pieces(rt: HostRuntime) -> Result<(), Fail> {
-    for row in READS.lines() {
-        let (piece, want) = row.split_once('>').ok_or(row)?;
-        check(gives_pieces(rt.alloc(), piece.parse()?, want)?, row)?;
-    }
-    Ok(())
+    expect_rows(rt.alloc(), &ReadPieces, READS)
 }
 
 /// Pieces written to a sink with room for 9 bytes whose 2nd write fails, and how many bytes of each are taken.
@@ -118,27 +131,39 @@ three>3
 four>failed
 >failed";
 
-fn check_pieces(sink: &mut MemSink) -> Result<(), Fail> {
+fn expect_piece(sink: &mut MemSink, row: &'static str) -> Result<(), Fail> {
+    let (piece, want) = halves(row, '>');
+    let taken = sink.write(piece.as_bytes()).ok();
+    expect(taken == want.parse().ok(), row)
+}
+
+fn expect_pieces(sink: &mut MemSink) -> Result<(), Fail> {
     sink.fail_at(2)?;
     for row in PIECES.lines() {
-        let (piece, want) = row.split_once('>').ok_or(row)?;
-        let taken = sink.write(piece.as_bytes()).ok();
-        check(taken == want.parse().ok(), row)?;
+        expect_piece(sink, row)?;
     }
-    check(sink.bytes() == b"onetwothr".as_slice(), "taken")
+    expect(sink.bytes() == b"onetwothr".as_slice(), "taken")
 }
 
 #[test]
 fn a_sink_takes_what_it_has_room_for(rt: HostRuntime) -> Result<(), Fail> {
     let mut sink = MemSink::new(rt.alloc(), 9)?;
-    check_pieces(&mut sink)
+    let held = expect_pieces(&mut sink);
+    drop(sink);
+    held
 }
 
 /// A sink that takes at most so many bytes at a time, and keeps how many it was given each time.
-#[derive(Drop)]
 struct Sipping {
     most: usize,
     given: Vec<usize>,
+}
+
+impl Drop for Sipping {
+    fn drop(self) {
+        let Sipping { most: _, given } = self;
+        drop(given);
+    }
 }
 
 impl Sink for Sipping {
@@ -157,17 +182,19 @@ fn front(bytes: &[u8], length: usize) -> &[u8] {
     &bytes[..length]
 }
 
-fn check_room(sink: &mut MemSink, room: usize) -> Result<(), Fail> {
-    let written = write_all(sink, b"piece");
-    check(written.is_ok() == (5 <= room), "whole")?;
-    check(sink.bytes() == front(b"piece", room), "front")
+/// Whether a whole piece is written where it fits, and its front where it doesn't.
+fn takes_front(alloc: Global, room: usize) -> Result<bool, AllocError> {
+    let mut sink = MemSink::new(alloc, room)?;
+    let written = write_all(&mut sink, b"piece").is_ok();
+    let holds = written == (5 <= room) && sink.bytes() == front(b"piece", room);
+    drop(sink);
+    Ok(holds)
 }
 
 #[test]
 fn a_whole_piece_is_written(rt: HostRuntime) -> Result<(), Fail> {
     for room in 0..8 {
-        let mut sink = MemSink::new(rt.alloc(), room)?;
-        check_room(&mut sink, room)?;
+        expect(takes_front(rt.alloc(), room)?, "front")?;
     }
     Ok(())
 }
@@ -179,15 +206,17 @@ fn sipping_sink(alloc: Global, most: usize) -> Sipping {
     }
 }
 
-fn check_sips(mut sink: &mut Sipping) -> Result<(), Fail> {
-    check(write_all(&mut sink, b"piece").is_ok(), "sips")?;
-    check(sink.given.as_slice() == [5, 3, 1].as_slice(), "given")
+fn sips(mut sink: &mut Sipping) -> bool {
+    let written = write_all(&mut sink, b"piece").is_ok();
+    written & (sink.given.as_slice() == [5, 3, 1].as_slice())
 }
 
 #[test]
 fn a_whole_piece_is_written_in_sips(rt: HostRuntime) -> Result<(), Fail> {
     let mut sink = sipping_sink(rt.alloc(), 2);
-    check_sips(&mut sink)
+    let held = sips(&mut sink);
+    drop(sink);
+    expect(held, "sips")
 }
 
 /// Whether a piece of each of these lengths is taken.
@@ -199,38 +228,43 @@ fn holds_back(buffered: &mut Buffered<Sipping>, bytes: &[u8]) -> bool {
     taken
 }
 
-fn hands_on(mut buffered: Buffered<Sipping>, bytes: &[u8]) -> [bool; 3] {
+/// Whether all pieces are held back, handed on at the end, and given to the sink in these lengths.
+fn hands_on(mut buffered: Buffered<Sipping>, bytes: &[u8]) -> bool {
     let held = holds_back(&mut buffered, bytes);
     let (sink, handed) = buffered.finish();
     let given = sink.given.as_slice() == [8, 70_000, 65_536, 1].as_slice();
-    [held, handed.is_ok(), given]
+    drop(sink);
+    held & handed.is_ok() & given
+}
+
+fn hands_large_on(alloc: Global, large: &[u8]) -> Result<bool, AllocError> {
+    let buffered = Buffered::new(alloc, sipping_sink(alloc, 100_000))?;
+    Ok(hands_on(buffered, large))
 }
 
 /// Small pieces go on together. A piece of the room's size isn't held back, and goes on behind what was.
 #[test]
 fn small_pieces_are_held_back(rt: HostRuntime) -> Result<(), Fail> {
     let large = vec![in rt.alloc(); b'x'; 70_000]?;
-    let buffered = Buffered::new(rt.alloc(), sipping_sink(rt.alloc(), 100_000))?;
-    check(
-        hands_on(buffered, &large) == [true; 3],
-        "held, handed on, given",
-    )
+    let held = hands_large_on(rt.alloc(), &large);
+    drop(large);
+    expect(held?, "held, handed on, given")
 }
 
-fn tells_at_the_end(mut buffered: Buffered<MemSink>) -> [bool; 3] {
+/// Whether a piece is held back, a fault is answered at the end, and the sink took the front.
+fn tells_at_the_end(mut buffered: Buffered<MemSink>) -> bool {
     let held = write_all(&mut buffered, b"held").is_ok();
     let (sink, handed) = buffered.finish();
-    [held, handed.is_err(), sink.bytes() == b"hel".as_slice()]
+    let taken = sink.bytes() == b"hel".as_slice();
+    drop(sink);
+    held & handed.is_err() & taken
 }
 
 #[test]
 fn a_fault_at_the_end_of_a_buffer_is_answered(rt: HostRuntime) -> Result<(), Fail> {
     let sink = MemSink::new(rt.alloc(), 3)?;
     let buffered = Buffered::new(rt.alloc(), sink)?;
-    check(
-        tells_at_the_end(buffered) == [true; 3],
-        "held, fault, taken",
-    )
+    expect(tells_at_the_end(buffered), "held, fault, taken")
 }
 
 /// What a buffer whose sink fails once answers to three pieces and to its end, and whether the sink took what follows.
@@ -240,21 +274,32 @@ fn answers_behind(mut buffered: Buffered<MemSink>, large: &[u8]) -> [bool; 5] {
     let third = buffered.write(large).is_ok();
     let (sink, handed) = buffered.finish();
     let taken = sink.bytes().len() == 70_004 && sink.bytes().starts_with(b"heldx");
+    drop(sink);
     [first, second, third, handed.is_ok(), taken]
 }
 
 fn failing_once(alloc: Global) -> Result<MemSink, AllocError> {
     let mut sink = MemSink::new(alloc, 100_000)?;
-    sink.fail_at(1)?;
-    Ok(sink)
+    match sink.fail_at(1) {
+        Ok(()) => Ok(sink),
+        Err(error) => {
+            drop(sink);
+            Err(error)
+        }
+    }
+}
+
+fn is_answered_behind(alloc: Global, large: &[u8]) -> Result<bool, AllocError> {
+    let buffered = Buffered::new(alloc, failing_once(alloc)?)?;
+    Ok(answers_behind(buffered, large) == [true, false, true, true, true])
 }
 
 #[test]
 fn a_fault_behind_a_buffer_is_answered(rt: HostRuntime) -> Result<(), Fail> {
     let large = vec![in rt.alloc(); b'x'; 70_000]?;
-    let buffered = Buffered::new(rt.alloc(), failing_once(rt.alloc())?)?;
-    let answers = answers_behind(buffered, &large);
-    check(answers == [true, false, true, true, true], "answers")
+    let answered = is_answered_behind(rt.alloc(), &large);
+    drop(large);
+    expect(answered?, "answers")
 }
 
 /// Prints some pieces and a quoted text, and answers whether a write failed.
@@ -269,23 +314,35 @@ fn print<K: Sink>(out: &mut K) -> bool {
 
 const PRINTED: &str = "a \"\\\\\\\"\\n\\r\\t'/ ü€😀\"\n";
 
+/// Whether what fits is printed, and a failure is told where not all does.
+fn prints_front(alloc: Global, room: usize) -> Result<bool, AllocError> {
+    let mut sink = MemSink::new(alloc, room)?;
+    let failed = print(&mut sink);
+    let holds = failed == (room < PRINTED.len()) && sink.bytes() == room_for(PRINTED, room);
+    drop(sink);
+    Ok(holds)
+}
+
 #[test]
 fn pieces_and_quoted_texts_are_printed(rt: HostRuntime) -> Result<(), Fail> {
     for room in 0..40 {
-        let mut sink = MemSink::new(rt.alloc(), room)?;
-        check(print(&mut sink) == (room < PRINTED.len()), "failed")?;
-        check(sink.bytes() == room_for(PRINTED, room), "printed")?;
+        expect(prints_front(rt.alloc(), room)?, "printed")?;
     }
     Ok(())
+}
+
+fn prints_no_more(sink: &mut MemSink) -> Result<bool, AllocError> {
+    sink.fail_at(2)?;
+    Ok(print(sink) && sink.bytes() == b"a ".as_slice())
 }
 
 /// Nothing is printed behind a failure, even where the sink would take it.
 #[test]
 fn nothing_is_printed_behind_a_failure(rt: HostRuntime) -> Result<(), Fail> {
     let mut sink = MemSink::new(rt.alloc(), 40)?;
-    sink.fail_at(2)?;
-    check(print(&mut sink), "failed")?;
-    check(sink.bytes() == b"a ".as_slice(), "printed")
+    let held = prints_no_more(&mut sink);
+    drop(sink);
+    expect(held?, "failed, printed")
 }
 
 /// The productions of XML 1.0, fifth edition, by code points: Char, S, and NameStartChar and NameChar without the
@@ -316,28 +373,40 @@ fn count_of(class: &str, low: u32, high: u32) -> u32 {
     count
 }
 
+/// Whether the characters of the class from there to the end of the range are those of the range, and how far it is.
+fn has_range(class: &str, passed: u32, range: &str) -> (bool, u32) {
+    let (low, high) = halves(range, '-');
+    let low = u32::from_str_radix(low, 16).unwrap_or(0);
+    let behind = u32::from_str_radix(high, 16).unwrap_or(0).saturating_add(1);
+    let none = count_of(class, passed, low) == 0;
+    let all = count_of(class, low, behind) == behind.saturating_sub(low);
+    (none & all, behind)
+}
+
 /// Whether these are the ranges of the class, in order.
-fn has_ranges(class: &str, ranges: &str) -> Result<bool, Fail> {
+fn has_ranges(class: &str, ranges: &str) -> bool {
     let mut passed = 0;
     let mut held = true;
     for range in ranges.split(' ') {
-        let (low, high) = range.split_once('-').ok_or("range")?;
-        let low = u32::from_str_radix(low, 16)?;
-        let behind = u32::from_str_radix(high, 16)?.saturating_add(1);
-        held &= count_of(class, passed, low) == 0;
-        held &= count_of(class, low, behind) == behind.saturating_sub(low);
+        let (is_range, behind) = has_range(class, passed, range);
+        held &= is_range;
         passed = behind;
     }
-    Ok(held & (count_of(class, passed, 0x110000) == 0))
+    held & (count_of(class, passed, 0x110000) == 0)
+}
+
+struct Classes;
+
+impl Holds for Classes {
+    fn holds(&self, _: Global, row: &'static str) -> Result<bool, Fail> {
+        let (class, ranges) = halves(row, ' ');
+        Ok(has_ranges(class, ranges))
+    }
 }
 
 #[test]
-fn characters_are_those_of_the_productions() -> Result<(), Fail> {
-    for row in CLASSES.lines() {
-        let (class, ranges) = row.split_once(' ').ok_or("row")?;
-        check(has_ranges(class, ranges)?, row)?;
-    }
-    Ok(())
+fn characters_are_those_of_the_productions(rt: HostRuntime) -> Result<(), Fail> {
+    expect_rows(rt.alloc(), &Classes, CLASSES)
 }
 
 #[test]
@@ -345,34 +414,48 @@ fn places_and_kinds_are_compared() -> Result<(), Fail> {
     let place = Place { byte: 3 };
     let later = Place { byte: 20 };
     let places = [place == place, place == later, place < later];
-    check(places == [true, false, true], "places")?;
+    expect(places == [true, false, true], "places")?;
     let kinds = [Kind::Element == Kind::Attribute, Kind::Text == Kind::Text];
-    check(kinds == [false, true], "kinds")
-}
-
-fn is_made_of(alloc: Global, characters: &[char], text: &str) -> Result<bool, AllocError> {
-    let made = Txt::from_characters(alloc, characters)?;
-    Ok(made.as_str() == text && is_made_again(&made, text)?)
+    expect(kinds == [false, true], "kinds")
 }
 
 fn is_made_again(made: &Txt, text: &str) -> Result<bool, AllocError> {
     let again = made.try_clone()?;
-    Ok(again.as_str() == text)
+    let same = again.as_str() == text;
+    drop(again);
+    Ok(same)
+}
+
+fn is_made_of(alloc: Global, characters: &[char], text: &str) -> Result<bool, AllocError> {
+    let made = Txt::from_characters(alloc, characters)?;
+    let same = made.as_str() == text;
+    let again = is_made_again(&made, text);
+    drop(made);
+    Ok(same & again?)
 }
 
 fn is_given(alloc: Global, text: &str) -> Result<bool, AllocError> {
     let given = Txt::of(alloc, text)?;
-    Ok(given.as_str() == text)
+    let same = given.as_str() == text;
+    drop(given);
+    Ok(same)
+}
+
+fn texts_kept(alloc: Global) -> Result<[bool; 4], AllocError> {
+    let characters = ['e', 'é', '€', '😀'];
+    Ok([
+        is_made_of(alloc, &characters, "eé€😀")?,
+        is_made_of(alloc, &[], "")?,
+        is_given(alloc, "eé€😀")?,
+        is_given(alloc, "")?,
+    ])
 }
 
 /// A text keeps its characters, and so does a second one.
 #[test]
 fn texts_are_kept(rt: HostRuntime) -> Result<(), Fail> {
-    for (text, characters) in [("eé€😀", ['e', 'é', '€', '😀'].as_slice()), ("", &[])] {
-        check(is_made_of(rt.alloc(), characters, text)?, text)?;
-        check(is_given(rt.alloc(), text)?, text)?;
-    }
-    Ok(())
+    let kept = texts_kept(rt.alloc())?;
+    expect(kept == [true; 4], "texts")
 }
 
 fn is_lent(alloc: Global) -> Result<bool, AllocError> {
@@ -385,21 +468,28 @@ fn is_lent(alloc: Global) -> Result<bool, AllocError> {
 
 fn is_own(alloc: Global) -> Result<bool, AllocError> {
     let own = Str::own(Txt::of(alloc, "äb")?).followed_by(alloc, "c")?;
-    Ok(is_same_text(own.as_str(), "äbc") && !is_same_text(own.as_str(), "äb"))
+    let same = is_same_text(own.as_str(), "äbc") && !is_same_text(own.as_str(), "äb");
+    drop(own);
+    Ok(same)
 }
 
 #[test]
 fn texts_are_put_one_behind_another(rt: HostRuntime) -> Result<(), Fail> {
-    check(is_lent(rt.alloc())?, "lent")?;
-    check(is_own(rt.alloc())?, "own")
+    expect(is_lent(rt.alloc())?, "lent")?;
+    expect(is_own(rt.alloc())?, "own")
+}
+
+fn are_kept(items: &mut Many<u32>) -> Result<bool, AllocError> {
+    for item in [7u32, 5, 7] {
+        items.push(item)?;
+    }
+    Ok(items.len() == 3 && items.as_slice() == [7u32, 5, 7].as_slice())
 }
 
 #[test]
 fn items_are_kept_in_order(rt: HostRuntime) -> Result<(), Fail> {
     let mut items = Many::new(rt.alloc());
-    for item in [7u32, 5, 7] {
-        items.push(item)?;
-    }
-    check(items.len() == 3, "length")?;
-    check(items.as_slice() == [7u32, 5, 7].as_slice(), "items")
+    let kept = are_kept(&mut items);
+    drop(items);
+    expect(kept?, "items")
 }

@@ -1,89 +1,90 @@
 //! Numbers and days. The expected values come from Python's integers and calendar.
 
-use crate::checks::{check, columns};
+use crate::texts::halves;
 use inv_decimal::{Day, Dec, Scaled};
 use std::alloc::{AllocError, Global};
 use std::fmt::Debug;
 use std::str::from_utf8;
 use std::test::Fail;
+use test_rows::{Holds, Shown, expect_rows, expect_shown};
 
 /// Calls of two numbers, and what they print or answer.
 const PAIRS: &str = "\
-0.1 + 0.2 0.3
-0.1 - 0.2 -0.1
-999999999999999999 + 1 Overflow
-999999999999999999 - 1 999999999999999998
-999999999999999999.999999999999999999 + 0 999999999999999999.999999999999999999
-999999999999999999.999999999999999999 + 0.000000000000000001 Overflow
-999999999999999999.999999999999999999 - 0.000000000000000001 999999999999999999.999999999999999998
--999999999999999999.999999999999999999 + 0.000000000000000001 -999999999999999999.999999999999999998
--999999999999999999.999999999999999999 - 0.000000000000000001 Overflow
-999999999999999999.999999999999999999 - -999999999999999999.999999999999999999 Overflow
--2.5 + 2.25 -0.25
-0 - 0 0
-0.000000000000000001 * 0.5 0
--0.000000000000000001 * 0.5 0
-1.5 * -1.5 -2.25
--1.000000001 * -1.000000001 1.000000002000000001
-999999999.999999999 * 1000000000 999999999999999999
-1000000000 * 1000000000 Overflow
-999999999999999999.999999999999999999 * -1 -999999999999999999.999999999999999999
-999999999999999999.999999999999999999 * 1.000000000000000001 Overflow
-999999999999999999.999999999999999999 * 999999999999999999.999999999999999999 Overflow
-0.999999999999999999 * 0.999999999999999999 0.999999999999999998
-123456789.123456789 * 987654.321987654 121932631356500.491717573860483006
-1 div 3 0.333333333333333333
-2 div -3 -0.666666666666666666
-1 div 0.000000000000000001 Overflow
-0.999999999999999999 div 0.000000000000000001 999999999999999999
-999999999999999999.999999999999999999 div 1 999999999999999999.999999999999999999
-1 div 999999999999999999.999999999999999999 0.000000000000000001
-1 div 0 DivisionByZero
-0 div 0 DivisionByZero
-10 div 1234567890123.5 0.0000000000081
--98765432109.8765 div 12345678901.23 -8.000000072902957156
-999999999999999999.999999999999999999 div 100.000000000000000001 9999999999999999.999899999999999999
-1 div 100 0.01
-1 div 100000000000 0.00000000001
-1 div 100000000000.000000000000000001 0.000000000009999999
--0.000000000000000001 div 2 0
--7 idiv 2 -3
-7 idiv -2 -3
-1 idiv 0.000000000000000001 Overflow
-0.999999999999999999 idiv 0.000000000000000001 999999999999999999
-1 idiv 0 DivisionByZero
--7 mod 2 -1
-7 mod -2 1
--98765432109.8765 mod 12345678901.23 -900.0365
--0.000000000000000001 mod 2 -0.000000000000000001
-1 mod 0.000000000000000001 0
-1 mod 0 DivisionByZero
--1 cmp 0.5 Less
--0.0 cmp 0 Equal
--0.5 cmp -1 Greater";
+0.1 + 0.2 > 0.3
+0.1 - 0.2 > -0.1
+999999999999999999 + 1 > Overflow
+999999999999999999 - 1 > 999999999999999998
+999999999999999999.999999999999999999 + 0 > 999999999999999999.999999999999999999
+999999999999999999.999999999999999999 + 0.000000000000000001 > Overflow
+999999999999999999.999999999999999999 - 0.000000000000000001 > 999999999999999999.999999999999999998
+-999999999999999999.999999999999999999 + 0.000000000000000001 > -999999999999999999.999999999999999998
+-999999999999999999.999999999999999999 - 0.000000000000000001 > Overflow
+999999999999999999.999999999999999999 - -999999999999999999.999999999999999999 > Overflow
+-2.5 + 2.25 > -0.25
+0 - 0 > 0
+0.000000000000000001 * 0.5 > 0
+-0.000000000000000001 * 0.5 > 0
+1.5 * -1.5 > -2.25
+-1.000000001 * -1.000000001 > 1.000000002000000001
+999999999.999999999 * 1000000000 > 999999999999999999
+1000000000 * 1000000000 > Overflow
+999999999999999999.999999999999999999 * -1 > -999999999999999999.999999999999999999
+999999999999999999.999999999999999999 * 1.000000000000000001 > Overflow
+999999999999999999.999999999999999999 * 999999999999999999.999999999999999999 > Overflow
+0.999999999999999999 * 0.999999999999999999 > 0.999999999999999998
+123456789.123456789 * 987654.321987654 > 121932631356500.491717573860483006
+1 div 3 > 0.333333333333333333
+2 div -3 > -0.666666666666666666
+1 div 0.000000000000000001 > Overflow
+0.999999999999999999 div 0.000000000000000001 > 999999999999999999
+999999999999999999.999999999999999999 div 1 > 999999999999999999.999999999999999999
+1 div 999999999999999999.999999999999999999 > 0.000000000000000001
+1 div 0 > DivisionByZero
+0 div 0 > DivisionByZero
+10 div 1234567890123.5 > 0.0000000000081
+-98765432109.8765 div 12345678901.23 > -8.000000072902957156
+999999999999999999.999999999999999999 div 100.000000000000000001 > 9999999999999999.999899999999999999
+1 div 100 > 0.01
+1 div 100000000000 > 0.00000000001
+1 div 100000000000.000000000000000001 > 0.000000000009999999
+-0.000000000000000001 div 2 > 0
+-7 idiv 2 > -3
+7 idiv -2 > -3
+1 idiv 0.000000000000000001 > Overflow
+0.999999999999999999 idiv 0.000000000000000001 > 999999999999999999
+1 idiv 0 > DivisionByZero
+-7 mod 2 > -1
+7 mod -2 > 1
+-98765432109.8765 mod 12345678901.23 > -900.0365
+-0.000000000000000001 mod 2 > -0.000000000000000001
+1 mod 0.000000000000000001 > 0
+1 mod 0 > DivisionByZero
+-1 cmp 0.5 > Less
+-0.0 cmp 0 > Equal
+-0.5 cmp -1 > Greater";
 
 /// Calls of one number, and what they print or answer.
 const SINGLES: &str = "\
-round 2.5 3
-round -2.5 -2
-round -2.6 -3
-round -0.5 0
-round 0.000000000000000001 0
-round 999999999999999999.5 Overflow
-round 999999999999999999.499999999999999999 999999999999999999
-round -999999999999999999.5 -999999999999999999
-round -999999999999999999.500000000000000001 Overflow
-floor 2.5 2
-floor -0.000000000000000001 -1
-floor -999999999999999999.5 Overflow
-floor 999999999999999999.999999999999999999 999999999999999999
-ceiling -2.5 -2
-ceiling 0.000000000000000001 1
-ceiling 999999999999999999.5 Overflow
-ceiling -999999999999999999.999999999999999999 -999999999999999999
-neg 7.50 -7.5
-neg -0 0
-abs -999999999999999999.999999999999999999 999999999999999999.999999999999999999";
+round 2.5 > 3
+round -2.5 > -2
+round -2.6 > -3
+round -0.5 > 0
+round 0.000000000000000001 > 0
+round 999999999999999999.5 > Overflow
+round 999999999999999999.499999999999999999 > 999999999999999999
+round -999999999999999999.5 > -999999999999999999
+round -999999999999999999.500000000000000001 > Overflow
+floor 2.5 > 2
+floor -0.000000000000000001 > -1
+floor -999999999999999999.5 > Overflow
+floor 999999999999999999.999999999999999999 > 999999999999999999
+ceiling -2.5 > -2
+ceiling 0.000000000000000001 > 1
+ceiling 999999999999999999.5 > Overflow
+ceiling -999999999999999999.999999999999999999 > -999999999999999999
+neg 7.50 > -7.5
+neg -0 > 0
+abs -999999999999999999.999999999999999999 > 999999999999999999.999999999999999999";
 
 /// Texts, and how they are printed where they are numbers.
 const WRITTEN: &str = "\
@@ -146,40 +147,41 @@ fn push_of_one(line: &mut String, call: &str, x: &Dec) -> Result<(), AllocError>
     }
 }
 
-fn is_right_of_two(alloc: Global, row: &str) -> Result<bool, AllocError> {
-    let [x, call, y, want, _] = columns(row, ' ');
-    let mut line = String::new(alloc);
-    if let Some(x) = Dec::read(x) {
-        if let Some(y) = Dec::read(y) {
+struct Pairs;
+
+impl Shown for Pairs {
+    fn shown(&self, alloc: Global, given: &'static str) -> Result<String, Fail> {
+        let (x, rest) = halves(given, ' ');
+        let (call, y) = halves(rest, ' ');
+        let mut line = String::new(alloc);
+        if let (Some(x), Some(y)) = (Dec::read(x), Dec::read(y)) {
             push_of_two(&mut line, &x, call, &y)?;
         }
+        Ok(line)
     }
-    Ok(line.as_str() == want)
 }
 
 #[test]
 fn calls_of_two_numbers(rt: HostRuntime) -> Result<(), Fail> {
-    for row in PAIRS.lines() {
-        check(is_right_of_two(rt.alloc(), row)?, row)?;
-    }
-    Ok(())
+    expect_shown(rt.alloc(), &Pairs, " > ", PAIRS)
 }
 
-fn is_right_of_one(alloc: Global, row: &str) -> Result<bool, AllocError> {
-    let [call, x, want, ..] = columns(row, ' ');
-    let mut line = String::new(alloc);
-    if let Some(x) = Dec::read(x) {
-        push_of_one(&mut line, call, &x)?;
+struct Singles;
+
+impl Shown for Singles {
+    fn shown(&self, alloc: Global, given: &'static str) -> Result<String, Fail> {
+        let (call, x) = halves(given, ' ');
+        let mut line = String::new(alloc);
+        if let Some(x) = Dec::read(x) {
+            push_of_one(&mut line, call, &x)?;
+        }
+        Ok(line)
     }
-    Ok(line.as_str() == want)
 }
 
 #[test]
 fn calls_of_one_number(rt: HostRuntime) -> Result<(), Fail> {
-    for row in SINGLES.lines() {
-        check(is_right_of_one(rt.alloc(), row)?, row)?;
-    }
-    Ok(())
+    expect_shown(rt.alloc(), &Singles, " > ", SINGLES)
 }
 
 /// Whether a number is printed so, and has as many digits behind its point.
@@ -200,13 +202,18 @@ fn is_read(text: &str, want: &str) -> bool {
     }
 }
 
-#[test]
-fn written_numbers() -> Result<(), Fail> {
-    for row in WRITTEN.lines() {
-        let (text, want) = row.split_once('>').ok_or(row)?;
-        check(is_read(text, want), row)?;
+struct WrittenNumbers;
+
+impl Holds for WrittenNumbers {
+    fn holds(&self, _: Global, row: &'static str) -> Result<bool, Fail> {
+        let (text, want) = halves(row, '>');
+        Ok(is_read(text, want))
     }
-    Ok(())
+}
+
+#[test]
+fn written_numbers(rt: HostRuntime) -> Result<(), Fail> {
+    expect_rows(rt.alloc(), &WrittenNumbers, WRITTEN)
 }
 
 /// The four years round each leap rule, with the days of their February.
@@ -267,26 +274,37 @@ fn day_is_right(
     Ok(is_one_day(plain.as_str(), dashed.as_str(), exists))
 }
 
-fn check_month(alloc: Global, year: u16, month: u8, last: u8) -> Result<(), Fail> {
+fn has_days(alloc: Global, year: u16, month: u8, last: u8) -> Result<bool, AllocError> {
+    let mut held = true;
     for day in 0..33 {
         let exists = 0 < day && day <= last;
-        let right = day_is_right(alloc, year, month, day, exists)?;
-        right.then_some(()).ok_or((year, month, day))?;
+        held &= day_is_right(alloc, year, month, day, exists)?;
     }
-    Ok(())
+    Ok(held)
+}
+
+/// Whether each month of the year has its days, and no more.
+fn has_months(alloc: Global, year: u16, february: u8) -> Result<bool, AllocError> {
+    let mut held = true;
+    for month in 0..14 {
+        held &= has_days(alloc, year, month, last_day(month, february))?;
+    }
+    Ok(held)
+}
+
+struct Februaries;
+
+impl Holds for Februaries {
+    fn holds(&self, alloc: Global, row: &'static str) -> Result<bool, Fail> {
+        let (year, february) = halves(row, ' ');
+        let year = year.parse().unwrap_or(0);
+        Ok(has_months(alloc, year, february.parse().unwrap_or(0))?)
+    }
 }
 
 #[test]
 fn days_of_years(rt: HostRuntime) -> Result<(), Fail> {
-    for row in FEBRUARIES.lines() {
-        let (year, february) = row.split_once(' ').ok_or(row)?;
-        let year = year.parse::<u16>()?;
-        let february = february.parse::<u8>()?;
-        for month in 0..14 {
-            check_month(rt.alloc(), year, month, last_day(month, february))?;
-        }
-    }
-    Ok(())
+    expect_rows(rt.alloc(), &Februaries, FEBRUARIES)
 }
 
 /// Texts in either form, in rising order where they are days, and whether there is such a day.
@@ -321,12 +339,16 @@ fn day_behind(last: Day, text: &str, want: &str) -> Option<Day> {
     }
 }
 
+fn expect_day(last: Day, row: &'static str) -> Result<Day, Fail> {
+    let (text, want) = halves(row, ' ');
+    Ok(day_behind(last, text, want).ok_or(row)?)
+}
+
 #[test]
 fn written_days() -> Result<(), Fail> {
     let mut last = Day::read_plain("00010101").ok_or("day")?;
     for row in DAYS.lines() {
-        let (text, want) = row.split_once(' ').ok_or(row)?;
-        last = day_behind(last, text, want).ok_or(row)?;
+        last = expect_day(last, row)?;
     }
     Ok(())
 }

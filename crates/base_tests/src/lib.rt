@@ -3,12 +3,12 @@
 #![tactic(auto)]
 
 #[cfg(test)]
-mod checks;
-#[cfg(test)]
 mod code_lists_cases;
 #[cfg(test)]
 mod inv_base_cases;
 #[cfg(test)]
 mod inv_decimal_cases;
+#[cfg(test)]
+mod texts;
 #[cfg(test)]
 mod xml_write_cases;

@@ -3,10 +3,11 @@
 ghost use Rattle.std.specs.Prelude.{◌≡◌, IfOk};
 ghost use Rattle.xml_write.specs.Writers.{state_of};
 
-use crate::checks::{check, columns, room_for};
+use crate::texts::{columns, halves, room_for};
 use inv_base::{MemSink, Place, Sink};
 use std::alloc::{AllocError, Global};
 use std::test::Fail;
+use test_rows::{Holds, expect, expect_rows};
 use xml_profile::Reader;
 use xml_state::{Events, Limits, NameId, NameTable, XmlFault};
 use xml_write::{Gauge, Nowhere, Pen, PenState, WriteFault, Writer};
@@ -89,7 +90,7 @@ fn attribute<W: Writer, K: Sink>(
     if state != PenState::InsideTag {
         return Ok(state);
     }
-    let (name, value) = given.split_once('=').unwrap_or((given, ""));
+    let (name, value) = halves(given, '=');
     if declares {
         writer.declare(out, name, value)?;
     } else {
@@ -108,7 +109,7 @@ fn make<W: Writer, K: Sink>(
     requires { state_of (W.view writer.old) ≡ state }
     ensures { IfOk result (λ behind. state_of (W.view writer.new) ≡ behind) }
 {
-    let (kind, given) = call.split_once(' ').unwrap_or((call, ""));
+    let (kind, given) = halves(call, ' ');
     match kind {
         "<" => {
             let (prefix, local) = halves_of(given);
@@ -154,8 +155,8 @@ fn measure(calls: &str) -> Gauge {
 
 /// The calls of a row, its root, and how many nodes it has.
 fn fields_of(row: &'static str) -> (&'static str, &'static str, u64) {
-    let (calls, rest) = row.split_once('⇒').unwrap_or((row, ""));
-    let (root, nodes) = rest.split_once('⇒').unwrap_or((rest, ""));
+    let (calls, rest) = halves(row, '⇒');
+    let (root, nodes) = halves(rest, '⇒');
     (calls, root, nodes.parse().unwrap_or(0))
 }
 
@@ -163,49 +164,61 @@ fn fields_of(row: &'static str) -> (&'static str, &'static str, u64) {
 fn longest_in(text: &str) -> u64 {
     let mut longest = 0;
     for piece in text.split('<').skip(1) {
-        let (tag, _) = piece.split_once('>').unwrap_or((piece, ""));
+        let (tag, _) = halves(piece, '>');
         longest = longest.max(tag.len().saturating_add(2));
     }
     longest as u64
+}
+
+/// Fails with the first row that doesn't hold, of rows with `§` between them.
+fn expect_documents<H: Holds>(alloc: Global, test: &H, rows: &'static str) -> Result<(), Fail> {
+    for row in rows.split('§') {
+        expect(test.holds(alloc, row)?, row)?;
+    }
+    Ok(())
 }
 
 /// Whether a sink with this room holds what fits of a document, and all is written where all fits.
 fn fits(alloc: Global, calls: &str, text: &str, room: usize) -> Result<bool, AllocError> {
     let mut sink = MemSink::new(alloc, room)?;
     let whole = write(&mut sink, calls).is_ok();
-    Ok(whole == (room == text.len()) && sink.bytes() == room_for(text, room))
+    let holds = whole == (room == text.len()) && sink.bytes() == room_for(text, room);
+    drop(sink);
+    Ok(holds)
 }
 
-fn check_rooms(alloc: Global, calls: &str, text: &str, row: &'static str) -> Result<(), Fail> {
+fn fits_everywhere(alloc: Global, calls: &str, text: &str) -> Result<bool, AllocError> {
+    let mut held = true;
     for room in 0..=text.len() {
-        check(fits(alloc, calls, text, room)?, row)?;
+        held &= fits(alloc, calls, text, room)?;
     }
-    Ok(())
+    Ok(held)
 }
 
-fn push_document(text: &mut String, root: &str) -> Result<(), AllocError> {
-    write!(text, "{FIRST_LINE}{root}\n")
+fn document_of(alloc: Global, root: &str) -> Result<String, AllocError> {
+    format!(in alloc; "{FIRST_LINE}{root}\n")
 }
 
-fn check_document(alloc: Global, row: &'static str) -> Result<(), Fail> {
-    let (calls, root, _) = fields_of(row);
-    let mut text = String::new(alloc);
-    push_document(&mut text, root)?;
-    check_rooms(alloc, calls, text.as_str(), row)
+struct Documents;
+
+impl Holds for Documents {
+    fn holds(&self, alloc: Global, row: &'static str) -> Result<bool, Fail> {
+        let (calls, root, _) = fields_of(row);
+        let text = document_of(alloc, root)?;
+        Ok(fits_everywhere(alloc, calls, text.as_str())?)
+    }
 }
 
 /// In a room of each size the sink holds what fits.
 #[test]
 fn documents_are_written(rt: HostRuntime) -> Result<(), Fail> {
-    for row in DOCUMENTS.split('§') {
-        check_document(rt.alloc(), row)?;
-    }
-    Ok(())
+    expect_documents(rt.alloc(), &Documents, DOCUMENTS)
 }
 
-#[test]
-fn documents_are_measured() -> Result<(), Fail> {
-    for row in DOCUMENTS.split('§') {
+struct Sizes;
+
+impl Holds for Sizes {
+    fn holds(&self, _: Global, row: &'static str) -> Result<bool, Fail> {
         let (calls, root, nodes) = fields_of(row);
         let gauge = measure(calls);
         let bytes = FIRST_LINE
@@ -213,13 +226,28 @@ fn documents_are_measured() -> Result<(), Fail> {
             .saturating_add(root.len())
             .saturating_add(1);
         let sizes = [gauge.bytes, gauge.longest_tag, gauge.nodes];
-        check(sizes == [bytes as u64, longest_in(root), nodes], row)?;
+        Ok(sizes == [bytes as u64, longest_in(root), nodes])
     }
-    Ok(())
+}
+
+#[test]
+fn documents_are_measured(rt: HostRuntime) -> Result<(), Fail> {
+    expect_documents(rt.alloc(), &Sizes, DOCUMENTS)
 }
 
 /// Whether all of a document is written where the write of this number fails. Nothing is told where what is written
 /// isn't a front of it.
+fn writes_into(
+    sink: &mut MemSink,
+    calls: &str,
+    text: &str,
+    failing: u64,
+) -> Result<Option<bool>, AllocError> {
+    sink.fail_at(failing)?;
+    let whole = write(sink, calls).is_ok();
+    Ok(text.as_bytes().starts_with(sink.bytes()).then_some(whole))
+}
+
 fn writes_all(
     alloc: Global,
     calls: &str,
@@ -227,9 +255,9 @@ fn writes_all(
     failing: u64,
 ) -> Result<Option<bool>, AllocError> {
     let mut sink = MemSink::new(alloc, 1000)?;
-    sink.fail_at(failing)?;
-    let whole = write(&mut sink, calls).is_ok();
-    Ok(text.as_bytes().starts_with(sink.bytes()).then_some(whole))
+    let written = writes_into(&mut sink, calls, text, failing);
+    drop(sink);
+    written
 }
 
 /// The number of the last write, where each that fails leaves a front, else 0.
@@ -245,21 +273,21 @@ fn last_write(alloc: Global, calls: &str, text: &str) -> Result<u64, AllocError>
     Ok(last)
 }
 
-fn has_writes(alloc: Global, row: &'static str) -> Result<bool, AllocError> {
-    let (calls, root, _) = fields_of(row);
-    let mut text = String::new(alloc);
-    push_document(&mut text, root)?;
-    let last = last_write(alloc, calls, text.as_str())?;
-    Ok(5 <= last && last < 149)
+struct FailedWrites;
+
+impl Holds for FailedWrites {
+    fn holds(&self, alloc: Global, row: &'static str) -> Result<bool, Fail> {
+        let (calls, root, _) = fields_of(row);
+        let text = document_of(alloc, root)?;
+        let last = last_write(alloc, calls, text.as_str())?;
+        Ok(5 <= last && last < 149)
+    }
 }
 
 /// Each write fails in turn, up to the first number that no write has.
 #[test]
 fn a_failed_write_is_a_fault(rt: HostRuntime) -> Result<(), Fail> {
-    for row in DOCUMENTS.split('§') {
-        check(has_writes(rt.alloc(), row)?, row)?;
-    }
-    Ok(())
+    expect_documents(rt.alloc(), &FailedWrites, DOCUMENTS)
 }
 
 fn fail_six(sink: &mut MemSink) -> Result<(), AllocError> {
@@ -285,14 +313,20 @@ fn calls_behind_faults(sink: &mut MemSink) -> [bool; 9] {
     ]
 }
 
+fn goes_on(sink: &mut MemSink) -> Result<bool, AllocError> {
+    fail_six(sink)?;
+    let are_right = calls_behind_faults(sink) == [true; 9];
+    let is_written = sink.bytes() == b" l=\"2></></\n".as_slice();
+    Ok(are_right & is_written)
+}
+
 /// A fault leaves the pen as if the call had written all, and the next call writes again.
 #[test]
 fn a_pen_goes_on_behind_a_fault(rt: HostRuntime) -> Result<(), Fail> {
     let mut sink = MemSink::new(rt.alloc(), 100)?;
-    fail_six(&mut sink)?;
-    let are_right = calls_behind_faults(&mut sink) == [true; 9];
-    let is_written = sink.bytes() == b" l=\"2></></\n".as_slice();
-    check(are_right & is_written, "pen")
+    let held = goes_on(&mut sink);
+    drop(sink);
+    expect(held?, "pen")
 }
 
 /// What takes a document and forgets it.
@@ -334,17 +368,18 @@ fn names_in(mut reader: Reader, document: &[u8]) -> Result<NameTable, XmlFault> 
 }
 
 /// The kind of the fault of a document and its place, or `read`.
-fn push_reading(alloc: Global, line: &mut String, document: &[u8]) -> Result<(), AllocError> {
+fn reading(alloc: Global, document: &[u8]) -> Result<String, AllocError> {
     match names_in(Reader::new(alloc, LIMITS)?, document) {
-        Ok(_) => line.push_str("read"),
-        Err(fault) => write!(line, "{:?} {}", fault.kind, fault.place.byte),
+        Ok(names) => {
+            drop(names);
+            String::from_str(alloc, "read")
+        }
+        Err(fault) => format!(in alloc; "{:?} {}", fault.kind, fault.place.byte),
     }
 }
 
 fn reads_as(alloc: Global, document: &[u8], want: &str) -> Result<bool, AllocError> {
-    let mut line = String::new(alloc);
-    push_reading(alloc, &mut line, document)?;
-    Ok(line.as_str() == want)
+    Ok(reading(alloc, document)?.as_str() == want)
 }
 
 /// The bytes of a start tag, what stands behind the attribute in the document, and what reading answers. A tag of the
@@ -367,7 +402,15 @@ fn push_calls(calls: &mut String, length: u32, inside: &str) -> Result<(), Alloc
     write!(calls, "|{inside}|> a")
 }
 
-/// Whether a document is written as long as it is measured, with a longest tag of this length, and read so.
+/// Whether a document is written as long as it is measured, and its longest tag has this length.
+fn is_measured(sink: &mut MemSink, calls: &str, length: u32) -> bool {
+    let whole = write(sink, calls).is_ok();
+    let gauge = measure(calls);
+    let sizes = [gauge.longest_tag, gauge.bytes];
+    whole && sizes == [u64::from(length), sink.bytes().len() as u64]
+}
+
+/// Whether a document is written as long as it is measured, and what is written is read so.
 fn is_written_and_read(
     alloc: Global,
     calls: &str,
@@ -375,24 +418,25 @@ fn is_written_and_read(
     want: &str,
 ) -> Result<bool, AllocError> {
     let mut sink = MemSink::new(alloc, 300_000)?;
-    let whole = write(&mut sink, calls).is_ok();
-    let gauge = measure(calls);
-    let sizes = [gauge.longest_tag, gauge.bytes];
-    let are_right = sizes == [u64::from(length), sink.bytes().len() as u64];
-    Ok(whole && are_right && reads_as(alloc, sink.bytes(), want)?)
+    let is_written = is_measured(&mut sink, calls, length);
+    let is_read = reads_as(alloc, sink.bytes(), want);
+    drop(sink);
+    Ok(is_written & is_read?)
 }
 
-fn is_long_tag(alloc: Global, length: u32, inside: &str, want: &str) -> Result<bool, AllocError> {
-    let mut calls = String::new(alloc);
-    push_calls(&mut calls, length, inside)?;
-    is_written_and_read(alloc, calls.as_str(), length, want)
+struct LongTags;
+
+impl Holds for LongTags {
+    fn holds(&self, alloc: Global, row: &'static str) -> Result<bool, Fail> {
+        let [length, inside, want, ..] = columns(row, '|');
+        let length = length.parse().unwrap_or(0);
+        let mut calls = String::new(alloc);
+        push_calls(&mut calls, length, inside)?;
+        Ok(is_written_and_read(alloc, calls.as_str(), length, want)?)
+    }
 }
 
 #[test]
 fn the_longest_tag_is_written_and_read(rt: HostRuntime) -> Result<(), Fail> {
-    for row in LONG_TAGS.lines() {
-        let [length, inside, want, ..] = columns(row, '|');
-        check(is_long_tag(rt.alloc(), length.parse()?, inside, want)?, row)?;
-    }
-    Ok(())
+    expect_rows(rt.alloc(), &LongTags, LONG_TAGS)
 }

@@ -2,8 +2,7 @@
 //! made by plain searches, outside of this program.
 ghost use Rattle.std.specs.Prelude.{◌≡◌, ◌<◌, length};
 
-use crate::documents::document;
-use bumpalo::Bump;
+use crate::asking::{Asked, expect_documents};
 use inv_base::Steps;
 use node_arena::{Doc, NodeId};
 use std::alloc::{AllocError, Global};
@@ -95,14 +94,15 @@ fn chains_of<L: Ledger>(alloc: Global, doc: &Doc<'_>, ledger: Blank) -> Result<S
     }
 }
 
+struct Chained;
+
+impl Asked for Chained {
+    fn answer(&self, alloc: Global, doc: &Doc<'_>, _given: &'static str) -> Result<String, Fail> {
+        Ok(chains_of::<Brand>(alloc, doc, Blank::new(1))?)
+    }
+}
+
 #[test]
 fn chains_are_as_plain_searches_have_them(rt: HostRuntime) -> Result<(), Fail> {
-    for row in CHAINS.lines() {
-        let (text, want) = row.split_once(" | ").ok_or("row")?;
-        let bump = Bump::new(rt.alloc());
-        let doc = document(rt.alloc(), &bump, text)?;
-        let shown = chains_of::<Brand>(rt.alloc(), &doc, Blank::new(1))?;
-        assert_eq!(rt; shown.as_str(), want);
-    }
-    Ok(())
+    expect_documents(rt.alloc(), &Chained, CHAINS)
 }

@@ -7,13 +7,14 @@ use std::alloc::Global;
 use xml_document::{LoadFault, load};
 use xml_state::Limits;
 
+/// What documents of tests may have.
 pub(crate) const LIMITS: Limits = Limits {
     bytes: 1000,
     nodes: 100,
     depth: 10,
     attributes: 10,
     name: 10,
-    names: 10,
+    names: 20,
 };
 
 /// The document of a text, its texts placed in the arena.

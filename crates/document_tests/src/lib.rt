@@ -1,6 +1,8 @@
-//! The tests of documents in memory and of loading them.
+//! The tests of documents in memory and of loading them, and of what is evaluated over them: functions, operators and patterns.
 #![tactic(auto)]
 
+#[cfg(test)]
+mod asking;
 #[cfg(test)]
 mod chain_cases;
 #[cfg(test)]
@@ -8,9 +10,17 @@ mod documents;
 #[cfg(test)]
 mod file_cases;
 #[cfg(test)]
+mod function_cases;
+#[cfg(test)]
+mod items;
+#[cfg(test)]
 mod move_cases;
 #[cfg(test)]
 mod node_cases;
+#[cfg(test)]
+mod operator_cases;
+#[cfg(test)]
+mod pattern_cases;
 #[cfg(test)]
 mod string_cases;
 #[cfg(test)]

@@ -2,8 +2,7 @@
 //! their nodes, outside of this program.
 ghost use Rattle.std.specs.Prelude.{◌≡◌, ◌<◌, length};
 
-use crate::documents::document;
-use bumpalo::Bump;
+use crate::asking::{Asked, expect_documents};
 use inv_base::Steps;
 use node_arena::{Doc, NodeId};
 use std::alloc::{AllocError, Global};
@@ -114,22 +113,29 @@ fn two_steps<L: Ledger>(doc: &Doc<'_>, ledger: Blank) -> u64
     steps.count()
 }
 
+struct Moves;
+
+impl Asked for Moves {
+    fn answer(&self, alloc: Global, doc: &Doc<'_>, _given: &'static str) -> Result<String, Fail> {
+        Ok(moves_of::<Brand>(alloc, doc, Blank::new(1))?)
+    }
+}
+
 #[test]
 fn moves_are_as_plain_searches_have_them(rt: HostRuntime) -> Result<(), Fail> {
-    for row in MOVES.lines() {
-        let (text, want) = row.split_once(" | ").ok_or("row")?;
-        let bump = Bump::new(rt.alloc());
-        let doc = document(rt.alloc(), &bump, text)?;
-        let shown = moves_of::<Brand>(rt.alloc(), &doc, Blank::new(1))?;
-        assert_eq!(rt; shown.as_str(), want);
+    expect_documents(rt.alloc(), &Moves, MOVES)
+}
+
+struct MovesCounted;
+
+impl Asked for MovesCounted {
+    fn answer(&self, alloc: Global, doc: &Doc<'_>, _given: &'static str) -> Result<String, Fail> {
+        let steps = two_steps::<Brand>(doc, Blank::new(1));
+        Ok(format!(in alloc; "{steps}")?)
     }
-    Ok(())
 }
 
 #[test]
 fn steps_are_counted(rt: HostRuntime) -> Result<(), Fail> {
-    let bump = Bump::new(rt.alloc());
-    let doc = document(rt.alloc(), &bump, "<a></a>")?;
-    assert_eq!(rt; two_steps::<Brand>(&doc, Blank::new(1)), 2);
-    Ok(())
+    expect_documents(rt.alloc(), &MovesCounted, "<a></a> | 2")
 }

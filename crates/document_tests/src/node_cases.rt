@@ -1,6 +1,7 @@
 //! What is read of each node of a document.
 ghost use Rattle.std.specs.Prelude.{◌≡◌, ◌<◌, length, IfSome};
 
+use crate::asking::{Asked, answer_of};
 use crate::documents::document;
 use bumpalo::Bump;
 use inv_base::Steps;
@@ -9,11 +10,13 @@ use std::alloc::{AllocError, Global};
 use std::marker::Brand;
 use std::sync::ledger::{Blank, Ledger};
 use std::test::Fail;
+use test_rows::expect;
+use xml_document::LoadFault;
 
 /// A text around a comment is one, and stands where its first part does.
 const DOCUMENT: &str = "<a k=\"v\"><b>x</b>y<!--c-->z<c/></a>";
 
-/// Number, kind, place, local name and text of each node.
+/// Number, kind, place, local name and text of each node, and how many names there are.
 const NODES: &str = "\
 0 Document 0  .
 1 Element 0 a .
@@ -22,7 +25,7 @@ const NODES: &str = "\
 4 Text 12  .x
 5 Text 17  .yz
 6 Element 27 c .
-";
+4 names";
 
 fn push_node(shown: &mut String, alloc: Global, doc: &Doc<'_>, n: NodeId) -> Result<(), AllocError>
     requires { n < length doc.now.nodes }
@@ -73,28 +76,41 @@ fn child_of_root<L: Ledger>(doc: &Doc<'_>, ledger: Blank) -> Option<NodeId>
 
 /// The text of the first child of the root element, of a document that is let go.
 fn text_of<'a>(doc: Doc<'a>) -> &'a str {
-    match child_of_root::<Brand>(&doc, Blank::new(1)) {
+    let text = match child_of_root::<Brand>(&doc, Blank::new(1)) {
         Some(child) => doc.text(child),
         None => "",
+    };
+    drop(doc);
+    text
+}
+
+/// The nodes of a document, and how many names it has.
+struct Nodes;
+
+impl Asked for Nodes {
+    fn answer(&self, alloc: Global, doc: &Doc<'_>, _given: &'static str) -> Result<String, Fail> {
+        let mut shown = nodes_of::<Brand>(alloc, doc, Blank::new(1))?;
+        write!(shown, "{} names", doc.names().len())?;
+        Ok(shown)
     }
 }
 
 #[test]
 fn a_document_has_its_nodes(rt: HostRuntime) -> Result<(), Fail> {
-    let bump = Bump::new(rt.alloc());
-    let doc = document(rt.alloc(), &bump, DOCUMENT)?;
-    let shown = nodes_of::<Brand>(rt.alloc(), &doc, Blank::new(1))?;
-    assert_eq!(rt; shown.as_str(), NODES);
-    assert_eq!(rt; doc.names().len(), 4);
-    Ok(())
+    let shown = answer_of(rt.alloc(), &Nodes, DOCUMENT, "")?;
+    expect(shown.as_str() == NODES, "nodes")
+}
+
+fn is_kept(alloc: Global, bump: &Bump) -> Result<bool, LoadFault> {
+    let doc = document(alloc, bump, "<a>x&amp;y</a>")?;
+    Ok(text_of(doc) == "x&y")
 }
 
 /// The arena holds the texts, so they stay when the document goes.
 #[test]
 fn a_text_outlives_its_document(rt: HostRuntime) -> Result<(), Fail> {
     let bump = Bump::new(rt.alloc());
-    let doc = document(rt.alloc(), &bump, "<a>x&amp;y</a>")?;
-    let text = text_of(doc);
-    assert_eq!(rt; text, "x&y");
-    Ok(())
+    let holds = is_kept(rt.alloc(), &bump);
+    drop(bump);
+    expect(holds?, "text")
 }

@@ -1,14 +1,14 @@
 //! The string of each node of some documents. The rows were written by hand from the text of the documents.
 ghost use Rattle.std.specs.Prelude.{◌≡◌, ◌<◌, length};
 
-use crate::documents::document;
-use bumpalo::Bump;
+use crate::asking::{Asked, expect_documents};
 use inv_base::Steps;
 use node_arena::{Doc, NodeId, Str};
 use std::alloc::{AllocError, Global};
 use std::marker::Brand;
 use std::sync::ledger::{Blank, Ledger};
 use std::test::Fail;
+use test_rows::expect;
 
 /// A document, and the string of each node in document order, the document's own first.
 const STRINGS: &str = "\
@@ -30,11 +30,13 @@ fn push_string<L: Ledger>(
     requires { n < length doc.now.nodes }
 {
     let string = doc.string(alloc, n, steps)?;
-    if string.as_str().is_empty() {
+    let pushed = if string.as_str().is_empty() {
         shown.push_str(".")
     } else {
         shown.push_str(string.as_str())
-    }
+    };
+    drop(string);
+    pushed
 }
 
 /// The strings of all nodes.
@@ -56,16 +58,17 @@ fn strings_of<L: Ledger>(alloc: Global, doc: &Doc<'_>, ledger: Blank) -> Result<
     }
 }
 
+struct Strings;
+
+impl Asked for Strings {
+    fn answer(&self, alloc: Global, doc: &Doc<'_>, _given: &'static str) -> Result<String, Fail> {
+        Ok(strings_of::<Brand>(alloc, doc, Blank::new(1))?)
+    }
+}
+
 #[test]
 fn strings_are_those_of_the_text(rt: HostRuntime) -> Result<(), Fail> {
-    for row in STRINGS.lines() {
-        let (text, want) = row.split_once(" | ").ok_or("row")?;
-        let bump = Bump::new(rt.alloc());
-        let doc = document(rt.alloc(), &bump, text)?;
-        let shown = strings_of::<Brand>(rt.alloc(), &doc, Blank::new(1))?;
-        assert_eq!(rt; shown.as_str(), want);
-    }
-    Ok(())
+    expect_documents(rt.alloc(), &Strings, STRINGS)
 }
 
 /// How many steps the string of the root takes: one for each node inside, and one to find the last.
@@ -79,23 +82,29 @@ fn steps_of_string<L: Ledger>(
     requires some { 0 < ledger.parts }
 {
     let mut steps = Steps::<L>::new(ledger);
-    let _ = doc.string(alloc, doc.root(), &mut steps)?;
+    let string = doc.string(alloc, doc.root(), &mut steps)?;
+    drop(string);
     Ok(steps.count())
+}
+
+struct StringCounted;
+
+impl Asked for StringCounted {
+    fn answer(&self, alloc: Global, doc: &Doc<'_>, _given: &'static str) -> Result<String, Fail> {
+        let steps = steps_of_string::<Brand>(alloc, doc, Blank::new(1))?;
+        Ok(format!(in alloc; "{steps}")?)
+    }
 }
 
 #[test]
 fn steps_of_a_string_are_counted(rt: HostRuntime) -> Result<(), Fail> {
-    let bump = Bump::new(rt.alloc());
-    let doc = document(rt.alloc(), &bump, "<a k=\"v\"><b>x</b>y</a>")?;
-    assert_eq!(rt;
-        steps_of_string::<Brand>(rt.alloc(), &doc, Blank::new(1))?,
-        5
-    );
-    Ok(())
+    expect_documents(rt.alloc(), &StringCounted, r#"<a k="v"><b>x</b>y</a> | 5"#)
 }
 
 #[test]
-fn a_text_is_lent(rt: HostRuntime) -> Result<(), Fail> {
-    assert_eq!(rt; Str::lent("x").as_str(), "x");
-    Ok(())
+fn a_text_is_lent(_rt: HostRuntime) -> Result<(), Fail> {
+    let lent = Str::lent("x");
+    let holds = lent.as_str() == "x";
+    drop(lent);
+    expect(holds, "x")
 }

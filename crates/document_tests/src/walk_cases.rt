@@ -1,8 +1,7 @@
 //! A walk over all nodes of some documents, with the level of each.
 ghost use Rattle.std.specs.Prelude.{◌≡◌, ◌<◌};
 
-use crate::documents::document;
-use bumpalo::Bump;
+use crate::asking::{Asked, expect_documents};
 use inv_base::Steps;
 use node_arena::Doc;
 use std::alloc::{AllocError, Global};
@@ -38,14 +37,15 @@ fn levels_of<L: Ledger>(alloc: Global, doc: &Doc<'_>, ledger: Blank) -> Result<S
     }
 }
 
+struct Levels;
+
+impl Asked for Levels {
+    fn answer(&self, alloc: Global, doc: &Doc<'_>, _given: &'static str) -> Result<String, Fail> {
+        Ok(levels_of::<Brand>(alloc, doc, Blank::new(1))?)
+    }
+}
+
 #[test]
 fn a_walk_meets_each_node_at_its_level(rt: HostRuntime) -> Result<(), Fail> {
-    for row in LEVELS.lines() {
-        let (text, want) = row.split_once(" | ").ok_or("row")?;
-        let bump = Bump::new(rt.alloc());
-        let doc = document(rt.alloc(), &bump, text)?;
-        let shown = levels_of::<Brand>(rt.alloc(), &doc, Blank::new(1))?;
-        assert_eq!(rt; shown.as_str(), want);
-    }
-    Ok(())
+    expect_documents(rt.alloc(), &Levels, LEVELS)
 }

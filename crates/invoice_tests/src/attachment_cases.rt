@@ -1,9 +1,11 @@
-use crate::building::{context_of, number, push_text};
+use crate::building::{context_of, push_text};
+use crate::texts::{halves, spelled};
 use inv_base::MemSink;
 use inv_terms::{AttachFault, Invoice, attachment};
-use std::alloc::Global;
+use std::alloc::{AllocError, Global};
 use std::test::Fail;
 use term_table::Group;
+use test_rows::{Holds, expect, expect_rows};
 
 /// Attached documents, one a line, with `~` for a space.
 const DOCUMENTS: &str = "\
@@ -32,21 +34,25 @@ const ANSWERS: &str = "\
 3 0 text
 4294967295 0 none";
 
-fn with_documents(alloc: Global) -> Result<Invoice, Fail> {
-    let mut invoice = Invoice::new(alloc)?;
+fn push_document(
+    alloc: Global,
+    invoice: &mut Invoice,
+    index: u32,
+    line: &'static str,
+) -> Result<(), Fail> {
+    let text = spelled(alloc, line)?;
+    let context = context_of(Group::SupportingDocument, index, 0);
+    let pushed = push_text(alloc, invoice, 138, context, text.as_str())?;
+    expect(pushed == "ok", line)
+}
+
+fn push_documents(alloc: Global, invoice: &mut Invoice) -> Result<(), Fail> {
     let mut index = 0u32;
     for line in DOCUMENTS.lines() {
         index = index.saturating_add(1);
-        let text: String = line
-            .chars()
-            .map(|c| if c == '~' { ' ' } else { c })
-            .collect(alloc)?;
-        let context = context_of(Group::SupportingDocument, index, 0);
-        if push_text(alloc, &mut invoice, 138, context, text.as_str())? != "ok" {
-            return Err(Fail::from("refused"));
-        }
+        push_document(alloc, invoice, index, line)?;
     }
-    Ok(invoice)
+    Ok(())
 }
 
 /// What `attachment` answers, in a word.
@@ -61,33 +67,58 @@ fn word_of(answer: Result<(), AttachFault>) -> &'static str {
 }
 
 /// Whether exactly these bytes were written.
-fn are_written(bytes: &[u8], wanted: &str) -> Result<bool, Fail> {
+fn are_written(bytes: &[u8], wanted: &str) -> bool {
     let mut count = 0usize;
     for word in wanted.split_whitespace() {
-        let byte: u8 = word.parse()?;
-        if bytes.get(count).copied() != Some(byte) {
-            return Ok(false);
+        if bytes.get(count).copied() != word.parse().ok() {
+            return false;
         }
         count = count.saturating_add(1);
     }
-    Ok(bytes.len() == count)
+    bytes.len() == count
 }
 
-fn is_answered(alloc: Global, invoice: &Invoice, line: &str) -> Result<bool, Fail> {
-    let (k, rest) = line.split_once(' ').ok_or("number")?;
-    let (room, rest) = rest.split_once(' ').ok_or("room")?;
-    let (want, bytes) = rest.split_once(' ').unwrap_or((rest, ""));
-    let mut out = MemSink::new(alloc, number(Some(room))? as usize)?;
-    let answer = word_of(attachment(alloc, invoice, number(Some(k))?, &mut out));
-    Ok(answer == want && are_written(out.bytes(), bytes)?)
+/// Whether the answer is that, and these bytes are written into so much room.
+fn is_answered(
+    alloc: Global,
+    invoice: &Invoice,
+    k: u32,
+    room: usize,
+    want: &str,
+) -> Result<bool, AllocError> {
+    let (answer, bytes) = halves(want, ' ');
+    let mut out = MemSink::new(alloc, room)?;
+    let answered = word_of(attachment(alloc, invoice, k, &mut out)) == answer;
+    let written = are_written(out.bytes(), bytes);
+    drop(out);
+    Ok(answered & written)
+}
+
+#[derive(Clone, Copy)]
+struct Answers<'a> {
+    invoice: &'a Invoice,
+}
+
+impl Holds for Answers<'_> {
+    fn holds(&self, alloc: Global, row: &'static str) -> Result<bool, Fail> {
+        let (k, rest) = halves(row, ' ');
+        let (room, want) = halves(rest, ' ');
+        let k = k.parse().unwrap_or(0);
+        let room = room.parse().unwrap_or(0);
+        Ok(is_answered(alloc, self.invoice, k, room, want)?)
+    }
+}
+
+fn expect_answers(alloc: Global, invoice: &mut Invoice) -> Result<(), Fail> {
+    push_documents(alloc, invoice)?;
+    let answers = Answers { invoice };
+    expect_rows(alloc, &answers, ANSWERS)
 }
 
 #[test]
 fn attached_documents_are_written(rt: HostRuntime) -> Result<(), Fail> {
-    let alloc = rt.alloc();
-    let invoice = with_documents(alloc)?;
-    for line in ANSWERS.lines() {
-        assert!(rt; is_answered(alloc, &invoice, line)?, "{line}");
-    }
-    Ok(())
+    let mut invoice = Invoice::new(rt.alloc())?;
+    let held = expect_answers(rt.alloc(), &mut invoice);
+    drop(invoice);
+    held
 }

@@ -3,11 +3,13 @@
 ghost use Rattle.std.specs.Prelude.{IfOk, IfSome};
 ghost use Rattle.inv_terms.specs.Listing.{Fits};
 
+use crate::texts::{halves, numbers};
 use code_lists::List;
 use inv_terms::{Entry, Invoice, PushFault, Value};
 use std::alloc::{AllocError, Global};
 use std::test::Fail;
 use term_table::{Context, Group, Letter, ROOT, Slot, TermRow, term_row, terms_have_one_type};
+use test_rows::expect;
 
 /// An entry of the k-th row, unless the text has no value.
 pub fn entry_of(
@@ -67,22 +69,26 @@ pub fn sample(row: &TermRow) -> &'static str {
     }
 }
 
+fn word_of(fault: &PushFault) -> &'static str {
+    match fault {
+        PushFault::OutOfOrder(_) => "order",
+        PushFault::BadContext(_) => "context",
+        PushFault::Memory(_) => "memory",
+    }
+}
+
 /// What `push` answers, in a word.
 pub fn pushed(invoice: &mut Invoice, e: Entry) -> &'static str
     requires { Fits e.term e.value }
 {
     match invoice.push(e) {
         Ok(()) => "ok",
-        Err(PushFault::OutOfOrder(_)) => "order",
-        Err(PushFault::BadContext(_)) => "context",
-        Err(PushFault::Memory(_)) => "memory",
+        Err(fault) => {
+            let word = word_of(&fault);
+            drop(fault);
+            word
+        }
     }
-}
-
-/// The next word as a number.
-pub fn number(word: Option<&str>) -> Result<u32, Fail> {
-    let word = word.ok_or("no number")?;
-    Ok(word.parse()?)
 }
 
 /// What `push` answers to an entry of a row with this text.
@@ -92,7 +98,7 @@ pub fn push_text(
     k: usize,
     context: Context,
     text: &str,
-) -> Result<&'static str, Fail> {
+) -> Result<&'static str, AllocError> {
     match entry_of(alloc, k, context, text)? {
         Some(e) => Ok(pushed(invoice, e)),
         None => Ok("no value"),
@@ -146,58 +152,90 @@ const FULL: &str = "\
 179 181 2 1
 179 181 2 2";
 
-fn add(alloc: Global, invoice: &mut Invoice, k: usize, outer: u32, inner: u32) -> Result<(), Fail> {
+/// Pushes a text to an invoice that has to take it.
+fn add(
+    alloc: Global,
+    invoice: &mut Invoice,
+    k: usize,
+    context: Context,
+    text: &str,
+) -> Result<(), Fail> {
+    let pushed = push_text(alloc, invoice, k, context, text)?;
+    expect(pushed == "ok", "refused")
+}
+
+fn add_sample(
+    alloc: Global,
+    invoice: &mut Invoice,
+    k: usize,
+    outer: u32,
+    inner: u32,
+) -> Result<(), Fail> {
     let row = term_row(k).ok_or("row")?;
     let context = context_of(row.group, outer, inner);
-    if push_text(alloc, invoice, k, context, sample(&row))? != "ok" {
-        return Err(Fail::from("refused"));
+    add(alloc, invoice, k, context, sample(&row))
+}
+
+/// Adds a sample of the rows that a line of the table names, but one.
+fn add_samples(
+    alloc: Global,
+    invoice: &mut Invoice,
+    line: &str,
+    without: usize,
+) -> Result<(), Fail> {
+    let [from, to, outer, inner, _] = numbers(line);
+    for k in from as usize..to as usize {
+        if k != without {
+            add_sample(alloc, invoice, k, outer, inner)?;
+        }
     }
     Ok(())
 }
 
-/// Adds a sample of the rows that a line of the table names, but one.
-fn fill(alloc: Global, invoice: &mut Invoice, line: &str, without: usize) -> Result<(), Fail> {
-    let mut words = line.split_whitespace();
-    let from = number(words.next())? as usize;
-    let to = number(words.next())? as usize;
-    let outer = number(words.next())?;
-    let inner = number(words.next())?;
-    for k in from..to {
-        if k != without {
-            add(alloc, invoice, k, outer, inner)?;
-        }
+fn fill(alloc: Global, invoice: &mut Invoice, without: usize) -> Result<(), Fail> {
+    for line in FULL.lines() {
+        add_samples(alloc, invoice, line, without)?;
     }
     Ok(())
+}
+
+/// The invoice, where it was filled.
+fn filled(invoice: Invoice, answer: Result<(), Fail>) -> Result<Invoice, Fail> {
+    match answer {
+        Ok(()) => Ok(invoice),
+        Err(fail) => {
+            drop(invoice);
+            Err(fail)
+        }
+    }
 }
 
 /// An invoice with every term, and every group that may be repeated twice, but without the row of that number.
 pub fn full_without(alloc: Global, without: usize) -> Result<Invoice, Fail> {
     let mut invoice = Invoice::new(alloc)?;
-    for line in FULL.lines() {
-        fill(alloc, &mut invoice, line, without)?;
+    let answer = fill(alloc, &mut invoice, without);
+    filled(invoice, answer)
+}
+
+fn add_line(alloc: Global, invoice: &mut Invoice, line: &str) -> Result<(), Fail> {
+    let [k, outer, ..] = numbers(line);
+    let (_, rest) = halves(line, ' ');
+    let (_, text) = halves(rest, ' ');
+    let row = term_row(k as usize).ok_or("row")?;
+    let context = context_of(row.group, outer, 0);
+    add(alloc, invoice, k as usize, context, text)
+}
+
+fn add_lines(alloc: Global, invoice: &mut Invoice, lines: &str) -> Result<(), Fail> {
+    for line in lines.lines() {
+        add_line(alloc, invoice, line)?;
     }
-    Ok(invoice)
+    Ok(())
 }
 
 /// The invoice of these lines, each with a row, the number of its occurrence and a text.
 pub fn invoice_of(alloc: Global, lines: &str) -> Result<Invoice, Fail> {
     let mut invoice = Invoice::new(alloc)?;
-    for line in lines.lines() {
-        let mut words = line.split_whitespace();
-        let k = number(words.next())? as usize;
-        let outer = number(words.next())?;
-        let row = term_row(k).ok_or("row")?;
-        let text = words.next().ok_or("text")?;
-        if push_text(
-            alloc,
-            &mut invoice,
-            k,
-            context_of(row.group, outer, 0),
-            text,
-        )? != "ok"
-        {
-            return Err(Fail::from("refused"));
-        }
-    }
-    Ok(invoice)
+    let answer = add_lines(alloc, &mut invoice, lines);
+    filled(invoice, answer)
 }

@@ -4,27 +4,50 @@ use inv_lacks::{Name, TermFault, check};
 use std::alloc::Global;
 use std::test::Fail;
 use term_table::{Term, term_row};
+use test_rows::expect;
 
 /// For each row of the table of terms, whether a full invoice without it lacks it: 1 where it is mandatory in a group
 /// that is still there.
 const MANDATORY: &str =
     "1111000000000000000001011010000000101100000010001000000010000001000100001100000010000000000001100100100001001000100100010010010011110001000111000111000010000100001000010100001011011";
 
+/// Whether this is what a full invoice without that row lacks.
+fn lacks(
+    alloc: Global,
+    lists: &CodeLists,
+    without: usize,
+    want: Result<(), TermFault>,
+) -> Result<bool, Fail> {
+    let invoice = full_without(alloc, without)?;
+    let holds = check(&invoice, lists) == want;
+    drop(invoice);
+    Ok(holds)
+}
+
+fn expect_missed(alloc: Global, lists: &CodeLists, k: usize, mark: u8) -> Result<(), Fail> {
+    let term = term_row(k).ok_or("row")?.term;
+    let want = match mark {
+        b'1' => Err(TermFault::Missing(Name::Term(term))),
+        _ => Ok(()),
+    };
+    let holds = lacks(alloc, lists, k, want)?;
+    holds.then_some(()).ok_or(k)?;
+    Ok(())
+}
+
+fn expect_all_missed(alloc: Global, lists: &CodeLists) -> Result<(), Fail> {
+    for (k, mark) in MANDATORY.bytes().enumerate() {
+        expect_missed(alloc, lists, k, mark)?;
+    }
+    expect(lacks(alloc, lists, 1000, Ok(()))?, "full")
+}
+
 #[test]
 fn each_mandatory_term_is_missed(rt: HostRuntime) -> Result<(), Fail> {
-    let alloc = rt.alloc();
-    let lists = CodeLists::built_in(alloc)?;
-    for (k, mark) in MANDATORY.bytes().enumerate() {
-        let term = term_row(k).ok_or("row")?.term;
-        let lacking = check(&full_without(alloc, k)?, &lists);
-        if mark == b'1' {
-            assert!(rt; lacking == Err(TermFault::Missing(Name::Term(term))), "{k}");
-        } else {
-            assert!(rt; lacking == Ok(()), "{k}");
-        }
-    }
-    assert!(rt; check(&full_without(alloc, 1000)?, &lists) == Ok(()));
-    Ok(())
+    let lists = CodeLists::built_in(rt.alloc())?;
+    let held = expect_all_missed(rt.alloc(), &lists);
+    drop(lists);
+    held
 }
 
 /// The smallest invoice: the row of each entry, the number of its occurrence, and its text.
@@ -53,10 +76,27 @@ const SMALLEST: &str = "\
 167 1 S
 169 1 Pen";
 
-/// What `check` answers of the smallest invoice under the lists of a file.
+/// Whether `check` answers that of the invoice of these lines.
+fn answers(
+    alloc: Global,
+    lists: &CodeLists,
+    lines: &str,
+    want: Result<(), TermFault>,
+) -> Result<bool, Fail> {
+    let invoice = invoice_of(alloc, lines)?;
+    let holds = check(&invoice, lists) == want;
+    drop(invoice);
+    Ok(holds)
+}
+
+/// Whether `check` answers that of the smallest invoice under the lists of a file.
 fn is_checked(alloc: Global, file: &[u8], want: Result<(), TermFault>) -> Result<bool, Fail> {
     match CodeLists::from_toml(alloc, file) {
-        Ok(lists) => Ok(check(&invoice_of(alloc, SMALLEST)?, &lists) == want),
+        Ok(lists) => {
+            let holds = answers(alloc, &lists, SMALLEST, want);
+            drop(lists);
+            holds
+        }
         Err(_) => Ok(false),
     }
 }
@@ -65,10 +105,13 @@ fn is_checked(alloc: Global, file: &[u8], want: Result<(), TermFault>) -> Result
 fn codes_come_from_their_lists(rt: HostRuntime) -> Result<(), Fail> {
     let alloc = rt.alloc();
     let refused = Err(TermFault::CodeNotListed(Term { number: 5, part: 0 }));
-    assert!(rt; is_checked(alloc, b"[lists]\n", Ok(()))?);
-    assert!(rt; is_checked(alloc, b"[lists]\ncurrency = [\"USD\"]\n", refused)?);
-    assert!(rt; is_checked(alloc, b"[lists]\ncurrency = [\"USD\", \"EUR\"]\n", Ok(()))?);
-    Ok(())
+    let two = b"[lists]\ncurrency = [\"USD\", \"EUR\"]\n";
+    expect(is_checked(alloc, b"[lists]\n", Ok(()))?, "none")?;
+    expect(
+        is_checked(alloc, b"[lists]\ncurrency = [\"USD\"]\n", refused)?,
+        "USD",
+    )?;
+    expect(is_checked(alloc, two, Ok(()))?, "USD, EUR")
 }
 
 /// An invoice that lacks a mandatory term beside an optional one, and has a code that is in no list behind it.
@@ -87,15 +130,17 @@ fn is_lacking(alloc: Global, lines: &str, want: u16) -> Result<bool, Fail> {
         number: want,
         part: 0,
     };
-    Ok(check(&invoice_of(alloc, lines)?, &lists) == Err(TermFault::Missing(Name::Term(term))))
+    let want = Err(TermFault::Missing(Name::Term(term)));
+    let holds = answers(alloc, &lists, lines, want);
+    drop(lists);
+    holds
 }
 
 #[test]
 fn the_first_lack_is_told(rt: HostRuntime) -> Result<(), Fail> {
     let alloc = rt.alloc();
-    assert!(rt; is_lacking(alloc, "", 1)?);
-    assert!(rt; is_lacking(alloc, "0 0 A1", 2)?);
-    assert!(rt; is_lacking(alloc, "9 0 a\n131 1 X", 1)?);
-    assert!(rt; is_lacking(alloc, LINES, 22)?);
-    Ok(())
+    expect(is_lacking(alloc, "", 1)?, "nothing")?;
+    expect(is_lacking(alloc, "0 0 A1", 2)?, "0 0 A1")?;
+    expect(is_lacking(alloc, "9 0 a\n131 1 X", 1)?, "9 0 a")?;
+    expect(is_lacking(alloc, LINES, 22)?, LINES)
 }

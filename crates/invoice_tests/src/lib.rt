@@ -22,4 +22,6 @@ mod rows;
 #[cfg(test)]
 mod table_cases;
 #[cfg(test)]
+mod texts;
+#[cfg(test)]
 mod value_cases;

@@ -3,28 +3,48 @@ ghost use Rattle.term_table.specs.Runs.{IsNested};
 use crate::building::{context_of, full_without};
 use code_lists::CodeLists;
 use inv_lacks::{Name, TermFault, first_missing, is_unlisted};
-use inv_terms::Invoice;
+use inv_terms::{Entry, Invoice};
+use std::alloc::Global;
 use std::test::Fail;
 use term_table::{Context, Group, ROOT, Seat, Slot, Term};
+use test_rows::expect;
+
+fn is_found(full: &Invoice, lists: &CodeLists, e: &Entry) -> bool {
+    let found = match full.value(e.term, e.context) {
+        Some(value) => value.is_same(&e.value),
+        None => false,
+    };
+    found && !is_unlisted(lists, e)
+}
+
+fn are_found(full: &Invoice, lists: &CodeLists) -> bool {
+    let mut found = true;
+    for e in full.entries() {
+        found &= is_found(full, lists, e);
+    }
+    found
+}
+
+/// Whether there is no value of a term in a group that isn't its own, nor of a number that is no term's.
+fn has_no_others(full: &Invoice) -> bool {
+    let currency = Term { number: 5, part: 0 };
+    let line = context_of(Group::InvoiceLine, 1, 0);
+    full.value(currency, line).is_none() && full.value(Term { number: 4, part: 0 }, ROOT).is_none()
+}
+
+fn are_looked_up(alloc: Global, full: &Invoice) -> Result<bool, Fail> {
+    let lists = CodeLists::built_in(alloc)?;
+    let found = are_found(full, &lists);
+    drop(lists);
+    Ok(found && has_no_others(full))
+}
 
 #[test]
 fn values_are_looked_up(rt: HostRuntime) -> Result<(), Fail> {
     let full = full_without(rt.alloc(), 1000)?;
-    let lists = CodeLists::built_in(rt.alloc())?;
-    for e in full.entries() {
-        match full.value(e.term, e.context) {
-            Some(value) => assert!(rt; value.is_same(&e.value)),
-            None => assert!(rt; false),
-        }
-        assert!(rt; !is_unlisted(&lists, e));
-    }
-    let currency = Term { number: 5, part: 0 };
-    assert!(rt;
-        full.value(currency, context_of(Group::InvoiceLine, 1, 0))
-            .is_none()
-    );
-    assert!(rt; full.value(Term { number: 4, part: 0 }, ROOT).is_none());
-    Ok(())
+    let found = are_looked_up(rt.alloc(), &full);
+    drop(full);
+    expect(found?, "values")
 }
 
 /// The context of a line.
@@ -56,21 +76,29 @@ fn charge_of(index: u32) -> Context
     }
 }
 
+fn lengths_of(full: &Invoice) -> [usize; 4] {
+    [
+        full.run(ROOT).len(),
+        full.run(line_of(2)).len(),
+        full.run(line_of(3)).len(),
+        full.run(charge_of(1)).len(),
+    ]
+}
+
 #[test]
 fn entries_of_a_context_are_a_run(rt: HostRuntime) -> Result<(), Fail> {
     let full = full_without(rt.alloc(), 1000)?;
-    assert!(rt; full.run(ROOT).len() == 287);
-    assert!(rt; full.run(line_of(2)).len() == 55);
-    assert!(rt; full.run(line_of(3)).is_empty());
-    assert!(rt; full.run(charge_of(1)).len() == 5);
-    Ok(())
+    let lengths = lengths_of(&full);
+    drop(full);
+    expect(lengths == [287, 55, 0, 5], "lengths")
 }
 
 #[test]
 fn an_empty_invoice_is_made_of_no_entries(rt: HostRuntime) -> Result<(), Fail> {
     let empty = Invoice::from_entries(Vec::new(rt.alloc()));
-    assert!(rt; empty.entry(0).is_none());
-    Ok(())
+    let is_empty = empty.entry(0).is_none();
+    drop(empty);
+    expect(is_empty, "empty")
 }
 
 fn seat(number: u16, index: u32) -> Seat {
@@ -81,14 +109,14 @@ fn seat(number: u16, index: u32) -> Seat {
 }
 
 #[test]
-fn lacks_are_found_over_seats(rt: HostRuntime) -> Result<(), Fail> {
+fn lacks_are_found_over_seats() -> Result<(), Fail> {
     let seats = [seat(21, 1), seat(21, 2), seat(22, 2)];
     let first = context_of(Group::InvoiceNote, 1, 0);
     let second = context_of(Group::InvoiceNote, 2, 0);
+    let wanted = TermFault::Missing(Name::Term(seats[2].term));
     match first_missing(&seats[..1], first) {
-        Some(lack) => assert!(rt; lack.fault == TermFault::Missing(Name::Term(seats[2].term))),
-        None => assert!(rt; false),
+        Some(lack) => expect(lack.fault == wanted, "first")?,
+        None => expect(false, "none")?,
     }
-    assert!(rt; first_missing(&seats[1..], second).is_none());
-    Ok(())
+    expect(first_missing(&seats[1..], second).is_none(), "second")
 }

@@ -5,6 +5,7 @@ use inv_terms::{Entry, Invoice};
 use std::alloc::Global;
 use std::test::Fail;
 use term_table::{Context, ListingPlace, Slot, TermRow, place_of, term_row};
+use test_rows::expect;
 
 /// The next of a row of numbers that look random (Lehmer's generator).
 fn next(number: u32) -> u32 {
@@ -80,21 +81,32 @@ fn try_entry(
     let context = context_of(row.group, number / 7 % 4, number / 28 % 4);
     let wanted = may_follow(invoice.entries(), &row, context);
     let taken = push_text(alloc, invoice, k, context, sample(&row))? == "ok";
-    (taken == wanted).then_some(()).ok_or("answered otherwise")?;
+    expect(taken == wanted, "answered otherwise")?;
     Ok(if taken { k } else { near })
+}
+
+/// How many entries of a row of random ones are taken.
+fn taken_of(alloc: Global, invoice: &mut Invoice, seed: u32) -> Result<usize, Fail> {
+    let mut number = seed;
+    let mut near = 0;
+    for _ in 0..600 {
+        number = next(number);
+        near = try_entry(alloc, invoice, near, number)?;
+    }
+    Ok(invoice.entries().len())
+}
+
+fn takes_many(alloc: Global, seed: u32) -> Result<bool, Fail> {
+    let mut invoice = Invoice::new(alloc)?;
+    let taken = taken_of(alloc, &mut invoice, seed);
+    drop(invoice);
+    Ok(taken? > 20)
 }
 
 #[test]
 fn entries_in_any_order_are_taken_where_they_make_an_invoice(rt: HostRuntime) -> Result<(), Fail> {
     for seed in 1..6u32 {
-        let mut invoice = Invoice::new(rt.alloc())?;
-        let mut number = seed;
-        let mut near = 0;
-        for _ in 0..600 {
-            number = next(number);
-            near = try_entry(rt.alloc(), &mut invoice, near, number)?;
-        }
-        assert!(rt; invoice.entries().len() > 20);
+        expect(takes_many(rt.alloc(), seed)?, "many")?;
     }
     Ok(())
 }

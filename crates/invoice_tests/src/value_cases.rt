@@ -1,7 +1,9 @@
+use crate::texts::{halves, spelled};
 use inv_terms::Value;
 use std::alloc::{AllocError, Global};
 use std::test::Fail;
 use term_table::Letter;
+use test_rows::{Holds, expect, expect_rows};
 
 /// The letter of a type, a string with `~` for a space and `^` for a form feed, and behind `>` how its value is
 /// printed, or `none`.
@@ -66,47 +68,59 @@ fn is_wanted(value: &Value, want: &str) -> bool {
     }
 }
 
-fn written_out(alloc: Global, text: &str) -> Result<String, AllocError> {
-    let mut out = String::new(alloc);
-    for c in text.chars() {
-        out.push(match c {
-            '~' => ' ',
-            '^' => '\u{C}',
-            c => c,
-        })?;
+/// What a string gives by its type is as wanted.
+fn is_read(alloc: Global, letter: Letter, text: &str, want: &str) -> Result<bool, AllocError> {
+    match Value::read(alloc, letter, text)? {
+        Some(value) => {
+            let same = is_wanted(&value, want);
+            drop(value);
+            Ok(same)
+        }
+        None => Ok(want == "none"),
     }
-    Ok(out)
 }
 
-fn read_line(alloc: Global, line: &str) -> Result<bool, Fail> {
-    let (letter, rest) = line.split_once(' ').ok_or("letter")?;
-    let (text, want) = rest.split_once('>').ok_or("value")?;
-    let want = written_out(alloc, want)?;
-    let text = written_out(alloc, text)?;
-    match Value::read(alloc, letter_of(letter), text.as_str())? {
-        Some(value) => Ok(is_wanted(&value, want.as_str())),
-        None => Ok(want.as_str() == "none"),
+struct Readings;
+
+impl Holds for Readings {
+    fn holds(&self, alloc: Global, row: &'static str) -> Result<bool, Fail> {
+        let (letter, rest) = halves(row, ' ');
+        let (text, want) = halves(rest, '>');
+        let want = spelled(alloc, want)?;
+        let text = spelled(alloc, text)?;
+        Ok(is_read(alloc, letter_of(letter), text.as_str(), want.as_str())?)
     }
 }
 
 #[test]
 fn strings_have_values_by_type(rt: HostRuntime) -> Result<(), Fail> {
-    let alloc = rt.alloc();
-    for line in READINGS.lines() {
-        assert!(rt; read_line(alloc, line)?, "{line}");
+    expect_rows(rt.alloc(), &Readings, READINGS)
+}
+
+fn has_value(alloc: Global, letter: Letter, text: &str) -> Result<bool, AllocError> {
+    match Value::read(alloc, letter, text)? {
+        Some(value) => {
+            drop(value);
+            Ok(true)
+        }
+        None => Ok(false),
     }
-    Ok(())
+}
+
+fn are_in_limits(alloc: Global) -> Result<[bool; 5], AllocError> {
+    Ok([
+        has_value(alloc, Letter::T, "\u{20AC}")?,
+        has_value(alloc, Letter::C, "\u{20AC}")?,
+        has_value(alloc, Letter::I, "\u{A0}")?,
+        has_value(alloc, Letter::T, "a\u{FFFE}")?,
+        has_value(alloc, Letter::I, "\t\r\n ")?,
+    ])
 }
 
 #[test]
 fn codes_and_characters_have_limits(rt: HostRuntime) -> Result<(), Fail> {
-    let alloc = rt.alloc();
-    assert!(rt; Value::read(alloc, Letter::T, "\u{20AC}")?.is_some());
-    assert!(rt; Value::read(alloc, Letter::C, "\u{20AC}")?.is_none());
-    assert!(rt; Value::read(alloc, Letter::I, "\u{A0}")?.is_some());
-    assert!(rt; Value::read(alloc, Letter::T, "a\u{FFFE}")?.is_none());
-    assert!(rt; Value::read(alloc, Letter::I, "\t\r\n ")?.is_none());
-    Ok(())
+    let found = are_in_limits(rt.alloc())?;
+    expect(found == [true, false, true, false, false], "values")
 }
 
 /// Pairs of strings with the letter of their type, and whether their values are the same.
@@ -123,21 +137,52 @@ I x x same
 T x y other
 B SGk= SGk= same";
 
-fn is_compared(alloc: Global, line: &str) -> Result<bool, Fail> {
-    let mut words = line.split_whitespace();
-    let letter = letter_of(words.next().ok_or("letter")?);
-    let first = Value::read(alloc, letter, words.next().ok_or("first")?)?;
-    let second = Value::read(alloc, letter, words.next().ok_or("second")?)?;
-    match (first, second) {
-        (Some(a), Some(b)) => Ok(a.is_same(&b) == (words.next() == Some("same"))),
-        _ => Ok(false),
+fn is_same_as(
+    alloc: Global,
+    value: &Value,
+    letter: Letter,
+    text: &str,
+) -> Result<Option<bool>, AllocError> {
+    match Value::read(alloc, letter, text)? {
+        Some(other) => {
+            let same = value.is_same(&other);
+            drop(other);
+            Ok(Some(same))
+        }
+        None => Ok(None),
+    }
+}
+
+/// Whether the values of two strings are the same, where both have one.
+fn are_same(
+    alloc: Global,
+    letter: Letter,
+    first: &str,
+    second: &str,
+) -> Result<Option<bool>, AllocError> {
+    match Value::read(alloc, letter, first)? {
+        Some(value) => {
+            let same = is_same_as(alloc, &value, letter, second);
+            drop(value);
+            same
+        }
+        None => Ok(None),
+    }
+}
+
+struct Pairs;
+
+impl Holds for Pairs {
+    fn holds(&self, alloc: Global, row: &'static str) -> Result<bool, Fail> {
+        let (letter, rest) = halves(row, ' ');
+        let (first, rest) = halves(rest, ' ');
+        let (second, want) = halves(rest, ' ');
+        let same = are_same(alloc, letter_of(letter), first, second)?;
+        Ok(same == Some(want == "same"))
     }
 }
 
 #[test]
 fn values_are_compared(rt: HostRuntime) -> Result<(), Fail> {
-    for line in PAIRS.lines() {
-        assert!(rt; is_compared(rt.alloc(), line)?, "{line}");
-    }
-    Ok(())
+    expect_rows(rt.alloc(), &Pairs, PAIRS)
 }

@@ -1,11 +1,11 @@
 //! Files of the system, and outputs that are interrupted, fail or take nothing.
 
-use crate::cases::check;
 use inv_base::{Failed, Shelf, Sink, write_all};
 use invoice_cli::{FileShelf, OutputSink};
 use std::io::{Error, ErrorKind, Write};
 use std::test::Fail;
 use std::{fs, io};
+use test_rows::expect;
 
 /// Whether a read gives so many bytes, and leaves a buffer of four dots so.
 fn gives<S: Shelf>(shelf: &mut S, count: usize, left: &[u8]) -> bool {
@@ -33,7 +33,7 @@ fn reads_hello<S: Shelf>(shelf: &mut S, name: &str) -> bool {
 fn files_are_read(rt: HostRuntime) -> Result<(), Fail> {
     fs::write(&rt, "files_are_read.txt", b"hello".as_slice())?;
     let mut shelf = FileShelf::new(rt);
-    check(reads_hello(&mut shelf, "files_are_read.txt"), "hello")
+    expect(reads_hello(&mut shelf, "files_are_read.txt"), "hello")
 }
 
 /// A folder can be opened, and not read.
@@ -42,7 +42,7 @@ fn folders_are_not_read(rt: HostRuntime) -> Result<(), Fail> {
     let mut shelf = FileShelf::new(rt);
     let opened = shelf.open(".") == Ok(());
     let failed = shelf.read(&mut [0; 4]) == Err(Failed);
-    check(opened & failed, "folder")
+    expect(opened & failed, "folder")
 }
 
 /// An output that fails some times, and then takes at most so many bytes at a time.
@@ -86,7 +86,7 @@ fn interrupted_writes_are_tried_again(_: HostRuntime) -> Result<(), Fail> {
         takes(0, 0, Err(Failed)),
         takes(7, 0, Err(Failed)),
     ];
-    check(held == [true; 6], "interrupted")
+    expect(held == [true; 6], "interrupted")
 }
 
 /// A write that fails otherwise isn't tried again.
@@ -97,7 +97,7 @@ fn other_failures_are_told(_: HostRuntime) -> Result<(), Fail> {
         kind: ErrorKind::BrokenPipe,
         most: 5,
     });
-    check(sink.write(b"x") == Err(Failed), "broken")
+    expect(sink.write(b"x") == Err(Failed), "broken")
 }
 
 /// Whether two texts are taken.
@@ -113,7 +113,7 @@ fn takes_texts(bytes: &mut Vec<u8>) -> bool {
 fn outputs_take_what_is_written(rt: HostRuntime) -> Result<(), Fail> {
     let mut bytes = Vec::new(rt.alloc());
     let taken = takes_texts(&mut bytes);
-    check(
+    expect(
         taken & (bytes.as_slice() == b"one two".as_slice()),
         "one two",
     )

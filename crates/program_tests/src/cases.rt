@@ -5,7 +5,6 @@ use inv_base::{MemShelf, MemSink};
 use invoice_cli::{Status, run};
 use std::alloc::{AllocError, Global};
 use std::str::from_utf8;
-use std::test::Fail;
 
 /// A run of the program: its words, its files, what stands in its way, and what it is to write.
 #[derive(Clone, Copy)]
@@ -88,6 +87,19 @@ pub(crate) fn with_file<'a>(
     }
 }
 
+/// The case, whose files are read in pieces of at most so many bytes.
+pub(crate) fn in_pieces<'a>(case: &Case<'a>, piece: usize) -> Case<'a> {
+    Case { piece, ..*case }
+}
+
+/// The case, in which the call of the shelf of this number fails.
+pub(crate) fn failing_at<'a>(case: &Case<'a>, failed_read: u64) -> Case<'a> {
+    Case {
+        failed_read,
+        ..*case
+    }
+}
+
 /// What was written to an output beside what was to be written there.
 #[derive(Clone, Copy, PartialEq, Eq)]
 pub(crate) enum Written {
@@ -167,22 +179,50 @@ fn joined(alloc: Global, parts: [&[u8]; 3]) -> Result<Vec<u8>, AllocError> {
     Ok(whole)
 }
 
+fn fill(alloc: Global, shelf: &mut MemShelf, case: &Case<'_>) -> Result<(), AllocError> {
+    add_files(shelf)?;
+    let file = joined(alloc, case.file)?;
+    shelf.add("f", &file)?;
+    shelf.fail_at(case.failed_read)
+}
+
 fn shelf_of(alloc: Global, case: &Case<'_>) -> Result<MemShelf, AllocError> {
     let mut shelf = MemShelf::new(alloc).with_piece(case.piece.max(1));
-    add_files(&mut shelf)?;
-    shelf.add("f", &joined(alloc, case.file)?)?;
-    shelf.fail_at(case.failed_read)?;
-    Ok(shelf)
+    match fill(alloc, &mut shelf, case) {
+        Ok(()) => Ok(shelf),
+        Err(error) => {
+            drop(shelf);
+            Err(error)
+        }
+    }
 }
 
 /// The output or the error output of a case, of whose writes this one fails.
 fn sink_of(alloc: Global, room: usize, failing: u64) -> Result<MemSink, AllocError> {
     let mut sink = MemSink::new(alloc, room)?;
-    sink.fail_at(failing)?;
-    Ok(sink)
+    match sink.fail_at(failing) {
+        Ok(()) => Ok(sink),
+        Err(error) => {
+            drop(sink);
+            Err(error)
+        }
+    }
 }
 
 /// Runs the program. It is the one place that does, since each costs minutes to prove and build.
+fn run_words(
+    alloc: Global,
+    case: &Case<'_>,
+    words: &[String],
+    out: &mut MemSink,
+    err: &mut MemSink,
+) -> Result<Status, AllocError> {
+    let mut shelf = shelf_of(alloc, case)?;
+    let status = run(alloc, words, &mut shelf, out, err);
+    drop(shelf);
+    Ok(status)
+}
+
 fn run_case(
     alloc: Global,
     case: &Case<'_>,
@@ -190,15 +230,18 @@ fn run_case(
     err: &mut MemSink,
 ) -> Result<Status, AllocError> {
     let words = words_of(alloc, case)?;
-    let mut shelf = shelf_of(alloc, case)?;
-    Ok(run(alloc, &words, &mut shelf, out, err))
+    let status = run_words(alloc, case, &words, out, err);
+    drop(words);
+    status
 }
 
-/// The program's answer to a case.
-pub(crate) fn answer_to(alloc: Global, case: &Case<'_>) -> Result<Answer, AllocError> {
-    let mut out = sink_of(alloc, case.room, case.failed_write)?;
-    let mut err = sink_of(alloc, case.room, case.failed_line)?;
-    let status = run_case(alloc, case, &mut out, &mut err)?;
+fn answer_in(
+    alloc: Global,
+    case: &Case<'_>,
+    out: &mut MemSink,
+    err: &mut MemSink,
+) -> Result<Answer, AllocError> {
+    let status = run_case(alloc, case, out, err)?;
     Ok(Answer {
         status,
         out: compare(out.bytes(), case.out),
@@ -206,44 +249,56 @@ pub(crate) fn answer_to(alloc: Global, case: &Case<'_>) -> Result<Answer, AllocE
     })
 }
 
-/// What the program writes to its output.
-pub(crate) fn output_of(alloc: Global, case: &Case<'_>) -> Result<String, Fail> {
-    let mut out = sink_of(alloc, case.room, case.failed_write)?;
+fn answer_into(alloc: Global, case: &Case<'_>, out: &mut MemSink) -> Result<Answer, AllocError> {
     let mut err = sink_of(alloc, case.room, case.failed_line)?;
-    run_case(alloc, case, &mut out, &mut err)?;
-    Ok(String::from_str(alloc, from_utf8(out.bytes())?)?)
+    let answer = answer_in(alloc, case, out, &mut err);
+    drop(err);
+    answer
 }
 
-/// Fails with the row, or the word, where it isn't so.
-pub(crate) fn check(holds: bool, row: &'static str) -> Result<(), Fail> {
-    holds.then_some(()).ok_or(row)?;
-    Ok(())
+/// The program's answer to a case.
+pub(crate) fn answer_to(alloc: Global, case: &Case<'_>) -> Result<Answer, AllocError> {
+    let mut out = sink_of(alloc, case.room, case.failed_write)?;
+    let answer = answer_into(alloc, case, &mut out);
+    drop(out);
+    answer
 }
 
-/// Fails with the row where the answer has another status, or something else is written than is wanted.
-pub(crate) fn expect(
-    alloc: Global,
-    case: &Case<'_>,
-    status: Status,
-    row: &'static str,
-) -> Result<(), Fail> {
+fn output_in(alloc: Global, case: &Case<'_>, out: &mut MemSink) -> Result<String, AllocError> {
+    answer_into(alloc, case, out)?;
+    String::from_str(alloc, from_utf8(out.bytes()).unwrap_or("no text"))
+}
+
+/// What the program writes to its output.
+pub(crate) fn output_of(alloc: Global, case: &Case<'_>) -> Result<String, AllocError> {
+    let mut out = sink_of(alloc, case.room, case.failed_write)?;
+    let text = output_in(alloc, case, &mut out);
+    drop(out);
+    text
+}
+
+/// Whether the answer has this status, and what is wanted is written and nothing else.
+pub(crate) fn answers(alloc: Global, case: &Case<'_>, status: Status) -> Result<bool, AllocError> {
     let wanted = Answer {
         status,
         out: Written::Whole,
         err: Written::Whole,
     };
-    check(answer_to(alloc, case)? == wanted, row)
+    Ok(answer_to(alloc, case)? == wanted)
 }
 
 /// The same, where a row has the number of the status.
-pub(crate) fn expect_number(
+pub(crate) fn answers_number(
     alloc: Global,
     case: &Case<'_>,
     number: &str,
-    row: &'static str,
-) -> Result<(), Fail> {
+) -> Result<bool, AllocError> {
     let answer = answer_to(alloc, case)?;
-    let same = number.parse() == Ok(answer.status as u8);
     let whole = answer.out == Written::Whole && answer.err == Written::Whole;
-    check(same & whole, row)
+    Ok(whole && has_number(answer.status, number))
+}
+
+/// Whether this is the number of the status.
+pub(crate) fn has_number(status: Status, number: &str) -> bool {
+    number.parse() == Ok(status as u8)
 }

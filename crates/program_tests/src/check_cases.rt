@@ -1,9 +1,10 @@
 //! Checks over files and outputs in memory.
 
-use crate::cases::{Case, case_of, expect_number, printing, telling};
+use crate::cases::{Case, answers_number, case_of, printing, telling};
 use crate::texts::{columns, spelled};
-use std::alloc::Global;
+use std::alloc::{AllocError, Global};
 use std::test::Fail;
+use test_rows::{Holds, expect_rows};
 
 const DOCUMENT: &[u8] = b"<r><x>2.50</x><x>1</x></r>";
 
@@ -22,22 +23,26 @@ const CHECKS: &str =
 --rules,sums,--rules,none→6→→none: read fault
 --rules,sums,--svrl,--svrl→2→→bad word 5"#;
 
-fn check_row(alloc: Global, row: &'static str) -> Result<(), Fail> {
-    let text = spelled(alloc, row)?;
-    let [options, number, out, told, _] = columns(text.as_str(), '→');
+fn is_checked(alloc: Global, row: &str) -> Result<bool, AllocError> {
+    let [options, number, out, told, _] = columns(row, '→');
     let case = Case {
         words: ["check", options, "f"],
         between: ',',
         ..case_of("", DOCUMENT)
     };
-    let case = telling(printing(case, out), told);
-    expect_number(alloc, &case, number, row)
+    answers_number(alloc, &telling(printing(case, out), told), number)
+}
+
+struct Checks;
+
+impl Holds for Checks {
+    fn holds(&self, alloc: Global, row: &'static str) -> Result<bool, Fail> {
+        let text = spelled(alloc, row)?;
+        Ok(is_checked(alloc, text.as_str())?)
+    }
 }
 
 #[test]
 fn rule_files_judge_the_document(rt: HostRuntime) -> Result<(), Fail> {
-    for row in CHECKS.lines() {
-        check_row(rt.alloc(), row)?;
-    }
-    Ok(())
+    expect_rows(rt.alloc(), &Checks, CHECKS)
 }

@@ -1,10 +1,13 @@
 //! The outlines and faults of documents, whole and in pieces.
 
-use crate::cases::{Case, answer_to, case_of, check, expect, printing, telling_fault, with_file};
+use crate::cases::{
+    Case, answer_to, answers, case_of, failing_at, in_pieces, printing, telling_fault, with_file,
+};
 use crate::texts::{columns, repeated, spelled};
 use invoice_cli::Status;
-use std::alloc::Global;
+use std::alloc::{AllocError, Global};
 use std::test::Fail;
+use test_rows::{Holds, expect, expect_rows};
 
 /// The outline of a document.
 fn outline(document: &[u8]) -> Case<'_> {
@@ -19,17 +22,13 @@ fn refused<'a>(case: Case<'a>, fault: &'a str) -> Case<'a> {
     }
 }
 
-/// Reads a document whole, and in pieces of one byte and more.
-fn expect_in_pieces(
-    alloc: Global,
-    case: &Case<'_>,
-    status: Status,
-    row: &'static str,
-) -> Result<(), Fail> {
+/// Whether a document is answered so, read whole, and in pieces of one byte and more.
+fn answers_in_pieces(alloc: Global, case: &Case<'_>, status: Status) -> Result<bool, AllocError> {
+    let mut held = true;
     for piece in [1_000_000, 1, 2, 3, 5, 7] {
-        expect(alloc, &Case { piece, ..*case }, status, row)?;
+        held &= answers(alloc, &in_pieces(case, piece), status)?;
     }
-    Ok(())
+    Ok(held)
 }
 
 /// Documents and their outlines, with marks for white space as `spelled` has them.
@@ -52,19 +51,24 @@ const OUTLINES: &str = r#"<a><b>x</b></a>→a␊  b␊    "x"␊
 <p:a xmlns:p="u" p:x="1" x="2"><b xmlns="v"><p:c/></b><b/></p:a>→{u}a␊  @{u}x="1"␊  @x="2"␊  {v}b␊    {u}c␊  b␊
 <a xml:lang="de"/>→a␊  @{http://www.w3.org/XML/1998/namespace}lang="de"␊"#;
 
-fn check_outline(alloc: Global, row: &'static str) -> Result<(), Fail> {
-    let text = spelled(alloc, row)?;
-    let [document, lines, ..] = columns(text.as_str(), '→');
+fn has_outline(alloc: Global, row: &str) -> Result<bool, AllocError> {
+    let [document, lines, ..] = columns(row, '→');
     let case = printing(outline(document.as_bytes()), lines);
-    expect_in_pieces(alloc, &case, Status::Done, row)
+    answers_in_pieces(alloc, &case, Status::Done)
+}
+
+struct Outlines;
+
+impl Holds for Outlines {
+    fn holds(&self, alloc: Global, row: &'static str) -> Result<bool, Fail> {
+        let text = spelled(alloc, row)?;
+        Ok(has_outline(alloc, text.as_str())?)
+    }
 }
 
 #[test]
 fn documents_have_outlines(rt: HostRuntime) -> Result<(), Fail> {
-    for row in OUTLINES.lines() {
-        check_outline(rt.alloc(), row)?;
-    }
-    Ok(())
+    expect_rows(rt.alloc(), &Outlines, OUTLINES)
 }
 
 /// Documents and their first faults, with marks for white space as `spelled` has them.
@@ -94,37 +98,55 @@ const FAULTS: &str = r#"→NoRoot at 0
 <a>äö</b>&→Mismatched at 7
 <a>x￾</a>→BadChar at 4"#;
 
-fn check_fault(alloc: Global, row: &'static str) -> Result<(), Fail> {
-    let text = spelled(alloc, row)?;
-    let [document, fault, ..] = columns(text.as_str(), '→');
+fn has_fault(alloc: Global, row: &str) -> Result<bool, AllocError> {
+    let [document, fault, ..] = columns(row, '→');
     let case = refused(outline(document.as_bytes()), fault);
-    expect_in_pieces(alloc, &case, Status::DocumentRefused, row)
+    answers_in_pieces(alloc, &case, Status::DocumentRefused)
+}
+
+struct Faults;
+
+impl Holds for Faults {
+    fn holds(&self, alloc: Global, row: &'static str) -> Result<bool, Fail> {
+        let text = spelled(alloc, row)?;
+        Ok(has_fault(alloc, text.as_str())?)
+    }
 }
 
 #[test]
 fn other_documents_are_refused(rt: HostRuntime) -> Result<(), Fail> {
-    for row in FAULTS.lines() {
-        check_fault(rt.alloc(), row)?;
-    }
-    Ok(())
+    expect_rows(rt.alloc(), &Faults, FAULTS)
 }
 
-/// Fails where the document isn't refused by such a fault at a place.
-fn check_place(alloc: Global, bytes: &[u8], kind: &'static str, place: usize) -> Result<(), Fail> {
+/// Whether the document is refused by such a fault at a place.
+fn is_refused_at(
+    alloc: Global,
+    bytes: &[u8],
+    kind: &str,
+    place: usize,
+) -> Result<bool, AllocError> {
     let fault = format!(in alloc; "{kind} at {place}")?;
     let case = refused(outline(bytes), fault.as_str());
-    expect(alloc, &case, Status::DocumentRefused, kind)
+    answers(alloc, &case, Status::DocumentRefused)
+}
+
+/// Whether each proper front of a document is cut off.
+fn are_cut_off(alloc: Global, document: &[u8]) -> Result<bool, AllocError> {
+    let mut held = true;
+    for end in 1..document.len() {
+        held &= is_refused_at(alloc, &document[..end], "Truncated", end)?;
+    }
+    Ok(held)
 }
 
 /// Each proper front of a document, and documents that aren't in UTF-8.
 #[test]
 fn fronts_and_other_bytes_are_refused(rt: HostRuntime) -> Result<(), Fail> {
-    let document = "<a xmlns:p='u'><!--c--><p:b x='1'>é&amp;<![CDATA[]]></p:b></a>".as_bytes();
-    for end in 1..document.len() {
-        check_place(rt.alloc(), &document[..end], "Truncated", end)?;
-    }
-    check_place(rt.alloc(), b"<a>x\xFF</a>", "NotUtf8", 4)?;
-    check_place(rt.alloc(), b"<a>\xC0\x80", "NotUtf8", 3)
+    let alloc = rt.alloc();
+    let document = "<a xmlns:p='u'><!--c--><p:b x='1'>é&amp;<![CDATA[]]></p:b></a>";
+    expect(are_cut_off(alloc, document.as_bytes())?, "front")?;
+    expect(is_refused_at(alloc, b"<a>x\xFF</a>", "NotUtf8", 4)?, "FF")?;
+    expect(is_refused_at(alloc, b"<a>\xC0\x80", "NotUtf8", 3)?, "C0 80")
 }
 
 /// Documents at a limit and one past it. Of each row a front, a piece with the number of its time for `#`, how often it
@@ -143,88 +165,86 @@ const LIMITS: &str = r#"|<a>|100||Truncated at 300
 <r>|<n#/>|10000|</r>|TooManyNames at 78885
 <a><!--|x|1000000|--></a>|"#;
 
-/// A row with its piece so often as it says.
-fn check_inside(alloc: Global, row: &'static str, inside: &str) -> Result<(), Fail> {
+/// Whether a row is answered so, with its piece so often as it says.
+fn is_limit(alloc: Global, row: &str, inside: &str) -> Result<bool, AllocError> {
     let [front, _, _, back, fault] = columns(row, '|');
     let case = Case {
         room: 1_000_000,
         ..with_file(outline(b""), front, inside, back)
     };
     if fault.is_empty() {
-        check(answer_to(alloc, &case)?.status == Status::Done, row)
+        Ok(answer_to(alloc, &case)?.status == Status::Done)
     } else {
-        expect(alloc, &refused(case, fault), Status::DocumentRefused, row)
+        answers(alloc, &refused(case, fault), Status::DocumentRefused)
     }
 }
 
-fn check_limit(alloc: Global, row: &'static str) -> Result<(), Fail> {
-    let [_, piece, times, ..] = columns(row, '|');
-    let inside = repeated(alloc, piece, times.parse()?)?;
-    check_inside(alloc, row, inside.as_str())
+struct Limits;
+
+impl Holds for Limits {
+    fn holds(&self, alloc: Global, row: &'static str) -> Result<bool, Fail> {
+        let [_, piece, times, ..] = columns(row, '|');
+        let inside = repeated(alloc, piece, times.parse().unwrap_or(0))?;
+        Ok(is_limit(alloc, row, inside.as_str())?)
+    }
 }
 
 #[test]
 fn limits_are_kept(rt: HostRuntime) -> Result<(), Fail> {
-    for row in LIMITS.lines() {
-        check_limit(rt.alloc(), row)?;
-    }
-    Ok(())
+    expect_rows(rt.alloc(), &Limits, LIMITS)
 }
 
-/// A document that isn't at its end, and its fault.
-fn check_length(alloc: Global, inside: &str, back: &str, fault: &'static str) -> Result<(), Fail> {
+/// Whether a document that isn't at its end has such a fault.
+fn has_fault_behind(
+    alloc: Global,
+    inside: &str,
+    back: &str,
+    fault: &str,
+) -> Result<bool, AllocError> {
     let case = Case {
         piece: 100_000,
         ..with_file(outline(b""), "<a>", inside, back)
     };
-    expect(alloc, &refused(case, fault), Status::DocumentRefused, fault)
+    answers(alloc, &refused(case, fault), Status::DocumentRefused)
+}
+
+fn keeps_limit(alloc: Global, inside: &str) -> Result<bool, AllocError> {
+    let last = has_fault_behind(alloc, inside, "xxxxxxxxxxxxx", "Truncated at 16777216")?;
+    let more = has_fault_behind(alloc, inside, "xxxxxxxxxxxxxx", "TooLong at 16777216")?;
+    Ok(last & more)
 }
 
 /// As many bytes as a document may have, 3 and 16,777,200 and 13, and one more.
 #[test]
 fn the_limit_on_bytes_is_kept(rt: HostRuntime) -> Result<(), Fail> {
     let inside = repeated(rt.alloc(), "xxxxxxxxxxxxxxxxxxxx", 838_860)?;
-    check_length(
-        rt.alloc(),
-        inside.as_str(),
-        "xxxxxxxxxxxxx",
-        "Truncated at 16777216",
-    )?;
-    check_length(
-        rt.alloc(),
-        inside.as_str(),
-        "xxxxxxxxxxxxxx",
-        "TooLong at 16777216",
-    )
+    let kept = keeps_limit(rt.alloc(), inside.as_str());
+    drop(inside);
+    expect(kept?, "16777216")
 }
 
 /// A document with a fault at its 3rd byte, told at its 7th, and much behind it. With so many bytes a read, no call
 /// follows the one of this number: where it fails that is told, and where the next one is to fail nothing is.
-fn check_last_call(alloc: Global, behind: &str, piece: usize, call: u64) -> Result<(), Fail> {
-    let case = Case {
-        piece,
-        failed_read: call,
-        ..with_file(outline(b""), "<a></b>", behind, "")
-    };
-    expect(
-        alloc,
-        &telling_fault(case, "f"),
-        Status::ReadFault,
-        "last call",
-    )?;
-    let later = Case {
-        failed_read: call.saturating_add(1),
-        ..case
-    };
+fn is_last_call(alloc: Global, behind: &str, piece: usize, call: u64) -> Result<bool, AllocError> {
+    let whole = with_file(outline(b""), "<a></b>", behind, "");
+    let case = failing_at(&in_pieces(&whole, piece), call);
+    let later = failing_at(&case, call.saturating_add(1));
+    let told = answers(alloc, &telling_fault(case, "f"), Status::ReadFault)?;
     let later = refused(later, "Mismatched at 3");
-    expect(alloc, &later, Status::DocumentRefused, "no call")
+    Ok(told & answers(alloc, &later, Status::DocumentRefused)?)
+}
+
+fn are_last_calls(alloc: Global, behind: &str) -> Result<bool, AllocError> {
+    let single = is_last_call(alloc, behind, 1, 8)?;
+    let seven = is_last_call(alloc, behind, 7, 2)?;
+    Ok(single & seven & is_last_call(alloc, behind, 100_000, 2)?)
 }
 
 /// Behind a fault that is settled the rest of the file isn't read. The 1st call opens the file.
 #[test]
 fn the_rest_is_not_read(rt: HostRuntime) -> Result<(), Fail> {
     let behind = repeated(rt.alloc(), "x", 200_000)?;
-    check_last_call(rt.alloc(), behind.as_str(), 1, 8)?;
-    check_last_call(rt.alloc(), behind.as_str(), 7, 2)?;
-    check_last_call(rt.alloc(), behind.as_str(), 100_000, 2)
+    let held = are_last_calls(rt.alloc(), behind.as_str());
+    drop(behind);
+    expect(held?, "last call")
 }

@@ -1,15 +1,16 @@
 //! Every job where a call of the shelf, of the output or of the error output fails.
 
 use crate::cases::{
-    Answer, Case, Written, answer_to, case_of, check, expect, output_of, printing, telling,
-    telling_fault,
+    Answer, Case, Written, answer_to, answers, case_of, failing_at, has_number, output_of,
+    printing, telling, telling_fault,
 };
 use crate::invoice_cases::INVOICE;
 use crate::jobs::{JOBS, REFUSALS, job_of};
 use crate::texts::columns;
 use invoice_cli::Status;
-use std::alloc::Global;
+use std::alloc::{AllocError, Global};
 use std::test::Fail;
+use test_rows::{Holds, expect, expect_rows};
 
 /// A file is opened, its bytes are read in one piece, and its end is found.
 const CALLS: u64 = 3;
@@ -17,142 +18,160 @@ const CALLS: u64 = 3;
 /// No job here writes as often as this.
 const MANY: u64 = 10_000;
 
-/// The job where each call on its files fails in turn.
-pub(crate) fn fail_reads<'a>(
+/// Whether it is told in turn that each call on a file fails. `before` calls come before it.
+fn fails_file(alloc: Global, job: &Case<'_>, before: u64) -> Result<bool, AllocError> {
+    let mut held = true;
+    for call in 1..CALLS + 1 {
+        let case = failing_at(job, before.saturating_add(call));
+        held &= answers(alloc, &case, Status::ReadFault)?;
+    }
+    Ok(held)
+}
+
+/// Whether it is told in turn that each call on the job's files fails.
+pub(crate) fn fails_reads<'a>(
     alloc: Global,
     job: Case<'a>,
     files: &'a str,
-    row: &'static str,
-) -> Result<(), Fail> {
+) -> Result<bool, AllocError> {
     let mut before = 0u64;
+    let mut held = true;
     for file in files.split_whitespace() {
-        fail_file(alloc, &telling_fault(job, file), before, row)?;
+        held &= fails_file(alloc, &telling_fault(job, file), before)?;
         before = before.saturating_add(CALLS);
     }
-    Ok(())
+    Ok(held)
 }
 
-/// The job where each call on a file fails in turn. `before` calls come before it.
-fn fail_file(alloc: Global, job: &Case<'_>, before: u64, row: &'static str) -> Result<(), Fail> {
-    for call in 1..CALLS + 1 {
-        let case = Case {
-            failed_read: before.saturating_add(call),
-            ..*job
-        };
-        expect(alloc, &case, Status::ReadFault, row)?;
+struct FailingReads;
+
+impl Holds for FailingReads {
+    fn holds(&self, alloc: Global, row: &'static str) -> Result<bool, Fail> {
+        let [words, _, files, ..] = columns(row, '|');
+        Ok(fails_reads(alloc, job_of(words), files)?)
     }
-    Ok(())
 }
 
 #[test]
 fn each_call_of_the_shelf_may_fail(rt: HostRuntime) -> Result<(), Fail> {
-    for row in JOBS.lines() {
-        let [words, _, files, ..] = columns(row, '|');
-        fail_reads(rt.alloc(), job_of(words), files, row)?;
-    }
-    Ok(())
+    expect_rows(rt.alloc(), &FailingReads, JOBS)
 }
 
 /// Whether a write failed where the one of this number fails. Then the output has a front; else the job is done.
+/// Nothing is told where it is otherwise.
 fn fail_write(
     alloc: Global,
     job: &Case<'_>,
     number: &str,
-    call: u64,
-    row: &'static str,
-) -> Result<bool, Fail> {
+    failed_write: u64,
+) -> Result<Option<bool>, AllocError> {
     let case = Case {
-        failed_write: call,
+        failed_write,
         ..*job
     };
     let answer = answer_to(alloc, &case)?;
     let failed = answer.status == Status::WriteFault;
-    let done = number.parse() == Ok(answer.status as u8);
     let holds = match answer.out {
         Written::Front(_) => failed,
-        Written::Whole => done,
+        Written::Whole => has_number(answer.status, number),
         _ => false,
     };
-    check(holds && answer.err == Written::Whole, row)?;
-    Ok(failed)
+    Ok((holds && answer.err == Written::Whole).then_some(failed))
 }
 
-/// Fails each write in turn, until one is never made.
-pub(crate) fn fail_writes(
+/// Whether each write that fails in turn is told, from the first on until one is never made.
+pub(crate) fn fails_writes(
     alloc: Global,
     job: &Case<'_>,
     number: &str,
-    row: &'static str,
-) -> Result<(), Fail> {
-    check(fail_write(alloc, job, number, 1, row)?, row)?;
-    for call in 2..MANY {
-        if !fail_write(alloc, job, number, call, row)? {
-            return Ok(());
+) -> Result<bool, AllocError> {
+    for call in 1..MANY {
+        match fail_write(alloc, job, number, call)? {
+            Some(true) => {}
+            Some(false) => return Ok(1 < call),
+            None => return Ok(false),
         }
     }
-    check(false, row)
+    Ok(false)
 }
 
-fn fail_job(alloc: Global, row: &'static str) -> Result<(), Fail> {
-    let [words, number, ..] = columns(row, '|');
-    let out = output_of(alloc, &job_of(words))?;
-    let case = printing(job_of(words), out.as_str());
-    fail_writes(alloc, &case, number, row)
+struct FailingWrites;
+
+impl Holds for FailingWrites {
+    fn holds(&self, alloc: Global, row: &'static str) -> Result<bool, Fail> {
+        let [words, number, ..] = columns(row, '|');
+        let out = output_of(alloc, &job_of(words))?;
+        let case = printing(job_of(words), out.as_str());
+        Ok(fails_writes(alloc, &case, number)?)
+    }
 }
 
 #[test]
 fn each_write_may_fail(rt: HostRuntime) -> Result<(), Fail> {
-    for row in JOBS.lines() {
-        fail_job(rt.alloc(), row)?;
-    }
-    Ok(())
+    expect_rows(rt.alloc(), &FailingWrites, JOBS)
 }
 
-/// A refusal where this write of the error output fails.
-fn fail_line(alloc: Global, row: &'static str, call: u64) -> Result<(), Fail> {
+/// Whether a front of the line is written where this write of the error output fails.
+fn has_front(line: Written, call: u64) -> bool {
+    let nothing = line == Written::Front(0);
+    let front = matches!(line, Written::Front(_));
+    let whole = line == Written::Whole;
+    nothing == (call == 1) && (whole || front && call < MANY)
+}
+
+/// Whether a refusal is answered so where this write of the error output fails.
+fn fails_line(alloc: Global, row: &str, failed_line: u64) -> Result<bool, AllocError> {
     let [words, number, told, ..] = columns(row, '|');
     let case = Case {
-        failed_line: call,
+        failed_line,
         ..telling(job_of(words), told)
     };
     let answer = answer_to(alloc, &case)?;
-    let same = number.parse() == Ok(answer.status as u8);
-    let nothing = answer.err == Written::Front(0);
-    let front = matches!(answer.err, Written::Front(_));
-    let whole = answer.err == Written::Whole;
-    check(same && answer.out == Written::Whole, row)?;
-    check(nothing == (call == 1), row)?;
-    check(whole || front && call < MANY, row)
+    let same = has_number(answer.status, number) && answer.out == Written::Whole;
+    Ok(same && has_front(answer.err, failed_line))
+}
+
+struct FailingLines;
+
+impl Holds for FailingLines {
+    fn holds(&self, alloc: Global, row: &'static str) -> Result<bool, Fail> {
+        let mut held = true;
+        for call in [1, 2, 3, 4, 5, 6, 7, 8, MANY] {
+            held &= fails_line(alloc, row, call)?;
+        }
+        Ok(held)
+    }
 }
 
 #[test]
 fn each_write_of_a_refusal_may_fail(rt: HostRuntime) -> Result<(), Fail> {
-    for row in REFUSALS.lines() {
-        for call in [1, 2, 3, 4, 5, 6, 7, 8, MANY] {
-            fail_line(rt.alloc(), row, call)?;
-        }
-    }
-    Ok(())
+    expect_rows(rt.alloc(), &FailingLines, REFUSALS)
 }
 
-/// Each proper front of an invoice in its place.
-fn fail_fronts(alloc: Global, invoice: &[u8]) -> Result<(), Fail> {
+/// Whether a front of an invoice is refused in its place.
+fn refuses_front(alloc: Global, front: &[u8]) -> Result<bool, AllocError> {
     let wanted = Answer {
         status: Status::DocumentRefused,
         out: Written::Whole,
         err: Written::More,
     };
+    let case = Case {
+        err: ["einv: f: ", "", ""],
+        ..case_of("show f", front)
+    };
+    Ok(answer_to(alloc, &case)? == wanted)
+}
+
+fn refuses_fronts(alloc: Global, invoice: &[u8]) -> Result<bool, AllocError> {
     for count in 0..invoice.len() {
-        let case = Case {
-            err: ["einv: f: ", "", ""],
-            ..case_of("show f", &invoice[..count])
-        };
-        check(answer_to(alloc, &case)? == wanted, "front")?;
+        if !refuses_front(alloc, &invoice[..count])? {
+            return Ok(false);
+        }
     }
-    Ok(())
+    Ok(true)
 }
 
 #[test]
 fn each_front_of_an_invoice_is_refused(rt: HostRuntime) -> Result<(), Fail> {
-    fail_fronts(rt.alloc(), INVOICE.as_bytes())
+    expect(refuses_fronts(rt.alloc(), INVOICE.as_bytes())?, "front")
 }

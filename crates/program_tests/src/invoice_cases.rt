@@ -1,11 +1,12 @@
 //! The commands on invoices over files and outputs in memory.
 
-use crate::cases::{Case, case_of, expect, expect_number, printing, telling, with_file};
-use crate::failing_cases::fail_reads;
+use crate::cases::{Case, answers, answers_number, case_of, printing, telling, with_file};
+use crate::failing_cases::fails_reads;
 use crate::texts::columns;
 use invoice_cli::Status;
-use std::alloc::Global;
+use std::alloc::{AllocError, Global};
 use std::test::Fail;
+use test_rows::{Holds, expect, expect_rows};
 
 /// A small invoice in UBL.
 pub(crate) const INVOICE: &str = "\
@@ -65,30 +66,36 @@ pub(crate) fn changed<'a>(words: &'a str, old: &str, new: &'a str) -> Case<'a> {
     with_file(case_of(words, b""), before, new, behind)
 }
 
-#[test]
-fn invoices_are_listed(rt: HostRuntime) -> Result<(), Fail> {
-    for words in ["show f", "show --codes eur f"] {
-        let case = printing(case_of(words, INVOICE.as_bytes()), LISTING);
-        expect(rt.alloc(), &case, Status::Done, words)?;
-    }
-    Ok(())
+fn is_listed(alloc: Global, words: &str) -> Result<bool, AllocError> {
+    let case = printing(case_of(words, INVOICE.as_bytes()), LISTING);
+    answers(alloc, &case, Status::Done)
 }
 
-/// This invoice is written as it stands here.
+#[test]
+fn invoices_are_listed(rt: HostRuntime) -> Result<(), Fail> {
+    expect(is_listed(rt.alloc(), "show f")?, "show f")?;
+    expect(is_listed(rt.alloc(), "show --codes eur f")?, "show --codes")
+}
+
+/// Whether the invoice is written as it stands here.
+fn is_converted(alloc: Global, words: &str) -> Result<bool, AllocError> {
+    let case = Case {
+        out: [
+            "<?xml version=\"1.0\" encoding=\"UTF-8\"?>\n",
+            INVOICE,
+            "\n",
+        ],
+        ..case_of(words, INVOICE.as_bytes())
+    };
+    answers(alloc, &case, Status::Done)
+}
+
 #[test]
 fn invoices_are_converted(rt: HostRuntime) -> Result<(), Fail> {
-    for words in ["convert --to ubl f", "convert --codes eur --to ubl f"] {
-        let case = Case {
-            out: [
-                "<?xml version=\"1.0\" encoding=\"UTF-8\"?>\n",
-                INVOICE,
-                "\n",
-            ],
-            ..case_of(words, INVOICE.as_bytes())
-        };
-        expect(rt.alloc(), &case, Status::Done, words)?;
-    }
-    Ok(())
+    let plain = is_converted(rt.alloc(), "convert --to ubl f")?;
+    expect(plain, "convert")?;
+    let listed = is_converted(rt.alloc(), "convert --codes eur --to ubl f")?;
+    expect(listed, "convert --codes")
 }
 
 /// Of each row the words, the number of the status, the line on the error output, and what stands in the invoice in the
@@ -114,24 +121,25 @@ convert f|2|bad word 2|A1|A1
 convert --to pdf f|2|bad word 3|A1|A1
 extract 0 f|2|bad word 2|A1|A1";
 
+struct Refusals;
+
+impl Holds for Refusals {
+    fn holds(&self, alloc: Global, row: &'static str) -> Result<bool, Fail> {
+        let [words, number, told, old, new] = columns(row, '|');
+        let case = telling(changed(words, old, new), told);
+        Ok(answers_number(alloc, &case, number)?)
+    }
+}
+
 #[test]
 fn invoices_are_refused(rt: HostRuntime) -> Result<(), Fail> {
-    for row in REFUSALS.lines() {
-        let [words, number, told, old, new] = columns(row, '|');
-        let case = changed(words, old, new);
-        expect_number(rt.alloc(), &telling(case, told), number, row)?;
-    }
-    Ok(())
+    expect_rows(rt.alloc(), &Refusals, REFUSALS)
 }
 
 /// The calls that open the lists, read them and find their end, and those of the invoice.
 #[test]
 fn each_failing_call_is_told(rt: HostRuntime) -> Result<(), Fail> {
     let words = "convert --to cii --codes eur f";
-    fail_reads(
-        rt.alloc(),
-        case_of(words, INVOICE.as_bytes()),
-        "eur f",
-        words,
-    )
+    let job = case_of(words, INVOICE.as_bytes());
+    expect(fails_reads(rt.alloc(), job, "eur f")?, words)
 }

@@ -1,4 +1,5 @@
-//! Tests of the program's call: its words, every job, calls that fail in turn, files in pieces; and of the adapters.
+//! Tests of the program's call: its words, every job, calls that fail in turn, files in pieces; of the adapters; and of the
+//! trial and its invoice.
 #![tactic(auto)]
 
 #[cfg(test)]
@@ -25,3 +26,7 @@ mod program_cases;
 mod query_cases;
 #[cfg(test)]
 mod texts;
+#[cfg(test)]
+mod trial_cases;
+#[cfg(test)]
+mod trial_invoice_cases;

@@ -1,45 +1,47 @@
 //! However a shelf cuts its files, every job and every refusal is answered alike.
 
-use crate::cases::{Case, check, expect_number, output_of, printing, telling};
+use crate::cases::{Case, answers_number, in_pieces, output_of, printing, telling};
 use crate::jobs::{JOBS, REFUSALS, job_of};
 use crate::texts::columns;
-use std::alloc::Global;
+use std::alloc::{AllocError, Global};
 use std::test::Fail;
+use test_rows::{Holds, expect_rows};
 
-/// The job over files that are read whole, and in pieces of so many bytes.
-fn expect_in_pieces(
-    alloc: Global,
-    case: &Case<'_>,
-    number: &str,
-    row: &'static str,
-) -> Result<(), Fail> {
+/// Whether the case is answered so over files that are read whole, and in pieces of so many bytes.
+fn answers_in_pieces(alloc: Global, case: &Case<'_>, number: &str) -> Result<bool, AllocError> {
+    let mut held = true;
     for piece in [1_000_000, 1, 2, 3] {
-        expect_number(alloc, &Case { piece, ..*case }, number, row)?;
+        held &= answers_number(alloc, &in_pieces(case, piece), number)?;
     }
-    Ok(())
+    Ok(held)
 }
 
-fn check_job(alloc: Global, row: &'static str) -> Result<(), Fail> {
-    let [words, number, ..] = columns(row, '|');
-    let out = output_of(alloc, &job_of(words))?;
-    check(!out.is_empty(), row)?;
-    let case = printing(job_of(words), out.as_str());
-    expect_in_pieces(alloc, &case, number, row)
+struct Jobs;
+
+impl Holds for Jobs {
+    fn holds(&self, alloc: Global, row: &'static str) -> Result<bool, Fail> {
+        let [words, number, ..] = columns(row, '|');
+        let out = output_of(alloc, &job_of(words))?;
+        let case = printing(job_of(words), out.as_str());
+        Ok(!out.is_empty() && answers_in_pieces(alloc, &case, number)?)
+    }
 }
 
 #[test]
 fn jobs_are_done_in_pieces(rt: HostRuntime) -> Result<(), Fail> {
-    for row in JOBS.lines() {
-        check_job(rt.alloc(), row)?;
+    expect_rows(rt.alloc(), &Jobs, JOBS)
+}
+
+struct Refusals;
+
+impl Holds for Refusals {
+    fn holds(&self, alloc: Global, row: &'static str) -> Result<bool, Fail> {
+        let [words, number, told, ..] = columns(row, '|');
+        Ok(answers_in_pieces(alloc, &telling(job_of(words), told), number)?)
     }
-    Ok(())
 }
 
 #[test]
 fn refusals_are_told_in_pieces(rt: HostRuntime) -> Result<(), Fail> {
-    for row in REFUSALS.lines() {
-        let [words, number, told, ..] = columns(row, '|');
-        expect_in_pieces(rt.alloc(), &telling(job_of(words), told), number, row)?;
-    }
-    Ok(())
+    expect_rows(rt.alloc(), &Refusals, REFUSALS)
 }

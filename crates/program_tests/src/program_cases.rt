@@ -1,15 +1,16 @@
 //! The program's words, and its outputs where they are full or fail.
 
 use crate::cases::{
-    Answer, Case, Written, answer_to, case_of, check, expect, output_of, printing, telling,
-    telling_fault, with_file,
+    Answer, Case, Written, answer_to, answers, case_of, failing_at, has_number, output_of,
+    printing, telling, telling_fault, with_file,
 };
-use crate::failing_cases::fail_writes;
+use crate::failing_cases::fails_writes;
 use crate::jobs::{REFUSALS, job_of};
 use crate::texts::{columns, repeated};
 use invoice_cli::Status;
-use std::alloc::Global;
+use std::alloc::{AllocError, Global};
 use std::test::Fail;
+use test_rows::{Holds, expect, expect_rows};
 
 const FIRST: &[u8] = b"<a><b>x</b></a>";
 
@@ -41,33 +42,37 @@ try,1,2>3
 try,10000,--svrl>3
 outline,absent.xml,second.xml>3";
 
-#[test]
-fn bad_words_are_told(rt: HostRuntime) -> Result<(), Fail> {
-    for row in BAD_WORDS.lines() {
+struct BadWords;
+
+impl Holds for BadWords {
+    fn holds(&self, alloc: Global, row: &'static str) -> Result<bool, Fail> {
         let [words, number, ..] = columns(row, '>');
         let case = Case {
             between: ',',
             err: ["einv: bad word ", number, "\n"],
             ..case_of(words, FIRST)
         };
-        expect(rt.alloc(), &case, Status::BadWords, row)?;
+        Ok(answers(alloc, &case, Status::BadWords)?)
     }
-    Ok(())
 }
 
-/// Fails where no page with such a front is printed.
-fn check_page(alloc: Global, words: &'static str, front: &str) -> Result<(), Fail> {
+#[test]
+fn bad_words_are_told(rt: HostRuntime) -> Result<(), Fail> {
+    expect_rows(rt.alloc(), &BadWords, BAD_WORDS)
+}
+
+/// Whether a page with such a front is printed.
+fn is_page(alloc: Global, words: &str, front: &str) -> Result<bool, AllocError> {
     let page = output_of(alloc, &case_of(words, FIRST))?;
     let case = printing(case_of(words, FIRST), page.as_str());
-    check(page.as_str().starts_with(front), words)?;
-    check(page.as_str().ends_with('\n'), words)?;
-    expect(alloc, &case, Status::Done, words)
+    let is_whole = page.as_str().starts_with(front) && page.as_str().ends_with('\n');
+    Ok(is_whole && answers(alloc, &case, Status::Done)?)
 }
 
 #[test]
 fn help_and_version_are_printed(rt: HostRuntime) -> Result<(), Fail> {
-    check_page(rt.alloc(), "--help", "usage: einv ")?;
-    check_page(rt.alloc(), "--version", "einv 0.")
+    expect(is_page(rt.alloc(), "--help", "usage: einv ")?, "--help")?;
+    expect(is_page(rt.alloc(), "--version", "einv 0.")?, "--version")
 }
 
 /// Of each row the words, with commas between them, and the file that is absent, with a bar behind it.
@@ -77,45 +82,54 @@ outline,-|-|
 outline,||
 outline,f |f |";
 
-#[test]
-fn absent_files_are_read_faults(rt: HostRuntime) -> Result<(), Fail> {
-    for row in ABSENT.lines() {
+struct AbsentFiles;
+
+impl Holds for AbsentFiles {
+    fn holds(&self, alloc: Global, row: &'static str) -> Result<bool, Fail> {
         let [words, file, ..] = columns(row, '|');
         let case = Case {
             between: ',',
             ..telling_fault(case_of(words, FIRST), file)
         };
-        expect(rt.alloc(), &case, Status::ReadFault, row)?;
+        Ok(answers(alloc, &case, Status::ReadFault)?)
     }
-    Ok(())
+}
+
+#[test]
+fn absent_files_are_read_faults(rt: HostRuntime) -> Result<(), Fail> {
+    expect_rows(rt.alloc(), &AbsentFiles, ABSENT)
+}
+
+fn fails_calls(alloc: Global, case: &Case<'_>, behind: u64) -> Result<bool, AllocError> {
+    let mut held = true;
+    for call in 1..behind {
+        held &= answers(alloc, &failing_at(case, call), Status::ReadFault)?;
+    }
+    Ok(held)
 }
 
 /// The outline of a document of 70,000 bytes, which isn't read in one piece. The 1st call opens the file, the 2nd and
 /// the 3rd read its pieces, and the 4th finds its end.
-fn fail_long_reads(alloc: Global, inside: &str) -> Result<(), Fail> {
+fn fails_long_reads(alloc: Global, inside: &str) -> Result<bool, AllocError> {
     let case = Case {
         room: 70_000,
         ..with_file(case_of("outline f", b""), "<a>", inside, "</a>")
     };
-    for call in 1..5 {
-        let failing = Case {
-            failed_read: call,
-            ..telling_fault(case, "f")
-        };
-        expect(alloc, &failing, Status::ReadFault, "read")?;
-    }
+    let failed = fails_calls(alloc, &telling_fault(case, "f"), 5)?;
     let done = Case {
         failed_read: 5,
         out: ["a\n  \"", inside, "\"\n"],
         ..case
     };
-    expect(alloc, &done, Status::Done, "done")
+    Ok(failed & answers(alloc, &done, Status::Done)?)
 }
 
 #[test]
 fn failed_reads_are_told(rt: HostRuntime) -> Result<(), Fail> {
     let inside = repeated(rt.alloc(), "x", 69_993)?;
-    fail_long_reads(rt.alloc(), inside.as_str())
+    let held = fails_long_reads(rt.alloc(), inside.as_str());
+    drop(inside);
+    expect(held?, "long reads")
 }
 
 /// The outline of the first document.
@@ -125,64 +139,74 @@ fn first_outline() -> Case<'static> {
 
 #[test]
 fn failed_writes_are_told(rt: HostRuntime) -> Result<(), Fail> {
-    fail_writes(rt.alloc(), &first_outline(), "0", "outline f")
+    let held = fails_writes(rt.alloc(), &first_outline(), "0")?;
+    expect(held, "outline f")
 }
 
-/// The job where the output has room for less than its text of so many bytes, for all of it, and for more.
-fn fill_output(
-    alloc: Global,
-    job: &Case<'_>,
-    length: usize,
-    row: &'static str,
-) -> Result<(), Fail> {
+/// Whether an output that is full has a front of so many bytes.
+fn has_front(alloc: Global, job: &Case<'_>, room: usize) -> Result<bool, AllocError> {
+    let wanted = Answer {
+        status: Status::WriteFault,
+        out: Written::Front(room),
+        err: Written::Whole,
+    };
+    Ok(answer_to(alloc, &Case { room, ..*job })? == wanted)
+}
+
+/// Whether the job is answered so where the output has room for less than its text of so many bytes, for all of it, and
+/// for more.
+fn fills_output(alloc: Global, job: &Case<'_>, length: usize) -> Result<bool, AllocError> {
+    let mut held = true;
     for room in 0..length {
-        let wanted = Answer {
-            status: Status::WriteFault,
-            out: Written::Front(room),
-            err: Written::Whole,
-        };
-        check(answer_to(alloc, &Case { room, ..*job })? == wanted, row)?;
+        held &= has_front(alloc, job, room)?;
     }
     for room in [length, length.saturating_add(1)] {
-        expect(alloc, &Case { room, ..*job }, Status::Done, row)?;
+        held &= answers(alloc, &Case { room, ..*job }, Status::Done)?;
     }
-    Ok(())
+    Ok(held)
 }
 
 #[test]
 fn a_full_output_has_a_front(rt: HostRuntime) -> Result<(), Fail> {
     let version = printing(case_of("--version", FIRST), "einv 0.1.0\n");
-    fill_output(rt.alloc(), &version, 11, "--version")?;
+    expect(fills_output(rt.alloc(), &version, 11)?, "--version")?;
     let length = FIRST_OUTLINE.len();
-    fill_output(rt.alloc(), &first_outline(), length, "outline f")
+    let filled = fills_output(rt.alloc(), &first_outline(), length)?;
+    expect(filled, "outline f")
 }
 
-/// A refusal where the error output has room for less than its line, for all of it, and for more.
-fn fill_line(alloc: Global, row: &'static str) -> Result<(), Fail> {
+/// Whether a refusal is answered so where the error output has so much room.
+fn fills_room(alloc: Global, row: &str, room: usize) -> Result<bool, AllocError> {
     let [words, number, told, ..] = columns(row, '|');
-    let length = told.len().saturating_add(7);
-    for room in 0..length.saturating_add(2) {
-        let case = Case {
-            room,
-            ..telling(job_of(words), told)
-        };
-        let answer = answer_to(alloc, &case)?;
-        let same = number.parse() == Ok(answer.status as u8);
-        let wanted = if room < length {
-            Written::Front(room)
-        } else {
-            Written::Whole
-        };
-        let nothing = answer.out == Written::Whole;
-        check(same && nothing && answer.err == wanted, row)?;
+    let case = Case {
+        room,
+        ..telling(job_of(words), told)
+    };
+    let answer = answer_to(alloc, &case)?;
+    let wanted = if room < told.len().saturating_add(7) {
+        Written::Front(room)
+    } else {
+        Written::Whole
+    };
+    let same = has_number(answer.status, number) && answer.out == Written::Whole;
+    Ok(same && answer.err == wanted)
+}
+
+struct FullLines;
+
+/// The error output has room for less than the line of a refusal, for all of it, and for more.
+impl Holds for FullLines {
+    fn holds(&self, alloc: Global, row: &'static str) -> Result<bool, Fail> {
+        let [_, _, told, ..] = columns(row, '|');
+        let mut held = true;
+        for room in 0..told.len().saturating_add(9) {
+            held &= fills_room(alloc, row, room)?;
+        }
+        Ok(held)
     }
-    Ok(())
 }
 
 #[test]
 fn a_full_error_output_has_a_front(rt: HostRuntime) -> Result<(), Fail> {
-    for row in REFUSALS.lines() {
-        fill_line(rt.alloc(), row)?;
-    }
-    Ok(())
+    expect_rows(rt.alloc(), &FullLines, REFUSALS)
 }

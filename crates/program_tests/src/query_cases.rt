@@ -1,9 +1,10 @@
 //! Queries over files and outputs in memory.
 
-use crate::cases::{Case, case_of, expect_number, printing, telling};
+use crate::cases::{Case, answers_number, case_of, printing, telling};
 use crate::texts::{columns, spelled};
-use std::alloc::Global;
+use std::alloc::{AllocError, Global};
 use std::test::Fail;
+use test_rows::{Holds, expect_rows};
 
 const DOCUMENT: &[u8] =
     b"<r xmlns:p=\"u'v\" a=\"1\"><p:x/>one<x>2.50</x><p:x b=\"&quot;\">three</p:x><x>2.5</x></r>";
@@ -24,22 +25,26 @@ for $x in //x return xs:integer($x)→0→error FORG0001␊
 cbc:ID, q:ID→4→→expression: UndeclaredPrefix 2
 --1→2→→bad word 2"#;
 
-fn check_row(alloc: Global, row: &'static str) -> Result<(), Fail> {
-    let text = spelled(alloc, row)?;
-    let [expression, number, out, told, _] = columns(text.as_str(), '→');
+fn is_evaluated(alloc: Global, row: &str) -> Result<bool, AllocError> {
+    let [expression, number, out, told, _] = columns(row, '→');
     let case = Case {
         words: ["query", expression, "f"],
         between: '\n',
         ..case_of("", DOCUMENT)
     };
-    let case = telling(printing(case, out), told);
-    expect_number(alloc, &case, number, row)
+    answers_number(alloc, &telling(printing(case, out), told), number)
+}
+
+struct Queries;
+
+impl Holds for Queries {
+    fn holds(&self, alloc: Global, row: &'static str) -> Result<bool, Fail> {
+        let text = spelled(alloc, row)?;
+        Ok(is_evaluated(alloc, text.as_str())?)
+    }
 }
 
 #[test]
 fn expressions_are_evaluated_at_the_document(rt: HostRuntime) -> Result<(), Fail> {
-    for row in QUERIES.lines() {
-        check_row(rt.alloc(), row)?;
-    }
-    Ok(())
+    expect_rows(rt.alloc(), &Queries, QUERIES)
 }

@@ -1,7 +1,6 @@
 //! The texts of tables.
 
 use std::alloc::{AllocError, Global};
-use std::test::Fail;
 
 /// The columns of a row, and empty ones behind them.
 pub(crate) fn columns(row: &str, between: char) -> [&str; 5] {
@@ -34,16 +33,15 @@ pub(crate) fn spelled(alloc: Global, row: &str) -> Result<String, AllocError> {
 }
 
 /// Puts a piece behind a text, with a number for `#`.
-fn push_piece(text: &mut String, piece: &str, number: u32) -> Result<(), Fail> {
+fn push_piece(text: &mut String, piece: &str, number: u32) -> Result<(), AllocError> {
     match piece.split_once('#') {
-        None => text.push_str(piece)?,
-        Some((before, behind)) => write!(text, "{before}{number}{behind}")?,
+        None => text.push_str(piece),
+        Some((before, behind)) => write!(text, "{before}{number}{behind}"),
     }
-    Ok(())
 }
 
 /// A piece so many times, with the number of its time for `#`.
-pub(crate) fn repeated(alloc: Global, piece: &str, times: u32) -> Result<String, Fail> {
+pub(crate) fn repeated(alloc: Global, piece: &str, times: u32) -> Result<String, AllocError> {
     let mut text = String::new(alloc);
     for time in 0..times {
         push_piece(&mut text, piece, time)?;

@@ -1,8 +1,10 @@
 //! How many bytes of a document a reader keeps between two pieces.
 
-use crate::reader_cases::{AMPLE, Recorder, SIZES, bytes_of, new_recorder};
+use crate::reader_cases::{AMPLE, Recorder, SIZES, new_recorder};
+use crate::texts::{bytes_of, halves};
 use std::alloc::{AllocError, Global};
 use std::test::Fail;
+use test_rows::{Holds, expect_rows};
 use xml_profile::Reader;
 
 /// Documents, with `%` and two hexadecimal digits for a byte, and how many bytes are kept behind each of their bytes: a
@@ -77,27 +79,35 @@ fn keeps_as_marked(
     marks: &[u8],
     size: usize,
 ) -> Result<bool, AllocError> {
-    let mut recorder = new_recorder(alloc);
     let mut reader = Reader::new(alloc, AMPLE)?;
-    Ok(keeps(&mut reader, &mut recorder, document, marks, size))
+    let mut recorder = new_recorder(alloc);
+    let kept = keeps(&mut reader, &mut recorder, document, marks, size);
+    drop(recorder);
+    drop(reader);
+    Ok(kept)
 }
 
-fn check_row(alloc: Global, row: &'static str) -> Result<(), Fail> {
-    let (written, marks) = row.split_once(" => ").ok_or(row)?;
-    let document = bytes_of(alloc, written)?;
+fn keeps_in_pieces(alloc: Global, document: &[u8], marks: &[u8]) -> Result<bool, AllocError> {
+    let mut kept = true;
     for size in SIZES {
-        let holds = keeps_as_marked(alloc, &document, marks.as_bytes(), size)?;
-        holds.then_some(()).ok_or((row, size))?;
+        kept &= keeps_as_marked(alloc, document, marks, size)?;
     }
-    Ok(())
+    Ok(kept)
+}
+
+struct Kept;
+
+impl Holds for Kept {
+    fn holds(&self, alloc: Global, row: &'static str) -> Result<bool, Fail> {
+        let (written, marks) = halves(row);
+        let document = bytes_of(alloc, written)?;
+        Ok(keeps_in_pieces(alloc, &document, marks.as_bytes())?)
+    }
 }
 
 /// The bytes of an unfinished token are kept, and none behind a finished one, inside a comment or an instruction, or
 /// behind a fault.
 #[test]
 fn only_unfinished_tokens_are_kept(rt: HostRuntime) -> Result<(), Fail> {
-    for row in KEPT.lines() {
-        check_row(rt.alloc(), row)?;
-    }
-    Ok(())
+    expect_rows(rt.alloc(), &Kept, KEPT)
 }

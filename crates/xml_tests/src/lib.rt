@@ -6,4 +6,6 @@ mod kept_cases;
 #[cfg(test)]
 mod reader_cases;
 #[cfg(test)]
+mod texts;
+#[cfg(test)]
 mod xml_tokens_cases;

@@ -1,18 +1,30 @@
 //! Documents and faults read whole and in pieces.
 
+use crate::texts::{bytes_of, halves};
 use inv_base::Place;
 use std::alloc::{AllocError, Global};
 use std::test::Fail;
+use test_rows::{Holds, expect, expect_rows};
 use xml_profile::Reader;
 use xml_state::{Events, Limits, NameId, NameTable, XmlFault};
 
 /// What was told, a word an event: elements and attributes by the numbers of their names, a text's pieces behind one
 /// another.
-#[derive(Drop)]
 pub(crate) struct Recorder {
     alloc: Global,
     told: String,
     in_text: bool,
+}
+
+impl Drop for Recorder {
+    fn drop(self) {
+        let Recorder {
+            alloc: _,
+            told,
+            in_text: _,
+        } = self;
+        drop(told);
+    }
 }
 
 impl Events for Recorder {
@@ -53,41 +65,74 @@ pub(crate) fn new_recorder(alloc: Global) -> Recorder {
     }
 }
 
+fn feed_all(
+    reader: &mut Reader,
+    document: &[u8],
+    size: usize,
+    recorder: &mut Recorder,
+) -> Result<(), XmlFault> {
+    for piece in document.chunks(size.max(1)) {
+        reader.feed(piece, recorder)?;
+    }
+    Ok(())
+}
+
 fn read(
-    reader: Reader,
+    mut reader: Reader,
     document: &[u8],
     size: usize,
     recorder: &mut Recorder,
 ) -> Result<NameTable, XmlFault> {
-    let mut reader = reader;
-    for piece in document.chunks(size.max(1)) {
-        reader.feed(piece, recorder)?;
+    match feed_all(&mut reader, document, size, recorder) {
+        Ok(()) => reader.finish(recorder),
+        Err(fault) => {
+            drop(reader);
+            Err(fault)
+        }
     }
-    reader.finish(recorder)
+}
+
+/// How many names a document has, or its fault.
+fn answer_in(
+    alloc: Global,
+    limits: Limits,
+    document: &[u8],
+    size: usize,
+    recorder: &mut Recorder,
+) -> Result<String, AllocError> {
+    match read(Reader::new(alloc, limits)?, document, size, recorder) {
+        Ok(names) => {
+            let count = names.len();
+            drop(names);
+            format!(in alloc; "{count} names")
+        }
+        Err(fault) => format!(in alloc; "{:?} {}", fault.kind, fault.place.byte),
+    }
+}
+
+fn outcome_in(
+    alloc: Global,
+    limits: Limits,
+    document: &[u8],
+    size: usize,
+    recorder: &mut Recorder,
+) -> Result<String, AllocError> {
+    let mut answer = answer_in(alloc, limits, document, size, recorder)?;
+    answer.push_str(recorder.told.as_str())?;
+    Ok(answer)
 }
 
 /// How many names a document has, or its fault, and behind that what was told.
-fn outcome(alloc: Global, limits: Limits, document: &[u8], size: usize) -> Result<String, Fail> {
+fn outcome(
+    alloc: Global,
+    limits: Limits,
+    document: &[u8],
+    size: usize,
+) -> Result<String, AllocError> {
     let mut recorder = new_recorder(alloc);
-    let answer = match read(Reader::new(alloc, limits)?, document, size, &mut recorder) {
-        Ok(names) => format!(in alloc; "{} names", names.len())?,
-        Err(fault) => format!(in alloc; "{:?} {}", fault.kind, fault.place.byte)?,
-    };
-    Ok(format!(in alloc; "{}{}", answer.as_str(), recorder.told.as_str())?)
-}
-
-/// The bytes that are written: `%` and two hexadecimal digits are one.
-pub(crate) fn bytes_of(alloc: Global, written: &str) -> Result<Vec<u8>, Fail> {
-    let mut bytes = Vec::new(alloc);
-    for (i, part) in written.split('%').enumerate() {
-        if i == 0 {
-            bytes.extend_from_slice(part.as_bytes())?;
-        } else {
-            bytes.push(u8::from_str_radix(part.get(..2).ok_or("digits")?, 16)?)?;
-            bytes.extend_from_slice(part.get(2..).ok_or("rest")?.as_bytes())?;
-        }
-    }
-    Ok(bytes)
+    let found = outcome_in(alloc, limits, document, size, &mut recorder);
+    drop(recorder);
+    found
 }
 
 pub(crate) const AMPLE: Limits = Limits {
@@ -180,68 +225,106 @@ const BEYOND: &str = "\
 /// Lengths of pieces.
 pub(crate) const SIZES: [usize; 5] = [65_536, 1, 2, 3, 5];
 
+/// Whether a document has that outcome, in whatever pieces it is read.
+fn is_told(
+    alloc: Global,
+    limits: Limits,
+    document: &[u8],
+    want: &[u8],
+) -> Result<bool, AllocError> {
+    let mut told = true;
+    for size in SIZES {
+        told &= outcome(alloc, limits, document, size)?.as_bytes() == want;
+    }
+    Ok(told)
+}
+
+#[derive(Clone, Copy)]
+struct Told {
+    limits: Limits,
+}
+
+impl Holds for Told {
+    fn holds(&self, alloc: Global, row: &'static str) -> Result<bool, Fail> {
+        let (written, want) = halves(row);
+        let document = bytes_of(alloc, written)?;
+        let want = bytes_of(alloc, want)?;
+        Ok(is_told(alloc, self.limits, &document, &want)?)
+    }
+}
+
 #[test]
 fn documents_are_told(rt: HostRuntime) -> Result<(), Fail> {
-    for row in DOCUMENTS.lines() {
-        let (written, want) = row.split_once(" => ").ok_or("row")?;
-        let document = bytes_of(rt.alloc(), written)?;
-        let want = bytes_of(rt.alloc(), want)?;
-        for size in SIZES {
-            let found = outcome(rt.alloc(), AMPLE, &document, size)?;
-            assert_eq!(rt; found.as_bytes(), want.as_slice(), "{row} in {size}");
-        }
-    }
-    Ok(())
+    expect_rows(rt.alloc(), &Told { limits: AMPLE }, DOCUMENTS)
 }
 
 #[test]
 fn limits_are_kept(rt: HostRuntime) -> Result<(), Fail> {
-    for row in BEYOND.lines() {
-        let (written, want) = row.split_once(" => ").ok_or("row")?;
-        let document = bytes_of(rt.alloc(), written)?;
-        let want = bytes_of(rt.alloc(), want)?;
-        for size in SIZES {
-            let found = outcome(rt.alloc(), SMALL, &document, size)?;
-            assert_eq!(rt; found.as_bytes(), want.as_slice(), "{row} in {size}");
-        }
+    expect_rows(rt.alloc(), &Told { limits: SMALL }, BEYOND)
+}
+
+fn push_times(document: &mut String, text: &str, times: u32) -> Result<(), AllocError> {
+    for _ in 0..times {
+        document.push_str(text)?;
     }
     Ok(())
+}
+
+fn push_large(document: &mut String) -> Result<(), AllocError> {
+    document.push_str("<a>")?;
+    let child = "<b c='1'>text ] \u{E9}</b>\r\n<!-- a comment -->";
+    push_times(document, child, 3_000)?;
+    document.push_str("<!--")?;
+    push_times(document, "0123456789", 20_000)?;
+    document.push_str("--></a>")
+}
+
+fn is_told_the_same(alloc: Global, document: &[u8]) -> Result<bool, AllocError> {
+    let whole = outcome(alloc, AMPLE, document, 1_000_000)?;
+    let mut same = true;
+    for size in [1, 7, 4_096, 65_536] {
+        same &= outcome(alloc, AMPLE, document, size)?.as_str() == whole.as_str();
+    }
+    Ok(same)
 }
 
 #[test]
 fn a_large_document_is_told_the_same(rt: HostRuntime) -> Result<(), Fail> {
-    let mut document = String::from_str(rt.alloc(), "<a>")?;
-    for _ in 0..3_000 {
-        document.push_str("<b c='1'>text ] \u{E9}</b>\r\n<!-- a comment -->")?;
+    let mut document = String::new(rt.alloc());
+    push_large(&mut document)?;
+    expect(is_told_the_same(rt.alloc(), document.as_bytes())?, "large")
+}
+
+fn are_fed(reader: &mut Reader, recorder: &mut Recorder) -> bool {
+    let mut fed = true;
+    for piece in [b"".as_slice(), b"<a>\r", b"]]", b""] {
+        fed &= reader.feed(piece, recorder).is_ok();
     }
-    document.push_str("<!--")?;
-    for _ in 0..20_000 {
-        document.push_str("0123456789")?;
+    fed
+}
+
+/// Whether the fault is answered at its piece, at the next one, and at the end.
+fn answers_again(mut reader: Reader, recorder: &mut Recorder) -> bool {
+    let fed = are_fed(&mut reader, recorder);
+    let first = reader.feed(b">", recorder);
+    let again = reader.feed(b"</a>", recorder) == first;
+    match reader.finish(recorder) {
+        Ok(names) => {
+            drop(names);
+            false
+        }
+        Err(last) => fed & again & (first == Err(last)),
     }
-    document.push_str("--></a>")?;
-    let whole = outcome(rt.alloc(), AMPLE, document.as_bytes(), 1_000_000)?;
-    for size in [1, 7, 4_096, 65_536] {
-        let found = outcome(rt.alloc(), AMPLE, document.as_bytes(), size)?;
-        assert_eq!(rt; found.as_str(), whole.as_str(), "{size}");
-    }
-    Ok(())
 }
 
 #[test]
 fn a_fault_is_answered_again(rt: HostRuntime) -> Result<(), Fail> {
+    let reader = Reader::new(rt.alloc(), AMPLE)?;
     let mut recorder = new_recorder(rt.alloc());
-    let mut reader = Reader::new(rt.alloc(), AMPLE)?;
-    assert!(rt; reader.feed(b"", &mut recorder).is_ok());
-    assert!(rt; reader.feed(b"<a>\r", &mut recorder).is_ok());
-    assert!(rt; reader.feed(b"]]", &mut recorder).is_ok());
-    assert!(rt; reader.feed(b"", &mut recorder).is_ok());
-    let first = reader.feed(b">", &mut recorder);
-    assert!(rt; first.is_err());
-    assert_eq!(rt; reader.feed(b"</a>", &mut recorder), first);
-    let last = reader.finish(&mut recorder);
-    assert_eq!(rt; last.err(), first.err());
-    assert_eq!(rt; recorder.told.as_str(), " +0@0 3:\n");
-    Ok(())
+    let answered = answers_again(reader, &mut recorder);
+    let told = recorder.told.as_str() == " +0@0 3:\n";
+    drop(recorder);
+    expect(answered & told, "again")
 }
 
 /// The namespace names and local names of a document, in the order in which they are first seen.
@@ -250,18 +333,42 @@ u a
  b
 v b";
 
+/// Whether the name of a row is the one of that number.
+fn is_found(alloc: Global, names: &NameTable, k: usize, row: &str) -> Result<bool, AllocError> {
+    let (uri, local) = row.split_once(' ').unwrap_or((row, ""));
+    Ok(match names.find(alloc, uri, local)? {
+        Some(found) => found.number() as usize == k,
+        None => false,
+    })
+}
+
+fn expect_names(alloc: Global, names: &NameTable) -> Result<(), Fail> {
+    for (k, row) in NAMES.lines().enumerate() {
+        expect(is_found(alloc, names, k, row)?, row)?;
+    }
+    expect(names.find(alloc, "u", "b")?.is_none(), "u b")?;
+    expect(names.find(alloc, "", "b v")?.is_none(), "b v")?;
+    expect(names.len() == 3, "length")
+}
+
+fn names_of(
+    alloc: Global,
+    reader: Reader,
+    document: &[u8],
+    size: usize,
+) -> Result<NameTable, XmlFault> {
+    let mut recorder = new_recorder(alloc);
+    let names = read(reader, document, size, &mut recorder);
+    drop(recorder);
+    names
+}
+
 #[test]
 fn names_are_found(rt: HostRuntime) -> Result<(), Fail> {
-    let mut recorder = new_recorder(rt.alloc());
     let document = b"<a xmlns='u' xmlns:p='v' b='' p:b=''/>";
-    let names = read(Reader::new(rt.alloc(), AMPLE)?, document, 4, &mut recorder)?;
-    for (k, row) in NAMES.lines().enumerate() {
-        let (uri, local) = row.split_once(' ').ok_or("row")?;
-        let found = names.find(rt.alloc(), uri, local)?.ok_or("name")?;
-        assert_eq!(rt; found.number() as usize, k, "{row}");
-    }
-    assert!(rt; names.find(rt.alloc(), "u", "b")?.is_none());
-    assert!(rt; names.find(rt.alloc(), "", "b v")?.is_none());
-    assert_eq!(rt; names.len(), 3);
-    Ok(())
+    let reader = Reader::new(rt.alloc(), AMPLE)?;
+    let names = names_of(rt.alloc(), reader, document, 4)?;
+    let found = expect_names(rt.alloc(), &names);
+    drop(names);
+    found
 }

@@ -1,29 +1,31 @@
-ghost use Rattle.std.specs.Prelude.{◌≤◌};
+//! What begins a document.
 
+use crate::texts::bytes_of;
 use std::alloc::{AllocError, Global};
 use std::test::Fail;
+use test_rows::{Shown, expect_shown};
 use xml_tokens::{Beginning, Position, Search, what_begins};
 
-/// What begins a document and, behind ` => `, the answer. `$n`, `$r` and `$t` are LF, CR and TAB, and `$HH` is a byte.
+/// What begins a document, with `%` and two hexadecimal digits for a byte, and, behind ` => `, the answer.
 const STARTS: &str = "\
 a => Good(Character('a'), 1)
-$20a => Good(Character(' '), 1)
-$EF$BB$BF => Good(Mark, 3)
-$EF$BB => Later
-$EF$BB$BEx => Good(Character('\\u{fefe}'), 3)
-$E2$82$AC => Good(Character('€'), 3)
-$E2$82 => Later
-$E2$28 => Bad(NotUtf8, 2)
-$E0$80 => Bad(NotUtf8, 2)
-$ED$A0 => Bad(NotUtf8, 2)
-$C0$80 => Bad(NotUtf8, 1)
-$80 => Bad(NotUtf8, 1)
-$F0$9F$98$80 => Good(Character('😀'), 4)
-$F4$90 => Bad(NotUtf8, 2)
-$EF$BF$BE => Bad(BadChar, 3)
-$00 => Bad(BadChar, 1)
-$ra => Good(Character('\\n'), 1)
-$r$n => Good(Character('\\n'), 2)
+%20a => Good(Character(' '), 1)
+%EF%BB%BF => Good(Mark, 3)
+%EF%BB => Later
+%EF%BB%BEx => Good(Character('\\u{fefe}'), 3)
+%E2%82%AC => Good(Character('€'), 3)
+%E2%82 => Later
+%E2%28 => Bad(NotUtf8, 2)
+%E0%80 => Bad(NotUtf8, 2)
+%ED%A0 => Bad(NotUtf8, 2)
+%C0%80 => Bad(NotUtf8, 1)
+%80 => Bad(NotUtf8, 1)
+%F0%9F%98%80 => Good(Character('😀'), 4)
+%F4%90 => Bad(NotUtf8, 2)
+%EF%BF%BE => Bad(BadChar, 3)
+%00 => Bad(BadChar, 1)
+%0Da => Good(Character('\\n'), 1)
+%0D%0A => Good(Character('\\n'), 2)
 ]]> => Bad(BadMarkup, 3)
 ]]a => Good(Character(']'), 1)
 ]a => Good(Character(']'), 1)
@@ -45,7 +47,7 @@ $r$n => Good(Character('\\n'), 2)
 &#xD800; => Bad(BadReference, 8)
 &#x10FFFF; => Good(Reference('\\u{10ffff}'), 10)
 &#x110000; => Bad(BadReference, 10)
-&a$FF => Bad(BadReference, 3)
+&a%FF => Bad(BadReference, 3)
 < => Later
 <! => Later
 <!- => Later
@@ -63,8 +65,8 @@ $r$n => Good(Character('\\n'), 2)
 <!--x-->y => Good(Aside, 8)
 <!--x--y--> => Bad(BadMarkup, 11)
 <!--x---> => Bad(BadMarkup, 9)
-<!--$FF--> => Bad(NotUtf8, 8)
-<!--$01--> => Bad(BadChar, 8)
+<!--%FF--> => Bad(NotUtf8, 8)
+<!--%01--> => Bad(BadChar, 8)
 <![CDATA[]]> => Good(Section(Section { written: \"\" }), 12)
 <![CDATA[a<b]]]>x => Good(Section(Section { written: \"a<b]\" }), 16)
 <![CDATA[x]] => Later
@@ -79,7 +81,7 @@ $r$n => Good(Character('\\n'), 2)
 <?xml?> => Bad(BadDeclaration, 7)
 <?xml.?> => Good(Aside, 8)
 <?xml version='1.0'?> => Good(Aside, 21)
-<?xml version = \"1.0\" encoding='utf-8'$nstandalone='no' ?> => Good(Aside, 57)
+<?xml version = \"1.0\" encoding='utf-8'%0Astandalone='no' ?> => Good(Aside, 57)
 <?xml version='1.1'?> => Bad(BadDeclaration, 21)
 <?xml version='1.0' standalone='no' encoding='utf-8'?> => Bad(BadDeclaration, 54)
 <?xml version='1.0'encoding='utf-8'?> => Bad(BadDeclaration, 37)
@@ -89,7 +91,7 @@ $r$n => Good(Character('\\n'), 2)
 <é /> => Good(StartTag(StartTag { name: \"é\", attributes: [], is_empty: true }), 6)
 <a b='c'> => Good(StartTag(StartTag { name: \"a\", attributes: [Attribute { name: \"b\", value: Lent(\"c\") }], is_empty: false }), 9)
 <a b='>' c = \"'\" > => Good(StartTag(StartTag { name: \"a\", attributes: [Attribute { name: \"b\", value: Lent(\">\") }, Attribute { name: \"c\", value: Lent(\"'\") }], is_empty: false }), 18)
-<a b='x&lt;$r$ny$tz&#10;'/> => Good(StartTag(StartTag { name: \"a\", attributes: [Attribute { name: \"b\", value: Own(\"x< y z\\n\") }], is_empty: true }), 24)
+<a b='x&lt;%0D%0Ay%09z&#10;'/> => Good(StartTag(StartTag { name: \"a\", attributes: [Attribute { name: \"b\", value: Own(\"x< y z\\n\") }], is_empty: true }), 24)
 <a b='&x;'> => Bad(BadReference, 11)
 <a b='&x;'c> => Bad(BadMarkup, 12)
 <a b='&'> => Bad(BadReference, 9)
@@ -104,53 +106,14 @@ $r$n => Good(Character('\\n'), 2)
 <1> => Bad(BadMarkup, 3)
 <> => Bad(BadMarkup, 2)
 < a> => Bad(BadMarkup, 4)
-<a b='$FF'> => Bad(NotUtf8, 9)
-<a b='$EF$BF$BF'> => Bad(BadChar, 11)
+<a b='%FF'> => Bad(NotUtf8, 9)
+<a b='%EF%BF%BF'> => Bad(BadChar, 11)
 </a> => Good(EndTag(\"a\"), 4)
 </p:a > => Good(EndTag(\"p:a\"), 7)
 </ a> => Bad(BadMarkup, 5)
 </a b=''> => Bad(BadMarkup, 9)
 </> => Bad(BadMarkup, 3)
 </a/> => Bad(BadMarkup, 5)";
-
-fn digit(byte: u8) -> u8
-    ensures { result ≤ 15 }
-{
-    match byte {
-        b'0'..=b'9' => byte - b'0',
-        b'A'..=b'F' => byte - b'A' + 10,
-        _ => 0,
-    }
-}
-
-/// The bytes that a text of the table stands for.
-fn bytes_of(alloc: Global, text: &str) -> Result<Vec<u8>, AllocError> {
-    let mut bytes: Vec<u8> = Vec::new(alloc);
-    let mut rest = text.as_bytes();
-    'texts: while let [first, behind @ ..] = rest {
-        rest = behind;
-        match (*first, behind) {
-            (b'$', [b'n', others @ ..]) => {
-                bytes.push(b'\n')?;
-                rest = others;
-            }
-            (b'$', [b'r', others @ ..]) => {
-                bytes.push(b'\r')?;
-                rest = others;
-            }
-            (b'$', [b't', others @ ..]) => {
-                bytes.push(b'\t')?;
-                rest = others;
-            }
-            (b'$', [high, low, others @ ..]) => {
-                bytes.push(digit(*high) * 16 + digit(*low))?;
-                rest = others;
-            }
-            _ => bytes.push(*first)?,
-        }
-    }
-    Ok(bytes)
-}
 
 /// What begins at the start of the bytes, where they come one by one and the search is kept.
 fn piece_by_piece(alloc: Global, bytes: &[u8]) -> Result<String, AllocError> {
@@ -175,16 +138,26 @@ fn at_once(alloc: Global, bytes: &[u8]) -> Result<String, AllocError> {
     }
 }
 
+struct AtOnce;
+
+impl Shown for AtOnce {
+    fn shown(&self, alloc: Global, written: &'static str) -> Result<String, Fail> {
+        let bytes = bytes_of(alloc, written)?;
+        Ok(at_once(alloc, bytes.as_slice())?)
+    }
+}
+
+struct PieceByPiece;
+
+impl Shown for PieceByPiece {
+    fn shown(&self, alloc: Global, written: &'static str) -> Result<String, Fail> {
+        let bytes = bytes_of(alloc, written)?;
+        Ok(piece_by_piece(alloc, bytes.as_slice())?)
+    }
+}
+
 #[test]
 fn tokens_begin(rt: HostRuntime) -> Result<(), Fail> {
-    let alloc = rt.alloc();
-    for line in STARTS.lines() {
-        let (text, want) = line.split_once(" => ").unwrap_or((line, ""));
-        let bytes = bytes_of(alloc, text)?;
-        let answer = at_once(alloc, bytes.as_slice())?;
-        assert_eq!(rt; answer.as_str(), want, "{line}");
-        let cut = piece_by_piece(alloc, bytes.as_slice())?;
-        assert_eq!(rt; cut.as_str(), want, "{line}");
-    }
-    Ok(())
+    expect_shown(rt.alloc(), &AtOnce, " => ", STARTS)?;
+    expect_shown(rt.alloc(), &PieceByPiece, " => ", STARTS)
 }

@@ -1,9 +1,10 @@
 //! Deep and long texts.
 
+use crate::made::Made;
 use crate::nestings::{Nesting, columns, expect_nestings, is_made_of};
-use crate::rows::{Made, expect};
 use std::alloc::{AllocError, Global};
 use std::test::Fail;
+use test_rows::{Holds, expect_rows};
 
 /// Of each row how many levels one nesting adds, and what stands before, in and behind it.
 const NESTINGS: &str = "\
@@ -25,44 +26,51 @@ const NESTINGS: &str = "\
 2|a/b[|1|]
 2|a[1][/|a|]";
 
+/// Whether a row's nesting, with so many openings and closings, is answered so.
+fn is_answered(
+    alloc: Global,
+    row: [&str; 5],
+    openings: u32,
+    closings: u32,
+    wanted: &str,
+) -> Result<bool, AllocError> {
+    let [_, open, core, close, _] = row;
+    let nesting = Nesting {
+        openings,
+        open,
+        core,
+        close,
+        closings,
+    };
+    is_made_of(alloc, Made::Reading, &nesting, wanted)
+}
+
 /// Whether the row's nesting is read with 256 levels at most, isn't with more, and isn't with more of which none is
 /// closed.
 fn has_256_levels(alloc: Global, row: &str) -> Result<bool, AllocError> {
-    let [step, open, core, close, _] = columns(row);
-    let most = if step == "1" { 255 } else { 127 };
-    let unclosed = if close.is_empty() {
+    let row = columns(row);
+    let most = if row[0] == "1" { 255 } else { 127 };
+    let unclosed = if row[3].is_empty() {
         "TooDeep"
     } else {
         "Syntax"
     };
-    let deepest = Nesting {
-        openings: most,
-        open,
-        core,
-        close,
-        closings: most,
-    };
-    let deeper = Nesting {
-        openings: most + 1,
-        closings: most + 1,
-        ..deepest
-    };
-    let open_ended = Nesting {
-        openings: most + 2,
-        closings: 0,
-        ..deepest
-    };
-    let is_read = is_made_of(alloc, Made::Reading, &deepest, "read")?;
-    let is_refused = is_made_of(alloc, Made::Reading, &deeper, "TooDeep")?;
-    Ok(is_read & is_refused & is_made_of(alloc, Made::Reading, &open_ended, unclosed)?)
+    let is_read = is_answered(alloc, row, most, most, "read")?;
+    let is_refused = is_answered(alloc, row, most + 1, most + 1, "TooDeep")?;
+    Ok(is_read & is_refused & is_answered(alloc, row, most + 2, 0, unclosed)?)
+}
+
+struct Levels;
+
+impl Holds for Levels {
+    fn holds(&self, alloc: Global, row: &'static str) -> Result<bool, Fail> {
+        Ok(has_256_levels(alloc, row)?)
+    }
 }
 
 #[test]
 fn expressions_have_256_levels_at_most(rt: HostRuntime) -> Result<(), Fail> {
-    for row in NESTINGS.lines() {
-        expect(has_256_levels(rt.alloc(), row)?, row)?;
-    }
-    Ok(())
+    expect_rows(rt.alloc(), &Levels, NESTINGS)
 }
 
 const DEEP: &str = "\

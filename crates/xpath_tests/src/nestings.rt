@@ -1,8 +1,9 @@
 //! Long texts: a core between openings and closings.
 
-use crate::rows::{Made, expect, is_made};
+use crate::made::{Made, made_of};
 use std::alloc::{AllocError, Global};
 use std::test::Fail;
+use test_rows::{Shown, expect_shown};
 
 /// A core behind so many openings and ahead of so many closings.
 #[derive(Clone, Copy)]
@@ -51,6 +52,13 @@ pub(crate) fn push_nesting(text: &mut String, nesting: &Nesting<'_>) -> Result<(
     push_times(text, nesting.close, nesting.closings)
 }
 
+/// What is made of a long text, or its refusal.
+fn made_of_long(alloc: Global, made: Made, nesting: &Nesting<'_>) -> Result<String, AllocError> {
+    let mut text = String::new(alloc);
+    push_nesting(&mut text, nesting)?;
+    made_of(alloc, made, text.as_str())
+}
+
 /// Whether that is made of a long text.
 pub(crate) fn is_made_of(
     alloc: Global,
@@ -58,18 +66,23 @@ pub(crate) fn is_made_of(
     nesting: &Nesting<'_>,
     wanted: &str,
 ) -> Result<bool, AllocError> {
-    let mut text = String::new(alloc);
-    push_nesting(&mut text, nesting)?;
-    is_made(alloc, made, text.as_str(), wanted)
+    Ok(made_of_long(alloc, made, nesting)?.as_str() == wanted)
 }
 
-/// Fails with the first row whose long text isn't answered as its arrow says. In front of that stand how many openings
-/// there are, the opening, the core, the closing, and how many closings there are.
-pub(crate) fn expect_nestings(alloc: Global, made: Made, rows: &'static str) -> Result<(), Fail> {
-    for row in rows.lines() {
-        let (written, wanted) = row.split_once(" → ").ok_or(row)?;
-        let nesting = nesting_of(written)?;
-        expect(is_made_of(alloc, made, &nesting, wanted)?, row)?;
+/// What is made of long texts. A row says how many openings there are, the opening, the core, the closing, and how many
+/// closings there are.
+#[derive(Drop)]
+struct MadeOfLong {
+    made: Made,
+}
+
+impl Shown for MadeOfLong {
+    fn shown(&self, alloc: Global, given: &'static str) -> Result<String, Fail> {
+        Ok(made_of_long(alloc, self.made, &nesting_of(given)?)?)
     }
-    Ok(())
+}
+
+/// Fails with the first row whose long text isn't answered as its arrow says.
+pub(crate) fn expect_nestings(alloc: Global, made: Made, rows: &'static str) -> Result<(), Fail> {
+    expect_shown(alloc, &MadeOfLong { made }, " → ", rows)
 }

@@ -1,15 +1,19 @@
 //! Expressions and their plans. Names are those of the plan's table, `{uri}local`; what stands before a part is its
 //! operator.
 
+use crate::made::{Made, expect_made};
 use crate::nestings::{Nesting, push_nesting};
-use crate::rows::{Made, expect, expect_rows};
-use crate::shown::push_number;
+use crate::shown::{push_number, push_texts};
 use std::alloc::{AllocError, Global};
 use std::test::Fail;
+use test_rows::expect;
 use xpath_grammar::expr::Expr;
-use xpath_plan::work::{Link, Simple, StepTest, Work};
+use xpath_grammar::functions::Function;
+use xpath_grammar::operators::CastWord;
+use xpath_plan::work::{Kind, Link, Simple, StepTest, Work};
 use xpath_plan::{NameTable, Plan, compile};
 use xpath_syntax::parse;
+use xpath_tokens::token::Operator;
 use xpath_types::{Scope, check};
 
 const LEAVES: &str = "\
@@ -42,7 +46,7 @@ a | b → [Chain: Child::{}a; Bar Child::{}b]
 a//b/@c → [Chain: Child::{}a; DoubleSlash Child::{}b; Slash Attribute::{}c]
 /a → [Chain: Slash Child::{}a]
 //a → [Chain: DoubleSlash Child::{}a]
-- + 1 → [Signs(Many { items: [Minus, Plus] }): 1]
+- + 1 → [Signs Minus Plus: 1]
 (1) → [Only: 1]
 a[1][@b] → [FilteredStep: Child::{}a; 1; Attribute::{}b]
 ..[1] → [FilteredStep: Parent::Node; 1]
@@ -72,10 +76,10 @@ fn push_test(line: &mut String, names: &NameTable, test: &StepTest) -> Result<()
         StepTest::Named(number) => {
             let uri = names.uri(*number).unwrap_or("none");
             let local = names.local(*number).unwrap_or("none");
-            write!(line, "{{{uri}}}{local}")
+            push_texts(line, &["{", uri, "}", local])
         }
-        StepTest::InNamespace(uri) => write!(line, "{{{}}}*", uri.as_str()),
-        StepTest::WithLocal(local) => write!(line, "*:{}", local.as_str()),
+        StepTest::InNamespace(uri) => push_texts(line, &["{", uri.as_str(), "}*"]),
+        StepTest::WithLocal(local) => push_texts(line, &["*:", local.as_str()]),
         StepTest::AnyName => line.push_str("*"),
         StepTest::Kind(kind) => write!(line, "{kind:?}"),
     }
@@ -89,7 +93,7 @@ fn push_simple(line: &mut String, names: &NameTable, simple: &Simple) -> Result<
         Simple::Item => line.push_str("."),
         Simple::Root => line.push_str("/"),
         Simple::Variable(height) => write!(line, "${height}"),
-        Simple::Outer(name) => write!(line, "${}", name.as_str()),
+        Simple::Outer(name) => push_texts(line, &["$", name.as_str()]),
         Simple::Step(axis, test) => {
             write!(line, "{axis:?}::")?;
             push_test(line, names, test)
@@ -110,11 +114,44 @@ fn separator(is_first: bool) -> &'static str {
     if is_first { ": " } else { "; " }
 }
 
+fn push_signs(line: &mut String, signs: &[Operator]) -> Result<(), AllocError> {
+    line.push_str("Signs")?;
+    'signs: for sign in signs {
+        write!(line, " {sign:?}")?;
+    }
+    Ok(())
+}
+
+fn push_cast(
+    line: &mut String,
+    word: CastWord,
+    to: Function,
+    optional: bool,
+) -> Result<(), AllocError> {
+    write!(line, "Cast({word:?}, {to:?}, {optional})")
+}
+
+fn push_kind(line: &mut String, kind: &Kind) -> Result<(), AllocError> {
+    match kind {
+        Kind::Chain => line.push_str("Chain"),
+        Kind::Bound(binder) => write!(line, "Bound({binder:?})"),
+        Kind::Conditional => line.push_str("Conditional"),
+        Kind::Cast(word, to, optional) => push_cast(line, *word, *to, *optional),
+        Kind::Signs(signs) => push_signs(line, signs.as_slice()),
+        Kind::FilteredStep => line.push_str("FilteredStep"),
+        Kind::Filtered => line.push_str("Filtered"),
+        Kind::Only => line.push_str("Only"),
+        Kind::Call(function) => write!(line, "Call({function:?})"),
+        Kind::Nothing => line.push_str("Nothing"),
+    }
+}
+
 fn push_work(line: &mut String, names: &NameTable, work: &Work) -> Result<(), AllocError> {
     match work {
         Work::Simple(simple) => push_simple(line, names, simple),
         Work::Node(kind, parts) => {
-            write!(line, "[{kind:?}")?;
+            line.push_str("[")?;
+            push_kind(line, kind)?;
             let mut is_first = true;
             'parts: for (link, part) in parts.as_slice() {
                 line.push_str(separator(is_first))?;
@@ -129,14 +166,22 @@ fn push_work(line: &mut String, names: &NameTable, work: &Work) -> Result<(), Al
 
 fn compiled(alloc: Global, scope: &Scope, expression: &Expr) -> Option<Plan> {
     match check(alloc, expression, scope) {
-        Ok(typed) => compile(alloc, &typed).ok(),
+        Ok(typed) => {
+            let plan = compile(alloc, &typed);
+            drop(typed);
+            plan.ok()
+        }
         Err(_) => None,
     }
 }
 
 fn plan_in(alloc: Global, scope: &Scope, text: &str) -> Option<Plan> {
     match parse(alloc, text) {
-        Ok(expression) => compiled(alloc, scope, &expression),
+        Ok(expression) => {
+            let plan = compiled(alloc, scope, &expression);
+            drop(expression);
+            plan
+        }
         Err(_) => None,
     }
 }
@@ -144,28 +189,34 @@ fn plan_in(alloc: Global, scope: &Scope, text: &str) -> Option<Plan> {
 /// The plan of an expression. It outlives its text and its scope.
 fn plan_of(alloc: Global, text: &str) -> Option<Plan> {
     let mut scope = Scope::new(alloc);
-    match declare(alloc, &mut scope) {
+    let plan = match declare(alloc, &mut scope) {
         Ok(()) => plan_in(alloc, &scope, text),
         Err(_) => None,
-    }
+    };
+    drop(scope);
+    plan
 }
 
 /// The plan of an expression, or `none`.
 pub(crate) fn push_plan(alloc: Global, line: &mut String, text: &str) -> Result<(), AllocError> {
     match plan_of(alloc, text) {
-        Some(plan) => push_work(line, plan.names(), plan.work()),
+        Some(plan) => {
+            let pushed = push_work(line, plan.names(), plan.work());
+            drop(plan);
+            pushed
+        }
         None => line.push_str("none"),
     }
 }
 
 #[test]
 fn leaves_have_their_plans(rt: HostRuntime) -> Result<(), Fail> {
-    expect_rows(rt.alloc(), Made::Plan, LEAVES)
+    expect_made(rt.alloc(), Made::Plan, LEAVES)
 }
 
 #[test]
 fn forms_have_their_plans(rt: HostRuntime) -> Result<(), Fail> {
-    expect_rows(rt.alloc(), Made::Plan, FORMS)
+    expect_made(rt.alloc(), Made::Plan, FORMS)
 }
 
 /// Whether a plan has the names of no namespace and of `p`, each once.
@@ -180,7 +231,11 @@ fn has_two_names(names: &NameTable) -> bool {
 #[test]
 fn a_plan_owns_what_it_is_made_of(rt: HostRuntime) -> Result<(), Fail> {
     match plan_of(rt.alloc(), "a/p:a[a]/@p:a/a") {
-        Some(plan) => expect(has_two_names(plan.names()), "names"),
+        Some(plan) => {
+            let holds = has_two_names(plan.names());
+            drop(plan);
+            expect(holds, "names")
+        }
         None => expect(false, "plan"),
     }
 }

@@ -7,12 +7,20 @@ use xpath_grammar::operators::Binder;
 use xpath_grammar::step::{AxisForm, Test};
 use xpath_tokens::token::{Name, Operator};
 
+/// Puts texts behind a line.
+pub(crate) fn push_texts(line: &mut String, texts: &[&str]) -> Result<(), AllocError> {
+    'texts: for text in texts {
+        line.push_str(text)?;
+    }
+    Ok(())
+}
+
 fn push_name(line: &mut String, name: &Name) -> Result<(), AllocError> {
     match name {
         Name::Plain(text) => line.push_str(text.as_str()),
-        Name::Prefixed(prefix, local) => { write!(line, "{}:{}", prefix.as_str(), local.as_str()) }
-        Name::AnyLocal(prefix) => write!(line, "{}:*", prefix.as_str()),
-        Name::AnyPrefix(local) => write!(line, "*:{}", local.as_str()),
+        Name::Prefixed(prefix, local) => push_texts(line, &[prefix.as_str(), ":", local.as_str()]),
+        Name::AnyLocal(prefix) => push_texts(line, &[prefix.as_str(), ":*"]),
+        Name::AnyPrefix(local) => push_texts(line, &["*:", local.as_str()]),
     }
 }
 
@@ -50,7 +58,7 @@ fn push_axis(line: &mut String, form: AxisForm) -> Result<(), AllocError> {
 
 fn push_leaf(line: &mut String, leaf: &Leaf) -> Result<(), AllocError> {
     match leaf {
-        Leaf::Literal(text) => write!(line, "'{}'", text.as_str()),
+        Leaf::Literal(text) => push_texts(line, &["'", text.as_str(), "'"]),
         Leaf::Number(number) => push_number(line, number.whole(), number.fraction()),
         Leaf::Variable(name) => push_named(line, "$", name, ""),
         Leaf::Context => line.push_str("."),

@@ -1,6 +1,6 @@
 //! The trees of texts, and their refusals.
 
-use crate::rows::{Made, expect_rows};
+use crate::made::{Made, expect_made};
 use std::test::Fail;
 
 /// Texts, and what they are as expressions.
@@ -100,7 +100,7 @@ nope(1) → {nope(1)}
 
 #[test]
 fn texts_have_one_tree_or_a_refusal(rt: HostRuntime) -> Result<(), Fail> {
-    expect_rows(rt.alloc(), Made::Tree, EXPRESSIONS)
+    expect_made(rt.alloc(), Made::Tree, EXPRESSIONS)
 }
 
 /// Texts, and what they are as patterns.
@@ -129,5 +129,5 @@ a[1e3] → Unsupported(2)";
 
 #[test]
 fn patterns_are_some_of_the_expressions(rt: HostRuntime) -> Result<(), Fail> {
-    expect_rows(rt.alloc(), Made::PatternTree, PATTERNS)
+    expect_made(rt.alloc(), Made::PatternTree, PATTERNS)
 }

@@ -1,7 +1,7 @@
 //! The tokens of texts, and their refusals.
 
+use crate::made::{Made, expect_made};
 use crate::nestings::expect_nestings;
-use crate::rows::{Made, expect_rows};
 use std::alloc::{AllocError, Global};
 use std::test::Fail;
 use xpath_tokens::tokens;
@@ -9,7 +9,11 @@ use xpath_tokens::tokens;
 /// The tokens of a text or its refusal, as they are printed for debugging.
 pub(crate) fn push_tokens(alloc: Global, line: &mut String, text: &str) -> Result<(), AllocError> {
     match tokens(alloc, text) {
-        Ok(tokens) => write!(line, "{tokens:?}"),
+        Ok(tokens) => {
+            let pushed = write!(line, "{tokens:?}");
+            drop(tokens);
+            pushed
+        }
         Err(fault) => write!(line, "{fault:?}"),
     }
 }
@@ -19,6 +23,7 @@ pub(crate) fn push_count(alloc: Global, line: &mut String, text: &str) -> Result
     match tokens(alloc, text) {
         Ok(tokens) => {
             let count = tokens.len();
+            drop(tokens);
             write!(line, "{count}")
         }
         Err(fault) => write!(line, "{fault:?}"),
@@ -46,7 +51,7 @@ a::b → [Name(Plain("a")), DoubleColon, Name(Plain("b"))]
 
 #[test]
 fn words_by_themselves(rt: HostRuntime) -> Result<(), Fail> {
-    expect_rows(rt.alloc(), Made::Tokens, WORDS)
+    expect_made(rt.alloc(), Made::Tokens, WORDS)
 }
 
 /// What a word is by the token before it and the word behind it.
@@ -63,7 +68,7 @@ a comment() → [Name(Plain("a")), Name(Plain("comment")), LeftParenthesis, Righ
 
 #[test]
 fn words_by_their_places(rt: HostRuntime) -> Result<(), Fail> {
-    expect_rows(rt.alloc(), Made::Tokens, PLACES)
+    expect_made(rt.alloc(), Made::Tokens, PLACES)
 }
 
 /// The first refusal of a text.
@@ -97,7 +102,7 @@ schema-attribute(a) → Unsupported(0)";
 
 #[test]
 fn refusals(rt: HostRuntime) -> Result<(), Fail> {
-    expect_rows(rt.alloc(), Made::Tokens, REFUSALS)
+    expect_made(rt.alloc(), Made::Tokens, REFUSALS)
 }
 
 /// The longest texts, also those on which a reader that looks far ahead at each place never ends.

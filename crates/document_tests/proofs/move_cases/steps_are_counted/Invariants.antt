@@ -1,4 +1,0 @@
-use Rattle.document_tests.proofs.move_cases.steps_are_counted.Given as goal
-
-abbrev pub ghosts-two_steps : goal.ghosts-two_steps
-ghosts-two_steps g a = record { name = a.ledger.name; parts = a.ledger.parts }

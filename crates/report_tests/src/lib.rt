@@ -1,9 +1,0 @@
-//! The tests of texts of rule files and of reports.
-#![tactic(auto)]
-
-#[cfg(test)]
-mod documents;
-#[cfg(test)]
-mod report_cases;
-#[cfg(test)]
-mod text_cases;

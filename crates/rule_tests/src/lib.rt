@@ -1,0 +1,11 @@
+//! The tests of rules that put other rules, of texts of rule files and of reports.
+#![tactic(auto)]
+
+#[cfg(test)]
+mod documents;
+#[cfg(test)]
+mod graph_cases;
+#[cfg(test)]
+mod report_cases;
+#[cfg(test)]
+mod text_cases;

@@ -5,7 +5,8 @@
 
 PROGRAM is crates/einv/out/einv if it isn't given. Each pattern is the context of a rule with one assertion, which holds. Judges by a
 file that has this rule once and by one that has it eleven times, each time in a pattern of its own, over as many LINES of five nodes
-each as given (20,000 and 180,000), and prints a tenth of the difference: the best of three runs each, wall clock.
+each as given (20,000 and 180,000), and prints a tenth of the difference, 0 where it is within the noise: the best of three runs each,
+wall clock.
 """
 import pathlib
 import re
@@ -59,7 +60,7 @@ def main():
                 once, _ = judged(program, folder, rule_file(pattern, holds, 1), document)
                 often, _ = judged(program, folder, rule_file(pattern, holds, 11), document)
                 _, marked = judged(program, folder, rule_file(pattern, tells, 1), document)
-                print(f"| `{pattern}` | {5 * lines + 2:,} | {marked} | {(often - once) / 10:.3f} |", flush=True)
+                print(f"| `{pattern}` | {5 * lines + 2:,} | {marked} | {max(0.0, often - once) / 10:.3f} |", flush=True)
 
 
 main()

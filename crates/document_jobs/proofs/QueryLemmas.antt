@@ -121,21 +121,28 @@ uri_chars spaces.CiiQualified = chars-IsAscii (uri_of spaces.CiiQualified) (asci
 abbrev bound : Declared → List ℕ → Namespace → Declared
 bound d prefix namespace = with_prefix d prefix (uri_of namespace)
 
-pub scope_made : (s0 s1 s2 s3 s4 s5 s6 s7 s8 : Declared) → s0 ≡ record { prefixes = []; variables = [] }
-    → s1 ≡ with_prefix s0 (codes "ubl") (uri_of spaces.UblInvoice) → s2 ≡ with_prefix s1 (codes "cn") (uri_of spaces.UblCreditNote)
-    → s3 ≡ with_prefix s2 (codes "cac") (uri_of spaces.UblAggregate) → s4 ≡ with_prefix s3 (codes "cbc") (uri_of spaces.UblBasic)
-    → s5 ≡ with_prefix s4 (codes "rsm") (uri_of spaces.CiiInvoice) → s6 ≡ with_prefix s5 (codes "ram") (uri_of spaces.CiiAggregate)
-    → s7 ≡ with_prefix s6 (codes "udt") (uri_of spaces.CiiUnqualified) → s8 ≡ with_prefix s7 (codes "qdt") (uri_of spaces.CiiQualified)
-    → s8 ≡ query_scope
-scope_made s0 s1 s2 s3 s4 s5 s6 s7 s8 e0 e1 e2 e3 e4 e5 e6 e7 e8 =
-    let x1 = e1 ∙ ap (λ d. bound d (codes "ubl") spaces.UblInvoice) e0 in
-    let x2 = e2 ∙ ap (λ d. bound d (codes "cn") spaces.UblCreditNote) x1 in
+abbrev ubl_bound : Declared → Declared
+ubl_bound d = bound (bound (bound (bound d (codes "ubl") spaces.UblInvoice) (codes "cn") spaces.UblCreditNote) (codes "cac") spaces.UblAggregate) (codes "cbc") spaces.UblBasic
+
+abbrev cii_bound : Declared → Declared
+cii_bound d = bound (bound (bound (bound d (codes "rsm") spaces.CiiInvoice) (codes "ram") spaces.CiiAggregate) (codes "udt") spaces.CiiUnqualified) (codes "qdt") spaces.CiiQualified
+
+pub ubl_made : (s0 s1 s2 s3 s4 : Declared) → s1 ≡ with_prefix s0 (codes "ubl") (uri_of spaces.UblInvoice) → s2 ≡ with_prefix s1 (codes "cn") (uri_of spaces.UblCreditNote)
+    → s3 ≡ with_prefix s2 (codes "cac") (uri_of spaces.UblAggregate) → s4 ≡ with_prefix s3 (codes "cbc") (uri_of spaces.UblBasic) → s4 ≡ ubl_bound s0
+ubl_made s0 s1 s2 s3 s4 e1 e2 e3 e4 =
+    let x2 = e2 ∙ ap (λ d. bound d (codes "cn") spaces.UblCreditNote) e1 in
     let x3 = e3 ∙ ap (λ d. bound d (codes "cac") spaces.UblAggregate) x2 in
-    let x4 = e4 ∙ ap (λ d. bound d (codes "cbc") spaces.UblBasic) x3 in
-    let x5 = e5 ∙ ap (λ d. bound d (codes "rsm") spaces.CiiInvoice) x4 in
-    let x6 = e6 ∙ ap (λ d. bound d (codes "ram") spaces.CiiAggregate) x5 in
-    let x7 = e7 ∙ ap (λ d. bound d (codes "udt") spaces.CiiUnqualified) x6 in
-    e8 ∙ ap (λ d. bound d (codes "qdt") spaces.CiiQualified) x7
+    e4 ∙ ap (λ d. bound d (codes "cbc") spaces.UblBasic) x3
+
+pub cii_made : (s0 s1 s2 s3 s4 : Declared) → s1 ≡ with_prefix s0 (codes "rsm") (uri_of spaces.CiiInvoice) → s2 ≡ with_prefix s1 (codes "ram") (uri_of spaces.CiiAggregate)
+    → s3 ≡ with_prefix s2 (codes "udt") (uri_of spaces.CiiUnqualified) → s4 ≡ with_prefix s3 (codes "qdt") (uri_of spaces.CiiQualified) → s4 ≡ cii_bound s0
+cii_made s0 s1 s2 s3 s4 e1 e2 e3 e4 =
+    let x2 = e2 ∙ ap (λ d. bound d (codes "ram") spaces.CiiAggregate) e1 in
+    let x3 = e3 ∙ ap (λ d. bound d (codes "udt") spaces.CiiUnqualified) x2 in
+    e4 ∙ ap (λ d. bound d (codes "qdt") spaces.CiiQualified) x3
+
+pub scope_made : (s0 s1 s2 : Declared) → s0 ≡ record { prefixes = []; variables = [] } → s1 ≡ ubl_bound s0 → s2 ≡ cii_bound s1 → s2 ≡ query_scope
+scope_made s0 s1 s2 e0 e1 e2 = e2 ∙ ap cii_bound (e1 ∙ ap ubl_bound e0)
 
 -- ---- the answer
 

@@ -1,5 +1,5 @@
 //! The job that evaluates an expression at a document.
-ghost use Rattle.std.specs.Prelude.{◌≡◌, ◌<◌, [], length, IfOk, OnOk, Ok};
+ghost use Rattle.std.specs.Prelude.{◌≡◌, ◌<◌, [], codes, length, IfOk, OnOk, Ok};
 ghost use Rattle.std.specs.Str.{IsAscii};
 ghost use Rattle.inv_base.specs.Printing.{Prints};
 ghost use Rattle.job_course.specs.Outside.{TakesOrFails};
@@ -12,6 +12,7 @@ ghost use Rattle.xpath_meaning.specs.Values.{value};
 ghost use Rattle.xpath_plan.specs.Plans.{expression};
 ghost use Rattle.item_listing.specs.Listing.{ValueWithin};
 ghost use Rattle.xpath_types.specs.Scopes.{with_prefix};
+ghost use Rattle.bind_rows.specs.declared.names.Namespace.TheVariants as spaces;
 ghost use Rattle.bind_names.specs.Namespaces as names;
 ghost use Rattle.document_jobs.specs.Queries as spec;
 ghost use Rattle.document_jobs.specs.Queries.{Asks, IsQueryRefusal, Answered, answered, by_expression, query_course};
@@ -177,10 +178,30 @@ fn bind_all(scope: &mut Scope, alloc: Global) -> Result<(), AllocError>
     requires { scope.old ≡ record { prefixes = []; variables = [] } }
     ensures { OnOk result (scope.new ≡ spec.query_scope) }
 {
+    bind_ubl(scope, alloc)?;
+    bind_cii(scope, alloc)?;
+    Ok(())
+}
+
+/// Binds the prefixes of UBL.
+fn bind_ubl(scope: &mut Scope, alloc: Global) -> Result<(), AllocError>
+    ensures { OnOk result (scope.new ≡ with_prefix (with_prefix (with_prefix (with_prefix scope.old
+        (codes "ubl") (names.uri_of spaces.UblInvoice)) (codes "cn") (names.uri_of spaces.UblCreditNote))
+        (codes "cac") (names.uri_of spaces.UblAggregate)) (codes "cbc") (names.uri_of spaces.UblBasic)) }
+{
     bind(scope, alloc, "ubl", Namespace::UblInvoice)?;
     bind(scope, alloc, "cn", Namespace::UblCreditNote)?;
     bind(scope, alloc, "cac", Namespace::UblAggregate)?;
     bind(scope, alloc, "cbc", Namespace::UblBasic)?;
+    Ok(())
+}
+
+/// Binds the prefixes of CII.
+fn bind_cii(scope: &mut Scope, alloc: Global) -> Result<(), AllocError>
+    ensures { OnOk result (scope.new ≡ with_prefix (with_prefix (with_prefix (with_prefix scope.old
+        (codes "rsm") (names.uri_of spaces.CiiInvoice)) (codes "ram") (names.uri_of spaces.CiiAggregate))
+        (codes "udt") (names.uri_of spaces.CiiUnqualified)) (codes "qdt") (names.uri_of spaces.CiiQualified)) }
+{
     bind(scope, alloc, "rsm", Namespace::CiiInvoice)?;
     bind(scope, alloc, "ram", Namespace::CiiAggregate)?;
     bind(scope, alloc, "udt", Namespace::CiiUnqualified)?;

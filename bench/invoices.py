@@ -1,11 +1,11 @@
 #!/usr/bin/env python3
-"""Times `einv show` and `einv convert` beside `einv outline` of the same file, over invoices that are made here.
+"""Times `einv show`, `einv totals` and `einv convert` beside `einv outline` of the same file, over invoices that are made here.
 
     python3 bench/invoices.py [PROGRAM] [RUNS]
 
-PROGRAM is crates/einv/out/einv if it isn't given, RUNS 5. Prints two tables: invoices of 100, 1,000, 10,000 and 20,000 lines in UBL and in
+PROGRAM is crates/einv/out/einv if it isn't given, RUNS 5. Prints three tables: invoices of 100, 1,000, 10,000 and 20,000 lines in UBL and in
 CII (each made from the UBL one by `einv convert`), with the times of outline, show, and convert to either syntax, and the ratios to
-outline; and hostile invoices, with what einv answers. Each time is the best of the runs, wall clock, start-up included, output to /dev/null.
+outline; invoices with as many VAT breakdowns as lines, with the times of show and totals; and hostile invoices, with what einv answers. Each time is the best of the runs, wall clock, start-up included, output to /dev/null.
 """
 import pathlib
 import re
@@ -34,6 +34,20 @@ def line(number):
 
 def invoice(lines):
     return FRONT + "".join(line(number) for number in range(1, lines + 1)) + BACK
+
+
+SUBTOTAL = re.search(r"<cac:TaxSubtotal>.*?</cac:TaxSubtotal>", FRONT, re.S)[0]
+
+
+def rated(piece, number):
+    """The piece with a VAT rate of its own."""
+    return re.sub(r"<cbc:Percent>.*?</cbc:Percent>", "<cbc:Percent>%d.%03d</cbc:Percent>" % divmod(number, 1000), piece, count=1)
+
+
+def many_breakdowns(lines):
+    """An invoice of so many lines, each of a VAT category of its own, which has a breakdown."""
+    breakdowns = "".join(rated(SUBTOTAL, number) for number in range(1, lines + 1))
+    return FRONT.replace(SUBTOTAL, breakdowns, 1) + "".join(rated(line(number), number) for number in range(1, lines + 1)) + BACK
 
 
 def behind(mark, piece):
@@ -94,6 +108,14 @@ def main():
                 figures = " | ".join("%.3f" % seconds for seconds in times)
                 ratios = " | ".join("%.2f" % ratio for ratio in (show / outline, ubl / show, cii / show))
                 print("| %s | %d | %.2f | %s | %s |" % (syntax, lines, path.stat().st_size / 1e6, figures, ratios))
+        print("\n| Lines and breakdowns | MB | show | totals | totals / show |")
+        print("|---|---|---|---|---|")
+        for lines in (1_000, 10_000, 20_000):
+            path.write_text(many_breakdowns(lines))
+            (show, said), (totals, told) = (best([program, word, str(path)], runs) for word in ("show", "totals"))
+            if said or told:
+                print("%d breakdowns: %s %s" % (lines, said, told), file=sys.stderr)
+            print("| %d | %.2f | %.3f | %.3f | %.2f |" % (lines, path.stat().st_size / 1e6, show, totals, totals / show))
         print("\n| Hostile invoice | MB | outline | show | answer of show |")
         print("|---|---|---|---|---|")
         for name, make in HOSTILE.items():

@@ -6,6 +6,7 @@
 README.md says how a case is written. Ends with 1 where a case differs or none ran.
 """
 import json
+import os
 import pathlib
 import subprocess
 import sys
@@ -32,6 +33,17 @@ def content(value):
     return content(value["text"]) * value["times"]
 
 
+def pipe(case, end):
+    """Where one of the outputs of a case goes."""
+    if end + "_to" in case:
+        return open(case[end + "_to"], "wb")
+    if case.get(end + "_is") == "unread":
+        read, write = os.pipe()
+        os.close(read)
+        return open(write, "wb")
+    return subprocess.PIPE
+
+
 def run(program, case, folder):
     """The status and what was written to standard output and standard error."""
     for name in case.get("folders", []):
@@ -39,18 +51,18 @@ def run(program, case, folder):
     for name, value in case.get("files", {}).items():
         (folder / name).write_bytes(content(value))
     words = [content(word) for word in case["words"]]
-    pipes = {}
-    for end in ("stdout", "stderr"):
-        pipes[end] = open(case[end + "_to"], "wb") if end + "_to" in case else subprocess.PIPE
+    pipes = {end: pipe(case, end) for end in ("stdout", "stderr")}
+    before = (lambda: os.close(1)) if case.get("stdout_is") == "closed" else None
     try:
-        done = subprocess.run([program, *words], cwd=folder, stdin=subprocess.DEVNULL, timeout=SECONDS, **pipes)
+        done = subprocess.run([program, *words], cwd=folder, stdin=subprocess.DEVNULL, timeout=SECONDS,
+                              preexec_fn=before, **pipes)
         return done.returncode, done.stdout or b"", done.stderr or b""
     except subprocess.TimeoutExpired:
         return f"no end in {SECONDS} seconds", b"", b""
     finally:
-        for pipe in pipes.values():
-            if pipe != subprocess.PIPE:
-                pipe.close()
+        for opened in pipes.values():
+            if opened != subprocess.PIPE:
+                opened.close()
 
 
 def shown(value):

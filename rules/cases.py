@@ -3,6 +3,7 @@
 place.
 
     python3 rules/cases.py PROGRAM                the cases, judged by `PROGRAM check --rules FILE DOCUMENT`
+                                                  and `PROGRAM totals DOCUMENT`
     python3 rules/cases.py --saxon                the same, judged by Saxon-HE (libsaxonhe-java)
     python3 rules/cases.py .. --random N [SEED]   N invoices made at random instead
     python3 rules/cases.py .. --keep FOLDER       the documents stay in FOLDER
@@ -151,6 +152,8 @@ cac:BillingReference *BG-3
 cac:AdditionalDocumentReference *BG-24
   cbc:ID BT-122
   cbc:DocumentDescription BT-123
+  cac:Attachment
+    cbc:EmbeddedDocumentBinaryObject BT-125 @mimeCode BT-125-1
 cac:AccountingSupplierParty
   cac:Party
     cbc:EndpointID BT-34 @schemeID BT-34-1
@@ -297,6 +300,8 @@ cac:InvoiceLine *BG-25
     cbc:Name BT-153
     cac:StandardItemIdentification
       cbc:ID BT-157 @schemeID BT-157-1
+    cac:OriginCountry
+      cbc:IdentificationCode BT-159
     cac:CommodityClassification *P-158
       cbc:ItemClassificationCode BT-158 @listID BT-158-1
     cac:ClassifiedTaxCategory
@@ -335,6 +340,8 @@ rsm:SupplyChainTradeTransaction
         ram:Value BT-161
       ram:DesignatedProductClassification *P-158
         ram:ClassCode BT-158 @listID BT-158-1
+      ram:OriginTradeCountry
+        ram:ID BT-159
     ram:SpecifiedLineTradeAgreement
       ram:GrossPriceProductTradePrice
         ram:ChargeAmount BT-148
@@ -412,6 +419,7 @@ rsm:SupplyChainTradeTransaction
       ram:IssuerAssignedID BT-122
       ram:TypeCode '916'
       ram:Name BT-123
+      ram:AttachmentBinaryObject BT-125 @mimeCode BT-125-1
   ram:ApplicableHeaderTradeDelivery !
     ram:ShipToTradeParty
       ram:PostalTradeAddress
@@ -638,14 +646,14 @@ def without(*terms):
 def integrity():
     plain = of()
     for rule, place in (
-        ("BR-1", "BT-24"),
-        ("BR-2", "BT-1"),
-        ("BR-3", "BT-2"),
-        ("BR-4", "BT-3"),
-        ("BR-5", "BT-5"),
-        ("BR-6", "BT-27"),
-        ("BR-7", "BT-44"),
-        ("BR-9", "BT-40"),
+        ("BR-01", "BT-24"),
+        ("BR-02", "BT-1"),
+        ("BR-03", "BT-2"),
+        ("BR-04", "BT-3"),
+        ("BR-05", "BT-5"),
+        ("BR-06", "BT-27"),
+        ("BR-07", "BT-44"),
+        ("BR-09", "BT-40"),
         ("BR-11", "BT-55"),
         ("BR-12", "BT-106"),
         ("BR-13", "BT-109"),
@@ -658,10 +666,10 @@ def integrity():
     ):
         yield rule + ": missing", plain, {place: None}, rule
         yield rule + ": blank", plain, {place: " \n "}, rule
-    yield "BR-8", plain, without("BT-35", "BT-37", "BT-40"), "BR-8"
+    yield "BR-08", plain, without("BT-35", "BT-37", "BT-40"), "BR-08"
     yield "BR-10", plain, without("BT-52", "BT-55"), "BR-10"
-    yield "BR-12: no number", plain, {"BT-106": "230,00"}, "BR-12 BR-DEC-9"
-    yield "BR-16", plain, {"BG-25": []}, "BR-16 BR-CO-10 BR-CO-13 BR-S-8"
+    yield "BR-12: no number", plain, {"BT-106": "230,00"}, "BR-12 BR-DEC-09"
+    yield "BR-16", plain, {"BG-25": []}, "BR-16 BR-CO-10 BR-CO-13 BR-S-08"
     yield "BR-17", of({"BT-59": "Factor AG", "BT-60": "77"}), {"BT-59": None}, "BR-17"
     represented = of(REPRESENTATIVE)
     yield "BR-18", represented, {"BT-62": None}, "BR-18"
@@ -670,7 +678,7 @@ def integrity():
     yield "BR-56", represented, {"BT-63": None}, "BR-56"
     yield "BR-22", plain, {"BG-25/1/BT-129": None}, "BR-22 BR-23"
     yield "BR-22: no number", plain, {"BG-25/1/BT-129": "two"}, "BR-22"
-    yield "BR-24", plain, {"BG-25/1/BT-131": None}, "BR-24 BR-CO-10 BR-CO-13 BR-S-8"
+    yield "BR-24", plain, {"BG-25/1/BT-131": None}, "BR-24 BR-CO-10 BR-CO-13 BR-S-08"
     yield "BR-27", of({"BG-25/2/BT-146": "0.00"}), {"BG-25/2/BT-146": "-0.0001"}, "BR-27"
     yield "BR-28", of({"BG-25/2/BT-147": "1.00", "BG-25/2/BT-148": "51.00"}), {"BG-25/2/BT-148": "-51.00"}, "BR-28"
     yield "BR-29", of(PERIOD), {"BT-74": "2026-01-31"}, "BR-29"
@@ -679,14 +687,14 @@ def integrity():
     yield "BR-30", dated, {"BG-25/1/BT-134": "2027-02-01"}, "BR-30"
     reduced = of({"BG-20": [allowance()]})
     coded = edited(reduced, {"BG-20/1/BT-97": None, "BG-20/1/BT-98": "95"})
-    yield "BR-31", reduced, {"BG-20/1/BT-92": None}, "BR-31 BR-CO-11 BR-S-8"
-    yield "BR-32", reduced, {"BG-20/1/BT-95": None}, "BR-32 BR-S-8"
+    yield "BR-31", reduced, {"BG-20/1/BT-92": None}, "BR-31 BR-CO-11 BR-S-08"
+    yield "BR-32", reduced, {"BG-20/1/BT-95": None}, "BR-32 BR-S-08"
     yield "BR-33, BR-CO-21", reduced, {"BG-20/1/BT-97": None}, "BR-33 BR-CO-21"
     yield "BR-33, BR-CO-21: a code", coded, {"BG-20/1/BT-98": " "}, "BR-33 BR-CO-21"
     charged = of({"BG-21": [charge()]})
     coded = edited(charged, {"BG-21/1/BT-104": None, "BG-21/1/BT-105": "FC"})
-    yield "BR-36", charged, {"BG-21/1/BT-99": None}, "BR-36 BR-CO-12 BR-S-8"
-    yield "BR-37", charged, {"BG-21/1/BT-102": None}, "BR-37 BR-S-8"
+    yield "BR-36", charged, {"BG-21/1/BT-99": None}, "BR-36 BR-CO-12 BR-S-08"
+    yield "BR-37", charged, {"BG-21/1/BT-102": None}, "BR-37 BR-S-08"
     yield "BR-38, BR-CO-22", charged, {"BG-21/1/BT-104": None}, "BR-38 BR-CO-22"
     yield "BR-38, BR-CO-22: a code", coded, {"BG-21/1/BT-105": None}, "BR-38 BR-CO-22"
     inner = of({"BG-25/1/BG-27": [LINE_ALLOWANCE], "BG-25/1/BG-28": [LINE_CHARGE]})
@@ -696,16 +704,17 @@ def integrity():
     yield "BR-44, BR-CO-24", inner, {"BG-25/1/BG-28/1/BT-144": None}, "BR-44 BR-CO-24"
     yield "BR-45", plain, {"BG-23/1/BT-116": None}, "BR-45"
     yield "BR-46", plain, {"BG-23/1/BT-117": None}, "BR-46 BR-CO-14"
-    yield "BR-47", plain, {"BG-23/1/BT-118": None}, "BR-47 BR-S-1"
+    yield "BR-47", plain, {"BG-23/1/BT-118": None}, "BR-47 BR-S-01"
     yield "BR-48", plain, {"BG-23/1/BT-119": None}, "BR-48"
     yield "BR-49", plain, {"BT-81": None}, "BR-49"
     yield "BR-50", of({"BT-81": "42"}), {"BG-17/1/BT-84": None}, "BR-50"
     two = of({"BT-81": "42", "BG-17/2": {"BT-84": "DE1", "BT-85": "Nord"}})
     yield "BR-50: the second", two, {"BG-17/2/BT-84": None}, "BR-50"
     card = of({"BT-81": "48", "BG-17": None, "BT-87": "XXXXXXXXXXXX1234", "BT-88": "A. Nord"})
-    yield "BR-51", card, {"BT-87": None}, "BR-51"
-    yield "BR-51: no digits", card, {"BT-87": "1234XXXX"}, "BR-51"
-    yield "BR-51: three digits", edited(card, {"BT-87": "1234"}), {"BT-87": "234"}, "BR-51"
+    yield "BR-51", card, {"BT-87": "4012345612345678"}, "BR-51"
+    yield "BR-51: seven first", edited(card, {"BT-87": "4012 34XX XXXX 1234"}), {"BT-87": "4012 345X XXXX 1234"}, "BR-51"
+    yield "BR-51: five last", edited(card, {"BT-87": "1234"}), {"BT-87": "401234******12345"}, "BR-51"
+    yield "BR-51: digits inside", edited(card, {"BT-87": "401234-1234"}), {"BT-87": "4012XX1XX1234"}, "BR-51"
     yield "BR-52", of({"BG-24": [{"BT-122": "Time sheet", "BT-123": "Hours"}]}), {"BG-24/1/BT-122": None}, "BR-52"
     yield "BR-53", of({"BT-6": "SEK", "BT-111": "497.31"}), {"BT-111": None}, "BR-53"
     yield "BR-53: the same currency", of({"BT-6": "EUR"}), {"BT-6": "SEK"}, "BR-53"
@@ -727,12 +736,12 @@ def integrity():
 
 def conditions():
     plain = of()
-    yield "BR-CO-3", of({"BT-8": "35"}), {"BT-7": "2026-03-01"}, "BR-CO-3"
-    yield "BR-CO-3: the other way", of({"BT-7": "2026-03-01"}), {"BT-8": "432"}, "BR-CO-3"
-    yield "BR-CO-4", plain, {"BG-25/1/BT-151": None}, "BR-CO-4 BR-S-8"
-    yield "BR-CO-9: seller", of({"BT-31": "EL123456789"}), {"BT-31": "123456789"}, "BR-CO-9"
-    yield "BR-CO-9: buyer", of({"BT-48": "XI123456789"}), {"BT-48": "fr12345678901"}, "BR-CO-9"
-    yield "BR-CO-9: representative", of(REPRESENTATIVE), {"BT-63": "XX12345678901"}, "BR-CO-9"
+    yield "BR-CO-03", of({"BT-8": "35"}), {"BT-7": "2026-03-01"}, "BR-CO-03"
+    yield "BR-CO-03: the other way", of({"BT-7": "2026-03-01"}), {"BT-8": "432"}, "BR-CO-03"
+    yield "BR-CO-04", plain, {"BG-25/1/BT-151": None}, "BR-CO-04 BR-S-08"
+    yield "BR-CO-09: seller", of({"BT-31": "EL123456789"}), {"BT-31": "123456789"}, "BR-CO-09"
+    yield "BR-CO-09: buyer", of({"BT-48": "XI123456789"}), {"BT-48": "fr12345678901"}, "BR-CO-09"
+    yield "BR-CO-09: representative", of(REPRESENTATIVE), {"BT-63": "XX12345678901"}, "BR-CO-09"
     yield "BR-CO-10", plain, {"BT-106": "230.01"}, "BR-CO-10"
     reduced = of({"BG-20": [allowance(), allowance("1.50")], "BG-21": [charge(), charge("0.25")]})
     yield "BR-CO-11", reduced, {"BT-107": "11.51"}, "BR-CO-11 BR-CO-13"
@@ -747,15 +756,19 @@ def conditions():
     yield "BR-CO-16", paid, {"BT-115": "199.99"}, "BR-CO-16"
     yield "BR-CO-16: paid", paid, {"BT-113": "73.71"}, "BR-CO-16"
     yield "BR-CO-16: rounding", paid, {"BT-114": None}, "BR-CO-16"
-    yield "BR-CO-17", plain, {"BG-23/1/BT-117": "43.71"}, "BR-CO-14 BR-CO-17 BR-S-9"
+    near = "BR-CO-14 BR-CO-17-exact BR-S-09-exact"
+    yield "BR-CO-17-exact", plain, {"BG-23/1/BT-117": "43.71"}, near
+    yield "BR-CO-17: just below 1", plain, {"BG-23/1/BT-117": "44.69"}, near
+    yield "BR-CO-17: 1", plain, {"BG-23/1/BT-117": "44.70"}, "BR-CO-14 BR-CO-17 BR-S-09"
+    yield "BR-CO-17: 1 less", plain, {"BG-23/1/BT-117": "42.70"}, "BR-CO-14 BR-CO-17 BR-S-09"
     # 0.50 at 19 % is 0.095: 0.09 and 0.10 are its two roundings.
     half = of({"BG-25": [line("1", "1", "0.50", "0.50")]})
-    yield "BR-CO-17: half a cent", half, {"BG-23/1/BT-117": "0.08"}, "BR-CO-14 BR-CO-17 BR-S-9"
+    yield "BR-CO-17: half a cent", half, {"BG-23/1/BT-117": "0.08"}, near
     yield "BR-CO-17: half a cent, down", half, {"BG-23/1/BT-117": "0.09"}, "BR-CO-14"
     negative = of({"BG-25": [line("1", "-1", "0.50", "-0.50")]})
-    yield "BR-CO-17: half a cent less", negative, {"BG-23/1/BT-117": "-0.11"}, "BR-CO-14 BR-CO-17 BR-S-9"
+    yield "BR-CO-17: half a cent less", negative, {"BG-23/1/BT-117": "-0.11"}, near
     yield "BR-CO-17: half a cent less, up", negative, {"BG-23/1/BT-117": "-0.09"}, "BR-CO-14"
-    yield "BR-CO-18", plain, {"BG-23": []}, "BR-CO-14 BR-CO-18 BR-S-1"
+    yield "BR-CO-18", plain, {"BG-23": []}, "BR-CO-14 BR-CO-18 BR-S-01"
     yield "BR-CO-19", of({"BT-73": "2026-02-01"}), {"BT-73": " "}, "BR-CO-19"
     yield "BR-CO-20", of({"BG-25/2/BT-135": "2026-02-01"}), {"BG-25/2/BT-135": " "}, "BR-CO-20"
     yield "BR-CO-25", plain, {"BT-9": None}, "BR-CO-25"
@@ -804,8 +817,8 @@ def decimals():
         (27, "BG-25/1/BG-28/1/BT-141"),
         (28, "BG-25/1/BG-28/1/BT-142"),
     ):
-        yield "BR-DEC-%d" % number, full, {place: of_place[place] + "0"}, "BR-DEC-%d" % number
-    yield "BR-DEC-2: no number", full, {"BG-20/1/BT-93": "100,00"}, "BR-DEC-2"
+        yield "BR-DEC-%02d" % number, full, {place: of_place[place] + "0"}, "BR-DEC-%02d" % number
+    yield "BR-DEC-02: no number", full, {"BG-20/1/BT-93": "100,00"}, "BR-DEC-02"
     yield "BR-DEC-25: an exponent", full, {"BG-25/1/BG-27/1/BT-137": "5e1"}, "BR-DEC-25"
     spaced = edited(full, {"BG-25/1/BG-28/1/BT-142": " 50.00 "})
     yield "BR-DEC-28: white space", spaced, {"BG-25/1/BG-28/1/BT-142": " 50.001 "}, "BR-DEC-28"
@@ -820,8 +833,8 @@ CATEGORIES = {
     "K": ("IC", "0", "19", ("BT-31", "BT-48")),
     "G": ("G", "0", "19", ("BT-31",)),
     "O": ("O", None, "0", ()),
-    "L": ("IG", "7", "-7", ("BT-31",)),
-    "M": ("IP", "4", "-4", ("BT-31",)),
+    "L": ("AF", "7", "-7", ("BT-31",)),
+    "M": ("AG", "4", "-4", ("BT-31",)),
 }
 
 
@@ -831,17 +844,20 @@ def category(code):
     taxed, free = code in TAXED, code == "O"
 
     def due(*numbers, also=""):
-        return " ".join(["BR-%s-%d" % (word, number) for number in numbers] + also.split())
+        return " ".join(["BR-%s-%02d" % (word, number) for number in numbers] + also.split())
 
-    # Its lines alone; and an allowance or a charge of it beside a line of the split payment (B), of which no rule here
-    # speaks. Category O doesn't stand beside others.
+    # Its lines alone; and an allowance or a charge of it beside a line of the split payment (B) inside Italy, which asks
+    # for nobody to be identified. What is standard rated doesn't stand beside that, so its line is zero rated (Z), which
+    # asks for the same as it does. Category O doesn't stand beside others.
     common = ({"BT-48": "FR12345678901"} if "BT-48" in wanted else {}) | (NOBODY if free else {})
     common |= {"BT-72": "2026-02-27", "BT-80": "FR"} if code == "K" else {}
     lines = [line("1", "2", "90.00", "180.00", code, rate), line("2", "1", "50.00", "50.00", code, rate)]
-    others = lines if free else [line("1", "2", "90.00", "180.00", "B", "0")]
+    others = lines if free else [line("1", "2", "90.00", "180.00", "Z" if code == "S" else "B", "0")]
+    beside = "BR-Z-02" if code == "S" else ""
     invoice = of(common | {"BG-25": lines})
-    reduced = of(common | {"BG-25": others, "BG-20": [allowance(category=code, rate=rate)]})
-    charged = of(common | {"BG-25": others, "BG-21": [charge(category=code, rate=rate)]})
+    outer = common if code in ("S", "O") else common | {"BT-40": "IT", "BT-55": "IT"}
+    reduced = of(outer | {"BG-25": others, "BG-20": [allowance(category=code, rate=rate)]})
+    charged = of(outer | {"BG-25": others, "BG-21": [charge(category=code, rate=rate)]})
 
     coded = "BR-47 BR-48" if free else "BR-47"
     place = "BG-23/1/BT-118" if free else "BG-23/2/BT-118"
@@ -856,15 +872,16 @@ def category(code):
             for person in {"BT-31": "DE1"}, {"BT-48": "FR1"}, REPRESENTATIVE:
                 yield "%s: %s" % (due(number), min(person)), good, person, due(*sorted({2, number}))
             continue
+        unknown = due(number, also=beside if number != 2 else "")
         for term in wanted:
-            yield "%s: %s" % (due(number), term), good, {term: None}, due(number)
+            yield "%s: %s" % (due(number), term), good, {term: None}, unknown
         nobody = {term: None for term in REPRESENTATIVE}
         if code in ("K", "G"):
             # The tax registration identifier (BT-32) isn't enough.
-            yield due(number) + ": BT-63", edited(good, LOCAL | REPRESENTATIVE), nobody, due(number)
+            yield due(number) + ": BT-63", edited(good, LOCAL | REPRESENTATIVE), nobody, unknown
         else:
-            yield due(number) + ": BT-32", edited(good, LOCAL), {"BT-32": None}, due(number)
-            yield due(number) + ": BT-63", edited(good, NOBODY | REPRESENTATIVE), nobody, due(number)
+            yield due(number) + ": BT-32", edited(good, LOCAL), {"BT-32": None}, unknown
+            yield due(number) + ": BT-63", edited(good, NOBODY | REPRESENTATIVE), nobody, unknown
         if code == "AE":
             yield due(number) + ": BT-47", edited(good, {"BT-48": None, "BT-47": "5"}), {"BT-47": None}, due(number)
 
@@ -877,12 +894,25 @@ def category(code):
     if code in ("L", "M"):
         untaxed = of({"BG-25": [line("1", "1", "9.00", "9.00", code, "0")]})
         yield due(5) + ": rate 0", untaxed, {"BG-25/1/BT-152": "-0.1"}, due(5, 8)
-    # A cent more of base doesn't change the tax.
-    yield due(8), invoice, {"BG-23/1/BT-116": "230.01"}, due(8)
-    yield due(8) + ": allowance", reduced, {"BG-20/1/BT-92": "10.01"}, due(8, also="BR-CO-11")
-    yield due(8) + ": charge", charged, {"BG-21/1/BT-99": "19.99"}, due(8, also="BR-CO-12")
-    tax = decimal.Decimal(invoice["BG-23"][0]["BT-117"]) + decimal.Decimal("0.01")
-    yield due(9), invoice, {"BG-23/1/BT-117": str(tax)}, due(9, also="BR-CO-14" if free else "BR-CO-14 BR-CO-17")
+    # A cent more of base doesn't change the tax, and 1 more by less than 1.
+    exact = "BR-%s-08-exact" % word
+    one_more = "BR-CO-17-exact BR-%s-09-exact" % word if taxed else ""
+    yield exact, invoice, {"BG-23/1/BT-116": "230.01"}, exact
+    yield exact + ": just below 1", invoice, {"BG-23/1/BT-116": "230.99"}, "%s %s" % (exact, one_more)
+    yield due(8), invoice, {"BG-23/1/BT-116": "231.00"}, due(8, also=one_more)
+    yield due(8) + ": 1 less", invoice, {"BG-23/1/BT-116": "229.00"}, due(8, also=one_more)
+    yield exact + ": allowance", reduced, {"BG-20/1/BT-92": "10.01"}, exact + " BR-CO-11"
+    yield exact + ": charge", charged, {"BG-21/1/BT-99": "19.99"}, exact + " BR-CO-12"
+    tax = decimal.Decimal(invoice["BG-23"][0]["BT-117"])
+    cent, whole = str(tax + decimal.Decimal("0.01")), str(tax + 1)
+    if taxed:
+        nearly = "BR-%s-09-exact BR-CO-17-exact BR-CO-14" % word
+        yield "BR-%s-09-exact" % word, invoice, {"BG-23/1/BT-117": cent}, nearly
+        yield due(9), invoice, {"BG-23/1/BT-117": whole}, due(9, also="BR-CO-14 BR-CO-17")
+    else:
+        rated = "BR-CO-14" if free else "BR-CO-14 BR-CO-17"
+        yield due(9) + ": a cent", invoice, {"BG-23/1/BT-117": cent}, due(9, also=rated if free else rated + "-exact")
+        yield due(9), invoice, {"BG-23/1/BT-117": whole}, due(9, also=rated)
     if taxed or code == "Z":
         yield due(10), invoice, {"BG-23/1/BT-120": "A reason"}, due(10)
         yield due(10) + ": a code", invoice, {"BG-23/1/BT-121": "VATEX-EU-O"}, due(10)
@@ -896,24 +926,67 @@ def category(code):
         yield due(12), invoice, {"BT-80": None}, due(12)
     if free:
         zero = {"BT-116": "0.00", "BT-117": "0.00", "BT-118": "B", "BT-119": "0"}
+        inside = {"BT-40": "IT", "BT-55": "IT"}
         yield due(11), invoice, {"BG-23/2": zero}, due(11)
         more = {"BG-25": lines + [line("3", "1", "0.00", "0.00", "O", None)]}
         more |= {"BG-20": [allowance("0.00", "O", None)], "BG-21": [charge("0.00", "O", None)]}
-        yield due(12), of(NOBODY | more), {"BG-25/3/BT-151": "B"}, due(12)
-        yield due(13), of(NOBODY | more), {"BG-20/1/BT-95": "B"}, due(13)
-        yield due(14), of(NOBODY | more), {"BG-21/1/BT-102": "B"}, due(14)
+        yield due(12), of(NOBODY | inside | more), {"BG-25/3/BT-151": "B"}, due(12)
+        yield due(13), of(NOBODY | inside | more), {"BG-20/1/BT-95": "B"}, due(13)
+        yield due(14), of(NOBODY | inside | more), {"BG-21/1/BT-102": "B"}, due(14)
+
+
+def split_payment():
+    """Category B, of which no rule asks for more."""
+    lines = [line("1", "2", "90.00", "180.00", "B", "22"), line("2", "1", "50.00", "50.00", "B", "22")]
+    italian = {"BT-31": "IT12345670017", "BT-40": "IT", "BT-55": "IT"}
+    invoice = of(italian | {"BG-25": lines})
+    yield "BR-B-01: buyer", invoice, {"BT-55": "FR"}, "BR-B-01"
+    yield "BR-B-01: seller", invoice, {"BT-40": "SM"}, "BR-B-01"
+    reduced = of(italian | {"BG-25": [line("1", "1", "9.00", "9.00", "Z", "0")], "BG-20": [allowance("1.00", "B", "22")]})
+    yield "BR-B-01: allowance", reduced, {"BT-55": "FR"}, "BR-B-01"
+    charged = of(italian | {"BG-25": [line("1", "1", "9.00", "9.00", "Z", "0")], "BG-21": [charge("1.00", "B", "22")]})
+    yield "BR-B-01: charge", charged, {"BT-55": "FR"}, "BR-B-01"
+    mixed = of(italian | {"BG-25": lines + [line("3", "1", "0.00", "0.00", "Z", "0")]})
+    yield "BR-B-02", mixed, {"BG-25/3/BT-151": "S", "BG-25/3/BT-152": "22", "BG-23/2/BT-118": "S", "BG-23/2/BT-119": "22"}, "BR-B-02"
+    for name, group, make, term in (("allowance", "BG-20", allowance, "BT-95"), ("charge", "BG-21", charge, "BT-102")):
+        beside = of(italian | {"BG-25": lines, group: [make("0.00", "Z", "0")]})
+        rate = {"BT-95": "BT-96", "BT-102": "BT-103"}[term]
+        edits = {"%s/1/%s" % (group, term): "S", "%s/1/%s" % (group, rate): "22"}
+        yield "BR-B-02: " + name, beside, edits | {"BG-23/2/BT-118": "S", "BG-23/2/BT-119": "22"}, "BR-B-02"
+
+
+def code_lists():
+    plain = of()
+    yield "BR-CL-04", plain, {"BT-5": "EUX"}, "BR-CL-04"
+    yield "BR-CL-04: small letters", plain, {"BT-5": "eur"}, "BR-CL-04"
+    yield "BR-CL-05", of({"BT-6": "EUR"}), {"BT-6": "XEU", "BT-111": "5.00"}, "BR-CL-05 BR-53 BR-CO-14 BR-CO-15"
+    yield "BR-CL-06", of({"BT-8": "432"}), {"BT-8": "4"}, "BR-CL-06"
+    yield "BR-CL-14: seller", plain, {"BT-40": "UK"}, "BR-CL-14"
+    yield "BR-CL-14: buyer", of({"BT-55": "XK"}), {"BT-55": "fr"}, "BR-CL-14"
+    yield "BR-CL-14: representative", of(REPRESENTATIVE), {"BT-69": "EL"}, "BR-CL-14"
+    yield "BR-CL-14: deliver to", of({"BT-77": "Lyon", "BT-80": "FR"}), {"BT-80": "FRA"}, "BR-CL-14"
+    yield "BR-CL-15", of({"BG-25/2/BT-159": "JP"}), {"BG-25/2/BT-159": "JA"}, "BR-CL-15"
+    reduced = of({"BG-20": [allowance()], "BG-21": [charge()]})
+    yield "BR-CL-17: allowance", reduced, {"BG-20/1/BT-95": "s"}, "BR-CL-17 BR-S-08"
+    yield "BR-CL-17: charge", reduced, {"BG-21/1/BT-102": "VAT"}, "BR-CL-17 BR-S-08"
+    yield "BR-CL-17: breakdown", plain, {"BG-23/1/BT-118": "H"}, "BR-CL-17 BR-S-01"
+    yield "BR-CL-18", plain, {"BG-25/2/BT-151": "IC"}, "BR-CL-18 BR-S-08"
+    attached = of({"BG-24": [{"BT-122": "Hours", "BT-125": "JVBERg==", "BT-125-1": "application/pdf"}]})
+    yield "BR-CL-24", attached, {"BG-24/1/BT-125-1": "text/html"}, "BR-CL-24"
+    yield "BR-CL-24: none", attached, {"BG-24/1/BT-125-1": None}, "BR-CL-24"
 
 
 def rates():
     """Rates that are written in two ways are one."""
     lines = [line("1", "1", "80", "80"), line("2", "1", "40", "40", rate="7.0"), line("3", "1", "5", "5", rate="7")]
-    yield "BR-S-8: two rates", of({"BG-25": lines}), {"BG-25/2/BT-152": "19"}, "BR-S-8 BR-S-8"
+    yield "BR-S-08: two rates", of({"BG-25": lines}), {"BG-25/2/BT-152": "19"}, "BR-S-08 BR-S-08"
 
 
 def all_cases():
     """Names, invoices, and the identifiers that are due; each invoice once."""
     seen = set()
-    parts = [integrity(), conditions(), decimals(), *(category(code) for code in CATEGORIES), rates()]
+    parts = [integrity(), conditions(), decimals(), code_lists()]
+    parts += [*(category(code) for code in CATEGORIES), split_payment(), rates()]
     for name, good, bad, ids in (case for part in parts for case in part):
         for what, invoice, due in (("met", good, ""), ("not met", edited(good, bad), ids)):
             if repr(invoice) not in seen:
@@ -946,15 +1019,25 @@ def spellings():
         yield "BR-CO-14: two totals", form, same_currency, '"SEK">5.00', '"EUR">5.00', "BR-CO-14 BR-CO-15"
         yield "BR-CO-19: a code", form, of({"BT-8": "35"}), period, "<cac:InvoicePeriod/>" + period, "BR-CO-19"
         yield "BR-DEC-13: no currency", form, accounted, 'currencyID="SEK">5.00', ">0.000", "BR-53 BR-DEC-13"
+        cards, mandates = "<cac:CardAccount/>" * 2, "<cac:PaymentMandate/>" * 2
+        yield "BR-66", form, plain, means, means + cards, "BR-66"
+        yield "BR-66: one", form, plain, means, means + cards[: len(cards) // 2], ""
+        yield "BR-67", form, plain, means, means + mandates, "BR-67"
+        yield "BR-67: one", form, plain, means, means + mandates[: len(mandates) // 2], ""
     row = "<cac:CreditNoteLine><cbc:ID>3</cbc:ID></cac:CreditNoteLine>"
     yield "a line of the other root", "invoice", plain, "</ubl:Invoice>", row + "</ubl:Invoice>", ""
-    yield "BR-S-8: rates with a point", "invoice", plain, ">19<", ">19.0<", ""
+    yield "BR-S-08: rates with a point", "invoice", plain, ">19<", ">19.0<", ""
     seller, paid = of(LOCAL | {"BT-30": None, "BT-29": "77"}), of({"BT-60": "77"})
     plain_id, with_scheme = "<ram:ID>77</ram:ID>", "<ram:GlobalID schemeID='0088'>77</ram:GlobalID>"
     supported = of({"BG-24": [{"BT-122": "A", "BT-123": "B"}]})
     missing, other = "A</ram:IssuerAssignedID><ram:TypeCode>916", "</ram:IssuerAssignedID><ram:TypeCode>130"
     delivered = "<ram:SpecifiedLineTradeDelivery>"
     shipped = delivered + "<ram:ShipToTradeParty><ram:PostalTradeAddress/></ram:ShipToTradeParty>"
+    means, terms = "<ram:SpecifiedTradeSettlementPaymentMeans>", "<ram:SpecifiedTradePaymentTerms>"
+    card, mandate = "<ram:ApplicableTradeSettlementFinancialCard/>", "<ram:DirectDebitMandateID>5</ram:DirectDebitMandateID>"
+    for times, word in (1, ": one"), (2, ""):
+        yield "BR-66" + word, "cii", plain, means, means + times * card, "BR-66" if times > 1 else ""
+        yield "BR-67" + word, "cii", plain, terms, terms + times * mandate, "BR-67" if times > 1 else ""
     yield "indicators 0 and 1", "cii", both, ">true<", "> 1 <", ""
     yield "indicators that say nothing", "cii", both, ">false<", "><", ""
     yield "categories in white space", "cii", plain, "Code>S<", "Code>\n S <", ""
@@ -1020,11 +1103,13 @@ def sound(chance):
         (0.3, {"BT-113": cents(1000), "BT-114": cents(100)}),
         (0.3, {"BG-3": [{"BT-25": "2026-0099", "BT-26": "2026-01-01"}, {"BT-25": "2026-0100", "BT-26": "2026-01-01"}]}),
         (0.3, {"BG-24": [{"BT-122": "Time sheet", "BT-123": "Hours"}]}),
-        (0.2, {"BT-81": "48", "BT-87": "XXXX1234", "BT-88": "A. Nord"}),
-        (0.2, {"BG-17": [{"BT-84": "DE1", "BT-85": "Nord"}, {"BT-84": "DE2", "BT-85": "Nord"}]}),
     ):
         if maybe(share):
             invoice |= copy.deepcopy(more)
+    # A card stands at each account, and there may be one.
+    card = {"BT-81": "48", "BT-87": "XXXX1234", "BT-88": "A. Nord"}
+    accounts = {"BG-17": [{"BT-84": "DE1", "BT-85": "Nord"}, {"BT-84": "DE2", "BT-85": "Nord"}]}
+    invoice |= copy.deepcopy(chance.choice((card, accounts, {}, {}, {})))
     return totalled(invoice)
 
 
@@ -1137,7 +1222,7 @@ def same():
     twice = [name for name, times in collections.Counter(names).items() if times > 1]
     page = (HERE / "README.md").read_text(encoding="utf-8").split("## Left out")[0]
     rows = [row for row in page.split("\n") if row.startswith("| BR-")]
-    named_there = {name for row in rows for name in re.findall(r"BR-[A-Z0-9-]*[0-9]", row.split("|")[1])}
+    named_there = {name for row in rows for name in re.findall(r"BR-[A-Z0-9-]*[0-9](?:-exact)?", row.split("|")[1])}
     missing, surplus = sorted(set(names) - named_there), sorted(named_there - set(names))
     for words, some in (("twice", twice), ("not in README.md", missing), ("in README.md alone", surplus)):
         if some:
@@ -1288,6 +1373,51 @@ def try_cases(judge, folder):
     return not wrong and not never
 
 
+# Of each total that `totals` compares the rules that say the same of it.
+TOTALS = {
+    "BT-106": ("BR-CO-10",),
+    "BT-107": ("BR-CO-11",),
+    "BT-108": ("BR-CO-12",),
+    "BT-109": ("BR-CO-13",),
+    "BT-110": ("BR-CO-14",),
+    "BT-112": ("BR-CO-15",),
+    "BT-115": ("BR-CO-16",),
+    "BT-117": ("BR-CO-17", "BR-CO-17-exact", "BR-O-09"),
+}
+
+
+def comparable(name, due):
+    """The totals of which `totals` and the rules have to say the same, in a case where these identifiers are due."""
+    terms = set(TOTALS)
+    # The rule adds up the lines, the command takes BT-106.
+    terms -= {"BT-109"} if due["BR-CO-10"] else set()
+    # The rule takes either neighbour of half a cent; without a rate it isn't judged, and the command takes 0.
+    terms -= {"BT-117"} if due["BR-48"] or "half a cent" in name else set()
+    return terms
+
+
+def try_totals(program, folder):
+    """Whether `PROGRAM totals` and the rules BR-CO-10 to BR-CO-17 agree on the cases that it reads."""
+    compared, wrong = 0, 0
+    for name, invoice, due in all_cases():
+        for form, (_, write) in FORMS.items():
+            path = folder / "totals.xml"
+            path.write_text(write(invoice), encoding="utf-8")
+            done = subprocess.run([program, "totals", path], capture_output=True, text=True)
+            if done.returncode not in (0, 1):
+                continue
+            compared += 1
+            lines = [told.split(" stated ")[0].split(" ")[-1] for told in done.stdout.splitlines()[:-1]]
+            terms = comparable(name, due)
+            found = collections.Counter(term for term in lines if term in terms)
+            wanted = collections.Counter({term: sum(due[rule] for rule in TOTALS[term]) for term in terms})
+            if found != +wanted:
+                wrong += 1
+                print("%s (%s): totals tells %s; rules %s" % (name, form, listed(found), listed(+wanted)))
+    print("%d documents compared with totals; %d wrong" % (compared, wrong))
+    return compared > 0 and not wrong
+
+
 def try_random(judge, folder, times, seed):
     chance = random.Random(seed)
     invoices = []
@@ -1330,6 +1460,8 @@ def main():
                 fine &= try_random(judge, folder, times, seed)
             else:
                 fine &= try_cases(judge, folder)
+                if words[0] != "--saxon":
+                    fine &= try_totals(words[0], folder)
     sys.exit(0 if fine else 1)
 
 

@@ -78,6 +78,12 @@ floor 2.5 > 2
 floor -0.000000000000000001 > -1
 floor -999999999999999999.5 > Overflow
 floor 999999999999999999.999999999999999999 > 999999999999999999
+to_hundredth 2.005 > 2.01
+to_hundredth 2.004999999999999999 > 2
+to_hundredth -2.005 > -2.01
+to_hundredth -0.004 > 0
+to_hundredth 999999999999999999.994 > 999999999999999999.99
+to_hundredth 999999999999999999.995 > Overflow
 ceiling -2.5 > -2
 ceiling 0.000000000000000001 > 1
 ceiling 999999999999999999.5 > Overflow
@@ -142,6 +148,7 @@ fn push_of_one(line: &mut String, call: &str, x: &Dec) -> Result<(), AllocError>
         "round" => push_outcome(line, x.round()),
         "floor" => push_outcome(line, x.floor()),
         "ceiling" => push_outcome(line, x.ceiling()),
+        "to_hundredth" => push_outcome(line, x.to_hundredth()),
         "neg" => push_number(line, &x.neg()),
         _ => push_number(line, &x.abs()),
     }

@@ -9,6 +9,8 @@ mod inv_base_cases;
 #[cfg(test)]
 mod inv_decimal_cases;
 #[cfg(test)]
+mod pattern_cases;
+#[cfg(test)]
 mod texts;
 #[cfg(test)]
 mod xml_write_cases;

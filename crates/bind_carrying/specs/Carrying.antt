@@ -1,7 +1,8 @@
--- Whether a table can carry an invoice: the least of eight conditions that fails, and the first entry in listing order at which it does. Reading the
+-- Whether a table can carry an invoice: the least of nine conditions that fails, and the first entry in listing order at which it does. Reading the
 -- document back isn't spoken of.
 use Rattle.std.specs.Prelude.{ℕ, ◌+◌, ◌==◌, nat_lt, Bool, true, false, not, ◌&&◌, ◌||◌, List, [], ◌∷◌, codes, bytes_eq, encode_utf8_all, find, length, Option, Some, None, is_some, is_none, option_map, Result, Ok, Err, if◌then◌else◌}
 use Rattle.term_table.specs.declared.terms.Term.{Term}
+use Rattle.term_table.specs.SemanticModel.{is_extension}
 use Rattle.term_table.specs.Contexts.{root_context}
 use Rattle.inv_terms.specs.declared.entries.Entry.{Entry}
 use Rattle.inv_terms.specs.declared.values.Value.{Value}
@@ -125,6 +126,15 @@ is_too_large rows es =
     nat_lt 16777216 (length (encode_utf8_all (document_text rows es)))
     || (nat_lt 262144 (longest (canonical_tags (declarations_for rows) (document_of rows es))) || nat_lt 1000000 (node_count (document_of rows es)))
 
+-- ---- 9: a term that a user's table adds, of which the table has no row
+
+-- No well-formed table has a row of such a term yet.
+abbrev pub is_unplaced : Entry → Bool
+is_unplaced e = is_extension e.term
+
+abbrev pub first_unplaced : List Entry → Option NotCarried
+first_unplaced es = option_map (λ (e : Entry). record { condition = 9; term = Some e.term }) (find is_unplaced es)
+
 -- ---- the least condition that fails, and its first entry
 
 abbrev pub fails : Condition → Which → List Entry → Entry → Bool
@@ -167,18 +177,20 @@ first_failing (condition ∷ conditions) table es = told condition (first_term (
 abbrev pub entries_fail : List Row → List Entry → Option NotCarried
 entries_fail rows es = first_failing all_conditions (which_of rows) es
 
-abbrev pub size_carried : Bool → Result (Unit {0}) NotCarried
-size_carried true = Err (record { condition = 8; term = None })
-size_carried false = Ok tt
+-- conditions 8 and 9
+abbrev pub rest_carried : Bool → Option NotCarried → Result (Unit {0}) NotCarried
+rest_carried true unplaced = Err (record { condition = 8; term = None })
+rest_carried false (Some fault) = Err fault
+rest_carried false None = Ok tt
 
-abbrev pub answer : Option NotCarried → Bool → Result (Unit {0}) NotCarried
-answer (Some fault) large = Err fault
-answer None large = size_carried large
+abbrev pub answer : Option NotCarried → Bool → Option NotCarried → Result (Unit {0}) NotCarried
+answer (Some fault) large unplaced = Err fault
+answer None large unplaced = rest_carried large unplaced
 
--- Whether they keep these conditions.
+-- Whether the entries keep all conditions but the eighth, on the size of the whole document.
 abbrev pub entries_carried : List Row → List Entry → Result (Unit {0}) NotCarried
-entries_carried rows es = answer (entries_fail rows es) false
+entries_carried rows es = answer (entries_fail rows es) false (first_unplaced es)
 
 -- Whether the table carries the invoice.
 abbrev pub carrying : List Row → List Entry → Result (Unit {0}) NotCarried
-carrying rows es = answer (entries_fail rows es) (is_too_large rows es)
+carrying rows es = answer (entries_fail rows es) (is_too_large rows es) (first_unplaced es)

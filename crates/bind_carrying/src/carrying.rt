@@ -1,4 +1,4 @@
-ghost use Rattle.std.specs.Prelude.{◌≡◌, ◌<◌, ℕ, nat_lt, List, true};
+ghost use Rattle.std.specs.Prelude.{◌≡◌, ◌<◌, ℕ, nat_lt, List, true, false};
 ghost use Rattle.inv_base.specs.Counts.{last_count};
 ghost use Rattle.xml_write.specs.Sizes.{stopped};
 ghost use Rattle.std.specs.List.{list_all};
@@ -21,7 +21,7 @@ use xml_write::Gauge;
 /// Why a table can't carry an invoice.
 #[derive(Clone, Copy, PartialEq, Eq)]
 pub struct NotCarried {
-    /// The least condition that fails, from 1 to 8.
+    /// The least condition that fails, from 1 to 9.
     pub condition: u8,
     /// The term of the first entry at which it fails. None at condition 8, which is of the whole document.
     pub term: Option<Term>,
@@ -64,6 +64,22 @@ fn first_failing(conditions: &[Condition], table: Which, i: &Invoice) -> Option<
     None
 }
 
+/// The first entry of a term that a user's table adds: no table has a row of one yet.
+fn first_unplaced(i: &Invoice) -> Option<NotCarried>
+    ensures { result ≡ spec.first_unplaced i.now }
+{
+    let entries = i.entries();
+    'entries: for e in entries {
+        if e.term.is_extension() {
+            return Some(NotCarried {
+                condition: 9,
+                term: Some(e.term),
+            });
+        }
+    }
+    None
+}
+
 /// Whether a table can carry an invoice. Else the least condition that fails, with the term of the first entry at which it does; condition
 /// 8, on the size of the whole document, has no term. It takes no memory.
 pub fn carries(i: &Invoice, b: &Binding) -> Result<(), NotCarried>
@@ -73,13 +89,14 @@ pub fn carries(i: &Invoice, b: &Binding) -> Result<(), NotCarried>
 {
     match first_failing(&CONDITIONS, which_of(b), i) {
         Some(fault) => Err(fault),
-        None => size_carried(&measure(i, b)),
+        None => rest_carried(&measure(i, b), first_unplaced(i)),
     }
 }
 
-/// Whether a document of these sizes keeps the limits on documents that are read.
-fn size_carried(sizes: &Gauge) -> Result<(), NotCarried>
-    ensures { (rows : List Row) (es : List Entry) → HasSizes rows es sizes.now → result ≡ spec.size_carried (spec.is_too_large rows es) }
+/// Whether a document of these sizes keeps the limits on documents that are read, and else no entry is unplaced.
+fn rest_carried(sizes: &Gauge, unplaced: Option<NotCarried>) -> Result<(), NotCarried>
+    ensures { (rows : List Row) (es : List Entry) → HasSizes rows es sizes.now
+        → result ≡ spec.rest_carried (spec.is_too_large rows es) unplaced }
 {
     if passes(sizes.bytes, LARGEST_DOCUMENT)
         || passes(sizes.longest_tag, LONGEST_TAG)
@@ -90,7 +107,16 @@ fn size_carried(sizes: &Gauge) -> Result<(), NotCarried>
             term: None,
         })
     } else {
-        Ok(())
+        all_placed(unplaced)
+    }
+}
+
+fn all_placed(unplaced: Option<NotCarried>) -> Result<(), NotCarried>
+    ensures { result ≡ spec.rest_carried false unplaced }
+{
+    match unplaced {
+        Some(fault) => Err(fault),
+        None => Ok(()),
     }
 }
 

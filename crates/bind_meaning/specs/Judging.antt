@@ -10,16 +10,16 @@ use Rattle.term_table.specs.declared.terms.Letter.TheVariants as letters
 use Rattle.term_table.specs.declared.terms.Term.{Term}
 use Rattle.inv_terms.specs.declared.values.Value.{Value}
 use Rattle.term_table.specs.declared.contexts.Context.{Context}
-use Rattle.inv_lacks.specs.declared.lacks.Name.{Name}
-use Rattle.inv_lacks.specs.declared.lacks.Name.TheVariants as names
-use Rattle.inv_lacks.specs.declared.lacks.TermFault.TheVariants as lacks
-use Rattle.inv_lacks.specs.declared.lacks.TermFault.{TermFault}
+use Rattle.inv_terms.specs.declared.lacks.Name.{Name}
+use Rattle.inv_terms.specs.declared.lacks.Name.TheVariants as names
+use Rattle.inv_terms.specs.declared.lacks.TermFault.TheVariants as lacks
+use Rattle.inv_terms.specs.declared.lacks.TermFault.{TermFault}
 use Rattle.term_table.specs.Contexts.{same_context, is_inside}
 use Rattle.term_table.specs.declared.contexts.Seat.{Seat}
 use Rattle.term_table.specs.SemanticModel.{same_term}
 use Rattle.inv_terms.specs.Values.{trimmed, same_value}
-use Rattle.inv_lacks.specs.Lacking.{first_missing}
-use Rattle.inv_lacks.specs.Validity.{list_of, code_in, is_outside}
+use Rattle.inv_terms.specs.Lacking.{first_missing}
+use Rattle.inv_terms.specs.Validity.{list_of, code_in, is_outside}
 use Rattle.node_arena.specs.Moves.{last_inside}
 use Rattle.bind_rows.specs.declared.rows.Repeats.{Repeats}
 use Rattle.bind_rows.specs.declared.rows.Repeats.TheVariants as repeats

@@ -3,7 +3,7 @@ use Rattle.std.specs.Prelude.{ℕ, Bool, true, false, List, [], Option, Some, No
 use Rattle.std.specs.Str.{bytes_eq}
 use Rattle.inv_base.specs.Tree.{Name, Node}
 use Rattle.bind_rows.specs.declared.names.ElementName.{ElementName}
-use Rattle.bind_names.specs.Namespaces.{uri_of}
+use Rattle.bind_rows.specs.Namespaces.{uri_of}
 
 -- The local names are compared first, since they differ sooner.
 abbrev pub is_spelled : List ℕ → List ℕ → Name → Bool

@@ -23,7 +23,7 @@ use Rattle.bind_rows.specs.declared.rows.Content.TheVariants as contents
 use Rattle.bind_rows.specs.declared.rows.Written.{Written}
 use Rattle.bind_rows.specs.declared.rows.Written.TheVariants as written
 use Rattle.bind_table.specs.Lines.{Plan, Cell, nothing, a_line, plan_of}
-use Rattle.bind_names.specs.Namespaces.{uri_of}
+use Rattle.bind_rows.specs.Namespaces.{uri_of}
 use Rattle.bind_meaning.specs.Values.{letter_of}
 use Rattle.bind_meaning.specs.Picks.{has_any_term, term_in}
 use Rattle.bind_meaning.specs.Currencies.{invoice_currency, accounting_currency, currency_id}

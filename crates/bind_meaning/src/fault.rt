@@ -1,4 +1,4 @@
-use inv_lacks::Name;
+use inv_terms::Name;
 use node_arena::NodeId;
 
 /// Why a document isn't an invoice of a table. Of several kinds at one node and row the first of this order counts.

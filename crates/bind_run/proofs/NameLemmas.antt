@@ -9,7 +9,7 @@ use Rattle.std.proofs.lemmas.Str.Ascii.{IsAscii-nil, IsAscii-cons, encodes-IsAsc
 use Rattle.std.proofs.lemmas.Slice.Eq.{bytes_eq-Decides}
 use Rattle.bind_rows.specs.declared.names.Namespace.{Namespace}
 use Rattle.bind_rows.specs.declared.names.Namespace.TheVariants as spaces
-use Rattle.bind_names.specs.Namespaces.{uri_of}
+use Rattle.bind_rows.specs.Namespaces.{uri_of}
 use Rattle.bind_run.specs.Ascii.{is_ascii}
 use lib.Utf8.{encodes}
 

@@ -10,12 +10,12 @@ use Rattle.code_lists.specs.CodeFiles.{Lists}
 use Rattle.term_table.specs.declared.terms.Term.{Term}
 use Rattle.term_table.specs.declared.contexts.Seat.{Seat}
 use Rattle.term_table.specs.Contexts.{same_context, outer_context}
-use Rattle.inv_lacks.specs.declared.lacks.Lack.{Lack}
-use Rattle.inv_lacks.specs.Lacking.{first_missing}
+use Rattle.inv_terms.specs.declared.lacks.Lack.{Lack}
+use Rattle.inv_terms.specs.Lacking.{first_missing}
 use Rattle.node_arena.specs.Document.{Document, AreNumbered}
 use Rattle.node_arena.specs.Moves.{tree_nodes}
 use Rattle.node_arena.proofs.FoundLemmas.{AreInOrder}
-use Rattle.bind_faults.proofs.NodeLists.{ordered, long}
+use Rattle.bind_terms.proofs.NodeLists.{ordered, long}
 use Rattle.bind_run.specs.declared.reading.ReadInvoice.{ReadInvoice}
 use Rattle.bind_run.specs.Reading.{Reads}
 use Rattle.bind_rows.specs.declared.rows.Row.{Row}
@@ -25,7 +25,7 @@ use Rattle.bind_meaning.specs.declared.fault.BindFault.{BindFault}
 use Rattle.bind_meaning.specs.declared.fault.BindKind.{BindKind}
 use Rattle.bind_meaning.specs.declared.fault.BindKind.TheVariants as kinds
 use Rattle.bind_meaning.specs.declared.picked.Seated.{Seated}
-use Rattle.inv_lacks.specs.declared.lacks.Name.TheVariants as names
+use Rattle.inv_terms.specs.declared.lacks.Name.TheVariants as names
 use Rattle.bind_meaning.specs.Elements.{string_at, is_one_of}
 use Rattle.inv_terms.specs.Values.{trimmed}
 use Rattle.bind_meaning.specs.Picks.{Pick, has_any_term}

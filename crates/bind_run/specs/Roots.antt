@@ -1,10 +1,10 @@
 -- Which syntax a document is written in, by the expanded name of its root (CEN/TS 16931-3-2 and 16931-3-3).
 use Rattle.std.specs.Prelude.{List, Option, Some, None, Result, Ok, Err, option_and_then, codes, if◌then◌else◌}
 use Rattle.inv_base.specs.Tree.{Name, Node}
-use Rattle.inv_lacks.specs.declared.lacks.Name.TheVariants as lacks
+use Rattle.inv_terms.specs.declared.lacks.Name.TheVariants as lacks
 use Rattle.node_arena.specs.Moves.{tree_node}
 use Rattle.bind_rows.specs.declared.names.Namespace.TheVariants as spaces
-use Rattle.bind_names.specs.Namespaces.{uri_of}
+use Rattle.bind_rows.specs.Namespaces.{uri_of}
 use Rattle.bind_meaning.specs.declared.fault.BindKind.TheVariants as kinds
 use Rattle.bind_meaning.specs.declared.fault.BindFault.{BindFault}
 use Rattle.bind_meaning.specs.Names.{is_spelled}

@@ -1,14 +1,13 @@
 ghost use Rattle.std.specs.Prelude.{◌≡◌, true, chars, bytes_eq};
 ghost use Rattle.node_arena.specs.Moves.{tree_nodes};
-ghost use Rattle.bind_names.specs.Namespaces as namespaces;
+ghost use Rattle.bind_rows.specs.Namespaces as namespaces;
 ghost use Rattle.bind_meaning.specs.Names.{is_spelled};
 ghost use Rattle.bind_run.specs.Ascii.{is_ascii};
 ghost use Rattle.bind_run.specs.Roots as spec;
 
 use bind_meaning::{BindFault, BindKind, Which};
-use bind_names::uri_of;
-use bind_rows::Namespace;
-use inv_lacks::Name;
+use bind_rows::{Namespace, uri_of};
+use inv_terms::Name;
 use node_arena::{Doc, NodeId};
 
 fn is_word(text: &str, word: &str) -> bool

@@ -1,5 +1,5 @@
 -- In a well-formed table inner groups stand in invoice lines alone, and groups are told apart by their numbers.
-use Rattle.std.proofs.Common.{◌≡◌, ℕ, ◌+◌, zero, suc, Bool, true, false, List, [], ◌∷◌, get_or, Option, Some, None, refl, sym, ap, ◌∙◌, inl, inr}
+use Rattle.std.proofs.Common.{◌≡◌, ℕ, ◌+◌, zero, suc, Bool, true, false, ◌||◌, List, [], ◌∷◌, get_or, Option, Some, None, refl, sym, ap, ◌∙◌, inl, inr}
 use Rattle.std.specs.Prelude.{slice_get, is_none, is_some, Result, Ok, Err}
 use Rattle.std.proofs.lemmas.Bool.{false≢true, cases_Bool, and_parts, and_from}
 use Rattle.std.proofs.lemmas.List.Quantifiers.{position-Some}
@@ -9,7 +9,7 @@ use Rattle.term_table.specs.declared.terms.Term.{Term}
 use Rattle.term_table.specs.declared.terms.TermRow.{TermRow}
 use Rattle.term_table.specs.declared.terms.Letter.TheVariants as letters
 use Rattle.term_table.specs.declared.terms.Mark.TheVariants as marks
-use Rattle.term_table.specs.SemanticModel.{same_term, terms}
+use Rattle.term_table.specs.SemanticModel.{same_term, is_extension, listing_rows}
 use Rattle.term_table.specs.Groups.{same_group, parent_of, occurrence_of}
 use Rattle.term_table.specs.Contexts.{outer_group, inner_group, same_groups, stands_in}
 use Rattle.term_table.specs.Rows.{row_in, is_row_in}
@@ -126,12 +126,16 @@ fault-at all (first ∷ rows) k zero row h e =
     ap (λ (r : Row). is_unknown r r.content) (sym same) ∙ no_fault all k first (told-ok k (fault_of all k first) (first_fault_from all (k + 1) rows) h).0
 fault-at all (first ∷ rows) k (suc i) row h e = fault-at all rows (k + 1) i row (told-ok k (fault_of all k first) (first_fault_from all (k + 1) rows) h).1 e
 
-known-row : StepLaw → (term : Term) (row : Row) (inner : Group) → is_none (row_in term row.outer row.inner) ≡ false → row.inner ≡ Some inner → row.outer ≡ Some groups.InvoiceLine
+placed-term : (added lost : Bool) → (added || lost) ≡ false → lost ≡ false
+placed-term true lost h = absurd (false≢true (sym h))
+placed-term false lost h = h
+
+known-row : StepLaw → (term : Term) (row : Row) (inner : Group) → (is_extension term || is_none (row_in term row.outer row.inner)) ≡ false → row.inner ≡ Some inner → row.outer ≡ Some groups.InvoiceLine
 known-row law term row inner h e =
-    let found = some_of (row_in term row.outer row.inner) h in
-    let at = position-Some (is_row_in term row.outer row.inner) terms found.0 blank found.1 in
-    let stands = and_parts (same_term (get_or terms found.0 blank).term term) (stands_in (get_or terms found.0 blank).group row.outer row.inner) at.1 in
-    outer-is law row.outer inner (get_or terms found.0 blank).group (ap (stands_in (get_or terms found.0 blank).group row.outer) (sym e) ∙ stands.1)
+    let found = some_of (row_in term row.outer row.inner) (placed-term (is_extension term) (is_none (row_in term row.outer row.inner)) h) in
+    let at = position-Some (is_row_in term row.outer row.inner) listing_rows found.0 blank found.1 in
+    let stands = and_parts (same_term (get_or listing_rows found.0 blank).term term) (stands_in (get_or listing_rows found.0 blank).group row.outer row.inner) at.1 in
+    outer-is law row.outer inner (get_or listing_rows found.0 blank).group (ap (stands_in (get_or listing_rows found.0 blank).group row.outer) (sym e) ∙ stands.1)
 
 -- A row with a term and an inner group stands in invoice lines.
 pub nested-row : StepLaw → (rows : List Row) → first_fault_from rows 0 rows ≡ Ok tt → (i : ℕ) (row : Row) → slice_get rows i ≡ Some row → has_any_term row ≡ true

@@ -5,3 +5,11 @@ pub mod Parting
 pub mod WellFormed
 pub mod Samples
 pub mod Laid
+pub mod Picks
+pub mod Ends
+pub mod Numbering
+pub mod Fronts
+pub mod Paths
+pub mod Items
+pub mod Making
+pub mod Listings

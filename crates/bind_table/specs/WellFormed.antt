@@ -1,9 +1,11 @@
 -- Which tables are well formed: no row is ambiguous, names a term that the semantic model doesn't have in its context,
--- or stands outside its context.
+-- or stands outside its context. No row adds a term to the semantic model yet, so one of EXT-1 to EXT-99 is unknown,
+-- though it has a place in the listing order.
 use Rattle.std.specs.Prelude.{ℕ, ◌+◌, ◌==◌, nat_lt, Bool, true, false, not, ◌&&◌, ◌||◌, List, [], ◌∷◌, ◌++◌, length, take, Option, Some, None, Result, Ok, Err, is_none, codes, bytes_eq}
 use Rattle.std.specs.List.{list_all}
 use Rattle.std.specs.Cmp.Lexicographic.{pointwise}
 use Rattle.term_table.specs.declared.groups.Group.{Group}
+use Rattle.term_table.specs.SemanticModel.{is_extension}
 use Rattle.term_table.specs.Rows.{row_in}
 use Rattle.bind_rows.specs.declared.names.ElementName.{ElementName}
 use Rattle.bind_rows.specs.declared.names.Namespace.{Namespace}
@@ -31,7 +33,7 @@ is_ambiguous rows k row = clashes_from 0 rows k row
 -- ---- UnknownTerm
 
 abbrev pub is_unknown : Row → Content → Bool
-is_unknown row (contents.Term term) = is_none (row_in term row.outer row.inner)
+is_unknown row (contents.Term term) = is_extension term || is_none (row_in term row.outer row.inner)
 is_unknown row (contents.Constant text) = false
 
 -- ---- OutsideContext

@@ -12,7 +12,7 @@ use term_table::{Group, row_in};
 pub enum TableKind {
     /// Another row has its path of names, and no guard parts the two.
     Ambiguous,
-    /// It has a term that isn't one of the semantic model in its context.
+    /// It has a term that isn't one of the semantic model in its context; EXT-1 to EXT-99 aren't in any.
     UnknownTerm,
     /// Its path doesn't carry its context.
     OutsideContext,
@@ -74,7 +74,9 @@ fn is_unknown(row: &Row) -> bool
     ensures { result ≡ spec.is_unknown row.now row.now.content }
 {
     match row.content {
-        Content::Term(term) => row_in(term, row.outer, row.inner).is_none(),
+        Content::Term(term) => {
+            term.is_extension() || row_in(term, row.outer, row.inner).is_none()
+        }
         Content::Constant(_) => false,
     }
 }

@@ -31,7 +31,7 @@ use Rattle.bind_meaning.specs.Judging.{Found, Told, seat_of, first_before, Cause
 use Rattle.bind_meaning.specs.Elements.{has_element_inside}
 use Rattle.bind_meaning.specs.Terms.{in_order, constant_picks, term_picks, place_all, told, all_faults, entries, passed_over, Read, read_placed, firsts_behind}
 use Rattle.node_arena.proofs.FoundLemmas.{AreInOrder}
-use Rattle.bind_values.specs.Sayings.{FitsIts}
+use Rattle.bind_terms.specs.Sayings.{FitsIts}
 use Rattle.bind_terms.specs.declared.found.Found.{Found as Kept}
 use Rattle.bind_terms.specs.declared.firsts.First.{First}
 use Rattle.bind_terms.specs.declared.judging.Verdict.{Verdict}

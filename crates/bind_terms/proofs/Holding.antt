@@ -20,7 +20,7 @@ use Rattle.term_table.proofs.SeatLemmas.{one_seat}
 use Rattle.bind_meaning.specs.Currencies.{Currencies}
 use Rattle.bind_meaning.specs.Judging.{Found, Told, is_of_seat, first_before, fault_of, faults_behind, seat_of}
 use Rattle.bind_meaning.specs.Terms.{firsts_behind}
-use Rattle.bind_values.specs.Sayings.{FitsIts}
+use Rattle.bind_terms.specs.Sayings.{FitsIts}
 use Rattle.bind_terms.specs.declared.firsts.First.{First}
 use Rattle.bind_terms.specs.Faults.{with_found, least_of}
 use Rattle.bind_terms.specs.Telling.{seat_of_first, first_of, Entries, kept_at, told_place, arranged, is_placed, IsAtItsPlace, Holds}

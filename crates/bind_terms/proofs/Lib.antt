@@ -9,4 +9,9 @@ pub mod Pass
 pub mod Rooms
 pub mod Sound
 pub mod Tolds
-pub mod Words
+pub mod WordLemmas
+pub mod FitLemmas
+pub mod Fronts
+pub mod Images
+pub mod NodeLists
+pub mod Literals

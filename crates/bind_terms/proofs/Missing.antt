@@ -16,11 +16,11 @@ use Rattle.term_table.specs.SemanticModel.{same_term, terms}
 use Rattle.term_table.specs.Groups.{parent_of, occurrence_of}
 use Rattle.term_table.specs.Contexts.{has_context, is_inside}
 use Rattle.term_table.specs.Places.{first_row, place}
-use Rattle.inv_lacks.specs.declared.lacks.Name.{Name}
-use Rattle.inv_lacks.specs.declared.lacks.Name.TheVariants as names
-use Rattle.inv_lacks.specs.declared.lacks.TermFault.TheVariants as faults
-use Rattle.inv_lacks.specs.declared.lacks.Lack.{Lack}
-use Rattle.inv_lacks.specs.Lacking.{is_at, has, has_term, is_around, shows_its_group, stands, decided, first_decided, is_there, whole_term, is_needed, is_missing, is_slot_in, has_occurrence, is_at_least_once, lacks_group, missing_at, missing_from, first_missing}
+use Rattle.inv_terms.specs.declared.lacks.Name.{Name}
+use Rattle.inv_terms.specs.declared.lacks.Name.TheVariants as names
+use Rattle.inv_terms.specs.declared.lacks.TermFault.TheVariants as faults
+use Rattle.inv_terms.specs.declared.lacks.Lack.{Lack}
+use Rattle.inv_terms.specs.Lacking.{is_at, has, has_term, is_around, shows_its_group, stands, decided, first_decided, is_there, whole_term, is_needed, is_missing, is_slot_in, has_occurrence, is_at_least_once, lacks_group, missing_at, missing_from, first_missing}
 use Rattle.bind_meaning.specs.Seats.{Room}
 use Rattle.bind_meaning.specs.Judging.{Found, found, missing_in, missing_place, name_of}
 use Rattle.bind_meaning.specs.declared.fault.BindKind.TheVariants as kinds

@@ -18,7 +18,7 @@ use Rattle.term_table.specs.SemanticModel.{terms}
 use Rattle.term_table.specs.Contexts.{same_slot, same_context, outer_context}
 use Rattle.term_table.specs.Places.{first_row, slot_place, place}
 use Rattle.inv_terms.proofs.PushLemmas.{same_slot_itself}
-use Rattle.inv_lacks.proofs.ContextLemmas.{context_is}
+use Rattle.inv_terms.proofs.ContextLemmas.{context_is}
 use Rattle.bind_meaning.specs.declared.picked.Seated.{Seated}
 use Rattle.bind_meaning.specs.declared.picked.SeatedPick.{SeatedPick}
 use Rattle.bind_meaning.specs.Kept.{kept_seat, all_kept_seats}

@@ -22,9 +22,9 @@ use Rattle.bind_meaning.specs.Seats.{Placed, context_of}
 use Rattle.bind_meaning.specs.Values.{Said, said}
 use Rattle.bind_meaning.specs.Judging.{Found, Told, told_by, said_by, first_before, first_cause, causes, fault_of, seat_of}
 use Rattle.bind_meaning.specs.Terms.{told}
-use Rattle.bind_values.specs.declared.said.Said.{Said as Kept}
-use Rattle.bind_values.specs.Sayings.{said_of, FitsIts, AllFit}
-use Rattle.bind_faults.specs.Kinds.{kind_of}
+use Rattle.bind_terms.specs.declared.said.Said.{Said as Kept}
+use Rattle.bind_terms.specs.Sayings.{said_of, FitsIts, AllFit}
+use Rattle.bind_terms.specs.Kinds.{kind_of}
 use Rattle.bind_terms.specs.declared.firsts.First.{First}
 use Rattle.bind_terms.specs.Faults.{least_of}
 use Rattle.bind_terms.specs.Telling.{first_of, context_in, Entries, kept_at, Holds}

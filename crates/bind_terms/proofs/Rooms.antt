@@ -15,8 +15,8 @@ use Rattle.term_table.specs.declared.contexts.Seat.{Seat}
 use Rattle.term_table.specs.Contexts.{is_inside, outer_context}
 use Rattle.term_table.specs.Runs.{IsNested}
 use Rattle.node_arena.specs.Moves.{last_inside}
-use Rattle.inv_lacks.specs.declared.lacks.Lack.{Lack}
-use Rattle.inv_lacks.specs.Lacking.{first_missing}
+use Rattle.inv_terms.specs.declared.lacks.Lack.{Lack}
+use Rattle.inv_terms.specs.Lacking.{first_missing}
 use Rattle.bind_meaning.specs.declared.fault.BindKind.TheVariants as kinds
 use Rattle.bind_meaning.specs.declared.picked.Seated.{Seated}
 use Rattle.bind_meaning.specs.declared.picked.SeatedPick.{SeatedPick}

@@ -13,7 +13,7 @@ use Rattle.term_table.specs.SemanticModel.{same_term}
 use Rattle.term_table.specs.Contexts.{same_slot, same_context}
 use Rattle.term_table.proofs.SeatLemmas.{same_term_is}
 use Rattle.inv_terms.proofs.PushLemmas.{same_slot_itself}
-use Rattle.inv_lacks.proofs.ContextLemmas.{context_is}
+use Rattle.inv_terms.proofs.ContextLemmas.{context_is}
 use Rattle.bind_meaning.specs.Currencies.{Currencies}
 use Rattle.bind_meaning.specs.Seats.{context_of}
 use Rattle.bind_meaning.specs.Judging.{Found, Told, is_of_seat, first_before, fault_of, faults_behind, seat_of}

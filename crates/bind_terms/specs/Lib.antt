@@ -5,3 +5,6 @@ pub mod Reading
 pub mod Rooms
 pub mod Steps
 pub mod Telling
+pub mod Notes
+pub mod Sayings
+pub mod Kinds

@@ -8,7 +8,7 @@ use Rattle.term_table.specs.declared.contexts.Context.{Context}
 use Rattle.term_table.specs.declared.contexts.Seat.{Seat}
 use Rattle.term_table.specs.Contexts.{same_context}
 use Rattle.term_table.specs.Places.{place}
-use Rattle.inv_lacks.specs.declared.lacks.Lack.{Lack}
+use Rattle.inv_terms.specs.declared.lacks.Lack.{Lack}
 use Rattle.bind_meaning.specs.declared.fault.BindKind.TheVariants as kinds
 use Rattle.bind_meaning.specs.declared.picked.Seated.{Seated}
 use Rattle.bind_meaning.specs.Seats.{Room, each_once}

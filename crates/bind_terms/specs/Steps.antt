@@ -5,7 +5,7 @@ use Rattle.std.specs.Ordering.{nat_cmp, is_eq}
 use Rattle.std.specs.Cmp.Lexicographic.{slice_cmp}
 use Rattle.std.specs.BTreeMap.{insert_entry}
 use Rattle.term_table.specs.declared.terms.Term.{Term}
-use Rattle.inv_lacks.specs.declared.lacks.Name.TheVariants as names
+use Rattle.inv_terms.specs.declared.lacks.Name.TheVariants as names
 use Rattle.bind_rows.specs.declared.rows.Row.{Row}
 use Rattle.bind_meaning.specs.declared.fault.BindKind.{BindKind}
 use Rattle.bind_meaning.specs.declared.picked.Picked.{Picked}
@@ -20,7 +20,7 @@ use Rattle.bind_meaning.specs.Judging.{Found, found, rank, Told, told_by}
 use Rattle.bind_meaning.specs.Terms.{told}
 use Rattle.inv_base.specs.Tree.{Node}
 use Rattle.code_lists.specs.CodeFiles.{Lists}
-use Rattle.bind_values.specs.Sayings.{FitsIts}
+use Rattle.bind_terms.specs.Sayings.{FitsIts}
 use Rattle.bind_terms.specs.declared.firsts.First.{First}
 use Rattle.bind_terms.specs.Telling.{Entries, kept_at, Holds}
 

@@ -16,7 +16,7 @@ use Rattle.bind_meaning.specs.Currencies.{Currencies}
 use Rattle.bind_meaning.specs.Seats.{Placed, context_of, slot_of}
 use Rattle.bind_meaning.specs.Judging.{Found, Told, seat_of, first_before, faults_behind}
 use Rattle.bind_meaning.specs.Terms.{firsts_behind}
-use Rattle.bind_values.specs.Sayings.{FitsIts}
+use Rattle.bind_terms.specs.Sayings.{FitsIts}
 use Rattle.bind_terms.specs.declared.firsts.First.{First}
 use Rattle.bind_terms.specs.Faults.{least_of}
 

@@ -3,8 +3,8 @@ ghost use Rattle.std.specs.Prelude.{◌≡◌, ◌++◌, [], ◌∷◌, List, Al
 ghost use Rattle.inv_terms.specs.Listing.{Fits};
 ghost use Rattle.bind_terms.specs.Entries.{FitsFirst, entries_of};
 
+use crate::Said;
 use crate::firsts::First;
-use bind_values::Said;
 use inv_terms::{Entry, Invoice};
 use std::alloc::{AllocError, Global};
 

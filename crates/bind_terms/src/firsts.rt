@@ -1,5 +1,5 @@
 //! What the first pick of each term in each context said.
-use bind_values::Said;
+use crate::Said;
 use term_table::{Context, Seat, Seated};
 
 /// What a pick said, in its context.

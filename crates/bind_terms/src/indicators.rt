@@ -8,8 +8,8 @@ ghost use Rattle.bind_terms.specs.Faults.{found_of, least_of};
 ghost use Rattle.bind_terms.specs.Steps.{IsPickOfRow, HasRow};
 
 use crate::found::{Found, earlier};
+use crate::is_word;
 use crate::telling::{fault_at, row_at};
-use bind_faults::is_word;
 use bind_meaning::{BindKind, Picked};
 use bind_rows::{Check, Row};
 use bind_table::Binding;

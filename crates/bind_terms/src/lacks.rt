@@ -16,7 +16,7 @@ use crate::found::{FaultPlace, Found, earlier};
 use crate::telling::context_of;
 use bind_meaning::{BindFault, BindKind, Seated as SeatAt, SeatedPick};
 use inv_base::Steps;
-use inv_lacks::{Lack, Name, TermFault, first_missing};
+use inv_terms::{Lack, Name, TermFault, first_missing};
 use node_arena::{Doc, NodeId};
 use std::alloc::{AllocError, Global};
 use std::collections::BTreeSet;

@@ -1,12 +1,28 @@
-//! From the picks of a binding table, each with its context, to the invoice that a document is, or its first fault.
+//! From the picks of a binding table, each with its context, to the invoice that a document is, or its first fault: what
+//! strings say as values of business terms, what is wrong at one node, and all of them judged together.
 #![tactic(auto)]
 
+mod attributes;
+mod causes;
+mod checks;
+mod currency;
 mod entries;
 mod firsts;
 mod found;
 mod indicators;
+mod insides;
 mod judging;
 mod lacks;
+mod laws;
+mod notes;
+mod said;
 mod telling;
+mod values;
+mod words;
 
+pub use causes::first_cause;
+pub use insides::has_element_inside;
 pub use judging::judge;
+pub use laws::said_values_fit_their_terms;
+pub use said::{Said, Sayings, what_is_said};
+pub use words::is_word;

@@ -15,7 +15,7 @@ use Rattle.bind_rows.specs.declared.rows.Check.{Check}
 use Rattle.bind_rows.specs.declared.rows.Check.TheVariants as checks
 use Rattle.bind_table.specs.Lines.{Plan, plan_of}
 use Rattle.bind_table.specs.Limits.{HasSteps}
-use Rattle.bind_lines.specs.Picks.{picked_from, walked}
+use Rattle.bind_table.specs.Picks.{picked_from, walked}
 use Rattle.bind_meaning.specs.declared.picked.Picked.{Picked}
 use Rattle.bind_meaning.specs.Kept.{kept, all_kept}
 use Rattle.bind_meaning.specs.Picks.{Pick, Numbered, term_in, has_any_term, rows_where, all_picked}

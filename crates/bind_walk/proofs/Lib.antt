@@ -6,3 +6,7 @@ pub mod OrderLemmas
 pub mod LineLemmas
 pub mod FindLemmas
 pub mod PassLemmas
+pub mod ChainLemmas
+pub mod TrimLemmas
+pub mod LoopLemmas
+pub mod NameLemmas

@@ -10,10 +10,10 @@ use Rattle.node_arena.specs.Document.{Document}
 use Rattle.bind_rows.specs.declared.rows.Row.{Row}
 use Rattle.bind_rows.specs.declared.rows.Step.{Step}
 use Rattle.bind_table.specs.Lines.{Cell, Plan, nothing, a_line, numbers, flat, plan_of}
-use Rattle.bind_lines.specs.Ends.{End, end_at, ends, own_ends}
+use Rattle.bind_table.specs.Ends.{End, end_at, ends, own_ends}
 use Rattle.bind_walk.specs.declared.lines.FoundLine.{FoundLine}
 use Rattle.bind_walk.specs.declared.lines.FoundRow.{FoundRow}
-use Rattle.bind_guards.specs.Found.{found_element, found_guard}
+use Rattle.bind_walk.specs.Found.{found_element, found_guard}
 use Rattle.bind_walk.specs.Lines.{found_cell, found_at, row_at, found_line, lined}
 use Rattle.bind_walk.proofs.SortLemmas.{Every, every-at}
 

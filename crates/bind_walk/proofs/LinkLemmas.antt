@@ -22,13 +22,13 @@ use Rattle.bind_rows.specs.declared.guards.Test.{Test}
 use Rattle.bind_rows.specs.declared.guards.Test.TheVariants as tests
 use Rattle.bind_rows.specs.declared.guards.Guard.{Guard}
 use Rattle.bind_rows.specs.declared.rows.Row.{Row}
-use Rattle.bind_names.specs.Namespaces.{uri_of}
+use Rattle.bind_rows.specs.Namespaces.{uri_of}
 use Rattle.bind_table.specs.Lines.{Cell, Plan}
-use Rattle.bind_lines.specs.Picks.{walked, here, entered}
-use Rattle.bind_guards.specs.declared.guards.FoundGuard.{FoundGuard}
-use Rattle.bind_guards.specs.Chains.{number, numbers_of, children, attributes}
-use Rattle.bind_guards.specs.Found as found
-use Rattle.bind_guards.specs.Found.{found_element, found_leaf, found_guard, looks_for, is_positive, same_flag, some_below, is_at}
+use Rattle.bind_table.specs.Picks.{walked, here, entered}
+use Rattle.bind_walk.specs.declared.guards.FoundGuard.{FoundGuard}
+use Rattle.bind_walk.specs.Chains.{number, numbers_of, children, attributes}
+use Rattle.bind_walk.specs.Found as found
+use Rattle.bind_walk.specs.Found.{found_element, found_leaf, found_guard, looks_for, is_positive, same_flag, some_below, is_at}
 use Rattle.bind_meaning.specs.Names.{is_named, is_spelled, has_element_name, has_plain_name}
 use Rattle.bind_meaning.specs.Elements.{both, children_named, attributes_named, string_at, elements_below, leaves_at, passes, is_met, are_met}
 use Rattle.bind_meaning.specs.Picks.{filled, leaves_of}

@@ -11,7 +11,7 @@ use Rattle.bind_rows.specs.declared.rows.Step.{Step}
 use Rattle.bind_rows.specs.declared.rows.Row.{Row}
 use Rattle.bind_rows.specs.Same.{same_or_none}
 use Rattle.bind_table.specs.Lines.{Cell}
-use Rattle.bind_lines.specs.Picks.{entered, picked, picked_from}
+use Rattle.bind_table.specs.Picks.{entered, picked, picked_from}
 use Rattle.bind_meaning.specs.declared.picked.Picked.{Picked}
 use Rattle.bind_meaning.specs.Elements.{met}
 use Rattle.bind_meaning.specs.Picks.{ways, last_of, leaves_of, picks_of_way, nodes_picked, Numbered, numbered, all_picked, carrier}

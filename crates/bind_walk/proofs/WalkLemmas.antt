@@ -6,8 +6,8 @@ use Rattle.node_arena.specs.Document.{Document}
 use Rattle.node_arena.specs.Moves.{is_child}
 use Rattle.bind_rows.specs.declared.rows.Step.{Step}
 use Rattle.bind_table.specs.Lines.{Cell, Plan, nothing, a_line}
-use Rattle.bind_lines.specs.Picks.{walked}
-use Rattle.bind_guards.specs.Chains.{children, numbers_from, IsAt}
+use Rattle.bind_table.specs.Picks.{walked}
+use Rattle.bind_walk.specs.Chains.{children, numbers_from, IsAt}
 use Rattle.bind_walk.specs.declared.lines.FoundLine.{FoundLine}
 use Rattle.bind_walk.specs.declared.walk.Carried.{Carried}
 use Rattle.bind_walk.specs.declared.walk.Find.{Find}

@@ -7,7 +7,7 @@ use Rattle.node_arena.specs.Moves.{tree_nodes}
 use Rattle.bind_rows.specs.declared.rows.Row.{Row}
 use Rattle.bind_table.specs.Lines.{flat, plan_of}
 use Rattle.bind_table.specs.Limits.{HasSteps}
-use Rattle.bind_lines.specs.Picks.{picked_from, walked}
+use Rattle.bind_table.specs.Picks.{picked_from, walked}
 use Rattle.bind_meaning.specs.declared.picked.Picked.{Picked}
 use Rattle.bind_meaning.specs.Kept.{all_kept}
 use Rattle.bind_meaning.specs.Picks.{has_any_term, rows_where, all_picked}

@@ -4,3 +4,5 @@ pub mod Sorting
 pub mod Picks
 pub mod Finding
 pub mod Passing
+pub mod Found
+pub mod Chains

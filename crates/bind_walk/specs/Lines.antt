@@ -9,9 +9,9 @@ use Rattle.bind_rows.specs.declared.rows.Check.{Check}
 use Rattle.bind_rows.specs.declared.rows.Check.TheVariants as checks
 use Rattle.bind_table.specs.declared.lines.Line.{Line}
 use Rattle.bind_table.specs.Lines.{Cell, Plan, nothing, a_line}
-use Rattle.bind_guards.specs.declared.names.FoundLeaf.{FoundLeaf}
-use Rattle.bind_guards.specs.declared.names.FoundLeaf.TheVariants as founds
-use Rattle.bind_guards.specs.Found.{found_element, found_leaf, found_guard}
+use Rattle.bind_walk.specs.declared.names.FoundLeaf.{FoundLeaf}
+use Rattle.bind_walk.specs.declared.names.FoundLeaf.TheVariants as founds
+use Rattle.bind_walk.specs.Found.{found_element, found_leaf, found_guard}
 use Rattle.bind_walk.specs.declared.lines.Wanted.{Wanted}
 use Rattle.bind_walk.specs.declared.lines.Wanted.TheVariants as wants
 use Rattle.bind_walk.specs.declared.lines.End.{End}

@@ -9,7 +9,7 @@ use Rattle.node_arena.specs.Moves.{tree_nodes, tree_node, has_found, parent}
 use Rattle.bind_rows.specs.declared.rows.Row.{Row}
 use Rattle.bind_rows.specs.declared.names.ElementName.{ElementName}
 use Rattle.bind_table.specs.Lines.{Plan, nothing, a_line, plan_of}
-use Rattle.bind_guards.specs.Found.{found_element}
+use Rattle.bind_walk.specs.Found.{found_element}
 use Rattle.bind_meaning.specs.Names.{has_element_name}
 use Rattle.bind_meaning.specs.Elements.{is_element}
 use Rattle.bind_meaning.specs.Terms.{is_passed_over, way_to}

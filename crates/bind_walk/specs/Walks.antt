@@ -9,9 +9,9 @@ use Rattle.bind_rows.specs.declared.rows.Row.{Row}
 use Rattle.bind_rows.specs.declared.rows.Step.{Step}
 use Rattle.bind_rows.specs.Same.{same_or_none}
 use Rattle.bind_table.specs.Lines.{Cell, Plan}
-use Rattle.bind_lines.specs.Picks.{Sight, walked, through, here}
-use Rattle.bind_guards.specs.Chains.{attributes, children}
-use Rattle.bind_guards.specs.Found.{is_met, string_at}
+use Rattle.bind_table.specs.Picks.{Sight, walked, through, here}
+use Rattle.bind_walk.specs.Chains.{attributes, children}
+use Rattle.bind_walk.specs.Found.{is_met, string_at}
 use Rattle.bind_meaning.specs.declared.picked.Picked.{Picked}
 use Rattle.bind_meaning.specs.Elements.{met}
 use Rattle.bind_meaning.specs.Picks.{leaves_of}
@@ -24,7 +24,7 @@ use Rattle.bind_walk.specs.declared.lines.FoundLine.{FoundLine}
 use Rattle.bind_walk.specs.declared.walk.Carried.{Carried}
 use Rattle.bind_walk.specs.declared.walk.Find.{Find}
 use Rattle.bind_walk.specs.Lines.{wanted, lined, found_cell}
-use Rattle.bind_guards.specs.Found.{found_element, found_guard}
+use Rattle.bind_walk.specs.Found.{found_element, found_guard}
 
 -- ---- what was found for one reason
 

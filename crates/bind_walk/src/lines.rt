@@ -5,7 +5,7 @@ ghost use Rattle.std.specs.List.{flat_map};
 ghost use Rattle.bind_table.specs.Lines.{flat, plan_of};
 ghost use Rattle.bind_walk.specs.Lines as spec;
 
-use bind_guards::{FoundGuard, FoundLeaf, find_element, find_guards, find_leaf};
+use crate::{FoundGuard, FoundLeaf, find_element, find_guards, find_leaf};
 use bind_rows::{Check, Content, Many, Row};
 use bind_table::{Binding, Line};
 use node_arena::Doc;

@@ -8,9 +8,9 @@ ghost use Rattle.bind_walk.specs.Lines.{lined};
 ghost use Rattle.bind_walk.specs.Passing as spec;
 
 use crate::lines::FoundLine;
-use bind_guards::{chains_lead_on, has_name};
-use bind_lines::laws::same_steps_are_equal;
+use crate::{chains_lead_on, has_name};
 use bind_rows::{Many, Row};
+use bind_table::laws::same_steps_are_equal;
 use inv_base::{Kind, Steps};
 use node_arena::{Doc, NodeId, moves_lead_on, names_are_found_by_number};
 use std::alloc::{AllocError, Global};

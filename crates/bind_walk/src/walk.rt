@@ -4,11 +4,11 @@ ghost use Rattle.std.specs.Prelude.{◌≡◌, ◌<◌, ◌++◌, ◌∷◌, [],
 ghost use Rattle.std.specs.List.{flat_map, list_all};
 ghost use Rattle.node_arena.specs.Document.{node_at};
 ghost use Rattle.node_arena.specs.Moves.{has_found};
-ghost use Rattle.bind_guards.specs.Found.{is_met};
+ghost use Rattle.bind_walk.specs.Found.{is_met};
 ghost use Rattle.bind_walk.specs.Walks as spec;
 
 use crate::lines::{End, FoundLine, FoundRow, Wanted};
-use bind_guards::{are_met, chains_lead_on, has_name, is_blank_at};
+use crate::{are_met, chains_lead_on, has_name, is_blank_at};
 use bind_meaning::Picked;
 use bind_rows::is_same_or_none;
 use inv_base::Steps;

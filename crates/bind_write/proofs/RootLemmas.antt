@@ -16,7 +16,7 @@ use Rattle.bind_rows.specs.declared.rows.Step.{Step}
 use Rattle.bind_table.specs.declared.lines.Line.{Line}
 use Rattle.bind_table.specs.Lines.{Plan, Cell, nothing, a_line, flat, plan_of}
 use Rattle.bind_table.specs.Laid.{is_laid, is_laid_plan, all_writable, is_declared, are_distinct, element_numbers, all_end_apart}
-use Rattle.bind_names.specs.Namespaces.{declarations_of, declared_by}
+use Rattle.bind_rows.specs.Namespaces.{declarations_of, declared_by}
 use Rattle.bind_meaning.specs.Trees as trees
 use Rattle.bind_meaning.specs.Trees.{document_of}
 use Rattle.bind_write.specs.declared.source.Source.{Source}

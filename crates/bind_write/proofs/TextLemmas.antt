@@ -10,7 +10,7 @@ use Rattle.xml_write.specs.Calls.{call_declare, encoded}
 use Rattle.xml_write.proofs.EncodingLemmas.{encodes-qualified}
 use Rattle.bind_rows.specs.declared.names.Namespace.{Namespace}
 use Rattle.bind_rows.specs.declared.names.Namespace.TheVariants as spaces
-use Rattle.bind_names.specs.Namespaces.{prefix_of, uri_of}
+use Rattle.bind_rows.specs.Namespaces.{prefix_of, uri_of}
 use Rattle.inv_terms.specs.declared.values.Value.{Value}
 use Rattle.inv_terms.specs.Values.{spelled}
 use Rattle.bind_rows.specs.declared.names.Leaf.TheVariants as leaves

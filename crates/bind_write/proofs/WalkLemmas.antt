@@ -30,8 +30,8 @@ use Rattle.bind_rows.specs.declared.rows.Step.{Step}
 use Rattle.bind_table.specs.declared.lines.Line.{Line}
 use Rattle.bind_table.specs.Lines.{Plan, Cell, nothing, a_line, numbers}
 use Rattle.bind_table.specs.Laid.{is_declared, all_writable, is_ncname, is_writable_leaf}
-use Rattle.bind_names.specs.Namespaces as names
-use Rattle.bind_names.specs.Namespaces.{declarations_of}
+use Rattle.bind_rows.specs.Namespaces as names
+use Rattle.bind_rows.specs.Namespaces.{declarations_of}
 use Rattle.bind_meaning.specs.Currencies.{currency_id}
 use Rattle.bind_meaning.specs.Trees as trees
 use Rattle.bind_write.specs.Cells as cells

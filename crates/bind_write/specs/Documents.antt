@@ -8,7 +8,7 @@ use Rattle.xml_write.specs.Sizes.{stopped, longest, canonical_tags}
 use Rattle.bind_rows.specs.declared.names.Namespace.{Namespace}
 use Rattle.bind_rows.specs.declared.rows.Row.{Row}
 use Rattle.bind_table.specs.Lines.{Plan, nothing, a_line, plan_of}
-use Rattle.bind_names.specs.Namespaces.{declarations_of}
+use Rattle.bind_rows.specs.Namespaces.{declarations_of}
 use Rattle.bind_meaning.specs.Trees.{document_of}
 
 -- The namespace of the first line's element: in a laid table, which has one root, it says which syntax the table is of.

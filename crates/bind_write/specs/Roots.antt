@@ -11,7 +11,7 @@ use Rattle.bind_rows.specs.declared.rows.Step.{Step}
 use Rattle.bind_table.specs.declared.lines.Line.{Line}
 use Rattle.bind_table.specs.Growing.{AreLines}
 use Rattle.bind_table.specs.Lines.{Plan, Cell, a_line}
-use Rattle.bind_names.specs.Namespaces.{declarations_of, prefix_of, uri_of}
+use Rattle.bind_rows.specs.Namespaces.{declarations_of, prefix_of, uri_of}
 use Rattle.bind_meaning.specs.Trees.{spots}
 use Rattle.bind_write.specs.declared.source.Source.{Source}
 use Rattle.bind_write.specs.declared.roots.Root.{Root}

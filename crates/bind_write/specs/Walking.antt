@@ -6,7 +6,7 @@ use Rattle.xml_write.specs.Canonical.{qualified}
 use Rattle.xml_write.specs.Calls.{Call, call_start, call_end}
 use Rattle.bind_rows.specs.declared.rows.Step.{Step}
 use Rattle.bind_table.specs.Lines.{Plan, Cell, nothing, a_line}
-use Rattle.bind_names.specs.Namespaces.{prefix_of}
+use Rattle.bind_rows.specs.Namespaces.{prefix_of}
 use Rattle.bind_meaning.specs.Trees.{spots}
 use Rattle.bind_write.specs.Cells.{currency_at, attribute_at, text_of, text_calls}
 use Rattle.bind_write.specs.Holding.{standing}

@@ -10,7 +10,7 @@ use Rattle.inv_terms.specs.declared.entries.Entry.{Entry}
 use Rattle.bind_rows.specs.declared.rows.Step.{Step}
 use Rattle.bind_rows.specs.Same.{same_step}
 use Rattle.bind_table.specs.Lines.{Cell, Plan, nothing, a_line}
-use Rattle.bind_lines.proofs.SameLemmas.{step-sound}
+use Rattle.bind_table.proofs.SameLemmas.{step-sound}
 use Rattle.bind_meaning.specs.Trees.{spots, spots_of, outer_spots, inner_spots, outer_count, inner_count, or_here, is_emitted, holds_further, attributes, element_text}
 use Rattle.binding_laws.specs.Written.{Spot, emitted, at_end, spots_below}
 use Rattle.binding_laws.specs.Plain.{groups_of}

@@ -10,7 +10,7 @@ use Rattle.term_table.specs.declared.groups.Group.{Group}
 use Rattle.term_table.specs.declared.terms.Term.{Term}
 use Rattle.term_table.specs.declared.contexts.Context.{Context}
 use Rattle.term_table.specs.Contexts.{root_context, slot_group}
-use Rattle.term_table.specs.SemanticModel.{same_term}
+use Rattle.term_table.specs.SemanticModel.{same_term, is_extension}
 use Rattle.inv_terms.specs.declared.values.Value.{Value}
 use Rattle.inv_terms.specs.declared.entries.Entry.{Entry}
 use Rattle.inv_terms.specs.Values.{trimmed}
@@ -41,7 +41,7 @@ use Rattle.binding_laws.proofs.ListLemmas.{append-nil, both-true}
 use Rattle.binding_laws.proofs.CellLemmas.{own_text, own_strings}
 use Rattle.binding_laws.proofs.ReachLemmas.{Among, among-front, among-back, among-split, among-flat_map, among-filter, among-map, own-texts, Leads, reached}
 use Rattle.binding_laws.proofs.KnownLemmas.{Knows, knows-nothing}
-use Rattle.binding_laws.proofs.FormLemmas.{Laws, code_said, IsBack, whole-back, back-as}
+use Rattle.binding_laws.proofs.FormLemmas.{Laws, code_said, IsBack, whole-back, back-as, back-full}
 use Rattle.binding_laws.proofs.RowLemmas.{Place, places_at, places-spots, IsAt, ArePlaced, placed-known, placed-at, ends_at, spot-strings, string-ends}
 use Rattle.binding_laws.proofs.ValueLemmas as values
 use Rattle.binding_laws.proofs.PlainLemmas as plain_rows
@@ -221,7 +221,7 @@ module _ (law : Laws) (rows : List Row) (es : List Entry) (invoice : IsInvoice e
 
   pub full-string : (row : Row) (term : Term) (e : Entry) → Among e es → e.term ≡ term → IsBack es (form_for row.form term) e.context e.value → is_full (formed (form_for row.form term) es e.context e.value) ≡ true
   full-string row term e a t back =
-      (back-as law row.form term es e.context e.value back (subst (λ x. Fits x e.value) t (fits-among law es invoice term e es invoice.fit a))).full
+      back-full law row.form term es e.context e.value back (subst (λ x. Fits x e.value) t (fits-among law es invoice term e es invoice.fit a))
 
   -- ---- at elements
 
@@ -733,19 +733,19 @@ module _ (law : Laws) (rows : List Row) (es : List Entry) (invoice : IsInvoice e
       let m = amount-of nodes es place at n (subst (λ l. Among n (leaves_of nodes l (last_of place.way))) s.leaf leaf) in
       record { out = inl (λ c own. ap (is_in c row.written) m.0 ∙ s.out c own m.1); no_money = s.no_money; beside = s.beside }
 
-  said-as : (row : Row) (term : Term) (e : Entry) → Among e es → e.term ≡ term → IsBack es (form_for row.form term) e.context e.value → (string : List ℕ) → string ≡ formed (form_for row.form term) es e.context e.value
+  pub said-as : (row : Row) (term : Term) (e : Entry) → Among e es → e.term ≡ term → is_extension term ≡ false → IsBack es (form_for row.form term) e.context e.value → (string : List ℕ) → string ≡ formed (form_for row.form term) es e.context e.value
       → said row.form term string ≡ record { term = term; value = Some e.value } ∷ code_said (form_for row.form term) es e.context
-  said-as row term e a t back string is =
-      ap (said row.form term) is ∙ (back-as law row.form term es e.context e.value back (subst (λ x. Fits x e.value) t (fits-among law es invoice term e es invoice.fit a))).said
+  said-as row term e a t modelled back string is =
+      ap (said row.form term) is ∙ (back-as law row.form term es e.context e.value back modelled (subst (λ x. Fits x e.value) t (fits-among law es invoice term e es invoice.fit a))).said
 
   pub strings-at : (row : Row) (place : Place) → IsAt nodes es place → ends_at nodes row.leaf (last_of place.way) ≡ spot-strings row.leaf place.spot
   strings-at row place at =
       string-ends nodes row.leaf at.above (last_of place.way) at.name place.spot.attributes place.spot.text at.more at.lies place.spot refl refl
 
-  pub of-picked : (k : ℕ) (row : Row) (term : Term) → Covers row term → ((e : Entry) → Among e es → e.term ≡ term → IsBack es (form_for row.form term) e.context e.value) → (pick : Pick) → Among pick (nodes_picked nodes k row)
+  pub of-picked : (k : ℕ) (row : Row) (term : Term) → Covers row term → is_extension term ≡ false → ((e : Entry) → Among e es → e.term ≡ term → IsBack es (form_for row.form term) e.context e.value) → (pick : Pick) → Among pick (nodes_picked nodes k row)
       → IsTold pick row term ⊎ IsNotTold pick
   unfolding ends_at
-  of-picked k row term cover good pick a =
+  of-picked k row term cover modelled good pick a =
       let w = of-flat_map (picks_of_way nodes k row) pick (ways nodes row.path 0) a in
       let v = of-map (λ (q : Place). q.way) w.0 (cover.front ++ (places_at rows es row.path ++ cover.back)) (subst (Among w.0) cover.placed.ways_are w.1.0) in
       let place : Place = v.0 in
@@ -785,12 +785,12 @@ module _ (law : Laws) (rows : List Row) (es : List Entry) (invoice : IsInvoice e
             context = refl;
             string_is = said_it.string_is;
             due = said_it.due;
-            says = said-as row term said_it.e said_it.known said_it.term_is (good said_it.e said_it.known said_it.term_is) (string_at nodes n) said_it.string_is;
+            says = said-as row term said_it.e said_it.known said_it.term_is modelled (good said_it.e said_it.known said_it.term_is) (string_at nodes n) said_it.string_is;
             at = at;
             leaf = leaf;
           }
 
-  -- a pick that says the entry
+  -- a pick that has the string of the entry
   pub record Reached (e : Entry) (row : Row) (term : Term) (k : ℕ) : Type 0 where
     pub pick : Pick
     pub among : Among pick (nodes_picked nodes k row)
@@ -803,7 +803,6 @@ module _ (law : Laws) (rows : List Row) (es : List Entry) (invoice : IsInvoice e
     pub picked : IsPicked rows es invoice pick
     pub context : picked.entry.context ≡ e.context
     pub string_is : string_at nodes pick.node ≡ formed (form_for row.form term) es e.context e.value
-    pub says : said row.form term (string_at nodes pick.node) ≡ record { term = term; value = Some e.value } ∷ code_said (form_for row.form term) es e.context
 
   node-there : (path : List Step) (place : Place) → Among place (places_at rows es path) → Among (last_of place.way) (map number nodes)
   unfolding long
@@ -860,7 +859,6 @@ module _ (law : Laws) (rows : List Row) (es : List Entry) (invoice : IsInvoice e
         };
         context = refl;
         string_is = v.1.1;
-        says = said-as row term e a t back (string_at nodes v.0) v.1.1;
       }
 
 -- ---- rows of a table

@@ -22,7 +22,7 @@ use Rattle.bind_rows.specs.declared.rows.Filler.{Filler}
 use Rattle.bind_rows.specs.declared.rows.Form.TheVariants as forms
 use Rattle.bind_rows.specs.declared.rows.Written.TheVariants as written
 use Rattle.bind_rows.specs.Same.{same_step}
-use Rattle.bind_lines.proofs.SameLemmas.{step-sound}
+use Rattle.bind_table.proofs.SameLemmas.{step-sound}
 use Rattle.bind_table.specs.Lines.{Plan, nothing, a_line, plan_of}
 use Rattle.bind_meaning.specs.Values.{letter_of, form_for}
 use Rattle.bind_meaning.specs.Elements.{is_full, string_at}

@@ -18,7 +18,9 @@ use Rattle.term_table.specs.declared.terms.Letter.{Letter}
 use Rattle.term_table.specs.declared.terms.Letter.TheVariants as letters
 use Rattle.term_table.specs.declared.terms.Term.{Term}
 use Rattle.term_table.specs.declared.contexts.Context.{Context}
+use Rattle.term_table.specs.SemanticModel.{is_extension}
 use Rattle.term_table.proofs.SeatLemmas.{same_term_is}
+use Rattle.term_table.proofs.ExtensionLemmas.{one-type, modelled-type}
 use Rattle.inv_terms.specs.declared.values.Value.{Value}
 use Rattle.inv_terms.specs.declared.values.Value.TheVariants as values
 use Rattle.inv_terms.specs.declared.entries.Entry.{Entry}
@@ -169,15 +171,16 @@ day-value are letter text value e h =
     let w = taken (read_dashed_day (trimmed text)) value (some-if (list_all is_char text) (value_by letters.D text) value read) in
     (w.0, are (trimmed text) w.0 w.1, w.2)
 
-is-day : (o : Option Letter) (letter : Letter) → o ≡ Some letter → is_day o ≡ true → letter ≡ letters.D
-is-day o letters.D e h = refl
-is-day o letters.T e h = absurd (false≢true (sym (ap is_day e) ∙ h))
-is-day o letters.I e h = absurd (false≢true (sym (ap is_day e) ∙ h))
-is-day o letters.C e h = absurd (false≢true (sym (ap is_day e) ∙ h))
-is-day o letters.A e h = absurd (false≢true (sym (ap is_day e) ∙ h))
-is-day o letters.Q e h = absurd (false≢true (sym (ap is_day e) ∙ h))
-is-day o letters.P e h = absurd (false≢true (sym (ap is_day e) ∙ h))
-is-day o letters.B e h = absurd (false≢true (sym (ap is_day e) ∙ h))
+day-type : (o : Option Letter) → is_day o ≡ true → o ≡ Some letters.D
+day-type None h = absurd (false≢true h)
+day-type (Some letters.D) h = refl
+day-type (Some letters.T) h = absurd (false≢true h)
+day-type (Some letters.I) h = absurd (false≢true h)
+day-type (Some letters.C) h = absurd (false≢true h)
+day-type (Some letters.A) h = absurd (false≢true h)
+day-type (Some letters.Q) h = absurd (false≢true h)
+day-type (Some letters.P) h = absurd (false≢true h)
+day-type (Some letters.B) h = absurd (false≢true h)
 
 -- a row of a form for days has a term of days
 form-day : (form : Form) (term : Term) (b : Bool) → suits form term ≡ b → (elim b [ true ↦ form | false ↦ forms.Model ]) ≡ forms.PlainDate → is_day (letter_of term) ≡ true
@@ -211,12 +214,17 @@ not-blank text f value none some = go (is_blank text) refl
     go false e = refl
     go true e = absurd (let z : ◌≡◌ {A = Option Value} None (Some value) = sym (none text e) ∙ some in cc)
 
-as-model : ReadsBack → (term : Term) (es : List Entry) (c : Context) (value : Value) → Fits term value → ReadsAs forms.Model term es c value
-as-model law term es c value f =
+-- A value isn't blank as the model spells it.
+full-model : ReadsBack → (term : Term) (value : Value) → Fits term value → is_full (spelled value) ≡ true
+full-model law term value f = not-blank (spelled value) (value_of f.letter) value (blank-none f.letter) (law f.letter f.text value f.read)
+
+-- One of a term of the semantic model is read by the term's type.
+as-model : ReadsBack → (term : Term) (es : List Entry) (c : Context) (value : Value) → is_extension term ≡ false → Fits term value → ReadsAs forms.Model term es c value
+as-model law term es c value own f =
     let back : value_of f.letter (spelled value) ≡ Some value = law f.letter f.text value f.read in
     record {
-      said = ap (λ v. record { term = term; value = v } ∷ []) (ap (λ x. option_and_then (λ letter. value_of letter (spelled value)) x) f.typed.first ∙ back);
-      full = not-blank (spelled value) (value_of f.letter) value (blank-none f.letter) back;
+      said = ap (λ v. record { term = term; value = v } ∷ []) (ap (λ x. option_and_then (λ letter. value_of letter (spelled value)) x) (modelled-type term f.letter f.typed own) ∙ back);
+      full = full-model law term value f;
     }
 
 -- a code has no white space around it
@@ -231,7 +239,7 @@ code-trimmed text value h = go (list_all is_char text) (is_code (trimmed text)) 
 
 pub code-as-it-is : Laws → (term : Term) (value : Value) → letter_of term ≡ Some letters.C → Fits term value → trimmed (spelled value) ≡ spelled value
 code-as-it-is laws term value is f =
-    let letter : f.letter ≡ letters.C = same_Some _ _ (sym f.typed.first ∙ is) in
+    let letter : f.letter ≡ letters.C = one-type term f.letter letters.C f.typed is in
     sym (code-trimmed (spelled value) value (subst (λ l. value_of l (spelled value) ≡ Some value) letter (laws.values f.letter f.text value f.read)))
 
 -- nor has an identifier
@@ -245,7 +253,7 @@ identifier-trimmed text value h = go (list_all is_char text) (trimmed text) h
     go false t k = absurd (let z : ◌≡◌ {A = Option Value} None (Some value) = k in cc)
 
 pub trimmed-as-it-is : Laws → (term : Term) (value : Value) → is_trimmed (letter_of term) ≡ true → Fits term value → trimmed (spelled value) ≡ spelled value
-trimmed-as-it-is laws term value is f = go f.letter (sym (ap is_trimmed f.typed.first) ∙ is) (laws.values f.letter f.text value f.read)
+trimmed-as-it-is laws term value is f = own (letter_of term) refl is
   where
     go : (letter : Letter) → is_trimmed (Some letter) ≡ true → value_of letter (spelled value) ≡ Some value → trimmed (spelled value) ≡ spelled value
     go letters.I k back = sym (identifier-trimmed (spelled value) value back)
@@ -257,21 +265,36 @@ trimmed-as-it-is laws term value is f = go f.letter (sym (ap is_trimmed f.typed.
     go letters.D k back = absurd (false≢true k)
     go letters.B k back = absurd (false≢true k)
 
+    own : (o : Option Letter) → letter_of term ≡ o → is_trimmed o ≡ true → trimmed (spelled value) ≡ spelled value
+    own None e k = absurd (false≢true k)
+    own (Some letter) e k = go f.letter (ap (λ l. is_trimmed (Some l)) (one-type term f.letter letter f.typed e) ∙ k) (laws.values f.letter f.text value f.read)
+
 as-day : Laws → (term : Term) (es : List Entry) (c : Context) (value : Value) → is_day (letter_of term) ≡ true → Fits term value → ReadsAs forms.PlainDate term es c value
 as-day laws term es c value is f =
-    let w = day-value laws.are_days f.letter f.text value (is-day (letter_of term) f.letter f.typed.first is) f.read in
+    let w = day-value laws.are_days f.letter f.text value (one-type term f.letter letters.D f.typed (day-type (letter_of term) is)) f.read in
     let back : meaning.plain_date (writing.plain_date value) ≡ Some value = ap (λ v. meaning.plain_date (writing.plain_date v)) (sym w.2) ∙ (day-read laws.days w.0 w.1 ∙ ap Some w.2) in
     record {
       said = ap (λ v. record { term = term; value = v } ∷ []) back;
       full = not-blank (writing.plain_date value) meaning.plain_date value blank-day back;
     }
 
-pub reads-as : Laws → (form : Form) (term : Term) (es : List Entry) (c : Context) (value : Value) → is_whole (form_for form term) ≡ true → Fits term value → ReadsAs (form_for form term) term es c value
-reads-as laws form term es c value whole f = go (form_for form term) refl whole
+pub reads-as : Laws → (form : Form) (term : Term) (es : List Entry) (c : Context) (value : Value) → is_whole (form_for form term) ≡ true → is_extension term ≡ false → Fits term value
+    → ReadsAs (form_for form term) term es c value
+reads-as laws form term es c value whole own f = go (form_for form term) refl whole
   where
     go : (g : Form) → form_for form term ≡ g → is_whole g ≡ true → ReadsAs g term es c value
-    go forms.Model e h = as-model laws.values term es c value f
+    go forms.Model e h = as-model laws.values term es c value own f
     go forms.PlainDate e h = as-day laws term es c value (form-day form term (suits form term) refl e) f
+    go forms.DueDateTypeCode e h = absurd (false≢true h)
+    go forms.CodedNote e h = absurd (false≢true h)
+
+-- Whatever term it is of, such a value isn't blank.
+pub whole-full : Laws → (form : Form) (term : Term) (es : List Entry) (c : Context) (value : Value) → is_whole (form_for form term) ≡ true → Fits term value → is_full (formed (form_for form term) es c value) ≡ true
+whole-full laws form term es c value whole f = go (form_for form term) refl whole
+  where
+    go : (g : Form) → form_for form term ≡ g → is_whole g ≡ true → is_full (formed g es c value) ≡ true
+    go forms.Model e h = full-model laws.values term value f
+    go forms.PlainDate e h = (as-day laws term es c value (form-day form term (suits form term) refl e) f).full
     go forms.DueDateTypeCode e h = absurd (false≢true h)
     go forms.CodedNote e h = absurd (false≢true h)
 
@@ -335,8 +358,8 @@ coded-note (a ∷ (b ∷ (c ∷ (d ∷ code)))) text h k = absurd (false≢true 
 coded-note (a ∷ (b ∷ (c ∷ []))) text h k =
     (λ i. elim (h i && not (k i)) [ true ↦ meaning.coded (a ∷ b ∷ c ∷ []) text | false ↦ meaning.plain_note (35 ∷ (a ∷ (b ∷ (c ∷ (35 ∷ text))))) ])
 
-by-its-type : ReadsBack → (term : Term) (value : Value) → Fits term value → by_type term (spelled value) ≡ Some value
-by-its-type law term value f = ap (λ x. option_and_then (λ letter. value_of letter (spelled value)) x) f.typed.first ∙ law f.letter f.text value f.read
+by-its-type : ReadsBack → (term : Term) (value : Value) → is_extension term ≡ false → Fits term value → by_type term (spelled value) ≡ Some value
+by-its-type law term value own f = ap (λ x. option_and_then (λ letter. value_of letter (spelled value)) x) (modelled-type term f.letter f.typed own) ∙ law f.letter f.text value f.read
 
 -- A note is read as it: no subject code is in front and it hasn't the form of one behind a code, or one is in front that is
 -- one by its form.
@@ -348,7 +371,7 @@ IsNote es c value =
 as-note : ReadsBack → (term : Term) (es : List Entry) (c : Context) (value : Value) → term ≡ meaning.note → IsNote es c value → Fits term value → ReadsAs forms.CodedNote term es c value
 unfolding is_white_space
 as-note law term es c value is (inl (none, plain)) f =
-    let model = as-model law term es c value f in
+    let model = as-model law term es c value (ap is_extension is) f in
     let string : formed forms.CodedNote es c value ≡ spelled value = ap (λ o. writing.coded_note o (spelled value)) none in
     record {
       said = ap meaning.note_of string ∙ (plain-note (spelled value) plain ∙ (ap (λ t. record { term = t; value = by_type t (spelled value) } ∷ []) (sym is)
@@ -356,12 +379,12 @@ as-note law term es c value is (inl (none, plain)) f =
       full = ap is_full string ∙ model.full;
     }
 as-note law term es c value is (inr (code, (at, (subject, fits)))) f =
-    let model = as-model law term es c value f in
+    let model = as-model law term es c value (ap is_extension is) f in
     let string : formed forms.CodedNote es c value ≡ 35 ∷ (spelled code ++ (35 ∷ spelled value)) = ap (λ o. writing.coded_note o (spelled value)) at in
     record {
       said = ap meaning.note_of string ∙ (coded-note (spelled code) (spelled value) subject (not-true (is_blank (spelled value)) model.full)
           ∙ ((λ i. record { term = sym is i; value = by_type (sym is i) (spelled value) } ∷ (record { term = meaning.subject_code; value = by_type meaning.subject_code (spelled code) } ∷ []))
-          ∙ ((λ i. record { term = term; value = by-its-type law term value f i } ∷ (record { term = meaning.subject_code; value = by-its-type law meaning.subject_code code fits i } ∷ []))
+          ∙ ((λ i. record { term = term; value = by-its-type law term value (ap is_extension is) f i } ∷ (record { term = meaning.subject_code; value = by-its-type law meaning.subject_code code refl fits i } ∷ []))
           ∙ ap (λ o. record { term = term; value = Some value } ∷ elim o [ None ↦ [] | Some v ↦ record { term = meaning.subject_code; value = Some v } ∷ [] ]) (sym at))));
       full = ap is_full string;
     }
@@ -387,14 +410,25 @@ whole-back es forms.PlainDate c value h = (refl, λ e. absurd (let z : forms.Pla
 whole-back es forms.DueDateTypeCode c value h = absurd (false≢true h)
 whole-back es forms.CodedNote c value h = absurd (false≢true h)
 
-pub back-as : Laws → (form : Form) (term : Term) (es : List Entry) (c : Context) (value : Value) → IsBack es (form_for form term) c value → Fits term value → ReadsAs (form_for form term) term es c value
-back-as laws form term es c value back f = go (form_for form term) refl back
+pub back-as : Laws → (form : Form) (term : Term) (es : List Entry) (c : Context) (value : Value) → IsBack es (form_for form term) c value → is_extension term ≡ false → Fits term value
+    → ReadsAs (form_for form term) term es c value
+back-as laws form term es c value back own f = go (form_for form term) refl back
   where
     go : (g : Form) → form_for form term ≡ g → IsBack es g c value → ReadsAs g term es c value
-    go forms.Model e h = as-model laws.values term es c value f
+    go forms.Model e h = as-model laws.values term es c value own f
     go forms.PlainDate e h = as-day laws term es c value (form-day form term (suits form term) refl e) f
     go forms.DueDateTypeCode e h = as-image term es c value h.0
     go forms.CodedNote e h = as-note laws.values term es c value (note-term form term (suits form term) refl e) (h.1 refl) f
+
+-- Whatever term it is of, such a value isn't blank.
+pub back-full : Laws → (form : Form) (term : Term) (es : List Entry) (c : Context) (value : Value) → IsBack es (form_for form term) c value → Fits term value → is_full (formed (form_for form term) es c value) ≡ true
+back-full laws form term es c value back f = go (form_for form term) refl back
+  where
+    go : (g : Form) → form_for form term ≡ g → IsBack es g c value → is_full (formed g es c value) ≡ true
+    go forms.Model e h = full-model laws.values term value f
+    go forms.PlainDate e h = (as-day laws term es c value (form-day form term (suits form term) refl e) f).full
+    go forms.DueDateTypeCode e h = (as-image term es c value h.0).full
+    go forms.CodedNote e h = (as-note laws.values term es c value (note-term form term (suits form term) refl e) (h.1 refl) f).full
 
 -- what is said beside a value is its subject code
 pub record IsCodeSaid (form : Form) (es : List Entry) (c : Context) (said : Said) : Type 0 where

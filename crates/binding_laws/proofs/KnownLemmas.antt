@@ -16,7 +16,7 @@ use Rattle.bind_rows.specs.declared.rows.Row.{Row}
 use Rattle.bind_rows.specs.declared.rows.Written.{Written}
 use Rattle.bind_rows.specs.declared.rows.Written.TheVariants as written
 use Rattle.bind_rows.specs.Same.{same_or_none}
-use Rattle.bind_lines.proofs.SameLemmas.{group-sound}
+use Rattle.bind_table.proofs.SameLemmas.{group-sound}
 use Rattle.bind_meaning.specs.Values.{form_for}
 use Rattle.bind_meaning.specs.Elements.{is_full}
 use Rattle.bind_meaning.specs.Writing.{context_for, slot_for, formed, if_due, filled, term_text}

@@ -16,15 +16,15 @@ use Rattle.term_table.specs.Contexts.{has_context}
 use Rattle.term_table.specs.Places.{place, place_of, first_row}
 use Rattle.inv_terms.specs.declared.entries.Entry.{Entry}
 use Rattle.inv_terms.specs.Listing.{is_placed}
-use Rattle.inv_lacks.specs.declared.lacks.Name.{Name}
-use Rattle.inv_lacks.specs.declared.lacks.Name.TheVariants as names
-use Rattle.inv_lacks.specs.declared.lacks.TermFault.TheVariants as faults
-use Rattle.inv_lacks.specs.declared.lacks.Lack.{Lack}
-use Rattle.inv_lacks.specs.Lacking.{is_at, is_around, shows_its_group, has_term, stands, decided, first_decided, is_there, whole_term, is_needed, is_slot_in, is_at_least_once, lacks_group, missing_at, missing_from}
-use Rattle.inv_lacks.specs.Validity.{is_unlisted}
-use Rattle.inv_lacks.specs.Whole.{IsContextOf, IsValid, IsLack, seats_in}
-use Rattle.inv_lacks.proofs.FirstLemmas.{each_lack}
-use Rattle.inv_lacks.proofs.ValidLemmas.{valid}
+use Rattle.inv_terms.specs.declared.lacks.Name.{Name}
+use Rattle.inv_terms.specs.declared.lacks.Name.TheVariants as names
+use Rattle.inv_terms.specs.declared.lacks.TermFault.TheVariants as faults
+use Rattle.inv_terms.specs.declared.lacks.Lack.{Lack}
+use Rattle.inv_terms.specs.Lacking.{is_at, is_around, shows_its_group, has_term, stands, decided, first_decided, is_there, whole_term, is_needed, is_slot_in, is_at_least_once, lacks_group, missing_at, missing_from}
+use Rattle.inv_terms.specs.Validity.{is_unlisted}
+use Rattle.inv_terms.specs.Whole.{IsContextOf, IsValid, IsLack, seats_in}
+use Rattle.inv_terms.proofs.FirstLemmas.{each_lack}
+use Rattle.inv_terms.proofs.ValidLemmas.{valid}
 use Rattle.binding_laws.proofs.ReachLemmas.{Among}
 use Rattle.binding_laws.proofs.PlainLemmas.{among-contains}
 

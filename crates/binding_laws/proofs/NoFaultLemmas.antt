@@ -32,13 +32,13 @@ use Rattle.inv_terms.specs.declared.values.Value.TheVariants as values
 use Rattle.inv_terms.specs.declared.entries.Entry.{Entry}
 use Rattle.inv_terms.specs.Values.{is_blank, trimmed, spelled, same_value}
 use Rattle.inv_terms.specs.Listing.{IsInvoice, value_in, seat_of as seat_of_entry}
-use Rattle.inv_lacks.specs.Lacking as lacking
-use Rattle.inv_lacks.specs.Lacking.{whole_term, is_there, first_decided, is_needed, is_missing}
-use Rattle.inv_lacks.specs.declared.lacks.Name.TheVariants as names
-use Rattle.inv_lacks.specs.Validity.{list_of, code_in, is_outside}
-use Rattle.inv_lacks.specs.Whole.{IsContextOf, IsValid, seats_in}
-use Rattle.inv_lacks.proofs.MapLemmas.{any-map}
-use Rattle.inv_lacks.proofs.ContextLemmas.{context_is}
+use Rattle.inv_terms.specs.Lacking as lacking
+use Rattle.inv_terms.specs.Lacking.{whole_term, is_there, first_decided, is_needed, is_missing}
+use Rattle.inv_terms.specs.declared.lacks.Name.TheVariants as names
+use Rattle.inv_terms.specs.Validity.{list_of, code_in, is_outside}
+use Rattle.inv_terms.specs.Whole.{IsContextOf, IsValid, seats_in}
+use Rattle.inv_terms.proofs.MapLemmas.{any-map}
+use Rattle.inv_terms.proofs.ContextLemmas.{context_is}
 use Rattle.inv_terms.proofs.PushLemmas.{same_slot_itself}
 use Rattle.bind_rows.specs.declared.names.Leaf.{Leaf}
 use Rattle.bind_rows.specs.declared.names.Leaf.TheVariants as leaves

@@ -7,7 +7,7 @@ use Rattle.inv_base.specs.declared.tree.Kind.TheVariants as kinds
 use Rattle.inv_base.specs.Tree.{Forest, no_more, a_text, an_element, Name, Attribute, Node, size, nodes_of, nodes_of_attributes, document_nodes, is_among, is_text, string_of}
 use Rattle.node_arena.specs.Moves.{tree_node, is_nearest, is_attribute, is_child, is_attribute_of}
 use Rattle.bind_rows.specs.declared.names.ElementName.{ElementName}
-use Rattle.bind_names.specs.Namespaces.{uri_of}
+use Rattle.bind_rows.specs.Namespaces.{uri_of}
 use Rattle.bind_meaning.specs.Names.{is_spelled, has_element_name}
 use Rattle.bind_meaning.specs.Elements.{number, both, children_named, string_at}
 use Rattle.binding_laws.proofs.TreeLemmas.{Each, each-weaker, each-append, filter-none, same-is, other-is, Free, FreeAbove, nearest-free, forest-free, among-older, older-free, element_node, Lies, document-lies, inside-lies}

@@ -26,7 +26,7 @@ use Rattle.bind_rows.specs.declared.rows.Written.TheVariants as written
 use Rattle.bind_rows.specs.Same.{same_or_none}
 use Rattle.bind_table.specs.Lines.{plan_of}
 use Rattle.bind_table.specs.WellFormed.{first_fault}
-use Rattle.bind_lines.proofs.SameLemmas.{group-sound, pointwise-sound}
+use Rattle.bind_table.proofs.SameLemmas.{group-sound, pointwise-sound}
 use Rattle.bind_meaning.specs.Values.{form_for}
 use Rattle.bind_meaning.specs.Elements.{string_at}
 use Rattle.bind_meaning.specs.Judging.{may_repeat}

@@ -27,7 +27,7 @@ use Rattle.binding_laws.specs.Apart.{is_attribute_named, is_at_attribute, stands
 use Rattle.binding_laws.specs.Written.{Spot, emitted, at_end, spots_below, written_at, values_named}
 use Rattle.binding_laws.specs.Plain.{rows_at, is_in_groups, is_written_by, IsPlainAttributeThere}
 use Rattle.binding_laws.proofs.TreeLemmas.{Each, each-weaker, filter-same}
-use Rattle.binding_laws.proofs.FormLemmas.{Laws, reads-as}
+use Rattle.binding_laws.proofs.FormLemmas.{Laws, whole-full}
 use Rattle.binding_laws.proofs.RowLemmas.{attributes-law}
 use Rattle.binding_laws.proofs.ListLemmas.{append-nil, both-true}
 use Rattle.binding_laws.proofs.CellLemmas.{own_text, own_strings, in_a_list, line-values}
@@ -117,7 +117,7 @@ module _ (law : Laws) (rows : List Row) (es : List Entry) (invoice : IsInvoice e
       go false o h b = refl
       go true None h b = refl
       go true (Some v) h false = refl
-      go true (Some v) h true = (reads-as law main.form main_term es d v plain.main_form (fits-among law es invoice main_term (record { context = d; term = main_term; value = v }) es invoice.fit (at-value law es invoice main_term d v h))).full
+      go true (Some v) h true = whole-full law main.form main_term es d v plain.main_form (fits-among law es invoice main_term (record { context = d; term = main_term; value = v }) es invoice.fit (at-value law es invoice main_term d v h))
 
   pub full-texts : Each (λ (spot : Spot). is_full spot.text ≡ has_main spot) spots
   full-texts =

@@ -10,7 +10,7 @@ use Rattle.bind_rows.specs.declared.rows.Step.{Step}
 use Rattle.bind_rows.specs.declared.rows.Row.{Row}
 use Rattle.bind_rows.specs.Same.{same_step, choose}
 use Rattle.bind_table.specs.Lines.{Cell, Plan, nothing, a_line, into, own_cells, add, grown, plan_of}
-use Rattle.bind_lines.proofs.SameLemmas.{step-sound}
+use Rattle.bind_table.proofs.SameLemmas.{step-sound}
 use Rattle.bind_meaning.specs.Names.{has_element_name}
 use Rattle.bind_meaning.specs.Trees.{name_of, spots, is_emitted, holds_further, attributes, element_text, with_text, elements, written_lines, document_of}
 use Rattle.bind_meaning.specs.Terms.{names_row, is_on_a_way, turned, without_first, way_to, is_passed_over, passed_over}

@@ -10,7 +10,7 @@ use Rattle.inv_terms.specs.declared.entries.Entry.{Entry}
 use Rattle.bind_rows.specs.declared.rows.Step.{Step}
 use Rattle.bind_rows.specs.Same.{same_step, same_or_none}
 use Rattle.bind_table.specs.Lines.{Cell, Plan, nothing, a_line}
-use Rattle.bind_lines.proofs.SameLemmas.{step-sound}
+use Rattle.bind_table.proofs.SameLemmas.{step-sound}
 use Rattle.bind_meaning.specs.Picks.{last_of, carrier}
 use Rattle.bind_meaning.specs.Trees.{name_of, spots, is_emitted, holds_further, attributes, element_text, with_text, elements, written_lines}
 use Rattle.binding_laws.specs.Written.{emitted}

@@ -21,12 +21,12 @@ use Rattle.bind_rows.specs.declared.rows.Step.{Step}
 use Rattle.bind_rows.specs.declared.rows.Row.{Row}
 use Rattle.bind_rows.specs.Same.{same_step, same_or_none}
 use Rattle.bind_table.specs.Lines.{Cell, Plan, nothing, a_line, plan_of}
-use Rattle.bind_lines.specs.Ends.{End, end_at, ends, own_ends}
-use Rattle.bind_lines.proofs.SameLemmas.{step-sound, pointwise-sound, group-sound}
+use Rattle.bind_table.specs.Ends.{End, end_at, ends, own_ends}
+use Rattle.bind_table.proofs.SameLemmas.{step-sound, pointwise-sound, group-sound}
 use Rattle.std.specs.Str.{bytes_eq}
 use Rattle.std.proofs.lemmas.Slice.Eq.{bytes_eq-Decides}
-use Rattle.bind_lines.proofs.EndLemmas.{rows-ends}
-use Rattle.bind_lines.proofs.PathLemmas.{step-itself}
+use Rattle.bind_table.proofs.EndLemmas.{rows-ends}
+use Rattle.bind_table.proofs.PathLemmas.{step-itself}
 use Rattle.bind_meaning.specs.Values.{subject_code, form_for}
 use Rattle.bind_meaning.specs.Judging.{is_amount}
 use Rattle.bind_meaning.specs.Picks.{has_term}

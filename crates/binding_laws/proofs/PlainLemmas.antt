@@ -20,7 +20,7 @@ use Rattle.term_table.specs.Contexts.{root_context, slot_group, same_groups, sta
 use Rattle.term_table.specs.Groups.{same_group, parent_of, occurrence_of}
 use Rattle.term_table.specs.Places.{seat_place, place, slot_place, precedes, first_row}
 use Rattle.term_table.specs.Rows.{row_of, is_row_in}
-use Rattle.term_table.specs.SemanticModel.{same_term, terms}
+use Rattle.term_table.specs.SemanticModel.{same_term, is_extension, terms, extension_rows, listing_rows}
 use Rattle.term_table.proofs.GroupLemmas.{same_group_itself, same_groups_is}
 use Rattle.term_table.proofs.RunLemmas.{same_ahead, never_before_itself}
 use Rattle.term_table.proofs.SeatLemmas.{same_term_is}
@@ -43,7 +43,7 @@ use Rattle.binding_laws.specs.Written.{Spot, written_at}
 use Rattle.binding_laws.specs.Apart.{stands_apart}
 use Rattle.binding_laws.specs.Plain.{rows_at, groups_of, listed, stands_there, is_beyond, stands_nowhere_else, is_in_groups, is_whole, IsPlainThere, is_written_by}
 use Rattle.binding_laws.proofs.TreeLemmas.{Each, each-weaker, filter-same}
-use Rattle.binding_laws.proofs.FormLemmas.{Laws, reads-as, whole-uncoded}
+use Rattle.binding_laws.proofs.FormLemmas.{Laws, reads-as, whole-full, whole-uncoded}
 use Rattle.binding_laws.proofs.ValueLemmas as values
 use Rattle.binding_laws.proofs.RowLemmas.{elements-law}
 use Rattle.binding_laws.proofs.ListLemmas.{map-map}
@@ -239,12 +239,12 @@ groups-are e term outer inner same p there =
     let i : Option Group = slot_group e.context.inner in
     let n = some-number (row_of e.term e.context) e.context p in
     let d : TermRow = record { term = e.term; group = groups.Root; letter = letters.T; mark = marks.One; list = None } in
-    let at = position-Some (is_row_in e.term o i) terms n.0 d n.1 in
-    let r : TermRow = get_or terms n.0 d in
+    let at = position-Some (is_row_in e.term o i) listing_rows n.0 d n.1 in
+    let r : TermRow = get_or listing_rows n.0 d in
     let is = both (same_term r.term e.term) (stands_in r.group o i) at.1 in
     let here = both (same_groups o (outer_group r.group)) (same_groups i (inner_group r.group)) is.1 in
     let so = or-not (same_term r.term term) (stands_in r.group outer inner) (ap (same_term r.term) (sym same) ∙ is.0)
-    (all-at (λ (x : TermRow). not (same_term x.term term) || stands_in x.group outer inner) terms n.0 d there at.0) in
+    (all-at (λ (x : TermRow). not (same_term x.term term) || stands_in x.group outer inner) listing_rows n.0 d there at.0) in
     let therefore = both (same_groups outer (outer_group r.group)) (same_groups inner (inner_group r.group)) so in (
       same_groups_is o (outer_group r.group) here.0 ∙ sym (same_groups_is outer (outer_group r.group) therefore.0),
       same_groups_is i (inner_group r.group) here.1 ∙ sym (same_groups_is inner (inner_group r.group) therefore.1),
@@ -255,8 +255,8 @@ abbrev differ : Option Group → Option Group → Bool
 differ (Some g) (Some h) = not (same_group g h)
 differ o i = true
 
-differ-everywhere : list_all (λ (r : TermRow). differ (outer_group r.group) (inner_group r.group)) terms ≡ true
-unfolding terms parent_of occurrence_of
+differ-everywhere : list_all (λ (r : TermRow). differ (outer_group r.group) (inner_group r.group)) listing_rows ≡ true
+unfolding terms extension_rows listing_rows parent_of occurrence_of
 differ-everywhere = refl
 
 pub groups-differ : (e : Entry) → is_placed e ≡ true → (g h : Group) → slot_group e.context.outer ≡ Some g → slot_group e.context.inner ≡ Some h → same_group g h ≡ false
@@ -265,13 +265,13 @@ groups-differ e p g h a b =
     let i : Option Group = slot_group e.context.inner in
     let n = some-number (row_of e.term e.context) e.context p in
     let d : TermRow = record { term = e.term; group = groups.Root; letter = letters.T; mark = marks.One; list = None } in
-    let at = position-Some (is_row_in e.term o i) terms n.0 d n.1 in
-    let r : TermRow = get_or terms n.0 d in
+    let at = position-Some (is_row_in e.term o i) listing_rows n.0 d n.1 in
+    let r : TermRow = get_or listing_rows n.0 d in
     let is = both (same_term r.term e.term) (stands_in r.group o i) at.1 in
     let here = both (same_groups o (outer_group r.group)) (same_groups i (inner_group r.group)) is.1 in
     let outer : outer_group r.group ≡ Some g = sym (same_groups_is o (outer_group r.group) here.0) ∙ a in
     let inner : inner_group r.group ≡ Some h = sym (same_groups_is i (inner_group r.group) here.1) ∙ b in
-    let k : differ (Some g) (Some h) ≡ true = (λ z. differ ((sym outer) z) ((sym inner) z)) ∙ all-at (λ (x : TermRow). differ (outer_group x.group) (inner_group x.group)) terms n.0 d differ-everywhere at.0 in
+    let k : differ (Some g) (Some h) ≡ true = (λ z. differ ((sym outer) z) ((sym inner) z)) ∙ all-at (λ (x : TermRow). differ (outer_group x.group) (inner_group x.group)) listing_rows n.0 d differ-everywhere at.0 in
     not-so (same_group g h) k
   where
     not-so : (x : Bool) → not x ≡ true → x ≡ false
@@ -334,11 +334,11 @@ context-there e term o i same p there reach =
     let ei : Option Group = slot_group e.context.inner in
     let n = some-number (row_of e.term e.context) e.context p in
     let d : TermRow = record { term = e.term; group = groups.Root; letter = letters.T; mark = marks.One; list = None } in
-    let at = position-Some (is_row_in e.term eo ei) terms n.0 d n.1 in
-    let r : TermRow = get_or terms n.0 d in
+    let at = position-Some (is_row_in e.term eo ei) listing_rows n.0 d n.1 in
+    let r : TermRow = get_or listing_rows n.0 d in
     let is = both (same_term r.term e.term) (stands_in r.group eo ei) at.1 in
     let so = or-not (same_term r.term term) (stands_in r.group o i || is_beyond r.group o i) (ap (same_term r.term) (sym same) ∙ is.0)
-    (all-at (λ (x : TermRow). not (same_term x.term term) || (stands_in x.group o i || is_beyond x.group o i)) terms n.0 d there at.0) in
+    (all-at (λ (x : TermRow). not (same_term x.term term) || (stands_in x.group o i || is_beyond x.group o i)) listing_rows n.0 d there at.0) in
     go r.group (stands_in r.group o i) refl so is.1 reach
   where
     not-so : (x : Bool) → not x ≡ true → x ≡ false
@@ -474,7 +474,7 @@ module _ (law : Laws) (es : List Entry) (invoice : IsInvoice es) (term : Term) w
   one-string form whole d None h = refl
   one-string form whole d (Some v) h =
       ap (λ b. if b then formed (form_for form term) es d v ∷ [] else [])
-      (reads-as law form term es d v whole (fits-among (record { context = d; term = term; value = v }) es invoice.fit (at-value d v h))).full
+      (whole-full law form term es d v whole (fits-among (record { context = d; term = term; value = v }) es invoice.fit (at-value d v h)))
 
   -- order
   pub comes-all : (e : Entry) → Among e es → (spots : List Spot) → Each (λ (spot : Spot). Later e.context spot.context) spots → list_all (comes_before e) (entries-of spots) ≡ true
@@ -791,16 +791,16 @@ module _ (law : Laws) (rows : List Row) (es : List Entry) (invoice : IsInvoice e
 
   -- ---- what the strings say
 
-  said-again : is_whole (form_for row.form term) ≡ true → (xs : List Entry) → All (λ (e : Entry). Fits e.term e.value) xs → map (λ s. said row.form term s) (map (λ (e : Entry). formed (form_for row.form term) es e.context e.value) (filter wanted xs))
+  said-again : is_whole (form_for row.form term) ≡ true → is_extension term ≡ false → (xs : List Entry) → All (λ (e : Entry). Fits e.term e.value) xs → map (λ s. said row.form term s) (map (λ (e : Entry). formed (form_for row.form term) es e.context e.value) (filter wanted xs))
       ≡ map (λ (e : Entry). record { term = term; value = Some e.value } ∷ []) (filter wanted xs)
-  said-again form [] h = refl
-  said-again form (e ∷ xs) h = go (wanted e) refl (said-again form xs (All-tail (λ (x : Entry). Fits x.term x.value) e xs h))
+  said-again form modelled [] h = refl
+  said-again form modelled (e ∷ xs) h = go (wanted e) refl (said-again form modelled xs (All-tail (λ (x : Entry). Fits x.term x.value) e xs h))
     where
       fits : Fits e.term e.value
       fits = All-head (λ (x : Entry). Fits x.term x.value) e xs h
 
       says : e.term ≡ term → said row.form term (formed (form_for row.form term) es e.context e.value) ≡ record { term = term; value = Some e.value } ∷ []
-      says t = (reads-as law row.form term es e.context e.value form (subst (λ x. Fits x e.value) t fits)).said ∙ ap (λ l. record { term = term; value = Some e.value } ∷ l) (whole-uncoded (form_for row.form term) es e.context form)
+      says t = (reads-as law row.form term es e.context e.value form modelled (subst (λ x. Fits x e.value) t fits)).said ∙ ap (λ l. record { term = term; value = Some e.value } ∷ l) (whole-uncoded (form_for row.form term) es e.context form)
 
       go : (b : Bool) → wanted e ≡ b
           → map (λ s. said row.form term s) (map (λ (x : Entry). formed (form_for row.form term) es x.context x.value) (filter wanted xs)) ≡ map (λ (x : Entry). record { term = term; value = Some x.value } ∷ []) (filter wanted xs)
@@ -809,8 +809,8 @@ module _ (law : Laws) (rows : List Row) (es : List Entry) (invoice : IsInvoice e
       go true k more = (λ i. says (same_term_is e.term term (both (same_term e.term term) (is_written e.context) k).0) i ∷ more i)
       go false k more = more
 
-  pub says-law : stands_apart rows row.path ≡ true → is_whole (form_for row.form term) ≡ true → (k : ℕ) → map (λ (pick : Pick). said row.form term (string_at (document_nodes (document_of rows es)) pick.node)) (nodes_picked (document_nodes (document_of rows es)) k row)
+  pub says-law : stands_apart rows row.path ≡ true → is_whole (form_for row.form term) ≡ true → is_extension term ≡ false → (k : ℕ) → map (λ (pick : Pick). said row.form term (string_at (document_nodes (document_of rows es)) pick.node)) (nodes_picked (document_nodes (document_of rows es)) k row)
       ≡ map (λ (e : Entry). record { term = term; value = Some e.value } ∷ []) (filter (λ (e : Entry). same_term e.term term && is_written_by row term es e.context) es)
-  says-law apart form k =
+  says-law apart form modelled k =
       sym (map-map (λ s. said row.form term s) (λ (pick : Pick). string_at (document_nodes (document_of rows es)) pick.node) (nodes_picked (document_nodes (document_of rows es)) k row))
-      ∙ (ap (map (λ s. said row.form term s)) (plain-law apart form k) ∙ said-again form es invoice.fit)
+      ∙ (ap (map (λ s. said row.form term s)) (plain-law apart form k) ∙ said-again form modelled es invoice.fit)

@@ -10,7 +10,7 @@ use Rattle.bind_rows.specs.declared.rows.Step.{Step}
 use Rattle.bind_rows.specs.declared.rows.Row.{Row}
 use Rattle.bind_rows.specs.Same.{same_step}
 use Rattle.bind_table.specs.Lines.{Cell, Plan, nothing, a_line}
-use Rattle.bind_lines.proofs.SameLemmas.{step-sound}
+use Rattle.bind_table.proofs.SameLemmas.{step-sound}
 use Rattle.bind_meaning.specs.Writing.{writes_entry}
 use Rattle.bind_meaning.specs.Trees.{spots, either, cells_hold, holds, line_holds, is_due, is_emitted, holds_further, attributes, is_at_element, element_text}
 use Rattle.binding_laws.specs.Written.{Spot, emitted, at_end, spots_below}

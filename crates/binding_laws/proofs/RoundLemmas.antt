@@ -15,7 +15,7 @@ use Rattle.term_table.specs.declared.terms.Letter.TheVariants as letters
 use Rattle.term_table.specs.declared.contexts.Context.{Context}
 use Rattle.term_table.specs.Contexts.{root_context}
 use Rattle.term_table.specs.Groups.{same_group}
-use Rattle.term_table.specs.SemanticModel.{same_term, terms}
+use Rattle.term_table.specs.SemanticModel.{same_term, is_extension, terms, extension_rows, listing_rows}
 use Rattle.term_table.specs.Groups.{parent_of, occurrence_of}
 use Rattle.term_table.proofs.SeatLemmas.{same_term_is}
 use Rattle.term_table.proofs.GroupLemmas.{same_group_itself}
@@ -37,8 +37,8 @@ use Rattle.bind_rows.specs.declared.rows.Written.TheVariants as written
 use Rattle.bind_rows.specs.Same.{same_or_none, choose}
 use Rattle.bind_table.specs.Lines.{plan_of}
 use Rattle.bind_table.specs.WellFormed.{depth_of, is_carried, first_fault}
-use Rattle.bind_lines.specs.Fronts.{HasGroup}
-use Rattle.bind_lines.proofs.FrontLemmas.{one-element}
+use Rattle.bind_table.specs.Fronts.{HasGroup}
+use Rattle.bind_table.proofs.FrontLemmas.{one-element, modelled-row}
 use Rattle.bind_meaning.specs.Values.{letter_of, Said, said, subject_code, note, suits, form_for}
 use Rattle.bind_meaning.specs.Elements.{has_element_inside, number, string_at}
 use Rattle.bind_meaning.specs.Picks.{Pick, has_term, term_in, has_any_term, Numbered, numbered, rows_where, all_picked, around_last, stands_beside, is_filler, without_fillers, last_of, leaves_of, nodes_picked}
@@ -76,7 +76,7 @@ use Rattle.binding_laws.proofs.CurrencyLemmas.{IsOwnCurrency, AreNamed, AreOwn, 
 use Rattle.binding_laws.proofs.TotalLemmas.{row-of, amount-of, own-amount}
 use Rattle.binding_laws.proofs.TwinLemmas.{same-ways}
 use Rattle.binding_laws.proofs.SilentLemmas.{IsQuiet, quiet-picks-nothing}
-use Rattle.binding_laws.proofs.CoverLemmas.{plain-writes, spread-writes, attribute-writes, spread-attribute-writes, Absent, no-value, IsKept, IsTotal, HasCodes, no-strange, only-own, IsSpreadHere, Covers, plain-covers, spread-known, spread-here, root-entry, root-value, spread-covers, attribute-covers, spread-attribute-covers, IsTold, IsNotTold, of-picked, to-picked, row-at}
+use Rattle.binding_laws.proofs.CoverLemmas.{plain-writes, spread-writes, attribute-writes, spread-attribute-writes, Absent, no-value, IsKept, IsTotal, HasCodes, no-strange, only-own, IsSpreadHere, Covers, plain-covers, spread-known, spread-here, root-entry, root-value, spread-covers, attribute-covers, spread-attribute-covers, IsTold, IsNotTold, said-as, of-picked, to-picked, row-at}
 use Rattle.binding_laws.proofs.FillerLemmas.{IsToldFiller, told-by-test, fillers-not-told}
 use Rattle.binding_laws.proofs.BothLemmas.{money-letter, accounting-letter, money-form, accounting-form, total-currencies, own-total, no-filled, pair-of-term}
 
@@ -239,6 +239,10 @@ module _ (law : Laws) (rows : List Row) (es : List Entry) (invoice : IsInvoice e
           is-true : (b : Bool) → not b ≡ false → b ≡ true
           is-true true h = refl
           is-true false h = absurd (false≢true (sym h))
+
+  -- the term of a row is one of the semantic model
+  row-modelled : (row : Row) → Among row rows → (term : Term) → row.content ≡ contents.Term term → is_extension term ≡ false
+  row-modelled row a term content = let w = row-at rows row a in modelled-row rows w.0 row term fine w.1 content
 
   -- a row reads back what it writes of an entry of its term
   pub row-back : (row : Row) → Among row rows → (term : Term) → row.content ≡ contents.Term term → (e : Entry) → Among e es → e.term ≡ term → IsBack es (form_for row.form term) e.context e.value
@@ -687,7 +691,7 @@ module _ (law : Laws) (rows : List Row) (es : List Entry) (invoice : IsInvoice e
           ]
         where
           by-cover : HasCover r.row → FromRow pick ⊎ IsNotToldHere pick
-          by-cover cover = elim (of-picked law rows es invoice r.place r.row cover.term cover.cover (row-back r.row at.1.1 cover.term cover.cover.content) pick b) [
+          by-cover cover = elim (of-picked law rows es invoice r.place r.row cover.term cover.cover (row-modelled r.row at.1.1 cover.term cover.cover.content) (row-back r.row at.1.1 cover.term cover.cover.content) pick b) [
             | inl is ↦ inl (subst (λ row. (slice_get rows at.0 ≡ Some row) → Among row rows → Covers law rows es invoice row cover.term → IsTold law rows es invoice pick row cover.term → Among pick (nodes_picked all_nodes r.place row) → FromRow pick) is.row_is
                 (λ at_it known covers told picked. record { j = at.0; at = at_it; known = known; term = cover.term; cover = covers; told_is = told; k = r.place; here = picked }) at.1.0 at.1.1 cover.cover is b)
             | inr n ↦ inr n
@@ -794,7 +798,8 @@ module _ (law : Laws) (rows : List Row) (es : List Entry) (invoice : IsInvoice e
           picked = r.picked;
           context = r.context;
           content = ap (λ (x : Row). x.content) r.row_is ∙ cover.content;
-          says = ap (λ (x : Row). said x.form e.term (string_at all_nodes pick.node)) r.row_is ∙ r.says;
+          says = ap (λ (x : Row). said x.form e.term (string_at all_nodes pick.node)) r.row_is
+              ∙ said-as law rows es invoice row e.term e a refl (row-modelled row b e.term cover.content) (row-back row b e.term cover.content e a refl) (string_at all_nodes pick.node) r.string_is;
         }
       where
         no-filler-there : (pick : Pick) → string_at all_nodes pick.node ≡ formed (form_for row.form e.term) es e.context e.value → (filler : Filler) → row.written ≡ written.OrFiller filler → Absent es filler.beside ⊎ IsKept law rows es invoice row e.term filler
@@ -1199,11 +1204,11 @@ module _ (law : Laws) (rows : List Row) (es : List Entry) (invoice : IsInvoice e
   -- ---- the currencies that are read
 
   in-invoice-alone : plain.stands_there invoice_currency None None ≡ true
-  unfolding terms parent_of occurrence_of
+  unfolding terms extension_rows listing_rows parent_of occurrence_of
   in-invoice-alone = refl
 
   accounting-alone : plain.stands_there accounting_currency None None ≡ true
-  unfolding terms parent_of occurrence_of
+  unfolding terms extension_rows listing_rows parent_of occurrence_of
   accounting-alone = refl
 
   -- one of the two currencies

@@ -15,9 +15,9 @@ use Rattle.bind_rows.specs.declared.names.Leaf.TheVariants as leaves
 use Rattle.bind_rows.specs.declared.rows.Step.{Step}
 use Rattle.bind_rows.specs.declared.rows.Row.{Row}
 use Rattle.bind_rows.specs.Same.{same_step}
-use Rattle.bind_names.specs.Namespaces.{uri_of}
+use Rattle.bind_rows.specs.Namespaces.{uri_of}
 use Rattle.bind_table.specs.Lines.{Cell, Plan, nothing, a_line, plan_of}
-use Rattle.bind_lines.proofs.SameLemmas.{step-sound}
+use Rattle.bind_table.proofs.SameLemmas.{step-sound}
 use Rattle.bind_meaning.specs.Names.{is_spelled}
 use Rattle.bind_meaning.specs.Elements.{children_named, attributes_named, string_at, is_full, are_met}
 use Rattle.bind_meaning.specs.Picks.{Pick, ways, last_of, filled, leaves_of, picks_of_way, nodes_picked}

@@ -8,7 +8,7 @@ use Rattle.inv_base.specs.Tree.{document_nodes}
 use Rattle.code_lists.specs.CodeFiles.{Lists}
 use Rattle.inv_terms.specs.declared.entries.Entry.{Entry}
 use Rattle.inv_terms.specs.Listing.{IsInvoice}
-use Rattle.inv_lacks.specs.Whole.{IsValid}
+use Rattle.inv_terms.specs.Whole.{IsValid}
 use Rattle.bind_rows.specs.declared.rows.Row.{Row}
 use Rattle.bind_table.specs.WellFormed.{first_fault}
 use Rattle.ubl_binding.specs.Tables.{invoice_listing, invoice_rows, credit_note_listing, credit_note_rows}

@@ -12,7 +12,7 @@ use Rattle.bind_rows.specs.declared.guards.Guard.{Guard}
 use Rattle.bind_rows.specs.declared.rows.Step.{Step}
 use Rattle.bind_rows.specs.declared.rows.Row.{Row}
 use Rattle.bind_rows.specs.Same.{same_name, same_step}
-use Rattle.bind_lines.proofs.SameLemmas.{name-sound, step-sound}
+use Rattle.bind_table.proofs.SameLemmas.{name-sound, step-sound}
 use Rattle.bind_table.specs.Lines.{Cell, Plan, nothing, a_line, plan_of}
 use Rattle.bind_meaning.specs.Elements.{children_named, are_met, met}
 use Rattle.bind_meaning.specs.Picks.{ways}

@@ -13,7 +13,7 @@ use Rattle.term_table.specs.Contexts.{stands_in}
 use Rattle.term_table.specs.Groups.{same_group, is_repeated}
 use Rattle.term_table.specs.SemanticModel.{same_term, terms}
 use Rattle.inv_terms.specs.Values.{trimmed}
-use Rattle.inv_lacks.specs.Lacking.{whole_term}
+use Rattle.inv_terms.specs.Lacking.{whole_term}
 use Rattle.bind_rows.specs.declared.rows.Content.TheVariants as contents
 use Rattle.bind_rows.specs.declared.rows.Row.{Row}
 use Rattle.bind_rows.specs.declared.rows.Form.{Form}

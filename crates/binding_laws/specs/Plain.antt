@@ -9,7 +9,7 @@ use Rattle.term_table.specs.declared.terms.TermRow.{TermRow}
 use Rattle.term_table.specs.declared.contexts.Context.{Context}
 use Rattle.term_table.specs.Contexts.{slot_group, same_groups, stands_in}
 use Rattle.term_table.specs.Groups.{same_group}
-use Rattle.term_table.specs.SemanticModel.{same_term, terms}
+use Rattle.term_table.specs.SemanticModel.{same_term, listing_rows}
 use Rattle.inv_terms.specs.declared.entries.Entry.{Entry}
 use Rattle.inv_terms.specs.Listing.{value_in}
 use Rattle.bind_rows.specs.declared.names.Leaf.{Leaf}
@@ -49,9 +49,9 @@ abbrev pub listed : Option Group → List Group
 listed None = []
 listed (Some group) = group ∷ []
 
--- Wherever the term stands, it stands in these groups.
+-- Wherever the term stands, it stands in these groups. One that a table adds may stand in lines and in the invoice itself.
 abbrev pub stands_there : Term → Option Group → Option Group → Bool
-stands_there term outer inner = list_all (λ (r : TermRow). not (same_term r.term term) || stands_in r.group outer inner) terms
+stands_there term outer inner = list_all (λ (r : TermRow). not (same_term r.term term) || stands_in r.group outer inner) listing_rows
 
 -- The group's terms stand in none of the other contexts that a path through elements of these groups may have.
 abbrev pub is_beyond : Group → Option Group → Option Group → Bool
@@ -59,7 +59,7 @@ is_beyond group outer inner = not (stands_in group None None || (stands_in group
 
 -- Where the term stands in a context of such a path, it stands in these groups.
 abbrev pub stands_nowhere_else : Term → Option Group → Option Group → Bool
-stands_nowhere_else term outer inner = list_all (λ (r : TermRow). not (same_term r.term term) || (stands_in r.group outer inner || is_beyond r.group outer inner)) terms
+stands_nowhere_else term outer inner = list_all (λ (r : TermRow). not (same_term r.term term) || (stands_in r.group outer inner || is_beyond r.group outer inner)) listing_rows
 
 -- A value is written whole, as the model spells it or, for a day, without dashes.
 abbrev pub is_whole : Form → Bool

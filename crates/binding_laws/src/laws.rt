@@ -3,11 +3,11 @@
 ghost use Rattle.std.specs.Prelude.{codes, ◌≡◌, not, ◌&&◌, ◌||◌, ◌<◌, ℕ, List, [], ◌∷◌, All, Contains, length, true, false, Some, Ok, filter, flat_map, map, slice_get};
 ghost use Rattle.inv_base.specs.Tree.{document_nodes};
 ghost use Rattle.term_table.specs.declared.terms.Term.{Term};
-ghost use Rattle.term_table.specs.SemanticModel.{same_term};
+ghost use Rattle.term_table.specs.SemanticModel.{same_term, is_extension};
 ghost use Rattle.inv_terms.specs.declared.entries.Entry.{Entry};
 ghost use Rattle.inv_terms.specs.Listing.{IsInvoice};
 ghost use Rattle.code_lists.specs.CodeFiles.{Lists};
-ghost use Rattle.inv_lacks.specs.Whole.{IsValid};
+ghost use Rattle.inv_terms.specs.Whole.{IsValid};
 ghost use Rattle.bind_rows.specs.declared.names.Leaf.TheVariants as leaves;
 ghost use Rattle.bind_rows.specs.declared.rows.Row.{Row};
 ghost use Rattle.bind_rows.specs.declared.rows.Written.TheVariants as rules;
@@ -76,14 +76,15 @@ pub fn rows_apart_without_terms_pick_what_is_written()
 {}
 
 /// In the document that an invoice is written as, a plain row of a term picks exactly the values of that term that it
-/// writes, in the row's form, each once and in listing order; and each string that it picks says that value of that term.
+/// writes, in the row's form, each once and in listing order; and each string that it picks says that value of that term,
+/// if it is one of the semantic model, whose types the forms of rows go by.
 /// A row that is always written, of a term that stands in no other context, picks all values of its term. The table may
 /// have any other rows.
 pub fn plain_rows_pick_the_values_of_their_terms()
     ensures strings { (rows : List Row) (es : List Entry) (k : ℕ) (row : Row) (term : Term) → IsInvoice es → IsPlain rows row term
         → map (λ pick. string_at (document_nodes (document_of rows es)) pick.node) (nodes_picked (document_nodes (document_of rows es)) k row)
         ≡ map (λ e. formed (form_for row.form term) es e.context e.value) (filter (λ e. same_term e.term term && is_written_by row term es e.context) es) }
-    ensures says { (rows : List Row) (es : List Entry) (k : ℕ) (row : Row) (term : Term) → IsInvoice es → IsPlain rows row term
+    ensures says { (rows : List Row) (es : List Entry) (k : ℕ) (row : Row) (term : Term) → IsInvoice es → IsPlain rows row term → is_extension term ≡ false
         → map (λ pick. said row.form term (string_at (document_nodes (document_of rows es)) pick.node)) (nodes_picked (document_nodes (document_of rows es)) k row)
         ≡ map (λ e. record { term = term; value = Some e.value } ∷ []) (filter (λ e. same_term e.term term && is_written_by row term es e.context) es) }
     ensures always { (rows : List Row) (es : List Entry) (row : Row) (term : Term) → IsInvoice es → IsPlain rows row term → row.written ≡ rules.Always → stands_there term row.outer row.inner ≡ true

@@ -1,7 +1,7 @@
 -- The three tables are complete: computed.
 use Rattle.std.proofs.Common.{◌≡◌, true, [], refl}
 use Rattle.inv_base.specs.Characters.{is_white_space}
-use Rattle.term_table.specs.SemanticModel.{terms}
+use Rattle.term_table.specs.SemanticModel.{terms, extension_rows, listing_rows}
 use Rattle.term_table.specs.Groups.{parent_of, occurrence_of}
 use Rattle.ubl_binding.specs.Tables.{invoice_listing, invoice_rows, credit_note_listing, credit_note_rows}
 use Rattle.cii_binding.specs.Table.{cii_listing, cii_rows}
@@ -9,25 +9,25 @@ use Rattle.binding_laws.specs.Covered.{left_out}
 use Rattle.carrying_laws.specs.Complete.{is_complete}
 
 pub complete-invoice : is_complete invoice_rows ≡ true
-unfolding is_white_space terms parent_of occurrence_of invoice_listing invoice_rows
+unfolding is_white_space terms extension_rows listing_rows parent_of occurrence_of invoice_listing invoice_rows
 complete-invoice = refl
 
 pub complete-credit_note : is_complete credit_note_rows ≡ true
-unfolding is_white_space terms parent_of occurrence_of credit_note_listing credit_note_rows
+unfolding is_white_space terms extension_rows listing_rows parent_of occurrence_of credit_note_listing credit_note_rows
 complete-credit_note = refl
 
 pub complete-cii : is_complete cii_rows ≡ true
-unfolding is_white_space terms parent_of occurrence_of cii_listing cii_rows
+unfolding is_white_space terms extension_rows listing_rows parent_of occurrence_of cii_listing cii_rows
 complete-cii = refl
 
 pub left-invoice : left_out invoice_rows ≡ []
-unfolding is_white_space terms parent_of occurrence_of invoice_listing invoice_rows
+unfolding is_white_space terms extension_rows listing_rows parent_of occurrence_of invoice_listing invoice_rows
 left-invoice = refl
 
 pub left-credit_note : left_out credit_note_rows ≡ []
-unfolding is_white_space terms parent_of occurrence_of credit_note_listing credit_note_rows
+unfolding is_white_space terms extension_rows listing_rows parent_of occurrence_of credit_note_listing credit_note_rows
 left-credit_note = refl
 
 pub left-cii : left_out cii_rows ≡ []
-unfolding is_white_space terms parent_of occurrence_of cii_listing cii_rows
+unfolding is_white_space terms extension_rows listing_rows parent_of occurrence_of cii_listing cii_rows
 left-cii = refl

@@ -1,8 +1,9 @@
 -- What the conditions of carrying say of one entry, where none of them fails.
 use Rattle.std.proofs.Common.{◌≡◌, Bool, true, false, not, ◌&&◌, ◌||◌, List, [], ◌∷◌, Option, Some, None, ◌⊎◌, inl, inr, refl, sym, ap, ◌∙◌}
-use Rattle.std.specs.Prelude.{find, is_some, is_none, Result, Ok, Err, if◌then◌else◌}
+use Rattle.std.specs.Prelude.{find, is_some, is_none, option_map, Result, Ok, Err, if◌then◌else◌}
 use Rattle.std.proofs.lemmas.Bool.{false≢true}
 use Rattle.term_table.specs.declared.terms.Term.{Term}
+use Rattle.term_table.specs.SemanticModel.{is_extension}
 use Rattle.term_table.specs.Contexts.{root_context}
 use Rattle.inv_terms.specs.declared.entries.Entry.{Entry}
 use Rattle.inv_terms.specs.Listing.{value_in}
@@ -11,7 +12,7 @@ use Rattle.bind_rows.specs.declared.rows.Row.{Row}
 use Rattle.bind_meaning.specs.declared.tables.Which.{Which}
 use Rattle.bind_carrying.specs.declared.carrying.NotCarried.{NotCarried}
 use Rattle.bind_carrying.specs.Tables.{which_of, is_ubl}
-use Rattle.bind_carrying.specs.Carrying.{bt, is_bt, stands, main_term, lacks_main, stands_alone, marks_creditor, is_filler, is_bad_note, has_image, has_bad_code, lacks_means, has_no_currency, is_other_type, same_text, fails, all_conditions, first_at, first_term, told, first_failing, entries_fail, answer, is_too_large, carrying}
+use Rattle.bind_carrying.specs.Carrying.{bt, is_bt, stands, main_term, lacks_main, stands_alone, marks_creditor, is_filler, is_bad_note, has_image, has_bad_code, lacks_means, has_no_currency, is_other_type, same_text, fails, all_conditions, first_at, first_term, told, first_failing, is_unplaced, first_unplaced, entries_fail, answer, is_too_large, entries_carried, carrying}
 use Rattle.binding_laws.proofs.ReachLemmas.{Among}
 
 -- ---- no condition fails
@@ -74,12 +75,32 @@ currency-kept rows es h e a = let k = keeps rows es h _ (inr (inr (inr (inr (inr
 
 -- ---- an invoice that is carried
 
-answered : (fault : Option NotCarried) (large : Bool) → answer fault large ≡ Ok tt → fault ≡ None
-answered None large h = refl
-answered (Some fault) large h = absurd (let z : ◌≡◌ {A = Result (Unit {0}) NotCarried} (Err fault) (Ok tt) = h in cc)
+answered : (fault : Option NotCarried) (large : Bool) (unplaced : Option NotCarried) → answer fault large unplaced ≡ Ok tt → (fault ≡ None) × (unplaced ≡ None)
+answered None false None h = (refl, refl)
+answered None false (Some fault) h = absurd (let z : ◌≡◌ {A = Result (Unit {0}) NotCarried} (Err fault) (Ok tt) = h in cc)
+answered None true unplaced h = absurd (let z : ◌≡◌ {A = Result (Unit {0}) NotCarried} (Err (record { condition = 8; term = None })) (Ok tt) = h in cc)
+answered (Some fault) large unplaced h = absurd (let z : ◌≡◌ {A = Result (Unit {0}) NotCarried} (Err fault) (Ok tt) = h in cc)
 
 pub carried-keeps : (rows : List Row) (es : List Entry) → carrying rows es ≡ Ok tt → entries_fail rows es ≡ None
-carried-keeps rows es h = answered (entries_fail rows es) (is_too_large rows es) h
+carried-keeps rows es h = (answered (entries_fail rows es) (is_too_large rows es) (first_unplaced es) h).0
+
+-- so all but the size of its document is as it should be
+pub carried-entries : (rows : List Row) (es : List Entry) → carrying rows es ≡ Ok tt → entries_carried rows es ≡ Ok tt
+carried-entries rows es h =
+    let w = answered (entries_fail rows es) (is_too_large rows es) (first_unplaced es) h in
+    ap (λ fault. answer fault false (first_unplaced es)) w.0 ∙ ap (answer None false) w.1
+
+pub entries-keep : (rows : List Row) (es : List Entry) → entries_carried rows es ≡ Ok tt → entries_fail rows es ≡ None
+entries-keep rows es h = (answered (entries_fail rows es) false (first_unplaced es) h).0
+
+-- ---- 9: each term is one of the semantic model
+
+pub model-kept : (rows : List Row) (es : List Entry) → entries_carried rows es ≡ Ok tt → (e : Entry) → Among e es → is_extension e.term ≡ false
+model-kept rows es h e a = found-none is_unplaced es (no-fault _ (find is_unplaced es) (answered (entries_fail rows es) false (first_unplaced es) h).1) e a
+  where
+    no-fault : (f : Entry → NotCarried) (o : Option Entry) → option_map f o ≡ None → o ≡ None
+    no-fault f None k = refl
+    no-fault f (Some x) k = absurd (none-is-no-some _ k)
 
 -- ---- 1: the main term of a part stands beside it
 

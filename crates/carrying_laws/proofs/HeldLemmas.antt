@@ -1,6 +1,6 @@
 -- Each invoice that meets the conditions of carrying is held by a complete table.
 use Rattle.std.proofs.Common.{◌≡◌, ℕ, Bool, true, false, not, ◌&&◌, ◌||◌, List, Option, Some, None, ◌⊎◌, inl, inr, refl, sym, ap, ◌∙◌, subst}
-use Rattle.std.specs.Prelude.{is_some, option_map, codes, if◌then◌else◌}
+use Rattle.std.specs.Prelude.{is_some, option_map, codes, Ok, if◌then◌else◌}
 use Rattle.std.specs.List.{list_all, list_any}
 use Rattle.std.specs.Str.{bytes_eq}
 use Rattle.std.proofs.lemmas.Bool.{false≢true}
@@ -15,6 +15,7 @@ use Rattle.term_table.specs.declared.terms.Term.{Term}
 use Rattle.term_table.specs.declared.terms.TermRow.{TermRow}
 use Rattle.term_table.specs.Rows.{HasType}
 use Rattle.term_table.specs.SemanticModel.{same_term, terms}
+use Rattle.term_table.proofs.ExtensionLemmas.{one-type}
 use Rattle.term_table.specs.Contexts.{slot_group, root_context, outer_group, inner_group}
 use Rattle.term_table.proofs.SeatLemmas.{same_term_is}
 use Rattle.inv_terms.specs.declared.values.Value.{Value}
@@ -22,7 +23,7 @@ use Rattle.inv_terms.specs.declared.values.Value.TheVariants as values
 use Rattle.inv_terms.specs.declared.entries.Entry.{Entry}
 use Rattle.inv_terms.specs.Listing.{value_in, Fits, IsInvoice, is_placed}
 use Rattle.inv_terms.specs.Values.{spelled, code_of, value_by, value_of}
-use Rattle.inv_lacks.specs.Whole.{IsValid}
+use Rattle.inv_terms.specs.Whole.{IsValid}
 use Rattle.bind_rows.specs.declared.rows.Content.{Content}
 use Rattle.bind_rows.specs.declared.rows.Content.TheVariants as contents
 use Rattle.bind_rows.specs.declared.rows.Form.{Form}
@@ -32,7 +33,7 @@ use Rattle.bind_table.specs.Lines.{plan_of}
 use Rattle.bind_meaning.specs.Values.{form_for}
 use Rattle.bind_meaning.specs.Picks.{term_in, has_term}
 use Rattle.bind_meaning.specs.Trees.{either}
-use Rattle.bind_carrying.specs.Carrying.{bt, is_bt, same_text, has_image, entries_fail}
+use Rattle.bind_carrying.specs.Carrying.{bt, is_bt, same_text, has_image, entries_fail, entries_carried}
 use Rattle.bind_carrying.specs.Tables.{which_of, is_ubl}
 use Rattle.binding_laws.specs.Apart.{holds_none}
 use Rattle.binding_laws.specs.Known.{known_of}
@@ -42,7 +43,7 @@ use Rattle.binding_laws.proofs.ReachLemmas.{Among}
 use Rattle.binding_laws.proofs.ListLemmas.{both-true, not-true}
 use Rattle.carrying_laws.specs.Complete.{also, lets_all, is_if_iban, is_if_not_iban, is_if_no_scheme, is_as_modelled, has_writer, has_attribute, has_coder, rows_with, is_written_in, writes_model, is_readable, reads_term, mistakes_none, is_complete}
 use Rattle.carrying_laws.proofs.Disjuncts.{either-or, also-both, or-first, or-second, or-either, and-true}
-use Rattle.carrying_laws.proofs.ConditionLemmas.{image-stands, currencies-stand}
+use Rattle.carrying_laws.proofs.ConditionLemmas.{image-stands, currencies-stand, entries-keep, model-kept}
 use Rattle.carrying_laws.proofs.ModelLemmas as model
 use Rattle.carrying_laws.proofs.ModelLemmas.{any-found, all-each, each-all, all-fails, modelled}
 use Rattle.carrying_laws.proofs.WrittenLemmas.{by-one, by-iban, by-scheme, by-attribute, by-code}
@@ -52,7 +53,7 @@ use Rattle.carrying_laws.proofs.MistakenLemmas.{unmistaken}
 
 type-of-8 : (letter : Letter) → HasType (bt 8) letter → letter ≡ letters.C
 unfolding terms
-type-of-8 letter h = same_Some letter letters.C (sym h.first)
+type-of-8 letter h = one-type (bt 8) letter letters.C h refl
 
 code-by : (o : Option (List ℕ)) (v : Value) → option_map values.Code o ≡ Some v → (code : List ℕ) × (v ≡ values.Code code)
 code-by None v h = absurd (false≢true (ap is_some h))
@@ -78,7 +79,10 @@ image-by-code code = ap (λ b. bytes_eq (codes "3") code || (bytes_eq (codes "35
 
 -- ---- the table and an invoice that it is to hold
 
-module _ (rows : List Row) (complete : is_complete rows ≡ true) (es : List Entry) (lists : Lists) (invoice : IsInvoice es) (valid : IsValid es lists) (keeps : entries_fail rows es ≡ None) (none : holds_none (left_out rows) es ≡ true) where
+module _ (rows : List Row) (complete : is_complete rows ≡ true) (es : List Entry) (lists : Lists) (invoice : IsInvoice es) (valid : IsValid es lists) (carried : entries_carried rows es ≡ Ok tt) (none : holds_none (left_out rows) es ≡ true) where
+  keeps : entries_fail rows es ≡ None
+  keeps = entries-keep rows es carried
+
   abbrev ubl : Bool
   ubl = is_ubl (which_of rows)
 
@@ -98,7 +102,7 @@ module _ (rows : List Row) (complete : is_complete rows ≡ true) (es : List Ent
 
   written-in : (e : Entry) → Among e es → is_written_in (plan_of rows) (known_of rows) left rows ubl e.term (slot_group e.context.outer) (slot_group e.context.inner) ≡ true
   written-in e a =
-      let m = modelled e (all-each is_placed es invoice.placed e a) in
+      let m = modelled e (model-kept rows es carried e a) (all-each is_placed es invoice.placed e a) in
       ap (λ t. is_written_in (plan_of rows) (known_of rows) left rows ubl t (slot_group e.context.outer) (slot_group e.context.inner)) (sym m.term_is)
       ∙ (ap (λ o. is_written_in (plan_of rows) (known_of rows) left rows ubl m.row.term o (slot_group e.context.inner)) m.outer
       ∙ (ap (λ o. is_written_in (plan_of rows) (known_of rows) left rows ubl m.row.term (outer_group m.row.group) o) m.inner
@@ -245,7 +249,7 @@ module _ (rows : List Row) (complete : is_complete rows ≡ true) (es : List Ent
           differ (value_in es (bt 5) root_context) (value_in es (bt 6) root_context) (model.currency-stands es lists valid) w.0 w.1
 
   entry-unmistaken : (e : Entry) → Among e es → is_unmistaken (plan_of rows) rows es e ≡ true
-  entry-unmistaken e a = unmistaken (plan_of rows) rows es keeps lists valid e a (all-each is_placed es invoice.placed e a) tests.1.1.1
+  entry-unmistaken e a = unmistaken (plan_of rows) rows es keeps lists valid e a (model-kept rows es carried e a) (all-each is_placed es invoice.placed e a) tests.1.1.1
 
   pub held : holds_plainly rows es ≡ true
   held =

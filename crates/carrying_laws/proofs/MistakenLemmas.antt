@@ -8,14 +8,14 @@ use Rattle.std.proofs.lemmas.Slice.Eq.{bytes_eq-Decides}
 use Rattle.code_lists.specs.CodeFiles.{Lists}
 use Rattle.term_table.specs.declared.terms.TermRow.{TermRow}
 use Rattle.term_table.specs.declared.contexts.Slot.{Slot}
-use Rattle.term_table.specs.SemanticModel.{same_term, terms}
+use Rattle.term_table.specs.SemanticModel.{same_term, is_extension, terms}
 use Rattle.term_table.specs.Contexts.{slot_group, same_groups, outer_group, inner_group, stands_in, root_context}
 use Rattle.term_table.proofs.SeatLemmas.{same_term_is}
 use Rattle.term_table.proofs.GroupLemmas.{same_groups_is}
 use Rattle.inv_terms.specs.declared.entries.Entry.{Entry}
 use Rattle.inv_terms.specs.Listing.{value_in, is_placed}
 use Rattle.inv_terms.specs.Values.{is_blank, spelled}
-use Rattle.inv_lacks.specs.Whole.{IsValid}
+use Rattle.inv_terms.specs.Whole.{IsValid}
 use Rattle.bind_rows.specs.declared.rows.Content.{Content}
 use Rattle.bind_rows.specs.declared.rows.Content.TheVariants as contents
 use Rattle.bind_rows.specs.declared.rows.Filler.{Filler}
@@ -33,6 +33,7 @@ use Rattle.binding_laws.specs.Known.{known_of, is_other_value, has_parts, is_as_
 use Rattle.binding_laws.specs.Plain.{stands_there}
 use Rattle.binding_laws.specs.Covered as covered
 use Rattle.binding_laws.specs.Covered.{is_joined, is_like_filler, is_coded_row, is_misread_note, is_bad_note, is_unmistaken}
+use Rattle.binding_laws.proofs.PlainLemmas.{groups-are}
 use Rattle.binding_laws.proofs.ReachLemmas.{Among}
 use Rattle.binding_laws.proofs.ListLemmas.{both-true, not-true}
 use Rattle.carrying_laws.specs.Complete.{stands_with, is_kept_filler, keeps_filler, is_kept_unlike, keeps_together_at, keeps_together, keeps_known, keeps_notes, mistakes_none}
@@ -85,19 +86,10 @@ no-slot (Some s) h = absurd (false≢true (sym (ap is_some h)))
 
 in-root : (e : Entry) → is_placed e ≡ true → stands_there e.term None None ≡ true → e.context ≡ root_context
 in-root e p h =
-    let m = modelled e p in
-    let here = or-either (not (same_term m.row.term e.term)) (stands_in m.row.group None None) (all-each (λ (r : TermRow). not (same_term r.term e.term) || stands_in r.group None None) terms h m.row m.known) in
-    let s = go m here in
-    let w = both-true (same_groups None (outer_group m.row.group)) (same_groups None (inner_group m.row.group)) s in
-    let o : e.context.outer ≡ None = no-slot e.context.outer (m.outer ∙ sym (same_groups_is None (outer_group m.row.group) w.0)) in
-    let i : e.context.inner ≡ None = no-slot e.context.inner (m.inner ∙ sym (same_groups_is None (inner_group m.row.group) w.1)) in
-    λ z. record { outer = o z; inner = i z }
-  where
-    go : (m : IsModelled e) → (not (same_term m.row.term e.term) ≡ true) ⊎ (stands_in m.row.group None None ≡ true) → stands_in m.row.group None None ≡ true
-    go m (inl n) = absurd (false≢true (sym (not-true _ n) ∙ (ap (λ t. same_term t e.term) m.term_is ∙ same_term-itself e.term)))
-    go m (inr s) = s
+    let w = groups-are e e.term None None refl p h in
+    λ z. record { outer = (no-slot e.context.outer w.0) z; inner = (no-slot e.context.inner w.1) z }
 
-module _ (plan : Plan) (rows : List Row) (es : List Entry) (keeps : entries_fail rows es ≡ None) (lists : Lists) (valid : IsValid es lists) (e : Entry) (known : Among e es) (placed : is_placed e ≡ true) where
+module _ (plan : Plan) (rows : List Row) (es : List Entry) (keeps : entries_fail rows es ≡ None) (lists : Lists) (valid : IsValid es lists) (e : Entry) (known : Among e es) (own : is_extension e.term ≡ false) (placed : is_placed e ≡ true) where
   abbrev ubl : Bool
   ubl = is_ubl (which_of rows)
 
@@ -170,7 +162,7 @@ module _ (plan : Plan) (rows : List Row) (es : List Entry) (keeps : entries_fail
 
   part : (x : Together) → keeps_together ubl x ≡ true → (not (same_term e.term x.term && same_groups (slot_group e.context.outer) (Some x.group)) || is_some (value_in es x.part e.context)) ≡ true
   part x h =
-      let m = modelled e placed in
+      let m = modelled e own placed in
       go m (either-or (not (same_term m.row.term x.term && same_groups (outer_group m.row.group) (Some x.group))) (λ _. stands_with ubl m.row.term (outer_group m.row.group) (inner_group m.row.group) x.part)
       (all-each (keeps_together_at ubl x) terms h m.row m.known))
     where

@@ -16,17 +16,18 @@ use Rattle.term_table.specs.declared.terms.Term.{Term}
 use Rattle.term_table.specs.declared.terms.TermRow.{TermRow}
 use Rattle.term_table.specs.declared.contexts.Slot.{Slot}
 use Rattle.term_table.specs.declared.contexts.Context.{Context}
-use Rattle.term_table.specs.SemanticModel.{same_term, terms}
+use Rattle.term_table.specs.SemanticModel.{same_term, is_extension, terms}
 use Rattle.term_table.specs.Groups.{same_group, is_repeated, parent_of, occurrence_of}
 use Rattle.term_table.specs.Contexts.{slot_group, same_slot, same_context, same_groups, outer_group, inner_group, stands_in, has_context, root_context}
 use Rattle.term_table.specs.Places.{place}
 use Rattle.term_table.specs.Rows.{is_row_in, row_of}
+use Rattle.term_table.proofs.ExtensionLemmas.{modelled-row_is}
 use Rattle.term_table.proofs.SeatLemmas.{same_term_is}
 use Rattle.term_table.proofs.GroupLemmas.{same_group_is, same_groups_is}
 use Rattle.inv_terms.specs.declared.entries.Entry.{Entry}
 use Rattle.inv_terms.specs.Listing.{is_placed, is_at, value_in}
 use Rattle.inv_terms.proofs.PushLemmas.{same_slot_itself}
-use Rattle.inv_lacks.specs.Whole.{IsContextOf, Stands, IsThere, IsValid}
+use Rattle.inv_terms.specs.Whole.{IsContextOf, Stands, IsThere, IsValid}
 use Rattle.bind_carrying.specs.Carrying.{bt}
 use Rattle.binding_laws.proofs.ReachLemmas.{Among}
 use Rattle.binding_laws.proofs.ListLemmas.{both-true}
@@ -110,7 +111,7 @@ value-stands es e term c a t at =
 
 -- ---- the row of an entry's term
 
--- the model has the term in the groups of the entry's context
+-- the model has the term in the groups of the entry's context, if it is one of the model
 pub record IsModelled (e : Entry) : Type 0 where
   pub row : TermRow
   pub known : Among row terms
@@ -127,13 +128,13 @@ among-at [] k d l = absurd (omega (arith, l))
 among-at (r ∷ rows) zero d l = inl refl
 among-at (r ∷ rows) (suc k) d l = inr (among-at rows k d (omega (arith, l)))
 
-pub modelled : (e : Entry) → is_placed e ≡ true → IsModelled e
-modelled e p =
+pub modelled : (e : Entry) → is_extension e.term ≡ false → is_placed e ≡ true → IsModelled e
+modelled e own p =
     let o : Option Group = slot_group e.context.outer in
     let i : Option Group = slot_group e.context.inner in
     let n = some-number (row_of e.term e.context) e.context p in
     let d : TermRow = record { term = e.term; group = groups.Root; letter = letters.T; mark = marks.One; list = None } in
-    let at = position-Some (is_row_in e.term o i) terms n.0 d n.1 in
+    let at = position-Some (is_row_in e.term o i) terms n.0 d (modelled-row_is e.term o i own ∙ n.1) in
     let r : TermRow = get_or terms n.0 d in
     let is = both-true (same_term r.term e.term) (stands_in r.group o i) at.1 in
     let here = both-true (same_groups o (outer_group r.group)) (same_groups i (inner_group r.group)) is.1 in

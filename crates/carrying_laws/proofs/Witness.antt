@@ -18,7 +18,8 @@ use Rattle.term_table.specs.declared.groups.Group.TheVariants as groups
 use Rattle.term_table.specs.declared.terms.Letter.{Letter}
 use Rattle.term_table.specs.declared.terms.Term.{Term}
 use Rattle.term_table.specs.declared.contexts.Context.{Context}
-use Rattle.term_table.specs.SemanticModel.{terms}
+use Rattle.term_table.specs.SemanticModel.{terms, extension_rows, listing_rows}
+use Rattle.term_table.specs.Rows.{modelled}
 use Rattle.term_table.specs.Groups.{parent_of, occurrence_of}
 use Rattle.term_table.specs.Places.{first_row}
 use Rattle.term_table.specs.Contexts.{root_context}
@@ -27,9 +28,9 @@ use Rattle.inv_terms.specs.declared.values.Value.TheVariants as values
 use Rattle.inv_terms.specs.declared.entries.Entry.{Entry}
 use Rattle.inv_terms.specs.Values.{value_of}
 use Rattle.inv_terms.specs.Listing.{Fits, IsInvoice, is_placed, is_listed, is_numbered, in_outer}
-use Rattle.inv_lacks.specs.Validity.{first_lack}
-use Rattle.inv_lacks.specs.Whole.{IsValid}
-use Rattle.inv_lacks.proofs.ValidLemmas.{valid}
+use Rattle.inv_terms.specs.Validity.{first_lack}
+use Rattle.inv_terms.specs.Whole.{IsValid}
+use Rattle.inv_terms.proofs.ValidLemmas.{valid}
 use Rattle.xml_write.specs.Canonical.{declaration_line}
 use Rattle.xml_write.specs.Escapes.{in_value, in_text}
 use Rattle.bind_write.specs.Documents.{document_text}
@@ -91,7 +92,7 @@ fits-given g h = go (letter_of g.term) refl h
     go (Some letter) e k = record {
       letter = letter;
       text = g.text;
-      typed = record { first = e };
+      typed = modelled e;
       read = some-from (value_of letter g.text) k ∙ ap (λ o. Some (value_from (option_and_then (λ l. value_of l g.text) o))) (sym e);
     }
 
@@ -106,15 +107,15 @@ unfolding value_of is_char is_white_space terms read_scaled written_units read_d
 small-fits = refl
 
 small-placed : list_all is_placed small_invoice ≡ true
-unfolding terms parent_of occurrence_of first_row
+unfolding terms extension_rows listing_rows parent_of occurrence_of first_row
 small-placed = refl
 
 small-listed : is_listed small_invoice ≡ true
-unfolding terms parent_of occurrence_of first_row
+unfolding terms extension_rows listing_rows parent_of occurrence_of first_row
 small-listed = refl
 
 small-numbered : is_numbered small_invoice ≡ true
-unfolding terms parent_of occurrence_of first_row
+unfolding terms extension_rows listing_rows parent_of occurrence_of first_row
 small-numbered = refl
 
 pub small-invoice : IsInvoice small_invoice
@@ -123,16 +124,16 @@ small-invoice = record { placed = small-placed; fit = fits-all given small-fits;
 -- ---- it is valid, and is carried
 
 small-lacks : first_lack small_invoice built_in_lists ≡ None
-unfolding value_of is_char is_white_space terms parent_of occurrence_of first_row read_scaled written_units read_dashed_day day_from
+unfolding value_of is_char is_white_space terms extension_rows listing_rows parent_of occurrence_of first_row read_scaled written_units read_dashed_day day_from
 small-lacks = refl
 
 pub small-valid : IsValid small_invoice built_in_lists
 small-valid = (valid small_invoice built_in_lists).0 small-lacks
 
 pub small-ubl : carrying invoice_rows small_invoice ≡ Ok tt
-unfolding value_of is_char is_white_space terms parent_of occurrence_of first_row read_scaled written_units read_decimal read_dashed_day day_from read_plain_day scaled_text decimal_text dashed_day_text plain_day_text digits last_digits chars encode_utf8 invoice_listing invoice_rows document_of document_text declaration_line in_value in_text
+unfolding value_of is_char is_white_space terms extension_rows listing_rows parent_of occurrence_of first_row read_scaled written_units read_decimal read_dashed_day day_from read_plain_day scaled_text decimal_text dashed_day_text plain_day_text digits last_digits chars encode_utf8 invoice_listing invoice_rows document_of document_text declaration_line in_value in_text
 small-ubl = refl
 
 pub small-cii : carrying cii_rows small_invoice ≡ Ok tt
-unfolding value_of is_char is_white_space terms parent_of occurrence_of first_row read_scaled written_units read_decimal read_dashed_day day_from read_plain_day scaled_text decimal_text dashed_day_text plain_day_text digits last_digits chars encode_utf8 cii_listing cii_rows document_of document_text declaration_line in_value in_text
+unfolding value_of is_char is_white_space terms extension_rows listing_rows parent_of occurrence_of first_row read_scaled written_units read_decimal read_dashed_day day_from read_plain_day scaled_text decimal_text dashed_day_text plain_day_text digits last_digits chars encode_utf8 cii_listing cii_rows document_of document_text declaration_line in_value in_text
 small-cii = refl

@@ -1,11 +1,12 @@
-//! Each call does nothing: what it ensures is the law. An invoice is carried where it meets all eight conditions of
-//! bind_carrying; the laws ask for those that its entries show alone (`entries_fail`), and not for the limits on sizes.
+//! Each call does nothing: what it ensures is the law. An invoice is carried where it meets all nine conditions of
+//! bind_carrying; the laws ask for those that its entries show alone (`entries_carried`), and not for the limits on sizes.
 ghost use Rattle.std.specs.Prelude.{◌≡◌, List, [], Contains, true, false, None, Ok};
 ghost use Rattle.inv_base.specs.Tree.{document_nodes};
 ghost use Rattle.code_lists.specs.CodeFiles.{Lists};
+ghost use Rattle.term_table.specs.SemanticModel.{is_extension};
 ghost use Rattle.inv_terms.specs.declared.entries.Entry.{Entry};
 ghost use Rattle.inv_terms.specs.Listing.{IsInvoice};
-ghost use Rattle.inv_lacks.specs.Whole.{IsValid};
+ghost use Rattle.inv_terms.specs.Whole.{IsValid};
 ghost use Rattle.bind_rows.specs.declared.rows.Row.{Row};
 ghost use Rattle.bind_meaning.specs.declared.tables.Which.{Which};
 ghost use Rattle.bind_meaning.specs.declared.tables.Which.TheVariants as which;
@@ -13,7 +14,7 @@ ghost use Rattle.bind_meaning.specs.Tables.{rows_of};
 ghost use Rattle.bind_meaning.specs.Terms.{Read, terms_of};
 ghost use Rattle.bind_meaning.specs.Trees.{document_of};
 ghost use Rattle.bind_carrying.specs.Tables.{which_of};
-ghost use Rattle.bind_carrying.specs.Carrying.{stands_alone, marks_creditor, is_filler, is_bad_note, has_bad_code, lacks_means, has_no_currency, entries_fail, carrying};
+ghost use Rattle.bind_carrying.specs.Carrying.{stands_alone, marks_creditor, is_filler, is_bad_note, has_bad_code, lacks_means, has_no_currency, entries_fail, entries_carried, carrying};
 ghost use Rattle.binding_laws.specs.Apart.{holds_none};
 ghost use Rattle.binding_laws.specs.Covered.{left_out, holds_plainly};
 ghost use Rattle.carrying_laws.specs.Complete.{is_complete};
@@ -32,13 +33,15 @@ pub fn tables_are_complete()
 /// something else.
 pub fn complete_tables_hold_carried_invoices()
     ensures { (rows : List Row) (es : List Entry) (lists : Lists) → IsInvoice es → IsValid es lists → is_complete rows ≡ true
-        → entries_fail rows es ≡ None → holds_none (left_out rows) es ≡ true → holds_plainly rows es ≡ true }
+        → entries_carried rows es ≡ Ok tt → holds_none (left_out rows) es ≡ true → holds_plainly rows es ≡ true }
 {}
 
-/// Where an invoice meets the conditions of carrying, or is carried, each of the seven that its entries show holds of
-/// each entry, in the order of bind_carrying.
+/// Where an invoice meets the conditions of carrying, or is carried, each of those that its entries show holds of each
+/// entry, in the order of bind_carrying: the first seven, and the ninth, that its terms are those of the semantic model.
 pub fn carried_invoices_meet_each_condition()
     ensures carried { (rows : List Row) (es : List Entry) → carrying rows es ≡ Ok tt → entries_fail rows es ≡ None }
+    ensures entries { (rows : List Row) (es : List Entry) → carrying rows es ≡ Ok tt → entries_carried rows es ≡ Ok tt }
+    ensures fails { (rows : List Row) (es : List Entry) → entries_carried rows es ≡ Ok tt → entries_fail rows es ≡ None }
     ensures part { (rows : List Row) (es : List Entry) (e : Entry) → entries_fail rows es ≡ None → Contains es e → stands_alone (which_of rows) es e ≡ false }
     ensures creditor { (rows : List Row) (es : List Entry) (e : Entry) → entries_fail rows es ≡ None → Contains es e → marks_creditor (which_of rows) e ≡ false }
     ensures filler { (rows : List Row) (es : List Entry) (e : Entry) → entries_fail rows es ≡ None → Contains es e → is_filler (which_of rows) es e ≡ false }
@@ -46,18 +49,19 @@ pub fn carried_invoices_meet_each_condition()
     ensures code { (rows : List Row) (es : List Entry) (e : Entry) → entries_fail rows es ≡ None → Contains es e → has_bad_code (which_of rows) e ≡ false }
     ensures means { (rows : List Row) (es : List Entry) (e : Entry) → entries_fail rows es ≡ None → Contains es e → lacks_means (which_of rows) es e ≡ false }
     ensures currency { (rows : List Row) (es : List Entry) (e : Entry) → entries_fail rows es ≡ None → Contains es e → has_no_currency es e ≡ false }
+    ensures placed { (rows : List Row) (es : List Entry) (e : Entry) → entries_carried rows es ≡ Ok tt → Contains es e → is_extension e.term ≡ false }
 {}
 
 /// In each of the three tables: a valid invoice that meets the conditions of carrying is held.
 pub fn carried_invoices_are_held()
-    ensures { (table : Which) (es : List Entry) (lists : Lists) → IsInvoice es → IsValid es lists → entries_fail (rows_of table) es ≡ None
+    ensures { (table : Which) (es : List Entry) (lists : Lists) → IsInvoice es → IsValid es lists → entries_carried (rows_of table) es ≡ Ok tt
         → holds_plainly (rows_of table) es ≡ true }
 {}
 
 /// In each of the three tables: reading the document of such an invoice answers exactly that invoice, with nothing
 /// passed over.
 pub fn carried_invoices_are_read_exactly()
-    ensures { (table : Which) (es : List Entry) (lists : Lists) → IsInvoice es → IsValid es lists → entries_fail (rows_of table) es ≡ None
+    ensures { (table : Which) (es : List Entry) (lists : Lists) → IsInvoice es → IsValid es lists → entries_carried (rows_of table) es ≡ Ok tt
         → terms_of (document_nodes (document_of (rows_of table) es)) (rows_of table) lists ≡ Ok (record { entries = es; passed_over = 0 }) }
 {
     valid_invoices_are_read_exactly();
@@ -67,7 +71,7 @@ pub fn carried_invoices_are_read_exactly()
 /// first document again, with its terms; no reading finds a fault.
 pub fn carried_invoices_are_converted_back()
     ensures { (first second : Which) (es : List Entry) (lists : Lists) → IsInvoice es → IsValid es lists
-        → entries_fail (rows_of first) es ≡ None → entries_fail (rows_of second) es ≡ None
+        → entries_carried (rows_of first) es ≡ Ok tt → entries_carried (rows_of second) es ≡ Ok tt
         → (read : Read) × ((terms_of (document_nodes (document_of (rows_of first) es)) (rows_of first) lists ≡ Ok read)
         × ((again : Read) × ((terms_of (document_nodes (document_of (rows_of second) read.entries)) (rows_of second) lists ≡ Ok again)
         × ((again.entries ≡ es) × (document_of (rows_of first) again.entries ≡ document_of (rows_of first) es))))) }

@@ -5,7 +5,7 @@ use Rattle.bind_rows.specs.declared.rows.Row.{Row}
 use Rattle.bind_table.specs.declared.judging.TableKind.{TableKind}
 use Rattle.bind_table.specs.declared.judging.TableFault.{TableFault}
 use Rattle.bind_table.specs.WellFormed.{told, fault_of, first_fault_from, first_fault}
-use Rattle.term_table.specs.SemanticModel.{terms}
+use Rattle.term_table.specs.SemanticModel.{terms, extension_rows, listing_rows}
 use Rattle.term_table.specs.Groups.{parent_of, occurrence_of}
 use Rattle.cii_binding.specs.Table.{cii_listing, cii_rows}
 
@@ -24,27 +24,27 @@ sound rows (suc n) k m (row ∷ others) e front back =
 -- ---- cii
 
 cii_0 : first_fault_from cii_rows 0 (take 40 cii_rows) ≡ Ok tt
-unfolding terms parent_of occurrence_of cii_listing cii_rows
+unfolding terms extension_rows listing_rows parent_of occurrence_of cii_listing cii_rows
 cii_0 = refl
 
 cii_40 : first_fault_from cii_rows 40 (take 40 (drop 40 cii_rows)) ≡ Ok tt
-unfolding terms parent_of occurrence_of cii_listing cii_rows
+unfolding terms extension_rows listing_rows parent_of occurrence_of cii_listing cii_rows
 cii_40 = refl
 
 cii_80 : first_fault_from cii_rows 80 (take 40 (drop 40 (drop 40 cii_rows))) ≡ Ok tt
-unfolding terms parent_of occurrence_of cii_listing cii_rows
+unfolding terms extension_rows listing_rows parent_of occurrence_of cii_listing cii_rows
 cii_80 = refl
 
 cii_120 : first_fault_from cii_rows 120 (take 40 (drop 40 (drop 40 (drop 40 cii_rows)))) ≡ Ok tt
-unfolding terms parent_of occurrence_of cii_listing cii_rows
+unfolding terms extension_rows listing_rows parent_of occurrence_of cii_listing cii_rows
 cii_120 = refl
 
 cii_160 : first_fault_from cii_rows 160 (take 40 (drop 40 (drop 40 (drop 40 (drop 40 cii_rows))))) ≡ Ok tt
-unfolding terms parent_of occurrence_of cii_listing cii_rows
+unfolding terms extension_rows listing_rows parent_of occurrence_of cii_listing cii_rows
 cii_160 = refl
 
 cii_200 : first_fault_from cii_rows 200 (drop 40 (drop 40 (drop 40 (drop 40 (drop 40 cii_rows))))) ≡ Ok tt
-unfolding terms parent_of occurrence_of cii_listing cii_rows
+unfolding terms extension_rows listing_rows parent_of occurrence_of cii_listing cii_rows
 cii_200 = refl
 
 pub cii_sound : first_fault cii_rows ≡ Ok tt

@@ -1,5 +1,5 @@
-use bind_listing::{Asked, Condition, Tag};
 use bind_rows::Namespace;
+use bind_table::{Asked, Condition, Tag};
 
 const TYPE_CODE: &[Tag] = &[Tag {
     namespace: Namespace::CiiAggregate,

@@ -2,10 +2,9 @@ ghost use Rattle.std.specs.Prelude.{◌≡◌, IfOk};
 ghost use Rattle.cii_binding.specs.Table.{cii_rows};
 
 use crate::conditions::*;
-use bind_listing::Cell::*;
-use bind_listing::{TableItem, listed, table_items};
 use bind_rows::Namespace;
-use bind_table::Binding;
+use bind_table::Cell::*;
+use bind_table::{Binding, TableItem, listed, table_items};
 use std::alloc::{AllocError, Global};
 use term_table::Group;
 

@@ -18,7 +18,7 @@ use Rattle.xml_document.specs.Loading.{IsLoaded}
 use Rattle.xml_profile.specs.Profile as profile
 use Rattle.bind_rows.specs.declared.names.Namespace.{Namespace}
 use Rattle.bind_rows.specs.declared.names.Namespace.TheVariants as spaces
-use Rattle.bind_names.specs.Namespaces.{uri_of}
+use Rattle.bind_rows.specs.Namespaces.{uri_of}
 use Rattle.xpath_tokens.specs.declared.token.SyntaxFault.{SyntaxFault}
 use Rattle.xpath_tokens.specs.declared.token.SyntaxFault.TheVariants as f
 use Rattle.xpath_grammar.specs.Grammar.{Tree}
@@ -43,8 +43,8 @@ use Rattle.job_course.specs.declared.status.Status.{Status}
 use Rattle.job_course.specs.declared.status.Status.TheVariants as statuses
 use Rattle.job_course.specs.Outside.{Outside, HasRead, TakesOrFails}
 use Rattle.job_course.specs.Course.{Course, ends, done, refusal, document_limits}
-use Rattle.job_course.specs.Runs.{Runs}
-use Rattle.job_course.proofs.Ends.{written_here, memory_here, behind_document}
+use Rattle.job_course.specs.Runs.{RunsInPieces}
+use Rattle.job_course.proofs.Ends.{written_here, memory_here, pieces_behind_document}
 use Rattle.job_course.proofs.FileLemmas.{refused_here}
 use Rattle.job_course.specs.Views.{document_read}
 use Rattle.document_jobs.specs.declared.queries.QueryFault.{QueryFault}
@@ -177,10 +177,10 @@ some_answered text whole from to same some = inr (inr (refl, subst (λ t. Writes
 -- ---- the job
 
 answered_here : (status : Status) (text : List ℕ) (shelf : ShelfView) (out out' err : SinkView) → Answered status text out out'
-    → Runs (ends (done text)) (record { shelf = shelf; out = out; err = err }) (record { shelf = shelf; out = out'; err = err }) status
-answered_here status text shelf out out' err (inl all) = written_here statuses.Done status text shelf out out' err tt (inl all)
-answered_here status text shelf out out' err (inr (inl front)) = written_here statuses.Done status text shelf out out' err tt (inr front)
-answered_here status text shelf out out' err (inr (inr some)) = inr (inr (inl (record {
+    → RunsInPieces (ends (done text)) (record { shelf = shelf; out = out; err = err }) (record { shelf = shelf; out = out'; err = err }) status
+answered_here status text shelf out out' err (inl all) = inl (written_here statuses.Done status text shelf out out' err tt (inl all))
+answered_here status text shelf out out' err (inr (inl front)) = inl (written_here statuses.Done status text shelf out out' err tt (inr front))
+answered_here status text shelf out out' err (inr (inr some)) = inr (record {
   count = 0;
   told = some.0;
   few = λ files is. omega arith;
@@ -188,33 +188,33 @@ answered_here status text shelf out out' err (inr (inr some)) = inr (inr (inl (r
   quiet = some.1.writes.faults;
   front = λ files is. (some.1.front, some.1.is_front, some.1.writes.told);
   no_line = refl;
-})))
+})
 
 pub query_refused : (text file : List ℕ) (fault : QueryFault) (status : Status) (shelf : ShelfView) (out err err' : SinkView) → Asks (Err fault) (expression_of text)
     → IsQueryRefusal fault status err err'
-    → Runs (query_course text file) (record { shelf = shelf; out = out; err = err }) (record { shelf = shelf; out = out; err = err' }) status
+    → RunsInPieces (query_course text file) (record { shelf = shelf; out = out; err = err }) (record { shelf = shelf; out = out; err = err' }) status
 query_refused text file q.Memory status shelf out err err' asks told =
-    rw (told.0, told.1) (memory_here (query_course text file) shelf out err)
+    rw (told.0, told.1) (inl (memory_here (query_course text file) shelf out err))
 query_refused text file (q.Syntax fault) status shelf out err err' asks told =
-    rw told.0 (subst (λ course. Runs course (record { shelf = shelf; out = out; err = err }) (record { shelf = shelf; out = out; err = err' }) statuses.RulesRefused)
-    (sym (ap (by_expression file) asks)) (refused_here statuses.RulesRefused (expression_line (q.Syntax fault)) shelf out err err' tt told.1))
+    rw told.0 (subst (λ course. RunsInPieces course (record { shelf = shelf; out = out; err = err }) (record { shelf = shelf; out = out; err = err' }) statuses.RulesRefused)
+    (sym (ap (by_expression file) asks)) (inl (refused_here statuses.RulesRefused (expression_line (q.Syntax fault)) shelf out err err' tt told.1)))
 query_refused text file (q.Typing kind token) status shelf out err err' asks told =
-    rw told.0 (subst (λ course. Runs course (record { shelf = shelf; out = out; err = err }) (record { shelf = shelf; out = out; err = err' }) statuses.RulesRefused)
-    (sym (ap (by_expression file) asks)) (refused_here statuses.RulesRefused (expression_line (q.Typing kind token)) shelf out err err' tt told.1))
+    rw told.0 (subst (λ course. RunsInPieces course (record { shelf = shelf; out = out; err = err }) (record { shelf = shelf; out = out; err = err' }) statuses.RulesRefused)
+    (sym (ap (by_expression file) asks)) (inl (refused_here statuses.RulesRefused (expression_line (q.Typing kind token)) shelf out err err' tt told.1)))
 
 -- what follows behind the document
 abbrev pub query_next : Exp → profile.Document → Course
 query_next e found = ends (done (answered e (tree_nodes (document_read found))))
 
 pub query_planned : (text file : List ℕ) (plan : Planned) (status : Status) (before after : Outside) → Asks (Ok plan) (expression_of text)
-    → Runs (by_expression file (Ok (expression plan))) before after status → Runs (query_course text file) before after status
-query_planned text file plan status before after asks runs = subst (λ course. Runs course before after status) (sym (ap (by_expression file) asks)) runs
+    → RunsInPieces (by_expression file (Ok (expression plan))) before after status → RunsInPieces (query_course text file) before after status
+query_planned text file plan status before after asks runs = subst (λ course. RunsInPieces course before after status) (sym (ap (by_expression file) asks)) runs
 
 pub query_answered : (file : List ℕ) (plan : Planned) (status : Status) (shelf mid : ShelfView) (out out' err mid_err : SinkView) (doc : Document)
     → HasRead 1 shelf mid → mid_err ≡ err → IsLoaded document_limits (option_map (bytes_under file) shelf.held) doc
     → Answered status (answered (expression plan) (tree_nodes doc)) out out'
-    → Runs (by_expression file (Ok (expression plan))) (record { shelf = shelf; out = out; err = err }) (record { shelf = mid; out = out'; err = mid_err }) status
+    → RunsInPieces (by_expression file (Ok (expression plan))) (record { shelf = shelf; out = out; err = err }) (record { shelf = mid; out = out'; err = mid_err }) status
 query_answered file plan status shelf mid out out' err mid_err doc read quiet found answer =
-    behind_document file shelf mid mid out out' err mid_err mid_err status read quiet (query_next (expression plan)) doc found
+    pieces_behind_document file shelf mid mid out out' err mid_err mid_err status read quiet (query_next (expression plan)) doc found
     (answered_here status (answered (expression plan) (tree_nodes (document_read found.found))) mid out out' mid_err
     (subst (λ (d : Document). Answered status (answered (expression plan) (tree_nodes d)) out out') found.exactly answer))

@@ -7,7 +7,7 @@ use Rattle.inv_base.specs.Writing.{WritesAll, WritesFront}
 use Rattle.node_arena.specs.Moves.{tree_nodes}
 use Rattle.bind_rows.specs.declared.names.Namespace.{Namespace}
 use Rattle.bind_rows.specs.declared.names.Namespace.TheVariants as spaces
-use Rattle.bind_names.specs.Namespaces.{uri_of}
+use Rattle.bind_rows.specs.Namespaces.{uri_of}
 use Rattle.xpath_tokens.specs.declared.token.SyntaxFault.{SyntaxFault}
 use Rattle.xpath_tokens.specs.declared.token.SyntaxFault.TheVariants as f
 use Rattle.xpath_grammar.specs.Grammar.{Tree}
@@ -66,6 +66,9 @@ type_text t.UndeclaredVariable = codes "UndeclaredVariable"
 type_text t.UnknownFunction = codes "UnknownFunction"
 type_text t.UnknownType = codes "UnknownType"
 type_text t.WrongArity = codes "WrongArity"
+type_text t.NotLiteral = codes "NotLiteral"
+type_text t.BadPattern = codes "BadPattern"
+type_text t.PatternTooLarge = codes "PatternTooLarge"
 type_text t.SureTypeError = codes "SureTypeError"
 
 -- the expression of a tree, or why it is refused

@@ -4,7 +4,7 @@ ghost use Rattle.std.specs.Str.{IsAscii};
 ghost use Rattle.inv_base.specs.Printing.{Prints};
 ghost use Rattle.job_course.specs.Outside.{TakesOrFails};
 ghost use Rattle.job_course.specs.declared.status.Status.TheVariants as statuses;
-ghost use Rattle.job_course.specs.Runs.{Runs};
+ghost use Rattle.job_course.specs.Runs.{RunsInPieces};
 ghost use Rattle.node_arena.specs.Moves.{tree_nodes};
 ghost use Rattle.xpath_grammar.specs.View.{view};
 ghost use Rattle.xpath_meaning.specs.Meaning.{mean, at_top};
@@ -13,12 +13,11 @@ ghost use Rattle.xpath_plan.specs.Plans.{expression};
 ghost use Rattle.item_listing.specs.Listing.{ValueWithin};
 ghost use Rattle.xpath_types.specs.Scopes.{with_prefix};
 ghost use Rattle.bind_rows.specs.declared.names.Namespace.TheVariants as spaces;
-ghost use Rattle.bind_names.specs.Namespaces as names;
+ghost use Rattle.bind_rows.specs.Namespaces as names;
 ghost use Rattle.document_jobs.specs.Queries as spec;
 ghost use Rattle.document_jobs.specs.Queries.{Asks, IsQueryRefusal, Answered, answered, by_expression, query_course};
 
-use bind_names::uri_of;
-use bind_rows::Namespace;
+use bind_rows::{Namespace, uri_of};
 use bumpalo::Bump;
 use inv_base::{Printer, Shelf, Sink, Steps};
 use item_listing::write_items;
@@ -56,7 +55,7 @@ pub fn query<S: Shelf, O: Sink, E: Sink>(
     out: &mut O,
     err: &mut E,
 ) -> Status
-    ensures { Runs (query_course text.now file.now)
+    ensures { RunsInPieces (query_course text.now file.now)
         (record { shelf = S.view shelf.old; out = O.view out.old; err = E.view err.old })
         (record { shelf = S.view shelf.new; out = O.view out.new; err = E.view err.new }) result }
 {
@@ -79,7 +78,7 @@ fn query_by<S: Shelf, O: Sink, E: Sink>(
     out: &mut O,
     err: &mut E,
 ) -> Status
-    ensures { Runs (by_expression file.now (Ok (expression plan.now)))
+    ensures { RunsInPieces (by_expression file.now (Ok (expression plan.now)))
         (record { shelf = S.view shelf.old; out = O.view out.old; err = E.view err.old })
         (record { shelf = S.view shelf.new; out = O.view out.new; err = E.view err.new }) result }
 {
@@ -297,6 +296,9 @@ pub(crate) fn type_name(kind: TypeKind) -> &'static str
         TypeKind::UnknownFunction => "UnknownFunction",
         TypeKind::UnknownType => "UnknownType",
         TypeKind::WrongArity => "WrongArity",
+        TypeKind::NotLiteral => "NotLiteral",
+        TypeKind::BadPattern => "BadPattern",
+        TypeKind::PatternTooLarge => "PatternTooLarge",
         TypeKind::SureTypeError => "SureTypeError",
     }
 }

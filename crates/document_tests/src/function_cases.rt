@@ -145,6 +145,10 @@ ends-with:'abc|'bc -> true
 ends-with:'abc|'b -> false
 ends-with:'bc|'abc -> false
 ends-with:'a| -> true
+matches:'DE123|'^[A-Z]{2}[0-9]+$ -> true
+matches:'xDE1|'^DE -> false
+matches:|'^$ -> true
+matches:'a|'[ -> false
 substring-before:'abc|'b -> 'a
 substring-before:|'a -> '
 substring-before:'abc|#1 -> XPTY0004

@@ -1,7 +1,7 @@
 //! `einv`, the program.
 #![tactic(auto)]
 
-use inv_base::{Buffered, write_all};
+use inv_base::write_all;
 use invoice_cli::{FileShelf, OutputSink, Status, run};
 use std::alloc::Global;
 use std::env;
@@ -31,13 +31,7 @@ fn answered(rt: HostRuntime) -> Status {
             return Status::BadWords;
         }
     }
-    let Ok(mut out) = Buffered::new(alloc, OutputSink::new(rt.stdout())) else {
-        return Status::Memory;
-    };
+    let mut out = OutputSink::new(rt.stdout());
     let mut shelf = FileShelf::new(rt);
-    let status = run(alloc, &words, &mut shelf, &mut out, &mut err);
-    match out.finish() {
-        (_, Err(_)) if status == Status::Done => Status::WriteFault,
-        _ => status,
-    }
+    run(alloc, &words, &mut shelf, &mut out, &mut err)
 }

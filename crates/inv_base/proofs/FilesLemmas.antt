@@ -3,6 +3,8 @@ use Rattle.std.proofs.Common.{◌≡◌, ℕ, ◌+◌, ◌<◌, ◌≤◌, min, 
 use Rattle.std.proofs.Math.Seq.{take-append_seam}
 use Rattle.inv_base.specs.Memory.{Kept, shelf_of, behind_read, within_piece}
 use Rattle.inv_base.specs.Outside.{Reads}
+use Rattle.inv_base.specs.Sure.{SureFiles, sure_shelf_of, behind_sure_read}
+use Rattle.std.proofs.lemmas.Bool.{true≢false}
 use Rattle.std.proofs.lemmas.List.{take-append-drop, take-take, length-take-le, take_more, map-append, reverse-append}
 use Rattle.std.proofs.lemmas.Option.{slice_get_read}
 use Rattle.inv_base.specs.declared.mem_shelf.MemFile.{MemFile}
@@ -99,3 +101,20 @@ Reads-behind_read {E} n s t before after some count copied is =
       faults = refl;
       opens = refl;
     })
+
+-- Files that don't hold the name have no bytes under it.
+pub absent_content : (name : List ℕ) (files : List (List ℕ × List ℕ)) → is_named name files ≡ false → content_of name files ≡ []
+absent_content name [] absent = refl
+absent_content name (file ∷ files) absent = by_head (bytes_eq file.0 name) refl (absent_content name files) where
+  by_head : (b : Bool) → bytes_eq file.0 name ≡ b → (is_named name files ≡ false → content_of name files ≡ []) → content_of name (file ∷ files) ≡ []
+  by_head true same behind = absurd (true≢false (sym (is_named-head name file files true same) ∙ absent))
+  by_head false other behind =
+      content_of-head name file files false other ∙ behind (sym (is_named-head name file files false other) ∙ absent)
+
+-- What files that never fail do at a read is what a shelf's read keeps.
+pub Reads-behind_sure_read : {E : Type 0} (n : ℕ) (s t : SureFiles) (before after : List ℕ) → n ≡ min (length s.left) (length before)
+    → after ≡ take n s.left ++ drop n before → t ≡ behind_sure_read n s → Reads {E = E} (Ok n) after (sure_shelf_of s) (sure_shelf_of t)
+Reads-behind_sure_read {E} n s t before after count copied is =
+    let kept : Kept = record { files = s.files; left = s.left; piece = None; failing = []; calls = 0; faults = 0; opens = s.opens } in
+    let reads = Reads-behind_read {E = E} n kept (behind_read n kept) before after tt count copied refl in
+    rw is (record { held = refl; bound = reads.bound; left = reads.left; end = reads.end; faults = refl; opens = refl })

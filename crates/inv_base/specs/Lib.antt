@@ -6,6 +6,7 @@ pub mod Buffering
 pub mod Printing
 pub mod Memory
 pub mod MemFiles
+pub mod Sure
 pub mod Characters
 pub mod Text
 pub mod Tree

@@ -10,15 +10,15 @@ use std::marker::Model;
 
 #[derive(Drop)]
 pub(crate) struct MemFile {
-    name: String,
-    bytes: Vec<u8>,
+    pub(crate) name: String,
+    pub(crate) bytes: Vec<u8>,
 }
 
 /// Which file is open, by its number, and how many of its bytes were read.
 #[derive(Clone, Copy)]
 pub(crate) struct Opened {
-    file: usize,
-    position: usize,
+    pub(crate) file: usize,
+    pub(crate) position: usize,
 }
 
 /// A shelf of files in memory, which fails at the calls that it is told to.
@@ -109,7 +109,7 @@ impl MemShelf {
     ghost use Rattle.inv_base.specs.MemFiles.{newest_first, bytes_at};
 
     /// The number of the last file of that name.
-    fn find(files: &[MemFile], name: &str) -> Option<usize>
+    pub(crate) fn find(files: &[MemFile], name: &str) -> Option<usize>
         ensures { MatchOption result (is_named name.now (newest_first files.now) ≡ false)
             (λ k. (k < length files.now) × (is_named name.now (newest_first files.now) ≡ true)
             × (content_of name.now (newest_first files.now) ≡ bytes_at k files.now)) }
@@ -128,7 +128,7 @@ impl MemShelf {
     ghost use Rattle.inv_base.specs.MemFiles.{left_of, IsPlace};
 
     /// The bytes left of the open file.
-    fn left(files: &[MemFile], opened: Option<Opened>) -> &[u8]
+    pub(crate) fn left(files: &[MemFile], opened: Option<Opened>) -> &[u8]
         requires { IsPlace files.now opened }
         ensures { result.now ≡ left_of files.now opened }
     {

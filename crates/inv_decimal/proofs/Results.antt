@@ -10,7 +10,7 @@ use Rattle.std.specs.Int.{is_negative}
 use Rattle.std.proofs.lemmas.Bool.Decides.{nat_tests}
 use Rattle.inv_decimal.specs.Number.{unit}
 use Rattle.inv_decimal.specs.WrittenNumber.{with_sign}
-use Rattle.inv_decimal.specs.Arithmetic.{in_range, divided_by, product_of, quotient_of, whole_quotient_of, remainder_of, floor_of, rounded_up}
+use Rattle.inv_decimal.specs.Arithmetic.{in_range, divided_by, product_of, quotient_of, whole_quotient_of, remainder_of, floor_of, rounded_up, hundredths, nearest_hundredth}
 use Rattle.inv_decimal.specs.declared.fault.DecFault.TheVariants.{Overflow as OutOfRange}
 use Rattle.inv_decimal.proofs.Signs.{other_sign, product_by_signs, quotient_by_signs, abs-with_sign, abs-neg}
 use mathlib.Core.Bool.{not, beq}
@@ -116,3 +116,18 @@ rounded_up_is x f h e =
     let ff : FitsSigned w128 f = fits_signed_from_abs w128 f (omega (arith, ap unsigned_abs same, abs-floor (neg_ℤ x), abs-neg_ℤ x)) in
     let back : to_z w128 (of_z w128 (pos 0 -ℤ to_z w128 (of_z w128 f))) ≡ neg_ℤ f = omega (arith, ints) in
     ap in_range back ∙ ap (λ g. in_range (neg_ℤ g)) same
+
+pub hundredth_some : (x z : ℤ) (a m : ℕ) (s : Bool) → a ≡ unsigned_abs x → s ≡ is_negative x → (hundredths a < 10 ^ 36) × (m ≡ hundredths a) → z ≡ with_sign s m → Ok z ≡ nearest_hundredth x
+unfolding nearest_hundredth
+hundredth_some x z a m s ea es h ez =
+    let same : with_sign s m ≡ with_sign (is_negative x) (hundredths (unsigned_abs x)) =
+    ap (λ b. with_sign b m) es ∙ ap (with_sign (is_negative x)) (h.1 ∙ ap hundredths ea) in
+    let size : unsigned_abs z ≡ m = ap unsigned_abs ez ∙ abs-with_sign s m in
+    sym (in_range-small z (omega arith)) ∙ ap in_range (ez ∙ same)
+
+pub hundredth_none : (x : ℤ) (a : ℕ) → a ≡ unsigned_abs x → (hundredths a < 10 ^ 36 → ⊥) → Err (record {}) ≡ nearest_hundredth x
+unfolding nearest_hundredth
+hundredth_none x a ea h =
+    let same : hundredths a ≡ hundredths (unsigned_abs x) = ap hundredths ea in
+    let size : unsigned_abs (with_sign (is_negative x) (hundredths (unsigned_abs x))) ≡ hundredths (unsigned_abs x) = abs-with_sign (is_negative x) _ in
+    sym (in_range-large (with_sign (is_negative x) (hundredths (unsigned_abs x))) (omega (arith, h)))

@@ -1,7 +1,7 @@
 -- worked rows, by computing
-use Rattle.std.proofs.Common.{◌≡◌, ◌*◌, ◌^◌, pos, neg_ℤ, refl, Some, None, Ok, Err}
+use Rattle.std.proofs.Common.{◌≡◌, ◌*◌, ◌^◌, ◌-◌, pos, neg_ℤ, refl, Some, None, Ok, Err}
 use Rattle.std.specs.Prelude.{codes}
-use Rattle.inv_decimal.specs.Arithmetic.{sum_of, product_of, quotient_of, whole_quotient_of, remainder_of, rounded, rounded_down, rounded_up}
+use Rattle.inv_decimal.specs.Arithmetic.{sum_of, product_of, quotient_of, whole_quotient_of, remainder_of, rounded, rounded_down, rounded_up, nearest_hundredth}
 use Rattle.inv_decimal.specs.WrittenNumber.{written_units, read_scaled, read_decimal, decimal_text, scaled_text}
 use Rattle.inv_decimal.specs.WrittenDay.{day_from, read_plain_day, read_dashed_day, dashed_day_text}
 use Rattle.inv_decimal.specs.declared.fault.DecFault.TheVariants.{Overflow as OutOfRange, DivisionByZero}
@@ -51,6 +51,30 @@ r10 = refl
 r11 : rounded_up (neg_ℤ (pos (25 * 10 ^ 17))) ≡ Ok (neg_ℤ (pos (2 * 10 ^ 18)))
 unfolding rounded_up
 r11 = refl
+
+h1 : nearest_hundredth (pos (5 * 10 ^ 15)) ≡ Ok (pos (10 ^ 16))
+unfolding nearest_hundredth
+h1 = refl
+
+h2 : nearest_hundredth (pos (5 * 10 ^ 15 - 1)) ≡ Ok (pos 0)
+unfolding nearest_hundredth
+h2 = refl
+
+h3 : nearest_hundredth (neg_ℤ (pos (5 * 10 ^ 15))) ≡ Ok (neg_ℤ (pos (10 ^ 16)))
+unfolding nearest_hundredth
+h3 = refl
+
+h4 : nearest_hundredth (neg_ℤ (pos (2_014_999_999_999_999_999))) ≡ Ok (neg_ℤ (pos (201 * 10 ^ 16)))
+unfolding nearest_hundredth
+h4 = refl
+
+h5 : nearest_hundredth (pos (10 ^ 36 - 5 * 10 ^ 15)) ≡ Err (record {})
+unfolding nearest_hundredth
+h5 = refl
+
+h6 : nearest_hundredth (neg_ℤ (pos (4 * 10 ^ 15))) ≡ Ok (pos 0)
+unfolding nearest_hundredth
+h6 = refl
 
 s1 : read_scaled (codes "007.50") ≡ Some (record { value = pos (75 * 10 ^ 17); digits = 2 })
 unfolding read_scaled written_units

@@ -1,8 +1,9 @@
 -- What each operation on decimal numbers gives, in units of 10^-18: XPath 2.0 Functions and Operators, 6.2 and 6.4, at
 -- xs:decimal. What is out of range is a fault.
-use Rattle.std.specs.Prelude.{ℕ, ◌*◌, ◌^◌, ℤ, pos, neg_ℤ, ◌+ℤ◌, ◌-ℤ◌, ◌*ℤ◌, Bool, Result, Ok, Err, nat_lt, if◌then◌else◌, ◌==◌, int_div, unsigned_abs}
-use Rattle.std.specs.Int.{int_div_euclid}
+use Rattle.std.specs.Prelude.{ℕ, ◌*◌, ◌^◌, ℤ, pos, neg_ℤ, ◌+ℤ◌, ◌-ℤ◌, ◌*ℤ◌, Bool, Result, Ok, Err, nat_lt, if◌then◌else◌, ◌==◌, ◌+◌, ◌/◌, int_div, unsigned_abs}
+use Rattle.std.specs.Int.{int_div_euclid, is_negative}
 use Rattle.inv_decimal.specs.Number.{unit}
+use Rattle.inv_decimal.specs.WrittenNumber.{with_sign}
 use Rattle.inv_decimal.specs.declared.fault.Overflow.{Overflow}
 use Rattle.inv_decimal.specs.declared.fault.DivisionByZero.{DivisionByZero as ZeroDivisor}
 use Rattle.inv_decimal.specs.declared.fault.DecFault.{DecFault}
@@ -61,3 +62,11 @@ rounded_up x = in_range (neg_ℤ (floor_of (neg_ℤ x)))
 
 unfoldable pub rounded : ℤ → Result ℤ Overflow
 rounded x = in_range (floor_of (x +ℤ pos half))
+
+-- the units of the whole hundredths that are nearest to a magnitude, a half counted up
+abbrev pub hundredths : ℕ → ℕ
+hundredths magnitude = (magnitude + 5 * 10 ^ 15) / 10 ^ 16 * 10 ^ 16
+
+-- the nearest whole number of hundredths, halves away from zero
+unfoldable pub nearest_hundredth : ℤ → Result ℤ Overflow
+nearest_hundredth x = in_range (with_sign (is_negative x) (hundredths (unsigned_abs x)))

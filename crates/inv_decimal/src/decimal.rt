@@ -3,7 +3,7 @@ ghost use Rattle.std.specs.Int.{is_negative};
 ghost use Rattle.std.specs.Ordering.{int_cmp};
 ghost use Rattle.std.specs.Str.{chars};
 ghost use Rattle.inv_decimal.specs.Number.{IsDecimal};
-ghost use Rattle.inv_decimal.specs.Arithmetic.{in_range, floor_of, sum_of, difference_of, product_of, quotient_of, whole_quotient_of, remainder_of, rounded_down, rounded_up, rounded};
+ghost use Rattle.inv_decimal.specs.Arithmetic.{in_range, floor_of, sum_of, difference_of, product_of, quotient_of, whole_quotient_of, remainder_of, rounded_down, rounded_up, rounded, nearest_hundredth};
 ghost use Rattle.inv_decimal.specs.WrittenNumber.{read_decimal, decimal_text, with_sign};
 
 use crate::fault::{DecFault, DivisionByZero, Overflow};
@@ -146,6 +146,16 @@ impl Dec {
         ensures { result ≡ rounded_up self.now }
     {
         Dec::ranged(-floor_units(-self.units))
+    }
+
+    /// The nearest whole number of hundredths: halves go away from zero.
+    pub fn to_hundredth(&self) -> Result<Dec, Overflow>
+        ensures { result ≡ nearest_hundredth self.now }
+    {
+        match wide::whole_hundredths(self.magnitude()) {
+            Some(magnitude) => Ok(Dec::from_parts(self.is_negative(), magnitude)),
+            None => Err(Overflow),
+        }
     }
 
     /// The number with the other sign.

@@ -1,9 +1,15 @@
 //! Products and quotients of magnitudes below `10^36`, in 128 bits.
 
 ghost use Rattle.std.specs.Prelude.{◌≡◌, ◌*◌, ◌/◌, ◌%◌, ◌^◌, ◌<◌, ◌≤◌, Option, SomeIff};
+ghost use Rattle.inv_decimal.specs.Arithmetic.{hundredths};
 
 /// The units of one.
 pub(crate) const UNIT: u128 = 1_000_000_000_000_000_000;
+
+/// The units of a hundredth, and half of them.
+const HUNDREDTH: u128 = 10_000_000_000_000_000;
+
+const HALF_HUNDREDTH: u128 = 5_000_000_000_000_000;
 
 /// The magnitude that is too large for a number, in units.
 const LIMIT: u128 = 1_000_000_000_000_000_000_000_000_000_000_000_000;
@@ -15,6 +21,15 @@ pub(crate) fn split(magnitude: u128) -> (u128, u128)
 {
     let whole = magnitude / UNIT;
     (whole, magnitude - whole * UNIT)
+}
+
+/// The nearest magnitude of whole hundredths, halves upwards, if it is below `10^36`.
+pub(crate) fn whole_hundredths(magnitude: u128) -> Option<u128>
+    requires { magnitude < 10 ^ 36 }
+    ensures { SomeIff result (hundredths magnitude < 10 ^ 36) (hundredths magnitude) }
+{
+    let nearest = (magnitude + HALF_HUNDREDTH) / HUNDREDTH * HUNDREDTH;
+    if nearest < LIMIT { Some(nearest) } else { None }
 }
 
 /// `a * b / 10^18`, if it is below `10^36`.

@@ -1,22 +1,26 @@
 -- How an invoice is listed for a person: a line for each entry, in the order of the semantic model (EN 16931-1, section 6.3).
-use Rattle.std.specs.Prelude.{ℕ, nat_eq, List, [], ◌∷◌, ◌++◌, codes, decimal, encode_utf8_all, flat_map, Option, Some, None, if◌then◌else◌}
+use Rattle.std.specs.Prelude.{ℕ, ◌-◌, nat_eq, List, [], ◌∷◌, ◌++◌, codes, decimal, encode_utf8_all, flat_map, Option, Some, None, if◌then◌else◌}
 use Rattle.inv_base.specs.Text.{quoted}
 use Rattle.term_table.specs.declared.terms.Term.{Term}
 use Rattle.term_table.specs.declared.contexts.Slot.{Slot}
 use Rattle.term_table.specs.declared.contexts.Context.{Context}
+use Rattle.term_table.specs.SemanticModel.{is_extension}
 use Rattle.term_table.specs.Groups.{label_of}
 use Rattle.inv_terms.specs.declared.entries.Entry.{Entry}
 use Rattle.inv_terms.specs.Values.{spelled}
-use Rattle.inv_lacks.specs.declared.lacks.Name.{Name}
-use Rattle.inv_lacks.specs.declared.lacks.Name.TheVariants as names
+use Rattle.inv_terms.specs.declared.lacks.Name.{Name}
+use Rattle.inv_terms.specs.declared.lacks.Name.TheVariants as names
 
 -- the part of a term, behind its number
 abbrev pub part_text : ℕ → List ℕ
 part_text part = if nat_eq part 0 then [] else 0x2D ∷ decimal part
 
--- a term by its number: `BT-1`, `BT-18-1`
+-- a term by its number: `BT-1`, `BT-18-1`, and `EXT-1` of one that a table adds
 abbrev pub term_text : Term → List ℕ
-term_text term = codes "BT-" ++ (decimal term.number ++ part_text term.part)
+term_text term =
+    if is_extension term
+    then codes "EXT-" ++ decimal (term.number - 1000)
+    else codes "BT-" ++ (decimal term.number ++ part_text term.part)
 
 -- an occurrence of a group by its number: `BG-25[1]`
 abbrev pub slot_text : Slot → List ℕ

@@ -4,5 +4,5 @@
 mod names;
 mod printing;
 
-pub use names::{print_name, print_term};
+pub use names::{print_context, print_name, print_term};
 pub use printing::print_listing;

@@ -3,15 +3,20 @@ ghost use Rattle.inv_base.specs.Printing.{Prints};
 ghost use Rattle.inv_listing.specs.Listing.{part_text, term_text, slot_text, inner_text, context_text, name_text};
 
 use inv_base::{Printer, Sink};
-use inv_lacks::Name;
+use inv_terms::Name;
 use itoa::Buffer;
 use term_table::{Context, Slot, Term};
 
-/// Prints a term by its number in the standard, as `BT-1` or `BT-18-1`.
+/// Prints a term by its number in the standard, as `BT-1` or `BT-18-1`, or one that a table adds by its own, as `EXT-1`.
 pub fn print_term<K: Sink>(term: Term, printer: &mut Printer, out: &mut K)
     ensures { Prints (term_text term) printer.old.failed printer.new.failed (K.view out.old) (K.view out.new) }
 {
     let mut digits = Buffer::new();
+    if term.is_extension() {
+        printer.put(out, b"EXT-");
+        printer.put(out, digits.format(term.number - 1000).as_bytes());
+        return;
+    }
     printer.put(out, b"BT-");
     printer.put(out, digits.format(term.number).as_bytes());
     print_part(term.part, printer, out);
@@ -46,8 +51,9 @@ pub fn print_name<K: Sink>(name: Name, printer: &mut Printer, out: &mut K)
     }
 }
 
-/// Prints the occurrences in which an entry stands, the outer one first.
-pub(crate) fn print_context<K: Sink>(context: Context, printer: &mut Printer, out: &mut K)
+/// Prints the occurrences in which an entry stands, the outer one first, each with its number, and a space behind them;
+/// nothing at the root.
+pub fn print_context<K: Sink>(context: Context, printer: &mut Printer, out: &mut K)
     ensures { Prints (context_text context) printer.old.failed printer.new.failed (K.view out.old) (K.view out.new) }
 {
     match context.outer {

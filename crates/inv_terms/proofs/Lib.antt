@@ -7,3 +7,9 @@ mod Rows
 pub mod OrderLemmas
 pub mod SpellLemmas
 pub mod GapLemmas
+pub mod MapLemmas
+pub mod WalkLemmas
+mod LackRows
+pub mod ContextLemmas
+pub mod FirstLemmas
+pub mod ValidLemmas

@@ -4,3 +4,7 @@ pub mod LastEntry
 pub mod Refusals
 pub mod Looking
 pub mod Attachments
+pub mod Lacking
+pub mod Validity
+pub mod Opened
+pub mod Whole

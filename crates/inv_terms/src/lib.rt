@@ -1,23 +1,33 @@
 //! An electronic invoice (EN 16931-1) as a list of entries, values of business terms in the order of the semantic
-//! model, and its attached documents.
+//! model, its attached documents, and what it lacks: mandatory terms and groups, and codes that aren't in their lists.
 #![tactic(auto)]
 
 mod attachments;
 mod entries;
 mod invoice;
+mod lack_laws;
+mod lacks;
 mod laws;
 mod listing;
 mod looking;
+mod missing;
 mod spaces;
+mod validity;
 mod values;
 
 pub use attachments::{AttachFault, attachment};
 pub use entries::Entry;
 pub use invoice::{Invoice, PushFault};
+pub use lack_laws::{
+    contexts_are_those_of_the_entries, first_lacks_are_first, valid_invoices_lack_nothing,
+};
+pub use lacks::{Lack, Name, TermFault};
 pub use laws::{
     invoices_are_in_listing_order, invoices_with_the_same_entries_are_equal,
     push_refuses_what_makes_no_invoice, spelled_values_are_read_back,
 };
 pub use looking::value_in;
+pub use missing::first_missing;
 pub use spaces::{is_blank, trimmed};
+pub use validity::{check, is_unlisted};
 pub use values::Value;

@@ -7,18 +7,18 @@ use Rattle.inv_base.specs.Writing.{IsFront, WritesAll, WritesFront}
 use Rattle.inv_base.proofs.WritingLemmas.{appended-nil, WritesAll-nil, IsFront-nil, IsFront-whole}
 use Rattle.job_course.specs.declared.status.Status.{Status}
 use Rattle.job_course.specs.declared.status.Status.TheVariants as statuses
-use Rattle.job_course.specs.Course.{Answer, Course, done, answer_of, readings}
+use Rattle.job_course.specs.Course.{Answer, Course, ends, done, refusal, answer_of, readings}
 use Rattle.job_course.specs.Lines.{bad_word_line, read_fault_line}
-use Rattle.job_course.specs.Outside.{Outside, IsRefusal, IsAccepted, IsRefusedAnswer, TakesOrFails, counted}
-use Rattle.job_course.specs.Runs.{EndsIn, ReadsAt, IsRefused, IsUnread, IsOutOfMemory, IsWritten, Runs}
+use Rattle.job_course.specs.Outside.{Outside, IsRefusal, IsAccepted, IsRefusedAnswer, TakesOrFails, HasRead, counted}
+use Rattle.job_course.specs.Runs.{EndsIn, at_end, ReadsAt, IsRefused, IsUnread, IsOutOfMemory, IsCut, IsWritten, Runs, RunsInPieces}
 use Rattle.job_course.proofs.Ends.{ends_as_answered, ends_behind_readings, reads_within}
 use Rattle.trial_run.specs.Trials.{trial_of, trial_text}
-use Rattle.invoice_cli.specs.Job.{Job, outline, show, convert, check, extract, query, trial, help, version, bad_word}
+use Rattle.invoice_cli.specs.Job.{Job, outline, show, totals, convert, check, extract, query, trial, help, version, bad_word}
 use Rattle.invoice_cli.specs.Answer.{course_of, answer_to}
 use Rattle.invoice_cli.specs.declared.words.Asked.{Asked}
 use Rattle.invoice_cli.specs.declared.words.Command.{Command}
 use Rattle.invoice_cli.specs.Commands.{named_files, asked_by, asked}
-use Rattle.invoice_cli.specs.Answers.{NamesFiles, WantsMemory, IsRefusalLine, IsLineOf, IsGiven, Says, Tries, Answers}
+use Rattle.invoice_cli.specs.Answers.{NamesFiles, WantsMemory, WritesInPieces, IsRefusalLine, IsLineOf, IsGiven, Says, Tries, Answers}
 
 -- A count that rose isn't quiet.
 not_quiet : (a b : ℕ) → Rose a b → Quiet a b → ⊥
@@ -38,16 +38,27 @@ whole_line line a b (inr front) quiet = absurd (not_quiet a.faults b.faults fron
 pub asked_is : {wanted : Job} (all : Asked) {command : Command} → asked all ≡ wanted → all.command ≡ command → asked_by (named_files all.rules) command ≡ wanted
 asked_is all is same = sym (ap (asked_by (named_files all.rules)) same) ∙ is
 
+-- A course ends in one way at once.
+same_end : (a b : Answer) → ends a ≡ ends b → a ≡ b
+same_end a b e = cc
+
+-- Bad words are no refusal of an answer.
+word_no_refusal : (number : ℕ) (a : Answer) → ends (refusal statuses.BadWords (bad_word_line number)) ≡ ends a → IsRefusedAnswer a.status → ⊥
+word_no_refusal number a e refuses = subst (λ (x : Answer). IsRefusedAnswer x.status) (sym (same_end (refusal statuses.BadWords (bad_word_line number)) a e)) refuses
+
 -- words that name no job
 pub answers_bad_word : (steps number : ℕ) (shelf : ShelfView) (out err err' : SinkView) → TakesOrFails (bad_word_line number) err err'
     → Answers steps (bad_word number) (record { shelf = shelf; out = out; err = err }) (record { shelf = shelf; out = out; err = err' }) statuses.BadWords
 answers_bad_word steps number shelf out err err' takes = record {
-  answered = λ _ _ _ files is. refl;
-  output = λ _ _ _ files is. sym (appended-nil out.told);
-  errors = λ _ _ quiet _ files is. whole_line (bad_word_line number) err err' takes quiet;
+  answered = λ _ _ files is _. refl;
+  output = λ _ _ files is _. sym (appended-nil out.told);
+  errors = λ _ quiet _ files is _. whole_line (bad_word_line number) err err' takes quiet;
+  written = λ good. absurd good;
+  at_once = λ a is refuses. absurd (word_no_refusal number a is refuses);
   bad_words = λ _. (number, refl);
   only_bad_words = λ _ _. refl;
   memory = λ e. cc;
+  spent = λ e. cc;
   read_fault = λ e. cc;
   write_fault = λ e. cc;
   write_done = λ e files is. cc;
@@ -68,20 +79,25 @@ answers_bad_word steps number shelf out err err' takes = record {
 
 -- a text that is the answer whatever is held
 pub answers_said : (steps : ℕ) (job : Job) (text : List ℕ) (status : Status) (shelf : ShelfView) (out out' err : SinkView)
-    → ((files : Files) → answer_to steps job files ≡ done text) → ((files : Files) → readings (course_of steps job) files ≡ 0)
+    → course_of steps job ≡ ends (done text)
     → ((number : ℕ) → job ≡ bad_word number → ⊥) → ((file : List ℕ) → job ≡ outline file → ⊥) → Says status text out out'
     → Answers steps job (record { shelf = shelf; out = out; err = err }) (record { shelf = shelf; out = out'; err = err }) status
-answers_said steps job text status shelf out out' err is_text unread good no_document (inl said) =
+answers_said steps job text status shelf out out' err is_end good no_document (inl said) =
     let all = said.1 in
+    let is_text : (files : Files) → answer_to steps job files ≡ done text = λ files. ap (λ course. answer_of course files) is_end in
+    let unread : (files : Files) → readings (course_of steps job) files ≡ 0 = λ files. ap (λ course. readings course files) is_end in
     let before : Outside = record { shelf = shelf; out = out; err = err } in
     let after : Outside = record { shelf = shelf; out = out'; err = err } in
     rw said.0 (record {
-      answered = λ _ _ _ files is. sym (ap (λ (a : Answer). a.status) (is_text files));
-      output = λ _ _ _ files is. all.told ∙ ap (λ (a : Answer). appended a.out out.told) (sym (is_text files));
-      errors = λ _ _ _ _ files is. sym (appended-nil err.told) ∙ ap (λ (a : Answer). appended a.err err.told) (sym (is_text files));
+      answered = λ _ _ files is _. sym (ap (λ (a : Answer). a.status) (is_text files));
+      output = λ _ _ files is _. all.told ∙ ap (λ (a : Answer). appended a.out out.told) (sym (is_text files));
+      errors = λ _ _ _ files is _. sym (appended-nil err.told) ∙ ap (λ (a : Answer). appended a.err err.told) (sym (is_text files));
+      written = λ _. record { count = 0; answer = done text; ends_in = subst (λ course. EndsIn shelf.held course 0 (done text)) (sym is_end) at_end; status_is = refl; all = all };
+      at_once = λ a is refuses. absurd (subst (λ (x : Answer). IsRefusedAnswer x.status) (sym (same_end (done text) a (sym is_end ∙ is))) refuses);
       bad_words = λ e. cc;
       only_bad_words = λ number e. absurd (good number e);
       memory = λ e. cc;
+      spent = λ e. cc;
       read_fault = λ e. cc;
       write_fault = λ e. cc;
       write_done = λ e files is. cc;
@@ -99,17 +115,23 @@ answers_said steps job text status shelf out out' err is_text unread good no_doc
       untouched = λ _. refl;
       held = refl;
     })
-answers_said steps job text status shelf out out' err is_text unread good no_document (inr said) =
+answers_said steps job text status shelf out out' err is_end good no_document (inr said) =
     let front = said.1 in
+    let is_text : (files : Files) → answer_to steps job files ≡ done text = λ files. ap (λ course. answer_of course files) is_end in
+    let unread : (files : Files) → readings (course_of steps job) files ≡ 0 = λ files. ap (λ course. readings course files) is_end in
+    let good_text : (files : Files) → IsAccepted (answer_to steps job files).status = λ files. subst (λ (a : Answer). IsAccepted a.status) (sym (is_text files)) tt in
     let before : Outside = record { shelf = shelf; out = out; err = err } in
     let after : Outside = record { shelf = shelf; out = out'; err = err } in
     rw said.0 (record {
-      answered = λ _ quiet _ files is. absurd (not_quiet out.faults out'.faults front.rose quiet);
-      output = λ _ quiet _ files is. absurd (not_quiet out.faults out'.faults front.rose quiet);
-      errors = λ _ quiet _ _ files is. absurd (not_quiet out.faults out'.faults front.rose quiet);
+      answered = λ _ _ files is quiet. absurd (not_quiet out.faults out'.faults front.rose (quiet (good_text files)));
+      output = λ _ _ files is quiet. absurd (not_quiet out.faults out'.faults front.rose (quiet (good_text files)));
+      errors = λ _ _ _ files is quiet. absurd (not_quiet out.faults out'.faults front.rose (quiet (good_text files)));
+      written = λ good. absurd good;
+      at_once = λ a is refuses. absurd (subst (λ (x : Answer). IsRefusedAnswer x.status) (sym (same_end (done text) a (sym is_end ∙ is))) refuses);
       bad_words = λ e. cc;
       only_bad_words = λ number e. absurd (good number e);
       memory = λ e. cc;
+      spent = λ e. cc;
       read_fault = λ e. cc;
       write_fault = λ _. front.rose;
       write_done = λ _ files is. subst (λ (a : Answer). IsAccepted a.status) (sym (is_text files)) tt;
@@ -135,12 +157,15 @@ pub answers_spent : (steps : ℕ) (job : Job) (status : Status) (shelf : ShelfVi
     → Answers steps job (record { shelf = shelf; out = out; err = err }) (record { shelf = shelf; out = out'; err = err }) status
 answers_spent steps job status shelf out out' err wants unread good no_document spent =
     rw (spent.0, spent.1) (record {
-      answered = λ _ _ no files is. absurd (no refl);
-      output = λ _ _ no files is. absurd (no refl);
-      errors = λ _ _ _ no files is. absurd (no refl);
+      answered = λ _ no files is _. absurd (no refl);
+      output = λ _ no files is _. absurd (no refl);
+      errors = λ _ _ no files is _. absurd (no refl);
+      written = λ good. absurd good;
+      at_once = λ a is refuses no. absurd (no refl);
       bad_words = λ e. cc;
       only_bad_words = λ number e. absurd (good number e);
       memory = λ _. wants;
+      spent = λ _ _. refl;
       read_fault = λ e. cc;
       write_fault = λ e. cc;
       write_done = λ e files is. cc;
@@ -163,7 +188,7 @@ answers_spent steps job status shelf out out' err wants unread good no_document 
 pub answers_tried : (steps lines : ℕ) (status : Status) (shelf : ShelfView) (out out' err : SinkView) → Tries status (trial_text (trial_of lines steps)) out out'
     → Answers steps (trial lines) (record { shelf = shelf; out = out; err = err }) (record { shelf = shelf; out = out'; err = err }) status
 answers_tried steps lines status shelf out out' err (inl said) =
-    answers_said steps (trial lines) (trial_text (trial_of lines steps)) status shelf out out' err (λ files. refl) (λ files. refl) (λ number e. cc) (λ file e. cc) said
+    answers_said steps (trial lines) (trial_text (trial_of lines steps)) status shelf out out' err refl (λ number e. cc) (λ file e. cc) said
 answers_tried steps lines status shelf out out' err (inr spent) =
     answers_spent steps (trial lines) status shelf out out' err tt (λ files. refl) (λ number e. cc) (λ file e. cc) spent
 
@@ -192,10 +217,35 @@ refusal_line steps job statuses.ReadFault before after line refuses is = absurd 
 refusal_line steps job statuses.WriteFault before after line refuses is = absurd refuses
 refusal_line steps job statuses.Memory before after line refuses is = absurd refuses
 
+refused_not_accepted : (status : Status) → IsRefusedAnswer status → IsAccepted status → ⊥
+refused_not_accepted statuses.DocumentRefused refuses good = good
+refused_not_accepted statuses.RulesRefused refuses good = good
+refused_not_accepted statuses.Unable refuses good = good
+refused_not_accepted statuses.Done refuses good = refuses
+refused_not_accepted statuses.Findings refuses good = refuses
+refused_not_accepted statuses.BadWords refuses good = good
+refused_not_accepted statuses.ReadFault refuses good = good
+refused_not_accepted statuses.WriteFault refuses good = good
+refused_not_accepted statuses.Memory refuses good = good
+
+-- A course that is an end ends with that answer, and reads nothing.
+end_is : (held : Option Files) (a b : Answer) (n : ℕ) → EndsIn held (ends a) n b → (n ≡ 0) × (b ≡ a)
+end_is held a b n at_end = (refl, refl)
+
+ended_at_once : (held : Option Files) (course : Course) (a : Answer) (n : ℕ) (b : Answer) → course ≡ ends a → EndsIn held course n b → (n ≡ 0) × (b ≡ a)
+ended_at_once held course a n b is ended = end_is held a b n (subst (λ c. EndsIn held c n b) is ended)
+
+end_reads : (held : Option Files) (a : Answer) (n : ℕ) (file : List ℕ) → ReadsAt held (ends a) n file → ⊥
+end_reads held a n file reads = elim reads [ ]
+
+none_read : (held : Option Files) (course : Course) (a : Answer) (n : ℕ) (file : List ℕ) → course ≡ ends a → ReadsAt held course n file → ⊥
+none_read held course a n file is reads = end_reads held a n file (subst (λ c. ReadsAt held c n file) is reads)
+
 -- Files want memory.
 files_want : (job : Job) → NamesFiles job → WantsMemory job
 files_want (outline file) names = names
 files_want (show codes_file file) names = names
+files_want (totals codes_file file) names = names
 files_want (convert syntax codes_file file) names = names
 files_want (check svrl phase rules file) names = names
 files_want (extract number file) names = names
@@ -210,25 +260,35 @@ module _ (steps : ℕ) (job : Job) (names : NamesFiles job) (before after : Outs
   named number is = subst NamesFiles is names
 
   told_end : (files : Files) (n : ℕ) (a : Answer) → before.shelf.held ≡ Some files → EndsIn before.shelf.held (course_of steps job) n a → EndsIn (Some files) (course_of steps job) n a
-  told_end files n a is ends = subst (λ held. EndsIn held (course_of steps job) n a) is ends
+  told_end files n a is fits = subst (λ held. EndsIn held (course_of steps job) n a) is fits
 
   answer_is : (files : Files) (n : ℕ) (a : Answer) → before.shelf.held ≡ Some files → EndsIn before.shelf.held (course_of steps job) n a → a ≡ answer_to steps job files
-  answer_is files n a is ends = ends_as_answered files (course_of steps job) n a (told_end files n a is ends)
+  answer_is files n a is fits = ends_as_answered files (course_of steps job) n a (told_end files n a is fits)
 
   counts : (files : Files) (n : ℕ) (a : Answer) → before.shelf.held ≡ Some files → EndsIn before.shelf.held (course_of steps job) n a → n ≡ readings (course_of steps job) files
-  counts files n a is ends = ends_behind_readings files (course_of steps job) n a (told_end files n a is ends)
+  counts files n a is fits = ends_behind_readings files (course_of steps job) n a (told_end files n a is fits)
 
   refused : (status : Status) → ((file : List ℕ) → job ≡ outline file → after.shelf.opens ≡ next_count before.shelf.opens) → IsRefused (course_of steps job) before after status
       → Answers steps job before after status
   refused status one r = record {
-    answered = λ _ _ _ files is. sym r.told ∙ ap (λ (a : Answer). a.status) (answer_is files r.count r.answer is r.ends_in);
-    output = λ _ _ _ files is. ap (λ (s : SinkView). s.told) r.nothing ∙ (sym (appended-nil before.out.told)
+    answered = λ _ _ files is _. sym r.told ∙ ap (λ (a : Answer). a.status) (answer_is files r.count r.answer is r.ends_in);
+    output = λ _ _ files is _. ap (λ (s : SinkView). s.told) r.nothing ∙ (sym (appended-nil before.out.told)
         ∙ ap (λ text. appended text before.out.told) (sym r.empty ∙ ap (λ (a : Answer). a.out) (answer_is files r.count r.answer is r.ends_in)));
-    errors = λ _ _ quiet _ files is. whole_line r.answer.err before.err after.err r.line quiet
+    errors = λ _ quiet _ files is _. whole_line r.answer.err before.err after.err r.line quiet
         ∙ ap (λ (a : Answer). appended a.err before.err.told) (answer_is files r.count r.answer is r.ends_in);
+    written = λ good. absurd (refused_not_accepted status r.refuses good);
+    at_once = λ a is refuses _.
+        let end = ended_at_once before.shelf.held (course_of steps job) a r.count r.answer is r.ends_in in
+        record {
+          status_is = sym r.told ∙ ap (λ (x : Answer). x.status) end.1;
+          read = subst (λ n. HasRead n before.shelf after.shelf) end.0 r.read;
+          nothing = r.nothing;
+          line = subst (λ (x : Answer). TakesOrFails x.err before.err after.err) end.1 r.line;
+        };
     bad_words = λ e. absurd (subst IsRefusedAnswer e r.refuses);
     only_bad_words = λ number e. absurd (named number e);
     memory = λ e. files_want job names;
+    spent = λ e. absurd (subst IsRefusedAnswer e r.refuses);
     read_fault = λ e. absurd (subst IsRefusedAnswer e r.refuses);
     write_fault = λ e. absurd (subst IsRefusedAnswer e r.refuses);
     write_done = λ e files is. absurd (subst IsRefusedAnswer e r.refuses);
@@ -255,12 +315,15 @@ module _ (steps : ℕ) (job : Job) (names : NamesFiles job) (before after : Outs
   unread : (status : Status) → ((file : List ℕ) → job ≡ outline file → after.shelf.opens ≡ next_count before.shelf.opens) → IsUnread (course_of steps job) before after status
       → Answers steps job before after status
   unread status one r = rw r.told (record {
-    answered = λ quiet _ _ files is. absurd (not_quiet before.shelf.faults after.shelf.faults r.rose quiet);
-    output = λ quiet _ _ files is. absurd (not_quiet before.shelf.faults after.shelf.faults r.rose quiet);
-    errors = λ quiet _ _ _ files is. absurd (not_quiet before.shelf.faults after.shelf.faults r.rose quiet);
+    answered = λ quiet _ files is _. absurd (not_quiet before.shelf.faults after.shelf.faults r.rose quiet);
+    output = λ quiet _ files is _. absurd (not_quiet before.shelf.faults after.shelf.faults r.rose quiet);
+    errors = λ quiet _ _ files is _. absurd (not_quiet before.shelf.faults after.shelf.faults r.rose quiet);
+    written = λ good. absurd good;
+    at_once = λ a is refuses _. absurd (none_read before.shelf.held (course_of steps job) a r.count r.file is r.reads_at);
     bad_words = λ e. cc;
     only_bad_words = λ number e. absurd (named number e);
     memory = λ e. files_want job names;
+    spent = λ e. cc;
     read_fault = λ _. r.rose;
     write_fault = λ e. cc;
     write_done = λ e files is. cc;
@@ -282,12 +345,45 @@ module _ (steps : ℕ) (job : Job) (names : NamesFiles job) (before after : Outs
   out_of_memory : (status : Status) → ((file : List ℕ) → job ≡ outline file → after.shelf.opens ≡ next_count before.shelf.opens)
       → IsOutOfMemory (course_of steps job) before after status → Answers steps job before after status
   out_of_memory status one r = rw r.told (record {
-    answered = λ _ _ no files is. absurd (no refl);
-    output = λ _ _ no files is. absurd (no refl);
-    errors = λ _ _ _ no files is. absurd (no refl);
+    answered = λ _ no files is _. absurd (no refl);
+    output = λ _ no files is _. absurd (no refl);
+    errors = λ _ _ no files is _. absurd (no refl);
+    written = λ good. absurd good;
+    at_once = λ a is refuses no. absurd (no refl);
     bad_words = λ e. cc;
     only_bad_words = λ number e. absurd (named number e);
     memory = λ e. files_want job names;
+    spent = λ _ _. r.nothing;
+    read_fault = λ e. cc;
+    write_fault = λ e. cc;
+    write_done = λ e files is. cc;
+    shelf_rose = λ rise. absurd (no_rise before.shelf.faults after.shelf.faults r.read.faults rise);
+    out_rose = λ rise. absurd (no_rise before.out.faults after.out.faults (ap (λ (s : SinkView). s.faults) r.nothing) rise);
+    nothing = λ refusal. absurd refusal;
+    line = λ refusal. absurd refusal;
+    no_line = λ _. r.no_line;
+    front = λ _ files is. ([], IsFront-nil (answer_to steps job files).out, ap (λ (s : SinkView). s.told) r.nothing ∙ sym (appended-nil before.out.told));
+    stops = λ refused. absurd refused;
+    opens = (r.count, r.read.opens, r.few);
+    all_opened = λ _ no files is. absurd (no refl);
+    outline_opens = one;
+    given = λ no. absurd (no names);
+    untouched = λ no. absurd (no names);
+    held = r.read.held;
+  })
+
+  cut_short : (status : Status) → WritesInPieces job → ((file : List ℕ) → job ≡ outline file → after.shelf.opens ≡ next_count before.shelf.opens)
+      → IsCut (course_of steps job) before after status → Answers steps job before after status
+  cut_short status pieces one r = rw r.told (record {
+    answered = λ _ no files is _. absurd (no refl);
+    output = λ _ no files is _. absurd (no refl);
+    errors = λ _ _ no files is _. absurd (no refl);
+    written = λ good. absurd good;
+    at_once = λ a is refuses no. absurd (no refl);
+    bad_words = λ e. cc;
+    only_bad_words = λ number e. absurd (named number e);
+    memory = λ e. files_want job names;
+    spent = λ _ whole. absurd (whole pieces);
     read_fault = λ e. cc;
     write_fault = λ e. cc;
     write_done = λ e files is. cc;
@@ -322,19 +418,27 @@ module _ (steps : ℕ) (job : Job) (names : NamesFiles job) (before after : Outs
     answer_here : (files : Files) → before.shelf.held ≡ Some files → r.answer ≡ answer_to steps job files
     answer_here files is = answer_is files r.count r.answer is r.ends_in
 
+    accepted_here : (files : Files) → before.shelf.held ≡ Some files → IsAccepted (answer_to steps job files).status
+    accepted_here files is = subst (λ (a : Answer). IsAccepted a.status) (answer_here files is) r.accepted
+
     whole : (status ≡ r.answer.status) × WritesAll r.answer.out before.out after.out → Answers steps job before after status
     whole done =
         let good = subst IsAccepted (sym done.0) r.accepted in
         let other = accepted_is status good in
         let all = done.1 in
         record {
-          answered = λ _ _ _ files is. done.0 ∙ ap (λ (a : Answer). a.status) (answer_here files is);
-          output = λ _ _ _ files is. all.told ∙ ap (λ (a : Answer). appended a.out before.out.told) (answer_here files is);
-          errors = λ _ _ _ _ files is. ap (λ (s : SinkView). s.told) r.no_line ∙ (sym (appended-nil before.err.told)
+          answered = λ _ _ files is _. done.0 ∙ ap (λ (a : Answer). a.status) (answer_here files is);
+          output = λ _ _ files is _. all.told ∙ ap (λ (a : Answer). appended a.out before.out.told) (answer_here files is);
+          errors = λ _ _ _ files is _. ap (λ (s : SinkView). s.told) r.no_line ∙ (sym (appended-nil before.err.told)
               ∙ ap (λ text. appended text before.err.told) (sym r.silent ∙ ap (λ (a : Answer). a.err) (answer_here files is)));
+          written = λ _. record { count = r.count; answer = r.answer; ends_in = r.ends_in; status_is = done.0; all = all };
+          at_once = λ a is refuses _.
+              let end = ended_at_once before.shelf.held (course_of steps job) a r.count r.answer is r.ends_in in
+              absurd (refused_not_accepted a.status refuses (subst (λ (x : Answer). IsAccepted x.status) end.1 r.accepted));
           bad_words = λ e. absurd (other.1 e);
           only_bad_words = λ number e. absurd (named number e);
           memory = λ e. files_want job names;
+          spent = λ e. absurd (other.2 e);
           read_fault = λ e. absurd (other.3 e);
           write_fault = λ e. absurd (other.4 e);
           write_done = λ e files is. absurd (other.4 e);
@@ -357,12 +461,17 @@ module _ (steps : ℕ) (job : Job) (names : NamesFiles job) (before after : Outs
     cut done =
         let front = done.1 in
         rw done.0 (record {
-          answered = λ _ quiet _ files is. absurd (not_quiet before.out.faults after.out.faults front.rose quiet);
-          output = λ _ quiet _ files is. absurd (not_quiet before.out.faults after.out.faults front.rose quiet);
-          errors = λ _ quiet _ _ files is. absurd (not_quiet before.out.faults after.out.faults front.rose quiet);
+          answered = λ _ _ files is quiet. absurd (not_quiet before.out.faults after.out.faults front.rose (quiet (accepted_here files is)));
+          output = λ _ _ files is quiet. absurd (not_quiet before.out.faults after.out.faults front.rose (quiet (accepted_here files is)));
+          errors = λ _ _ _ files is quiet. absurd (not_quiet before.out.faults after.out.faults front.rose (quiet (accepted_here files is)));
+          written = λ good. absurd good;
+          at_once = λ a is refuses _.
+              let end = ended_at_once before.shelf.held (course_of steps job) a r.count r.answer is r.ends_in in
+              absurd (refused_not_accepted a.status refuses (subst (λ (x : Answer). IsAccepted x.status) end.1 r.accepted));
           bad_words = λ e. cc;
           only_bad_words = λ number e. absurd (named number e);
           memory = λ e. files_want job names;
+          spent = λ e. cc;
           read_fault = λ e. cc;
           write_fault = λ _. front.rose;
           write_done = λ _ files is. subst (λ (a : Answer). IsAccepted a.status) (answer_here files is) r.accepted;
@@ -393,3 +502,9 @@ module _ (steps : ℕ) (job : Job) (names : NamesFiles job) (before after : Outs
   answers_of_run status one (inr (inl r)) = unread status one r
   answers_of_run status one (inr (inr (inl r))) = out_of_memory status one r
   answers_of_run status one (inr (inr (inr r))) = written one status r r.written
+
+  -- The same of a job that wants memory while it writes.
+  pub answers_of_pieces : WritesInPieces job → (status : Status) → ((file : List ℕ) → job ≡ outline file → after.shelf.opens ≡ next_count before.shelf.opens)
+      → RunsInPieces (course_of steps job) before after status → Answers steps job before after status
+  answers_of_pieces pieces status one (inl runs) = answers_of_run status one runs
+  answers_of_pieces pieces status one (inr some) = cut_short status pieces one some

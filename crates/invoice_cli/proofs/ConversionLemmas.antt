@@ -4,7 +4,7 @@ use Rattle.inv_base.specs.Files.{Files}
 use Rattle.code_lists.specs.CodeFiles.{Lists}
 use Rattle.inv_terms.specs.declared.entries.Entry.{Entry}
 use Rattle.inv_terms.specs.Listing.{IsInvoice}
-use Rattle.inv_lacks.specs.Whole.{IsValid}
+use Rattle.inv_terms.specs.Whole.{IsValid}
 use Rattle.bind_meaning.specs.Terms.{Read}
 use Rattle.bind_meaning.specs.declared.tables.Syntax.{Syntax}
 use Rattle.job_course.specs.Course.{done}

@@ -1,4 +1,5 @@
 pub mod AnswersLemmas
+pub mod HandingLemmas
 pub mod OptionLemmas
 mod TrialLemmas
 mod ConversionLemmas

@@ -6,7 +6,7 @@ use Rattle.bind_meaning.specs.declared.tables.Syntax.{Syntax}
 use Rattle.invoice_cli.specs.declared.options.Optioned.{Optioned}
 use Rattle.invoice_cli.specs.declared.options.Optioned.TheVariants as commands
 use Rattle.invoice_cli.specs.declared.options.Switch.{Switch}
-use Rattle.invoice_cli.specs.Job.{Job, outline, show, convert, check, extract, query, trial, help, version, bad_word, Options, none_given, is_option, with_no_more, last_operand, offered, takes_value, with_svrl, with_value, or_bad, last_word, optioned, show_of, convert_of, check_of, is_digit, digits_value, at_most, number_up_to, by_number, extract_of, most_lines, try_of, query_of, job}
+use Rattle.invoice_cli.specs.Job.{Job, outline, show, totals, convert, check, extract, query, trial, help, version, bad_word, Options, none_given, is_option, with_no_more, last_operand, offered, takes_value, with_svrl, with_value, or_bad, last_word, optioned, show_of, totals_of, convert_of, check_of, is_digit, digits_value, at_most, number_up_to, by_number, extract_of, most_lines, try_of, query_of, job}
 
 -- ---- numbers
 
@@ -139,13 +139,14 @@ few-job [] = tt
 few-job (command ∷ words) =
     few-if (bytes_eq command (codes "outline")) _ _ (few-operand outline 2 words (λ word. tt))
     (few-if (bytes_eq command (codes "show")) _ _ (few-optioned commands.Show show_of (λ given number ws. few-operand (show given.codes_file) number ws (λ word. tt)) none_given 2 words)
+    (few-if (bytes_eq command (codes "totals")) _ _ (few-optioned commands.Totals totals_of (λ given number ws. few-operand (totals given.codes_file) number ws (λ word. tt)) none_given 2 words)
     (few-if (bytes_eq command (codes "convert")) _ _ (few-optioned commands.Convert convert_of few-convert none_given 2 words)
     (few-if (bytes_eq command (codes "check")) _ _ (few-optioned commands.Check check_of few-check none_given 2 words)
     (few-if (bytes_eq command (codes "extract")) _ _ (few-extract words)
     (few-if (bytes_eq command (codes "query")) _ _ (few-query words)
     (few-if (bytes_eq command (codes "try")) _ _ (few-try words)
     (few-if (bytes_eq command (codes "--help")) _ _ (few-no_more 2 help words tt)
-    (few-if (bytes_eq command (codes "--version")) _ _ (few-no_more 2 version words tt) tt))))))))
+    (few-if (bytes_eq command (codes "--version")) _ _ (few-no_more 2 version words tt) tt)))))))))
 
 -- A trial that the words ask for has at most so many lines.
 pub lines_are_few : (words : List (List ℕ)) (lines : ℕ) → job words ≡ trial lines → lines ≤ most_lines

@@ -1,5 +1,5 @@
 -- What files of the system and outputs show as a shelf and a sink, and the bytes that they know of themselves, if any.
-use Rattle.std.specs.Prelude.{ℕ, List, [], Option, Some, None}
+use Rattle.std.specs.Prelude.{ℕ, List, [], Option, Some, None, IsSome}
 use Rattle.inv_base.specs.Outside.{ShelfView, SinkView}
 use Rattle.invoice_cli.specs.declared.adapters.FileShelf.{FileShelf}
 use Rattle.invoice_cli.specs.declared.adapters.OutputSink.{OutputSink}
@@ -15,6 +15,10 @@ left_of remaining (Some file) = remaining file
 
 abbrev pub input_left : {R F D : Type 0} → (F → Option (List ℕ)) → FileShelf R F D → Option (List ℕ)
 input_left remaining shelf = left_of remaining shelf.input
+
+-- A file is open.
+abbrev pub IsOpen : {R F D : Type 0} → FileShelf R F D → Type 0
+IsOpen shelf = IsSome shelf.input
 
 -- An output tells no content as a sink.
 abbrev pub sink_of : {W : Type 0} → OutputSink W → SinkView

@@ -6,8 +6,9 @@ use Rattle.job_course.specs.Course.{Answer, Course, ends, done, refusal, answer_
 use Rattle.job_course.specs.Lines.{bad_word_line}
 use Rattle.trial_run.specs.Trials.{trial_of, trial_text}
 use Rattle.invoice_cli.specs.declared.usage.TheConstants.{HELP, VERSION}
-use Rattle.invoice_cli.specs.Job.{Job, outline, show, convert, check, extract, query, trial, help, version, bad_word}
+use Rattle.invoice_cli.specs.Job.{Job, outline, show, totals, convert, check, extract, query, trial, help, version, bad_word}
 use Rattle.invoice_jobs.specs.Invoices.{show_course, convert_course, extract_course}
+use Rattle.invoice_jobs.specs.Totals.{totals_course}
 use Rattle.document_jobs.specs.Outline.{outline_course}
 use Rattle.document_jobs.specs.Queries.{query_course}
 use Rattle.document_jobs.specs.Checks.{check_course}
@@ -16,6 +17,7 @@ use Rattle.document_jobs.specs.Checks.{check_course}
 abbrev pub course_of : ℕ → Job → Course
 course_of steps (outline file) = outline_course file
 course_of steps (show codes_file file) = show_course codes_file file
+course_of steps (totals codes_file file) = totals_course codes_file file
 course_of steps (convert syntax codes_file file) = convert_course syntax codes_file file
 course_of steps (check svrl phase rules file) = check_course svrl phase rules file
 course_of steps (extract number file) = extract_course number file

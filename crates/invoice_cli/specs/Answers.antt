@@ -7,11 +7,11 @@ use Rattle.inv_base.specs.Outside.{SinkView, WhereTold, appended}
 use Rattle.inv_base.specs.Writing.{IsFront, WritesAll, WritesFront}
 use Rattle.job_course.specs.declared.status.Status.{Status}
 use Rattle.job_course.specs.declared.status.Status.TheVariants as statuses
-use Rattle.job_course.specs.Course.{Answer, readings}
+use Rattle.job_course.specs.Course.{Answer, ends, readings}
 use Rattle.job_course.specs.Lines.{bad_word_line, read_fault_line}
-use Rattle.job_course.specs.Outside.{Outside, IsRefusal, IsAccepted, IsRefusedAnswer, TakesOrFails, counted}
+use Rattle.job_course.specs.Outside.{Outside, IsRefusal, IsAccepted, IsRefusedAnswer, TakesOrFails, HasRead, counted}
 use Rattle.job_course.specs.Runs.{EndsIn, ReadsAt, StopsAtFault}
-use Rattle.invoice_cli.specs.Job.{Job, outline, trial, help, version, bad_word}
+use Rattle.invoice_cli.specs.Job.{Job, outline, query, trial, help, version, bad_word}
 use Rattle.invoice_cli.specs.Answer.{course_of, answer_to}
 
 -- The words name files.
@@ -26,6 +26,11 @@ NamesFiles _ = Unit {0}
 abbrev pub WantsMemory : Job → Type 0
 WantsMemory (trial lines) = Unit {0}
 WantsMemory job = NamesFiles job
+
+-- The job wants memory while it writes: the values of an expression are made text one after another.
+abbrev pub WritesInPieces : Job → Type 0
+WritesInPieces (query expression file) = Unit {0}
+WritesInPieces _ = ⊥
 
 -- The line is that of an answer with which the job ends where each file has some content, which is its own where the files are told.
 pub record IsRefusalLine (steps : ℕ) (job : Job) (status : Status) (held : Option Files) (line : List ℕ) : Type 0 where
@@ -61,23 +66,49 @@ IsGiven answer before after status =
     ⊎ (((status ≡ statuses.WriteFault) × WritesFront answer.out before.out after.out × (after.err ≡ before.err))
     ⊎ ((status ≡ statuses.Memory) × (after.out ≡ before.out) × (after.err ≡ before.err)))
 
+-- The output stayed quiet, where the answer is one that is written to it.
+abbrev pub QuietIfWritten : Answer → Outside → Outside → Type 0
+QuietIfWritten answer before after = IsAccepted answer.status → Quiet before.out.faults after.out.faults
+
+-- The output got the whole of an answer with which the job ends where each file has some content, which is its own where the files are told.
+pub record IsWhole (steps : ℕ) (job : Job) (before after : Outside) (status : Status) : Type 0 where
+  pub count : ℕ
+  pub answer : Answer
+  pub ends_in : EndsIn before.shelf.held (course_of steps job) count answer
+  pub status_is : status ≡ answer.status
+  pub all : WritesAll answer.out before.out after.out
+
+-- The refusal stood at the beginning: no file was opened, nothing written, and the one line told.
+pub record IsRefusedAtOnce (answer : Answer) (before after : Outside) (status : Status) : Type 0 where
+  pub status_is : status ≡ answer.status
+  pub read : HasRead 0 before.shelf after.shelf
+  pub nothing : after.out ≡ before.out
+  pub line : TakesOrFails answer.err before.err after.err
+
 -- What is left behind the job, where the last line of a trial tells so many steps.
 pub record Answers (steps : ℕ) (job : Job) (before after : Outside) (status : Status) : Type 0 where
-  -- While no call on the shelf or the output fails and memory is found, the status is the answer's ..
-  pub answered : Quiet before.shelf.faults after.shelf.faults → Quiet before.out.faults after.out.faults → status ≢ statuses.Memory
-      → WhereTold before.shelf.held (λ files. status ≡ (answer_to steps job files).status)
+  -- While no call on the shelf fails, nor one on an output to which the answer is written, and memory is found, the status is the answer's ..
+  pub answered : Quiet before.shelf.faults after.shelf.faults → status ≢ statuses.Memory → WhereTold before.shelf.held (λ files.
+      QuietIfWritten (answer_to steps job files) before after → status ≡ (answer_to steps job files).status)
   -- .. and the output got exactly the answer's bytes. With the clause above this is completeness: words that name a job
   -- and files that are accepted end in Done or Findings with the whole text, or for want of memory.
-  pub output : Quiet before.shelf.faults after.shelf.faults → Quiet before.out.faults after.out.faults → status ≢ statuses.Memory
-      → WhereTold before.shelf.held (λ files. after.out.told ≡ appended (answer_to steps job files).out before.out.told)
+  pub output : Quiet before.shelf.faults after.shelf.faults → status ≢ statuses.Memory → WhereTold before.shelf.held (λ files.
+      QuietIfWritten (answer_to steps job files) before after → after.out.told ≡ appended (answer_to steps job files).out before.out.told)
   -- While no call on the error output fails either, it got exactly the answer's bytes.
-  pub errors : Quiet before.shelf.faults after.shelf.faults → Quiet before.out.faults after.out.faults → Quiet before.err.faults after.err.faults
-      → status ≢ statuses.Memory → WhereTold before.shelf.held (λ files. after.err.told ≡ appended (answer_to steps job files).err before.err.told)
+  pub errors : Quiet before.shelf.faults after.shelf.faults → Quiet before.err.faults after.err.faults → status ≢ statuses.Memory
+      → WhereTold before.shelf.held (λ files. QuietIfWritten (answer_to steps job files) before after
+      → after.err.told ≡ appended (answer_to steps job files).err before.err.told)
+  -- Done and Findings come only with the whole of an answer, also where the shelf tells no files.
+  pub written : IsAccepted status → IsWhole steps job before after status
+  -- An expression that is refused is told before any file is opened, whatever the shelf is and its counts are.
+  pub at_once : (answer : Answer) → course_of steps job ≡ ends answer → IsRefusedAnswer answer.status → status ≢ statuses.Memory → IsRefusedAtOnce answer before after status
   -- Bad words are told exactly where the words name no job.
   pub bad_words : status ≡ statuses.BadWords → (number : ℕ) × (job ≡ bad_word number)
   pub only_bad_words : (number : ℕ) → job ≡ bad_word number → status ≡ statuses.BadWords
   -- Memory runs out only where the words name files or a trial.
   pub memory : status ≡ statuses.Memory → WantsMemory job
+  -- Where memory ran out nothing was written, but for jobs that want some while they write.
+  pub spent : status ≡ statuses.Memory → (WritesInPieces job → ⊥) → after.out ≡ before.out
   -- A read fault is told only where the shelf's count rose, and a write fault only where the output's did and the answer is no refusal.
   pub read_fault : status ≡ statuses.ReadFault → Rose before.shelf.faults after.shelf.faults
   pub write_fault : status ≡ statuses.WriteFault → Rose before.out.faults after.out.faults
@@ -92,7 +123,8 @@ pub record Answers (steps : ℕ) (job : Job) (before after : Outside) (status : 
   pub no_line : (IsRefusal status → ⊥) → after.err ≡ before.err
   -- On the other statuses the output got a front of the answer's bytes.
   pub front : (IsRefusal status → ⊥) → AppendsFront steps job before after
-  -- Behind bytes of a refused document that settle no fault yet, at most one piece was read: the rest is left.
+  -- Behind bytes of a refused document that settle no fault yet, and behind the limit of a file that is too long, at most one piece was read: the
+  -- rest is left.
   pub stops : IsRefusedAnswer status → StopsAtFault (course_of steps job) before.shelf.held after.shelf.left
   -- No file is opened that the job doesn't read, each is opened once, and all are where nothing fails and memory is found.
   pub opens : (count : ℕ) × (after.shelf.opens ≡ counted count before.shelf.opens) × WhereTold before.shelf.held (λ files. count ≤ readings (course_of steps job) files)

@@ -2,7 +2,7 @@
 use Rattle.std.specs.Prelude.{List, ℕ, take, Some, None, option_map, Result, Ok, Err}
 use Rattle.std.specs.Borrow.{Bor}
 use Rattle.job_course.specs.Views.{text_of, texts_of}
-use Rattle.invoice_cli.specs.Job.{Job, outline, show, convert, check, extract, query, trial, help, version, bad_word, Options, words_of}
+use Rattle.invoice_cli.specs.Job.{Job, outline, show, totals, convert, check, extract, query, trial, help, version, bad_word, Options, words_of}
 use Rattle.invoice_cli.specs.declared.words.Asked.{Asked}
 use Rattle.invoice_cli.specs.declared.words.Command.{Command}
 use Rattle.invoice_cli.specs.declared.words.Command.TheVariants as commands
@@ -36,6 +36,7 @@ by_operand make (Err number) = bad_word number
 abbrev pub asked_by : List (List ℕ) → Command → Job
 asked_by rules (commands.Outline file) = outline file.now
 asked_by rules (commands.Show codes_file file) = show (option_map text_of codes_file) file.now
+asked_by rules (commands.Totals codes_file file) = totals (option_map text_of codes_file) file.now
 asked_by rules (commands.Convert syntax codes_file file) = convert syntax (option_map text_of codes_file) file.now
 asked_by rules (commands.Check svrl phase file) = check svrl (option_map text_of phase) rules file.now
 asked_by rules (commands.Extract number file) = extract number file.now

@@ -9,14 +9,15 @@ use Rattle.invoice_cli.specs.declared.options.Optioned.TheVariants as commands
 use Rattle.invoice_cli.specs.declared.options.Switch.{Switch}
 use Rattle.invoice_cli.specs.declared.options.Switch.TheVariants as switches
 
--- The outline of a file; the terms of an invoice, by the code lists of a file or the built-in ones; the invoice in a
--- syntax, likewise; what rule files find in a document, in SVRL or plain, by the patterns of a phase or those that each
+-- The outline of a file; the terms of an invoice, by the code lists of a file or the built-in ones; where its totals
+-- differ, likewise; the invoice in a syntax, likewise; what rule files find in a document, in SVRL or plain, by the patterns of a phase or those that each
 -- file has by default; an invoice's attached document of that number; the value of an expression at a document; a trial
 -- of the whole tool on a generated invoice of so many lines; the help; the version; or the number of the first word that
 -- fits no command, counted from 1, where a missing word counts as one behind the last.
 pub data Job : Type 0 where
   outline : List ℕ → Job
   show : Option (List ℕ) → List ℕ → Job
+  totals : Option (List ℕ) → List ℕ → Job
   convert : Syntax → Option (List ℕ) → List ℕ → Job
   check : Bool → Option (List ℕ) → List (List ℕ) → List ℕ → Job
   extract : ℕ → List ℕ → Job
@@ -66,6 +67,8 @@ switch_named word =
 abbrev pub has : Optioned → Switch → Bool
 has commands.Show switches.CodeLists = true
 has commands.Show _ = false
+has commands.Totals switches.CodeLists = true
+has commands.Totals _ = false
 has commands.Convert switches.CodeLists = true
 has commands.Convert switches.SyntaxToWrite = true
 has commands.Convert _ = false
@@ -143,6 +146,9 @@ optioned command further given number (word ∷ (value ∷ words)) = elim (offer
 abbrev pub show_of : Options → ℕ → List (List ℕ) → Job
 show_of given number words = last_operand (show given.codes_file) number words
 
+abbrev pub totals_of : Options → ℕ → List (List ℕ) → Job
+totals_of given number words = last_operand (totals given.codes_file) number words
+
 -- Without a syntax to write, the word where the file would stand is bad.
 abbrev pub convert_of : Options → ℕ → List (List ℕ) → Job
 convert_of given number words = elim given.target [ None ↦ bad_word number | (Some syntax) ↦ last_operand (convert syntax given.codes_file) number words ]
@@ -194,6 +200,7 @@ job [] = bad_word 1
 job (command ∷ words) =
     if bytes_eq command (codes "outline") then last_operand outline 2 words
     else (if bytes_eq command (codes "show") then optioned commands.Show show_of none_given 2 words
+    else (if bytes_eq command (codes "totals") then optioned commands.Totals totals_of none_given 2 words
     else (if bytes_eq command (codes "convert") then optioned commands.Convert convert_of none_given 2 words
     else (if bytes_eq command (codes "check") then optioned commands.Check check_of none_given 2 words
     else (if bytes_eq command (codes "extract") then extract_of words
@@ -201,7 +208,7 @@ job (command ∷ words) =
     else (if bytes_eq command (codes "try") then try_of words
     else (if bytes_eq command (codes "--help") then with_no_more 2 help words
     else (if bytes_eq command (codes "--version") then with_no_more 2 version words
-    else bad_word 1))))))))
+    else bad_word 1)))))))))
 
 abbrev pub words_of : List (String Global) → List (List ℕ)
 words_of words = map string_bytes words

@@ -1,7 +1,7 @@
-ghost use Rattle.std.specs.Prelude.{◌≡◌, ◌<◌, ◌≤◌, None, length, IfOk, OnErr};
+ghost use Rattle.std.specs.Prelude.{◌≡◌, ◌<◌, ◌≤◌, None, length, IfOk, OnOk, OnErr};
 ghost use Rattle.std.specs.Io.KnownBytes.{ReadConsumes, WriteAppends};
 ghost use Rattle.inv_base.specs.Outside.{ShelfView, SinkView, Opens, Reads, Accepts};
-ghost use Rattle.invoice_cli.specs.Adapters.{shelf_of, input_left, sink_of, output_of};
+ghost use Rattle.invoice_cli.specs.Adapters.{shelf_of, IsOpen, input_left, sink_of, output_of};
 
 use inv_base::{Failed, Shelf, Sink};
 use std::fs::{File, Files};
@@ -39,6 +39,7 @@ impl<R: Files> Shelf for FileShelf<R> {
 
     fn open(&mut self, name: &str) -> Result<(), Failed>
         ensures opens { Opens result name.now (shelf_of self.old) (shelf_of self.new) }
+        ensures opened { OnOk result (IsOpen self.new) }
         ensures stays { OnErr result (input_left R.File.remaining self.new ≡ input_left R.File.remaining self.old) }
     {
         self.opens = self.opens.saturating_add(1);

@@ -95,6 +95,7 @@ pub(crate) struct Scanned<'w> {
 #[derive(Clone, Copy)]
 pub(crate) enum Optioned {
     Show,
+    Totals,
     Convert,
     Check,
 }
@@ -130,6 +131,10 @@ fn has(command: Optioned, switch: Switch) -> bool
 {
     match command {
         Optioned::Show => match switch {
+            Switch::CodeLists => true,
+            _ => false,
+        },
+        Optioned::Totals => match switch {
             Switch::CodeLists => true,
             _ => false,
         },

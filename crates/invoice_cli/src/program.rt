@@ -1,6 +1,7 @@
-ghost use Rattle.std.specs.Prelude.{ℕ};
+ghost use Rattle.std.specs.Prelude.{◌≡◌, ℕ};
 ghost use Rattle.invoice_cli.specs.Job.{job, words_of};
 ghost use Rattle.invoice_cli.specs.Answers.{Answers, Says};
+ghost use Rattle.invoice_cli.specs.Endings.{Ends};
 ghost use Rattle.invoice_cli.specs.Conversions.{ConversionsReturn};
 
 use crate::conversions::conversions_return;
@@ -8,13 +9,19 @@ use crate::trials::trial;
 use crate::usage::{HELP, VERSION};
 use crate::words::{Command, command_of};
 use document_jobs::{Checking, check, outline, query};
+use held_output::{HeldOutput, Lent, Origin, hand_over};
 use inv_base::{Shelf, Sink, write_all};
-use invoice_jobs::{convert, extract, show};
+use invoice_jobs::{convert, extract, show, totals};
 use job_course::{Status, tell_bad_word};
 use std::alloc::Global;
+use std::marker::Brand;
 
 /// Answers the words behind the program's name: reads the files that they name from the shelf, and writes
 /// the answer to `out`, or to `err` the one line that says why there is none.
+///
+/// What is written to `out` is held back, and goes on in pieces of some 64 KiB. Where the last of an answer can't be
+/// handed on, the status is that of a write fault, whatever it was to be. What of an output was still held back when
+/// memory ran out never reaches `out`.
 ///
 /// While no call on the shelf or a sink fails, memory is found, and the shelf and the sinks tell their
 /// content, the status and what is written are exactly the answer to the job that the words name, but for
@@ -37,7 +44,28 @@ pub fn run<S: Shelf, O: Sink, E: Sink>(
     ensures conversions { ConversionsReturn }
 {
     conversions_return();
-    answer(alloc, words, shelf, out, err)
+    let answered = answer_held::<Brand, S, O, E>(alloc, words, shelf, Lent { sink: out }, err);
+    answered.1
+}
+
+/// Answers the command that the words name in front of the output, and hands the answer on.
+fn answer_held<'o, B: Origin, S: Shelf, O: Sink, E: Sink>(
+    alloc: Global,
+    words: &[String],
+    shelf: &mut S,
+    lent: Lent<'o, O>,
+    err: &mut E,
+) -> (Lent<'o, O>, Status)
+    requires name { lent.sink.ghost_name ≡ B.name }
+    requires start { O.view lent.sink.now ≡ B.start }
+    ensures same_reference { result.0.sink.ghost_name ≡ lent.entry.sink.ghost_name }
+    ensures answers { (steps : ℕ) × Answers steps (job (words_of words.now))
+        (record { shelf = S.view shelf.old; out = O.view lent.entry.sink.now; err = E.view err.old })
+        (record { shelf = S.view shelf.new; out = O.view result.0.sink.now; err = E.view err.new }) result.1 }
+{
+    let mut held = HeldOutput::<O, B>::new(alloc, lent);
+    let status = answer(alloc, words, shelf, &mut held, err);
+    hand_over(held, status)
 }
 
 /// Answers the command that the words name.
@@ -48,7 +76,7 @@ fn answer<S: Shelf, O: Sink, E: Sink>(
     out: &mut O,
     err: &mut E,
 ) -> Status
-    ensures { (steps : ℕ) × Answers steps (job (words_of words.now))
+    ensures { (steps : ℕ) × Ends steps (job (words_of words.now))
         (record { shelf = S.view shelf.old; out = O.view out.old; err = E.view err.old })
         (record { shelf = S.view shelf.new; out = O.view out.new; err = E.view err.new }) result }
 {
@@ -56,6 +84,7 @@ fn answer<S: Shelf, O: Sink, E: Sink>(
     match asked.command {
         Command::Outline(file) => outline(alloc, file, shelf, out, err),
         Command::Show(codes_file, file) => show(alloc, codes_file, file, shelf, out, err),
+        Command::Totals(codes_file, file) => totals(alloc, codes_file, file, shelf, out, err),
         Command::Convert(syntax, codes_file, file) => {
             convert(alloc, syntax, codes_file, file, shelf, out, err)
         }

@@ -10,6 +10,8 @@ look at any XML document
 read an invoice
   einv show [--codes LISTS] FILE
       lists its business terms, a line each
+  einv totals [--codes LISTS] FILE
+      lists each total that isn't what the other values make of it
 
 check a document, before it goes out or when it comes in
   einv check [--svrl] [--phase PHASE] --rules RULES [--rules RULES ..] FILE
@@ -44,7 +46,7 @@ einv --help prints this page, einv --version the version.
 
 status
   0  done
-  1  check found something fatal
+  1  check found something fatal, or totals a difference
   2  the words fit no command
   3  the document is refused
   4  a rule file, code lists, a phase or an expression is refused

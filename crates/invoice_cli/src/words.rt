@@ -17,6 +17,8 @@ pub(crate) enum Command<'w> {
     Outline(&'w str),
     /// With the file of code lists, if one is named.
     Show(Option<&'w str>, &'w str),
+    /// Likewise.
+    Totals(Option<&'w str>, &'w str),
     Convert(Syntax, Option<&'w str>, &'w str),
     /// Whether the report is to be SVRL, the phase, if one is named, and the document. The rule files are named beside.
     Check(bool, Option<&'w str>, &'w str),
@@ -48,6 +50,7 @@ pub(crate) fn command_of(words: &[String]) -> Asked<'_>
         Some((command, rest)) => match command.as_str() {
             "outline" => without_rules(outline_of(rest)),
             "show" => without_rules(show_of(rest)),
+            "totals" => without_rules(totals_of(rest)),
             "convert" => without_rules(convert_of(rest)),
             "check" => check_of(rest),
             "extract" => without_rules(extract_of(rest)),
@@ -129,6 +132,28 @@ fn show_with<'w>(given: &Given<'w>, number: u64, words: &'w [String]) -> Command
 {
     match last_operand(number, words) {
         Ok(file) => Command::Show(given.codes_file, file),
+        Err(number) => Command::BadWord(number),
+    }
+}
+
+/// The comparison that the words behind `totals` ask for.
+fn totals_of(words: &[String]) -> Command<'_>
+    requires { 2 + length words.now < 2 ^ 64 }
+    ensures { asked_by [] result ≡ spec.optioned commands.Totals spec.totals_of spec.none_given 2 (words_of words.now) }
+{
+    let found = scan(Optioned::Totals, &NONE_GIVEN, 2, words);
+    match found.bad {
+        Some(number) => Command::BadWord(number),
+        None => totals_with(&found.given, found.number, found.words),
+    }
+}
+
+fn totals_with<'w>(given: &Given<'w>, number: u64, words: &'w [String]) -> Command<'w>
+    requires { number + length words.now < 2 ^ 64 }
+    ensures { asked_by [] result ≡ spec.totals_of (given_options given.now) number (words_of words.now) }
+{
+    match last_operand(number, words) {
+        Ok(file) => Command::Totals(given.codes_file, file),
         Err(number) => Command::BadWord(number),
     }
 }

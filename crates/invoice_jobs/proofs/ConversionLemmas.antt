@@ -5,7 +5,7 @@ use Rattle.inv_base.specs.Files.{Files, bytes_under}
 use Rattle.code_lists.specs.CodeFiles.{Lists, file_lists}
 use Rattle.inv_terms.specs.declared.entries.Entry.{Entry}
 use Rattle.inv_terms.specs.Listing.{IsInvoice}
-use Rattle.inv_lacks.specs.Whole.{IsValid}
+use Rattle.inv_terms.specs.Whole.{IsValid}
 use Rattle.xml_state.specs.declared.limits.Limits.{Limits}
 use Rattle.xml_state.specs.Events.{Event}
 use Rattle.xml_state.specs.Documents.{Tells}
@@ -20,7 +20,7 @@ use Rattle.bind_meaning.specs.Trees.{document_of}
 use Rattle.bind_meaning.specs.declared.tables.Which.{Which}
 use Rattle.bind_meaning.specs.declared.tables.Syntax.{Syntax}
 use Rattle.bind_carrying.specs.Tables.{target}
-use Rattle.bind_carrying.specs.Carrying.{carrying, entries_fail}
+use Rattle.bind_carrying.specs.Carrying.{carrying, entries_carried}
 use Rattle.bind_run.specs.Reading.{by_root, invoice_of}
 use Rattle.bind_run.specs.Roots.{which_of}
 use Rattle.reading_laws.specs.Nodes.{Rise}
@@ -75,8 +75,8 @@ module _
 
 module _
     (read_by_table : (table : Which) (es : List Entry) (lists : Lists) → IsInvoice es → IsValid es lists → carrying (rows_of table) es ≡ Ok tt → IsReadByTable table es lists)
-    (meets : (rows : List Row) (es : List Entry) → carrying rows es ≡ Ok tt → entries_fail rows es ≡ None)
-    (read_exactly : (table : Which) (es : List Entry) (lists : Lists) → IsInvoice es → IsValid es lists → entries_fail (rows_of table) es ≡ None
+    (meets : (rows : List Row) (es : List Entry) → carrying rows es ≡ Ok tt → entries_carried rows es ≡ Ok tt)
+    (read_exactly : (table : Which) (es : List Entry) (lists : Lists) → IsInvoice es → IsValid es lists → entries_carried (rows_of table) es ≡ Ok tt
     → terms_of (document_nodes (document_of (rows_of table) es)) (rows_of table) lists ≡ Ok (exactly es))
   where
     pub written-read : (files : Files) (file : List ℕ) (codes_file : Option (List ℕ)) (lists : Lists) (syntax : Syntax) (es : List Entry) → IsInvoice es → IsValid es lists → IsCarriedBy syntax es

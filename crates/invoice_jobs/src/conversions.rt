@@ -4,7 +4,7 @@ ghost use Rattle.inv_base.specs.Files.{Files};
 ghost use Rattle.code_lists.specs.CodeFiles.{Lists};
 ghost use Rattle.inv_terms.specs.declared.entries.Entry.{Entry};
 ghost use Rattle.inv_terms.specs.Listing.{IsInvoice};
-ghost use Rattle.inv_lacks.specs.Whole.{IsValid};
+ghost use Rattle.inv_terms.specs.Whole.{IsValid};
 ghost use Rattle.bind_meaning.specs.Terms.{Read};
 ghost use Rattle.bind_meaning.specs.declared.tables.Syntax.{Syntax};
 ghost use Rattle.invoice_jobs.specs.Conversions.{IsReadAs, exactly, text_in, IsCarriedBy, Holds};

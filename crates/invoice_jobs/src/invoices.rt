@@ -83,9 +83,9 @@ fn refuse_invoice<E: Sink>(doc: &Doc<'_>, file: &str, fault: &BindFault, err: &m
 }
 
 /// What a job works on: the tables and an invoice.
-struct Loaded {
-    tables: Tables,
-    read: ReadInvoice,
+pub(crate) struct Loaded {
+    pub(crate) tables: Tables,
+    pub(crate) read: ReadInvoice,
 }
 
 impl Drop for Loaded {
@@ -98,7 +98,7 @@ impl Drop for Loaded {
 
 /// The invoice of a file by the code lists of another, or by the built-in ones; or the status with which the job ends. The tables are
 /// there before the document is opened.
-fn load<S: Shelf, E: Sink>(
+pub(crate) fn load<S: Shelf, E: Sink>(
     alloc: Global,
     codes_file: Option<&str>,
     file: &str,

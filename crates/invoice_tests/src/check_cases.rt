@@ -1,6 +1,6 @@
 use crate::building::{full_without, invoice_of};
 use code_lists::CodeLists;
-use inv_lacks::{Name, TermFault, check};
+use inv_terms::{Name, TermFault, check};
 use std::alloc::Global;
 use std::test::Fail;
 use term_table::{Term, term_row};

@@ -2,6 +2,8 @@
 #![tactic(auto)]
 
 #[cfg(test)]
+mod added_cases;
+#[cfg(test)]
 mod attachment_cases;
 #[cfg(test)]
 mod building;

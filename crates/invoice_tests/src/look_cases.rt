@@ -2,8 +2,7 @@ ghost use Rattle.term_table.specs.Runs.{IsNested};
 
 use crate::building::{context_of, full_without};
 use code_lists::CodeLists;
-use inv_lacks::{Name, TermFault, first_missing, is_unlisted};
-use inv_terms::{Entry, Invoice};
+use inv_terms::{Entry, Invoice, Name, TermFault, first_missing, is_unlisted};
 use std::alloc::Global;
 use std::test::Fail;
 use term_table::{Context, Group, ROOT, Seat, Slot, Term};

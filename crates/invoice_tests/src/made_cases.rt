@@ -1,5 +1,4 @@
-use bind_names::{declared_by, prefix_of, uri_of};
-use bind_rows::Namespace;
+use bind_rows::{Namespace, declared_by, prefix_of, uri_of};
 use bind_table::{Binding, well_formed};
 use cii_binding::cii;
 use std::alloc::AllocError;

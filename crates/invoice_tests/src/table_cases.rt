@@ -75,6 +75,23 @@ fn unknown_terms_are_told(rt: HostRuntime) -> Result<(), Fail> {
     expect(told?, "unknown term")
 }
 
+fn tell_added(alloc: Global, table: &mut Binding) -> Result<bool, AllocError>
+    requires { table.old ≡ [] }
+{
+    below_root(alloc, table, "ID", 2, 1, None)?;
+    below_root(alloc, table, "Other", 3, 1001, None)?;
+    Ok(well_formed(table) == answer(TableKind::UnknownTerm, 2))
+}
+
+// EXT-1 has a place in the invoice, and no table has it yet.
+#[test]
+fn added_terms_are_unknown(rt: HostRuntime) -> Result<(), Fail> {
+    let mut table = Binding::new(rt.alloc());
+    let told = tell_added(rt.alloc(), &mut table);
+    drop(table);
+    expect(told?, "added term")
+}
+
 fn line_below_root(alloc: Global, table: &mut Binding) -> Result<bool, AllocError>
     requires { table.old ≡ [] }
 {

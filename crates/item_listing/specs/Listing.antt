@@ -10,7 +10,7 @@ use Rattle.node_locations.specs.Locations.{location}
 use Rattle.xpath_items.specs.declared.item.Item.{Item}
 use Rattle.xpath_items.specs.declared.item.Item.TheVariants as i
 use Rattle.xpath_items.specs.declared.outcome.DynError.{DynError}
-use Rattle.error_codes.specs.Codes.{code_text}
+use Rattle.xpath_items.specs.Codes.{code_text}
 use Rattle.xpath_meaning.specs.Items.{string_at, boolean_text}
 use Rattle.xpath_meaning.specs.Values.{Value}
 use Rattle.xpath_operators.specs.Nodes.{AreWithin}

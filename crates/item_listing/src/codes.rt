@@ -1,9 +1,8 @@
 ghost use Rattle.inv_base.specs.Printing.{Printed};
 ghost use Rattle.item_listing.specs.Listing.{error_line};
 
-use error_codes::code_of;
 use inv_base::{Printer, Sink};
-use xpath_items::DynError;
+use xpath_items::{DynError, code_of};
 
 /// Writes the line of an error, and answers whether a write failed.
 pub(crate) fn write_error<K: Sink>(error: DynError, out: &mut K) -> bool

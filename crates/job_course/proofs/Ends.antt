@@ -3,7 +3,6 @@ use Rattle.std.proofs.Common.{◌≡◌, ℕ, ◌≤◌, suc, zero, List, [], Op
 use Rattle.inv_base.specs.Files.{Files, bytes_under}
 use Rattle.inv_base.specs.Outside.{ShelfView, SinkView, WhereTold}
 use Rattle.inv_base.specs.Writing.{WritesAll, WritesFront}
-use Rattle.inv_base.proofs.WritingLemmas.{appended-nil, IsFront-nil}
 use Rattle.code_lists.specs.CodeFiles.{Lists, file_lists}
 use Rattle.node_arena.specs.Document.{Document}
 use Rattle.xml_state.specs.declared.limits.Limits.{Limits}
@@ -15,8 +14,8 @@ use Rattle.job_course.specs.declared.status.Status.TheVariants as statuses
 use Rattle.job_course.specs.Course.{Answer, Course, ends, loads, takes, refusal, by_result, by_test, by_lists, is_within, document_limits, rule_limits, list_limit, loading, document_course, rules_course, lists_course, answer_of, readings}
 use Rattle.job_course.specs.Lines.{document_line, too_long_line}
 use Rattle.job_course.specs.Outside.{Outside, HasRead, IsAccepted}
-use Rattle.job_course.specs.Runs.{IsContentOf, AreListed, EndsIn, at_end, refused_at, loaded, too_long_at, taken, ReadsAt, a_load, a_taking, behind_load, behind_taking, Runs}
-use Rattle.job_course.proofs.Joins.{Behind, behind_a_load, behind_a_taking, run_behind}
+use Rattle.job_course.specs.Runs.{IsContentOf, AreListed, EndsIn, at_end, refused_at, loaded, too_long_at, taken, ReadsAt, a_load, a_taking, behind_load, behind_taking, Runs, RunsInPieces}
+use Rattle.job_course.proofs.Joins.{Behind, behind_a_load, behind_a_taking, run_behind, pieces_behind}
 
 -- An answer that is written, or a front of it.
 pub written_here : (accepted status : Status) (text : List ℕ) (shelf : ShelfView) (out out' err : SinkView) → IsAccepted accepted
@@ -41,8 +40,7 @@ memory_here course shelf out err = inr (inr (inl (record {
   told = refl;
   few = λ files is. omega arith;
   read = record { held = refl; opens = refl; faults = refl };
-  quiet = refl;
-  front = λ files is. ([], IsFront-nil _, sym (appended-nil out.told));
+  nothing = refl;
   no_line = refl;
 })))
 
@@ -62,6 +60,15 @@ module _ (name : List ℕ) (shelf mid shelf' : ShelfView) (out out' err mid_err 
       → Runs (next found.found) (record { shelf = mid; out = out; err = mid_err }) (record { shelf = shelf'; out = out'; err = err' }) status
       → Runs (document_course name next) (record { shelf = shelf; out = out; err = err }) (record { shelf = shelf'; out = out'; err = err' }) status
   behind_document = behind_loading document_limits statuses.DocumentRefused
+
+  -- the same of a job that wants memory while it writes
+  pub pieces_behind_document : (next : profile.Document → Course) (doc : Document) (found : IsLoaded document_limits (option_map (bytes_under name) shelf.held) doc)
+      → RunsInPieces (next found.found) (record { shelf = mid; out = out; err = mid_err }) (record { shelf = shelf'; out = out'; err = err' }) status
+      → RunsInPieces (document_course name next) (record { shelf = shelf; out = out; err = err }) (record { shelf = shelf'; out = out'; err = err' }) status
+  pieces_behind_document next doc found further =
+      pieces_behind (document_course name next) (next found.found) shelf mid shelf' out out' err mid_err err' status
+      (behind_a_load shelf.held document_limits name (λ fault. refusal statuses.DocumentRefused (document_line name fault)) next found.content found.found
+      (λ files is. found.whole (bytes_under name files) (ap (option_map (bytes_under name)) is)) found.is) read quiet further
 
   -- what follows behind a rule file
   pub behind_rules : (next : profile.Document → Course) (doc : Document) (found : IsLoaded rule_limits (option_map (bytes_under name) shelf.held) doc)

@@ -4,7 +4,6 @@ use Rattle.std.specs.Prelude.{length, nat_le}
 use Rattle.std.proofs.lemmas.Bool.Decides.{nat_tests}
 use Rattle.inv_base.specs.Files.{Files, bytes_under}
 use Rattle.inv_base.specs.Outside.{ShelfView, SinkView, WhereTold}
-use Rattle.inv_base.proofs.WritingLemmas.{appended-nil, IsFront-nil}
 use Rattle.code_lists.specs.CodeFiles.{Lists, file_lists}
 use Rattle.code_lists.specs.declared.fault.ListFault.{ListFault}
 use Rattle.code_lists.specs.declared.fault.ListFault.TheVariants as list_faults
@@ -22,10 +21,10 @@ use Rattle.xml_document.specs.Loading as documents
 use Rattle.xml_document.specs.Whole.{IsReadWhole, IsTooLong}
 use Rattle.job_course.specs.declared.status.Status.{Status}
 use Rattle.job_course.specs.declared.status.Status.TheVariants as statuses
-use Rattle.job_course.specs.Course.{Answer, Course, ends, Load, refusal, by_result, by_test, by_lists, is_within, list_limit, loading, lists_course, answer_of, readings, refused_load}
+use Rattle.job_course.specs.Course.{Answer, Course, ends, Stop, at_fault, past_limit, refusal, by_result, by_test, by_lists, is_within, list_limit, loading, lists_course, answer_of, readings, stopped_at}
 use Rattle.job_course.specs.Lines.{read_fault_line, document_line, list_line, too_long_line}
 use Rattle.job_course.specs.Outside.{Outside, HasRead, TakesOrFails, IsRefusedAnswer}
-use Rattle.job_course.specs.Runs.{IsContentOf, AreListed, EndsIn, at_end, refused_at, too_long_at, taken, ReadsAt, a_load, a_taking, Runs, IsListRefusal}
+use Rattle.job_course.specs.Runs.{IsContentOf, AreListed, EndsIn, at_end, refused_at, too_long_at, taken, ReadsAt, a_load, a_taking, StopsThere, Runs, IsListRefusal}
 use Rattle.job_course.proofs.Joins.{Behind, behind_a_taking, run_behind}
 
 -- A first fault is why the bytes are no document.
@@ -45,9 +44,6 @@ of_file name content held whole files is = whole (bytes_under name files) (ap (o
 
 is_short : (bytes : List ℕ) → length bytes ≤ list_limit → is_within list_limit bytes ≡ true
 is_short bytes few = grind (arith, nat_tests)
-
-no_load : (load : Load) → None ≡ Some load → ⊥
-no_load load e = cc
 
 module _ (name : List ℕ) (shelf shelf' : ShelfView) (out err err' : SinkView) where
   abbrev before : Outside
@@ -81,12 +77,10 @@ module _ (name : List ℕ) (shelf shelf' : ShelfView) (out err err' : SinkView) 
     no_document : (files : Files) → shelf.held ≡ Some files → document limits (bytes_under name files) ≡ Err fault
     no_document files is = ap (document limits) (sym (of_this_file files is)) ∙ is_no_document limits refused.content fault refused.is
 
-    stops_at : (files : Files) (load : Load) → shelf.held ≡ Some files → Some (record { limits = limits; name = name }) ≡ Some load
-        → StopsInTime load.limits (Some (bytes_under load.name files)) shelf'.left
-    stops_at files load is same =
-        let load_is : record { limits = limits; name = name } ≡ load = cc in
-        subst (λ (l : Load). StopsInTime l.limits (Some (bytes_under l.name files)) shelf'.left) load_is
-        (subst (λ held. StopsInTime limits (option_map (bytes_under name) held) shelf'.left) is stops)
+    stops_at : (files : Files) (stop : Stop) → shelf.held ≡ Some files → Some (at_fault limits name) ≡ Some stop → StopsThere stop files shelf'.left
+    stops_at files stop is same =
+        let stop_is : at_fault limits name ≡ stop = cc in
+        subst (λ (s : Stop). StopsThere s files shelf'.left) stop_is (subst (λ held. StopsInTime limits (option_map (bytes_under name) held) shelf'.left) is stops)
 
     pub refused_document : IsRefusedAnswer refusing → ReadsFrom {T = Document} (Err (load_faults.Refused fault)) load_faults.Read shelf shelf'
         → TakesOrFails (document_line name fault) err err' → Runs (loading limits refusing name next) before after refusing
@@ -100,8 +94,8 @@ module _ (name : List ℕ) (shelf shelf' : ShelfView) (out err err' : SinkView) 
       read = record { held = reads.held; opens = reads.opens; faults = reads.quiet (λ e. cc) };
       nothing = refl;
       line = takes;
-      stops = λ files is load found. stops_at files load is (sym (ap (by_result (λ fault. Some (record { limits = limits; name = name }))
-          (λ f. refused_load (next f) files)) (no_document files is)) ∙ found);
+      stops = λ files is stop found. stops_at files stop is (sym (ap (by_result (λ fault. Some (at_fault limits name))
+          (λ f. stopped_at (next f) files)) (no_document files is)) ∙ found);
     })
 
   -- Memory ran out in the first reading.
@@ -111,8 +105,7 @@ module _ (name : List ℕ) (shelf shelf' : ShelfView) (out err err' : SinkView) 
     told = refl;
     few = λ files is. some files;
     read = read;
-    quiet = refl;
-    front = λ files is. ([], IsFront-nil _, sym (appended-nil out.told));
+    nothing = refl;
     no_line = quiet;
   })))
 
@@ -152,6 +145,12 @@ module _ (name : List ℕ) (shelf shelf' : ShelfView) (out err err' : SinkView) 
     long = is_long (bytes_under name files) (found.long (bytes_under name files) (ap (option_map (bytes_under name)) is));
   }
 
+  long_stops : (files : Files) (stop : Stop) → IsTooLong list_limit (option_map (bytes_under name) shelf.held) shelf'.left → shelf.held ≡ Some files
+      → Some (past_limit list_limit name) ≡ Some stop → StopsThere stop files shelf'.left
+  long_stops files stop found is same =
+      let stop_is : past_limit list_limit name ≡ stop = cc in
+      subst (λ (s : Stop). StopsThere s files shelf'.left) stop_is (subst (λ held. IsTooLong list_limit (option_map (bytes_under name) held) shelf'.left) is found)
+
   pub long_lists : (next : Lists → Course) → HasRead 1 shelf shelf' → IsTooLong list_limit (option_map (bytes_under name) shelf.held) shelf'.left
       → TakesOrFails (too_long_line name) err err' → Runs (lists_course name next) before after statuses.RulesRefused
   long_lists next read found takes =
@@ -166,8 +165,9 @@ module _ (name : List ℕ) (shelf shelf' : ShelfView) (out err err' : SinkView) 
         read = read;
         nothing = refl;
         line = takes;
-        stops = λ files is load none. let not_within = ap (is_within list_limit) (sym (long.of_it files is)) ∙ long.long in
-            absurd (no_load load (ap (by_test None (refused_load (by_lists name next (file_lists (bytes_under name files))) files)) (sym not_within) ∙ none));
+        stops = λ files is stop stopped. let not_within = ap (is_within list_limit) (sym (long.of_it files is)) ∙ long.long in
+            long_stops files stop found is
+            (sym (ap (by_test (Some (past_limit list_limit name)) (stopped_at (by_lists name next (file_lists (bytes_under name files))) files)) not_within) ∙ stopped);
       })
 
 -- A refusal that ends a course, whatever was read before.
@@ -182,7 +182,7 @@ refused_here status line shelf out err err' refuses takes = inl (record {
   read = record { held = refl; opens = refl; faults = refl };
   nothing = refl;
   line = takes;
-  stops = λ files is load none. cc;
+  stops = λ files is stop none. cc;
 })
 
 module _ (name : List ℕ) (shelf shelf' : ShelfView) (out err err' : SinkView) where

@@ -10,9 +10,9 @@ use Rattle.xml_profile.specs.Profile.{document}
 use Rattle.xml_profile.specs.Profile as profile
 use Rattle.xml_document.specs.Loading.{StopsInTime}
 use Rattle.job_course.specs.declared.status.Status.{Status}
-use Rattle.job_course.specs.Course.{Answer, Course, ends, loads, takes, Load, by_result, by_test, answer_of, readings, refused_load, is_within}
+use Rattle.job_course.specs.Course.{Answer, Course, ends, loads, takes, at_fault, past_limit, by_result, by_test, answer_of, readings, stopped_at, is_within}
 use Rattle.job_course.specs.Outside.{Outside, counted, HasRead}
-use Rattle.job_course.specs.Runs.{IsContentOf, EndsIn, loaded, taken, ReadsAt, behind_load, behind_taking, StopsAtFault, IsRefused, IsUnread, IsOutOfMemory, IsWritten, Runs}
+use Rattle.job_course.specs.Runs.{IsContentOf, EndsIn, loaded, taken, ReadsAt, behind_load, behind_taking, StopsAtFault, IsRefused, IsUnread, IsOutOfMemory, IsCut, IsWritten, Runs, RunsInPieces}
 
 -- What is known of a whole course from what follows behind a reading, for any property of both.
 pub record Behind (held : Option Files) (whole next : Course) : Type 0 where
@@ -20,7 +20,7 @@ pub record Behind (held : Option Files) (whole next : Course) : Type 0 where
   pub reads_at : (n : ℕ) (file : List ℕ) → ReadsAt held next n file → ReadsAt held whole (suc n) file
   pub answers : WhereTold held (λ files. answer_of whole files ≡ answer_of next files)
   pub reads : WhereTold held (λ files. readings whole files ≡ suc (readings next files))
-  pub refuses : WhereTold held (λ files. refused_load whole files ≡ refused_load next files)
+  pub stops : WhereTold held (λ files. stopped_at whole files ≡ stopped_at next files)
 
 pub behind_a_load : (held : Option Files) (limits : Limits) (name : List ℕ) (refused : XmlFault → Answer) (next : profile.Document → Course) (content : List ℕ)
     (found : profile.Document) → IsContentOf held name content → document limits content ≡ Ok found → Behind held (loads limits name refused next) (next found)
@@ -31,7 +31,7 @@ behind_a_load held limits name refused next content found of_file is =
       reads_at = λ n file further. behind_load of_file is further;
       answers = λ files told. ap (by_result refused (λ f. answer_of (next f) files)) (here files told);
       reads = λ files told. ap (λ r. suc (by_result (λ fault. 0) (λ f. readings (next f) files) r)) (here files told);
-      refuses = λ files told. ap (by_result (λ fault. Some (record { limits = limits; name = name })) (λ f. refused_load (next f) files)) (here files told);
+      stops = λ files told. ap (by_result (λ fault. Some (at_fault limits name)) (λ f. stopped_at (next f) files)) (here files told);
     }
 
 pub behind_a_taking : (held : Option Files) (limit : ℕ) (name : List ℕ) (too_long : Answer) (next : List ℕ → Course) (content : List ℕ)
@@ -44,8 +44,8 @@ behind_a_taking held limit name too_long next content of_file within =
           (ap (by_test too_long (answer_of (next content) files)) within);
       reads = λ files told. subst (λ bytes. suc (by_test 0 (readings (next bytes) files) (is_within limit bytes)) ≡ suc (readings (next content) files)) (of_file files told)
           (ap (λ b. suc (by_test 0 (readings (next content) files) b)) within);
-      refuses = λ files told. subst (λ bytes. by_test None (refused_load (next bytes) files) (is_within limit bytes) ≡ refused_load (next content) files) (of_file files told)
-          (ap (by_test None (refused_load (next content) files)) within);
+      stops = λ files told. subst (λ bytes. by_test (Some (past_limit limit name)) (stopped_at (next bytes) files) (is_within limit bytes) ≡ stopped_at (next content) files) (of_file files told)
+          (ap (by_test (Some (past_limit limit name)) (stopped_at (next content) files)) within);
     }
 
 module _ (whole next : Course) (shelf mid shelf' : ShelfView) (out out' err err' : SinkView) (behind : Behind shelf.held whole next) (read : HasRead 1 shelf mid) where
@@ -76,7 +76,7 @@ module _ (whole next : Course) (shelf mid shelf' : ShelfView) (out out' err err'
     read = has_read r.count r.read;
     nothing = r.nothing;
     line = r.line;
-    stops = λ files is load found. r.stops files (read.held ∙ is) load (sym (behind.refuses files is) ∙ found);
+    stops = λ files is stop found. r.stops files (read.held ∙ is) stop (sym (behind.stops files is) ∙ found);
   }
 
   unread : (status : Status) → IsUnread next between after status → IsUnread whole before after status
@@ -95,6 +95,16 @@ module _ (whole next : Course) (shelf mid shelf' : ShelfView) (out out' err err'
 
   out_of_memory : (status : Status) → IsOutOfMemory next between after status → IsOutOfMemory whole before after status
   out_of_memory status r = record {
+    count = suc r.count;
+    told = r.told;
+    few = λ files is. subst (λ n. suc r.count ≤ n) (sym (behind.reads files is)) (let few = r.few files (read.held ∙ is) in omega (arith, few));
+    read = has_read r.count r.read;
+    nothing = r.nothing;
+    no_line = r.no_line;
+  }
+
+  cut : (status : Status) → IsCut next between after status → IsCut whole before after status
+  cut status r = record {
     count = suc r.count;
     told = r.told;
     few = λ files is. subst (λ n. suc r.count ≤ n) (sym (behind.reads files is)) (let few = r.few files (read.held ∙ is) in omega (arith, few));
@@ -130,3 +140,14 @@ pub run_behind : (whole next : Course) (shelf mid shelf' : ShelfView) (out out' 
 run_behind whole next shelf mid shelf' out out' err mid_err err' status behind read quiet further =
     joined whole next shelf mid shelf' out out' err err' behind read status
     (subst (λ e. Runs next (record { shelf = mid; out = out; err = e }) (record { shelf = shelf'; out = out'; err = err' }) status) quiet further)
+
+-- The same of a job that wants memory while it writes.
+pub pieces_behind : (whole next : Course) (shelf mid shelf' : ShelfView) (out out' err mid_err err' : SinkView) (status : Status) → Behind shelf.held whole next
+    → HasRead 1 shelf mid → mid_err ≡ err
+    → RunsInPieces next (record { shelf = mid; out = out; err = mid_err }) (record { shelf = shelf'; out = out'; err = err' }) status
+    → RunsInPieces whole (record { shelf = shelf; out = out; err = err }) (record { shelf = shelf'; out = out'; err = err' }) status
+pieces_behind whole next shelf mid shelf' out out' err mid_err err' status behind read quiet (inl runs) =
+    inl (run_behind whole next shelf mid shelf' out out' err mid_err err' status behind read quiet runs)
+pieces_behind whole next shelf mid shelf' out out' err mid_err err' status behind read quiet (inr some) =
+    inr (cut whole next shelf mid shelf' out out' err err' behind read status
+    (subst (λ e. IsCut next (record { shelf = mid; out = out; err = e }) (record { shelf = shelf'; out = out'; err = err' }) status) quiet some))

@@ -57,17 +57,17 @@ readings (ends answer) files = 0
 readings (loads limits name refused next) files = suc (by_result (λ fault. 0) (λ found. readings (next found) files) (document limits (bytes_under name files)))
 readings (takes limit name too_long next) files = suc (by_test 0 (readings (next (bytes_under name files)) files) (is_within limit (bytes_under name files)))
 
--- a document that is refused, which ends the job
-pub record Load : Type 0 where
-  pub limits : Limits
-  pub name : List ℕ
+-- a file at which the job stops: a document that is refused, or a file that is longer than it may be
+pub data Stop : Type 0 where
+  at_fault : Limits → List ℕ → Stop
+  past_limit : ℕ → List ℕ → Stop
 
-abbrev pub refused_load : Course → Files → Option Load
-refused_load (ends answer) files = None
-refused_load (loads limits name refused next) files =
-    by_result (λ fault. Some (record { limits = limits; name = name })) (λ found. refused_load (next found) files) (document limits (bytes_under name files))
-refused_load (takes limit name too_long next) files =
-    by_test None (refused_load (next (bytes_under name files)) files) (is_within limit (bytes_under name files))
+abbrev pub stopped_at : Course → Files → Option Stop
+stopped_at (ends answer) files = None
+stopped_at (loads limits name refused next) files =
+    by_result (λ fault. Some (at_fault limits name)) (λ found. stopped_at (next found) files) (document limits (bytes_under name files))
+stopped_at (takes limit name too_long next) files =
+    by_test (Some (past_limit limit name)) (stopped_at (next (bytes_under name files)) files) (is_within limit (bytes_under name files))
 
 -- ---- the files of a job
 

@@ -13,9 +13,10 @@ use Rattle.xml_state.specs.declared.limits.Limits.{Limits}
 use Rattle.xml_profile.specs.Profile.{document}
 use Rattle.xml_profile.specs.Profile as profile
 use Rattle.xml_document.specs.Loading.{StopsInTime}
+use Rattle.xml_document.specs.Whole.{IsTooLong}
 use Rattle.job_course.specs.declared.status.Status.{Status}
 use Rattle.job_course.specs.declared.status.Status.TheVariants as statuses
-use Rattle.job_course.specs.Course.{Answer, Course, ends, loads, takes, Load, answer_of, readings, refused_load, is_within, list_limit}
+use Rattle.job_course.specs.Course.{Answer, Course, ends, loads, takes, Stop, at_fault, past_limit, answer_of, readings, stopped_at, is_within, list_limit}
 use Rattle.job_course.specs.Lines.{read_fault_line, list_line}
 use Rattle.job_course.specs.Outside.{Outside, IsRefusedAnswer, IsAccepted, TakesOrFails, counted, HasRead}
 
@@ -63,10 +64,13 @@ pub data ReadsAt (held : Option Files) : Course → ℕ → List ℕ → Type 0 
       → IsContentOf held name content → is_within limit content ≡ true → ReadsAt held (next content) n file
       → ReadsAt held (takes limit name too_long next) (suc n) file
 
--- Of the content of a document that is refused, at most one piece is read behind bytes that settle no fault yet.
+-- Of a document that is refused, at most one piece is read behind bytes that settle no fault yet; of a file that is too long, at most one behind its limit.
+abbrev pub StopsThere : Stop → Files → Option (List ℕ) → Type 0
+StopsThere (at_fault limits name) files left = StopsInTime limits (Some (bytes_under name files)) left
+StopsThere (past_limit limit name) files left = IsTooLong limit (Some (bytes_under name files)) left
+
 abbrev pub StopsAtFault : Course → Option Files → Option (List ℕ) → Type 0
-StopsAtFault course held left =
-    WhereTold held (λ files. (load : Load) → refused_load course files ≡ Some load → StopsInTime load.limits (Some (bytes_under load.name files)) left)
+StopsAtFault course held left = WhereTold held (λ files. (stop : Stop) → stopped_at course files ≡ Some stop → StopsThere stop files left)
 
 -- The answer is a refusal: its line was told, and nothing written to the output.
 pub record IsRefused (course : Course) (before after : Outside) (status : Status) : Type 0 where
@@ -94,8 +98,17 @@ pub record IsUnread (course : Course) (before after : Outside) (status : Status)
   pub nothing : after.out ≡ before.out
   pub line : TakesOrFails (read_fault_line file) before.err after.err
 
--- Memory ran out: no more files were opened than the course has, and a front of the answer was written.
+-- Memory ran out before anything was written: no more files were opened than the course has.
 pub record IsOutOfMemory (course : Course) (before after : Outside) (status : Status) : Type 0 where
+  pub count : ℕ
+  pub told : status ≡ statuses.Memory
+  pub few : WhereTold before.shelf.held (λ files. count ≤ readings course files)
+  pub read : HasRead count before.shelf after.shelf
+  pub nothing : after.out ≡ before.out
+  pub no_line : after.err ≡ before.err
+
+-- Memory ran out while the answer was written: a front of it was.
+pub record IsCut (course : Course) (before after : Outside) (status : Status) : Type 0 where
   pub count : ℕ
   pub told : status ≡ statuses.Memory
   pub few : WhereTold before.shelf.held (λ files. count ≤ readings course files)
@@ -119,6 +132,10 @@ pub record IsWritten (course : Course) (before after : Outside) (status : Status
 abbrev pub Runs : Course → Outside → Outside → Status → Type 0
 Runs course before after status =
     IsRefused course before after status ⊎ (IsUnread course before after status ⊎ (IsOutOfMemory course before after status ⊎ IsWritten course before after status))
+
+-- The same of a job that wants memory while it writes.
+abbrev pub RunsInPieces : Course → Outside → Outside → Status → Type 0
+RunsInPieces course before after status = Runs course before after status ⊎ IsCut course before after status
 
 -- Whatever follows by a value that was had of files: where what follows runs from here, the whole runs from there ..
 abbrev pub Continues : {T : Type 0} → ((T → Course) → Course) → T → ShelfView → ShelfView → SinkView → SinkView → Type 0

@@ -1,7 +1,9 @@
 -- What a builder keeps behind one call more.
-use Rattle.std.proofs.Common.{◌≡◌, ℕ, ◌-◌, ◌<◌, Bool, true, false, cond, zero, suc, List, [], ◌∷◌, ◌++◌, length, get_or, Option, Some, None, OnSome, chars, IsUtf8, is_some, refl, ap, sym, ◌∙◌, append-nil, arith}
+use Rattle.std.proofs.Common.{◌≡◌, ℕ, ◌+◌, ◌-◌, ◌<◌, Bool, true, false, ◌==◌, cond, zero, suc, List, [], ◌∷◌, ◌++◌, length, get_or, Option, Some, None, OnSome, chars, IsUtf8, is_some, refl, ap, sym, ◌∙◌, append-nil, append_assoc, arith}
 use Rattle.std.proofs.lemmas.Str.{chars-nil}
+use Rattle.std.proofs.lemmas.List.{length_push}
 use Rattle.std.proofs.lemmas.Bool.{false≢true}
+use Rattle.std.proofs.lemmas.Bool.Decides.{nat_tests}
 use Rattle.inv_base.specs.Tree.{is_among}
 use Rattle.inv_base.specs.declared.tree.Kind.TheVariants as kinds
 use Rattle.inv_base.specs.declared.place.Place.{Place}
@@ -18,21 +20,38 @@ as_built nodes open_nodes in_text = record { nodes = nodes; open_nodes = open_no
 
 -- the text that was going on, as it is lent
 same_text : (nodes : List Placed) (open_nodes a b : List ℕ) (place : Option Place) → OnSome place (a ≡ b)
-    → text_nodes nodes open_nodes (chars a) place ≡ text_nodes nodes open_nodes (chars b) place
+    → text_nodes nodes open_nodes a place ≡ text_nodes nodes open_nodes b place
 same_text nodes open_nodes a b None e = refl
-same_text nodes open_nodes a b (Some place) e = ap (λ text. text_nodes nodes open_nodes (chars text) (Some place)) e
+same_text nodes open_nodes a b (Some place) e = ap (λ text. text_nodes nodes open_nodes text (Some place)) e
 
 module _ (old reserved mid : List Slot) (current : ℕ) (kept_same : reserved ≡ old) where
   pub lent : (lent_text text : List ℕ) (place : Option Place)
-      → kept mid ≡ kept reserved ++ text_nodes (kept reserved) (path (kept reserved) current) (chars lent_text) place → OnSome place (lent_text ≡ text)
-      → kept mid ≡ kept old ++ text_nodes (kept old) (path (kept old) current) (chars text) place
+      → kept mid ≡ kept reserved ++ text_nodes (kept reserved) (path (kept reserved) current) lent_text place → OnSome place (lent_text ≡ text)
+      → kept mid ≡ kept old ++ text_nodes (kept old) (path (kept old) current) text place
   lent lent_text text place pushed same =
       pushed
-      ∙ (ap (λ slots. kept slots ++ text_nodes (kept slots) (path (kept slots) current) (chars lent_text) place) kept_same
+      ∙ (ap (λ slots. kept slots ++ text_nodes (kept slots) (path (kept slots) current) lent_text place) kept_same
       ∙ ap (λ text_node. kept old ++ text_node) (same_text (kept old) (path (kept old) current) lent_text text place same))
 
   pub lent_around : path (kept mid) current ≡ path (kept reserved) current → path (kept mid) current ≡ path (kept old) current
   lent_around around = around ∙ ap (λ slots. path (kept slots) current) kept_same
+
+-- a text of no length
+pub nothing : (xs : List ℕ) → true ≡ (length xs == 0) → xs ≡ []
+nothing [] e = refl
+nothing (x ∷ xs) e = let none : length (x ∷ xs) ≡ 0 = grind (arith, nat_tests, e) in absurd (omega (arith, none))
+
+-- a lent piece alone
+pub lent_alone : (lent text : List ℕ) → text ≡ [] → chars lent ≡ chars lent ++ chars text
+lent_alone lent text none = sym (append-nil (chars lent)) ∙ ap (λ more. chars lent ++ more) (sym (ap chars none ∙ chars-nil))
+
+-- copied pieces alone
+pub copied_alone : (lent text placed : List ℕ) → lent ≡ [] → placed ≡ text → chars placed ≡ chars lent ++ chars text
+copied_alone lent text placed none same = ap chars same ∙ ap (λ first. first ++ chars text) (sym (ap chars none ∙ chars-nil))
+
+-- both
+pub lent_joined : (lent text whole placed : List ℕ) → whole ≡ lent ++ text → placed ≡ whole → IsUtf8 lent → IsUtf8 text → chars placed ≡ chars lent ++ chars text
+lent_joined lent text whole placed joined same u v = ap chars (same ∙ joined) ∙ chars-append lent text u v
 
 -- an element behind the nodes
 pub started : (mid new nodes : List Placed) (around around_new open_nodes text : List ℕ) (name place number : ℕ)
@@ -72,26 +91,38 @@ closed_around seen mid current inner same closed =
     ap (λ slots. path (kept slots) inner) (sym same) ∙ (closed ∙ ap (λ slots. ended (path (kept slots) current)) same)
 
 -- more of a text that was going on
-pub text_more : (nodes : List Placed) (open_nodes text piece new : List ℕ) (place : Option Place) (p : Place) (q : ℕ) → place ≡ Some p
+pub text_more : (nodes : List Placed) (open_nodes lent text piece new : List ℕ) (place : Option Place) (p : Place) (q : ℕ) → place ≡ Some p
     → new ≡ text ++ piece → IsUtf8 text → IsUtf8 piece
-    → as_built (nodes ++ text_nodes nodes open_nodes (chars new) place) open_nodes (is_some place)
-    ≡ after (has_text (chars piece) q) (as_built (nodes ++ text_nodes nodes open_nodes (chars text) place) open_nodes (is_some place))
-text_more nodes open_nodes text piece new place p q is more u v =
+    → as_built (nodes ++ text_nodes nodes open_nodes (chars lent ++ chars new) place) open_nodes (is_some place)
+    ≡ after (has_text (chars piece) q) (as_built (nodes ++ text_nodes nodes open_nodes (chars lent ++ chars text) place) open_nodes (is_some place))
+text_more nodes open_nodes lent text piece new place p q is more u v =
     let going : List ℕ → Built = λ characters. as_built (nodes ++ text_nodes nodes open_nodes characters (Some p)) open_nodes true in
-    let e : going (chars new) ≡ after (has_text (chars piece) q) (going (chars text)) =
-    ap going (ap chars more ∙ chars-append text piece u v)
+    let e : going (chars lent ++ chars new) ≡ after (has_text (chars piece) q) (going (chars lent ++ chars text)) =
+    ap going (ap (λ behind. chars lent ++ behind) (ap chars more ∙ chars-append text piece u v) ∙ sym (append_assoc (chars lent) (chars text) (chars piece)))
     ∙ ap (λ all. as_built all open_nodes true) (sym (with_last_text-push (chars piece) nodes _)) in
     rw is e
 
 -- the first piece of a text
 pub text_begun : (nodes : List Placed) (open_nodes text piece new : List ℕ) (place : Option Place) (p : Place) → place ≡ None → new ≡ piece
-    → as_built (nodes ++ text_nodes nodes open_nodes (chars new) (Some p)) open_nodes true
-    ≡ after (has_text (chars piece) p.byte) (as_built (nodes ++ text_nodes nodes open_nodes (chars text) place) open_nodes (is_some place))
+    → as_built (nodes ++ text_nodes nodes open_nodes new (Some p)) open_nodes true
+    ≡ after (has_text piece p.byte) (as_built (nodes ++ text_nodes nodes open_nodes text place) open_nodes (is_some place))
 text_begun nodes open_nodes text piece new place p none first =
     let going : List ℕ → List Placed → Built = λ characters before. as_built (before ++ text_nodes before open_nodes characters (Some p)) open_nodes true in
-    let e : going (chars new) nodes ≡ going (chars piece) (nodes ++ []) =
-    ap (λ t. going (chars t) nodes) first ∙ ap (going (chars piece)) (sym (append-nil nodes)) in
+    let e : going new nodes ≡ going piece (nodes ++ []) =
+    ap (λ t. going t nodes) first ∙ ap (going piece) (sym (append-nil nodes)) in
     rw none e
+
+-- how many nodes there are
+pub count_text : (slots : List Slot) (open_nodes text : List ℕ) (place : Option Place) (p : Place) (n : ℕ) → n ≡ length slots → place ≡ Some p
+    → n + 1 ≡ length (kept slots ++ text_nodes (kept slots) open_nodes text place)
+count_text slots open_nodes text place p n all is =
+    let node = node_behind (kept slots) open_nodes kinds.Text None text p.byte in
+    let e : n + 1 ≡ length (kept slots ++ node ∷ []) = omega (arith, kept_length slots, length_push (kept slots) node) in
+    rw is e
+
+pub count_none : (slots : List Slot) (open_nodes text : List ℕ) (place : Option Place) (n : ℕ) → n ≡ length slots → place ≡ None
+    → n ≡ length (kept slots ++ text_nodes (kept slots) open_nodes text place)
+count_none slots open_nodes text place n all is = let e : n ≡ length (kept slots ++ []) = omega (arith, kept_length slots, ap length (append-nil (kept slots))) in rw is e
 
 -- the place of the last node
 pub last_place-kept : (slots : List Slot) (slot : Slot) → 0 < length slots → slot ≡ get_or slots (length slots - 1) slot

@@ -1,7 +1,7 @@
 -- A document behind one event more.
-use Rattle.std.proofs.Common.{◌≡◌, ℕ, Bool, true, false, List, [], ◌∷◌, ◌++◌, refl, ap, sym, ◌∙◌, append_assoc}
-use Rattle.xml_state.specs.Events.{Event, starts, has_attribute, has_text, ends, with_event, with_events, joined}
-use Rattle.node_arena.specs.Document.{Placed, Built, begun, after, built, built_from, with_last_text}
+use Rattle.std.proofs.Common.{◌≡◌, ℕ, Result, Ok, Err, Bool, true, false, List, [], ◌∷◌, ◌++◌, refl, ap, sym, ◌∙◌, append_assoc}
+use Rattle.xml_state.specs.Events.{Event, starts, has_attribute, has_text, ends, with_event, with_events, joined, Takes}
+use Rattle.node_arena.specs.Document.{Placed, Built, Builds, begun, after, built, built_from, with_last_text}
 use Rattle.node_arena.proofs.NodeLemmas.{with_last_text-push}
 
 with_last_text-append : (a b : List ℕ) (nodes : List Placed) → with_last_text (a ++ b) nodes ≡ with_last_text b (with_last_text a nodes)
@@ -38,6 +38,10 @@ built-with_event events e = built_from-with_event begun events e
 -- a receiver that is what its events build takes one more
 pub Takes-after : (b c : Built) (e : Event) → c ≡ after e b → (events : List Event) → b ≡ built events → c ≡ built (with_event events e)
 Takes-after b c e is events so_far = is ∙ (ap (after e) so_far ∙ sym (built-with_event events e))
+
+pub takes-builds : {T E : Type 0} (result : Result T E) (b c : Built) (e : Event) → Builds result e b c → Takes result e (λ events. b ≡ built events) (λ events. c ≡ built events)
+takes-builds (Ok x) b c e is = Takes-after b c e is
+takes-builds (Err f) b c e is = λ events so_far. is ∙ so_far
 
 pub built-nil : begun ≡ built []
 unfolding built

@@ -1,5 +1,5 @@
 -- What a document holds: its nodes in document order, each with its place, and its names.
-use Rattle.std.specs.Prelude.{◌≡◌, ℕ, ◌+◌, ◌^◌, ◌<◌, Bool, true, false, List, [], ◌∷◌, ◌++◌, length, get_or, Option, Some, None, if◌then◌else◌}
+use Rattle.std.specs.Prelude.{◌≡◌, ℕ, ◌+◌, ◌^◌, ◌<◌, Bool, true, false, List, [], ◌∷◌, ◌++◌, length, get_or, Option, Some, None, Result, MatchResult, if◌then◌else◌}
 use Rattle.std.specs.List.{AllByRecursion}
 use Rattle.std.specs.Option.{ForSome}
 use Rattle.inv_base.specs.declared.tree.Kind.{Kind}
@@ -72,6 +72,10 @@ after (has_text characters place) b = record {
   in_text = true;
 }
 after ends b = record { nodes = b.nodes; open_nodes = ended b.open_nodes; in_text = false }
+
+-- What a call builds that takes an event: the document behind it, and behind a refusal the same.
+abbrev pub Builds : {T E : Type 0} → Result T E → Event → Built → Built → Type 0
+Builds result event before now = MatchResult result (λ _. now ≡ after event before) (λ _. now ≡ before)
 
 -- the document behind all events, in order
 abbrev pub built_from : Built → List Event → Built

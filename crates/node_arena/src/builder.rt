@@ -1,7 +1,7 @@
 ghost use Rattle.std.specs.Prelude.{◌≡◌, ℕ, ◌<◌, List, map, chars, length, false, IfOk, OnSome, string_bytes};
 ghost use Rattle.inv_base.specs.declared.tree.Kind.TheVariants as kinds;
 ghost use Rattle.xml_state.specs.Events.{Event, starts, has_attribute, has_text, ends, Takes};
-ghost use Rattle.node_arena.specs.Document.{Built, begun, after, built, last_place};
+ghost use Rattle.node_arena.specs.Document.{Built, Builds, begun, after, built, last_place};
 ghost use Rattle.node_arena.specs.Moves.{IsWhole};
 ghost use Rattle.node_arena.specs.Slots.{kept};
 
@@ -22,6 +22,9 @@ pub struct Builder<'a> {
     nodes: Vec<Slot<'a>>,
     ends: Vec<u32>,
     current: u32,
+    // The text that goes on, where a place says that one does: its first piece where that was lent, and the pieces that
+    // were copied behind it.
+    lent: &'a str,
     text: String,
     text_place: Option<Place>,
 }
@@ -35,7 +38,7 @@ impl<'a> Model for Builder<'a> {
     ghost use Rattle.node_arena.specs.Slots.{kept, path, text_nodes, IsGrowing};
 
     ghost view = { λ b. record {
-      nodes = kept b.nodes.items ++ text_nodes (kept b.nodes.items) (path (kept b.nodes.items) b.current) (chars (string_bytes b.text)) b.text_place;
+      nodes = kept b.nodes.items ++ text_nodes (kept b.nodes.items) (path (kept b.nodes.items) b.current) (chars b.lent.now ++ chars (string_bytes b.text)) b.text_place;
       open_nodes = path (kept b.nodes.items) b.current;
       in_text = is_some b.text_place;
     } };
@@ -65,6 +68,7 @@ impl<'a> Builder<'a> {
             nodes,
             ends,
             current: 0,
+            lent: "",
             text: String::new(alloc),
             text_place: None,
         })
@@ -81,15 +85,27 @@ impl<'a> Builder<'a> {
     }
 }
 
-impl<'a> Events for Builder<'a> {
-    ghost taken = { λ builder events. builder ≡ built events };
+impl<'a> Builder<'a> {
+    /// How many nodes there are so far, with the document's and the text that goes on.
+    pub fn count_nodes(&self) -> usize
+        ensures { result ≡ length self.now.nodes }
+    {
+        match self.text_place {
+            Some(_) => self.nodes.len() + 1,
+            None => self.nodes.len(),
+        }
+    }
 
-    fn start(&mut self, name: NameId, place: Place) -> Result<(), AllocError> {
+    /// An element begins, at the place of its tag.
+    pub fn begin_element(&mut self, name: NameId, place: Place) -> Result<(), AllocError>
+        ensures { Builds result (starts name place.byte) self.old self.new }
+    {
         settle_text(
             self.bump,
             &mut self.nodes,
             &mut self.ends,
             self.current,
+            self.lent,
             &self.text,
             self.text_place,
         )?;
@@ -108,13 +124,16 @@ impl<'a> Events for Builder<'a> {
         Ok(())
     }
 
-    fn attribute(&mut self, name: NameId, value: &str) -> Result<(), AllocError> {
-        let value = self.bump.try_alloc_str(value)?;
+    /// The element that began last has an attribute, whose value is lent: it isn't copied.
+    pub fn attribute_lent(&mut self, name: NameId, value: &'a str) -> Result<(), AllocError>
+        ensures { Builds result (has_attribute name (chars value.now)) self.old self.new }
+    {
         settle_text(
             self.bump,
             &mut self.nodes,
             &mut self.ends,
             self.current,
+            self.lent,
             &self.text,
             self.text_place,
         )?;
@@ -132,10 +151,57 @@ impl<'a> Events for Builder<'a> {
         Ok(())
     }
 
+    /// A text, or a piece of one, that is lent: it is copied only where it goes on behind a text, or another behind it.
+    pub fn text_lent(&mut self, piece: &'a str, place: Place) -> Result<(), AllocError>
+        ensures { Builds result (has_text (chars piece.now) place.byte) self.old self.new }
+    {
+        match self.text_place {
+            Some(_) => self.text.push_str(piece)?,
+            None => {
+                self.text.clear();
+                self.lent = piece;
+                self.text_place = Some(place);
+            }
+        }
+        Ok(())
+    }
+
+    /// The innermost open element ends.
+    pub fn end_element(&mut self) -> Result<(), AllocError>
+        ensures { Builds result ends self.old self.new }
+    {
+        settle_text(
+            self.bump,
+            &mut self.nodes,
+            &mut self.ends,
+            self.current,
+            self.lent,
+            &self.text,
+            self.text_place,
+        )?;
+        self.current = close(&self.nodes, &mut self.ends, self.current);
+        self.text_place = None;
+        Ok(())
+    }
+}
+
+impl<'a> Events for Builder<'a> {
+    ghost taken = { λ builder events. builder ≡ built events };
+
+    fn start(&mut self, name: NameId, place: Place) -> Result<(), AllocError> {
+        self.begin_element(name, place)
+    }
+
+    fn attribute(&mut self, name: NameId, value: &str) -> Result<(), AllocError> {
+        let value = self.bump.try_alloc_str(value)?;
+        self.attribute_lent(name, value)
+    }
+
     fn text(&mut self, piece: &str, place: Place) -> Result<(), AllocError> {
         match self.text_place {
             Some(_) => self.text.push_str(piece)?,
             None => {
+                self.lent = "";
                 self.text.clear();
                 self.text.push_str(piece)?;
                 self.text_place = Some(place);
@@ -145,17 +211,7 @@ impl<'a> Events for Builder<'a> {
     }
 
     fn end(&mut self) -> Result<(), AllocError> {
-        settle_text(
-            self.bump,
-            &mut self.nodes,
-            &mut self.ends,
-            self.current,
-            &self.text,
-            self.text_place,
-        )?;
-        self.current = close(&self.nodes, &mut self.ends, self.current);
-        self.text_place = None;
-        Ok(())
+        self.end_element()
     }
 }
 

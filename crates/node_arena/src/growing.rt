@@ -9,19 +9,20 @@ use bumpalo::Bump;
 use inv_base::{Kind, Place};
 use std::alloc::AllocError;
 
-/// Adds the text that was going on, if one was, as a node, its characters placed in the arena; behind it there is room
-/// for one node more. Where memory runs out, nothing is added.
+/// Adds the text that was going on, if one was, as a node: a lent piece as it is, or all pieces placed in the arena.
+/// Behind it there is room for one node more. Where memory runs out, nothing is added.
 pub(crate) fn settle_text<'a>(
     bump: &'a Bump,
     nodes: &mut Vec<Slot<'a>>,
     ends: &mut Vec<u32>,
     current: u32,
+    lent: &'a str,
     text: &String,
     place: Option<Place>,
 ) -> Result<(), AllocError>
     requires { IsGrowing nodes.old.items ends.old.items current }
     ensures growing { OnOk result (IsGrowing nodes.new.items ends.new.items current) }
-    ensures nodes { OnOk result (kept nodes.new.items ≡ kept nodes.old.items ++ text_nodes (kept nodes.old.items) (path (kept nodes.old.items) current) (chars (string_bytes text.now)) place) }
+    ensures nodes { OnOk result (kept nodes.new.items ≡ kept nodes.old.items ++ text_nodes (kept nodes.old.items) (path (kept nodes.old.items) current) (chars lent.now ++ chars (string_bytes text.now)) place) }
     ensures around { OnOk result (path (kept nodes.new.items) current ≡ path (kept nodes.old.items) current) }
     ensures nodes_room { OnOk result (vec_len nodes.new < vec_capacity nodes.new) }
     ensures ends_room { OnOk result (vec_len ends.new < vec_capacity ends.new) }
@@ -29,20 +30,43 @@ pub(crate) fn settle_text<'a>(
     ensures nodes_same { OnErr result (nodes.new.items ≡ nodes.old.items) }
     ensures ends_same { OnErr result (ends.new.items ≡ ends.old.items) }
 {
-    let text = lent_text(bump, text, place)?;
+    let text = lent_text(bump, lent, text, place)?;
     make_room(nodes, ends)?;
     push_text(nodes, ends, current, text, place);
     Ok(())
 }
 
-/// The text that was going on, placed in the arena.
-fn lent_text<'a>(bump: &'a Bump, text: &String, place: Option<Place>) -> Result<&'a str, AllocError>
-    ensures { IfOk result (λ lent. OnSome place (lent.now ≡ string_bytes text.now)) }
+/// The text that was going on.
+fn lent_text<'a>(
+    bump: &'a Bump,
+    lent: &'a str,
+    text: &String,
+    place: Option<Place>,
+) -> Result<&'a str, AllocError>
+    ensures { IfOk result (λ whole. OnSome place (chars whole.now ≡ chars lent.now ++ chars (string_bytes text.now))) }
 {
     match place {
-        Some(_) => bump.try_alloc_str(text.as_str()),
+        Some(_) => joined_text(bump, lent, text),
         None => Ok(""),
     }
+}
+
+/// A lent piece and a copied one behind it as one text, placed in the arena where the first doesn't stand alone.
+fn joined_text<'a>(bump: &'a Bump, lent: &'a str, text: &String) -> Result<&'a str, AllocError>
+    ensures { IfOk result (λ whole. chars whole.now ≡ chars lent.now ++ chars (string_bytes text.now)) }
+{
+    let copied = text.as_str();
+    if copied.is_empty() {
+        return Ok(lent);
+    }
+    if lent.is_empty() {
+        return bump.try_alloc_str(copied);
+    }
+    let mut whole = String::from_str(*text.allocator(), lent)?;
+    whole.push_str(copied)?;
+    let placed = bump.try_alloc_str(whole.as_str());
+    drop(whole);
+    placed
 }
 
 /// Room for two nodes more, which have numbers of 32 bits. Where there is none, memory runs out.

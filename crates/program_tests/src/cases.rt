@@ -1,7 +1,7 @@
 //! A run of the program over files and outputs in memory, and its answer beside what is wanted.
 
 use crate::files::FILES;
-use inv_base::{MemShelf, MemSink};
+use inv_base::{MemShelf, MemSink, Shelf, Sink, SureShelf, SureSink};
 use invoice_cli::{Status, run};
 use std::alloc::{AllocError, Global};
 use std::str::from_utf8;
@@ -209,7 +209,18 @@ fn sink_of(alloc: Global, room: usize, failing: u64) -> Result<MemSink, AllocErr
     }
 }
 
-/// Runs the program. It is the one place that does, since each costs minutes to prove and build.
+/// Runs the program. It is the one place that does, since each costs minutes to prove.
+fn run_over<S: Shelf, E: Sink>(
+    alloc: Global,
+    words: &[String],
+    shelf: &mut S,
+    out: &mut MemSink,
+    err: &mut E,
+) -> Status {
+    run(alloc, words, shelf, out, err)
+}
+
+/// Runs the program over the files of a case.
 fn run_words(
     alloc: Global,
     case: &Case<'_>,
@@ -218,7 +229,7 @@ fn run_words(
     err: &mut MemSink,
 ) -> Result<Status, AllocError> {
     let mut shelf = shelf_of(alloc, case)?;
-    let status = run(alloc, words, &mut shelf, out, err);
+    let status = run_over(alloc, words, &mut shelf, out, err);
     drop(shelf);
     Ok(status)
 }
@@ -301,4 +312,39 @@ pub(crate) fn answers_number(
 /// Whether this is the number of the status.
 pub(crate) fn has_number(status: Status, number: &str) -> bool {
     number.parse() == Ok(status as u8)
+}
+
+/// Runs the program over files that never fail, of which `f` alone has content.
+fn run_surely(
+    alloc: Global,
+    case: &Case<'_>,
+    words: &[String],
+    out: &mut MemSink,
+) -> Result<Status, AllocError> {
+    let file = joined(alloc, case.file)?;
+    let mut shelf = SureShelf::new(alloc);
+    let added = shelf.add("f", &file);
+    drop(file);
+    let status = run_over(alloc, words, &mut shelf, out, &mut SureSink::new());
+    drop(shelf);
+    match added {
+        Ok(()) => Ok(status),
+        Err(error) => Err(error),
+    }
+}
+
+fn writes_surely(alloc: Global, case: &Case<'_>, out: &mut MemSink) -> Result<bool, AllocError> {
+    let words = words_of(alloc, case)?;
+    let status = run_surely(alloc, case, &words, out);
+    drop(words);
+    Ok(status? == Status::Done && compare(out.bytes(), case.out) == Written::Whole)
+}
+
+/// Whether the job is done and what is wanted is written, over files that never fail and with an error output that takes
+/// everything.
+pub(crate) fn answers_surely(alloc: Global, case: &Case<'_>) -> Result<bool, AllocError> {
+    let mut out = MemSink::new(alloc, case.room)?;
+    let held = writes_surely(alloc, case, &mut out);
+    drop(out);
+    held
 }

@@ -8,6 +8,8 @@ pub(crate) const JOBS: &str = "\
 outline f|0|f
 show f|0|f
 show --codes eur f|0|eur f
+totals f|1|f
+totals --codes eur f|1|eur f
 convert --to ubl f|0|f
 convert --to cii --codes eur f|0|eur f
 check --rules taxes f|1|taxes f
@@ -25,6 +27,7 @@ check f|2|bad word 2
 try 10001|2|bad word 2
 outline ill|3|ill: Mismatched at 3
 show first|3|first: UnknownRoot at 0
+totals first|3|first: UnknownRoot at 0
 convert --to cii first|3|first: UnknownRoot at 0
 extract 1 first|3|first: UnknownRoot at 0
 check --rules taxes ill|3|ill: Mismatched at 3
@@ -36,6 +39,7 @@ check --rules taxes --phase none f|4|taxes: NoPhase none
 query 1# f|4|expression: Lexical 1
 extract 2 f|5|attachment 2: NoSuch
 show none|6|none: read fault
+totals none|6|none: read fault
 outline none|6|none: read fault
 check --rules none f|6|none: read fault";
 

@@ -27,6 +27,8 @@ mod query_cases;
 #[cfg(test)]
 mod texts;
 #[cfg(test)]
+mod totals_cases;
+#[cfg(test)]
 mod trial_cases;
 #[cfg(test)]
 mod trial_invoice_cases;

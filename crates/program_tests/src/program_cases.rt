@@ -1,8 +1,8 @@
 //! The program's words, and its outputs where they are full or fail.
 
 use crate::cases::{
-    Answer, Case, Written, answer_to, answers, case_of, failing_at, has_number, output_of,
-    printing, telling, telling_fault, with_file,
+    Answer, Case, Written, answer_to, answers, answers_surely, case_of, failing_at, has_number,
+    output_of, printing, telling, telling_fault, with_file,
 };
 use crate::failing_cases::fails_writes;
 use crate::jobs::{REFUSALS, job_of};
@@ -73,6 +73,15 @@ fn is_page(alloc: Global, words: &str, front: &str) -> Result<bool, AllocError> 
 fn help_and_version_are_printed(rt: HostRuntime) -> Result<(), Fail> {
     expect(is_page(rt.alloc(), "--help", "usage: einv ")?, "--help")?;
     expect(is_page(rt.alloc(), "--version", "einv 0.")?, "--version")
+}
+
+/// The first example is answered over files that never fail too, and so is a file that is empty there.
+#[test]
+fn files_that_never_fail_are_read(rt: HostRuntime) -> Result<(), Fail> {
+    let first = printing(case_of("outline f", FIRST), FIRST_OUTLINE);
+    expect(answers_surely(rt.alloc(), &first)?, "f")?;
+    let empty = case_of("outline g", FIRST);
+    expect(!answers_surely(rt.alloc(), &empty)?, "g")
 }
 
 /// Of each row the words, with commas between them, and the file that is absent, with a bar behind it.

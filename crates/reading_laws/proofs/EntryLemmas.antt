@@ -10,7 +10,7 @@ use Rattle.term_table.specs.Places.{seat_place, comes_before}
 use Rattle.term_table.proofs.SeatLemmas.{same_term_is}
 use Rattle.inv_terms.specs.declared.values.Value.{Value}
 use Rattle.inv_terms.specs.declared.entries.Entry.{Entry}
-use Rattle.inv_lacks.proofs.ContextLemmas.{context_is}
+use Rattle.inv_terms.proofs.ContextLemmas.{context_is}
 use Rattle.bind_meaning.specs.Seats.{context_of}
 use Rattle.bind_meaning.specs.Judging.{Told, is_of_seat, first_before, seat_of}
 use Rattle.bind_meaning.specs.Terms.{firsts_behind, entry_of, seat_of_entry, put, listed, entries}

@@ -7,7 +7,7 @@ use Rattle.code_lists.specs.CodeFiles.{Lists}
 use Rattle.term_table.specs.declared.terms.Term.{Term}
 use Rattle.inv_terms.specs.declared.entries.Entry.{Entry}
 use Rattle.inv_terms.specs.Listing.{Fits}
-use Rattle.inv_lacks.specs.Validity.{list_of, code_in, is_outside, is_unlisted}
+use Rattle.inv_terms.specs.Validity.{list_of, code_in, is_outside, is_unlisted}
 use Rattle.bind_rows.specs.declared.rows.Row.{Row}
 use Rattle.bind_rows.specs.declared.rows.Form.{Form}
 use Rattle.bind_meaning.specs.Elements.{string_at}
@@ -15,7 +15,7 @@ use Rattle.bind_meaning.specs.Seats.{Placed, context_of}
 use Rattle.bind_meaning.specs.Judging.{Told}
 use Rattle.bind_meaning.specs.Values.{said}
 use Rattle.bind_meaning.specs.Terms.{Read, told, terms_of}
-use Rattle.bind_values.specs.Sayings.{FitsIts, AllFit}
+use Rattle.bind_terms.specs.Sayings.{FitsIts, AllFit}
 use Rattle.reading_laws.proofs.ListLemmas.{each-weaker, each-any, each-of-all, all-of-each}
 use Rattle.reading_laws.proofs.SayingLemmas.{of-told}
 use Rattle.reading_laws.proofs.EntryLemmas.{OfEntry, of-entries}

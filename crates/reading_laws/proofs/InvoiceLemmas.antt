@@ -4,7 +4,7 @@ use Rattle.std.specs.List.{list_all, AllByRecursion}
 use Rattle.inv_base.specs.Tree.{Node}
 use Rattle.code_lists.specs.CodeFiles.{Lists}
 use Rattle.inv_terms.specs.declared.entries.Entry.{Entry}
-use Rattle.inv_lacks.specs.Whole.{IsValid}
+use Rattle.inv_terms.specs.Whole.{IsValid}
 use Rattle.inv_terms.specs.Listing.{Fits, is_placed, is_listed, is_numbered, IsInvoice}
 use Rattle.node_arena.specs.Document.{Document}
 use Rattle.node_arena.specs.Moves.{tree_nodes, IsOfATree}

@@ -9,7 +9,7 @@ use Rattle.term_table.specs.declared.terms.Term.{Term}
 use Rattle.term_table.specs.declared.terms.TermRow.{TermRow}
 use Rattle.term_table.specs.declared.contexts.Slot.{Slot}
 use Rattle.term_table.specs.declared.contexts.Context.{Context}
-use Rattle.term_table.specs.SemanticModel.{same_term, terms}
+use Rattle.term_table.specs.SemanticModel.{same_term, terms, extension_rows, listing_rows}
 use Rattle.term_table.specs.Groups.{parent_of, occurrence_of}
 use Rattle.term_table.specs.Contexts.{outer_group, inner_group, same_groups, stands_in, same_slot, is_inside}
 use Rattle.term_table.specs.Rows.{is_row_in}
@@ -39,8 +39,8 @@ use Rattle.reading_laws.proofs.CountLemmas.{counted}
 is_within_one : Group → Bool
 is_within_one group = elim (inner_group group) [ None ↦ true | Some inner ↦ same_groups (outer_group group) (outer_group inner) ]
 
-terms-within : list_all (λ (row : TermRow). is_within_one row.group) terms ≡ true
-unfolding is_within_one terms parent_of occurrence_of
+terms-within : list_all (λ (row : TermRow). is_within_one row.group) listing_rows ≡ true
+unfolding is_within_one terms extension_rows listing_rows parent_of occurrence_of
 terms-within = refl
 
 within-one : (group inner : Group) → is_within_one group ≡ true → inner_group group ≡ Some inner → outer_group group ≡ outer_group inner
@@ -49,8 +49,8 @@ within-one group inner h e = same_groups_is (outer_group group) (outer_group inn
 
 known-outer : (row : Row) (term : Term) (inner : Group) → IsKnown row term → row.inner ≡ Some inner → row.outer ≡ outer_group inner
 known-outer row term inner h e =
-    let any = sym (some-place (is_row_in term row.outer row.inner) terms) ∙ h in
-    let w = any-here (λ (line : TermRow). is_within_one line.group ≡ true) (is_row_in term row.outer row.inner) terms (tests-each (λ (line : TermRow). is_within_one line.group) terms terms-within) any in
+    let any = sym (some-place (is_row_in term row.outer row.inner) listing_rows) ∙ h in
+    let w = any-here (λ (line : TermRow). is_within_one line.group ≡ true) (is_row_in term row.outer row.inner) listing_rows (tests-each (λ (line : TermRow). is_within_one line.group) listing_rows terms-within) any in
     let stands = (both (same_term w.0.term term) (stands_in w.0.group row.outer row.inner) w.2).1 in
     let v = both (same_groups row.outer (outer_group w.0.group)) (same_groups row.inner (inner_group w.0.group)) stands in
     same_groups_is row.outer (outer_group w.0.group) v.0 ∙ within-one w.0.group inner w.1 (sym (same_groups_is row.inner (inner_group w.0.group) v.1) ∙ e)

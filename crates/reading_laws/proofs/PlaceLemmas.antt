@@ -11,7 +11,7 @@ use Rattle.term_table.specs.declared.terms.Term.{Term}
 use Rattle.term_table.specs.declared.contexts.Slot.{Slot}
 use Rattle.term_table.specs.declared.contexts.Context.{Context}
 use Rattle.term_table.specs.declared.contexts.Seat.{Seat}
-use Rattle.term_table.specs.SemanticModel.{terms}
+use Rattle.term_table.specs.SemanticModel.{terms, is_extension, extension_rows, listing_rows}
 use Rattle.term_table.specs.Contexts.{slot_group}
 use Rattle.term_table.specs.Rows.{is_row_in, row_in}
 use Rattle.term_table.specs.Places.{place, seat_place}
@@ -75,8 +75,12 @@ not-none : (o : Option ℕ) → is_none o ≡ false → is_some o ≡ true
 not-none None l = absurd (false≢true (sym l))
 not-none (Some n) l = refl
 
+placed-term : (added lost : Bool) → (added || lost) ≡ false → lost ≡ false
+placed-term true lost h = absurd (false≢true (sym h))
+placed-term false lost h = h
+
 pub known-in : (row : Row) (term : Term) (content : Content) → is_unknown row content ≡ false → term_in content ≡ Some term → IsKnown row term
-known-in row term (contents.Term t) k f = subst (IsKnown row) (let z : t ≡ term = cc in z) (not-none (row_in t row.outer row.inner) k)
+known-in row term (contents.Term t) k f = subst (IsKnown row) (let z : t ≡ term = cc in z) (not-none (row_in t row.outer row.inner) (placed-term (is_extension t) (is_none (row_in t row.outer row.inner)) k))
 known-in row term (contents.Constant text) k f = absurd (let z : ◌≡◌ {A = Option Term} None (Some term) = f in cc)
 
 -- ---- a note's subject code has the contexts of the note
@@ -106,14 +110,14 @@ some-place p xs = go (nat_lt (position_or_len p xs) (length xs)) ∙ place-there
     go true = refl
     go false = refl
 
-beside-note : (outer inner : Option Group) → list_any (is_row_in note outer inner) terms ≡ list_any (is_row_in subject_code outer inner) terms
-unfolding terms
+beside-note : (outer inner : Option Group) → list_any (is_row_in note outer inner) listing_rows ≡ list_any (is_row_in subject_code outer inner) listing_rows
+unfolding terms extension_rows listing_rows
 beside-note outer inner = refl
 
 code-known : (row : Row) → IsKnown row note → IsKnown row subject_code
 code-known row h =
-    some-place (is_row_in subject_code row.outer row.inner) terms
-    ∙ (sym (beside-note row.outer row.inner) ∙ (sym (some-place (is_row_in note row.outer row.inner) terms) ∙ h))
+    some-place (is_row_in subject_code row.outer row.inner) listing_rows
+    ∙ (sym (beside-note row.outer row.inner) ∙ (sym (some-place (is_row_in note row.outer row.inner) listing_rows) ∙ h))
 
 -- ---- so all that a row says has its context
 

@@ -12,12 +12,12 @@ use Rattle.term_table.specs.Places.{place_of}
 use Rattle.inv_terms.specs.declared.entries.Entry.{Entry}
 use Rattle.inv_terms.specs.Listing as listing
 use Rattle.inv_terms.proofs.PushLemmas.{same_slot_itself}
-use Rattle.inv_lacks.specs.declared.lacks.Lack.{Lack}
-use Rattle.inv_lacks.specs.declared.lacks.TermFault.TheVariants as faults
-use Rattle.inv_lacks.specs.Lacking.{first_missing}
-use Rattle.inv_lacks.specs.Validity.{missing_in, contexts, unlisted, earlier, first_lack}
-use Rattle.inv_lacks.specs.Whole.{IsContextOf, IsShownBy, IsValid}
-use Rattle.inv_lacks.proofs.ContextLemmas.{here, there, context_is, context_shown, member_cases, no_member}
+use Rattle.inv_terms.specs.declared.lacks.Lack.{Lack}
+use Rattle.inv_terms.specs.declared.lacks.TermFault.TheVariants as faults
+use Rattle.inv_terms.specs.Lacking.{first_missing}
+use Rattle.inv_terms.specs.Validity.{missing_in, contexts, unlisted, earlier, first_lack}
+use Rattle.inv_terms.specs.Whole.{IsContextOf, IsShownBy, IsValid}
+use Rattle.inv_terms.proofs.ContextLemmas.{here, there, context_is, context_shown, member_cases, no_member}
 use Rattle.bind_rows.specs.declared.rows.Row.{Row}
 use Rattle.bind_meaning.specs.declared.fault.BindKind.TheVariants as kinds
 use Rattle.bind_meaning.specs.declared.picked.Seated.{Seated}

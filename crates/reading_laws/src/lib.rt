@@ -8,7 +8,7 @@ ghost use Rattle.inv_base.specs.Tree.{Node, Forest, document_nodes};
 ghost use Rattle.term_table.specs.Places.{place_of};
 ghost use Rattle.inv_terms.specs.declared.entries.Entry.{Entry};
 ghost use Rattle.inv_terms.specs.Listing.{Fits, is_placed, is_listed, is_numbered, refusal, IsInvoice};
-ghost use Rattle.inv_lacks.specs.Whole.{IsValid};
+ghost use Rattle.inv_terms.specs.Whole.{IsValid};
 ghost use Rattle.node_arena.specs.Document.{Document};
 ghost use Rattle.node_arena.specs.Moves.{tree_nodes, IsOfATree};
 ghost use Rattle.bind_rows.specs.declared.rows.Row.{Row};
@@ -22,10 +22,9 @@ ghost use Rattle.bind_meaning.specs.Terms.{Read, told, term_picks, place_all, te
 ghost use Rattle.bind_run.specs.Reading.{invoice_of};
 ghost use Rattle.reading_laws.specs.Nodes.{Rise};
 
-use bind_values::said_values_fit_their_terms;
+use bind_terms::said_values_fit_their_terms;
 use cii_binding::cii_is_well_formed;
-use inv_lacks::valid_invoices_lack_nothing;
-use inv_terms::push_refuses_what_makes_no_invoice;
+use inv_terms::{push_refuses_what_makes_no_invoice, valid_invoices_lack_nothing};
 use ubl_binding::{credit_note_is_well_formed, invoice_is_well_formed};
 
 /// Each value that is read fits its term.

@@ -18,8 +18,7 @@ use inv_base::{Many, Txt};
 use schematron_entries::Entry;
 use schematron_expansion::{Instance, RuleFile};
 use schematron_meaning::Attribute;
-use schematron_rules::{Expanded, Let, Phase, Rules};
-use schematron_scopes::prefixes;
+use schematron_rules::{Expanded, Let, Phase, Rules, prefixes};
 use std::alloc::{AllocError, Global};
 use xpath_types::Scope;
 

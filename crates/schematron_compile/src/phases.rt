@@ -17,17 +17,11 @@ use crate::places::{Places, numbers_named};
 use inv_base::Many;
 use schematron_entries::Entry;
 use schematron_expansion::{RuleFile, Sort};
-use schematron_meaning::{Attribute, Role};
+use schematron_meaning::Attribute;
 use schematron_rules::{Let, Phase};
 use schematron_texts::Parameters;
 use std::alloc::{AllocError, Global};
 use xpath_types::Scope;
-
-fn is_phase(role: Role) -> bool
-    ensures { result ≡ lookup.is_phase role }
-{
-    matches!(role, Role::Phase)
-}
 
 /// The phases of a file.
 pub(crate) fn phases_among<'e, 'd>(
@@ -38,7 +32,7 @@ pub(crate) fn phases_among<'e, 'd>(
 {
     let mut found = Vec::new(alloc);
     'entries: for e in entries {
-        push_if(&mut found, e, is_phase(e.role))?;
+        push_if(&mut found, e, e.role.is_phase())?;
     }
     Ok(found)
 }

@@ -17,7 +17,7 @@ use crate::texts::shown;
 use inv_base::Many;
 use schematron_entries::Entry;
 use schematron_expansion::{Instance, Put, RuleFile, Sort};
-use schematron_meaning::{Attribute, Role};
+use schematron_meaning::Attribute;
 use schematron_rules::{Assertion, Let, Rule};
 use schematron_texts::Parameters;
 use std::alloc::{AllocError, Global};
@@ -26,25 +26,13 @@ use xpath_types::Scope;
 /// How many lets and assertions a rule that extends others has at most.
 const MOST_PUTS: usize = 1_000_000;
 
-fn is_let(role: Role) -> bool
-    ensures { result ≡ lookup.is_let role }
-{
-    matches!(role, Role::Let)
-}
-
-fn is_assertion(role: Role) -> bool
-    ensures { result ≡ lookup.is_assertion role }
-{
-    matches!(role, Role::Assert | Role::Report)
-}
-
 /// The lets among what a rule has.
 fn lets_among<'e, 'd>(alloc: Global, puts: &[Put<'e, 'd>]) -> Result<Vec<&'e Entry<'d>>, AllocError>
     ensures { IfOk result (λ lets. lent_entries lets.items ≡ written.lets_among (lent_puts puts.now)) }
 {
     let mut lets = Vec::new(alloc);
     'puts: for put in puts {
-        push_if(&mut lets, put.entry, is_let(put.entry.role))?;
+        push_if(&mut lets, put.entry, put.entry.role.is_let())?;
     }
     Ok(lets)
 }
@@ -58,7 +46,7 @@ fn assertions_among<'e, 'd>(
 {
     let mut found = Vec::new(alloc);
     'puts: for put in puts {
-        push_if(&mut found, put.entry, is_assertion(put.entry.role))?;
+        push_if(&mut found, put.entry, put.entry.role.is_assertion())?;
     }
     Ok(found)
 }

@@ -50,17 +50,11 @@ fn take_entry<'d>(rules: &mut AbstractRules<'d>, e: &Entry<'d>) -> Result<(), Al
     ensures { OnOk result ((es : List meaning.Entry) → spec.AreRules rules.old.nodes.items (spec.named_in (λ key. key.now) rules.old.names) es
         → spec.AreRules rules.new.nodes.items (spec.named_in (λ key. key.now) rules.new.names) (es ++ seen_entry e.now ∷ [])) }
 {
-    if is_abstract_rule(e.role) {
+    if e.role.is_abstract_rule() {
         add_rule(rules, e)
     } else {
         Ok(())
     }
-}
-
-fn is_abstract_rule(role: Role) -> bool
-    ensures { result ≡ is_abstract_rule role }
-{
-    matches!(role, Role::AbstractRule)
 }
 
 /// Adds a rule behind the others.

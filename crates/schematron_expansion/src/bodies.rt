@@ -149,7 +149,7 @@ pub(crate) fn part_of<'d>(e: &Entry<'d>, names: &IndexMap<&'d str, usize>) -> Op
         Role::Extends => putting(place_of(names, e.attribute(Attribute::Rule))),
         role => Some(Part::Own(Thing {
             number: e.node.number(),
-            counts: is_assertion(role),
+            counts: role.is_assertion(),
         })),
     }
 }
@@ -161,12 +161,6 @@ fn putting(rule: Option<usize>) -> Option<Part>
         Some(rule) => Some(Part::Puts(rule)),
         None => None,
     }
-}
-
-pub(crate) fn is_assertion(role: Role) -> bool
-    ensures { result ≡ is_assertion role }
-{
-    matches!(role, Role::Assert | Role::Report)
 }
 
 pub(crate) fn is_item(role: Role) -> bool

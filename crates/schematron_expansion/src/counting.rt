@@ -6,7 +6,6 @@ ghost use Rattle.schematron_entries.specs.Seen.{seen_entry, seen_entries};
 ghost use Rattle.schematron_expansion.specs.Counted as spec;
 
 use schematron_entries::{Chains, Entry};
-use schematron_meaning::Role;
 use std::alloc::{AllocError, Global};
 
 /// Of each entry whether it stands in a rule that counts: one that stands for itself, in a pattern that does.
@@ -45,7 +44,7 @@ fn is_counted_rule(entries: &[Entry<'_>], nodes: &Chains, n: u32) -> bool
     ensures { result ≡ is_counted_rule (seen_entries entries.now) (at_node (seen_entries entries.now) n) }
 {
     match entry_at(entries, nodes, n) {
-        Some(e) => is_own_rule(e.role) & is_of_a_pattern(entries, nodes, e.parent),
+        Some(e) => e.role.is_own_rule() & is_of_a_pattern(entries, nodes, e.parent),
         None => false,
     }
 }
@@ -56,7 +55,7 @@ fn is_of_a_pattern(entries: &[Entry<'_>], nodes: &Chains, n: u32) -> bool
     ensures { result ≡ is_of_a_pattern (seen_entries entries.now) (at_node (seen_entries entries.now) n) }
 {
     match entry_at(entries, nodes, n) {
-        Some(e) => is_own_pattern(e.role),
+        Some(e) => e.role.is_own_pattern(),
         None => false,
     }
 }
@@ -80,16 +79,4 @@ pub(crate) fn get<'e, 'd>(entries: &'e [Entry<'d>], at: usize) -> Option<&'e Ent
     ensures { option_copied result ≡ slice_get entries.now at }
 {
     entries.get(at)
-}
-
-pub(crate) fn is_own_rule(role: Role) -> bool
-    ensures { result ≡ is_own_rule role }
-{
-    matches!(role, Role::Rule)
-}
-
-fn is_own_pattern(role: Role) -> bool
-    ensures { result ≡ is_own_pattern role }
-{
-    matches!(role, Role::Pattern)
 }

@@ -4,7 +4,6 @@ ghost use Rattle.schematron_meaning.specs.Lookup.{is_let, is_part, is_parameter,
 ghost use Rattle.schematron_expansion.specs.Sorts.{test_of};
 
 use crate::bodies::is_item;
-use crate::counting::is_own_rule;
 use crate::file::Sort;
 use schematron_meaning::Role;
 
@@ -13,20 +12,14 @@ pub(crate) fn is_of(sort: Sort, role: Role) -> bool
     ensures { result ≡ test_of sort role }
 {
     match sort {
-        Sort::Lets => is_let(role),
-        Sort::Rules => is_own_rule(role),
-        Sort::LetsAndRules => is_let(role) | is_own_rule(role),
+        Sort::Lets => role.is_let(),
+        Sort::Rules => role.is_own_rule(),
+        Sort::LetsAndRules => role.is_let() | role.is_own_rule(),
         Sort::Items => is_item(role),
         Sort::MessageParts => is_part(role),
         Sort::Parameters => is_parameter(role),
         Sort::Actives => is_active(role),
     }
-}
-
-fn is_let(role: Role) -> bool
-    ensures { result ≡ is_let role }
-{
-    matches!(role, Role::Let)
 }
 
 fn is_part(role: Role) -> bool

@@ -11,7 +11,7 @@ use Rattle.schematron_meaning.specs.Faults.{cycle, all_faults, first_fault}
 use Rattle.schematron_entries.specs.Order.{NumbersRise}
 use Rattle.schematron_expansion.specs.declared.found.Found.{Found}
 use Rattle.schematron_expansion.specs.Found.{first_by, sooner}
-use Rattle.schematron_counts.specs.Passing.{first_passing}
+use Rattle.schematron_faults.specs.Passing.{first_passing}
 use Rattle.schematron_faults.specs.Joining.{at_itself, place_of, fault_of}
 use Rattle.schematron_faults.specs.Least.{least, soonest}
 use Rattle.schematron_faults.specs.Read.{IsRead}

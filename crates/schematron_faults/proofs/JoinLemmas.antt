@@ -23,7 +23,7 @@ use Rattle.schematron_meaning.specs.Showing.{fault, when, Key, key_of, has_key, 
 use Rattle.schematron_meaning.specs.Faults.{cycle, refused, bad_expressions, too_many, faults_at, faults_behind, all_faults}
 use Rattle.schematron_expansion.specs.declared.found.Found.{Found}
 use Rattle.schematron_expansion.specs.Found.{first_at, first_or, first_by, sooner}
-use Rattle.schematron_counts.specs.Passing.{passing_behind, first_passing}
+use Rattle.schematron_faults.specs.Passing.{passing_behind, first_passing}
 use Rattle.schematron_faults.specs.Joining.{at_itself, fault_of}
 use Rattle.schematron_faults.specs.Least.{found_of, least}
 use Rattle.schematron_entries.specs.Order.{NumbersRise}

@@ -18,3 +18,6 @@ pub mod JudgeLemmas
 pub mod LoopLemmas
 pub mod SeenLemmas
 pub mod GoneLemmas
+mod ListLemmas
+mod CycleLemmas
+mod CountLemmas

@@ -4,3 +4,6 @@ pub mod Joining
 pub mod Searching
 pub mod Things
 pub mod Phases
+pub mod Parts
+pub mod Passing
+pub mod Stopped

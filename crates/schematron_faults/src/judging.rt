@@ -13,7 +13,7 @@ use node_arena::NodeId;
 use schematron_entries::Entry;
 use schematron_expansion::Found;
 use schematron_meaning::{Attribute, ExpressionFault, Fault, RuleKind};
-use schematron_scopes::fault_of;
+use schematron_rules::fault_of;
 use schematron_texts::{Parameters, replaced_within};
 use std::alloc::{AllocError, Global};
 use xpath_tokens::MOST_BYTES;

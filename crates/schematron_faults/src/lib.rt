@@ -1,14 +1,21 @@
-//! The first fault of a rule file.
+//! The first fault of a rule file: that of its elements and expressions, the first `extends` through which its own rule is
+//! reached again, the first element at which there are too many patterns, rules or assertions.
 #![tactic(auto)]
 
 mod expressions;
+mod finding;
 mod judging;
 mod laws;
 mod lets;
+mod parts;
+mod passing;
 mod patterns;
 mod phases;
 mod rules;
 mod search;
+mod sizes;
+mod sums;
+mod tallies;
 
 ghost use Rattle.std.specs.Prelude.{◌≡◌, List, IfOk};
 ghost use Rattle.inv_base.specs.Tree.{Node};
@@ -19,9 +26,9 @@ ghost use Rattle.schematron_entries.specs.Order.{AreInOrder};
 ghost use Rattle.schematron_faults.specs.Joining as spec;
 
 use crate::expressions::first_expression;
+pub use finding::first_cycle;
 pub use laws::faults_tell_nodes;
-use schematron_counts::first_too_many;
-use schematron_cycles::first_cycle;
+pub use passing::first_too_many;
 use schematron_entries::{first_declared, numbers_rise};
 use schematron_expansion::{Found, RuleFile, sooner};
 use schematron_meaning::Fault;

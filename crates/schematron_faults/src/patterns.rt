@@ -10,7 +10,7 @@ ghost use Rattle.schematron_faults.specs.Things as things;
 
 use crate::lets::{declare_lets, judge_let};
 use crate::phases::outer_scope;
-use crate::rules::{is_let, judge_rule};
+use crate::rules::judge_rule;
 use crate::search::{Search, wants_at};
 use schematron_entries::Entry;
 use schematron_expansion::{Instance, RuleFile, Sort};
@@ -154,7 +154,7 @@ fn judge_item(
     ensures rule { OnOk result (scopes.new.rule ≡ scopes.old.rule) }
     ensures all { OnOk result (scopes.new.all ≡ scopes.old.all) }
 {
-    if is_let(e.role) {
+    if e.role.is_let() {
         judge_let(
             alloc,
             search,

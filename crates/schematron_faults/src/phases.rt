@@ -10,8 +10,7 @@ use crate::lets::judge_lets;
 use crate::search::Search;
 use schematron_entries::Entry;
 use schematron_expansion::{RuleFile, Sort};
-use schematron_meaning::Role;
-use schematron_scopes::{declare_let, prefixes};
+use schematron_rules::{declare_let, prefixes};
 use schematron_texts::Parameters;
 use std::alloc::{AllocError, Global};
 use xpath_types::Scope;
@@ -58,19 +57,13 @@ fn judge_phase(
     ensures goes { OnOk result (spec.Goes search.old search.new (phases.written_phases_of file.now.entries scope.old (seen_entry e.now ∷ []))) }
     ensures scope { OnOk result (scope.new ≡ scope.old) }
 {
-    if !is_phase(e.role) {
+    if !e.role.is_phase() {
         return Ok(());
     }
     let count = scope.count();
     judge_lets(alloc, search, file, scope, e.node.number())?;
     scope.truncate(count);
     Ok(())
-}
-
-fn is_phase(role: Role) -> bool
-    ensures { result ≡ is_phase role }
-{
-    matches!(role, Role::Phase)
 }
 
 /// What is declared in all patterns.
@@ -124,7 +117,7 @@ fn declare_phase(
 ) -> Result<(), AllocError>
     ensures { OnOk result (scope.new ≡ written.with_lets [] scope.old (phases.lets_of_phases file.now.entries (seen_entry e.now ∷ []))) }
 {
-    if is_phase(e.role) {
+    if e.role.is_phase() {
         declare_inside(alloc, file, scope, e.node.number())
     } else {
         Ok(())

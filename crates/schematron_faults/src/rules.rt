@@ -14,11 +14,11 @@ use crate::lets::{declare, judge_let};
 use crate::search::Search;
 use schematron_entries::Entry;
 use schematron_expansion::{Instance, Put, RuleFile, Sort};
-use schematron_meaning::{Attribute, Role};
+use schematron_meaning::Attribute;
 use schematron_texts::Parameters;
 use std::alloc::{AllocError, Global};
-use xpath_type_laws::accepted_with_one_more;
 use xpath_types::Scope;
+use xpath_types::laws::accepted_with_one_more;
 
 /// Goes over a rule of a pattern. The scopes have what is declared in the pattern: in one each let of the rule is
 /// declared behind its value, in the other all are first. Both are cut back then.
@@ -106,17 +106,11 @@ fn declare_entry(
     ensures goes { OnOk result (spec.Goes search.old search.new []) }
     ensures scope { OnOk result (scope.new ≡ things.with_entry params.now scope.old (seen_entry e.now)) }
 {
-    if is_let(e.role) {
+    if e.role.is_let() {
         declare(alloc, search, params, scope, e)
     } else {
         Ok(())
     }
-}
-
-pub(crate) fn is_let(role: Role) -> bool
-    ensures { result ≡ is_let role }
-{
-    matches!(role, Role::Let)
 }
 
 /// Goes over the things of a rule, in the scope that has all its lets and in the one that has those before each.
@@ -150,7 +144,7 @@ fn judge_put(
     ensures goes { OnOk result (spec.Goes search.old search.new (things.written_put file.now.entries params.now all.now before.old (seen_put put.now))) }
     ensures before { OnOk result (before.new ≡ things.with_entry params.now before.old (seen_put put.now).entry) }
 {
-    if is_let(put.entry.role) {
+    if put.entry.role.is_let() {
         judge_let(alloc, search, put.stand, params, before, put.entry)
     } else {
         judge_assertion(alloc, search, file, params, all, put)

@@ -1,2 +1,4 @@
 pub mod Seen
 pub mod Answers
+pub mod PlanAnswers
+pub mod Parsed

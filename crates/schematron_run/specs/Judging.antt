@@ -11,7 +11,7 @@ use Rattle.xpath_meaning.specs.Texts.{with_separator}
 use Rattle.xpath_meaning.specs.Meaning.{mean, at_top, truth_of}
 use Rattle.xpath_meaning.specs.Patterns.{matches}
 use Rattle.schematron_texts.specs.Messages.{squeezed}
-use Rattle.error_codes.specs.Codes.{code_text}
+use Rattle.xpath_items.specs.Codes.{code_text}
 use Rattle.schematron_findings.specs.declared.finding.FindingKind.{FindingKind}
 use Rattle.schematron_findings.specs.declared.finding.FindingKind.TheVariants as f
 use Rattle.schematron_findings.specs.declared.finding.Finding.{Finding}

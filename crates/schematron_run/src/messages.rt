@@ -16,13 +16,12 @@ ghost use Rattle.schematron_run.specs.Telling.{Says};
 use crate::ready::ReadyPart;
 use crate::scene::Scene;
 use crate::values::value_at;
-use error_codes::code_of;
 use inv_base::{Steps, Txt};
 use node_arena::NodeId;
 use schematron_texts::Message;
 use std::alloc::AllocError;
 use std::sync::ledger::Ledger;
-use xpath_items::{DynError, Item, Outcome};
+use xpath_items::{DynError, Item, Outcome, code_of};
 use xpath_operators::text_of;
 use xpath_run::Env;
 

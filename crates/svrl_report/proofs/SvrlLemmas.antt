@@ -24,7 +24,7 @@ use Rattle.schematron_findings.specs.declared.finding.Line.{Line}
 use Rattle.schematron_findings.specs.declared.finding.Line.TheVariants as line
 use Rattle.xpath_items.specs.declared.outcome.DynError.{DynError}
 use Rattle.xpath_items.specs.declared.outcome.DynError.TheVariants as e
-use Rattle.error_codes.specs.Codes.{code_text}
+use Rattle.xpath_items.specs.Codes.{code_text}
 use Rattle.svrl_report.specs.Plain.{all_lines}
 use Rattle.svrl_report.specs.Svrl.{svrl, svrl_uri, svrl_declarations, svrl_tree, svrl_report, given_if, flag_of, role_of, outcome_name, finding_attributes, text_if, line_element, line_elements}
 use Rattle.svrl_report.specs.Calls.{given_calls, element_of, place_calls, flag_calls, mark_calls, byte_calls, text_calls, message_calls, start_calls, finding_calls, line_calls, lines_calls, files_calls, report_calls}

@@ -11,7 +11,7 @@ use Rattle.schematron_findings.specs.declared.finding.Finding.{Finding}
 use Rattle.schematron_findings.specs.declared.finding.Line.{Line}
 use Rattle.schematron_findings.specs.declared.finding.Line.TheVariants as line
 use Rattle.svrl_report.specs.declared.tally.Tally.{Tally}
-use Rattle.error_codes.specs.Codes.{code_text}
+use Rattle.xpath_items.specs.Codes.{code_text}
 
 -- how the line of a failed assertion begins
 abbrev pub failed_word : Level → List ℕ

@@ -9,7 +9,7 @@ use Rattle.schematron_findings.specs.declared.finding.FindingKind.TheVariants as
 use Rattle.schematron_findings.specs.declared.finding.Finding.{Finding}
 use Rattle.schematron_findings.specs.declared.finding.Line.{Line}
 use Rattle.schematron_findings.specs.declared.finding.Line.TheVariants as line
-use Rattle.error_codes.specs.Codes.{code_text}
+use Rattle.xpath_items.specs.Codes.{code_text}
 use Rattle.svrl_report.specs.Plain.{all_lines}
 
 abbrev pub svrl_uri : List ℕ

@@ -4,10 +4,10 @@ ghost use Rattle.xml_write.specs.Calls.{call_start, call_attribute, call_end};
 ghost use Rattle.xml_write.specs.Writers.{state_of, Makes};
 ghost use Rattle.svrl_report.specs.Calls as calls;
 
-use error_codes::code_of;
 use inv_base::{Sink, Txt};
 use schematron_findings::{Finding, FindingKind};
 use xml_write::{WriteFault, Writer};
+use xpath_items::code_of;
 
 /// Writes that a pattern is active.
 pub(crate) fn put_pattern<W: Writer, K: Sink>(

@@ -6,11 +6,11 @@ ghost use Rattle.schematron_findings.specs.declared.finding.Line.{Line};
 ghost use Rattle.svrl_report.specs.Plain as spec;
 
 use crate::tally::Tally;
-use error_codes::code_of;
 use inv_base::{Printer, Sink, Txt};
 use itoa::Buffer;
 use schematron_findings::{Finding, FindingKind, Findings, Level, Line};
 use xml_write::WriteFault;
+use xpath_items::code_of;
 
 /// Writes the plain report on what several rule files found. Behind a fault the sink has taken a front of it.
 pub fn write_plain<K: Sink>(findings: &[Findings], out: &mut K) -> Result<(), WriteFault>

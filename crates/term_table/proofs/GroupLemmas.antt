@@ -8,7 +8,7 @@ use Rattle.std.proofs.lemmas.Bool.Decides.{nat_tests}
 use Rattle.term_table.specs.declared.groups.Group.{Group}
 use Rattle.term_table.specs.declared.groups.Group.TheVariants as groups
 use Rattle.term_table.specs.declared.terms.TermRow.{TermRow}
-use Rattle.term_table.specs.SemanticModel.{terms}
+use Rattle.term_table.specs.SemanticModel.{terms, extension_rows, listing_rows}
 use Rattle.term_table.specs.Groups.{number_of, same_group, parent_of, occurrence_of}
 use Rattle.term_table.specs.Contexts.{outer_group, inner_group, same_groups}
 use Rattle.term_table.specs.Places.{first_row}
@@ -82,7 +82,7 @@ same_groups_is (Some a) (Some b) h = ap Some (same_group_is a b h)
 
 -- what a row says of the group that it stands in
 at_row : (Group → Option Group) → ℕ → Option (Option Group)
-at_row f row = option_map (λ (r : TermRow). f r.group) (slice_get terms row)
+at_row f row = option_map (λ (r : TermRow). f r.group) (slice_get listing_rows row)
 
 is_at : Option (Option Group) → Option Group → Bool
 is_at None g = false
@@ -98,12 +98,12 @@ starts_within : (Group → Option Group) → ℕ → List TermRow → Bool
 starts_within f row [] = true
 starts_within f row (r ∷ rows) = is_at (at_row f (start row (f r.group))) (f r.group) && starts_within f (row + 1) rows
 
-outer_starts : starts_within outer_group 0 terms ≡ true
-unfolding starts_within terms at_row is_at parent_of occurrence_of first_row
+outer_starts : starts_within outer_group 0 listing_rows ≡ true
+unfolding starts_within terms extension_rows listing_rows at_row is_at parent_of occurrence_of first_row
 outer_starts = refl
 
-inner_starts : starts_within inner_group 0 terms ≡ true
-unfolding starts_within terms at_row is_at parent_of occurrence_of first_row
+inner_starts : starts_within inner_group 0 listing_rows ≡ true
+unfolding starts_within terms extension_rows listing_rows at_row is_at parent_of occurrence_of first_row
 inner_starts = refl
 
 pub both : (a b : Bool) → (a && b) ≡ true → (a ≡ true) × (b ≡ true)
@@ -126,16 +126,16 @@ starts_at f row (x ∷ rows) (suc k) r h e =
     subst (λ m. at_row f (start m (f r.group)) ≡ Some (f r.group)) n (starts_at f (row + 1) rows k r p.1 e)
 
 -- Where the rows of two groups begin at the same place, the groups are the same.
-pub same_outer_start : (j k : ℕ) (r q : TermRow) → slice_get terms j ≡ Some r → slice_get terms k ≡ Some q
+pub same_outer_start : (j k : ℕ) (r q : TermRow) → slice_get listing_rows j ≡ Some r → slice_get listing_rows k ≡ Some q
     → start j (outer_group r.group) ≡ start k (outer_group q.group) → outer_group r.group ≡ outer_group q.group
 same_outer_start j k r q e f s =
-    let a = starts_at outer_group 0 terms j r outer_starts e in
-    let b = starts_at outer_group 0 terms k q outer_starts f in
+    let a = starts_at outer_group 0 listing_rows j r outer_starts e in
+    let b = starts_at outer_group 0 listing_rows k q outer_starts f in
     same_Some _ _ (sym a ∙ (ap (at_row outer_group) (rw (zero-add, zero-add) s) ∙ b))
 
-pub same_inner_start : (j k : ℕ) (r q : TermRow) → slice_get terms j ≡ Some r → slice_get terms k ≡ Some q
+pub same_inner_start : (j k : ℕ) (r q : TermRow) → slice_get listing_rows j ≡ Some r → slice_get listing_rows k ≡ Some q
     → start j (inner_group r.group) ≡ start k (inner_group q.group) → inner_group r.group ≡ inner_group q.group
 same_inner_start j k r q e f s =
-    let a = starts_at inner_group 0 terms j r inner_starts e in
-    let b = starts_at inner_group 0 terms k q inner_starts f in
+    let a = starts_at inner_group 0 listing_rows j r inner_starts e in
+    let b = starts_at inner_group 0 listing_rows k q inner_starts f in
     same_Some _ _ (sym a ∙ (ap (at_row inner_group) (rw (zero-add, zero-add) s) ∙ b))

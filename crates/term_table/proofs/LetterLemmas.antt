@@ -9,7 +9,7 @@ use Rattle.term_table.specs.declared.terms.Letter.TheVariants as letters
 use Rattle.term_table.specs.declared.terms.Term.{Term}
 use Rattle.term_table.specs.declared.terms.TermRow.{TermRow}
 use Rattle.term_table.specs.SemanticModel.{same_term, terms}
-use Rattle.term_table.specs.Rows.{HasType}
+use Rattle.term_table.specs.Rows.{HasType, modelled}
 use Rattle.term_table.proofs.GroupLemmas.{both}
 
 letter_number : Letter → ℕ
@@ -71,4 +71,4 @@ typed_at (r ∷ rows) (suc k) row h e = typed_at rows k row (both (is_letter (fi
 
 pub one_type : (k : ℕ) (row : TermRow) → slice_get terms k ≡ Some row → HasType row.term row.letter
 unfolding first_letter
-one_type k row e = record { first = typed_at terms k row types_are e }
+one_type k row e = modelled (typed_at terms k row types_are e)

@@ -17,7 +17,7 @@ use Rattle.term_table.specs.declared.terms.Term.{Term}
 use Rattle.term_table.specs.declared.terms.TermRow.{TermRow}
 use Rattle.term_table.specs.declared.contexts.Slot.{Slot}
 use Rattle.term_table.specs.declared.contexts.Seat.{Seat}
-use Rattle.term_table.specs.SemanticModel.{same_term, terms}
+use Rattle.term_table.specs.SemanticModel.{same_term, listing_rows}
 use Rattle.term_table.specs.Contexts.{outer_group, inner_group, slot_group, same_groups, has_context, repeated_around, outermost, innermost}
 use Rattle.term_table.specs.Rows.{is_row_in, row_of}
 use Rattle.term_table.specs.Places.{first_row, slot_place, place, precedes, seat_place, comes_before}
@@ -79,7 +79,7 @@ slot_place-start row (Some s) (Some g) h = ap (λ x. first_row x ∷ s.index ∷
 pub record At (e : Seat) : Type 0 where
   pub row : ℕ
   pub line : TermRow
-  pub found : slice_get terms row ≡ Some line
+  pub found : slice_get listing_rows row ≡ Some line
   pub term : same_term line.term e.term ≡ true
   pub outer : is_slot_of e.context.outer (outer_group line.group) ≡ true
   pub inner : is_slot_of e.context.inner (inner_group line.group) ≡ true
@@ -90,14 +90,14 @@ any_line = record { term = record { number = 0; part = 0 }; group = groups.Root;
 
 at-row : (e : Seat) (row : ℕ) → row_of e.term e.context ≡ Some row → At e
 at-row e row h =
-    let p = position-Some (is_row_in e.term (slot_group e.context.outer) (slot_group e.context.inner)) terms row any_line h in
-    let same : same_term (get_or terms row any_line).term e.term ≡ true = (both _ _ p.1).0 in
-    let fits : has_context (get_or terms row any_line).group e.context ≡ true = (both _ _ p.1).1 in
+    let p = position-Some (is_row_in e.term (slot_group e.context.outer) (slot_group e.context.inner)) listing_rows row any_line h in
+    let same : same_term (get_or listing_rows row any_line).term e.term ≡ true = (both _ _ p.1).0 in
+    let fits : has_context (get_or listing_rows row any_line).group e.context ≡ true = (both _ _ p.1).1 in
     let q = both _ _ fits in
     record {
       row = row;
-      line = get_or terms row any_line;
-      found = slice_get-get_or terms row any_line p.0;
+      line = get_or listing_rows row any_line;
+      found = slice_get-get_or listing_rows row any_line p.0;
       term = same;
       outer = q.0;
       inner = q.1;
@@ -156,7 +156,7 @@ same-row : (e : Seat) (a b : At e) → a.row ≡ b.row
 same-row e a b = same_Some _ _ (sym a.row_is ∙ b.row_is)
 
 same-line : (e : Seat) (a b : At e) → a.line ≡ b.line
-same-line e a b = same_Some _ _ (sym a.found ∙ (ap (slice_get terms) (same-row e a b) ∙ b.found))
+same-line e a b = same_Some _ _ (sym a.found ∙ (ap (slice_get listing_rows) (same-row e a b) ∙ b.found))
 
 same-numbers : (e : Seat) (a b : At e) → numbers e a ≡ numbers e b
 same-numbers e a b = rw (same-row e a b, same-line e a b) refl
@@ -385,7 +385,7 @@ one_seat a b p h k =
     let rows : x.0.row ≡ y.0.row = cc in
     let outers : index_of a.context.outer ≡ index_of b.context.outer = cc in
     let inners : index_of a.context.inner ≡ index_of b.context.inner = cc in
-    let lines : x.0.line ≡ y.0.line = same_Some _ _ (sym x.0.found ∙ (ap (slice_get terms) rows ∙ y.0.found)) in
+    let lines : x.0.line ≡ y.0.line = same_Some _ _ (sym x.0.found ∙ (ap (slice_get listing_rows) rows ∙ y.0.found)) in
     let term : a.term ≡ b.term =
     sym (same_term_is x.0.line.term a.term x.0.term) ∙ (ap (λ (r : TermRow). r.term) lines ∙ same_term_is y.0.line.term b.term y.0.term) in
     let outer : slot_group a.context.outer ≡ slot_group b.context.outer =

@@ -10,7 +10,7 @@ use Rattle.term_table.specs.declared.terms.Term.{Term}
 use Rattle.term_table.specs.declared.terms.TermRow.{TermRow}
 use Rattle.term_table.specs.declared.terms.TheConstants.{TERMS, FIRST_ROWS}
 use Rattle.term_table.specs.SemanticModel.{same_term, terms}
-use Rattle.term_table.specs.Rows.{is_row_in, row_in}
+use Rattle.term_table.specs.Rows.{is_row_in}
 use Rattle.term_table.specs.Numbers.{first_of, row_from}
 use Rattle.term_table.proofs.GroupLemmas.{both}
 
@@ -24,12 +24,12 @@ bool_cases : (b : Bool) → (b ≡ true) ⊎ (b ≡ false)
 bool_cases true = inl refl
 bool_cases false = inr refl
 
-position-here : {X : Type 0} (p : X → Bool) (x : X) (xs : List X) → p x ≡ true → position p (x ∷ xs) ≡ Some 0
+pub position-here : {X : Type 0} (p : X → Bool) (x : X) (xs : List X) → p x ≡ true → position p (x ∷ xs) ≡ Some 0
 position-here p x xs h =
     let n : nat_lt 0 (suc (length xs)) ≡ true = grind (arith, nat_tests) in
     rw (h, n) refl
 
-position-there : {X : Type 0} (p : X → Bool) (x : X) (xs : List X) → p x ≡ false → position p (x ∷ xs) ≡ option_map (λ k. 1 + k) (position p xs)
+pub position-there : {X : Type 0} (p : X → Bool) (x : X) (xs : List X) → p x ≡ false → position p (x ∷ xs) ≡ option_map (λ k. 1 + k) (position p xs)
 position-there p x xs h = elim (bool_cases (nat_lt (position_or_len p xs) (length xs))) [
   | inl passing ↦
       let n : nat_lt (1 + position_or_len p xs) (suc (length xs)) ≡ true = grind (arith, nat_tests) in
@@ -123,7 +123,7 @@ first_fits n = rw table_length (first_within FIRST_ROWS n firsts_fit)
 numbered : (row term : Term) → same_term row term ≡ true → row.number ≡ term.number
 numbered row term h = let p = (both (row.number == term.number) _ h).0 in grind (arith, nat_tests, p)
 
-pub row_from-is : (term : Term) (outer inner : Option Group) → row_from TERMS (first_of FIRST_ROWS term.number) term outer inner ≡ row_in term outer inner
+pub row_from-is : (term : Term) (outer inner : Option Group) → row_from TERMS (first_of FIRST_ROWS term.number) term outer inner ≡ position (is_row_in term outer inner) terms
 row_from-is term outer inner =
     let passes : (k : ℕ) (row : TermRow) → slice_get terms k ≡ Some row → is_row_in term outer inner row ≡ true
     → (first_of FIRST_ROWS term.number ≤ k) × (k < first_of FIRST_ROWS term.number + 3) =

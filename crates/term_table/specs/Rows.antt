@@ -1,12 +1,13 @@
 -- The row of a term in a context: its place in the table of terms, its type and its list of codes.
-use Rattle.std.specs.Prelude.{◌≡◌, ℕ, Bool, ◌&&◌, Option, Some, find, position, slice_get, option_map, option_and_then}
+use Rattle.std.specs.Prelude.{◌≡◌, ℕ, Bool, true, false, ◌&&◌, Option, Some, find, position, slice_get, option_map, option_and_then}
 use Rattle.code_lists.specs.declared.names.List.{List as CodeList}
 use Rattle.term_table.specs.declared.groups.Group.{Group}
 use Rattle.term_table.specs.declared.terms.Letter.{Letter}
+use Rattle.term_table.specs.declared.terms.Letter.TheVariants as letters
 use Rattle.term_table.specs.declared.terms.Term.{Term}
 use Rattle.term_table.specs.declared.terms.TermRow.{TermRow}
 use Rattle.term_table.specs.declared.contexts.Context.{Context}
-use Rattle.term_table.specs.SemanticModel.{same_term, terms}
+use Rattle.term_table.specs.SemanticModel.{same_term, terms, is_extension, listing_rows}
 use Rattle.term_table.specs.Contexts.{slot_group, stands_in}
 
 abbrev pub is_row_in : Term → Option Group → Option Group → TermRow → Bool
@@ -14,7 +15,7 @@ is_row_in term outer inner row = same_term row.term term && stands_in row.group 
 
 -- the number of the row of a term in an occurrence of the outer group, and in one of the inner group inside it
 abbrev pub row_in : Term → Option Group → Option Group → Option ℕ
-row_in term outer inner = position (is_row_in term outer inner) terms
+row_in term outer inner = position (is_row_in term outer inner) listing_rows
 
 -- the number of the row of a term in a context
 abbrev pub row_of : Term → Context → Option ℕ
@@ -27,6 +28,12 @@ letter_in term outer inner = option_map (λ (row : TermRow). row.letter) (option
 abbrev pub list_in : Term → Option Group → Option Group → Option CodeList
 list_in term outer inner = option_and_then (λ (row : TermRow). row.list) (option_and_then (slice_get terms) (row_in term outer inner))
 
--- The term has the type, wherever it stands.
-pub record HasType (term : Term) (letter : Letter) : Type 0 where
-  pub first : option_map (λ (row : TermRow). row.letter) (find (λ (row : TermRow). same_term row.term term) terms) ≡ Some letter
+abbrev pub is_base64 : Letter → Bool
+is_base64 letters.B = true
+is_base64 _ = false
+
+-- The term has the type, wherever it stands: one of the semantic model has one type, and one that a table adds has any
+-- but base64.
+pub data HasType (term : Term) (letter : Letter) : Type 0 where
+  modelled : option_map (λ (row : TermRow). row.letter) (find (λ (row : TermRow). same_term row.term term) terms) ≡ Some letter → HasType term letter
+  added : is_extension term ≡ true → is_base64 letter ≡ false → HasType term letter

@@ -1,7 +1,7 @@
 -- The business terms and groups of EN 16931-1, section 6: the semantic model, in the order of its table. A group's own
 -- terms stand before the groups in it. P-29, P-29S and P-158 are groups of this program for the terms BT-29 and BT-158,
 -- which the standard lets stand several times by themselves.
-use Rattle.std.specs.Prelude.{ℕ, Bool, ◌==◌, ◌&&◌, List, [], ◌∷◌, ◌++◌, map, Option, Some, None}
+use Rattle.std.specs.Prelude.{ℕ, zero, suc, ◌+◌, Bool, ◌==◌, ◌&&◌, nat_le, List, [], ◌∷◌, ◌++◌, map, Option, Some, None}
 use Rattle.std.specs.List.{flat_map}
 use Rattle.code_lists.specs.declared.names.List.{List as CodeList}
 use Rattle.code_lists.specs.declared.names.List.TheVariants as lists
@@ -154,3 +154,25 @@ terms_of s = map (λ (l : Line). l s.group) s.lines
 -- the business terms in the order in which they are listed
 unfoldable pub terms : List TermRow
 terms = flat_map terms_of semantic_model
+
+-- ---- terms that a user's table adds: EXT-1 to EXT-99
+
+-- Its number is that behind `EXT-`, from 1001 on.
+abbrev pub is_extension : Term → Bool
+is_extension term = (term.part == 0) && (nat_le 1001 term.number && nat_le term.number 1099)
+
+-- Such a term may stand in a line and in the invoice itself. What its values are is said by the table that adds it, and
+-- not here.
+abbrev pub extension_line : ℕ → Group → TermRow
+extension_line number group = line number 0 letters.T marks.Optional None group
+
+abbrev pub extension_rows_from : ℕ → ℕ → List TermRow
+extension_rows_from zero number = []
+extension_rows_from (suc m) number = extension_line number groups.InvoiceLine ∷ (extension_line number groups.Root ∷ extension_rows_from m (number + 1))
+
+unfoldable pub extension_rows : List TermRow
+extension_rows = extension_rows_from 99 1001
+
+-- where terms stand: those of the semantic model, and behind all of them those that tables add
+unfoldable pub listing_rows : List TermRow
+listing_rows = terms ++ extension_rows

@@ -1,4 +1,5 @@
-ghost use Rattle.std.specs.Prelude.{◌≡◌, ◌≤◌, length, position, take};
+ghost use Rattle.std.specs.Prelude.{◌≡◌, ◌≤◌, length, position, take, true};
+ghost use Rattle.term_table.specs.SemanticModel.{is_extension};
 ghost use Rattle.term_table.specs.Contexts as contexts;
 ghost use Rattle.term_table.specs.Numbers as numbers;
 ghost use Rattle.term_table.specs.Rows as spec;
@@ -83,6 +84,9 @@ fn position_in(
 pub fn row_in(term: Term, outer: Option<Group>, inner: Option<Group>) -> Option<usize>
     ensures { result ≡ spec.row_in term outer inner }
 {
+    if term.is_extension() {
+        return extension_row(term, outer, inner);
+    }
     row_from(
         &TERMS,
         first_of(&FIRST_ROWS, term.number),
@@ -90,6 +94,21 @@ pub fn row_in(term: Term, outer: Option<Group>, inner: Option<Group>) -> Option<
         outer,
         inner,
     )
+}
+
+// The number of the row of a term that a user's table adds.
+fn extension_row(term: Term, outer: Option<Group>, inner: Option<Group>) -> Option<usize>
+    requires { is_extension term ≡ true }
+    ensures { result ≡ numbers.extension_row term.number outer inner }
+{
+    let first = (term.number as usize - 1001) * 2;
+    if stands_in(Group::InvoiceLine, outer, inner) {
+        return Some(181 + first);
+    }
+    if stands_in(Group::Root, outer, inner) {
+        return Some(181 + (first + 1));
+    }
+    None
 }
 
 /// The number of the row of a term in a context. It looks at three rows at most.

@@ -1,5 +1,5 @@
 ghost use Rattle.std.specs.Prelude.{◌≡◌, slice_get};
-ghost use Rattle.term_table.specs.SemanticModel.{same_term, terms};
+ghost use Rattle.term_table.specs.SemanticModel.{same_term, terms, is_extension};
 
 use crate::groups::Group;
 use code_lists::List;
@@ -19,6 +19,13 @@ impl Term {
         ensures { result ≡ same_term self other }
     {
         self.number == other.number && self.part == other.part
+    }
+
+    /// Whether it is one that a user's table adds: EXT-1 is 1001 and 0, EXT-99 is 1099 and 0.
+    pub fn is_extension(self) -> bool
+        ensures { result ≡ is_extension self }
+    {
+        self.part == 0 && 1001 <= self.number && self.number <= 1099
     }
 }
 

@@ -7,7 +7,7 @@ use Rattle.inv_base.specs.Characters.{is_char, is_white_space}
 use Rattle.inv_decimal.specs.WrittenDay.{read_dashed_day, day_from}
 use Rattle.term_table.specs.declared.groups.Group.TheVariants as groups
 use Rattle.term_table.specs.declared.terms.Letter.TheVariants as letters
-use Rattle.term_table.specs.SemanticModel.{terms}
+use Rattle.term_table.specs.SemanticModel.{terms, extension_rows, listing_rows}
 use Rattle.term_table.specs.Groups.{parent_of, occurrence_of}
 use Rattle.term_table.specs.Places.{first_row}
 use Rattle.inv_terms.specs.declared.values.Value.TheVariants as values
@@ -98,7 +98,7 @@ head-fits law sum h =
     (All-append FitsIts (totals sum) (breakdown sum) (all-fit (totals sum) (totals-fit law sum h)) (all-fit (breakdown sum) (breakdown-fits law sum h))))
 
 pub head-ends : ReadsBack → (sum : ℕ) → sum < 10 ^ 12 → EndsAt (head sum) head_place 0
-unfolding terms parent_of occurrence_of first_row
+unfolding terms extension_rows listing_rows parent_of occurrence_of first_row
 head-ends law sum h = record {
   invoice = record { placed = refl; fit = head-fits law sum h; listed = refl; numbered = refl };
   last = entry (occurrence groups.VatBreakdown 1) 119 rate;

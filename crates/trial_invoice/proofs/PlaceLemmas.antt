@@ -7,9 +7,9 @@ use Rattle.term_table.specs.declared.groups.Group.TheVariants as groups
 use Rattle.term_table.specs.declared.contexts.Seat.{Seat}
 use Rattle.term_table.specs.declared.terms.Letter.TheVariants as letters
 use Rattle.term_table.specs.declared.terms.Term.{Term}
-use Rattle.term_table.specs.SemanticModel.{terms}
+use Rattle.term_table.specs.SemanticModel.{terms, extension_rows, listing_rows}
 use Rattle.term_table.specs.Groups.{parent_of, occurrence_of}
-use Rattle.term_table.specs.Rows.{HasType}
+use Rattle.term_table.specs.Rows.{HasType, modelled}
 use Rattle.term_table.specs.Places.{first_row, seat_place, precedes}
 use Rattle.trial_invoice.specs.Generated.{occurrence}
 
@@ -30,35 +30,35 @@ head_place = 129 ∷ (1 ∷ (132 ∷ (0 ∷ (132 ∷ []))))
 -- ---- the terms of a line
 
 pub place-126 : (i : ℕ) → seat_place (in_line i 126) ≡ Some (line_place i 141)
-unfolding terms parent_of occurrence_of first_row
+unfolding terms extension_rows listing_rows parent_of occurrence_of first_row
 place-126 i = refl
 
 pub place-129 : (i : ℕ) → seat_place (in_line i 129) ≡ Some (line_place i 145)
-unfolding terms parent_of occurrence_of first_row
+unfolding terms extension_rows listing_rows parent_of occurrence_of first_row
 place-129 i = refl
 
 pub place-130 : (i : ℕ) → seat_place (in_line i 130) ≡ Some (line_place i 146)
-unfolding terms parent_of occurrence_of first_row
+unfolding terms extension_rows listing_rows parent_of occurrence_of first_row
 place-130 i = refl
 
 pub place-131 : (i : ℕ) → seat_place (in_line i 131) ≡ Some (line_place i 147)
-unfolding terms parent_of occurrence_of first_row
+unfolding terms extension_rows listing_rows parent_of occurrence_of first_row
 place-131 i = refl
 
 pub place-146 : (i : ℕ) → seat_place (in_line i 146) ≡ Some (line_place i 162)
-unfolding terms parent_of occurrence_of first_row
+unfolding terms extension_rows listing_rows parent_of occurrence_of first_row
 place-146 i = refl
 
 pub place-151 : (i : ℕ) → seat_place (in_line i 151) ≡ Some (line_place i 167)
-unfolding terms parent_of occurrence_of first_row
+unfolding terms extension_rows listing_rows parent_of occurrence_of first_row
 place-151 i = refl
 
 pub place-152 : (i : ℕ) → seat_place (in_line i 152) ≡ Some (line_place i 168)
-unfolding terms parent_of occurrence_of first_row
+unfolding terms extension_rows listing_rows parent_of occurrence_of first_row
 place-152 i = refl
 
 pub place-153 : (i : ℕ) → seat_place (in_line i 153) ≡ Some (line_place i 169)
-unfolding terms parent_of occurrence_of first_row
+unfolding terms extension_rows listing_rows parent_of occurrence_of first_row
 place-153 i = refl
 
 -- ---- their order
@@ -84,104 +84,104 @@ next i row other = rw (cmp-next i) refl
 
 pub type-1 : HasType (bt 1) letters.I
 unfolding terms
-type-1 = record { first = refl }
+type-1 = modelled refl
 
 pub type-2 : HasType (bt 2) letters.D
 unfolding terms
-type-2 = record { first = refl }
+type-2 = modelled refl
 
 pub type-3 : HasType (bt 3) letters.C
 unfolding terms
-type-3 = record { first = refl }
+type-3 = modelled refl
 
 pub type-5 : HasType (bt 5) letters.C
 unfolding terms
-type-5 = record { first = refl }
+type-5 = modelled refl
 
 pub type-24 : HasType (bt 24) letters.I
 unfolding terms
-type-24 = record { first = refl }
+type-24 = modelled refl
 
 pub type-27 : HasType (bt 27) letters.T
 unfolding terms
-type-27 = record { first = refl }
+type-27 = modelled refl
 
 pub type-40 : HasType (bt 40) letters.C
 unfolding terms
-type-40 = record { first = refl }
+type-40 = modelled refl
 
 pub type-44 : HasType (bt 44) letters.T
 unfolding terms
-type-44 = record { first = refl }
+type-44 = modelled refl
 
 pub type-55 : HasType (bt 55) letters.C
 unfolding terms
-type-55 = record { first = refl }
+type-55 = modelled refl
 
 pub type-106 : HasType (bt 106) letters.A
 unfolding terms
-type-106 = record { first = refl }
+type-106 = modelled refl
 
 pub type-109 : HasType (bt 109) letters.A
 unfolding terms
-type-109 = record { first = refl }
+type-109 = modelled refl
 
 pub type-110 : HasType (bt 110) letters.A
 unfolding terms
-type-110 = record { first = refl }
+type-110 = modelled refl
 
 pub type-112 : HasType (bt 112) letters.A
 unfolding terms
-type-112 = record { first = refl }
+type-112 = modelled refl
 
 pub type-115 : HasType (bt 115) letters.A
 unfolding terms
-type-115 = record { first = refl }
+type-115 = modelled refl
 
 pub type-116 : HasType (bt 116) letters.A
 unfolding terms
-type-116 = record { first = refl }
+type-116 = modelled refl
 
 pub type-117 : HasType (bt 117) letters.A
 unfolding terms
-type-117 = record { first = refl }
+type-117 = modelled refl
 
 pub type-118 : HasType (bt 118) letters.C
 unfolding terms
-type-118 = record { first = refl }
+type-118 = modelled refl
 
 pub type-119 : HasType (bt 119) letters.P
 unfolding terms
-type-119 = record { first = refl }
+type-119 = modelled refl
 
 pub type-126 : HasType (bt 126) letters.I
 unfolding terms
-type-126 = record { first = refl }
+type-126 = modelled refl
 
 pub type-129 : HasType (bt 129) letters.Q
 unfolding terms
-type-129 = record { first = refl }
+type-129 = modelled refl
 
 pub type-130 : HasType (bt 130) letters.C
 unfolding terms
-type-130 = record { first = refl }
+type-130 = modelled refl
 
 pub type-131 : HasType (bt 131) letters.A
 unfolding terms
-type-131 = record { first = refl }
+type-131 = modelled refl
 
 pub type-146 : HasType (bt 146) letters.A
 unfolding terms
-type-146 = record { first = refl }
+type-146 = modelled refl
 
 pub type-151 : HasType (bt 151) letters.C
 unfolding terms
-type-151 = record { first = refl }
+type-151 = modelled refl
 
 pub type-152 : HasType (bt 152) letters.P
 unfolding terms
-type-152 = record { first = refl }
+type-152 = modelled refl
 
 pub type-153 : HasType (bt 153) letters.T
 unfolding terms
-type-153 = record { first = refl }
+type-153 = modelled refl

@@ -5,7 +5,7 @@ use Rattle.bind_rows.specs.declared.rows.Row.{Row}
 use Rattle.bind_table.specs.declared.judging.TableKind.{TableKind}
 use Rattle.bind_table.specs.declared.judging.TableFault.{TableFault}
 use Rattle.bind_table.specs.WellFormed.{told, fault_of, first_fault_from, first_fault}
-use Rattle.term_table.specs.SemanticModel.{terms}
+use Rattle.term_table.specs.SemanticModel.{terms, extension_rows, listing_rows}
 use Rattle.term_table.specs.Groups.{parent_of, occurrence_of}
 use Rattle.ubl_binding.specs.Tables.{invoice_listing, invoice_rows, credit_note_listing, credit_note_rows}
 
@@ -24,23 +24,23 @@ sound rows (suc n) k m (row ∷ others) e front back =
 -- ---- invoice
 
 invoice_0 : first_fault_from invoice_rows 0 (take 40 invoice_rows) ≡ Ok tt
-unfolding terms parent_of occurrence_of invoice_listing invoice_rows
+unfolding terms extension_rows listing_rows parent_of occurrence_of invoice_listing invoice_rows
 invoice_0 = refl
 
 invoice_40 : first_fault_from invoice_rows 40 (take 40 (drop 40 invoice_rows)) ≡ Ok tt
-unfolding terms parent_of occurrence_of invoice_listing invoice_rows
+unfolding terms extension_rows listing_rows parent_of occurrence_of invoice_listing invoice_rows
 invoice_40 = refl
 
 invoice_80 : first_fault_from invoice_rows 80 (take 40 (drop 40 (drop 40 invoice_rows))) ≡ Ok tt
-unfolding terms parent_of occurrence_of invoice_listing invoice_rows
+unfolding terms extension_rows listing_rows parent_of occurrence_of invoice_listing invoice_rows
 invoice_80 = refl
 
 invoice_120 : first_fault_from invoice_rows 120 (take 40 (drop 40 (drop 40 (drop 40 invoice_rows)))) ≡ Ok tt
-unfolding terms parent_of occurrence_of invoice_listing invoice_rows
+unfolding terms extension_rows listing_rows parent_of occurrence_of invoice_listing invoice_rows
 invoice_120 = refl
 
 invoice_160 : first_fault_from invoice_rows 160 (drop 40 (drop 40 (drop 40 (drop 40 invoice_rows)))) ≡ Ok tt
-unfolding terms parent_of occurrence_of invoice_listing invoice_rows
+unfolding terms extension_rows listing_rows parent_of occurrence_of invoice_listing invoice_rows
 invoice_160 = refl
 
 pub invoice_sound : first_fault invoice_rows ≡ Ok tt
@@ -50,23 +50,23 @@ invoice_sound =
 -- ---- credit_note
 
 credit_note_0 : first_fault_from credit_note_rows 0 (take 40 credit_note_rows) ≡ Ok tt
-unfolding terms parent_of occurrence_of credit_note_listing credit_note_rows
+unfolding terms extension_rows listing_rows parent_of occurrence_of credit_note_listing credit_note_rows
 credit_note_0 = refl
 
 credit_note_40 : first_fault_from credit_note_rows 40 (take 40 (drop 40 credit_note_rows)) ≡ Ok tt
-unfolding terms parent_of occurrence_of credit_note_listing credit_note_rows
+unfolding terms extension_rows listing_rows parent_of occurrence_of credit_note_listing credit_note_rows
 credit_note_40 = refl
 
 credit_note_80 : first_fault_from credit_note_rows 80 (take 40 (drop 40 (drop 40 credit_note_rows))) ≡ Ok tt
-unfolding terms parent_of occurrence_of credit_note_listing credit_note_rows
+unfolding terms extension_rows listing_rows parent_of occurrence_of credit_note_listing credit_note_rows
 credit_note_80 = refl
 
 credit_note_120 : first_fault_from credit_note_rows 120 (take 40 (drop 40 (drop 40 (drop 40 credit_note_rows)))) ≡ Ok tt
-unfolding terms parent_of occurrence_of credit_note_listing credit_note_rows
+unfolding terms extension_rows listing_rows parent_of occurrence_of credit_note_listing credit_note_rows
 credit_note_120 = refl
 
 credit_note_160 : first_fault_from credit_note_rows 160 (drop 40 (drop 40 (drop 40 (drop 40 credit_note_rows)))) ≡ Ok tt
-unfolding terms parent_of occurrence_of credit_note_listing credit_note_rows
+unfolding terms extension_rows listing_rows parent_of occurrence_of credit_note_listing credit_note_rows
 credit_note_160 = refl
 
 pub credit_note_sound : first_fault credit_note_rows ≡ Ok tt

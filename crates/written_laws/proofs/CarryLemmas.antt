@@ -14,7 +14,7 @@ use Rattle.bind_meaning.specs.Tables.{rows_of}
 use Rattle.bind_meaning.specs.Trees.{holds, document_of, written_lines}
 use Rattle.bind_write.specs.Documents.{declarations_for, document_text, node_count}
 use Rattle.bind_carrying.specs.declared.carrying.NotCarried.{NotCarried}
-use Rattle.bind_carrying.specs.Carrying.{is_too_large, entries_fail, answer, carrying}
+use Rattle.bind_carrying.specs.Carrying.{is_too_large, first_unplaced, entries_fail, answer, carrying}
 use Rattle.bind_run.specs.Roots.{which_named, which_of}
 use Rattle.bind_run.specs.Reading.{by_root, invoice_of}
 use Rattle.written_laws.specs.Readable.{reading_limits, is_one_root}
@@ -38,12 +38,12 @@ small rows es h =
     record { bytes = not-more bytes 16777216 a.0; tags = not-more tags 262144 b.0; nodes = not-more nodes 1000000 b.1 }
 
 pub carried : (rows : List Row) (es : List Entry) → carrying rows es ≡ Ok tt → is_too_large rows es ≡ false
-carried rows es h = go (entries_fail rows es) (is_too_large rows es) h
+carried rows es h = go (entries_fail rows es) (is_too_large rows es) (first_unplaced es) h
   where
-    go : (o : Option NotCarried) (b : Bool) → answer o b ≡ Ok tt → b ≡ false
-    go (Some fault) b k = absurd (let z : ◌≡◌ {A = Result (Unit {0}) NotCarried} (Err fault) (Ok tt) = k in cc)
-    go None true k = absurd (let z : ◌≡◌ {A = Result (Unit {0}) NotCarried} (Err (record { condition = 8; term = None })) (Ok tt) = k in cc)
-    go None false k = refl
+    go : (o : Option NotCarried) (b : Bool) (u : Option NotCarried) → answer o b u ≡ Ok tt → b ≡ false
+    go (Some fault) b u k = absurd (let z : ◌≡◌ {A = Result (Unit {0}) NotCarried} (Err fault) (Ok tt) = k in cc)
+    go None true u k = absurd (let z : ◌≡◌ {A = Result (Unit {0}) NotCarried} (Err (record { condition = 8; term = None })) (Ok tt) = k in cc)
+    go None false u k = refl
 
 -- ---- the root
 

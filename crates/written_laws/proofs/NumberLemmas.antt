@@ -16,12 +16,12 @@ use Rattle.term_table.specs.Places.{comes_before, place}
 use Rattle.inv_terms.specs.declared.values.Value.{Value}
 use Rattle.inv_terms.specs.declared.entries.Entry.{Entry}
 use Rattle.inv_terms.specs.Listing.{is_at, value_in}
-use Rattle.inv_lacks.specs.declared.lacks.Name.{Name}
-use Rattle.inv_lacks.specs.declared.lacks.Name.TheVariants as names
-use Rattle.inv_lacks.specs.declared.lacks.Lack.{Lack}
-use Rattle.inv_lacks.specs.declared.lacks.TermFault.TheVariants as lack_faults
-use Rattle.inv_lacks.specs.Lacking.{missing_at, missing_from, first_missing}
-use Rattle.inv_lacks.specs.Lacking as lacking
+use Rattle.inv_terms.specs.declared.lacks.Name.{Name}
+use Rattle.inv_terms.specs.declared.lacks.Name.TheVariants as names
+use Rattle.inv_terms.specs.declared.lacks.Lack.{Lack}
+use Rattle.inv_terms.specs.declared.lacks.TermFault.TheVariants as lack_faults
+use Rattle.inv_terms.specs.Lacking.{missing_at, missing_from, first_missing}
+use Rattle.inv_terms.specs.Lacking as lacking
 use Rattle.bind_rows.specs.declared.rows.Row.{Row}
 use Rattle.bind_meaning.specs.declared.fault.BindFault.{BindFault}
 use Rattle.bind_meaning.specs.declared.fault.BindKind.{BindKind}

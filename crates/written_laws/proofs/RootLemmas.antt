@@ -20,7 +20,7 @@ use Rattle.term_table.specs.SemanticModel.{same_term, terms}
 use Rattle.inv_terms.specs.declared.values.Value.{Value}
 use Rattle.inv_terms.specs.declared.entries.Entry.{Entry}
 use Rattle.inv_terms.specs.Listing.{is_at, value_in}
-use Rattle.inv_lacks.specs.Whole.{invoice, Stands, IsValid}
+use Rattle.inv_terms.specs.Whole.{invoice, Stands, IsValid}
 use Rattle.bind_rows.specs.declared.rows.Content.{Content}
 use Rattle.bind_rows.specs.declared.rows.Content.TheVariants as contents
 use Rattle.bind_rows.specs.declared.rows.Row.{Row}

@@ -5,7 +5,7 @@ use Rattle.code_lists.specs.CodeFiles.{Lists}
 use Rattle.xml_state.specs.declared.limits.Limits.{Limits}
 use Rattle.inv_terms.specs.declared.entries.Entry.{Entry}
 use Rattle.inv_terms.specs.Listing.{IsInvoice}
-use Rattle.inv_lacks.specs.Whole.{IsValid}
+use Rattle.inv_terms.specs.Whole.{IsValid}
 use Rattle.bind_rows.specs.declared.rows.Row.{Row}
 use Rattle.bind_table.specs.Lines.{plan_of}
 use Rattle.bind_meaning.specs.declared.tables.Which.{Which}

@@ -11,7 +11,7 @@ ghost use Rattle.term_table.specs.Contexts.{root_context};
 ghost use Rattle.term_table.specs.declared.terms.Term.{Term};
 ghost use Rattle.inv_terms.specs.declared.entries.Entry.{Entry};
 ghost use Rattle.inv_terms.specs.Listing.{IsInvoice, value_in};
-ghost use Rattle.inv_lacks.specs.Whole.{IsValid};
+ghost use Rattle.inv_terms.specs.Whole.{IsValid};
 ghost use Rattle.bind_rows.specs.declared.rows.Row.{Row};
 ghost use Rattle.bind_table.specs.Lines.{plan_of};
 ghost use Rattle.bind_meaning.specs.declared.tables.Which.{Which};

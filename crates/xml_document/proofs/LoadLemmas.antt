@@ -20,7 +20,7 @@ use Rattle.xml_profile.proofs.KeptLemmas.{fault-kept, taken-kept}
 use Rattle.node_arena.specs.Document.{Built, Document, built}
 use Rattle.node_arena.specs.Document as arena
 use Rattle.node_arena.specs.Moves.{HasNodesOf, IsWhole}
-use Rattle.xml_document.specs.Loading.{HasFed, IsRefused, StopsInTime, IsLoaded, IsBuilt}
+use Rattle.xml_document.specs.Loading.{HasFed, IsRefused, StopsInTime, IsLoaded, IsLoadedOf, IsBuilt}
 use Rattle.xml_document.proofs.LengthLemmas.{IsShort, short_front}
 use Rattle.xml_document.proofs.ReadingLemmas.{ahead_of-nil, ahead_of-append, read_all}
 
@@ -83,6 +83,28 @@ feeding_more begun now after limits old new piece before mid behind so_far held 
       events = λ first taken. moves first (so_far.events first taken);
     }
 
+-- The same, and how many bytes were fed.
+pub record Counting (count : ℕ) (begun now : ShelfView) (limits : Limits) (reader : Progress) (before after : List Event → Type 0) : Type 0 where
+  pub feeding : Feeding begun now limits reader before after
+  pub counted : count ≡ length feeding.fed
+
+pub counting_nothing : (begun : ShelfView) (reader : Progress) (before : List Event → Type 0) → HasRead reader [] → Counting 0 begun begun reader.limits reader before before
+unfolding feeding_nothing
+counting_nothing begun reader before read = record { feeding = feeding_nothing begun reader before read; counted = refl }
+
+pub counting_more : (count new_count : ℕ) (begun now after : ShelfView) (limits : Limits) (old new : Progress) (piece : List ℕ) (before mid behind : List Event → Type 0)
+    → (so_far : Counting count begun now limits old before mid) → new_count ≡ count + length piece
+    → after.held ≡ now.held → after.opens ≡ now.opens → after.faults ≡ now.faults → now.left ≡ ahead_of piece after.left
+    → new.limits ≡ old.limits → fault_of_reader new ≡ None
+    → (HasMemory new → (fed : List ℕ) → HasRead old fed → HasRead new (fed ++ piece))
+    → ((fed : List ℕ) → HasRead old fed → Tells new fed (fed ++ piece) mid behind)
+    → Counting new_count begun after limits new before behind
+unfolding feeding_more
+counting_more count new_count begun now after limits old new piece before mid behind so_far more held opens faults left kept none read told = record {
+  feeding = feeding_more begun now after limits old new piece before mid behind so_far.feeding held opens faults left kept none read told;
+  counted = more ∙ (ap (λ n. n + length piece) so_far.counted ∙ sym (length-append so_far.feeding.fed piece));
+}
+
 -- What is kept tells how many bytes were read.
 short_kept : (limits : Limits) (n : ℕ) (s : Standing) → IsShort limits n s → fault_of_kept (kept_of s) ≡ None → (bytes_taken (kept_of s) ≡ n) × (n ≤ limits.bytes + 1)
 short_kept limits n (waits s place rest) short none = let is = short refl in (taken-kept s place rest ∙ is.0, is.1)
@@ -105,12 +127,13 @@ feeding_falls limits old new fed piece kept read going same more goes some =
         (short_kept reader.limits (length fed) (read_front reader.limits fed).stands (short_front reader.limits fed))
 
 -- At the end of the input all was fed.
-pub fed_whole : (begun now after : ShelfView) (limits : Limits) (reader : Progress) (front : List ℕ) (before behind : List Event → Type 0)
-    → (so_far : Feeding begun now limits reader before behind) → now.left ≡ ahead_of front after.left → front ≡ [] → WhereTold after.left (λ rest. length rest ≡ 0)
-    → HasFed begun.left after.left reader before behind
+pub fed_whole : (count : ℕ) (begun now after : ShelfView) (limits : Limits) (reader : Progress) (front : List ℕ) (before behind : List Event → Type 0)
+    → (all : Counting count begun now limits reader before behind) → now.left ≡ ahead_of front after.left → front ≡ [] → WhereTold after.left (λ rest. length rest ≡ 0)
+    → HasFed count begun.left after.left reader before behind
 unfolding settled_fault
-fed_whole begun now after limits reader front before behind so_far left none end = record {
+fed_whole count begun now after limits reader front before behind all left none end = let so_far = all.feeding in record {
   fed = so_far.fed;
+  counted = all.counted;
   read = so_far.read;
   events = subst (λ l. Moves [] (read_front l so_far.fed).events before behind) (sym so_far.kept) so_far.events;
   whole = read_all begun.left now.left after.left so_far.fed front so_far.content left none end;
@@ -162,9 +185,9 @@ stops_with_piece begun now after limits reader piece before behind stays so_far 
     (ahead_of-append so_far.fed piece (so_far.fed ++ piece) begun.left now.left after.left so_far.content left refl)
 
 -- .. or at the end.
-pub stops_at_end : (limits : Limits) (told left : Option (List ℕ)) (reader : Progress) (before behind : List Event → Type 0) → Stays → reader.limits ≡ limits
-    → HasFed told left reader before behind → StopsInTime limits told left
-stops_at_end limits told left reader before behind stays kept fed =
+pub stops_at_end : (count : ℕ) (limits : Limits) (told left : Option (List ℕ)) (reader : Progress) (before behind : List Event → Type 0) → Stays → reader.limits ≡ limits
+    → HasFed count told left reader before behind → StopsInTime limits told left
+stops_at_end count limits told left reader before behind stays kept fed =
     stops_in_time limits stays fed.fed [] (ap (λ l. settled_fault l fed.fed) (sym kept) ∙ fed.going) (omega arith) told left
     (fed.content ∙ ap (λ bytes. ahead_of bytes left) (sym (append-nil fed.fed)))
 
@@ -206,26 +229,28 @@ abbrev pub told_whole : Limits → List ℕ → profile.Document
 told_whole limits bytes = record { events = with_events [] (read_whole limits bytes).events; names = names_of (read_whole limits bytes).stands }
 
 -- The events of a whole document were taken, and have built it.
-pub record Wholly (limits : Limits) (told : Option (List ℕ)) (names : List Name) (b : Built) : Type 0 where
+pub record Wholly (count : ℕ) (limits : Limits) (told : Option (List ℕ)) (names : List Name) (b : Built) : Type 0 where
   pub fed : List ℕ
+  pub counted : count ≡ length fed
   pub whole : WhereTold told (λ content. fed ≡ content)
   pub is : document limits fed ≡ Ok (told_whole limits fed)
   pub named : names ≡ (told_whole limits fed).names
   pub events : b ≡ built (told_whole limits fed).events
   pub made : IsBuilt (told_whole limits fed) (built (told_whole limits fed).events)
 
-pub read_wholly : (limits : Limits) (told left : Option (List ℕ)) (reader : Progress) (first mid last : Built) (names : List Name) → reader.limits ≡ limits → first ≡ arena.begun
-    → (all : HasFed told left reader (λ events. first ≡ built events) (λ events. mid ≡ built events))
+pub read_wholly : (count : ℕ) (limits : Limits) (told left : Option (List ℕ)) (reader : Progress) (first mid last : Built) (names : List Name) → reader.limits ≡ limits → first ≡ arena.begun
+    → (all : HasFed count told left reader (λ events. first ≡ built events) (λ events. mid ≡ built events))
     → Finishes reader.limits all.fed names (λ events. mid ≡ built events) (λ events. last ≡ built events)
     → ((found : profile.Document) → document limits all.fed ≡ Ok found → IsBuilt found (built found.events))
-    → Wholly limits told names last
+    → Wholly count limits told names last
 unfolding built document
-read_wholly limits told left reader first mid last names kept is all ends law =
+read_wholly count limits told left reader first mid last names kept is all ends law =
     let none : first_fault limits all.fed ≡ None = ap (λ l. first_fault l all.fed) (sym kept) ∙ ends.document in
     let document_is : document limits all.fed ≡ Ok (told_whole limits all.fed) = ap (by_fault limits all.fed) none in
     let behind : last ≡ built (told_whole reader.limits all.fed).events = ends.told [] (all.events [] is) in
     record {
       fed = all.fed;
+      counted = all.counted;
       whole = all.whole;
       is = document_is;
       named = ends.named ∙ ap (λ l. (told_whole l all.fed).names) kept;
@@ -233,13 +258,13 @@ read_wholly limits told left reader first mid last names kept is all ends law =
       made = law (told_whole limits all.fed) document_is;
     }
 
-pub wholly_built : (limits : Limits) (told : Option (List ℕ)) (names : List Name) (b : Built) → Wholly limits told names b → IsWhole names b
-wholly_built limits told names b wholly =
+pub wholly_built : (count : ℕ) (limits : Limits) (told : Option (List ℕ)) (names : List Name) (b : Built) → Wholly count limits told names b → IsWhole names b
+wholly_built count limits told names b wholly =
     subst (λ all. IsWhole all b) (sym wholly.named) (subst (IsWhole (told_whole limits wholly.fed).names) (sym wholly.events) wholly.made.whole)
 
-pub wholly_loaded : (limits : Limits) (told : Option (List ℕ)) (names : List Name) (b : Built) (doc : Document) → Wholly limits told names b → doc ≡ record { nodes = b.nodes; names = names }
+wholly_loaded : (count : ℕ) (limits : Limits) (told : Option (List ℕ)) (names : List Name) (b : Built) (doc : Document) → Wholly count limits told names b → doc ≡ record { nodes = b.nodes; names = names }
     → IsLoaded limits told doc
-wholly_loaded limits told names b doc wholly is =
+wholly_loaded count limits told names b doc wholly is =
     let found = told_whole limits wholly.fed in
     let as_built : Built → List Name → Document = λ c all. record { nodes = c.nodes; names = all } in
     let made : doc ≡ as_built (built found.events) found.names = is ∙ (ap (as_built b) wholly.named ∙ ap (λ c. as_built c found.names) wholly.events) in
@@ -251,6 +276,11 @@ wholly_loaded limits told names b doc wholly is =
       of_tree = subst (λ (d : Document). HasNodesOf d (tree_of found)) (sym made) wholly.made.of_tree;
       whole = wholly.whole;
     }
+
+pub wholly_sized : (count : ℕ) (limits : Limits) (told : Option (List ℕ)) (names : List Name) (b : Built) (doc : Document) → Wholly count limits told names b
+    → doc ≡ record { nodes = b.nodes; names = names } → IsLoadedOf limits told count doc
+unfolding wholly_loaded
+wholly_sized count limits told names b doc wholly is = record { loaded = wholly_loaded count limits told names b doc wholly is; counted = wholly.counted }
 
 -- A reader that was given nothing has read nothing.
 pub read_nothing : (limits : Limits) (reader : Progress) → reader ≡ unread limits → HasRead reader []

@@ -29,10 +29,11 @@ pub record ReadsOn {T E : Type 0} (result : Result T E) (fault : E) (before afte
   pub rises : before.faults ≤ after.faults
   pub quiet : result ≢ Err fault → after.faults ≡ before.faults
 
--- A reader was given a whole content, which is this one where it is told, and a receiver has taken what it tells so
--- far. No fault is settled, and nothing is left.
-pub record HasFed (told left : Option (List ℕ)) (reader : Progress) (before after : List Event → Type 0) : Type 0 where
+-- A reader was given a whole content of so many bytes, which is this one where it is told, and a receiver has taken what
+-- it tells so far. No fault is settled, and nothing is left.
+pub record HasFed (count : ℕ) (told left : Option (List ℕ)) (reader : Progress) (before after : List Event → Type 0) : Type 0 where
   pub fed : List ℕ
+  pub counted : count ≡ length fed
   pub read : HasRead reader fed
   pub events : Moves [] (read_front reader.limits fed).events before after
   pub whole : WhereTold told (λ content. fed ≡ content)
@@ -64,6 +65,11 @@ pub record IsLoaded (limits : Limits) (told : Option (List ℕ)) (doc : Document
   pub exactly : doc ≡ record { nodes = (built found.events).nodes; names = found.names }
   pub of_tree : HasNodesOf doc (tree_of found)
   pub whole : WhereTold told (λ bytes. content ≡ bytes)
+
+-- The same, and the content has so many bytes.
+pub record IsLoadedOf (limits : Limits) (told : Option (List ℕ)) (count : ℕ) (doc : Document) : Type 0 where
+  pub loaded : IsLoaded limits told doc
+  pub counted : count ≡ length loaded.content
 
 -- What was built is a whole document, whose nodes are those of the tree of what was read.
 pub record IsBuilt (found : profile.Document) (b : Built) : Type 0 where

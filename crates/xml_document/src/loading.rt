@@ -1,5 +1,5 @@
 //! A file of a shelf as a document.
-ghost use Rattle.std.specs.Prelude.{◌≡◌, ◌≢◌, ℕ, ◌<◌, ◌^◌, List, [], length, option_map, Ok, Err, IfOk};
+ghost use Rattle.std.specs.Prelude.{◌≡◌, ◌≢◌, ℕ, ◌+◌, ◌<◌, ◌^◌, List, [], length, option_map, Ok, Err, IfOk};
 ghost use Rattle.inv_base.specs.Files.{bytes_under};
 ghost use Rattle.node_arena.specs.Document.{built};
 ghost use Rattle.node_arena.specs.Moves.{IsWhole, HasNodesOf};
@@ -8,7 +8,7 @@ ghost use Rattle.xml_profile.specs.Profile.{document, tree_of};
 ghost use Rattle.xml_profile.specs.Readers.{HasRead};
 ghost use Rattle.xml_state.specs.declared.limits.Limits.{Limits};
 ghost use Rattle.xml_tokens.specs.declared.kind.XmlKind.TheVariants as kinds;
-ghost use Rattle.xml_document.specs.Loading.{HasFed, IsBuilt, IsLoaded, IsRefused, StopsInTime, ReadsFrom, ReadsOn};
+ghost use Rattle.xml_document.specs.Loading.{HasFed, IsBuilt, IsLoaded, IsLoadedOf, IsRefused, StopsInTime, ReadsFrom, ReadsOn};
 ghost use Rattle.xml_document.specs.declared.loading.LoadFault.TheVariants as faults;
 
 use bumpalo::Bump;
@@ -52,6 +52,15 @@ impl<T: Drop> From<AllocFailed<T>> for LoadFault {
     }
 }
 
+/// A document, and how many bytes its file has.
+#[derive(Drop)]
+pub struct Loaded<'a> {
+    /// The document.
+    pub doc: Doc<'a>,
+    /// The length of the file, in bytes.
+    pub length: u64,
+}
+
 /// The file of that name as a document under these limits, its texts placed in the arena. The file is
 /// opened once and read in pieces, up to the piece that settles its first fault.
 pub fn load<'a, S: Shelf>(
@@ -63,6 +72,27 @@ pub fn load<'a, S: Shelf>(
 ) -> Result<Doc<'a>, LoadFault>
     ensures reads { ReadsFrom result faults.Read (S.view shelf.old) (S.view shelf.new) }
     ensures loaded { IfOk result (λ doc. IsLoaded limits (option_map (bytes_under name.now) (S.view shelf.old).held) doc) }
+    ensures refused { (fault : _) → result ≡ Err (faults.Refused fault)
+        → IsRefused limits (option_map (bytes_under name.now) (S.view shelf.old).held) fault }
+    ensures stops { (fault : _) → result ≡ Err (faults.Refused fault)
+        → StopsInTime limits (option_map (bytes_under name.now) (S.view shelf.old).held) (S.view shelf.new).left }
+{
+    match load_sized(alloc, bump, shelf, name, limits) {
+        Ok(loaded) => Ok(loaded.doc),
+        Err(fault) => Err(fault),
+    }
+}
+
+/// The same, with the length of the file.
+pub fn load_sized<'a, S: Shelf>(
+    alloc: Global,
+    bump: &'a Bump,
+    shelf: &mut S,
+    name: &str,
+    limits: Limits,
+) -> Result<Loaded<'a>, LoadFault>
+    ensures reads { ReadsFrom result faults.Read (S.view shelf.old) (S.view shelf.new) }
+    ensures loaded { IfOk result (λ loaded. IsLoadedOf limits (option_map (bytes_under name.now) (S.view shelf.old).held) loaded.length loaded.doc) }
     ensures refused { (fault : _) → result ≡ Err (faults.Refused fault)
         → IsRefused limits (option_map (bytes_under name.now) (S.view shelf.old).held) fault }
     ensures stops { (fault : _) → result ≡ Err (faults.Refused fault)
@@ -83,11 +113,11 @@ fn read_open<'a, S: Shelf>(
     piece: &mut [u8],
     shelf: &mut S,
     limits: Limits,
-) -> Result<Doc<'a>, LoadFault>
+) -> Result<Loaded<'a>, LoadFault>
     requires some { 0 < length piece.old }
     requires few { length piece.old < 65537 }
     ensures reads { ReadsOn result faults.Read (S.view shelf.old) (S.view shelf.new) }
-    ensures loaded { IfOk result (λ doc. IsLoaded limits (S.view shelf.old).left doc) }
+    ensures loaded { IfOk result (λ loaded. IsLoadedOf limits (S.view shelf.old).left loaded.length loaded.doc) }
     ensures refused { (fault : _) → result ≡ Err (faults.Refused fault) → IsRefused limits (S.view shelf.old).left fault }
     ensures stops { (fault : _) → result ≡ Err (faults.Refused fault) → StopsInTime limits (S.view shelf.old).left (S.view shelf.new).left }
 {
@@ -96,15 +126,18 @@ fn read_open<'a, S: Shelf>(
     settled_stays();
     let mut reader = Reader::new(alloc, limits)?;
     let mut builder = Builder::new(alloc, bump)?;
-    match feed_all(&mut reader, &mut builder, piece, shelf) {
-        Ok(()) => {}
+    let length = match feed_all(&mut reader, &mut builder, piece, shelf) {
+        Ok(length) => length,
         Err(fault) => {
             drop(builder);
             return Err(fault);
         }
-    }
+    };
     match reader.finish(&mut builder) {
-        Ok(names) => Ok(builder.finish(names)?),
+        Ok(names) => {
+            let doc = builder.finish(names)?;
+            Ok(Loaded { doc, length })
+        }
         Err(fault) => {
             drop(builder);
             Err(fault_of_reader(fault))
@@ -113,18 +146,18 @@ fn read_open<'a, S: Shelf>(
 }
 
 /// Gives the reader what is left of the open input, by pieces of some length, up to the first fault that is settled:
-/// then the rest of the input isn't read.
+/// then the rest of the input isn't read. The answer is how many bytes there were.
 fn feed_all<S: Shelf, E: Events>(
     reader: &mut Reader,
     events: &mut E,
     piece: &mut [u8],
     shelf: &mut S,
-) -> Result<(), LoadFault>
+) -> Result<u64, LoadFault>
     requires some { 0 < length piece.old }
     requires few { length piece.old < 65537 }
     requires unread { HasRead reader.old [] }
     ensures reads { ReadsOn result faults.Read (S.view shelf.old) (S.view shelf.new) }
-    ensures fed { IfOk result (λ _. HasFed (S.view shelf.old).left (S.view shelf.new).left reader.new (E.taken events.old) (E.taken events.new)) }
+    ensures fed { IfOk result (λ count. HasFed count (S.view shelf.old).left (S.view shelf.new).left reader.new (E.taken events.old) (E.taken events.new)) }
     ensures refused { (fault : _) → result ≡ Err (faults.Refused fault) → IsRefused reader.old.limits (S.view shelf.old).left fault }
     ensures stops { (fault : _) → result ≡ Err (faults.Refused fault) → StopsInTime reader.old.limits (S.view shelf.old).left (S.view shelf.new).left }
     ensures limits { reader.new.limits ≡ reader.old.limits }
@@ -132,18 +165,30 @@ fn feed_all<S: Shelf, E: Events>(
     // Laws, which have no code: what stands behind a settled fault can't change it.
     settled_is_first();
     settled_stays();
+    let mut length = 0;
     'pieces: loop {
         let count = match shelf.read(piece) {
             Ok(count) => count,
             Err(_) => return Err(LoadFault::Read),
         };
         if count == 0 {
-            return Ok(());
+            return Ok(length);
         }
         match reader.feed(piece.split_at(count).0, events) {
             Ok(()) => {}
             Err(fault) => return Err(fault_of_reader(fault)),
         }
+        length = counted(length, count)?;
+    }
+}
+
+/// So many bytes more. No number wraps: a file of 2^64 bytes is longer than any memory.
+fn counted(length: u64, count: usize) -> Result<u64, AllocError>
+    ensures { IfOk result (λ all. all ≡ length + count) }
+{
+    match length.checked_add(count as u64) {
+        Some(all) => Ok(all),
+        None => Err(AllocError),
     }
 }
 

@@ -274,6 +274,13 @@ module _ {E : Type 0} (result : Result ℕ E) (old : List Name) (spaces grown : 
           let k = kept-grown (Ok n) uri spaces grown keys kept takes in still-kept old grown keys n uri local k.0 (k.1 ∙ view) takes.number u after is
       by (Err e) is same = let k = kept-grown (Ok n) uri spaces grown keys kept takes in subst (AreKept grown) (sym same) k.0
 
+  pub still-named : OnErr result (after ≡ keys) → OnErr result (names_of grown after ≡ old)
+  still-named = by result
+    where
+      by : (r : Result ℕ E) → OnErr r (after ≡ keys) → OnErr r (names_of grown after ≡ old)
+      by (Ok id) same = tt
+      by (Err e) same = ap (names_of grown) same ∙ ((kept-grown (Ok n) uri spaces grown keys kept takes).1 ∙ view)
+
 -- What a look-up of a name says, by the number of its namespace name.
 module _ (spaces : List (String Global)) (keys : List Kept) (names : List Name) (n : ℕ) (uri : List ℕ) {local : List ℕ} (kept : AreKept spaces keys) (view : names_of spaces keys ≡ names)
     (space : IsSpace spaces n uri) (u : IsUtf8 local) where

@@ -53,6 +53,11 @@ impl KeptNames {
         }
     }
 
+    // Where their memory comes from.
+    pub fn allocator(&self) -> Global {
+        *self.names.allocator()
+    }
+
     pub fn len(&self) -> usize
         ensures { result ≡ length self.now }
     {

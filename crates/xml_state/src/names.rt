@@ -2,7 +2,7 @@ ghost use Rattle.std.specs.Prelude.{◌≡◌, ℕ, ◌<◌, [], length, chars, 
 ghost use Rattle.xml_state.specs.Events.{name_at};
 ghost use Rattle.std.specs.List.{position_or_len};
 ghost use Rattle.xml_state.specs.NameTables as spec;
-ghost use Rattle.xml_state.specs.Names.{find_name, AreDistinct};
+ghost use Rattle.xml_state.specs.Names.{find_name, number_of, with_name, AreDistinct};
 
 use crate::kept::KeptNames;
 use crate::spaces::Spaces;
@@ -117,6 +117,28 @@ impl NameTable {
         ensures { result ≡ spec.names_of spaces names }
     {
         NameTable { spaces, names }
+    }
+
+    /// A table that has no name yet.
+    pub fn new(alloc: Global) -> NameTable
+        ensures { result ≡ [] }
+    {
+        NameTable {
+            spaces: Spaces::new(alloc),
+            names: KeptNames::new(alloc),
+        }
+    }
+
+    /// The number of a name, which is added behind the others where it is new. Where memory runs out, or the table
+    /// has 4,294,967,296 names, it stays as it was.
+    pub fn number(&mut self, uri: &str, local: &str) -> Result<NameId, AllocError>
+        ensures number { IfOk result (λ id. id ≡ number_of (record { uri = chars uri.now; local = chars local.now }) self.old) }
+        ensures names { OnOk result (self.new ≡ with_name self.old (record { uri = chars uri.now; local = chars local.now })) }
+        ensures err { OnErr result (self.new ≡ self.old) }
+    {
+        let alloc = self.names.allocator();
+        let space = number_space(&mut self.spaces, alloc, uri)?;
+        number_kept(&mut self.names, alloc, space, local)
     }
 
     /// How many names the table has. Names have the numbers below.

@@ -30,6 +30,7 @@ function_word f.Translate = codes "translate"
 function_word f.Contains = codes "contains"
 function_word f.StartsWith = codes "starts-with"
 function_word f.EndsWith = codes "ends-with"
+function_word f.Matches = codes "matches"
 function_word f.SubstringBefore = codes "substring-before"
 function_word f.SubstringAfter = codes "substring-after"
 function_word f.Abs = codes "abs"
@@ -52,8 +53,8 @@ function_word f.XsBoolean = codes "boolean"
 abbrev pub functions : List Function
 functions = f.True ∷ f.False ∷ f.Position ∷ f.Last ∷ f.Not ∷ f.Boolean ∷ f.Exists ∷ f.Empty ∷ f.Count ∷ f.Reverse ∷ f.Data
     ∷ f.String ∷ f.Concat ∷ f.StringJoin ∷ f.Substring ∷ f.StringLength ∷ f.NormalizeSpace ∷ f.UpperCase ∷ f.LowerCase
-    ∷ f.Translate ∷ f.Contains ∷ f.StartsWith ∷ f.EndsWith ∷ f.SubstringBefore ∷ f.SubstringAfter ∷ f.Abs ∷ f.Floor ∷ f.Ceiling
-    ∷ f.Round ∷ f.Sum ∷ f.Min ∷ f.Max ∷ f.DistinctValues ∷ f.LocalName ∷ f.NamespaceUri ∷ []
+    ∷ f.Translate ∷ f.Contains ∷ f.StartsWith ∷ f.EndsWith ∷ f.Matches ∷ f.SubstringBefore ∷ f.SubstringAfter ∷ f.Abs ∷ f.Floor
+    ∷ f.Ceiling ∷ f.Round ∷ f.Sum ∷ f.Min ∷ f.Max ∷ f.DistinctValues ∷ f.LocalName ∷ f.NamespaceUri ∷ []
 
 -- the functions of the types, in the namespace of types
 abbrev pub types : List Function
@@ -76,6 +77,7 @@ fewest f.Substring = 2
 fewest f.Contains = 2
 fewest f.StartsWith = 2
 fewest f.EndsWith = 2
+fewest f.Matches = 2
 fewest f.SubstringBefore = 2
 fewest f.SubstringAfter = 2
 fewest f.Translate = 3
@@ -92,6 +94,7 @@ most f.StringJoin = Some 2
 most f.Contains = Some 2
 most f.StartsWith = Some 2
 most f.EndsWith = Some 2
+most f.Matches = Some 2
 most f.SubstringBefore = Some 2
 most f.SubstringAfter = Some 2
 most f.Substring = Some 3
@@ -131,6 +134,7 @@ chars-function_word f.Translate = refl
 chars-function_word f.Contains = refl
 chars-function_word f.StartsWith = refl
 chars-function_word f.EndsWith = refl
+chars-function_word f.Matches = refl
 chars-function_word f.SubstringBefore = refl
 chars-function_word f.SubstringAfter = refl
 chars-function_word f.Abs = refl

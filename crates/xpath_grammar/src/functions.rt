@@ -29,6 +29,7 @@ pub enum Function {
     Contains,
     StartsWith,
     EndsWith,
+    Matches,
     SubstringBefore,
     SubstringAfter,
     Abs,
@@ -80,6 +81,7 @@ impl Worded for Function {
             Function::Contains => "contains",
             Function::StartsWith => "starts-with",
             Function::EndsWith => "ends-with",
+            Function::Matches => "matches",
             Function::SubstringBefore => "substring-before",
             Function::SubstringAfter => "substring-after",
             Function::Abs => "abs",
@@ -101,7 +103,7 @@ impl Worded for Function {
 }
 
 /// The functions in the namespace of functions.
-pub const FUNCTIONS: [Function; 35] = [
+pub const FUNCTIONS: [Function; 36] = [
     Function::True,
     Function::False,
     Function::Position,
@@ -125,6 +127,7 @@ pub const FUNCTIONS: [Function; 35] = [
     Function::Contains,
     Function::StartsWith,
     Function::EndsWith,
+    Function::Matches,
     Function::SubstringBefore,
     Function::SubstringAfter,
     Function::Abs,
@@ -168,6 +171,7 @@ fn fewest(function: Function) -> usize
         | Function::Contains
         | Function::StartsWith
         | Function::EndsWith
+        | Function::Matches
         | Function::SubstringBefore
         | Function::SubstringAfter => 2,
         Function::Translate => 3,
@@ -186,6 +190,7 @@ fn most(function: Function) -> Option<usize>
         | Function::Contains
         | Function::StartsWith
         | Function::EndsWith
+        | Function::Matches
         | Function::SubstringBefore
         | Function::SubstringAfter => Some(2),
         Function::Substring | Function::Translate => Some(3),

@@ -1,12 +1,14 @@
-//! What expressions evaluate to: items, sequences of items, and errors (XPath 2.0, sections 2.3 and 2.4).
+//! What expressions evaluate to: items, sequences of items, and errors with their codes (XPath 2.0, sections 2.3 and 2.4).
 #![tactic(auto)]
 
+mod codes;
 mod fault;
 mod item;
 mod outcome;
 mod seq;
 mod text;
 
+pub use codes::code_of;
 pub use fault::Fault;
 pub use item::Item;
 pub use outcome::{DynError, Focus, Outcome};

@@ -121,6 +121,7 @@ no_parts_step kd.FilteredStep p = refl
 no_parts_step kd.Filtered p = refl
 no_parts_step kd.Only p = refl
 no_parts_step (kd.Call function) p = absurd (false≢true p)
+no_parts_step (kd.Matches pattern) p = absurd (false≢true p)
 no_parts_step kd.Nothing p = refl
 
 kept_pattern : (parts : List Operand) (e : Exp) (part : Operand) → is_pattern (kept_of (x.filtered e part.1) parts) ≡ is_step (kept_of (x.filtered e part.1) parts)
@@ -143,6 +144,7 @@ other_step names kd.Conditional link work (a ∷ (b ∷ (d ∷ others))) h c p =
 other_step names (kd.Cast word function optional) link work others h c p = absurd (false≢true p)
 other_step names (kd.Signs signs) link work others h c p = absurd (false≢true p)
 other_step names (kd.Call function) link work others h c p = absurd (false≢true p)
+other_step names (kd.Matches pattern) link work others h c p = absurd (false≢true p)
 other_step names kd.Nothing link work others h c p = refl
 
 -- ---- works with parts
@@ -180,6 +182,7 @@ module _ (base : Ground) (work : Work) (kind : Kind) (parts : List (Link × Work
       chain_is kd.Filtered c = absurd (false≢true c)
       chain_is kd.Only c = absurd (false≢true c)
       chain_is (kd.Call function) c = absurd (false≢true c)
+      chain_is (kd.Matches pattern) c = absurd (false≢true c)
       chain_is kd.Nothing c = absurd (false≢true c)
 
 -- ---- chains

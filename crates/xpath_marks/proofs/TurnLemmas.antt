@@ -128,6 +128,7 @@ no_parts kd.FilteredStep s = refl
 no_parts kd.Filtered s = refl
 no_parts kd.Only s = refl
 no_parts (kd.Call function) s = absurd (false≢true s)
+no_parts (kd.Matches pattern) s = absurd (false≢true s)
 no_parts kd.Nothing s = refl
 
 pub none_turned : (base : Ground) (kind : Kind) (n : ℕ) (old new : List ℕ) → new ≡ old → Turned base (made kind []) n old new
@@ -150,6 +151,7 @@ first_part_is names (kd.Cast word function optional) link work others h = absurd
 first_part_is names (kd.Signs signs) link work others h = absurd (false≢true h)
 first_part_is names kd.FilteredStep link work others h = absurd (false≢true h)
 first_part_is names (kd.Call function) link work others h = absurd (false≢true h)
+first_part_is names (kd.Matches pattern) link work others h = absurd (false≢true h)
 first_part_is names kd.Nothing link work others h = absurd (false≢true h)
 
 -- neither that nor filtered: no step but nothing
@@ -172,6 +174,7 @@ no_step names kd.Conditional link work (a ∷ (b ∷ (c ∷ others))) h f s = re
 no_step names (kd.Cast word function optional) link work others h f s = absurd (false≢true s)
 no_step names (kd.Signs signs) link work others h f s = absurd (false≢true s)
 no_step names (kd.Call function) link work others h f s = absurd (false≢true s)
+no_step names (kd.Matches pattern) link work others h f s = absurd (false≢true s)
 no_step names kd.Nothing link work others h f s = refl
 
 pub other_turned : (base : Ground) (kind : Kind) (part : Link × Work) (others : List (Link × Work)) (n : ℕ) (old new : List ℕ)
@@ -254,6 +257,7 @@ filter_turned base kd.Conditional link e predicates n old new h f s = absurd (fa
 filter_turned base (kd.Cast word function optional) link e predicates n old new h f s = absurd (false≢true h)
 filter_turned base (kd.Signs signs) link e predicates n old new h f s = absurd (false≢true h)
 filter_turned base (kd.Call function) link e predicates n old new h f s = absurd (false≢true h)
+filter_turned base (kd.Matches pattern) link e predicates n old new h f s = absurd (false≢true h)
 filter_turned base kd.Nothing link e predicates n old new h f s = absurd (false≢true h)
 
 pub filters_turned : (base : Ground) (kind : Kind) (part : Link × Work) (others : List (Link × Work)) (n : ℕ) (old new : List ℕ) → is_filter kind ≡ true

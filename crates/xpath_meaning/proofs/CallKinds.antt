@@ -330,6 +330,7 @@ of_called_with_two ns f.Substring a x y = g.of_then (call.text_argument ns x) (�
 of_called_with_two ns f.Contains a x y = of_texts ns (λ t u. g.given (refl, tt)) x y
 of_called_with_two ns f.StartsWith a x y = of_texts ns (λ t u. g.given (refl, tt)) x y
 of_called_with_two ns f.EndsWith a x y = of_texts ns (λ t u. g.given (refl, tt)) x y
+of_called_with_two ns f.Matches a x y = of_texts ns (λ t u. g.given (refl, tt)) x y
 of_called_with_two ns f.SubstringBefore a x y = of_texts ns (λ t u. g.given (refl, tt)) x y
 of_called_with_two ns f.SubstringAfter a x y = of_texts ns (λ t u. g.given (refl, tt)) x y
 of_called_with_two ns _ a x y = g.given tt

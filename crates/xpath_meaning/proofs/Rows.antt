@@ -1,7 +1,7 @@
 -- Expressions and their values: the definitions compute these, from the characters on.
 use Rattle.std.specs.Prelude.{ℕ, ◌≡◌, true, false, List, [], ◌∷◌, Option, Some, None, Ok, Err, codes, refl, pos, neg_ℤ}
 use Rattle.inv_base.specs.Tree.{Node, Name, Attribute, Forest, no_more, a_text, an_element, document_nodes}
-use Rattle.inv_base.specs.Characters.{is_name_start, is_name_char, is_white_space}
+use Rattle.inv_base.specs.Characters.{is_char, is_name_start, is_name_char, is_white_space}
 use Rattle.inv_decimal.specs.Arithmetic.{sum_of, difference_of, product_of, quotient_of, whole_quotient_of, remainder_of, rounded_down, rounded_up, rounded}
 use Rattle.inv_decimal.specs.Digits.{last_digits, without_trailing_zeros}
 use Rattle.inv_decimal.specs.WrittenNumber.{written_units, read_scaled, read_decimal}
@@ -15,14 +15,15 @@ use Rattle.xpath_items.specs.declared.item.Item.TheVariants as i
 use Rattle.xpath_items.specs.declared.outcome.DynError.TheVariants as e
 use Rattle.xpath_meaning.specs.Values.{Value}
 use Rattle.xpath_meaning.specs.Comparing.{compare}
+use Rattle.xpath_meaning.specs.Texts.{finds}
 use Rattle.xpath_meaning.specs.Resolving.{resolved, operands}
 use Rattle.xpath_meaning.specs.Meaning.{mean, at_top}
 
 -- what the rows look into
 unfoldable tried : ℕ
-unfolding answer_of_characters words_from longest many_then comment_rest comment_at separator_length closes is_symbol judged token_of is_name_start is_name_char is_white_space
+unfolding answer_of_characters words_from longest many_then comment_rest comment_at separator_length closes is_symbol judged token_of is_char is_name_start is_name_char is_white_space
     close run append type_in function_in resolved operands compare sum_of difference_of product_of quotient_of whole_quotient_of remainder_of rounded_down rounded_up rounded
-    last_digits without_trailing_zeros written_units read_scaled read_decimal day_from read_dashed_day
+    finds last_digits without_trailing_zeros written_units read_scaled read_decimal day_from read_dashed_day
 tried = 0
 
 -- the value of a text at the document, where the text is an expression
@@ -258,3 +259,21 @@ row_45 = refl
 row_46 : asked values (codes "local-name(v/n)") ≡ Some (Ok (i.String (codes "n") ∷ []))
 unfolding tried
 row_46 = refl
+
+-- Patterns
+
+row_47 : asked values (codes "matches('DE123', '^[A-Z]{2}[0-9]+$')") ≡ Some (Ok (i.Boolean true ∷ []))
+unfolding tried
+row_47 = refl
+
+row_48 : asked values (codes "(matches('xDE1', '^DE'), matches('', '^$'), matches('abc', 'x|b'), matches((), 'a'))") ≡ Some (Ok (i.Boolean false ∷ i.Boolean true ∷ i.Boolean true ∷ i.Boolean false ∷ []))
+unfolding tried
+row_48 = refl
+
+row_49 : asked values (codes "v/*[matches(., '^[a-z]*$')]/local-name()") ≡ Some (Ok (i.String (codes "s") ∷ i.String (codes "e") ∷ []))
+unfolding tried
+row_49 = refl
+
+row_50 : asked values (codes "matches(1, '1')") ≡ Some (Err e.XPTY0004)
+unfolding tried
+row_50 = refl

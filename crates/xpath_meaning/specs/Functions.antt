@@ -17,7 +17,7 @@ use Rattle.xpath_meaning.specs.Reading.{type_called}
 use Rattle.xpath_meaning.specs.Numbers.{number_of, at_one, in_range, number, counted}
 use Rattle.xpath_meaning.specs.Comparing.{boolean}
 use Rattle.xpath_meaning.specs.Collections.{all_taken, sum, least, greatest, distinct}
-use Rattle.xpath_meaning.specs.Texts.{begins, contains, ends, before, behind, normalised, upper, lower, translated, from_place, between_places, with_separator}
+use Rattle.xpath_meaning.specs.Texts.{begins, contains, ends, finds, before, behind, normalised, upper, lower, translated, from_place, between_places, with_separator}
 
 -- Arguments
 
@@ -164,6 +164,7 @@ called_with_two nodes f.Substring x y = substring_from nodes x y
 called_with_two nodes f.Contains x y = of_texts nodes (λ s t. yes_or_no (contains s t)) x y
 called_with_two nodes f.StartsWith x y = of_texts nodes (λ s t. yes_or_no (begins t s)) x y
 called_with_two nodes f.EndsWith x y = of_texts nodes (λ s t. yes_or_no (ends t s)) x y
+called_with_two nodes f.Matches x y = of_texts nodes (λ s t. yes_or_no (finds t s)) x y
 called_with_two nodes f.SubstringBefore x y = of_texts nodes (λ s t. text (before s t)) x y
 called_with_two nodes f.SubstringAfter x y = of_texts nodes (λ s t. text (behind s t)) x y
 called_with_two nodes _ x y = Err e.XPTY0004

@@ -6,6 +6,7 @@ use Rattle.std.specs.Str.{bytes_eq}
 use Rattle.inv_base.specs.Characters.{is_white_space, is_within}
 use Rattle.inv_decimal.specs.Number.{unit}
 use Rattle.inv_decimal.specs.Arithmetic.{half}
+use Rattle.xsd_pattern.specs.Matching.{matches}
 use Rattle.xpath_meaning.specs.Items.{is_empty}
 use Rattle.xpath_meaning.specs.Reading.{trimmed}
 
@@ -29,6 +30,10 @@ contains text piece = elim (first_place piece text) [ None ↦ false | Some n �
 
 abbrev pub ends : List ℕ → List ℕ → Bool
 ends piece text = nat_le (length piece) (length text) && bytes_eq piece (drop (length text - length piece) text)
+
+-- the pattern is found in the text; a text that is no pattern that is taken is found nowhere
+unfoldable pub finds : List ℕ → List ℕ → Bool
+finds pattern text = matches text pattern
 
 -- up to the first place of the piece; nothing where it has none
 abbrev pub before : List ℕ → List ℕ → List ℕ

@@ -1,5 +1,5 @@
 -- The expression of a work, part by part.
-use Rattle.std.proofs.Common.{◌≡◌, ℕ, ◌+◌, ◌-◌, ◌<◌, ◌≤◌, List, [], ◌∷◌, ◌++◌, length, get_or, map, take, drop, refl, sym, ap, ◌∙◌, arith, append_assoc, append-nil}
+use Rattle.std.proofs.Common.{◌≡◌, ℕ, ◌+◌, ◌-◌, ◌<◌, ◌≤◌, List, [], ◌∷◌, ◌++◌, Option, Some, None, length, get_or, map, take, drop, refl, sym, ap, ◌∙◌, arith, append_assoc, append-nil}
 use Rattle.std.proofs.lemmas.List.{drop_more, at_drop_all, length-take, take-take, take-append-drop, map-append}
 use Rattle.inv_base.specs.Tree.{Name}
 use Rattle.xpath_grammar.specs.Grammar as g
@@ -9,6 +9,8 @@ use Rattle.xpath_grammar.specs.declared.expr.Expr.{Expr}
 use Rattle.xpath_grammar.specs.declared.expr.Form.{Form}
 use Rattle.xpath_grammar.specs.declared.expr.Label.{Label}
 use Rattle.xpath_types.specs.Scopes.{Declared}
+use Rattle.xpath_grammar.specs.declared.expr.Leaf.TheVariants as l
+use Rattle.xpath_meaning.specs.Expressions as e
 use Rattle.xpath_meaning.specs.Expressions.{Exp}
 use Rattle.xpath_meaning.specs.Resolving.{resolved, operands, names_behind, begins_with_step}
 use Rattle.xpath_plan.specs.declared.work.Simple.{Simple}
@@ -17,8 +19,8 @@ use Rattle.xpath_plan.specs.declared.work.Kind.{Kind}
 use Rattle.xpath_plan.specs.declared.work.Work.{Work, Work-F, fold-roll-Work}
 use Rattle.xpath_plan.specs.declared.work.Work.TheVariants as w
 use Rattle.xpath_plan.specs.Plans.{simple_seen, made, seen_step, seen}
-use Rattle.xpath_plan.specs.Kinds.{link_of, kind_of}
-use Rattle.xpath_plan.proofs.MadeLaws.{links, labelled, form-made}
+use Rattle.xpath_plan.specs.Kinds.{link_of, kind_of, literal, second_literal}
+use Rattle.xpath_plan.proofs.MadeLaws.{links, labelled, form-made, IsSecond, AreSecond}
 
 -- each part with its expression
 abbrev pub seen_all : List Name → List (Link × Work) → List (Link × Exp)
@@ -89,9 +91,31 @@ module _ (declared : Declared) (bound : List (List ℕ)) (names names' : List Na
       ∙ (ap (λ more. before ++ more) (sym opened)
       ∙ later-grown (λ names. seen_all names works ++ links (operands declared bound (viewed (drop i parts)))) all names names' grown whole later)))))
 
+-- Only of two arguments there is a second that counts.
+pub no_second : (items : List (Label × Expr)) → (length items ≡ 2 → ⊥) → second_literal (viewed items) ≡ None
+no_second [] h = refl
+no_second (x ∷ []) h = refl
+no_second (x ∷ (y ∷ [])) h = absurd (h refl)
+no_second (x ∷ (y ∷ (z ∷ items))) h = refl
+
+-- a literal that is the second of two parts is the second of their expressions
+literal-seen : (declared : Declared) (bound : List (List ℕ)) (label : Label) (x : Exp) (next : Label) (y : Tree) (text : List ℕ) → literal y ≡ Some text → IsSecond text ((label, x) ∷ (next, resolved declared bound y) ∷ [])
+unfolding resolved
+literal-seen declared bound label x next (g.leaf (l.Literal s)) text h = let same : s ≡ text = cc in ap e.text same
+literal-seen declared bound label x next (g.leaf _) text h = absurd cc
+literal-seen declared bound label x next (g.node form parts) text h = absurd cc
+
+second-seen : (declared : Declared) (bound : List (List ℕ)) (parts : Parts) (second : Option (List ℕ)) → second_literal parts ≡ second → AreSecond second (operands declared bound parts)
+unfolding operands
+second-seen declared bound parts None h = tt
+second-seen declared bound g.none (Some text) h = absurd cc
+second-seen declared bound (g.more label x g.none) (Some text) h = absurd cc
+second-seen declared bound (g.more label x (g.more next y g.none)) (Some text) h = literal-seen declared (names_behind label bound) label (resolved declared bound x) next y text h
+second-seen declared bound (g.more label x (g.more next y (g.more other z parts))) (Some text) h = absurd cc
+
 -- behind the last part
 pub node-seen : (declared : Declared) (outer bound : List (List ℕ)) (first names : List Name) (parts : List (Label × Expr)) (i : ℕ) (works : List (Link × Work)) (height : ℕ) (form : Form) (kind : Kind)
-    → length parts ≤ i → Goes declared outer bound first names parts i works height → kind ≡ kind_of declared form (begins_with_step (viewed parts)) (map (λ part. part.0) parts)
+    → length parts ≤ i → Goes declared outer bound first names parts i works height → kind ≡ kind_of declared form (begins_with_step (viewed parts)) (second_literal (viewed parts)) (map (λ part. part.0) parts)
     → (later : List Name) → seen (names ++ later) (w.Node kind works) ≡ resolved declared outer (g.node form (viewed parts))
 unfolding resolved operands
 node-seen declared outer bound first names parts i works height form kind h goes is later =
@@ -99,5 +123,5 @@ node-seen declared outer bound first names parts i works height form kind h goes
     let all : seen_all (names ++ later) works ≡ links (operands declared outer (viewed parts)) =
     sym (append-nil (seen_all (names ++ later) works)) ∙ (ap (λ parts. seen_all (names ++ later) works ++ links (operands declared bound parts)) (sym none) ∙ goes.whole later) in
     seen-node (names ++ later) kind works ∙ ((λ j. made (is j) (labelled (all j)))
-    ∙ (ap (λ labels. made (kind_of declared form (begins_with_step (viewed parts)) labels) (labelled (links (operands declared outer (viewed parts))))) (sym (operand-labels declared outer parts))
-    ∙ form-made declared form (begins_with_step (viewed parts)) (operands declared outer (viewed parts))))
+    ∙ (ap (λ labels. made (kind_of declared form (begins_with_step (viewed parts)) (second_literal (viewed parts)) labels) (labelled (links (operands declared outer (viewed parts))))) (sym (operand-labels declared outer parts))
+    ∙ form-made declared form (begins_with_step (viewed parts)) (second_literal (viewed parts)) (operands declared outer (viewed parts)) (second-seen declared outer (viewed parts) (second_literal (viewed parts)) refl)))

@@ -1,13 +1,20 @@
--- What kind of work a form is, by what leads to its parts and whether the first is a step.
-use Rattle.std.specs.Prelude.{Bool, true, false, List, ◌∷◌}
+-- What kind of work a form is, by what leads to its parts, whether the first is a step, and the text of the second of two.
+use Rattle.std.specs.Prelude.{ℕ, Bool, true, false, List, ◌∷◌, Option, Some, None, if◌then◌else◌}
+use Rattle.xsd_pattern.specs.declared.fault.PatternFault.{PatternFault}
+use Rattle.xsd_pattern.specs.Matching.{fault_of}
+use Rattle.xpath_grammar.specs.Grammar as t
+use Rattle.xpath_grammar.specs.Grammar.{Tree, Parts}
+use Rattle.xpath_grammar.specs.declared.functions.Function.TheVariants as g
 use Rattle.xpath_grammar.specs.declared.operators.CastWord.{CastWord}
 use Rattle.xpath_grammar.specs.declared.expr.Form.{Form}
 use Rattle.xpath_grammar.specs.declared.expr.Form.TheVariants as f
 use Rattle.xpath_grammar.specs.declared.expr.Label.{Label}
 use Rattle.xpath_grammar.specs.declared.expr.Label.TheVariants as k
+use Rattle.xpath_grammar.specs.declared.expr.Leaf.TheVariants as x
 use Rattle.xpath_types.specs.declared.functions.Resolved.{Resolved}
 use Rattle.xpath_types.specs.declared.functions.Resolved.TheVariants as r
 use Rattle.xpath_types.specs.Functions.{function_called, type_named}
+use Rattle.xpath_types.specs.Judging.{is_matches}
 use Rattle.xpath_types.specs.Scopes.{Declared}
 use Rattle.xpath_plan.specs.declared.work.Kind.{Kind}
 use Rattle.xpath_plan.specs.declared.work.Kind.TheVariants as m
@@ -27,6 +34,30 @@ abbrev pub call_kind : Resolved → Kind
 call_kind (r.Known function) = m.Call function
 call_kind _ = m.Nothing
 
+-- a call of `matches` with a literal keeps the pattern that it is
+abbrev pub pattern_kind : List ℕ → Option PatternFault → Kind
+pattern_kind text None = m.Matches text
+pattern_kind text (Some fault) = m.Call g.Matches
+
+unfoldable pub matches_kind : List ℕ → Kind
+matches_kind text = pattern_kind text (fault_of text)
+
+abbrev pub literal_kind : Resolved → List ℕ → Kind
+literal_kind called text = if is_matches called then matches_kind text else call_kind called
+
+-- a call, with the text of the second of two arguments, where that is a literal
+abbrev pub named_kind : Resolved → Option (List ℕ) → Kind
+named_kind called None = call_kind called
+named_kind called (Some text) = literal_kind called text
+
+abbrev pub literal : Tree → Option (List ℕ)
+literal (t.leaf (x.Literal text)) = Some text
+literal _ = None
+
+abbrev pub second_literal : Parts → Option (List ℕ)
+second_literal (t.more label first (t.more next second t.none)) = literal second
+second_literal _ = None
+
 abbrev pub filter_kind : Bool → Kind
 filter_kind true = m.FilteredStep
 filter_kind false = m.Filtered
@@ -35,16 +66,16 @@ abbrev pub signs_kind : List Label → Kind
 signs_kind (k.Signed signs ∷ labels) = m.Signs signs
 signs_kind _ = m.Nothing
 
-abbrev pub called_kind : Declared → List Label → Kind
-called_kind declared (k.Calling name ∷ labels) = call_kind (function_called declared name)
-called_kind declared _ = m.Nothing
+abbrev pub called_kind : Declared → Option (List ℕ) → List Label → Kind
+called_kind declared second (k.Calling name ∷ labels) = named_kind (function_called declared name) second
+called_kind declared second _ = m.Nothing
 
-abbrev pub kind_of : Declared → Form → Bool → List Label → Kind
-kind_of declared (f.Chain production) is_step labels = m.Chain
-kind_of declared (f.Bound binder) is_step labels = m.Bound binder
-kind_of declared f.Conditional is_step labels = m.Conditional
-kind_of declared (f.Cast word type optional) is_step labels = cast_kind word optional (type_named declared type)
-kind_of declared f.Signs is_step labels = signs_kind labels
-kind_of declared f.Filter is_step labels = filter_kind is_step
-kind_of declared f.Parentheses is_step labels = m.Only
-kind_of declared f.Call is_step labels = called_kind declared labels
+abbrev pub kind_of : Declared → Form → Bool → Option (List ℕ) → List Label → Kind
+kind_of declared (f.Chain production) is_step second labels = m.Chain
+kind_of declared (f.Bound binder) is_step second labels = m.Bound binder
+kind_of declared f.Conditional is_step second labels = m.Conditional
+kind_of declared (f.Cast word type optional) is_step second labels = cast_kind word optional (type_named declared type)
+kind_of declared f.Signs is_step second labels = signs_kind labels
+kind_of declared f.Filter is_step second labels = filter_kind is_step
+kind_of declared f.Parentheses is_step second labels = m.Only
+kind_of declared f.Call is_step second labels = called_kind declared second labels

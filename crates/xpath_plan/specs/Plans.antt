@@ -1,6 +1,7 @@
 -- The expression that a plan is.
 use Rattle.std.specs.Prelude.{true, false, List, Option, Some, None, map, pos, slice_get}
 use Rattle.inv_base.specs.Tree.{Name}
+use Rattle.xpath_grammar.specs.declared.functions.Function.TheVariants as f
 use Rattle.xpath_grammar.specs.declared.expr.Label.{Label}
 use Rattle.xpath_grammar.specs.declared.expr.Label.TheVariants as k
 use Rattle.xpath_meaning.specs.Expressions as e
@@ -57,6 +58,7 @@ made m.FilteredStep parts = filtered_of true parts
 made m.Filtered parts = filtered_of false parts
 made m.Only parts = first_part parts
 made (m.Call function) parts = e.called function (arguments_of parts)
+made (m.Matches pattern) parts = e.called f.Matches (e.argument (first_part parts) (e.argument (e.text pattern) e.no_more))
 made m.Nothing parts = e.nothing
 
 -- one level, with each part already seen as its expression

@@ -1,16 +1,19 @@
 //! What kind of work the forms are.
-ghost use Rattle.std.specs.Prelude.{◌≡◌, map, IfOk};
-ghost use Rattle.xpath_grammar.specs.View.{viewed};
+ghost use Rattle.std.specs.Prelude.{◌≡◌, map, option_map, IfOk};
+ghost use Rattle.xpath_grammar.specs.View.{view, viewed};
 ghost use Rattle.xpath_meaning.specs.Resolving.{begins_with_step, is_step_leaf};
 ghost use Rattle.xpath_plan.specs.Kinds as spec;
 
 use crate::work::{Kind, Link};
+use inv_base::Txt;
 use std::alloc::{AllocError, Global};
 use xpath_grammar::expr::{Expr, Form, Label, Leaf};
+use xpath_grammar::functions::Function;
 use xpath_grammar::many::Many;
 use xpath_grammar::operators::CastWord;
 use xpath_tokens::token::Operator;
-use xpath_types::{Resolved, Scope, function_called, type_named};
+use xpath_types::{Resolved, Scope, function_called, is_matches, type_named};
+use xsd_pattern::{PatternFault, parse};
 
 /// What is kept of what leads to a part.
 pub(crate) fn link_of(label: &Label) -> Link
@@ -80,12 +83,62 @@ fn signs_kind(alloc: Global, parts: &[(Label, Expr)]) -> Result<Kind, AllocError
     }
 }
 
-fn called_kind(scope: &Scope, parts: &[(Label, Expr)]) -> Kind
-    ensures { result ≡ spec.called_kind scope.now (map (λ part. part.0) parts.now) }
+/// The text of the second of two arguments, where it is a literal.
+fn second_literal(parts: &[(Label, Expr)]) -> Option<&Txt>
+    ensures { option_map (λ text. text.now) result ≡ spec.second_literal (viewed parts.now) }
 {
     match parts {
-        [(Label::Calling(name), _), ..] => call_kind(function_called(scope, name)),
-        _ => Kind::Nothing,
+        [_, (_, second)] => literal(second),
+        _ => None,
+    }
+}
+
+/// The text of a literal.
+fn literal(x: &Expr) -> Option<&Txt>
+    ensures { option_map (λ text. text.now) result ≡ spec.literal (view x.now) }
+{
+    match x {
+        Expr::Leaf(Leaf::Literal(text)) => Some(text),
+        _ => None,
+    }
+}
+
+/// A call of `matches` with a literal as its pattern. A literal that is no pattern that is taken
+/// stands in no typed expression.
+fn matches_kind(alloc: Global, text: &Txt) -> Result<Kind, AllocError>
+    ensures { IfOk result (λ kind. kind ≡ spec.matches_kind text.now) }
+{
+    match parse(alloc, text.as_str()) {
+        Ok(pattern) => Ok(Kind::Matches(pattern)),
+        Err(PatternFault::Bad) => Ok(Kind::Call(Function::Matches)),
+        Err(PatternFault::TooLarge) => Ok(Kind::Call(Function::Matches)),
+        Err(PatternFault::Memory) => Err(AllocError),
+    }
+}
+
+/// A call of what a name stands for, where the second of two arguments is a literal.
+fn named_kind(alloc: Global, called: Resolved, text: &Txt) -> Result<Kind, AllocError>
+    ensures { IfOk result (λ kind. kind ≡ spec.literal_kind called text.now) }
+{
+    if is_matches(called) {
+        matches_kind(alloc, text)
+    } else {
+        Ok(call_kind(called))
+    }
+}
+
+fn called_kind(alloc: Global, scope: &Scope, parts: &[(Label, Expr)]) -> Result<Kind, AllocError>
+    ensures { IfOk result (λ kind. kind ≡ spec.called_kind scope.now (spec.second_literal (viewed parts.now)) (map (λ part. part.0) parts.now)) }
+{
+    match parts {
+        [(Label::Calling(name), _), ..] => {
+            let called = function_called(scope, name);
+            match second_literal(parts) {
+                Some(text) => named_kind(alloc, called, text),
+                None => Ok(call_kind(called)),
+            }
+        }
+        _ => Ok(Kind::Nothing),
     }
 }
 
@@ -106,7 +159,7 @@ pub(crate) fn kind_of(
     form: &Form,
     parts: &[(Label, Expr)],
 ) -> Result<Kind, AllocError>
-    ensures { IfOk result (λ kind. kind ≡ spec.kind_of scope.now form.now (begins_with_step (viewed parts.now)) (map (λ part. part.0) parts.now)) }
+    ensures { IfOk result (λ kind. kind ≡ spec.kind_of scope.now form.now (begins_with_step (viewed parts.now)) (spec.second_literal (viewed parts.now)) (map (λ part. part.0) parts.now)) }
 {
     match form {
         Form::Chain(_) => Ok(Kind::Chain),
@@ -118,6 +171,6 @@ pub(crate) fn kind_of(
         Form::Signs => signs_kind(alloc, parts),
         Form::Filter => Ok(filter_kind(begins_with_step(parts))),
         Form::Parentheses => Ok(Kind::Only),
-        Form::Call => Ok(called_kind(scope, parts)),
+        Form::Call => called_kind(alloc, scope, parts),
     }
 }

@@ -6,6 +6,7 @@ use xpath_grammar::many::Many;
 use xpath_grammar::operators::{Binder, CastWord};
 use xpath_grammar::step::{Axis, KindTest};
 use xpath_tokens::token::{Number, Operator};
+use xsd_pattern::Regex;
 
 /// What a step wants of the nodes on its axis (XPath 2.0, section 3.2.1.2).
 #[derive(Drop)]
@@ -75,6 +76,9 @@ pub enum Kind {
     Only,
     /// A call with these arguments.
     Call(Function),
+    /// A call of `matches` with two arguments, of which the second is a literal that is this pattern.
+    /// Only the first is evaluated.
+    Matches(Regex),
     /// Nothing, whatever the parts. No expression that is typed makes it.
     Nothing,
 }

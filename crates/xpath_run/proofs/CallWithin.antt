@@ -261,6 +261,7 @@ module _ (count : ℕ) where
   of_called_with_two ns f.Contains x y = of_texts ns (λ t u. given (tt, tt)) x y
   of_called_with_two ns f.StartsWith x y = of_texts ns (λ t u. given (tt, tt)) x y
   of_called_with_two ns f.EndsWith x y = of_texts ns (λ t u. given (tt, tt)) x y
+  of_called_with_two ns f.Matches x y = of_texts ns (λ t u. given (tt, tt)) x y
   of_called_with_two ns f.SubstringBefore x y = of_texts ns (λ t u. given (tt, tt)) x y
   of_called_with_two ns f.SubstringAfter x y = of_texts ns (λ t u. given (tt, tt)) x y
   of_called_with_two ns _ x y = given tt
@@ -297,3 +298,6 @@ module _ (count : ℕ) where
   pub call-within : (nodes : List Node) (function : Function) (focus : Focus) (arguments : List (List Item)) → AllWithin count arguments
       → ValueWithin count (call.call nodes function focus arguments)
   call-within nodes function focus arguments h = (of_call nodes function focus arguments (first_within arguments h)).items
+
+  pub found-within : (nodes : List Node) (h : List ℕ → Bool) (items : List Item) → ValueWithin count (call.of_text nodes (λ s. call.yes_or_no (h s)) items)
+  found-within nodes h items = (of_text nodes (λ s. given (tt, tt)) items).items

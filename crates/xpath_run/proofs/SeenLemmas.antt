@@ -122,6 +122,7 @@ filtered_step-made (m.Signs signs) parts h = absurd (false≢true h)
 filtered_step-made m.Filtered parts h = absurd (false≢true h)
 filtered_step-made m.Only parts h = absurd (false≢true h)
 filtered_step-made (m.Call function) parts h = absurd (false≢true h)
+filtered_step-made (m.Matches pattern) parts h = absurd (false≢true h)
 filtered_step-made m.Nothing parts h = absurd (false≢true h)
 
 pub filtered_step-ordered : (nodes : List Node) (parts : List Operand) (c : Context) (items : List Item) → mean nodes (filtered_so true parts) c ≡ Ok items

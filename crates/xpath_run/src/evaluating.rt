@@ -76,7 +76,12 @@ fn by_kind<'a, L: Ledger>(
             document_ordered(ground.alloc, ground.doc, items.as_slice())
         }
         Kind::Filtered => filter(ground, false, parts, focus, bound, steps),
-        Kind::Cast(_, _, _) | Kind::Signs(_) | Kind::Only | Kind::Call(_) | Kind::Nothing => {
+        Kind::Cast(_, _, _)
+        | Kind::Signs(_)
+        | Kind::Only
+        | Kind::Call(_)
+        | Kind::Matches(_)
+        | Kind::Nothing => {
             let values = values_of(ground, wanted(kind, parts), focus, bound, steps)?;
             finished(ground.alloc, ground.doc, kind, focus, values)
         }

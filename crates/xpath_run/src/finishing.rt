@@ -2,9 +2,11 @@
 ghost use Rattle.std.specs.Prelude.{◌≡◌, length, map, IfOk};
 ghost use Rattle.node_arena.specs.Moves.{tree_nodes};
 ghost use Rattle.xpath_items.specs.Faults.{Gives};
+ghost use Rattle.xpath_meaning.specs.Functions as functions;
 ghost use Rattle.xpath_meaning.specs.Items.{atomised};
 ghost use Rattle.xpath_meaning.specs.Numbers as numbers;
 ghost use Rattle.xpath_meaning.specs.Reading as reading;
+ghost use Rattle.xpath_meaning.specs.Texts.{finds};
 ghost use Rattle.xpath_operators.specs.Nodes.{IsWithin, AreWithin, AllWithin};
 ghost use Rattle.xpath_run.specs.Finishing as spec;
 
@@ -18,6 +20,8 @@ use xpath_items::{Fault, Focus, Seq};
 use xpath_operators::{atomise, cast, signed};
 use xpath_plan::work::{Kind, Link, Work};
 use xpath_tokens::token::Operator;
+use xpath_values::found;
+use xsd_pattern::Regex;
 
 /// The first part alone.
 fn first_alone(parts: &[(Link, Work)]) -> &[(Link, Work)]
@@ -36,7 +40,7 @@ pub(crate) fn wanted<'w>(kind: &Kind, parts: &'w [(Link, Work)]) -> &'w [(Link, 
     ensures { result.now ≡ spec.wanted kind.now parts.now }
 {
     match kind {
-        Kind::Cast(_, _, _) | Kind::Signs(_) | Kind::Only => first_alone(parts),
+        Kind::Cast(_, _, _) | Kind::Signs(_) | Kind::Only | Kind::Matches(_) => first_alone(parts),
         Kind::Call(_) => parts,
         _ => &[],
     }
@@ -72,6 +76,21 @@ fn signed_first<'a>(
     signed(alloc, signs, atoms.as_slice())
 }
 
+fn found_first<'a>(
+    alloc: Global,
+    doc: &Doc<'a>,
+    pattern: &Regex,
+    items: Seq<'a>,
+) -> Result<Seq<'a>, Fault>
+    requires { AreWithin (length doc.now.nodes) items }
+    ensures value { Gives result (functions.of_text (tree_nodes doc.now) (λ s. functions.yes_or_no (finds pattern.now s)) items.entry) }
+    ensures within { IfOk result (λ items. AreWithin (length doc.now.nodes) items) }
+{
+    let value = found(alloc, doc, pattern, items.as_slice());
+    drop(items);
+    value
+}
+
 /// What a kind makes of the values of the parts that it wants.
 pub(crate) fn finished<'a>(
     alloc: Global,
@@ -99,6 +118,7 @@ pub(crate) fn finished<'a>(
         }
         Kind::Only => Ok(values.into_first(alloc)),
         Kind::Call(function) => called(alloc, doc, *function, focus, values),
+        Kind::Matches(pattern) => found_first(alloc, doc, pattern, values.into_first(alloc)),
         _ => Ok(Seq::new(alloc)),
     }
 }

@@ -56,6 +56,7 @@ if (a) then 1 else 2 → [Conditional: Child::{}a; 1; Else 2]
 a castable as t:date? → [Cast(Castable, XsDate, true): Child::{}a]
 concat('a', 1, a) → [Call(Concat): a; Comma 1; Comma Child::{}a]
 xs:decimal('1') → [Call(XsDecimal): 1]
+matches(a, '^x$') → [Matches: Child::{}a; Comma ^x$]
 some $x in a satisfies $x → [Bound(Some): Child::{}a; Satisfies $0]
 every $x in a satisfies 1 → [Bound(Every): Child::{}a; Satisfies 1]
 for $x in 1, $y in $x return $y + $x + $v → [Bound(For): 1; $0; Return [Chain: $1; Plus $0; Plus $v]]
@@ -142,6 +143,7 @@ fn push_kind(line: &mut String, kind: &Kind) -> Result<(), AllocError> {
         Kind::Filtered => line.push_str("Filtered"),
         Kind::Only => line.push_str("Only"),
         Kind::Call(function) => write!(line, "Call({function:?})"),
+        Kind::Matches(_) => line.push_str("Matches"),
         Kind::Nothing => line.push_str("Nothing"),
     }
 }

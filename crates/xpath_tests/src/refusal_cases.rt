@@ -31,7 +31,7 @@ xs:true() → UnknownFunction 0
 fn:string(fn:date('a')) → UnknownFunction 2
 other:true() → UnknownFunction 0
 decimal('1') → UnknownFunction 0
-matches('a', 'b') → UnknownFunction 0
+replace('a', 'b', 'c') → UnknownFunction 0
 1 cast as integer → UnknownType 0
 1 cast as xs:foo → UnknownType 0
 1 castable as fn:string → UnknownType 0
@@ -54,6 +54,26 @@ count(1, 2) cast as xs:foo → UnknownType 0
 1 + ('a' + 1) + 'b' → SureTypeError 3
 (1, $w)/a → UndeclaredVariable 3
 not('a' + 1) + 1 → SureTypeError 2";
+
+/// Patterns that aren't a string literal.
+const PATTERNS: &str = "\
+matches('a', ('b')) → NotLiteral 4
+matches('a', 'b'[1]) → NotLiteral 4
+matches('a', concat('a', 'b')) → NotLiteral 4
+matches('a', 'b' + 1) → NotLiteral 4
+matches('a', 1 + 'b') → NotLiteral 4
+matches(a/b[1], $v) → NotLiteral 9
+1 + matches('a', .) → NotLiteral 6
+fn:matches('a', ()) → NotLiteral 4
+matches('a', nope()) → UnknownFunction 4
+matches('a', $w) → UndeclaredVariable 4
+matches('a', absent:x) → UndeclaredPrefix 4
+matches('a', concat('a')) → WrongArity 4
+matches('a', 'b' cast as xs:foo) → UnknownType 4
+matches($w, .) → UndeclaredVariable 2
+matches('a' + 1, .) → SureTypeError 2
+matches('a', 1, 'b' + 1) → WrongArity 0
+other:matches('a', .) → UnknownFunction 0";
 
 /// Operands of one sure kind.
 const OPERANDS: &str = "\
@@ -154,6 +174,8 @@ contains('a', 'b', 'c')
 starts-with('a')
 starts-with('a', 'b', 'c')
 ends-with('a')
+matches('a')
+matches('a', '[', 'i')
 ends-with('a', 'b', 'c')
 substring-before('a')
 substring-before('a', 'b', 'c')
@@ -206,6 +228,11 @@ fn operands_of_a_sure_kind_are_refused(rt: HostRuntime) -> Result<(), Fail> {
 #[test]
 fn operands_that_may_be_right_are_accepted(rt: HostRuntime) -> Result<(), Fail> {
     expect_checked(rt.alloc(), Wanted::NoSureError, MAY_BE)
+}
+
+#[test]
+fn a_pattern_is_a_literal(rt: HostRuntime) -> Result<(), Fail> {
+    expect_checked(rt.alloc(), Wanted::Line, PATTERNS)
 }
 
 #[test]

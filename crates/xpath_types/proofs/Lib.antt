@@ -5,6 +5,8 @@ pub mod HeightLemmas
 pub mod VariableLemmas
 pub mod RefusalLemmas
 pub mod LeafLemmas
+pub mod PlaceLemmas
+pub mod PatternLemmas
 pub mod WalkLemmas
 pub mod KindLaws
 pub mod FreeLaws
@@ -12,3 +14,4 @@ pub mod WalkLaws
 pub mod TypingLaws
 pub mod OrderLaws
 mod Rows
+mod WiderLemmas

@@ -16,3 +16,8 @@ first-standing first token a b = ap (first_of first) (map-append _ a b) ∙ firs
 pub not-empty-append : {X : Type 0} (a b : List X) → not (is_empty (a ++ b)) ≡ (not (is_empty a) || not (is_empty b))
 not-empty-append [] b = refl
 not-empty-append (x ∷ a) b = refl
+
+-- kinds are refused exactly where refusals of them are
+pub still-empty : (token : ℕ) (kinds : List TypeKind) → not (is_empty kinds) ≡ not (is_empty (standing_at token kinds))
+still-empty token [] = refl
+still-empty token (kind ∷ kinds) = refl

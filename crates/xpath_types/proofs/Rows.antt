@@ -1,7 +1,7 @@
 -- Texts with their first refusals, the kinds of their values and what is stated of their parts: the definitions compute these.
 use Rattle.std.specs.Prelude.{ℕ, ◌≡◌, Bool, true, false, List, [], ◌∷◌, Some, None, Ok, Err, codes, refl, map}
 use Rattle.std.specs.Str.{chars}
-use Rattle.inv_base.specs.Characters.{is_name_start, is_name_char, is_white_space}
+use Rattle.inv_base.specs.Characters.{is_char, is_name_start, is_name_char, is_white_space}
 use Rattle.xpath_tokens.specs.Longest.{longest, many_then}
 use Rattle.xpath_tokens.specs.Words.{words_from, comment_rest, comment_at, separator_length, closes, is_symbol}
 use Rattle.xpath_tokens.specs.Tokens.{tokens_of, answer_of_characters, token_of}
@@ -206,3 +206,21 @@ row_33 = refl
 row_34 : uses (codes "if (/a) then 1 else last()") ≡ (true, false) ∷ (true, true) ∷ (true, false) ∷ (false, true) ∷ (true, false) ∷ []
 unfolding given untyped tokens_of answer_of_characters words_from longest many_then comment_rest comment_at separator_length closes is_symbol tk.judged token_of is_name_start is_name_char is_white_space chars close run append function_in type_in j.judged j.operands pt.placed pt.placed_inside pt.uses pt.uses_of_parts pt.has_free pt.parts_have_free typing_of g.written g.parts_written
 row_34 = refl
+
+-- Patterns
+
+row_35 : map told (codes "matches('a', 'a')" ∷ codes "matches('a')" ∷ codes "matches('a', '[', 'i')" ∷ codes "matches()" ∷ codes "matches('a', 'a') + 1" ∷ codes "matches($x, '[')" ∷ codes "matches('a' + 1, '[')" ∷ codes "p:matches('a', '[')" ∷ []) ≡ accepted ∷ refused r.WrongArity 0 ∷ refused r.WrongArity 0 ∷ refused r.WrongArity 0 ∷ refused r.SureTypeError 0 ∷ refused r.UndeclaredVariable 2 ∷ refused r.SureTypeError 2 ∷ refused r.UnknownFunction 0 ∷ []
+unfolding given untyped tokens_of answer_of_characters words_from longest many_then comment_rest comment_at separator_length closes is_symbol tk.judged token_of is_char is_name_start is_name_char is_white_space chars close run append function_in type_in j.judged j.operands j.literal_refusals pt.placed pt.placed_inside pt.uses pt.uses_of_parts pt.has_free pt.parts_have_free typing_of g.written g.parts_written
+row_35 = refl
+
+row_36 : map told (codes "matches('a', ('b'))" ∷ codes "matches('a', 'b'[1])" ∷ codes "matches('a', concat('a', 'b'))" ∷ codes "matches('a', $v)" ∷ codes "matches('a', 'b' + 1)" ∷ codes "matches('a', 1 + 'b')" ∷ codes "matches(string(.), .)" ∷ []) ≡ refused r.NotLiteral 4 ∷ refused r.NotLiteral 4 ∷ refused r.NotLiteral 4 ∷ refused r.NotLiteral 4 ∷ refused r.NotLiteral 4 ∷ refused r.NotLiteral 4 ∷ refused r.NotLiteral 7 ∷ []
+unfolding given untyped tokens_of answer_of_characters words_from longest many_then comment_rest comment_at separator_length closes is_symbol tk.judged token_of is_char is_name_start is_name_char is_white_space chars close run append function_in type_in j.judged j.operands j.literal_refusals pt.placed pt.placed_inside pt.uses pt.uses_of_parts pt.has_free pt.parts_have_free typing_of g.written g.parts_written
+row_36 = refl
+
+row_37 : map told (codes "matches('a', nope())" ∷ codes "matches('a', $x)" ∷ codes "matches('a', q:x)" ∷ codes "matches('a', concat('a'))" ∷ codes "matches('a', 'b' cast as xs:foo)" ∷ []) ≡ refused r.UnknownFunction 4 ∷ refused r.UndeclaredVariable 4 ∷ refused r.UndeclaredPrefix 4 ∷ refused r.WrongArity 4 ∷ refused r.UnknownType 4 ∷ []
+unfolding given untyped tokens_of answer_of_characters words_from longest many_then comment_rest comment_at separator_length closes is_symbol tk.judged token_of is_char is_name_start is_name_char is_white_space chars close run append function_in type_in j.judged j.operands j.literal_refusals pt.placed pt.placed_inside pt.uses pt.uses_of_parts pt.has_free pt.parts_have_free typing_of g.written g.parts_written
+row_37 = refl
+
+row_38 : map told (codes "matches('a', '[')" ∷ codes "f:matches('a', '[')" ∷ codes "1 + matches('a', '[')" ∷ codes "matches('a', 'a{2,1}')" ∷ codes "matches('a', '(a{1000}){2}')" ∷ codes "matches('a', '(a{1000}){3}')" ∷ codes "matches('a', '(a{1000}){3}[')" ∷ codes "matches('a', '[') + 1" ∷ []) ≡ refused r.BadPattern 4 ∷ refused r.BadPattern 4 ∷ refused r.BadPattern 6 ∷ refused r.BadPattern 4 ∷ accepted ∷ refused r.PatternTooLarge 4 ∷ refused r.BadPattern 4 ∷ refused r.BadPattern 4 ∷ []
+unfolding given untyped tokens_of answer_of_characters words_from longest many_then comment_rest comment_at separator_length closes is_symbol tk.judged token_of is_char is_name_start is_name_char is_white_space chars close run append function_in type_in j.judged j.operands j.literal_refusals pt.placed pt.placed_inside pt.uses pt.uses_of_parts pt.has_free pt.parts_have_free typing_of g.written g.parts_written
+row_38 = refl

@@ -19,10 +19,10 @@ use Rattle.xpath_types.specs.Kinds.{no_kinds, all_kinds}
 use Rattle.xpath_types.specs.Scopes.{Declared}
 use Rattle.xpath_types.specs.Refusals.{first_of}
 use Rattle.xpath_types.specs.Judging as j
-use Rattle.xpath_types.specs.Judging.{Environment, Judged, Operands, judged, operands, labels, is_empty, standing_at, concluded, inside, behind, focus_inside, focus_behind, variables_behind, is_last, is_sure_error, operand_refusals, form_refusals, form_kinds}
+use Rattle.xpath_types.specs.Judging.{own_refusals, Environment, Judged, Operands, judged, operands, labels, is_empty, standing_at, concluded, inside, behind, focus_inside, focus_behind, variables_behind, is_last, is_sure_error, operand_refusals, form_refusals, form_kinds}
 use Rattle.xpath_types.specs.Parts.{placed, placed_inside, facts, uses, uses_of_parts, joined, has_outer_focus, leaf_uses, uses_any, is_document_alone}
 use Rattle.xpath_types.specs.Walking.{Seen, environment, facts_of, leaf_facts, part_of, lower, gathered, unknown, leaf_walked, node_begun, seen_begun, part_ended, seen_ended, node_facts, node_ended, kinds_concluded, walked, walked_parts}
-use Rattle.xpath_types.proofs.RefusalLemmas.{first-append, not-empty-append}
+use Rattle.xpath_types.proofs.RefusalLemmas.{first-append, not-empty-append, still-empty}
 use Rattle.xpath_types.proofs.KindLaws.{gathered_all, kinds-gathered, joined-assoc, joined-none}
 use Rattle.xpath_types.proofs.FreeLaws.{lowest, lowest_in_parts, names_of, leaf-lowest, names-behind, free-within, lower-assoc, lower-none}
 
@@ -75,10 +75,6 @@ or-false : (a : Bool) → (a || false) ≡ a
 or-false true = refl
 or-false false = refl
 
-still-empty : (token : ℕ) (kinds : List TypeKind) → not (is_empty kinds) ≡ not (is_empty (standing_at token kinds))
-still-empty token [] = refl
-still-empty token (kind ∷ kinds) = refl
-
 all-refused : (kinds : Kinds) (refusals : List Refusal) → (if not (is_empty refusals) then all_kinds else kinds) ≡ (concluded kinds refusals).kinds
 all-refused kinds [] = refl
 all-refused kinds (refusal ∷ refusals) = refl
@@ -130,16 +126,16 @@ operand-labels g.none env form at = refl
 operand-labels (g.more label x parts) env form at = ap (λ labels. label ∷ labels) (operand-labels parts _ form _)
 
 node-told : (declared : Declared) (focus : Kinds) (bound : Bound) (token : ℕ) (form : Form) (parts : Parts)
-    → node_facts declared form (labels parts) (parts_facts declared form focus bound true (node_begun declared token form (labels parts)).facts token parts) ≡ told_facts declared focus bound token (g.node form parts)
+    → node_facts declared form (labels parts) (parts_facts declared form focus bound true (node_begun declared token form parts).facts token parts) ≡ told_facts declared focus bound token (g.node form parts)
 unfolding judged uses lowest
 node-told declared focus bound token form parts =
     let env : Environment = environment declared focus bound in
     let inner : Operands = operands env form token parts in
-    let refusals : List Refusal = standing_at token (form_refusals declared form (labels parts)) ++ inner.refusals in
+    let refusals : List Refusal = own_refusals declared token form parts ++ inner.refusals in
     let kinds : kinds_concluded declared form (labels parts) (gathered_all form true no_kinds inner.kinds) ≡ form_kinds declared form inner.kinds =
     ap (λ labels. kinds_concluded declared form labels (gathered_all form true no_kinds inner.kinds)) (sym (operand-labels parts env form token)) ∙ kinds-gathered declared form inner.kinds in
-    let refused : (not (is_empty (form_refusals declared form (labels parts))) || not (is_empty inner.refusals)) ≡ not (is_empty refusals) =
-    ap (λ b. b || not (is_empty inner.refusals)) (still-empty token (form_refusals declared form (labels parts))) ∙ sym (not-empty-append (standing_at token (form_refusals declared form (labels parts))) inner.refusals) in
+    let refused : (not (is_empty (own_refusals declared token form parts)) || not (is_empty inner.refusals)) ≡ not (is_empty refusals) =
+    sym (not-empty-append (own_refusals declared token form parts) inner.refusals) in
     (λ i. facts_of (kinds i) (refused i) (uses declared (g.node form parts)) (lowest (names_of bound) (g.node form parts)))
     ∙ ap (λ kinds. record { kinds = kinds; refused = not (is_empty refusals); uses = uses declared (g.node form parts); lowest = lowest (names_of bound) (g.node form parts) })
     (all-refused (form_kinds declared form inner.kinds) refusals)
@@ -149,7 +145,7 @@ put : (front behind : List Part) (part : Part) → slice_set ((front ++ unknown 
 put front behind part = ap (λ parts. slice_set parts (length front) part) (append_assoc front (unknown ∷ []) behind) ∙ set-append_seam front unknown behind part
 
 node-walked : (declared : Declared) (focus : Kinds) (bound : Bound) (token : ℕ) (s : Seen) (form : Form) (parts : Parts)
-    → node_ended declared focus (length bound) (length s.parts) form (labels parts) (parts_told declared form focus bound true (node_begun declared token form (labels parts)) (seen_begun declared token form (labels parts) s) parts)
+    → node_ended declared focus (length bound) (length s.parts) form (labels parts) (parts_told declared form focus bound true (node_begun declared token form parts) (seen_begun declared token form parts s) parts)
     ≡ told declared focus bound token s (g.node form parts)
 unfolding judged placed g.written
 node-walked declared focus bound token s form parts =
@@ -158,13 +154,13 @@ node-walked declared focus bound token s form parts =
     let e = node-told declared focus bound token form parts in
     let end : (token + length (g.parts_written parts)) + length (g.closing form) ≡ token + length (g.parts_written parts ++ g.closing form) =
     omega (arith, length-append (g.parts_written parts) (g.closing form)) in
-    let first : first_of (first_of s.first (standing_at token (form_refusals declared form (labels parts)))) (operands env form token parts).refusals
-    ≡ first_of s.first (standing_at token (form_refusals declared form (labels parts)) ++ (operands env form token parts).refusals) =
-    sym (first-append s.first (standing_at token (form_refusals declared form (labels parts))) (operands env form token parts).refusals) in
-    let own : part_of (node_facts declared form (labels parts) (parts_facts declared form focus bound true (node_begun declared token form (labels parts)).facts token parts)) focus (length bound)
+    let first : first_of (first_of s.first (own_refusals declared token form parts)) (operands env form token parts).refusals
+    ≡ first_of s.first (own_refusals declared token form parts ++ (operands env form token parts).refusals) =
+    sym (first-append s.first (own_refusals declared token form parts) (operands env form token parts).refusals) in
+    let own : part_of (node_facts declared form (labels parts) (parts_facts declared form focus bound true (node_begun declared token form parts).facts token parts)) focus (length bound)
     ≡ facts (record { environment = env; token = token; part = g.node form parts }) =
     ap (λ facts. part_of facts focus (length bound)) e ∙ part-told declared focus bound token (g.node form parts) in
-    let all : slice_set ((s.parts ++ unknown ∷ []) ++ inner) (length s.parts) (part_of (node_facts declared form (labels parts) (parts_facts declared form focus bound true (node_begun declared token form (labels parts)).facts token parts)) focus (length bound))
+    let all : slice_set ((s.parts ++ unknown ∷ []) ++ inner) (length s.parts) (part_of (node_facts declared form (labels parts) (parts_facts declared form focus bound true (node_begun declared token form parts).facts token parts)) focus (length bound))
     ≡ s.parts ++ facts (record { environment = env; token = token; part = g.node form parts }) ∷ inner =
     ap (λ part. slice_set ((s.parts ++ unknown ∷ []) ++ inner) (length s.parts) part) own ∙ put s.parts inner (facts (record { environment = env; token = token; part = g.node form parts })) in
     λ i. (record { facts = e i; end = end i }, record { parts = all i; first = first i })
@@ -291,7 +287,7 @@ mutual
   pub walked-told : (declared : Declared) (focus : Kinds) (bound : Bound) (token : ℕ) (s : Seen) (x : Tree) → walked declared focus bound token s x ≡ told declared focus bound token s x
   walked-told declared focus bound token s (g.leaf x) = leaf-walked declared focus bound token s x
   walked-told declared focus bound token s (g.node form parts) =
-      ap (node_ended declared focus (length bound) (length s.parts) form (labels parts)) (parts-told declared form focus bound true (node_begun declared token form (labels parts)) (seen_begun declared token form (labels parts) s) parts)
+      ap (node_ended declared focus (length bound) (length s.parts) form (labels parts)) (parts-told declared form focus bound true (node_begun declared token form parts) (seen_begun declared token form parts s) parts)
       ∙ node-walked declared focus bound token s form parts
 
   parts-told : (declared : Declared) (form : Form) (focus : Kinds) (bound : Bound) (first : Bool) (so_far : Walked) (s : Seen) (parts : Parts)

@@ -78,13 +78,13 @@ pub record Goes (rest whole : Walked × Seen) (height index : ℕ) (outer variab
   pub high : height ≤ length variables
   pub longer : length begun ≤ length parts
 
-nothing_left : (items : List (Label × Expr)) (i : ℕ) → length items ≤ i → viewed (drop i items) ≡ g.none
+pub nothing_left : (items : List (Label × Expr)) (i : ℕ) → length items ≤ i → viewed (drop i items) ≡ g.none
 nothing_left items i h = at_drop_all viewed items i h
 
 -- behind the last part
 module _ (declared : Declared) (focus : Kinds) (bound : List (List ℕ × Kinds)) (token : ℕ) (s : Seen) (form : Form) (items : List (Label × Expr)) where
   pub node-walked : (i : ℕ) → length items ≤ i → (so_far so_far' : Walked) (s' s'' : Seen) (inner : Kinds) (bound' bound'' : List (List ℕ × Kinds)) (first : Bool)
-      → so_far ≡ node_begun declared token form (map (λ part. part.0) items) → s' ≡ seen_begun declared token form (map (λ part. part.0) items) s → bound' ≡ bound
+      → so_far ≡ node_begun declared token form (viewed items) → s' ≡ seen_begun declared token form (viewed items) s → bound' ≡ bound
       → walked_parts declared form inner bound'' first so_far' s'' (viewed (drop i items)) ≡ walked_parts declared form focus bound' true so_far s' (viewed items)
       → (height index : ℕ) → height ≡ length bound → index ≡ length s.parts
       → node_ended declared focus height index form (map (λ part. part.0) items) (so_far', s'') ≡ walked declared focus bound token s (g.node form (viewed items))
@@ -92,10 +92,10 @@ module _ (declared : Declared) (focus : Kinds) (bound : List (List ℕ × Kinds)
   node-walked i h so_far so_far' s' s'' inner bound' bound'' first begins sees binds goes height index high at =
       let left = nothing_left items i h in
       let named = labels-viewed items in
-      let gone : (so_far', s'') ≡ walked_parts declared form focus bound true (node_begun declared token form (map (λ part. part.0) items)) (seen_begun declared token form (map (λ part. part.0) items) s) (viewed items) =
+      let gone : (so_far', s'') ≡ walked_parts declared form focus bound true (node_begun declared token form (viewed items)) (seen_begun declared token form (viewed items) s) (viewed items) =
       sym (ap (walked_parts declared form inner bound'' first so_far' s'') left) ∙ (goes ∙ (λ j. walked_parts declared form focus (binds j) true (begins j) (sees j) (viewed items))) in
       (λ j. node_ended declared focus (high j) (at j) form (map (λ part. part.0) items) (gone j))
-      ∙ (λ j. node_ended declared focus (length bound) (length s.parts) form (sym named j) (walked_parts declared form focus bound true (node_begun declared token form (sym named j)) (seen_begun declared token form (sym named j) s) (viewed items)))
+      ∙ (λ j. node_ended declared focus (length bound) (length s.parts) form (sym named j) (walked_parts declared form focus bound true (node_begun declared token form (viewed items)) (seen_begun declared token form (viewed items) s) (viewed items)))
 
 -- what the call behind the parts leaves as it was before them
 pub kept-behind : {X E V : Type 0} (r : Result X E) (outer before after : V) → before ≡ outer → OnOk r (after ≡ before) → OnOk r (after ≡ outer)

@@ -64,6 +64,7 @@ value_kinds f.Empty argument = booleans
 value_kinds f.Contains argument = booleans
 value_kinds f.StartsWith argument = booleans
 value_kinds f.EndsWith argument = booleans
+value_kinds f.Matches argument = booleans
 value_kinds f.XsBoolean argument = booleans
 value_kinds f.XsDate argument = dates
 value_kinds _ argument = strings

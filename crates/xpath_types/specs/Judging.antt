@@ -21,6 +21,10 @@ use Rattle.xpath_grammar.specs.declared.expr.Form.{Form}
 use Rattle.xpath_grammar.specs.declared.expr.Form.TheVariants as m
 use Rattle.xpath_grammar.specs.declared.expr.Label.{Label}
 use Rattle.xpath_grammar.specs.declared.expr.Label.TheVariants as k
+use Rattle.xpath_grammar.specs.declared.functions.Function.TheVariants as f
+use Rattle.xsd_pattern.specs.declared.fault.PatternFault.{PatternFault}
+use Rattle.xsd_pattern.specs.declared.fault.PatternFault.TheVariants as d
+use Rattle.xsd_pattern.specs.Matching.{fault_of}
 use Rattle.xpath_types.specs.declared.fault.TypeKind.{TypeKind}
 use Rattle.xpath_types.specs.declared.fault.TypeKind.TheVariants as r
 use Rattle.xpath_types.specs.declared.functions.Resolved.{Resolved}
@@ -143,6 +147,48 @@ form_refusals declared (m.Cast word type optional) labels = type_refusals (type_
 form_refusals declared m.Call labels = argument_refusals declared labels
 form_refusals declared _ labels = []
 
+-- Patterns
+
+abbrev pub is_matches : Resolved → Bool
+is_matches (n.Known f.Matches) = true
+is_matches _ = false
+
+-- why a text is no pattern that is taken
+abbrev pub fault_refusals : Option PatternFault → List TypeKind
+fault_refusals None = []
+fault_refusals (Some d.Bad) = r.BadPattern ∷ []
+fault_refusals (Some d.TooLarge) = r.PatternTooLarge ∷ []
+fault_refusals (Some d.Memory) = []
+
+unfoldable pub literal_refusals : List ℕ → List TypeKind
+literal_refusals text = fault_refusals (fault_of text)
+
+-- what is wrong with the pattern of `matches`
+abbrev pub pattern_kinds : Tree → List TypeKind
+pattern_kinds (g.leaf (l.Literal text)) = literal_refusals text
+pattern_kinds _ = r.NotLiteral ∷ []
+
+-- the number of the first token of a call's second argument, behind the function's name and a parenthesis
+abbrev pub second_token : ℕ → Tree → Label → ℕ
+second_token at argument label = ((at + 2) + length (g.written argument)) + length (g.label_tokens label)
+
+abbrev pub calls_matches : Declared → Label → Bool
+calls_matches declared (k.Calling name) = is_matches (function_called declared name)
+calls_matches declared _ = false
+
+-- what is wrong with the pattern of a call, which stands at the pattern's own first token
+abbrev pub pattern_refusals : Declared → ℕ → Parts → List Refusal
+pattern_refusals declared at (g.more called argument (g.more label pattern parts)) = elim (calls_matches declared called) [
+  | true ↦ standing_at (second_token at argument label) (pattern_kinds pattern)
+  | false ↦ []
+]
+pattern_refusals declared at parts = []
+
+-- what is refused of an expression itself: its names, and its pattern where it is a call of `matches`
+abbrev pub own_refusals : Declared → ℕ → Form → Parts → List Refusal
+own_refusals declared at m.Call parts = standing_at at (form_refusals declared m.Call (labels parts)) ++ pattern_refusals declared at parts
+own_refusals declared at form parts = standing_at at (form_refusals declared form (labels parts))
+
 -- the focus of a part: steps behind the first are taken at nodes
 abbrev pub focus_inside : Form → Label → Kinds → Kinds
 focus_inside (m.Chain p.Path) (k.Link operator) focus = nodes
@@ -243,15 +289,15 @@ with_operand form label last token judged others = record {
   refusals = judged.refusals ++ (operand_refusals form last token judged.kinds ++ others.refusals);
 }
 
-abbrev pub node_judged : Environment → ℕ → Form → List Label → Operands → Judged
-node_judged env at form labels operands = concluded (form_kinds env.declared form operands.kinds)
-    (standing_at at (form_refusals env.declared form labels) ++ operands.refusals)
+abbrev pub node_judged : Environment → ℕ → Form → Parts → Operands → Judged
+node_judged env at form parts operands = concluded (form_kinds env.declared form operands.kinds)
+    (own_refusals env.declared at form parts ++ operands.refusals)
 
 unfoldable mutual
   -- an expression whose first token has the number
   pub judged : Environment → ℕ → Tree → Judged
   judged env at (g.leaf x) = concluded (leaf_kinds env x) (standing_at at (leaf_refusals env x))
-  judged env at (g.node form parts) = node_judged env at form (labels parts) (operands env form at parts)
+  judged env at (g.node form parts) = node_judged env at form parts (operands env form at parts)
 
   -- parts of an expression, the first of which begins with the number's token
   pub operands : Environment → Form → ℕ → Parts → Operands

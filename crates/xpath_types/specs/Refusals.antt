@@ -10,7 +10,10 @@ order r.UndeclaredVariable = 1
 order r.UnknownFunction = 2
 order r.UnknownType = 3
 order r.WrongArity = 4
-order r.SureTypeError = 5
+order r.NotLiteral = 5
+order r.BadPattern = 6
+order r.PatternTooLarge = 7
+order r.SureTypeError = 8
 
 abbrev pub is_before : Refusal → Refusal → Bool
 is_before a b = nat_lt a.token b.token || (nat_eq a.token b.token && nat_lt (order a.kind) (order b.kind))

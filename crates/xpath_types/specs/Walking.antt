@@ -27,7 +27,7 @@ use Rattle.xpath_types.specs.Scopes.{Declared, written_name}
 use Rattle.xpath_types.specs.Functions.{function_called, type_named}
 use Rattle.xpath_types.specs.Variables.{innermost}
 use Rattle.xpath_types.specs.Refusals.{first_of}
-use Rattle.xpath_types.specs.Judging.{Environment, is_empty, standing_at, leaf_kinds, leaf_refusals, call_refusals, cast_kinds, labels, variables_behind, form_refusals, focus_inside, focus_behind, operand_refusals, is_sure_error, is_last, called_kinds}
+use Rattle.xpath_types.specs.Judging.{Environment, is_empty, standing_at, leaf_kinds, leaf_refusals, call_refusals, cast_kinds, labels, variables_behind, form_refusals, own_refusals, focus_inside, focus_behind, operand_refusals, is_sure_error, is_last, called_kinds}
 use Rattle.xpath_types.specs.Parts.{no_uses, joined, leaf_uses, has_outer_focus, begins_at_root, uses_any, is_document_alone}
 
 -- Variables
@@ -130,16 +130,16 @@ leaf_walked declared focus bound token s x = (
 )
 
 -- before the parts of an expression
-abbrev pub node_begun : Declared → ℕ → Form → List Label → Walked
-node_begun declared token form labels = record {
-  facts = record { kinds = no_kinds; refused = not (is_empty (form_refusals declared form labels)); uses = record no_uses { root = begins_at_root form labels }; lowest = None };
+abbrev pub node_begun : Declared → ℕ → Form → Parts → Walked
+node_begun declared token form parts = record {
+  facts = record { kinds = no_kinds; refused = not (is_empty (own_refusals declared token form parts)); uses = record no_uses { root = begins_at_root form (labels parts) }; lowest = None };
   end = token;
 }
 
-abbrev pub seen_begun : Declared → ℕ → Form → List Label → Seen → Seen
-seen_begun declared token form labels s = record {
+abbrev pub seen_begun : Declared → ℕ → Form → Parts → Seen → Seen
+seen_begun declared token form parts s = record {
   parts = s.parts ++ unknown ∷ [];
-  first = first_of s.first (standing_at token (form_refusals declared form labels));
+  first = first_of s.first (own_refusals declared token form parts);
 }
 
 -- behind a part of an expression
@@ -198,7 +198,7 @@ unfoldable mutual
   pub walked : Declared → Kinds → List (List ℕ × Kinds) → ℕ → Seen → Tree → Walked × Seen
   walked declared focus bound token s (g.leaf x) = leaf_walked declared focus bound token s x
   walked declared focus bound token s (g.node form parts) = node_ended declared focus (length bound) (length s.parts) form (labels parts)
-      (walked_parts declared form focus bound true (node_begun declared token form (labels parts)) (seen_begun declared token form (labels parts) s) parts)
+      (walked_parts declared form focus bound true (node_begun declared token form parts) (seen_begun declared token form parts s) parts)
 
   pub walked_parts : Declared → Form → Kinds → List (List ℕ × Kinds) → Bool → Walked → Seen → Parts → Walked × Seen
   walked_parts declared form focus bound first so_far s g.none = (so_far, s)

@@ -11,6 +11,12 @@ pub enum TypeKind {
     UnknownType,
     /// A function with more or fewer arguments than it takes.
     WrongArity,
+    /// A pattern of `matches` that isn't one string literal.
+    NotLiteral,
+    /// A literal that is no pattern.
+    BadPattern,
+    /// A pattern of more than 2,000 characters, repeats counted out.
+    PatternTooLarge,
     /// An operand whose every item is of a kind that its operator refuses.
     SureTypeError,
 }

@@ -75,6 +75,7 @@ fn value_kinds(function: Function, argument: Kinds) -> Kinds
         | Function::Contains
         | Function::StartsWith
         | Function::EndsWith
+        | Function::Matches
         | Function::XsBoolean => BOOLEANS,
         Function::XsDate => DATES,
         _ => STRINGS,

@@ -21,7 +21,10 @@ fn order(kind: TypeKind) -> u8
         TypeKind::UnknownFunction => 2,
         TypeKind::UnknownType => 3,
         TypeKind::WrongArity => 4,
-        TypeKind::SureTypeError => 5,
+        TypeKind::NotLiteral => 5,
+        TypeKind::BadPattern => 6,
+        TypeKind::PatternTooLarge => 7,
+        TypeKind::SureTypeError => 8,
     }
 }
 

@@ -1,18 +1,20 @@
 //! The walk over an expression that judges it.
 ghost use Rattle.std.specs.Prelude.{◌≡◌, ◌≤◌, ◌<◌, ◌+◌, ◌==◌, map, length, IfOk, OnOk};
 ghost use Rattle.xpath_grammar.specs.Grammar.{label_tokens};
-ghost use Rattle.xpath_grammar.specs.View.{view};
+ghost use Rattle.xpath_grammar.specs.View.{view, viewed};
 ghost use Rattle.xpath_types.specs.Judging.{is_sure_error};
 ghost use Rattle.xpath_types.specs.Walking as spec;
 
 use crate::facts::Facts;
 use crate::forms::{
     begins_at_root, closing_length, focus_behind, focus_inside, is_sure_error, kinds_concluded,
-    label_length, refuse_names, refuse_operand, with_part,
+    label_length, refuse_operand, with_part,
 };
 use crate::kinds::{Kinds, NO_KINDS};
 use crate::leaves::{judge_leaf, leaf_length};
 use crate::part::Part;
+use crate::patterns::refuse_own;
+use crate::places::further;
 use crate::refusals::Refusal;
 use crate::scope::Scope;
 use crate::uses::Uses;
@@ -46,20 +48,6 @@ const UNKNOWN: Part = Part {
     uses_position: false,
     depends_on_document_alone: false,
 };
-
-/// The number of a token further on. A number of 32 bits serves each text that has tokens; a longer
-/// expression, which no text spells, is refused as where memory runs out, and no number wraps.
-fn further(token: u32, count: usize) -> Result<u32, AllocError>
-    ensures { IfOk result (λ further. further ≡ token + count) }
-{
-    let Ok(count) = u32::try_from(count) else {
-        return Err(AllocError);
-    };
-    match token.checked_add(count) {
-        Some(further) => Ok(further),
-        None => Err(AllocError),
-    }
-}
 
 /// The number of the first token of the part behind the label.
 fn start_of(so_far: Walked, label: &Label) -> Result<u32, AllocError>
@@ -113,7 +101,7 @@ pub(crate) fn walk(
             let parts = parts.as_slice();
             let index = state.parts.len();
             let height = state.variables.len();
-            let mut so_far = begin(scope, state, token, form, parts)?;
+            let mut so_far = begin(alloc, scope, state, token, form, parts)?;
             let mut inner = focus;
             'parts: for (i, part) in parts.iter().enumerate() {
                 let start = start_of(so_far, &part.0)?;
@@ -158,20 +146,21 @@ fn walk_leaf(
     Ok(Walked { facts, end })
 }
 
-/// Puts the part in its place, and refuses the names that the expression itself has.
+/// Puts the part in its place, and refuses what is wrong with the expression itself.
 fn begin(
+    alloc: Global,
     scope: &Scope,
     state: &mut State,
     token: u32,
     form: &Form,
     parts: &[(Label, Expr)],
 ) -> Result<Walked, AllocError>
-    ensures walked { IfOk result (λ walked. walked ≡ spec.node_begun scope.now token form.now (map (λ part. part.0) parts.now)) }
-    ensures seen { OnOk result (spec.seen state.new ≡ spec.seen_begun scope.now token form.now (map (λ part. part.0) parts.now) (spec.seen state.old)) }
+    ensures walked { IfOk result (λ walked. walked ≡ spec.node_begun scope.now token form.now (viewed parts.now)) }
+    ensures seen { OnOk result (spec.seen state.new ≡ spec.seen_begun scope.now token form.now (viewed parts.now) (spec.seen state.old)) }
     ensures kept { OnOk result (state.new.variables ≡ state.old.variables) }
 {
     state.parts.push(UNKNOWN)?;
-    let refused = refuse_names(scope, &mut state.first, token, form, parts);
+    let refused = refuse_own(alloc, scope, &mut state.first, token, form, parts)?;
     let facts = Facts {
         kinds: NO_KINDS,
         refused,

@@ -4,3 +4,4 @@ pub mod JoinLemmas
 pub mod PieceLemmas
 pub mod PlaceLemmas
 pub mod TotalLemmas
+pub mod PatternLemmas

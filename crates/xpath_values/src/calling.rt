@@ -14,7 +14,7 @@ use crate::distinguishing::distinct_values;
 use crate::domains::Domain;
 use crate::joining::{concat, string_join};
 use crate::names::{local_name, local_name_at, namespace_uri, namespace_uri_at};
-use crate::{numbers, sequences, texts, totals};
+use crate::{numbers, patterns, sequences, texts, totals};
 use node_arena::Doc;
 use std::alloc::{AllocError, Global};
 use xpath_grammar::functions::Function;
@@ -187,6 +187,7 @@ fn called_with_two<'a>(
         Function::Contains => texts::contains(alloc, doc, x, y),
         Function::StartsWith => texts::starts_with(alloc, doc, x, y),
         Function::EndsWith => texts::ends_with(alloc, doc, x, y),
+        Function::Matches => patterns::matches(alloc, doc, x, y),
         Function::SubstringBefore => texts::substring_before(alloc, doc, x, y),
         Function::SubstringAfter => texts::substring_after(alloc, doc, x, y),
         _ => Err(Fault::Error(DynError::XPTY0004)),

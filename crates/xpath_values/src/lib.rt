@@ -11,6 +11,7 @@ mod finding;
 mod joining;
 mod names;
 mod numbers;
+mod patterns;
 mod places;
 mod pushing;
 mod sequences;
@@ -20,3 +21,4 @@ mod totals;
 mod translating;
 
 pub use calling::call;
+pub use patterns::found;

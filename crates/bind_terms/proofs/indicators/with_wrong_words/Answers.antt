@@ -1,7 +1,7 @@
 use Rattle.std.proofs.Common.{option_map, arith}
 use Rattle.node_arena.specs.Moves.{tree_nodes}
 use Rattle.bind_terms.specs.Faults.{found_of}
-use Rattle.bind_terms.proofs.Words.{worded-none, worded-more, worded-all}
+use Rattle.bind_terms.proofs.WordLemmas.{worded-none, worded-more, worded-all}
 use Rattle.bind_terms.proofs.indicators.with_wrong_words.Goals as goal
 
 pub indicators-init : goal.indicators-init

@@ -1,7 +1,7 @@
 use Rattle.std.proofs.Common.{option_map}
 use Rattle.node_arena.specs.Moves.{tree_nodes}
 use Rattle.bind_terms.specs.Faults.{found_of}
-use Rattle.bind_terms.proofs.Words.{Worded}
+use Rattle.bind_terms.proofs.WordLemmas.{Worded}
 use Rattle.bind_terms.proofs.indicators.with_wrong_words.Given as goal
 
 abbrev pub invariant-indicators : goal.invariant-indicators

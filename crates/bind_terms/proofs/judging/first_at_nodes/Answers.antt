@@ -4,7 +4,7 @@ use Rattle.std.specs.Borrow.{Bor}
 use Rattle.std.proofs.lemmas.Result.{IfOk-weaker}
 use Rattle.node_arena.specs.Document.{Document}
 use Rattle.node_arena.specs.Moves.{tree_nodes}
-use Rattle.bind_faults.proofs.NodeLists.{ordered, long}
+use Rattle.bind_terms.proofs.NodeLists.{ordered, long}
 use Rattle.bind_terms.specs.Faults.{found_of}
 use Rattle.bind_terms.proofs.Final.{standing, picks-within, indicators-within, picks-rowed, indicators-rowed}
 use Rattle.bind_terms.proofs.judging.first_at_nodes.Goals as goal

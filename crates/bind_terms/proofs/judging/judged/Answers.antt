@@ -2,7 +2,7 @@ use Rattle.std.proofs.Common.{◌<◌, length, option_map, sym, ◌∙◌, subst
 use Rattle.std.proofs.lemmas.Result.{IfOk-weaker}
 use Rattle.node_arena.specs.Document.{Document}
 use Rattle.node_arena.specs.Moves.{tree_nodes}
-use Rattle.bind_faults.proofs.NodeLists.{ordered, long}
+use Rattle.bind_terms.proofs.NodeLists.{ordered, long}
 use Rattle.bind_terms.specs.Faults.{found_of}
 use Rattle.bind_terms.specs.Passes.{IsVerdict}
 use Rattle.bind_terms.proofs.Final.{picks-within, in-order, firsts-fit, told-verdict}

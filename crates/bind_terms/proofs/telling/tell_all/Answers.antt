@@ -3,7 +3,7 @@ use Rattle.std.specs.Str.{chars}
 use Rattle.std.specs.Borrow.{Bor}
 use Rattle.node_arena.specs.Moves.{tree_nodes}
 use Rattle.bind_terms.specs.Faults.{found_of}
-use Rattle.bind_values.specs.Sayings.{said_of, all_said}
+use Rattle.bind_terms.specs.Sayings.{said_of, all_said}
 use Rattle.bind_terms.proofs.Pass.{tells-same, tells-both}
 use Rattle.bind_terms.proofs.telling.tell_all.Goals as goal
 

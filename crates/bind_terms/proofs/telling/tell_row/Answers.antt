@@ -3,7 +3,7 @@ use Rattle.std.specs.Str.{chars}
 use Rattle.std.specs.Borrow.{Bor}
 use Rattle.node_arena.specs.Moves.{tree_nodes}
 use Rattle.bind_terms.specs.Faults.{found_of}
-use Rattle.bind_values.specs.Sayings.{all_said}
+use Rattle.bind_terms.specs.Sayings.{all_said}
 use Rattle.bind_terms.proofs.Pass.{tells-by-row}
 use Rattle.bind_terms.proofs.telling.tell_row.Goals as goal
 

@@ -1,5 +1,5 @@
 use Rattle.std.proofs.Common.{◌≡◌, ◌++◌, List, [], ap, ◌∙◌}
-use Rattle.bind_lines.specs.Picks.{walked}
+use Rattle.bind_table.specs.Picks.{walked}
 use Rattle.bind_walk.specs.declared.walk.Find.{Find}
 use Rattle.bind_walk.specs.Walks.{sight}
 use Rattle.bind_walk.proofs.picks.find_all.Goals as goal

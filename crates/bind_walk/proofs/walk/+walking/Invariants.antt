@@ -1,5 +1,5 @@
 use Rattle.std.proofs.Common.{◌+◌, ◌*◌, length}
-use Rattle.bind_guards.specs.Chains.{still}
+use Rattle.bind_walk.specs.Chains.{still}
 use Rattle.bind_walk.proofs.WalkLemmas.{Left, Inside}
 use Rattle.bind_walk.proofs.walk.+walking.Given as goal
 

@@ -1,7 +1,7 @@
 use Rattle.std.proofs.Common.{◌≡◌, ◌++◌}
 use Rattle.std.specs.List.{flat_map}
 use Rattle.node_arena.specs.Moves.{is_attribute_of}
-use Rattle.bind_guards.specs.Chains.{numbers_from, IsAt, still}
+use Rattle.bind_walk.specs.Chains.{numbers_from, IsAt, still}
 use Rattle.bind_walk.specs.Walks.{found_attribute, found_attributes}
 use Rattle.bind_walk.proofs.walk.pick_attributes.Given as goal
 

@@ -1,9 +1,15 @@
 use Rattle.binding_laws.proofs.PlacedLemmas.{contains-among}
-use Rattle.carrying_laws.proofs.ConditionLemmas.{carried-keeps, part-kept, creditor-kept, filler-kept, note-kept, code-kept, means-kept, currency-kept}
+use Rattle.carrying_laws.proofs.ConditionLemmas.{carried-keeps, carried-entries, entries-keep, model-kept, part-kept, creditor-kept, filler-kept, note-kept, code-kept, means-kept, currency-kept}
 use Rattle.carrying_laws.proofs.laws.carried_invoices_meet_each_condition.Goals as goal
 
 pub returns-clause-carried : goal.returns-clause-carried
 returns-clause-carried c = carried-keeps
+
+pub returns-clause-entries : goal.returns-clause-entries
+returns-clause-entries c = carried-entries
+
+pub returns-clause-fails : goal.returns-clause-fails
+returns-clause-fails c = entries-keep
 
 pub returns-clause-part : goal.returns-clause-part
 returns-clause-part c = λ rows es e keeps known. part-kept rows es keeps e (contains-among e es known)
@@ -25,3 +31,6 @@ returns-clause-means c = λ rows es e keeps known. means-kept rows es keeps e (c
 
 pub returns-clause-currency : goal.returns-clause-currency
 returns-clause-currency c = λ rows es e keeps known. currency-kept rows es keeps e (contains-among e es known)
+
+pub returns-clause-placed : goal.returns-clause-placed
+returns-clause-placed c = λ rows es e carried known. model-kept rows es carried e (contains-among e es known)

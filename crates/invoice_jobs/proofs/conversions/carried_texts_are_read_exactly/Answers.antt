@@ -3,4 +3,4 @@ use Rattle.invoice_jobs.proofs.conversions.carried_texts_are_read_exactly.Goals 
 
 pub returns : goal.returns
 returns c =
-    written-read c.carried_invoices_are_read_by_their_tables.ensures.valid c.carried_invoices_meet_each_condition.ensures.carried c.carried_invoices_are_read_exactly.ensures
+    written-read c.carried_invoices_are_read_by_their_tables.ensures.valid c.carried_invoices_meet_each_condition.ensures.entries c.carried_invoices_are_read_exactly.ensures

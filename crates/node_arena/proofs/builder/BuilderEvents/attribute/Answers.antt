@@ -1,22 +1,11 @@
-use Rattle.std.proofs.Common.{refl, ap, ◌∙◌, arith}
+use Rattle.std.proofs.Common.{subst}
+use Rattle.std.specs.Str.{chars}
 use Rattle.xml_state.specs.Events.{has_attribute}
-use Rattle.node_arena.specs.Document.{after, last_place}
-use Rattle.node_arena.specs.Slots.{kept}
-use Rattle.node_arena.proofs.BuiltLemmas.{Takes-after}
-use Rattle.node_arena.proofs.BuilderLemmas.{attributed}
-use Rattle.node_arena.proofs.GrowingLemmas.{growing-more, path-more, kept-more}
+use Rattle.node_arena.specs.Document.{Builds}
+use Rattle.node_arena.proofs.BuiltLemmas.{takes-builds}
 use Rattle.node_arena.proofs.builder.BuilderEvents.attribute.Goals as goal
-
-pub invariant_of-self-2 : goal.invariant_of-self-2
-invariant_of-self-2 c =
-    growing-more _ _ _ _ _ _ c.in_ok-settle_text.ensures.growing refl c.push_within.ensures.items c.push_within-2.ensures.items (omega (arith, c.len-number.ensures, c.settle_text.new.nodes.ok.0))
 
 pub returns : goal.returns
 returns c =
-    let so_far = c.in_ok-settle_text.ensures.nodes in
-    let inside = c.in_ok-settle_text.ensures.around in
-    let pushed = kept-more _ _ _ _ _ _ c.in_ok-settle_text.ensures.growing refl c.push_within.ensures.items c.push_within-2.ensures.items (omega (arith, c.len-number.ensures, c.settle_text.new.nodes.ok.0)) in
-    let around = path-more _ _ _ _ _ _ c.in_ok-settle_text.ensures.growing refl c.push_within.ensures.items c.push_within-2.ensures.items (omega (arith, c.len-number.ensures, c.settle_text.new.nodes.ok.0)) in
-    let at = c.last_place.ensures ∙ ap (λ slots. last_place (kept slots)) c.deref.ensures.value in
-    Takes-after _ _ _ (attributed _ _ _ _ _ _ _ _ _ _ so_far inside pushed c.in_ok-value.ensures at around
-    ∙ ap (after (has_attribute c.args.name _)) c.self.view_is)
+    takes-builds c.attribute_lent.result _ _ _
+    (subst (λ value. Builds c.attribute_lent.result (has_attribute c.args.name (chars value)) c.args.self.now c.attribute_lent.new.self) c.in_ok-value.ensures c.attribute_lent.ensures)

@@ -1,8 +1,0 @@
-use Rattle.std.proofs.Common.{◌≡◌, drop, map}
-use Rattle.node_arena.specs.Moves.{tree_nodes}
-use Rattle.bind_meaning.specs.Currencies.{first_full}
-use Rattle.bind_faults.specs.Kinds.{trimmed_at}
-use Rattle.bind_faults.proofs.currency.is_other_currency.Given as goal
-
-abbrev pub invariant-found : goal.invariant-found
-invariant-found g l = first_full (map (trimmed_at (tree_nodes l.doc)) (drop l.m-index l.found)) ≡ first_full (map (trimmed_at (tree_nodes l.doc)) l.found)

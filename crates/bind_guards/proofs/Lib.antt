@@ -1,4 +1,0 @@
-pub mod ChainLemmas
-pub mod TrimLemmas
-pub mod LoopLemmas
-pub mod NameLemmas

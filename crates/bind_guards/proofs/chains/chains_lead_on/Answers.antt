@@ -1,5 +1,0 @@
-use Rattle.bind_guards.proofs.ChainLemmas.{chained}
-use Rattle.bind_guards.proofs.chains.chains_lead_on.Goals as goal
-
-pub returns : goal.returns
-returns c = chained _ c.is_of_a_tree.ensures.numbers

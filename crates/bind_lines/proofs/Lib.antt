@@ -1,6 +1,0 @@
-pub mod SameLemmas
-pub mod PickLemmas
-pub mod EndLemmas
-pub mod NumberLemmas
-pub mod FrontLemmas
-pub mod PathLemmas

@@ -1,5 +1,0 @@
-use Rattle.bind_lines.proofs.FrontLemmas.{one-element}
-use Rattle.bind_lines.proofs.laws.groups_have_one_element.Goals as goal
-
-pub returns : goal.returns
-returns c = one-element

@@ -1,5 +1,0 @@
-use Rattle.bind_lines.proofs.NumberLemmas.{places-rise}
-use Rattle.bind_lines.proofs.laws.occurrences_have_no_gap.Goals as goal
-
-pub returns : goal.returns
-returns c = places-rise

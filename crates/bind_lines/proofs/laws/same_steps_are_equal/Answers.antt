@@ -1,5 +1,0 @@
-use Rattle.bind_lines.proofs.SameLemmas.{step-sound}
-use Rattle.bind_lines.proofs.laws.same_steps_are_equal.Goals as goal
-
-pub returns : goal.returns
-returns c = step-sound

@@ -1,6 +1,0 @@
-use Rattle.std.proofs.Common.{◌≡◌, take, map}
-use Rattle.bind_listing.specs.Items.{name_of}
-use Rattle.bind_listing.proofs.conditions.names_of.Given as goal
-
-abbrev pub invariant-tags : goal.invariant-tags
-invariant-tags l = l.names ≡ map name_of (take l.tag-index l.tags)

@@ -1,0 +1,170 @@
+//! The first cause of a fault at a node, in the order of their kinds.
+ghost use Rattle.std.specs.Prelude.{◌≡◌, ◌<◌, ◌||◌, length, chars, IfOk, is_none, option_map, option_copied, option_and_then};
+ghost use Rattle.term_table.specs.SemanticModel.{same_term};
+ghost use Rattle.inv_terms.specs.Validity as lacks;
+ghost use Rattle.node_arena.specs.Moves.{tree_nodes};
+ghost use Rattle.bind_meaning.specs.Judging as spec;
+ghost use Rattle.bind_terms.specs.Sayings.{said_of};
+ghost use Rattle.bind_terms.specs.Kinds as kinds;
+
+use crate::Said;
+use crate::checks::breaks;
+use crate::currency::differs;
+use crate::insides::has_element_inside;
+use bind_meaning::{BindKind, letter_of};
+use bind_rows::{Check, Repeats, Row, Written};
+use code_lists::CodeLists;
+use inv_base::Steps;
+use inv_terms::Value;
+use node_arena::{Doc, NodeId};
+use std::alloc::{AllocError, Global};
+use std::sync::ledger::Ledger;
+use term_table::{Context, Letter, Term, list_in};
+
+/// What is wrong, if anything, with a value that a row says at a node in a context: the first cause in the order of the
+/// kinds. `first` is what the first pick of the term in the context said, where this isn't the first. An amount is
+/// compared with the currency of the invoice, unless it is the VAT total in the accounting currency.
+pub fn first_cause<L: Ledger>(
+    alloc: Global,
+    doc: &Doc<'_>,
+    lists: &CodeLists,
+    invoice_currency: Option<&str>,
+    row: &Row,
+    n: NodeId,
+    context: Context,
+    first: Option<&Said>,
+    said: &Said,
+    steps: &mut Steps<L>,
+) -> Result<Option<BindKind>, AllocError>
+    requires { n < length doc.now.nodes }
+    ensures { IfOk result (λ kind. kind ≡ kinds.kind_of (tree_nodes doc.now) lists.now (option_map (λ text. chars text.now) invoice_currency.entry)
+        row.now n context (option_map said_of (option_copied first.entry)) (said_of said.now)) }
+{
+    if first.is_some() && !may_repeat(row.repeats) {
+        return Ok(Some(BindKind::Excess));
+    }
+    if has_element_inside(doc, n, steps) {
+        return Ok(Some(BindKind::ElementInValue));
+    }
+    if is_bad(alloc, doc, row.check, n, said, steps)? {
+        return Ok(Some(BindKind::BadValue));
+    }
+    if is_not_listed(lists, context, said) {
+        return Ok(Some(BindKind::CodeNotListed));
+    }
+    if is_foreign(alloc, doc, invoice_currency, row, n, said.term, steps)? {
+        return Ok(Some(BindKind::CurrencyDiffers));
+    }
+    if is_disagreeing(first, said) {
+        return Ok(Some(BindKind::Disagree));
+    }
+    Ok(None)
+}
+
+fn may_repeat(repeats: Repeats) -> bool
+    ensures { result ≡ spec.may_repeat repeats }
+{
+    match repeats {
+        Repeats::Once => false,
+        Repeats::Agreeing | Repeats::Spread => true,
+    }
+}
+
+// Whether the string is no value, or the node breaks what its row checks.
+fn is_bad<L: Ledger>(
+    alloc: Global,
+    doc: &Doc<'_>,
+    check: Check,
+    n: NodeId,
+    said: &Said,
+    steps: &mut Steps<L>,
+) -> Result<bool, AllocError>
+    requires { n < length doc.now.nodes }
+    ensures { IfOk result (λ bad. bad ≡ (is_none said.now.value || spec.breaks (tree_nodes doc.now) check n)) }
+{
+    if said.value.is_none() {
+        return Ok(true);
+    }
+    breaks(alloc, doc, check, n, steps)
+}
+
+// Whether the value is a code that isn't in the term's list.
+fn is_not_listed(lists: &CodeLists, context: Context, said: &Said) -> bool
+    ensures { result ≡ kinds.is_not_listed lists.now context (said_of said.now) }
+{
+    match &said.value {
+        Some(value) => is_outside(lists, said.term, context, value),
+        None => false,
+    }
+}
+
+fn is_outside(lists: &CodeLists, term: Term, context: Context, value: &Value) -> bool
+    ensures { result ≡ lacks.is_outside lists.now (lacks.list_of term context) (lacks.code_in value.now) }
+{
+    match list_in(term, context.outer_group(), context.inner_group()) {
+        None => false,
+        Some(list) => match value {
+            Value::Code(code) => !lists.allows(list, code.as_str()),
+            Value::Text(_) => false,
+            Value::Identifier(_) => false,
+            Value::Amount(_) => false,
+            Value::Quantity(_) => false,
+            Value::Percent(_) => false,
+            Value::Date(_) => false,
+            Value::Base64(_) => false,
+        },
+    }
+}
+
+fn is_amount(term: Term) -> bool
+    ensures { result ≡ spec.is_amount term }
+{
+    matches!(letter_of(term), Some(Letter::A))
+}
+
+fn is_accounting_total(written: &Written) -> bool
+    ensures { result ≡ kinds.is_accounting_total written.now }
+{
+    matches!(written, Written::AccountingVatTotal)
+}
+
+// Whether the amount is in another currency than the invoice, where that isn't right.
+fn is_foreign<L: Ledger>(
+    alloc: Global,
+    doc: &Doc<'_>,
+    invoice_currency: Option<&str>,
+    row: &Row,
+    n: NodeId,
+    term: Term,
+    steps: &mut Steps<L>,
+) -> Result<bool, AllocError>
+    requires { n < length doc.now.nodes }
+    ensures { IfOk result (λ foreign. foreign ≡ kinds.is_foreign (tree_nodes doc.now) (option_map (λ text. chars text.now) invoice_currency.entry) row.now n term) }
+{
+    if is_amount(term) && !is_accounting_total(&row.written) {
+        return differs(alloc, doc, invoice_currency, n, steps);
+    }
+    Ok(false)
+}
+
+// Whether the first pick of the term in the context said another value, or one of both said none.
+fn is_disagreeing(first: Option<&Said>, said: &Said) -> bool
+    ensures { result ≡ kinds.is_disagreeing (option_map said_of (option_copied first.entry)) (said_of said.now) }
+{
+    match first {
+        Some(first) => disagree(&first.value, &said.value),
+        None => false,
+    }
+}
+
+fn disagree(first: &Option<Value>, other: &Option<Value>) -> bool
+    ensures { result ≡ spec.disagree first.now other.now }
+{
+    match first {
+        Some(first) => match other {
+            Some(other) => !first.is_same(other),
+            None => false,
+        },
+        None => false,
+    }
+}

@@ -1,4 +1,0 @@
-pub mod Lacking
-pub mod Validity
-pub mod Opened
-pub mod Whole

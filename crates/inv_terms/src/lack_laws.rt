@@ -1,0 +1,28 @@
+//! Laws of what an invoice lacks. Each call does nothing: what it ensures is the law.
+
+ghost use Rattle.std.specs.Prelude.{◌≡◌, ◌↔◌, List, Some, None, false, Contains};
+ghost use Rattle.code_lists.specs.CodeFiles.{Lists};
+ghost use Rattle.term_table.specs.declared.contexts.Context.{Context};
+ghost use Rattle.term_table.specs.Places.{precedes};
+ghost use Rattle.inv_terms.specs.declared.entries.Entry.{Entry};
+ghost use Rattle.inv_terms.specs.declared.lacks.Lack.{Lack};
+ghost use Rattle.inv_terms.specs.Validity.{contexts, first_lack};
+ghost use Rattle.inv_terms.specs.Whole.{IsContextOf, IsLack, IsValid};
+
+/// The contexts of an invoice are the invoice itself and each occurrence of a group that stands in it.
+pub fn contexts_are_those_of_the_entries()
+    ensures { (es : List Entry) (c : Context) → (Contains (contexts es) c ↔ IsContextOf es c) }
+{}
+
+/// The first lack is one of the invoice's, and none of them comes before it.
+pub fn first_lacks_are_first()
+    ensures told { (es : List Entry) (lists : Lists) (lack : Lack) → first_lack es lists ≡ Some lack → IsLack es lists lack }
+    ensures first { (es : List Entry) (lists : Lists) (lack other : Lack)
+        → first_lack es lists ≡ Some lack → IsLack es lists other → precedes other.place lack.place ≡ false }
+{}
+
+/// An invoice has no first lack exactly where it is valid: each mandatory term of each group that is there stands, each
+/// group that has to stand at least once does, and each code is in its list.
+pub fn valid_invoices_lack_nothing()
+    ensures { (es : List Entry) (lists : Lists) → ((first_lack es lists ≡ None) ↔ IsValid es lists) }
+{}

@@ -1,0 +1,68 @@
+//! The job that compares the totals of an invoice with what its other values make of them.
+ghost use Rattle.std.specs.Prelude.{◌≡◌, option_map};
+ghost use Rattle.inv_base.specs.Outside.{ShelfView, SinkView};
+ghost use Rattle.inv_totals.specs.Totals as totals;
+ghost use Rattle.job_course.specs.Runs.{Runs};
+ghost use Rattle.job_course.specs.Views.{text_of};
+ghost use Rattle.invoice_jobs.specs.Totals.{status_by, totalled, totals_course};
+
+use crate::invoices::load;
+use inv_base::{Shelf, Sink};
+use inv_terms::Invoice;
+use inv_totals::{Differences, differences, write_differences};
+use job_course::Status;
+use std::alloc::Global;
+
+/// Lists each total of an invoice that isn't what its other values make of it, and how many they are.
+pub fn totals<S: Shelf, O: Sink, E: Sink>(
+    alloc: Global,
+    codes_file: Option<&str>,
+    file: &str,
+    shelf: &mut S,
+    out: &mut O,
+    err: &mut E,
+) -> Status
+    ensures { Runs (totals_course (option_map text_of codes_file.entry) file.now)
+        (record { shelf = S.view shelf.old; out = O.view out.old; err = E.view err.old })
+        (record { shelf = S.view shelf.new; out = O.view out.new; err = E.view err.new }) result }
+{
+    match load(alloc, codes_file, file, shelf, err) {
+        Ok(loaded) => write_totals(alloc, &loaded.read.invoice, out),
+        Err(status) => status,
+    }
+}
+
+/// Writes the differences of an invoice; nothing is written before all are found.
+fn write_totals<O: Sink>(alloc: Global, i: &Invoice, out: &mut O) -> Status
+    ensures { (shelf : ShelfView) (err : SinkView) → Runs (totalled (totals.differences i.now))
+        (record { shelf = shelf; out = O.view out.old; err = err })
+        (record { shelf = shelf; out = O.view out.new; err = err }) result }
+{
+    match differences(alloc, i) {
+        Ok(found) => write_found(&found, out),
+        Err(_) => Status::Memory,
+    }
+}
+
+/// Writes differences; it takes no memory.
+fn write_found<O: Sink>(found: &Differences, out: &mut O) -> Status
+    ensures { (shelf : ShelfView) (err : SinkView) → Runs (totalled found.now)
+        (record { shelf = shelf; out = O.view out.old; err = err })
+        (record { shelf = shelf; out = O.view out.new; err = err }) result }
+{
+    match write_differences(found, out) {
+        Ok(()) => status_of(found),
+        Err(_) => Status::WriteFault,
+    }
+}
+
+/// The status where they were written.
+fn status_of(found: &Differences) -> Status
+    ensures { result ≡ status_by (totals.is_nothing found.now) }
+{
+    if found.is_empty() {
+        Status::Done
+    } else {
+        Status::Findings
+    }
+}

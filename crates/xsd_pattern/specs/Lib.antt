@@ -1,0 +1,14 @@
+pub mod Classes
+pub mod Cuts
+pub mod Grammar
+pub mod Spelling
+pub mod Finding
+pub mod Lexing
+pub mod Machine
+pub mod Core
+pub mod Marks
+pub mod Matching
+pub mod Steps
+pub mod Parts
+pub mod States
+pub mod Compiling

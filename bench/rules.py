@@ -96,4 +96,5 @@ def main():
         judging(program, folder, runs)
 
 
-main()
+if __name__ == "__main__":
+    main()

@@ -1,18 +1,22 @@
 #!/usr/bin/env python3
-"""Compares the tables of crates and of definitions in docs/ with the crates' own first lines.
+"""Compares the tables of docs/ that are made of what stands elsewhere with it.
 
     python3 conformance/pages.py            prints each page whose table differs, and ends with 1 where one does
     python3 conformance/pages.py --write    writes the tables anew
 
 The table of crates in docs/ARCHITECTURE.md has what each root file says first, by the layers of crates.txt;
-docs/DEFINITIONS.md has what each module of each `specs/` says first.
+docs/DEFINITIONS.md has what each module of each `specs/` says first; the table of business rules in docs/STANDARDS.md has
+where each assertion of rules/ stands.
 """
 import pathlib
 import re
 import sys
+import xml.etree.ElementTree as tree
 
 ROOT = pathlib.Path(__file__).resolve().parent.parent
 BEGIN, END = "<!-- the crates' own first lines -->\n", "<!-- end -->\n"
+RULES = "<!-- the assertions of rules/ -->\n"
+SCHEMATRON = "{http://purl.oclc.org/dsdl/schematron}"
 HEAD = """# Definitions
 
 Each module of each crate's `specs/`, with what it says first. A definition stands in the lowest crate that can state
@@ -67,19 +71,56 @@ def definitions():
     return "\n".join(page)
 
 
-def architecture():
-    page = (ROOT / "docs" / "ARCHITECTURE.md").read_text(encoding="utf-8")
-    return re.sub(re.escape(BEGIN) + ".*?" + re.escape(END), lambda _: BEGIN + "\n" + crates() + "\n" + END, page, flags=re.S)
+def with_table(name, begin, table):
+    """A page of docs/ with the table between the mark and the next end."""
+    page = (ROOT / "docs" / name).read_text(encoding="utf-8")
+    return re.sub(re.escape(begin) + ".*?" + re.escape(END), lambda _: begin + "\n" + table + "\n" + END, page, flags=re.S)
+
+
+def put(text, given):
+    """A text of an abstract pattern with the parameters put in, the longest names first."""
+    for name in sorted(given, key=len, reverse=True):
+        text = text.replace("$" + name, given[name])
+    return " ".join(text.split())
+
+
+def assertions(syntax):
+    """Of each assertion its identifier, with the pattern and the context in which it stands and its severity."""
+    root = tree.parse(ROOT / "rules" / ("en16931-%s.sch" % syntax)).getroot()
+    patterns = root.findall(SCHEMATRON + "pattern")
+    by_name = {pattern.get("id"): pattern for pattern in patterns}
+    found = {}
+    for pattern in patterns:
+        if pattern.get("abstract") == "true":
+            continue
+        given = {it.get("name"): it.get("value") for it in pattern.findall(SCHEMATRON + "param")}
+        for rule in by_name[pattern.get("is-a", pattern.get("id"))].findall(SCHEMATRON + "rule"):
+            for it in rule.findall(SCHEMATRON + "assert"):
+                where = "%s: `%s`" % (pattern.get("id"), put(rule.get("context"), given).replace("|", "\\|"))
+                found[put(it.get("id"), given)] = (where, it.get("flag"))
+    return found
+
+
+def rules():
+    ubl, cii = assertions("ubl"), assertions("cii")
+    rows = ["| Rule | Severity | Pattern and context in rules/en16931-ubl.sch | in rules/en16931-cii.sch |", "|---|---|---|---|"]
+    rows += ["| %s | %s | %s | %s |" % (name, ubl[name][1], ubl[name][0], cii[name][0]) for name in sorted(ubl)]
+    return "\n".join(rows) + "\n"
 
 
 def main():
     fine = True
-    for name, text in (("ARCHITECTURE.md", architecture()), ("DEFINITIONS.md", definitions())):
+    pages = {
+        "ARCHITECTURE.md": with_table("ARCHITECTURE.md", BEGIN, crates()),
+        "DEFINITIONS.md": definitions(),
+        "STANDARDS.md": with_table("STANDARDS.md", RULES, rules()),
+    }
+    for name, text in pages.items():
         path = ROOT / "docs" / name
         if "--write" in sys.argv[1:]:
             path.write_text(text, encoding="utf-8")
         elif not path.exists() or path.read_text(encoding="utf-8") != text:
-            print("docs/%s differs from the crates' first lines: python3 conformance/pages.py --write" % name)
+            print("docs/%s differs from what it is made of: python3 conformance/pages.py --write" % name)
             fine = False
     sys.exit(0 if fine else 1)
 

@@ -71,7 +71,12 @@ fn put_invoice(text: &mut String, breakdown: &str, line: &str) -> Result<(), All
 struct Rates;
 
 /// Whether the one difference, or none, is listed of a file.
-fn lists(alloc: Global, file: &str, number: &str, told: &str) -> Result<bool, AllocError> {
+fn lists<'a>(
+    alloc: Global,
+    file: &'a str,
+    number: &str,
+    told: &'a str,
+) -> Result<bool, AllocError> {
     let counted = if told.is_empty() {
         "differ 0\n"
     } else {

@@ -1,7 +1,7 @@
 #!/usr/bin/env python3
 """Runs the commands that the pages for users show, and prints each one whose output isn't what its page shows.
 
-    python3 conformance/shown.py PROGRAM            README.md, docs/GUIDE.md and examples/README.md
+    python3 conformance/shown.py PROGRAM            README.md, docs/GUIDE.md, docs/FAULTS.md, examples/README.md
     python3 conformance/shown.py PROGRAM PAGE ..    these pages
 
 In a block that is fenced or indented by four spaces, a line `$ COMMAND` is a command, which goes on in the next line
@@ -21,7 +21,7 @@ import sys
 import tempfile
 
 HOME = pathlib.Path(__file__).resolve().parent.parent
-PAGES = "README.md", "docs/GUIDE.md", "examples/README.md"
+PAGES = "README.md", "docs/GUIDE.md", "docs/FAULTS.md", "examples/README.md"
 FOLDERS = "examples", "rules", "docs"
 SECONDS = 60
 

@@ -10,6 +10,8 @@ mod building;
 #[cfg(test)]
 mod check_cases;
 #[cfg(test)]
+mod extension_cases;
+#[cfg(test)]
 mod look_cases;
 #[cfg(test)]
 mod made_cases;

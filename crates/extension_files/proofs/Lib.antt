@@ -1,0 +1,6 @@
+pub mod KeyLemmas
+pub mod PathLemmas
+pub mod TableLemmas
+pub mod FileLemmas
+pub mod ExtensionLemmas
+pub mod Worked

@@ -1,5 +1,5 @@
 -- The rows that check an indicator, as the crates below name them; and the syntax of a document.
-use Rattle.std.proofs.Common.{◌≡◌, ℕ, Bool, true, false, not, ◌&&◌, List, Option, Some, None, Result, Ok, Err, filter, is_some, refl, ap}
+use Rattle.std.proofs.Common.{◌≡◌, ℕ, Bool, true, false, not, ◌&&◌, List, Option, Some, None, Result, Ok, Err, filter, is_some, refl, ap, ◌∙◌}
 use Rattle.inv_base.specs.Tree.{Node}
 use Rattle.bind_rows.specs.declared.rows.Row.{Row}
 use Rattle.bind_rows.specs.declared.rows.Content.{Content}
@@ -7,6 +7,7 @@ use Rattle.bind_rows.specs.declared.rows.Content.TheVariants as contents
 use Rattle.bind_rows.specs.declared.rows.Check.{Check}
 use Rattle.bind_rows.specs.declared.rows.Check.TheVariants as checks
 use Rattle.bind_meaning.specs.declared.fault.BindFault.{BindFault}
+use Rattle.bind_meaning.specs.declared.fault.BindKind.TheVariants as kinds
 use Rattle.bind_meaning.specs.declared.tables.Which.{Which}
 use Rattle.bind_meaning.specs.Kept.{all_kept}
 use Rattle.bind_meaning.specs.Picks.{Numbered, numbered, rows_where, all_picked, term_in}
@@ -14,6 +15,7 @@ use Rattle.bind_meaning.specs.Terms.{Read, in_order}
 use Rattle.bind_walk.specs.Picks as walk
 use Rattle.bind_terms.specs.Reading as terms
 use Rattle.bind_run.specs.Roots.{known, unknown_root}
+use Rattle.bind_run.specs.Reading.{IsWholeIfMemory}
 
 same-test : (content : Content) (check : Check) → walk.indicator_in content check ≡ (not (is_some (term_in content)) && terms.is_indicator check)
 same-test (contents.Term term) check = refl
@@ -36,3 +38,9 @@ known-err (Some x) fault e = cc
 
 pub same-node : (a b : BindFault) → ◌≡◌ {A = Result Read BindFault} (Err a) (Err b) → a.node ≡ b.node
 same-node a b e = let same : a ≡ b = cc in ap (λ (f : BindFault). f.node) same
+
+-- an unknown root isn't want of memory
+pub not-memory : (fault : BindFault) → ◌≡◌ {A = Result Read BindFault} (Err unknown_root) (Err fault) → IsWholeIfMemory fault
+not-memory fault e memory =
+    let same : unknown_root ≡ fault = cc in
+    absurd (let z : kinds.UnknownRoot ≡ kinds.Memory = ap (λ (f : BindFault). f.kind) same ∙ memory in cc)

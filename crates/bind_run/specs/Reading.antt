@@ -2,6 +2,7 @@
 use Rattle.std.specs.Prelude.{◌≡◌, ◌≢◌, List, Option, Some, None, Result, Ok, Err}
 use Rattle.inv_base.specs.Tree.{Node}
 use Rattle.code_lists.specs.CodeFiles.{Lists}
+use Rattle.inv_terms.specs.declared.lacks.Name.TheVariants as lacks
 use Rattle.bind_meaning.specs.declared.fault.BindFault.{BindFault}
 use Rattle.bind_meaning.specs.declared.fault.BindKind.TheVariants as kinds
 use Rattle.bind_meaning.specs.declared.tables.Which.{Which}
@@ -31,3 +32,11 @@ pub record AreTables (tables : Tables) : Type 0 where
 abbrev pub Reads : Result Read BindFault → Result ReadInvoice BindFault → Type 0
 Reads expected (Ok found) = expected ≡ Ok (record { entries = found.invoice; passed_over = found.passed_over })
 Reads expected (Err fault) = fault.kind ≢ kinds.Memory → expected ≡ Err fault
+
+-- Want of memory stands at the document itself, and no term or group is at fault.
+abbrev pub want_of_memory : BindFault
+want_of_memory = record { kind = kinds.Memory; name = lacks.Nothing; node = 0 }
+
+-- No other fault is told as want of memory.
+abbrev pub IsWholeIfMemory : BindFault → Type 0
+IsWholeIfMemory fault = fault.kind ≡ kinds.Memory → fault ≡ want_of_memory

@@ -3,7 +3,7 @@ ghost use Rattle.node_arena.specs.Moves.{tree_nodes};
 ghost use Rattle.bind_table.specs.WellFormed.{first_fault};
 ghost use Rattle.bind_meaning.specs.declared.fault.BindKind.TheVariants as kinds;
 ghost use Rattle.bind_meaning.specs.Terms.{terms_of};
-ghost use Rattle.bind_run.specs.Reading.{AreTables, Reads, invoice_of};
+ghost use Rattle.bind_run.specs.Reading.{AreTables, Reads, IsWholeIfMemory, invoice_of, want_of_memory};
 ghost use Rattle.bind_meaning.specs.Tables.{rows_of};
 
 use crate::roots::binding_of;
@@ -29,7 +29,8 @@ pub struct ReadInvoice {
     pub passed_over: u32,
 }
 
-/// The invoice that a document is by a table, or its first fault. It goes over the document and the lines of the table once.
+/// The invoice that a document is by a table, or its first fault. It goes over the document and the lines of the table once. Want of
+/// memory is told as a fault of the whole document.
 pub fn read<L: Ledger>(
     alloc: Global,
     doc: &Doc<'_>,
@@ -38,7 +39,8 @@ pub fn read<L: Ledger>(
     steps: &mut Steps<L>,
 ) -> Result<ReadInvoice, BindFault>
     requires { first_fault table.now ≡ Ok tt }
-    ensures { Reads (terms_of (tree_nodes doc.now) table.now lists.now) result }
+    ensures reads { Reads (terms_of (tree_nodes doc.now) table.now lists.now) result }
+    ensures memory { IfErr result IsWholeIfMemory }
 {
     let picks = match pick_all(alloc, doc, table, steps) {
         Ok(picks) => picks,
@@ -63,13 +65,25 @@ pub fn read<L: Ledger>(
             invoice,
             passed_over: picks.passed_over,
         }),
-        Err(fault) => Err(fault),
+        Err(fault) => Err(whole_if_memory(doc, fault)),
+    }
+}
+
+/// The fault as it is told: want of memory is one of the whole document.
+fn whole_if_memory(doc: &Doc<'_>, fault: BindFault) -> BindFault
+    ensures others { result.kind ≢ kinds.Memory → (fault.kind ≢ kinds.Memory) × (result ≡ fault) }
+    ensures memory { IsWholeIfMemory result }
+{
+    match fault.kind {
+        BindKind::Memory => out_of_memory(doc),
+        _ => fault,
     }
 }
 
 /// Want of memory, as a fault of the whole document.
 fn out_of_memory(doc: &Doc<'_>) -> BindFault
-    ensures { result.kind ≡ kinds.Memory }
+    ensures kind { result.kind ≡ kinds.Memory }
+    ensures whole { result ≡ want_of_memory }
 {
     BindFault {
         kind: BindKind::Memory,
@@ -88,6 +102,7 @@ pub fn read_document(
     requires { AreTables tables.now }
     ensures reads { Reads (invoice_of (tree_nodes doc.now) lists.now) result }
     ensures within { IfErr result (λ fault. fault.kind ≢ kinds.Memory → fault.node < length doc.now.nodes) }
+    ensures memory { IfErr result IsWholeIfMemory }
 {
     doc.is_of_a_tree();
     match binding_of(doc) {
@@ -109,7 +124,8 @@ fn read_counted<L: Ledger>(
     requires name { ledger.name ≡ L.name }
     requires parts { ledger.parts ≡ L.parts }
     requires some { 0 < ledger.parts }
-    ensures { Reads (terms_of (tree_nodes doc.now) (rows_of which) lists.now) result }
+    ensures reads { Reads (terms_of (tree_nodes doc.now) (rows_of which) lists.now) result }
+    ensures memory { IfErr result IsWholeIfMemory }
 {
     are_well_formed();
     let mut steps = Steps::<L>::new(ledger);

@@ -29,8 +29,9 @@ use std::marker::Brand;
 /// want of memory.
 ///
 /// An answer to `convert` means the invoice that was read (`conversions`): what is written of one that the syntax carries
-/// is read as exactly its terms; converting it to the other syntax, where that carries it too, and this back, writes the
-/// first bytes again.
+/// is a document of exactly the tree of the invoice's, and is read as exactly its terms; converting it to the other
+/// syntax, where that carries it too, and this back, writes the first bytes again. Nothing else is ever answered as done:
+/// where `convert` is, the code lists and the file were accepted, and the syntax carries the invoice.
 pub fn run<S: Shelf, O: Sink, E: Sink>(
     alloc: Global,
     words: &[String],

@@ -13,22 +13,18 @@ use Rattle.xml_profile.specs.Profile as profile
 use Rattle.xml_laws.specs.Told as told
 use Rattle.node_arena.specs.Document.{built}
 use Rattle.node_arena.specs.Moves.{tree_nodes, HasNodesOf}
-use Rattle.bind_rows.specs.declared.rows.Row.{Row}
 use Rattle.bind_meaning.specs.Terms.{Read, terms_of}
 use Rattle.bind_meaning.specs.Tables.{rows_of}
-use Rattle.bind_meaning.specs.Trees.{document_of}
 use Rattle.bind_meaning.specs.declared.tables.Which.{Which}
 use Rattle.bind_meaning.specs.declared.tables.Syntax.{Syntax}
-use Rattle.bind_carrying.specs.Tables.{target}
-use Rattle.bind_carrying.specs.Carrying.{carrying, entries_carried}
 use Rattle.bind_run.specs.Reading.{by_root, invoice_of}
 use Rattle.bind_run.specs.Roots.{which_of}
 use Rattle.reading_laws.specs.Nodes.{Rise}
-use Rattle.written_laws.specs.Reading.{IsReadByTable}
+use Rattle.written_laws.specs.Texts.{exactly, text_in, IsCarriedBy, AreReadAs}
 use Rattle.job_course.specs.Course.{Course, answer_of, by_result, by_test, done, document_limits, by_lists}
 use Rattle.job_course.specs.Views.{document_read}
 use Rattle.invoice_jobs.specs.Invoices.{by_invoice, invoice_course, listed_course, read_course, by_carrying, converted}
-use Rattle.invoice_jobs.specs.Conversions.{AreLists, built_in, of_file, IsReadAs, exactly, text_in, IsCarriedBy, Holds}
+use Rattle.invoice_jobs.specs.Conversions.{AreLists, built_in, of_file, IsReadAs, Holds}
 
 -- ---- what follows where something was read
 
@@ -66,26 +62,17 @@ module _
     by-root nodes lists read None rise e = cc
     by-root nodes lists read (Some table) rise e = valid table nodes lists read rise e
 
-    pub read-valid : (files : Files) (file : List ℕ) (lists : Lists) (read : Read) → IsReadAs files file lists read → IsInvoice read.entries × IsValid read.entries lists
-    read-valid files file lists read is =
+    pub bytes-valid : (bytes : List ℕ) (lists : Lists) (read : Read) → AreReadAs bytes lists read → IsInvoice read.entries × IsValid read.entries lists
+    bytes-valid bytes lists read is =
         let nodes = tree_nodes (document_read is.found) in
-        by-root nodes lists read (which_of nodes) (found-rises document_limits (bytes_under file files) is.found is.is) is.invoice
+        by-root nodes lists read (which_of nodes) (found-rises document_limits bytes is.found is.is) is.invoice
+
+    pub read-valid : (files : Files) (file : List ℕ) (lists : Lists) (read : Read) → IsReadAs files file lists read → IsInvoice read.entries × IsValid read.entries lists
+    read-valid files file lists read is = bytes-valid (bytes_under file files) lists read is
 
 -- ---- what is written is read
 
-module _
-    (read_by_table : (table : Which) (es : List Entry) (lists : Lists) → IsInvoice es → IsValid es lists → carrying (rows_of table) es ≡ Ok tt → IsReadByTable table es lists)
-    (meets : (rows : List Row) (es : List Entry) → carrying rows es ≡ Ok tt → entries_carried rows es ≡ Ok tt)
-    (read_exactly : (table : Which) (es : List Entry) (lists : Lists) → IsInvoice es → IsValid es lists → entries_carried (rows_of table) es ≡ Ok tt
-    → terms_of (document_nodes (document_of (rows_of table) es)) (rows_of table) lists ≡ Ok (exactly es))
-  where
-    pub written-read : (files : Files) (file : List ℕ) (codes_file : Option (List ℕ)) (lists : Lists) (syntax : Syntax) (es : List Entry) → IsInvoice es → IsValid es lists → IsCarriedBy syntax es
-        → Holds files file (text_in syntax es) codes_file lists → IsReadAs files file lists (exactly es)
-    written-read files file codes_file lists syntax es invoice valid by held =
-        let table = target es syntax in
-        let back = read_by_table table es lists invoice valid by in
-        record {
-          found = back.found;
-          is = ap (profile.document document_limits) held.same ∙ back.is;
-          invoice = back.invoice ∙ read_exactly table es lists invoice valid (meets (rows_of table) es by);
-        }
+pub written-read : ((syntax : Syntax) (es : List Entry) (lists : Lists) → IsInvoice es → IsValid es lists → IsCarriedBy syntax es → AreReadAs (text_in syntax es) lists (exactly es))
+    → (files : Files) (file : List ℕ) (codes_file : Option (List ℕ)) (lists : Lists) (syntax : Syntax) (es : List Entry) → IsInvoice es → IsValid es lists → IsCarriedBy syntax es
+    → Holds files file (text_in syntax es) codes_file lists → IsReadAs files file lists (exactly es)
+written-read round files file codes_file lists syntax es invoice valid by held = subst (λ bytes. AreReadAs bytes lists (exactly es)) (sym held.same) (round syntax es lists invoice valid by)

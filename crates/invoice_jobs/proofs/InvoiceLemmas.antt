@@ -19,6 +19,7 @@ use Rattle.bind_write.specs.Documents.{document_text}
 use Rattle.bind_carrying.specs.declared.carrying.NotCarried.{NotCarried}
 use Rattle.bind_carrying.specs.Carrying.{carrying}
 use Rattle.bind_run.specs.Reading.{invoice_of}
+use Rattle.written_laws.specs.Texts.{target_rows}
 use Rattle.job_course.specs.declared.status.Status.{Status}
 use Rattle.job_course.specs.declared.status.Status.TheVariants as statuses
 use Rattle.job_course.specs.Course.{Course, ends, done, refusal, by_result, document_limits, lists_course}
@@ -27,7 +28,7 @@ use Rattle.job_course.specs.Runs.{AreListed, Runs, Continues, Fails}
 use Rattle.job_course.proofs.Ends.{written_here, behind_document, behind_lists}
 use Rattle.job_course.proofs.FileLemmas.{memory_in, refused_here}
 use Rattle.job_course.specs.Views.{document_read}
-use Rattle.invoice_jobs.specs.Invoices.{invoice_line, by_invoice, invoice_course, listed_course, condition_line, target_rows, by_carrying, converted, attachment_line, extracted, IsInvoiceRefusal}
+use Rattle.invoice_jobs.specs.Invoices.{invoice_line, by_invoice, invoice_course, listed_course, condition_line, by_carrying, converted, attachment_line, extracted, IsInvoiceRefusal}
 
 -- ---- the lists
 

@@ -1,2 +1,4 @@
 pub mod InvoiceLemmas
 pub mod ConversionLemmas
+pub mod DoneLemmas
+pub mod EndLemmas

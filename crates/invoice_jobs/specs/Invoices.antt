@@ -4,7 +4,6 @@ use Rattle.std.proofs.Common.{◌⊎◌}
 use Rattle.inv_base.specs.Outside.{SinkView}
 use Rattle.code_lists.specs.CodeFiles.{Lists, built_in_lists}
 use Rattle.term_table.specs.declared.terms.Term.{Term}
-use Rattle.inv_terms.specs.declared.entries.Entry.{Entry}
 use Rattle.inv_terms.specs.declared.attachments.AttachFault.{AttachFault}
 use Rattle.inv_terms.specs.declared.attachments.AttachFault.TheVariants as attach
 use Rattle.inv_terms.specs.Attachments.{attached}
@@ -15,15 +14,13 @@ use Rattle.bind_meaning.specs.declared.fault.BindFault.{BindFault}
 use Rattle.bind_meaning.specs.declared.fault.BindKind.{BindKind}
 use Rattle.bind_meaning.specs.declared.fault.BindKind.TheVariants as kinds
 use Rattle.bind_meaning.specs.Terms.{Read}
-use Rattle.bind_rows.specs.declared.rows.Row.{Row}
 use Rattle.bind_write.specs.Documents.{document_text}
 use Rattle.bind_carrying.specs.declared.carrying.NotCarried.{NotCarried}
 use Rattle.bind_meaning.specs.declared.tables.Syntax.{Syntax}
-use Rattle.bind_carrying.specs.Tables.{target}
 use Rattle.bind_carrying.specs.Carrying.{carrying}
 use Rattle.bind_run.specs.declared.reading.ReadInvoice.{ReadInvoice}
-use Rattle.bind_meaning.specs.Tables.{rows_of}
 use Rattle.bind_run.specs.Reading.{invoice_of}
+use Rattle.written_laws.specs.Texts.{target_rows}
 use Rattle.job_course.specs.declared.status.Status.{Status}
 use Rattle.job_course.specs.declared.status.Status.TheVariants as statuses
 use Rattle.job_course.specs.Outside.{TakesOrFails}
@@ -81,10 +78,6 @@ condition_term (Some term) = term_text term
 -- the condition that fails, with the term of its first entry, or `-`
 abbrev pub condition_line : NotCarried → List ℕ
 condition_line fault = codes "einv: condition " ++ (decimal fault.condition ++ (0x20 ∷ (condition_term fault.term ++ 0xA ∷ [])))
-
--- the table by which an invoice is written in a syntax
-abbrev pub target_rows : Syntax → List Entry → List Row
-target_rows syntax es = rows_of (target es syntax)
 
 -- the canonical document of the invoice, or the condition that fails
 abbrev pub by_carrying : List ℕ → Result (Unit {0}) NotCarried → Course

@@ -8,5 +8,8 @@ mod invoices;
 mod refusals;
 
 pub use comparison::totals;
-pub use conversions::{carried_texts_are_read_exactly, read_files_are_valid_invoices};
+pub use conversions::{
+    carried_texts_are_read_exactly, converted_texts_are_documents, done_conversions_are_documents,
+    read_files_are_valid_invoices,
+};
 pub use invoices::{convert, extract, show};

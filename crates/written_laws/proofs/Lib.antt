@@ -11,3 +11,4 @@ pub mod ReadLemmas
 pub mod CarryLemmas
 pub mod Rows
 pub mod TableLemmas
+pub mod TextLemmas

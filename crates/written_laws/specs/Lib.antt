@@ -1,3 +1,4 @@
 pub mod Readable
 pub mod Reading
 pub mod Roots
+pub mod Texts

@@ -1,6 +1,8 @@
-//! Laws of what is written: the text that an invoice is written as is read again, as the nodes of the invoice's
-//! document.
+//! Laws of what is written: the text that an invoice is written as is a document, is read again as exactly that
+//! invoice, and is converted back.
 #![tactic(auto)]
+
+mod texts;
 
 ghost use Rattle.std.specs.Prelude.{◌≡◌, List, true, is_some, Some, Ok};
 ghost use Rattle.code_lists.specs.CodeFiles.{Lists};
@@ -27,6 +29,9 @@ ghost use Rattle.written_laws.specs.Roots.{root_table};
 
 use inv_terms::spelled_values_are_read_back;
 use node_arena::events_build_the_nodes_of_their_tree;
+pub use texts::{
+    carried_texts_are_documents, round_trip, second_conversion, small_texts_are_documents,
+};
 use xml_laws::{canonical_text_is_read, read_tells_its_tree};
 
 /// The document of an invoice by a table that passes the test can be written as canonical text within the limits, where

@@ -1,18 +1,18 @@
 use Rattle.std.proofs.Common.{◌<◌, length, ap, sym, subst, ◌∙◌}
 use Rattle.bind_meaning.specs.Tables.{rows_of}
 use Rattle.bind_run.specs.Reading.{Reads, by_root}
-use Rattle.bind_run.proofs.IndicatorLemmas.{known-ok, known-err, same-node}
+use Rattle.bind_run.proofs.IndicatorLemmas.{known-ok, known-err, same-node, not-memory}
 use Rattle.bind_run.proofs.WithinLemmas.{reads-within, document-within}
 use Rattle.bind_run.proofs.reading.read_document.Goals as goal
 
 pub returns-in-Ok-clause-reads : goal.returns-in-Ok-clause-reads
 returns-in-Ok-clause-reads c =
     let table = known-ok _ c.in-Ok.which (sym c.binding_of.ensures ∙ c.in-Ok.is) in
-    subst (λ expected. Reads expected c.read_counted.result) (sym (ap (by_root _ c.args.lists.now) table)) c.read_counted.ensures
+    subst (λ expected. Reads expected c.read_counted.result) (sym (ap (by_root _ c.args.lists.now) table)) c.read_counted.ensures.reads
 
 pub returns-in-Ok-clause-within : goal.returns-in-Ok-clause-within
 returns-in-Ok-clause-within c =
-    reads-within _ _ c.read_counted.result c.read_counted.ensures
+    reads-within _ _ c.read_counted.result c.read_counted.ensures.reads
     (document-within c.args.doc.now c.is_of_a_tree.ensures.numbers c.is_of_a_tree.ensures.rooted c.args.lists.now (rows_of c.in-Ok.which))
 
 pub returns-in-Err-clause-reads : goal.returns-in-Err-clause-reads
@@ -24,3 +24,6 @@ pub returns-in-Err-clause-within : goal.returns-in-Err-clause-within
 returns-in-Err-clause-within c = λ _.
     let known = known-err _ c.in-Err.fault (sym c.binding_of.ensures ∙ c.in-Err.is) in
     subst (λ n. n < length c.args.doc.now.nodes) (same-node _ _ known.1) c.is_of_a_tree.ensures.rooted
+
+pub returns-in-Err-clause-memory : goal.returns-in-Err-clause-memory
+returns-in-Err-clause-memory c = not-memory _ (known-err _ c.in-Err.fault (sym c.binding_of.ensures ∙ c.in-Err.is)).1

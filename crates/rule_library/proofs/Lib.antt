@@ -1,0 +1,10 @@
+pub mod FaultLemmas
+pub mod LeadsLemmas
+pub mod NodeLemmas
+pub mod TurnLemmas
+pub mod PartLemmas
+pub mod ReadLemmas
+pub mod AskLemmas
+pub mod LoadLemmas
+pub mod GrownLemmas
+pub mod GiveLemmas

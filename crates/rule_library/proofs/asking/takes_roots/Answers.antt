@@ -1,0 +1,13 @@
+use Rattle.std.proofs.Common.{option_map, refl, sym, ap, ◌∙◌}
+use Rattle.std.specs.Prelude.{codes}
+use Rattle.xml_state.specs.Events.{name_at}
+use Rattle.rule_library.specs.Asked.{takes_roots}
+use Rattle.rule_library.proofs.AskLemmas.{is_named, one_of_four}
+use Rattle.rule_library.proofs.asking.takes_roots.Goals as goal
+
+pub returns-in-Some : goal.returns-in-Some
+returns-in-Some c =
+    let name = name_at c.args.names.now c.in-Some.id in
+    one_of_four _ _ _ _ _ _ _ _ (is_named _ (codes "schema") name refl c.is_schematron.ensures) (is_named _ (codes "phase") name refl c.is_schematron-in-Some.ensures)
+    (is_named _ (codes "pattern") name refl c.is_schematron-in-Some-2.ensures) (is_named _ (codes "rule") name refl c.is_schematron-in-Some-3.ensures)
+    ∙ sym (ap (λ p. takes_roots (option_map (name_at c.args.names.now) p)) c.in-Some.is)

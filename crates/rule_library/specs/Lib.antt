@@ -1,0 +1,11 @@
+pub mod Readings
+pub mod Asked
+pub mod Joining
+pub mod Walk
+pub mod Leads
+pub mod Faults
+pub mod Reading
+pub mod Turns
+pub mod Requests
+pub mod Library
+pub mod Whole

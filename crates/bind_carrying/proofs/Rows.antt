@@ -20,6 +20,11 @@ use Rattle.inv_decimal.specs.WrittenNumber.{read_scaled, read_decimal, scaled_te
 use Rattle.inv_decimal.specs.WrittenDay.{read_dashed_day, read_plain_day, dashed_day_text}
 use Rattle.code_lists.specs.CodeFiles.{built_in_lists}
 use Rattle.term_table.specs.declared.terms.Term.{Term}
+use Rattle.term_table.specs.declared.terms.Letter.{Letter}
+use Rattle.term_table.specs.declared.terms.Letter.TheVariants as letters
+use Rattle.term_table.specs.declared.groups.Group.{Group}
+use Rattle.term_table.specs.declared.groups.Group.TheVariants as groups
+use Rattle.term_table.specs.declared.contexts.Context.{Context}
 use Rattle.inv_terms.specs.declared.entries.Entry.{Entry}
 use Rattle.inv_terms.specs.declared.values.Value.TheVariants as values
 use Rattle.term_table.specs.Contexts.{root_context}
@@ -30,6 +35,12 @@ use Rattle.std.specs.Fmt.{digits}
 use Rattle.inv_decimal.specs.Digits.{last_digits}
 use Rattle.term_table.specs.Places.{first_row}
 use Rattle.bind_rows.specs.declared.rows.Row.{Row}
+use Rattle.bind_rows.specs.declared.names.Leaf.TheVariants as leaves
+use Rattle.bind_rows.specs.declared.rows.Check.TheVariants as checks
+use Rattle.bind_rows.specs.declared.rows.Content.TheVariants as contents
+use Rattle.bind_rows.specs.declared.rows.Form.TheVariants as forms
+use Rattle.bind_rows.specs.declared.rows.Repeats.TheVariants as repeat
+use Rattle.bind_rows.specs.declared.rows.Written.TheVariants as written
 use Rattle.bind_meaning.specs.Terms.{Read, terms_of}
 use Rattle.xml_write.specs.Escapes.{in_value, in_text}
 use Rattle.inv_decimal.specs.WrittenDay.{plain_day_text}
@@ -43,8 +54,8 @@ use Rattle.xml_write.specs.Canonical.{declaration_line}
 use Rattle.bind_write.specs.Documents.{document_text}
 use Rattle.bind_meaning.specs.declared.tables.Syntax.{Syntax}
 use Rattle.bind_meaning.specs.declared.tables.Syntax.TheVariants as syntaxes
-use Rattle.bind_meaning.specs.declared.tables.Which.{Which}
-use Rattle.bind_meaning.specs.declared.tables.Which.TheVariants as which
+use Rattle.bind_rows.specs.declared.tables.Which.{Which}
+use Rattle.bind_rows.specs.declared.tables.Which.TheVariants as which
 use Rattle.bind_carrying.specs.declared.carrying.NotCarried.{NotCarried}
 use Rattle.bind_carrying.specs.Tables.{target}
 use Rattle.bind_carrying.specs.Carrying.{entries_carried, carrying}
@@ -183,21 +194,74 @@ row20 : carried invoice_rows syntaxes.Ubl (codes "<Invoice xmlns=" ++ ((34 ∷ [
 unfolding document first_fault beginning extent character_at referred reference_at is_qname comment section is_declaration instruction attribute_at tag_inside value_in_tag start_tag end_tag state_behind events_of fault_of read resume is_utf8 chars encode_utf8 is_char is_white_space is_name_start is_name_char tree_of_events read_scaled read_decimal scaled_text decimal_text read_dashed_day read_plain_day dashed_day_text value_of terms_of terms extension_rows listing_rows occurrence_of parent_of day_from first_row invoice_rows credit_note_rows cii_rows invoice_listing credit_note_listing cii_listing written_units digits last_digits document_of document_text declaration_line in_value in_text plain_day_text
 row20 = refl
 
--- ---- a term that a table adds: EXT-1 is 1001
+-- ---- a term that a user added: EXT-1 is 1001
+
+entry_at : Context → ℕ → Entry
+entry_at c n = record { context = c; term = record { number = n; part = 0 }; value = values.Text [] }
 
 entry : ℕ → Entry
-entry n = record { context = root_context; term = record { number = n; part = 0 }; value = values.Text [] }
+entry n = entry_at root_context n
 
 -- it is refused behind all other conditions, at its first entry
 extension_alone : entries_carried cii_rows (entry 1002 ∷ entry 1003 ∷ []) ≡ Err (record { condition = 9; term = Some (record { number = 1002; part = 0 }) })
-unfolding entry cii_rows cii_listing
+unfolding entry_at entry cii_rows cii_listing
 extension_alone = refl
 
 extension_behind_part : entries_carried cii_rows (entry 111 ∷ entry 1001 ∷ []) ≡ Err (record { condition = 7; term = Some (record { number = 111; part = 0 }) })
-unfolding entry cii_rows cii_listing
+unfolding entry_at entry cii_rows cii_listing
 extension_behind_part = refl
 
 -- 1100 is no such term
 no_hundredth : entries_carried cii_rows (entry 1100 ∷ []) ≡ Ok tt
-unfolding entry cii_rows cii_listing
+unfolding entry_at entry cii_rows cii_listing
 no_hundredth = refl
+
+-- a row that a user added, of EXT-1
+own_row : Option Group → Letter → Row
+own_row outer letter = record {
+  path = [];
+  leaf = leaves.Element;
+  outer = outer;
+  inner = None;
+  content = contents.Term (record { number = 1001; part = 0 });
+  form = forms.Typed letter;
+  repeats = repeat.Once;
+  written = written.Always;
+  check = checks.Nothing;
+}
+
+refused : Result (Unit {0}) NotCarried
+refused = Err (record { condition = 9; term = Some (record { number = 1001; part = 0 }) })
+
+line : Context
+line = record { outer = Some (record { group = groups.InvoiceLine; index = 1 }); inner = None }
+
+-- it is carried by a row of its groups and of its value's type alone
+own_carried : entries_carried (cii_rows ++ (own_row None letters.T ∷ [])) (entry 1001 ∷ []) ≡ Ok tt
+unfolding entry_at entry own_row cii_rows cii_listing
+own_carried = refl
+
+own_of_another : entries_carried (cii_rows ++ (own_row None letters.T ∷ [])) (entry 1001 ∷ entry 1002 ∷ []) ≡ Err (record { condition = 9; term = Some (record { number = 1002; part = 0 }) })
+unfolding entry_at entry own_row cii_rows cii_listing
+own_of_another = refl
+
+own_of_type : entries_carried (cii_rows ++ (own_row None letters.I ∷ [])) (entry 1001 ∷ []) ≡ refused
+unfolding entry_at entry own_row refused cii_rows cii_listing
+own_of_type = refl
+
+own_of_line : entries_carried (cii_rows ++ (own_row (Some groups.InvoiceLine) letters.T ∷ [])) (entry 1001 ∷ []) ≡ refused
+unfolding entry_at entry own_row refused cii_rows cii_listing
+own_of_line = refl
+
+own_in_line : entries_carried (cii_rows ++ (own_row (Some groups.InvoiceLine) letters.T ∷ [])) (entry_at line 1001 ∷ []) ≡ Ok tt
+unfolding entry_at own_row line cii_rows cii_listing
+own_in_line = refl
+
+own_around_line : entries_carried (cii_rows ++ (own_row None letters.T ∷ [])) (entry_at line 1001 ∷ []) ≡ refused
+unfolding entry_at own_row refused line cii_rows cii_listing
+own_around_line = refl
+
+-- a row with a mark is none that a user added
+own_marked : entries_carried (cii_rows ++ (record (own_row None letters.T) { repeats = repeat.Spread } ∷ [])) (entry 1001 ∷ []) ≡ refused
+unfolding entry_at entry own_row refused cii_rows cii_listing
+own_marked = refl

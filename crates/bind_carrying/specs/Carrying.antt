@@ -1,20 +1,29 @@
 -- Whether a table can carry an invoice: the least of nine conditions that fails, and the first entry in listing order at which it does. Reading the
 -- document back isn't spoken of.
 use Rattle.std.specs.Prelude.{ℕ, ◌+◌, ◌==◌, nat_lt, Bool, true, false, not, ◌&&◌, ◌||◌, List, [], ◌∷◌, codes, bytes_eq, encode_utf8_all, find, length, Option, Some, None, is_some, is_none, option_map, Result, Ok, Err, if◌then◌else◌}
+use Rattle.std.specs.List.{list_any}
+use Rattle.xml_tokens.specs.Beginnings.{greatest_tag}
+use Rattle.xml_state.specs.Sizes.{document_limits}
 use Rattle.term_table.specs.declared.terms.Term.{Term}
 use Rattle.term_table.specs.SemanticModel.{is_extension}
-use Rattle.term_table.specs.Contexts.{root_context}
+use Rattle.term_table.specs.declared.contexts.Context.{Context}
+use Rattle.term_table.specs.Contexts.{root_context, slot_group}
 use Rattle.inv_terms.specs.declared.entries.Entry.{Entry}
 use Rattle.inv_terms.specs.declared.values.Value.{Value}
 use Rattle.inv_terms.specs.Values.{spelled, is_blank}
 use Rattle.inv_terms.specs.Listing.{value_in}
 use Rattle.xml_write.specs.Sizes.{canonical_tags, longest}
+use Rattle.bind_rows.specs.declared.rows.Form.{Form}
 use Rattle.bind_rows.specs.declared.rows.Row.{Row}
+use Rattle.bind_rows.specs.Added.{is_added, letter_of_form}
+use Rattle.bind_rows.specs.Same.{same_or_none, choose}
+use Rattle.bind_meaning.specs.Picks.{has_term}
 use Rattle.bind_meaning.specs.Values.{is_subject_character}
+use Rattle.bind_meaning.specs.Writing.{is_of_type}
 use Rattle.bind_meaning.specs.Trees.{document_of}
 use Rattle.bind_write.specs.Documents.{declarations_for, document_text, node_count}
-use Rattle.bind_meaning.specs.declared.tables.Which.{Which}
-use Rattle.bind_meaning.specs.declared.tables.Which.TheVariants as which
+use Rattle.bind_rows.specs.declared.tables.Which.{Which}
+use Rattle.bind_rows.specs.declared.tables.Which.TheVariants as which
 use Rattle.bind_carrying.specs.declared.conditions.Condition.{Condition}
 use Rattle.bind_carrying.specs.declared.conditions.Condition.TheVariants as conditions
 use Rattle.bind_carrying.specs.declared.carrying.NotCarried.{NotCarried}
@@ -123,17 +132,28 @@ has_no_currency es e =
 
 abbrev pub is_too_large : List Row → List Entry → Bool
 is_too_large rows es =
-    nat_lt 16777216 (length (encode_utf8_all (document_text rows es)))
-    || (nat_lt 262144 (longest (canonical_tags (declarations_for rows) (document_of rows es))) || nat_lt 1000000 (node_count (document_of rows es)))
+    nat_lt document_limits.bytes (length (encode_utf8_all (document_text rows es)))
+    || (nat_lt greatest_tag (longest (canonical_tags (declarations_for rows) (document_of rows es))) || nat_lt document_limits.nodes (node_count (document_of rows es)))
 
--- ---- 9: a term that a user's table adds, of which the table has no row
+-- ---- 9: a term that a user added, of which the table has no row of its context's groups and its value's type
 
--- No well-formed table has a row of such a term yet.
-abbrev pub is_unplaced : Entry → Bool
-is_unplaced e = is_extension e.term
+-- The context is one of occurrences of the row's groups.
+abbrev pub has_groups : Row → Context → Bool
+has_groups row c = same_or_none row.outer (slot_group c.outer) && same_or_none row.inner (slot_group c.inner)
 
-abbrev pub first_unplaced : List Entry → Option NotCarried
-first_unplaced es = option_map (λ (e : Entry). record { condition = 9; term = Some e.term }) (find is_unplaced es)
+-- The form says the type itself, and it is the value's.
+abbrev pub says_type : Form → Value → Bool
+says_type form value = elim (letter_of_form form) [ None ↦ false | Some letter ↦ is_of_type letter value ]
+
+-- A user added the row for the entry's term, in its groups and with its type.
+abbrev pub is_row_of : Entry → Row → Bool
+is_row_of e row = is_added row && (has_term e.term row && (has_groups row e.context && says_type row.form e.value))
+
+abbrev pub is_unplaced : List Row → Entry → Bool
+is_unplaced rows e = choose (is_extension e.term) (λ _. not (list_any (is_row_of e) rows)) (λ _. false)
+
+abbrev pub first_unplaced : List Row → List Entry → Option NotCarried
+first_unplaced rows es = option_map (λ (e : Entry). record { condition = 9; term = Some e.term }) (find (is_unplaced rows) es)
 
 -- ---- the least condition that fails, and its first entry
 
@@ -189,8 +209,8 @@ answer None large unplaced = rest_carried large unplaced
 
 -- Whether the entries keep all conditions but the eighth, on the size of the whole document.
 abbrev pub entries_carried : List Row → List Entry → Result (Unit {0}) NotCarried
-entries_carried rows es = answer (entries_fail rows es) false (first_unplaced es)
+entries_carried rows es = answer (entries_fail rows es) false (first_unplaced rows es)
 
 -- Whether the table carries the invoice.
 abbrev pub carrying : List Row → List Entry → Result (Unit {0}) NotCarried
-carrying rows es = answer (entries_fail rows es) (is_too_large rows es) (first_unplaced es)
+carrying rows es = answer (entries_fail rows es) (is_too_large rows es) (first_unplaced rows es)

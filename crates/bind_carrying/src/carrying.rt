@@ -10,12 +10,15 @@ ghost use Rattle.bind_write.specs.Sources.{has_plain_attribute};
 ghost use Rattle.bind_carrying.specs.Carrying as spec;
 
 use crate::conditions::{Condition, first_at};
+use crate::placing::first_unplaced;
 use crate::tables::which_of;
 use bind_meaning::Which;
 use bind_table::Binding;
 use bind_write::measure;
 use inv_terms::Invoice;
 use term_table::Term;
+use xml_state::DOCUMENT_LIMITS;
+use xml_tokens::GREATEST_TAG;
 use xml_write::Gauge;
 
 /// Why a table can't carry an invoice.
@@ -27,14 +30,11 @@ pub struct NotCarried {
     pub term: Option<Term>,
 }
 
-/// How many bytes a document may have.
-const LARGEST_DOCUMENT: u64 = 16_777_216;
+/// How many bytes a tag may have, in the numbers of a gauge.
+const LONGEST_TAG: u64 = GREATEST_TAG as u64;
 
-/// How many bytes a tag may have.
-const LONGEST_TAG: u64 = 262_144;
-
-/// How many nodes a document may have.
-const MOST_NODES: u64 = 1_000_000;
+/// How many nodes a document may have, likewise.
+const MOST_NODES: u64 = DOCUMENT_LIMITS.nodes as u64;
 
 const CONDITIONS: [Condition; 7] = [
     Condition::Part,
@@ -64,22 +64,6 @@ fn first_failing(conditions: &[Condition], table: Which, i: &Invoice) -> Option<
     None
 }
 
-/// The first entry of a term that a user's table adds: no table has a row of one yet.
-fn first_unplaced(i: &Invoice) -> Option<NotCarried>
-    ensures { result ≡ spec.first_unplaced i.now }
-{
-    let entries = i.entries();
-    'entries: for e in entries {
-        if e.term.is_extension() {
-            return Some(NotCarried {
-                condition: 9,
-                term: Some(e.term),
-            });
-        }
-    }
-    None
-}
-
 /// Whether a table can carry an invoice. Else the least condition that fails, with the term of the first entry at which it does; condition
 /// 8, on the size of the whole document, has no term. It takes no memory.
 pub fn carries(i: &Invoice, b: &Binding) -> Result<(), NotCarried>
@@ -89,7 +73,7 @@ pub fn carries(i: &Invoice, b: &Binding) -> Result<(), NotCarried>
 {
     match first_failing(&CONDITIONS, which_of(b), i) {
         Some(fault) => Err(fault),
-        None => rest_carried(&measure(i, b), first_unplaced(i)),
+        None => rest_carried(&measure(i, b), first_unplaced(i, b.rows())),
     }
 }
 
@@ -98,7 +82,7 @@ fn rest_carried(sizes: &Gauge, unplaced: Option<NotCarried>) -> Result<(), NotCa
     ensures { (rows : List Row) (es : List Entry) → HasSizes rows es sizes.now
         → result ≡ spec.rest_carried (spec.is_too_large rows es) unplaced }
 {
-    if passes(sizes.bytes, LARGEST_DOCUMENT)
+    if passes(sizes.bytes, DOCUMENT_LIMITS.bytes)
         || passes(sizes.longest_tag, LONGEST_TAG)
         || passes(sizes.nodes, MOST_NODES)
     {

@@ -3,6 +3,7 @@
 
 mod carrying;
 mod conditions;
+mod placing;
 mod tables;
 
 pub use carrying::{NotCarried, carries};

@@ -7,7 +7,6 @@ use Rattle.std.specs.Str.{bytes_eq}
 use Rattle.inv_base.specs.Tree.{Node}
 use Rattle.code_lists.specs.CodeFiles.{Lists}
 use Rattle.term_table.specs.declared.terms.Letter.TheVariants as letters
-use Rattle.term_table.specs.declared.terms.Term.{Term}
 use Rattle.inv_terms.specs.declared.values.Value.{Value}
 use Rattle.term_table.specs.declared.contexts.Context.{Context}
 use Rattle.inv_terms.specs.declared.lacks.Name.{Name}
@@ -33,7 +32,7 @@ use Rattle.bind_meaning.specs.Elements.{string_at, attributes_named, has_element
 use Rattle.bind_meaning.specs.Picks.{Pick, term_in}
 use Rattle.bind_meaning.specs.Seats.{Placed, context_of, Room}
 use Rattle.bind_meaning.specs.Currencies.{Currencies, amount_currency}
-use Rattle.bind_meaning.specs.Values.{Said, said, letter_of}
+use Rattle.bind_meaning.specs.Values.{Said, said, form_for, type_of}
 
 -- A fault with its place in the order of faults: of two the one with the smaller place is told.
 pub record Found : Type 0 where
@@ -94,8 +93,8 @@ is_bad nodes t = is_none t.said.value || breaks nodes t.placed.pick.row.check t.
 abbrev pub is_not_listed : Lists → Told → Bool
 is_not_listed lists t = is_outside lists (list_of t.said.term (context_of t.placed)) (option_and_then code_in t.said.value)
 
-abbrev pub is_amount : Term → Bool
-is_amount term = elim (letter_of term) [ Some letters.A ↦ true | _ ↦ false ]
+abbrev pub is_amount : Told → Bool
+is_amount t = elim (type_of (form_for t.placed.pick.row.form t.said.term) t.said.term) [ Some letters.A ↦ true | _ ↦ false ]
 
 abbrev pub is_accounting_total : Pick → Bool
 is_accounting_total pick = elim pick.row.written [ written.AccountingVatTotal ↦ true | _ ↦ false ]
@@ -107,7 +106,7 @@ differs (Some invoice) None = false
 differs (Some invoice) (Some currency) = not (bytes_eq invoice currency)
 
 abbrev pub is_foreign : List Node → Currencies → Told → Bool
-is_foreign nodes c t = elim (is_amount t.said.term && not (is_accounting_total t.placed.pick)) [
+is_foreign nodes c t = elim (is_amount t && not (is_accounting_total t.placed.pick)) [
   | true ↦ differs c.invoice (amount_currency nodes t.placed.pick.node)
   | false ↦ false
 ]

@@ -1,5 +1,5 @@
 -- What the code keeps of picks, beside the picks of the definitions.
-use Rattle.std.specs.Prelude.{ℕ, List, map, Option, option_and_then}
+use Rattle.std.specs.Prelude.{List, map, option_and_then}
 use Rattle.bind_meaning.specs.declared.picked.Picked.{Picked}
 use Rattle.bind_meaning.specs.declared.picked.SeatedPick.{SeatedPick}
 use Rattle.bind_meaning.specs.Picks.{Pick, carrier_in}

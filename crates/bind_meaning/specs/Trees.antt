@@ -24,7 +24,7 @@ use Rattle.bind_rows.specs.declared.rows.Written.{Written}
 use Rattle.bind_rows.specs.declared.rows.Written.TheVariants as written
 use Rattle.bind_table.specs.Lines.{Plan, Cell, nothing, a_line, plan_of}
 use Rattle.bind_rows.specs.Namespaces.{uri_of}
-use Rattle.bind_meaning.specs.Values.{letter_of}
+use Rattle.bind_meaning.specs.Values.{form_for, type_of}
 use Rattle.bind_meaning.specs.Picks.{has_any_term, term_in}
 use Rattle.bind_meaning.specs.Currencies.{invoice_currency, accounting_currency, currency_id}
 use Rattle.bind_meaning.specs.Writing.{row_text, writes_entry}
@@ -97,7 +97,7 @@ is_vat_total written.AccountingVatTotal = true
 is_vat_total _ = false
 
 abbrev pub is_amount : Row → Bool
-is_amount row = elim (term_in row.content) [ None ↦ false | Some term ↦ elim (letter_of term) [ Some letters.A ↦ true | _ ↦ false ] ]
+is_amount row = elim (term_in row.content) [ None ↦ false | Some term ↦ elim (type_of (form_for row.form term) term) [ Some letters.A ↦ true | _ ↦ false ] ]
 
 -- UBL writes each amount with its currency, CII the VAT totals alone
 abbrev pub shows_currency : Step → Row → Bool

@@ -11,9 +11,11 @@ use Rattle.inv_terms.specs.Values.{is_blank, trimmed, value_of}
 use Rattle.term_table.specs.declared.terms.Letter.{Letter}
 use Rattle.term_table.specs.declared.terms.Letter.TheVariants as letters
 use Rattle.term_table.specs.declared.terms.TermRow.{TermRow}
-use Rattle.term_table.specs.SemanticModel.{same_term, terms}
+use Rattle.term_table.specs.SemanticModel.{same_term, terms, is_extension}
+use Rattle.term_table.specs.Rows.{is_base64}
 use Rattle.bind_rows.specs.declared.rows.Form.{Form}
 use Rattle.bind_rows.specs.declared.rows.Form.TheVariants as forms
+use Rattle.bind_rows.specs.Added.{letter_of_form}
 
 -- A value that is told of a term: none where the string says none.
 pub record Said : Type 0 where
@@ -84,12 +86,19 @@ is_term n term = (term.number == n) && (term.part == 0)
 abbrev pub is_day : Option Letter → Bool
 is_day letter = elim letter [ Some letters.D ↦ true | _ ↦ false ]
 
--- The form is one for the term: a day without dashes for a term of that type, BT-8 by UNTDID 2475, BT-22 behind its subject code.
+-- The form is one for the term: a day without dashes for a term of that type, BT-8 by UNTDID 2475, BT-22 behind its subject code,
+-- a type of its own for a term that a user added.
 abbrev pub suits : Form → Term → Bool
 suits forms.Model term = true
 suits forms.PlainDate term = is_day (letter_of term)
 suits forms.DueDateTypeCode term = is_term 8 term
 suits forms.CodedNote term = is_term 22 term
+suits (forms.Typed letter) term = is_extension term && not (is_base64 letter)
+suits forms.TypedPlainDate term = is_extension term
+
+-- the type of the values of a term that stands in this form
+abbrev pub type_of : Form → Term → Option Letter
+type_of form term = elim (letter_of_form form) [ None ↦ letter_of term | Some letter ↦ Some letter ]
 
 -- A form that isn't one for the row's term counts for nothing.
 abbrev pub form_for : Form → Term → Form
@@ -100,6 +109,8 @@ said_in forms.Model term string = record { term = term; value = by_type term str
 said_in forms.PlainDate term string = record { term = term; value = plain_date string } ∷ []
 said_in forms.DueDateTypeCode term string = record { term = term; value = due_date_type string } ∷ []
 said_in forms.CodedNote term string = note_of string
+said_in (forms.Typed letter) term string = record { term = term; value = value_of letter string } ∷ []
+said_in forms.TypedPlainDate term string = record { term = term; value = plain_date string } ∷ []
 
 abbrev pub said : Form → Term → List ℕ → List Said
 said form term string = said_in (form_for form term) term string

@@ -1,11 +1,13 @@
 -- What a row of a table writes of an invoice in a context: nothing, or a string.
-use Rattle.std.specs.Prelude.{ℕ, nat_le, Bool, true, false, not, ◌&&◌, ◌||◌, List, [], ◌∷◌, ◌++◌, length, Option, Some, None, is_some, is_none}
+use Rattle.std.specs.Prelude.{ℕ, nat_le, Bool, true, false, not, ◌&&◌, ◌||◌, List, [], ◌∷◌, ◌++◌, length, Option, Some, None, is_some, is_none, option_and_then}
 use Rattle.std.specs.List.{list_all}
 use Rattle.std.specs.Str.{bytes_eq}
 use Rattle.inv_base.specs.Characters.{is_within}
 use Rattle.inv_decimal.specs.WrittenNumber.{scaled_text}
 use Rattle.inv_decimal.specs.WrittenDay.{plain_day_text}
 use Rattle.term_table.specs.declared.groups.Group.{Group}
+use Rattle.term_table.specs.declared.terms.Letter.{Letter}
+use Rattle.term_table.specs.declared.terms.Letter.TheVariants as letters
 use Rattle.term_table.specs.declared.terms.Term.{Term}
 use Rattle.inv_terms.specs.declared.values.Value.{Value}
 use Rattle.inv_terms.specs.declared.values.Value.TheVariants as values
@@ -20,6 +22,7 @@ use Rattle.bind_rows.specs.declared.rows.Form.TheVariants as forms
 use Rattle.bind_rows.specs.declared.rows.Content.TheVariants as contents
 use Rattle.bind_rows.specs.declared.rows.Written.{Written}
 use Rattle.bind_rows.specs.declared.rows.Written.TheVariants as written
+use Rattle.bind_rows.specs.Added.{is_typed, letter_of_form}
 use Rattle.bind_meaning.specs.Values.{Image, images, subject_code, form_for}
 
 -- the slot, where rows of this context have one
@@ -57,6 +60,8 @@ formed forms.Model es c value = spelled value
 formed forms.PlainDate es c value = plain_date value
 formed forms.DueDateTypeCode es c value = written_among images (spelled value)
 formed forms.CodedNote es c value = coded_note (value_in es subject_code c) (spelled value)
+formed (forms.Typed letter) es c value = spelled value
+formed forms.TypedPlainDate es c value = plain_date value
 
 -- ---- when it is written
 
@@ -95,8 +100,37 @@ abbrev pub filled : Written → List Entry → Context → Option (List ℕ)
 filled (written.OrFiller filler) es c = if_so (is_some (value_in es filler.beside c)) filler.text
 filled _ es c = None
 
+-- The context has an occurrence of each group of the row's.
+abbrev pub has_slots : Row → Context → Bool
+has_slots row c = (is_none row.outer || is_some c.outer) && (is_none row.inner || is_some c.inner)
+
+abbrev pub is_of_type : Letter → Value → Bool
+is_of_type letters.T (values.Text text) = true
+is_of_type letters.I (values.Identifier text) = true
+is_of_type letters.C (values.Code text) = true
+is_of_type letters.A (values.Amount number) = true
+is_of_type letters.Q (values.Quantity number) = true
+is_of_type letters.P (values.Percent number) = true
+is_of_type letters.D (values.Date day) = true
+is_of_type letters.B (values.Base64 text) = true
+is_of_type _ _ = false
+
+-- the value, where it has this type
+abbrev pub of_type : Letter → Value → Option Value
+of_type letter value = elim (is_of_type letter value) [ true ↦ Some value | false ↦ None ]
+
+abbrev pub of_form : Form → Value → Option Value
+of_form form value = elim (letter_of_form form) [ None ↦ Some value | Some letter ↦ of_type letter value ]
+
+-- the value that the row writes: an added row writes none in a context without its groups, nor one of another type
+abbrev pub value_for : Row → List Entry → Term → Context → Option Value
+value_for row es term c = elim (is_typed (form_for row.form term)) [
+  | true ↦ elim (has_slots row c) [ true ↦ option_and_then (of_form (form_for row.form term)) (value_in es term c) | false ↦ None ]
+  | false ↦ value_in es term c
+]
+
 abbrev pub term_text : Row → List Entry → Term → Context → Option (List ℕ)
-term_text row es term c = elim (value_in es term c) [
+term_text row es term c = elim (value_for row es term c) [
   | None ↦ filled row.written es c
   | Some value ↦ if_due row.written es term c (formed (form_for row.form term) es c value)
 ]

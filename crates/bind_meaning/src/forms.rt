@@ -3,7 +3,7 @@ ghost use Rattle.std.specs.Prelude.{◌≡◌, find, option_map};
 ghost use Rattle.term_table.specs.SemanticModel.{same_term};
 ghost use Rattle.bind_meaning.specs.Values as spec;
 
-use bind_rows::Form;
+use bind_rows::{Form, letter_of_form};
 use term_table::{Letter, Term, TermRow, term_rows};
 
 /// The type of a term, which is one wherever the term stands. None of what is no business term.
@@ -32,8 +32,18 @@ pub fn form_for(form: Form, term: Term) -> Form
     if suits(form, term) { form } else { Form::Model }
 }
 
+/// The type of the values of a term that stands in this form: that of the form, if it says one itself.
+pub fn type_of(form: Form, term: Term) -> Option<Letter>
+    ensures { result ≡ spec.type_of form term }
+{
+    match letter_of_form(form) {
+        Some(letter) => Some(letter),
+        None => letter_of(term),
+    }
+}
+
 // Whether the form is one for the term: a day without dashes for a term of that type, BT-8 by UNTDID 2475, BT-22 behind
-// its subject code.
+// its subject code, a type of its own for a term that a user added.
 fn suits(form: Form, term: Term) -> bool
     ensures { result ≡ spec.suits form term }
 {
@@ -42,6 +52,8 @@ fn suits(form: Form, term: Term) -> bool
         Form::PlainDate => matches!(letter_of(term), Some(Letter::D)),
         Form::DueDateTypeCode => is_term(8, term),
         Form::CodedNote => is_term(22, term),
+        Form::Typed(letter) => term.is_extension() && !matches!(letter, Letter::B),
+        Form::TypedPlainDate => term.is_extension(),
     }
 }
 

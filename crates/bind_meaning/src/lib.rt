@@ -7,7 +7,8 @@ mod forms;
 mod picked;
 mod tables;
 
+pub use bind_rows::Which;
 pub use fault::{BindFault, BindKind};
-pub use forms::{form_for, letter_of};
+pub use forms::{form_for, letter_of, type_of};
 pub use picked::{Picked, Seated, SeatedPick};
-pub use tables::{Syntax, Which};
+pub use tables::Syntax;

@@ -2,7 +2,7 @@ ghost use Rattle.std.specs.Prelude.{◌≡◌, IfOk};
 
 use crate::guards::{Guard, Place, Test};
 use crate::names::{ElementName, Leaf};
-use crate::rows::Step;
+use crate::rows::{Content, Filler, Row, Step, Written};
 use inv_base::{Many, Txt};
 use std::alloc::{AllocError, Global};
 
@@ -84,6 +84,56 @@ impl Copied for Step {
             always: self.always,
             group: self.group,
             guards: self.guards.copied(alloc)?,
+        })
+    }
+}
+
+impl Copied for Content {
+    fn copied(&self, alloc: Global) -> Result<Content, AllocError> {
+        match self {
+            Content::Term(term) => Ok(Content::Term(*term)),
+            Content::Constant(text) => Ok(Content::Constant(text.copied(alloc)?)),
+        }
+    }
+}
+
+impl Copied for Filler {
+    fn copied(&self, alloc: Global) -> Result<Filler, AllocError> {
+        Ok(Filler {
+            text: self.text.copied(alloc)?,
+            beside: self.beside,
+        })
+    }
+}
+
+impl Copied for Written {
+    fn copied(&self, alloc: Global) -> Result<Written, AllocError> {
+        match self {
+            Written::Always => Ok(Written::Always),
+            Written::Never => Ok(Written::Never),
+            Written::IfIban => Ok(Written::IfIban),
+            Written::IfNotIban => Ok(Written::IfNotIban),
+            Written::IfScheme => Ok(Written::IfScheme),
+            Written::IfNoScheme => Ok(Written::IfNoScheme),
+            Written::OrFiller(filler) => Ok(Written::OrFiller(filler.copied(alloc)?)),
+            Written::VatTotal => Ok(Written::VatTotal),
+            Written::AccountingVatTotal => Ok(Written::AccountingVatTotal),
+        }
+    }
+}
+
+impl Copied for Row {
+    fn copied(&self, alloc: Global) -> Result<Row, AllocError> {
+        Ok(Row {
+            path: self.path.copied(alloc)?,
+            leaf: self.leaf.copied(alloc)?,
+            outer: self.outer,
+            inner: self.inner,
+            content: self.content.copied(alloc)?,
+            form: self.form,
+            repeats: self.repeats,
+            written: self.written.copied(alloc)?,
+            check: self.check,
         })
     }
 }

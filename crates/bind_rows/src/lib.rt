@@ -3,13 +3,16 @@
 //! declare their elements.
 #![tactic(auto)]
 
+mod added;
 mod copies;
 mod guards;
 mod names;
 mod namespaces;
 mod rows;
 mod same;
+mod tables;
 
+pub use added::{is_added, is_typed, letter_of_form};
 pub use copies::Copied;
 pub use guards::{Guard, Place, Test};
 pub use inv_base::Many;
@@ -17,3 +20,4 @@ pub use names::{ElementName, Leaf, Namespace};
 pub use namespaces::{declared_by, prefix_of, uri_of};
 pub use rows::{Check, Content, Filler, Form, Repeats, Row, Step, Written};
 pub use same::{Same, are_same, is_same_or_none};
+pub use tables::Which;

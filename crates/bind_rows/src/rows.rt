@@ -1,7 +1,7 @@
 use crate::guards::Guard;
 use crate::names::{ElementName, Leaf};
 use inv_base::{Many, Txt};
-use term_table::{Group, Term};
+use term_table::{Group, Letter, Term};
 
 /// An element on the path of a row.
 pub struct Step {
@@ -50,6 +50,11 @@ pub enum Form {
     DueDateTypeCode,
     /// A note (BT-22) behind its subject code (BT-21), if it has one: `#CODE#note`.
     CodedNote,
+    /// As the semantic model spells a value of this type. The term is one that a user added: the model has no type for
+    /// it.
+    Typed(Letter),
+    /// A date without dashes, of a term that a user added.
+    TypedPlainDate,
 }
 
 /// How often a term's value may stand in its context.

@@ -8,7 +8,7 @@ use Rattle.bind_rows.specs.declared.rows.Check.{Check}
 use Rattle.bind_rows.specs.declared.rows.Check.TheVariants as checks
 use Rattle.bind_meaning.specs.declared.fault.BindFault.{BindFault}
 use Rattle.bind_meaning.specs.declared.fault.BindKind.TheVariants as kinds
-use Rattle.bind_meaning.specs.declared.tables.Which.{Which}
+use Rattle.bind_rows.specs.declared.tables.Which.{Which}
 use Rattle.bind_meaning.specs.Kept.{all_kept}
 use Rattle.bind_meaning.specs.Picks.{Numbered, numbered, rows_where, all_picked, term_in}
 use Rattle.bind_meaning.specs.Terms.{Read, in_order}

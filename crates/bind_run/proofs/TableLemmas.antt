@@ -2,8 +2,8 @@
 use Rattle.std.proofs.Common.{◌≡◌, true, refl}
 use Rattle.std.specs.List.{list_all}
 use Rattle.bind_table.specs.Laid.{is_laid}
-use Rattle.bind_meaning.specs.declared.tables.Which.{Which}
-use Rattle.bind_meaning.specs.declared.tables.Which.TheVariants as which
+use Rattle.bind_rows.specs.declared.tables.Which.{Which}
+use Rattle.bind_rows.specs.declared.tables.Which.TheVariants as which
 use Rattle.bind_meaning.specs.Tables.{rows_of}
 use Rattle.bind_write.specs.Sources.{has_plain_attribute}
 use Rattle.ubl_binding.specs.Tables.{invoice_rows, credit_note_rows, invoice_listing, credit_note_listing}

@@ -8,8 +8,8 @@ use Rattle.bind_rows.specs.Namespaces.{uri_of}
 use Rattle.bind_meaning.specs.declared.fault.BindKind.TheVariants as kinds
 use Rattle.bind_meaning.specs.declared.fault.BindFault.{BindFault}
 use Rattle.bind_meaning.specs.Names.{is_spelled}
-use Rattle.bind_meaning.specs.declared.tables.Which.{Which}
-use Rattle.bind_meaning.specs.declared.tables.Which.TheVariants as syntaxes
+use Rattle.bind_rows.specs.declared.tables.Which.{Which}
+use Rattle.bind_rows.specs.declared.tables.Which.TheVariants as syntaxes
 
 -- the syntax whose root has the name
 abbrev pub which_named : Name → Option Which

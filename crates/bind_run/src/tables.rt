@@ -1,6 +1,6 @@
 ghost use Rattle.std.specs.Prelude.{◌≡◌, true, IfOk};
 ghost use Rattle.std.specs.List.{list_all};
-ghost use Rattle.bind_meaning.specs.declared.tables.Which.{Which};
+ghost use Rattle.bind_rows.specs.declared.tables.Which.{Which};
 ghost use Rattle.bind_table.specs.Laid.{is_laid};
 ghost use Rattle.bind_write.specs.Sources.{has_plain_attribute};
 ghost use Rattle.bind_meaning.specs.Tables.{rows_of};

@@ -19,7 +19,9 @@ use Rattle.bind_rows.specs.declared.rows.Row.{Row}
 use Rattle.bind_rows.specs.declared.rows.Content.{Content}
 use Rattle.bind_rows.specs.declared.rows.Content.TheVariants as contents
 use Rattle.bind_rows.specs.Same.{same_step}
-use Rattle.bind_table.specs.WellFormed.{is_ambiguous, is_unknown, fault_of, told, first_fault_from}
+use Rattle.bind_table.specs.Sound.{is_unplaced}
+use Rattle.bind_table.specs.WellFormed.{first_fault}
+use Rattle.bind_table.proofs.SoundLemmas.{sound-at}
 use Rattle.bind_table.specs.declared.judging.TableKind.{TableKind}
 use Rattle.bind_table.specs.declared.judging.TableFault.{TableFault}
 use Rattle.bind_meaning.specs.Picks.{has_any_term, term_in}
@@ -106,42 +108,18 @@ some_of : (o : Option ℕ) → is_none o ≡ false → (k : ℕ) × (o ≡ Some 
 some_of None h = absurd (false≢true (sym h))
 some_of (Some k) h = (k, refl)
 
-no_fault : (all : List Row) (k : ℕ) (row : Row) → fault_of all k row ≡ None → is_unknown row row.content ≡ false
-no_fault all k row h = elim (cases_Bool (is_ambiguous all k row)) [
-  | inl e ↦ (let bad = rw e at h in cc)
-  | inr e ↦ elim (cases_Bool (is_unknown row row.content)) [
-    | inl f ↦ (let bad = rw (e, f) at h in cc)
-    | inr f ↦ f
-  ]
-]
-
-told-ok : (k : ℕ) (fault : Option TableKind) (others : Result (Unit {0}) TableFault) → told k fault others ≡ Ok tt → (fault ≡ None) × (others ≡ Ok tt)
-told-ok k None others h = (refl, h)
-told-ok k (Some kind) others h = absurd (let bad : Err (record { kind = kind; row = k + 1 }) ≡ Ok tt = h in cc)
-
-fault-at : (all rows : List Row) (k i : ℕ) (row : Row) → first_fault_from all k rows ≡ Ok tt → slice_get rows i ≡ Some row → is_unknown row row.content ≡ false
-fault-at all [] k i row h e = absurd (let bad : None ≡ Some row = e in cc)
-fault-at all (first ∷ rows) k zero row h e =
-    let same : first ≡ row = cc in
-    ap (λ (r : Row). is_unknown r r.content) (sym same) ∙ no_fault all k first (told-ok k (fault_of all k first) (first_fault_from all (k + 1) rows) h).0
-fault-at all (first ∷ rows) k (suc i) row h e = fault-at all rows (k + 1) i row (told-ok k (fault_of all k first) (first_fault_from all (k + 1) rows) h).1 e
-
-placed-term : (added lost : Bool) → (added || lost) ≡ false → lost ≡ false
-placed-term true lost h = absurd (false≢true (sym h))
-placed-term false lost h = h
-
-known-row : StepLaw → (term : Term) (row : Row) (inner : Group) → (is_extension term || is_none (row_in term row.outer row.inner)) ≡ false → row.inner ≡ Some inner → row.outer ≡ Some groups.InvoiceLine
+known-row : StepLaw → (term : Term) (row : Row) (inner : Group) → is_none (row_in term row.outer row.inner) ≡ false → row.inner ≡ Some inner → row.outer ≡ Some groups.InvoiceLine
 known-row law term row inner h e =
-    let found = some_of (row_in term row.outer row.inner) (placed-term (is_extension term) (is_none (row_in term row.outer row.inner)) h) in
+    let found = some_of (row_in term row.outer row.inner) h in
     let at = position-Some (is_row_in term row.outer row.inner) listing_rows found.0 blank found.1 in
     let stands = and_parts (same_term (get_or listing_rows found.0 blank).term term) (stands_in (get_or listing_rows found.0 blank).group row.outer row.inner) at.1 in
     outer-is law row.outer inner (get_or listing_rows found.0 blank).group (ap (stands_in (get_or listing_rows found.0 blank).group row.outer) (sym e) ∙ stands.1)
 
 -- A row with a term and an inner group stands in invoice lines.
-pub nested-row : StepLaw → (rows : List Row) → first_fault_from rows 0 rows ≡ Ok tt → (i : ℕ) (row : Row) → slice_get rows i ≡ Some row → has_any_term row ≡ true
+pub nested-row : StepLaw → (rows : List Row) → first_fault rows ≡ Ok tt → (i : ℕ) (row : Row) → slice_get rows i ≡ Some row → has_any_term row ≡ true
     → (inner : Group) → row.inner ≡ Some inner → row.outer ≡ Some groups.InvoiceLine
 nested-row law rows h i row e t inner is = go row.content refl
   where
     go : (content : Content) → row.content ≡ content → row.outer ≡ Some groups.InvoiceLine
-    go (contents.Term term) c = known-row law term row inner (ap (is_unknown row) (sym c) ∙ fault-at rows rows 0 i row h e) is
+    go (contents.Term term) c = known-row law term row inner (ap (is_unplaced row) (sym c) ∙ (sound-at rows i row h e).known) is
     go (contents.Constant text) c = absurd (false≢true (ap (λ x. is_some (term_in x)) (sym c) ∙ t))

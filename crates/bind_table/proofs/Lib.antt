@@ -3,6 +3,9 @@ pub mod SameLemmas
 pub mod PickLemmas
 pub mod EndLemmas
 pub mod NumberLemmas
+pub mod SoundLemmas
+pub mod ClearLemmas
 pub mod FrontLemmas
 pub mod PathLemmas
 pub mod MakingLemmas
+pub mod ExtendLemmas

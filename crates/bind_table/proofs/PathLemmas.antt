@@ -25,11 +25,11 @@ use Rattle.bind_table.specs.Paths.{line_paths}
 text-itself : (a : List ℕ) → bytes_eq a a ≡ true
 text-itself a = (bytes_eq-Decides a a).1 refl
 
-each-itself : {X : Type 0} (same : X → X → Bool) → ((x : X) → same x x ≡ true) → (xs : List X) → pointwise same xs xs ≡ true
+pub each-itself : {X : Type 0} (same : X → X → Bool) → ((x : X) → same x x ≡ true) → (xs : List X) → pointwise same xs xs ≡ true
 each-itself same h [] = refl
 each-itself same h (x ∷ xs) = and_from _ _ (h x) (each-itself same h xs)
 
-name-itself : (a : ElementName) → same_name a a ≡ true
+pub name-itself : (a : ElementName) → same_name a a ≡ true
 name-itself a = and_from _ _ (eq-eqb (number_of a.namespace) (number_of a.namespace) refl) (text-itself a.local)
 
 leaf-itself : (a : Leaf) → same_leaf a a ≡ true
@@ -49,7 +49,7 @@ flag-itself : (a : Bool) → same_flag a a ≡ true
 flag-itself true = refl
 flag-itself false = refl
 
-group-itself : (a : Option Group) → same_or_none a a ≡ true
+pub group-itself : (a : Option Group) → same_or_none a a ≡ true
 group-itself None = refl
 group-itself (Some a) = eq-eqb (terms.number_of a) (terms.number_of a) refl
 

@@ -2,7 +2,10 @@ pub mod Lines
 pub mod Limits
 pub mod Growing
 pub mod Parting
+pub mod Crossings
 pub mod WellFormed
+pub mod Sound
+pub mod Extending
 pub mod Samples
 pub mod Laid
 pub mod Picks

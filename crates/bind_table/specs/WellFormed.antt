@@ -1,7 +1,8 @@
 -- Which tables are well formed: no row is ambiguous, names a term that the semantic model doesn't have in its context,
--- or stands outside its context. No row adds a term to the semantic model yet, so one of EXT-1 to EXT-99 is unknown,
--- though it has a place in the listing order.
-use Rattle.std.specs.Prelude.{ℕ, ◌+◌, ◌==◌, nat_lt, Bool, true, false, not, ◌&&◌, ◌||◌, List, [], ◌∷◌, ◌++◌, length, take, Option, Some, None, Result, Ok, Err, is_none, codes, bytes_eq}
+-- or stands outside its context. The built-in part is judged by itself, and rows that users add against it and one
+-- another. A row with one of EXT-1 to EXT-99 that isn't such a row has an unknown term, though it has a place in the
+-- listing order.
+use Rattle.std.specs.Prelude.{ℕ, ◌+◌, ◌==◌, nat_lt, Bool, true, false, not, ◌&&◌, ◌||◌, List, [], ◌∷◌, ◌++◌, length, take, map, filter, flat_map, fold, max, Option, Some, None, Result, Ok, Err, is_none, codes, bytes_eq}
 use Rattle.std.specs.List.{list_all}
 use Rattle.std.specs.Cmp.Lexicographic.{pointwise}
 use Rattle.term_table.specs.declared.groups.Group.{Group}
@@ -14,7 +15,9 @@ use Rattle.bind_rows.specs.declared.rows.Step.{Step}
 use Rattle.bind_rows.specs.declared.rows.Row.{Row}
 use Rattle.bind_rows.specs.declared.rows.Content.{Content}
 use Rattle.bind_rows.specs.declared.rows.Content.TheVariants as contents
-use Rattle.bind_rows.specs.Same.{same_name, same_step, same_or_none, choose}
+use Rattle.bind_rows.specs.Same.{same_name, same_step, same_group, same_or_none, choose}
+use Rattle.bind_rows.specs.Added.{is_added, built}
+use Rattle.bind_table.specs.Crossings.{part_by_name, shared, passes_no_group, is_proper_front}
 use Rattle.bind_table.specs.Parting.{clash}
 use Rattle.bind_table.specs.declared.judging.TableKind.{TableKind}
 use Rattle.bind_table.specs.declared.judging.TableKind.TheVariants as kinds
@@ -22,10 +25,11 @@ use Rattle.bind_table.specs.declared.judging.TableFault.{TableFault}
 
 -- ---- Ambiguous
 
--- A row of the list, whose first one has the number, clashes with the row, and isn't the row of that number itself.
+-- A built-in row of the list, whose first one has the number, clashes with the row, and isn't the row of that number
+-- itself.
 abbrev pub clashes_from : ℕ → List Row → ℕ → Row → Bool
 clashes_from n [] k row = false
-clashes_from n (other ∷ others) k row = (not (n == k) && clash row other) || clashes_from (n + 1) others k row
+clashes_from n (other ∷ others) k row = (not (n == k) && (not (is_added other) && clash row other)) || clashes_from (n + 1) others k row
 
 abbrev pub is_ambiguous : List Row → ℕ → Row → Bool
 is_ambiguous rows k row = clashes_from 0 rows k row
@@ -104,21 +108,83 @@ is_rooted (first ∷ rows) row = has_root row.path first.path
 abbrev pub is_outside : List Row → Row → Bool
 is_outside rows row = not (is_rooted rows row && (is_placed rows row row.outer && (is_placed rows row row.inner && is_nested row row.outer row.inner)))
 
+-- ---- rows that users add, against the built-in part
+
+abbrev pub listed : Option Group → List Group
+listed None = []
+listed (Some group) = group ∷ []
+
+-- the groups that the elements of a path carry
+abbrev pub groups_of : List Step → List Group
+groups_of path = flat_map (λ (s : Step). listed s.group) path
+
+-- One element carries the group, and no other one a group.
+abbrev pub carries_only : Option Group → List Step → Bool
+carries_only group path = pointwise same_group (groups_of path) (listed group)
+
+abbrev pub begins_with : Option (List Step) → Group → Row → Bool
+begins_with None group row = false
+begins_with (Some front) group row = is_carried group row && same_path front (take (depth_of group row.path + 1) row.path)
+
+-- The path begins with the one element of the built-in part that carries the group.
+abbrev pub begins_there : List Row → Row → Option Group → Bool
+begins_there own row None = true
+begins_there own row (Some group) = is_carried_once group own && begins_with (first_carrier group own) group row
+
+-- The path begins where its context says, and goes through no other group.
+abbrev pub is_in_context : List Row → Row → Bool
+is_in_context own row =
+    is_rooted own row
+    && (begins_there own row row.outer && (carries_only row.outer row.path && list_all (λ (r : Row). passes_no_group row.outer row.path r.path) own))
+
+-- The paths part, or the other is a longer one that a user added: then it is that one's fault.
+abbrev pub stands_clear : Row → Row → Bool
+stands_clear row other = part_by_name row.path other.path || (is_added other && is_proper_front row.path other.path)
+
+abbrev pub parts_from : List Row → ℕ → ℕ → Row → Bool
+parts_from [] n k row = true
+parts_from (other ∷ others) n k row = ((n == k) || stands_clear row other) && parts_from others (n + 1) k row
+
+abbrev pub holds_term : Content → Bool
+holds_term (contents.Term term) = true
+holds_term (contents.Constant text) = false
+
+abbrev pub has_term : Row → Bool
+has_term row = holds_term row.content
+
+abbrev pub most_shared : List Step → List Row → ℕ
+most_shared path rows = fold max 0 (map (λ (row : Row). shared path row.path) rows)
+
+-- Below each element of the built-in part that the path goes through stands a term of it.
+abbrev pub is_held : List Row → Row → Bool
+is_held own row = most_shared row.path own == most_shared row.path (filter has_term own)
+
+abbrev pub added_fault : List Row → List Row → ℕ → Row → Option TableKind
+added_fault rows own k row =
+    choose (is_in_context own row)
+    (λ _. choose (parts_from rows 0 k row) (λ _. choose (is_held own row) (λ _. None) (λ _. Some kinds.Ambiguous)) (λ _. Some kinds.Ambiguous))
+    (λ _. Some kinds.OutsideContext)
+
 -- ---- the first row with a fault, from 1, and the first kind that it has
 
-abbrev pub fault_of : List Row → ℕ → Row → Option TableKind
-fault_of rows k row =
+-- of a row of the built-in part
+abbrev pub own_fault : List Row → List Row → ℕ → Row → Option TableKind
+own_fault rows own k row =
     choose (is_ambiguous rows k row) (λ _. Some kinds.Ambiguous)
     (λ _. choose (is_unknown row row.content) (λ _. Some kinds.UnknownTerm)
-    (λ _. choose (is_outside rows row) (λ _. Some kinds.OutsideContext) (λ _. None)))
+    (λ _. choose (is_outside own row) (λ _. Some kinds.OutsideContext) (λ _. None)))
+
+-- of the k-th row of a table, from 0, with the table's built-in part
+abbrev pub fault_of : List Row → List Row → ℕ → Row → Option TableKind
+fault_of rows own k row = choose (is_added row) (λ _. added_fault rows own k row) (λ _. own_fault rows own k row)
 
 abbrev pub told : ℕ → Option TableKind → Result (Unit {0}) TableFault → Result (Unit {0}) TableFault
 told k None others = others
 told k (Some kind) others = Err (record { kind = kind; row = k + 1 })
 
-abbrev pub first_fault_from : List Row → ℕ → List Row → Result (Unit {0}) TableFault
-first_fault_from rows k [] = Ok tt
-first_fault_from rows k (row ∷ others) = told k (fault_of rows k row) (first_fault_from rows (k + 1) others)
+abbrev pub first_fault_from : List Row → List Row → ℕ → List Row → Result (Unit {0}) TableFault
+first_fault_from rows own k [] = Ok tt
+first_fault_from rows own k (row ∷ others) = told k (fault_of rows own k row) (first_fault_from rows own (k + 1) others)
 
 abbrev pub first_fault : List Row → Result (Unit {0}) TableFault
-first_fault rows = first_fault_from rows 0 rows
+first_fault rows = first_fault_from rows (built rows) 0 rows

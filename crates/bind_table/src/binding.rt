@@ -1,12 +1,14 @@
-ghost use Rattle.std.specs.Prelude.{◌≡◌, ℕ, ◌+◌, ◌<◌, ◌^◌, ◌++◌, [], ◌∷◌, length, OnOk, OnErr, option_copied, slice_get};
+ghost use Rattle.std.specs.Prelude.{◌≡◌, ℕ, ◌+◌, ◌<◌, ◌^◌, ◌++◌, [], ◌∷◌, All, IfOk, length, OnOk, OnErr, option_copied, slice_get};
 ghost use Rattle.bind_table.specs.Lines.{plan_of, flat};
-ghost use Rattle.bind_table.specs.Limits.{HasSteps, HasSmallNumbers};
+ghost use Rattle.bind_table.specs.Extending.{added_row, extended};
+ghost use Rattle.bind_table.specs.Limits.{HasSteps, HasSmallNumbers, HasRoom, HasRooms};
 ghost use Rattle.bind_table.specs.WellFormed.{first_fault};
 
+use crate::extending::{AddedTerm, added_row, copy_of, push_terms};
 use crate::growing::add_row;
 use crate::judging::{TableFault, first_fault};
 use crate::lines::Line;
-use bind_rows::Row;
+use bind_rows::{Row, Which};
 use std::alloc::{AllocError, Global};
 use std::marker::Model;
 
@@ -74,6 +76,39 @@ impl Binding {
         }
     }
 
+    /// Puts the row of a term that a user adds behind the others. Without memory for it nothing changes.
+    pub fn push_term(&mut self, which: Which, term: &AddedTerm) -> Result<(), AllocError>
+        requires few { length self.old + 1 < 2 ^ 31 }
+        requires room { HasRoom self.old term.now }
+        ensures ok { OnOk result (self.new ≡ self.old ++ added_row which self.old term.now ∷ []) }
+        ensures err { OnErr result (self.new ≡ self.old) }
+    {
+        let row = added_row(self.alloc, which, self.rows.as_slice(), term)?;
+        self.push(row)
+    }
+
+    /// The table with a row for each of the terms behind its own, in their order.
+    pub fn extend(
+        &self,
+        alloc: Global,
+        which: Which,
+        terms: &[AddedTerm],
+    ) -> Result<Binding, AllocError>
+        requires steps { All HasSteps self.now }
+        requires numbers { All HasSmallNumbers self.now }
+        requires room { HasRooms which self.now terms.now }
+        ensures { IfOk result (λ b. b ≡ extended which self.now terms.now) }
+    {
+        let mut binding = copy_of(alloc, self.rows.as_slice())?;
+        match push_terms(&mut binding, which, terms) {
+            Ok(()) => Ok(binding),
+            Err(error) => {
+                drop(binding);
+                Err(error)
+            }
+        }
+    }
+
     /// The k-th row, from 0. None behind the last one.
     pub fn part(&self, k: usize) -> Option<&Row>
         ensures { option_copied result ≡ slice_get self.now k }
@@ -99,7 +134,10 @@ impl Binding {
 /// The first row of the table at which something is wrong, and what: a row that another row of the same path of names
 /// can't be told from (Ambiguous), a term that the semantic model doesn't have in the row's context (UnknownTerm), a
 /// context whose groups aren't carried by one element each of the row's path, the outer above the inner, or a path that
-/// begins with no root or another row's (OutsideContext).
+/// begins with no root or another row's (OutsideContext). So the built-in part is judged, by itself. The path of a row
+/// that a user added has to begin where its context says and to go through no other group (else OutsideContext), to part
+/// from each other row's path by a name, and to go through elements of the built-in part that have a term below them
+/// (else Ambiguous).
 pub fn well_formed(b: &Binding) -> Result<(), TableFault>
     ensures { result ≡ first_fault b.now }
 {

@@ -1,20 +1,26 @@
 ghost use Rattle.std.specs.Prelude.{◌≡◌, ℕ, [], chars, bytes_eq, ◌<◌, ◌≤◌, ◌+◌, ◌^◌, length, take, option_map};
 ghost use Rattle.std.specs.List.{list_all};
+ghost use Rattle.bind_rows.specs.Added.{built};
+ghost use Rattle.bind_rows.specs.Same.{same_group};
 ghost use Rattle.bind_table.specs.WellFormed as spec;
 
+use crate::adding::added_fault;
 use crate::parting::clash;
-use bind_rows::{Content, ElementName, Namespace, Row, Same, Step, are_same, is_same_or_none};
+use bind_rows::{
+    Content, ElementName, Namespace, Row, Same, Step, are_same, is_added, is_same_or_none,
+};
 use inv_base::{Txt, is_same_text};
 use term_table::{Group, row_in};
 
 /// What may be wrong with a row of a table.
 #[derive(Clone, Copy, Debug, PartialEq, Eq)]
 pub enum TableKind {
-    /// Another row has its path of names, and no guard parts the two.
+    /// Another row has its path of names, and no guard parts the two. Of a row that a user added: its path doesn't part
+    /// from another row's by a name, or goes through an element without a term below it.
     Ambiguous,
-    /// It has a term that isn't one of the semantic model in its context; EXT-1 to EXT-99 aren't in any.
+    /// It has a term that isn't one of the semantic model in its context, and no user added the row.
     UnknownTerm,
-    /// Its path doesn't carry its context.
+    /// Its path doesn't carry its context. Of a row that a user added: or goes through another group.
     OutsideContext,
 }
 
@@ -45,7 +51,17 @@ pub(crate) fn first_fault(rows: &[Row]) -> Result<(), TableFault>
 }
 
 fn fault_of(rows: &[Row], k: usize, row: &Row) -> Option<TableKind>
-    ensures { result ≡ spec.fault_of rows.now k row.now }
+    ensures { result ≡ spec.fault_of rows.now (built rows.now) k row.now }
+{
+    if is_added(row) {
+        added_fault(rows, k, row)
+    } else {
+        own_fault(rows, k, row)
+    }
+}
+
+fn own_fault(rows: &[Row], k: usize, row: &Row) -> Option<TableKind>
+    ensures { result ≡ spec.own_fault rows.now (built rows.now) k row.now }
 {
     if is_ambiguous(rows, k, row) {
         return Some(TableKind::Ambiguous);
@@ -63,7 +79,7 @@ fn is_ambiguous(rows: &[Row], k: usize, row: &Row) -> bool
     ensures { result ≡ spec.is_ambiguous rows.now k row.now }
 {
     'rows: for (n, other) in rows.iter().enumerate() {
-        if n != k && clash(row, other) {
+        if n != k && !is_added(other) && clash(row, other) {
             return true;
         }
     }
@@ -82,7 +98,7 @@ fn is_unknown(row: &Row) -> bool
 }
 
 fn is_outside(rows: &[Row], row: &Row) -> bool
-    ensures { result ≡ spec.is_outside rows.now row.now }
+    ensures { result ≡ spec.is_outside (built rows.now) row.now }
 {
     !(is_rooted(rows, row)
         && is_placed(rows, row, row.outer)
@@ -90,13 +106,15 @@ fn is_outside(rows: &[Row], row: &Row) -> bool
         && is_nested(row, row.outer, row.inner))
 }
 
-fn is_rooted(rows: &[Row], row: &Row) -> bool
-    ensures { result ≡ spec.is_rooted rows.now row.now }
+pub(crate) fn is_rooted(rows: &[Row], row: &Row) -> bool
+    ensures { result ≡ spec.is_rooted (built rows.now) row.now }
 {
-    match rows.first() {
-        Some(first) => has_root(row.path.as_slice(), first.path.as_slice()),
-        None => false,
+    'rows: for first in rows {
+        if !is_added(first) {
+            return has_root(row.path.as_slice(), first.path.as_slice());
+        }
     }
+    false
 }
 
 fn has_root(path: &[Step], first: &[Step]) -> bool
@@ -131,7 +149,7 @@ fn is_root_of(namespace: Namespace, local: &Txt) -> bool
 }
 
 fn is_placed(rows: &[Row], row: &Row, group: Option<Group>) -> bool
-    ensures { result ≡ spec.is_placed rows.now row.now group }
+    ensures { result ≡ spec.is_placed (built rows.now) row.now group }
 {
     match group {
         Some(group) => is_carried(group, row) && is_carried_once(group, rows),
@@ -152,6 +170,12 @@ fn is_nested(row: &Row, outer: Option<Group>, inner: Option<Group>) -> bool
     }
 }
 
+pub(crate) fn is_same_group(a: Group, b: Group) -> bool
+    ensures { result ≡ same_group a b }
+{
+    a == b
+}
+
 fn carries(group: Group, step: &Step) -> bool
     ensures { result ≡ spec.carries group step.now }
 {
@@ -159,7 +183,7 @@ fn carries(group: Group, step: &Step) -> bool
 }
 
 /// How many elements of the path come before the first that carries the group. All, if none does.
-fn depth_of(group: Group, path: &[Step]) -> usize
+pub(crate) fn depth_of(group: Group, path: &[Step]) -> usize
     ensures depth { result ≡ spec.depth_of group path.now }
     ensures within { result ≤ length path.now }
 {
@@ -179,9 +203,9 @@ fn is_carried(group: Group, row: &Row) -> bool
     depth_of(group, row.path.as_slice()) < row.path.len()
 }
 
-/// Whether one element of the table alone carries the group, or none.
-fn is_carried_once(group: Group, rows: &[Row]) -> bool
-    ensures { result ≡ spec.is_carried_once group rows.now }
+/// Whether one element of the built-in part alone carries the group, or none.
+pub(crate) fn is_carried_once(group: Group, rows: &[Row]) -> bool
+    ensures { result ≡ spec.is_carried_once group (built rows.now) }
 {
     match first_carrier(group, rows) {
         Some(first) => all_are(first, group, rows),
@@ -190,19 +214,24 @@ fn is_carried_once(group: Group, rows: &[Row]) -> bool
 }
 
 fn all_are(first: &[Step], group: Group, rows: &[Row]) -> bool
-    ensures { result ≡ list_all (λ r. list_all (spec.same_path first.now) (spec.carriers group [] r.path)) rows.now }
+    ensures { result ≡ list_all (λ r. list_all (spec.same_path first.now) (spec.carriers group [] r.path)) (built rows.now) }
 {
-    rows.iter()
-        .all(|row| are_all(first, group, row.path.as_slice()))
+    'rows: for row in rows {
+        if !is_added(row) && !are_all(first, group, row.path.as_slice()) {
+            return false;
+        }
+    }
+    true
 }
 
-fn first_carrier(group: Group, rows: &[Row]) -> Option<&[Step]>
-    ensures { option_map (λ path. path.now) result ≡ spec.first_carrier group rows.now }
+/// The front of the first built-in path that has an element which carries the group.
+pub(crate) fn first_carrier(group: Group, rows: &[Row]) -> Option<&[Step]>
+    ensures { option_map (λ path. path.now) result ≡ spec.first_carrier group (built rows.now) }
 {
     'rows: for row in rows {
         let path = row.path.as_slice();
         let depth = depth_of(group, path);
-        if depth < path.len() {
+        if !is_added(row) && depth < path.len() {
             return Some(path.split_at(depth + 1).0);
         }
     }

@@ -6,13 +6,16 @@ ghost use Rattle.std.specs.List.Sorted.{IsPermutation};
 ghost use Rattle.term_table.specs.declared.groups.Group.{Group};
 ghost use Rattle.bind_rows.specs.declared.rows.Row.{Row};
 ghost use Rattle.bind_rows.specs.declared.rows.Step.{Step};
+ghost use Rattle.bind_rows.specs.Added.{is_added};
 ghost use Rattle.bind_rows.specs.Same.{same_step};
+ghost use Rattle.bind_table.specs.Crossings.{part_by_name};
 ghost use Rattle.bind_table.specs.Lines.{plan_of};
 ghost use Rattle.bind_table.specs.WellFormed.{first_fault, is_carried};
 ghost use Rattle.bind_table.specs.Ends.{ends, own_ends};
 ghost use Rattle.bind_table.specs.Fronts.{HasGroup, front_of};
 ghost use Rattle.bind_table.specs.Numbering.{rises, place_among};
 ghost use Rattle.bind_table.specs.Paths.{line_paths};
+ghost use Rattle.bind_table.specs.Sound.{IsSoundRow};
 ghost use Rattle.bind_table.specs.Picks.{Sight, picked_from, walked};
 
 /// Two steps that are compared as the same are equal.
@@ -45,6 +48,20 @@ pub fn lines_have_paths_of_their_own()
 pub fn occurrences_have_no_gap()
     ensures { (is_occurrence : ℕ → Bool) (nodes : List ℕ) → rises nodes ≡ true
         → map (place_among is_occurrence nodes) (filter is_occurrence nodes) ≡ range_with_len 1 (length (filter is_occurrence nodes)) }
+{}
+
+/// Each row of a well-formed table, built in or added, has a term with a place in its context, begins with the root of
+/// the others, and carries each group of its context by the one element of the table that carries it, the outer above the
+/// inner.
+pub fn rows_are_sound()
+    ensures { (rows : List Row) → first_fault rows ≡ Ok tt → All (IsSoundRow rows) rows }
+{}
+
+/// In a well-formed table the path of a row that a user added parts from each other row's by a name: both go through the
+/// same elements until they go through two of different names.
+pub fn added_rows_part_from_others()
+    ensures { (rows : List Row) (j k : ℕ) (row other : Row) → first_fault rows ≡ Ok tt → slice_get rows j ≡ Some row
+        → slice_get rows k ≡ Some other → (j ≡ k → ⊥) → is_added row ≡ true → part_by_name row.path other.path ≡ true }
 {}
 
 /// In a well-formed table all rows that have a group in their context, and all other rows that pass through an element

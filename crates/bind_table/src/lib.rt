@@ -3,9 +3,12 @@
 //! listed, an element with what stands in it, line by line, as the standards list their syntaxes.
 #![tactic(auto)]
 
+mod adding;
 mod binding;
 mod cells;
 mod conditions;
+mod crossings;
+mod extending;
 mod growing;
 mod items;
 mod judging;
@@ -18,6 +21,7 @@ mod parting;
 pub use binding::{Binding, well_formed};
 pub use cells::Cell;
 pub use conditions::{Asked, Condition, Tag};
+pub use extending::AddedTerm;
 pub use items::{Head, TableItem};
 pub use judging::{TableFault, TableKind};
 pub use lines::Line;

@@ -14,8 +14,8 @@ use Rattle.inv_decimal.specs.WrittenDay.{read_plain_day, read_dashed_day, dashed
 use Rattle.term_table.specs.declared.terms.Letter.{Letter}
 use Rattle.term_table.specs.declared.terms.Letter.TheVariants as letters
 use Rattle.term_table.specs.declared.terms.Term.{Term}
-use Rattle.term_table.specs.SemanticModel.{terms}
-use Rattle.term_table.specs.Rows.{modelled}
+use Rattle.term_table.specs.SemanticModel.{terms, is_extension}
+use Rattle.term_table.specs.Rows.{is_base64, HasType, modelled, added}
 use Rattle.term_table.proofs.GroupLemmas.{both}
 use Rattle.inv_terms.specs.declared.values.Value.{Value}
 use Rattle.inv_terms.specs.declared.values.Value.TheVariants as values
@@ -186,21 +186,34 @@ note-fits (first ∷ (a ∷ (b ∷ []))) = plain-fits _
 note-fits (first ∷ (a ∷ (b ∷ (c ∷ [])))) = plain-fits _
 note-fits (first ∷ (a ∷ (b ∷ (c ∷ (last ∷ text))))) = behind-fits (first ∷ (a ∷ (b ∷ (c ∷ (last ∷ text))))) first a b c last text
 
+-- ---- terms that a user added
+
+not-true : (b : Bool) → not b ≡ true → b ≡ false
+not-true true h = absurd (false≢true h)
+not-true false h = refl
+
+typed-fits : (letter : Letter) (term : Term) (string : List ℕ) → suits (forms.Typed letter) term ≡ true → (value : Value) → value_of letter string ≡ Some value → Fits term value
+typed-fits letter term string h value read =
+    let k = both (is_extension term) (not (is_base64 letter)) h in
+    record { letter = letter; text = string; typed = added k.0 (not-true (is_base64 letter) k.1); read = read }
+
 -- ---- each form
 
 module _ (dashed : (d : CivilDay) → IsDay d → read_dashed_day (dashed_day_text d) ≡ Some d)
     (days : (cs : List ℕ) (d : CivilDay) → read_plain_day cs ≡ Some d → IsDay d) where
-  date-fits : (term : Term) (string : List ℕ) (value : Value) → letter_of term ≡ Some letters.D → plain_date string ≡ Some value → Fits term value
+  date-fits : (term : Term) (string : List ℕ) (value : Value) → HasType term letters.D → plain_date string ≡ Some value → Fits term value
   date-fits term string value e h =
       let w = taken values.Date (read_plain_day (trimmed string)) value (some-if (list_all is_char string) _ value h) in
       let read = day-read w.0 (dashed w.0 (days _ w.0 w.1)) in
-      subst (Fits term) w.2 (record { letter = letters.D; text = dashed_day_text w.0; typed = modelled e; read = read })
+      subst (Fits term) w.2 (record { letter = letters.D; text = dashed_day_text w.0; typed = e; read = read })
 
   suited-fits : (form : Form) (term : Term) (string : List ℕ) → suits form term ≡ true → AllFit (said_in form term string)
   suited-fits forms.Model term string h = one-fits term (by_type term string) (by_type-fits term string)
-  suited-fits forms.PlainDate term string h = one-fits term (plain_date string) (λ v. date-fits term string v (date-is _ h))
+  suited-fits forms.PlainDate term string h = one-fits term (plain_date string) (λ v. date-fits term string v (modelled (date-is _ h)))
   suited-fits forms.DueDateTypeCode term string h = one-fits term (due_date_type string) (λ v. images-fit term (trimmed string) v (due_date_term term h))
   suited-fits forms.CodedNote term string h = note-fits string
+  suited-fits (forms.Typed letter) term string h = one-fits term (value_of letter string) (typed-fits letter term string h)
+  suited-fits forms.TypedPlainDate term string h = one-fits term (plain_date string) (λ v. date-fits term string v (added h refl))
 
   form-fits : (form : Form) (term : Term) (string : List ℕ) (b : Bool) → suits form term ≡ b → AllFit (said_in (elim b [ true ↦ form | false ↦ forms.Model ]) term string)
   form-fits form term string true h = suited-fits form term string h

@@ -5,6 +5,7 @@ use Rattle.inv_base.specs.declared.tree.Kind.{Kind}
 use Rattle.inv_base.specs.declared.tree.Kind.TheVariants as node_kinds
 use Rattle.inv_base.specs.Tree.{Node}
 use Rattle.code_lists.specs.CodeFiles.{Lists}
+use Rattle.term_table.specs.declared.terms.Letter.TheVariants as letters
 use Rattle.term_table.specs.declared.terms.Term.{Term}
 use Rattle.term_table.specs.declared.contexts.Context.{Context}
 use Rattle.inv_terms.specs.Values.{is_blank, trimmed}
@@ -16,8 +17,8 @@ use Rattle.bind_meaning.specs.declared.fault.BindKind.{BindKind}
 use Rattle.bind_meaning.specs.declared.fault.BindKind.TheVariants as kinds
 use Rattle.bind_meaning.specs.Elements.{string_at, has_element_inside}
 use Rattle.bind_meaning.specs.Currencies.{amount_currency}
-use Rattle.bind_meaning.specs.Values.{Said}
-use Rattle.bind_meaning.specs.Judging.{Cause, first_cause, may_repeat, breaks, is_amount, differs, disagree}
+use Rattle.bind_meaning.specs.Values.{Said, form_for, type_of}
+use Rattle.bind_meaning.specs.Judging.{Cause, first_cause, may_repeat, breaks, differs, disagree}
 
 abbrev pub is_element_kind : Kind → Bool
 is_element_kind kind = elim kind [ node_kinds.Document ↦ false | node_kinds.Element ↦ true | node_kinds.Attribute ↦ false | node_kinds.Text ↦ false ]
@@ -40,8 +41,12 @@ is_not_listed lists context said = is_outside lists (list_of said.term context) 
 abbrev pub is_accounting_total : Written → Bool
 is_accounting_total w = elim w [ written.AccountingVatTotal ↦ true | _ ↦ false ]
 
+-- The row's values of the term are amounts.
+abbrev pub is_amount : Row → Term → Bool
+is_amount row term = elim (type_of (form_for row.form term) term) [ Some letters.A ↦ true | _ ↦ false ]
+
 abbrev pub is_foreign : List Node → Option (List ℕ) → Row → ℕ → Term → Bool
-is_foreign nodes invoice row n term = elim (is_amount term && not (is_accounting_total row.written)) [ true ↦ differs invoice (amount_currency nodes n) | false ↦ false ]
+is_foreign nodes invoice row n term = elim (is_amount row term && not (is_accounting_total row.written)) [ true ↦ differs invoice (amount_currency nodes n) | false ↦ false ]
 
 abbrev pub is_disagreeing : Option Said → Said → Bool
 is_disagreeing None said = false

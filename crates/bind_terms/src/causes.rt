@@ -11,7 +11,7 @@ use crate::Said;
 use crate::checks::breaks;
 use crate::currency::differs;
 use crate::insides::has_element_inside;
-use bind_meaning::{BindKind, letter_of};
+use bind_meaning::{BindKind, form_for, type_of};
 use bind_rows::{Check, Repeats, Row, Written};
 use code_lists::CodeLists;
 use inv_base::Steps;
@@ -116,10 +116,11 @@ fn is_outside(lists: &CodeLists, term: Term, context: Context, value: &Value) ->
     }
 }
 
-fn is_amount(term: Term) -> bool
-    ensures { result ≡ spec.is_amount term }
+// Whether the row's values of the term are amounts.
+fn is_amount(row: &Row, term: Term) -> bool
+    ensures { result ≡ kinds.is_amount row.now term }
 {
-    matches!(letter_of(term), Some(Letter::A))
+    matches!(type_of(form_for(row.form, term), term), Some(Letter::A))
 }
 
 fn is_accounting_total(written: &Written) -> bool
@@ -141,7 +142,7 @@ fn is_foreign<L: Ledger>(
     requires { n < length doc.now.nodes }
     ensures { IfOk result (λ foreign. foreign ≡ kinds.is_foreign (tree_nodes doc.now) (option_map (λ text. chars text.now) invoice_currency.entry) row.now n term) }
 {
-    if is_amount(term) && !is_accounting_total(&row.written) {
+    if is_amount(row, term) && !is_accounting_total(&row.written) {
         return differs(alloc, doc, invoice_currency, n, steps);
     }
     Ok(false)

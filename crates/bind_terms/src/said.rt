@@ -49,5 +49,13 @@ pub fn what_is_said(
             value: due_date_type(alloc, text)?,
         })),
         Form::CodedNote => note_of(alloc, text),
+        Form::Typed(letter) => Ok(Sayings::One(Said {
+            term,
+            value: Value::read(alloc, letter, text)?,
+        })),
+        Form::TypedPlainDate => Ok(Sayings::One(Said {
+            term,
+            value: plain_date(text),
+        })),
     }
 }

@@ -1,6 +1,6 @@
 -- What is looked up among the entries of one occurrence is what all entries have.
 use Rattle.std.proofs.Common.{◌≡◌, ℕ, ◌+◌, ◌==◌, Bool, true, false, ◌&&◌, ◌||◌, cond, List, [], ◌∷◌, Option, Some, None, refl, ap, sym, ◌∙◌, subst, arith, fold, max, map, length, suc, ◌<◌, ◌≤◌, get_or, drop, drop-cons, add-one}
-use Rattle.std.specs.Prelude.{filter, find, option_map, is_none, is_some, nat_eq}
+use Rattle.std.specs.Prelude.{filter, find, option_map, option_and_then, is_none, is_some, nat_eq}
 use Rattle.std.proofs.lemmas.Bool.Decides.{nat_tests}
 use Rattle.std.proofs.lemmas.Grind.{common_steps}
 use Rattle.std.proofs.lemmas.List.Elements.{All-filter}
@@ -16,8 +16,19 @@ use Rattle.term_table.specs.SemanticModel.{same_term}
 use Rattle.term_table.specs.Places.{seat_place}
 use Rattle.term_table.specs.Runs.{IsInOrder, MayFollow, is_in}
 use Rattle.inv_terms.specs.declared.entries.Entry.{Entry}
+use Rattle.inv_terms.specs.declared.values.Value.{Value}
+use Rattle.inv_terms.specs.Values.{spelled}
 use Rattle.inv_terms.specs.Listing.{seat_of, is_at}
-use Rattle.bind_meaning.specs.Trees.{index_in, inner_count}
+use Rattle.bind_rows.specs.declared.rows.Content.TheVariants as contents
+use Rattle.bind_rows.specs.declared.rows.Form.{Form}
+use Rattle.bind_rows.specs.declared.rows.Form.TheVariants as forms
+use Rattle.bind_rows.specs.declared.rows.Row.{Row}
+use Rattle.bind_rows.specs.declared.rows.Written.{Written}
+use Rattle.bind_rows.specs.declared.rows.Written.TheVariants as written
+use Rattle.bind_rows.specs.Added.{is_typed}
+use Rattle.bind_meaning.specs.Values.{subject_code, form_for}
+use Rattle.bind_meaning.specs.Writing.{coded_note, formed, if_so, scheme_of, if_due, filled, has_slots, of_form, value_for, term_text, row_text, context_for}
+use Rattle.bind_meaning.specs.Trees.{index_in, inner_count, constant_or_text}
 use Rattle.bind_write.specs.Sources.{run_of, HasSameValues}
 use Rattle.bind_write.specs.Spots.{inner_count_of}
 
@@ -142,3 +153,70 @@ drop-past es k h = grind (arith, common_steps)
 
 pub no_entry : (f : Entry → ℕ) (n : ℕ) (es : List Entry) (k : ℕ) → length es ≤ k → fold max n (map f (drop k es)) ≡ n
 no_entry f n es k h = ap (λ x. fold max n (map f x)) (drop-past es k h)
+
+-- ---- what a row writes by the entries of one occurrence
+
+module _ (es run : List Entry) (c : Context) (same : HasSameValues es run c) where
+  formed-same : (form : Form) (value : Value) → formed form run c value ≡ formed form es c value
+  formed-same forms.Model value = refl
+  formed-same forms.PlainDate value = refl
+  formed-same forms.DueDateTypeCode value = refl
+  formed-same forms.CodedNote value = ap (λ code. coded_note code (spelled value)) (same subject_code)
+  formed-same (forms.Typed letter) value = refl
+  formed-same forms.TypedPlainDate value = refl
+
+  due-same : (rule : Written) (term : Term) (text : List ℕ) → if_due rule run term c text ≡ if_due rule es term c text
+  due-same written.Always term text = refl
+  due-same written.Never term text = refl
+  due-same written.IfIban term text = refl
+  due-same written.IfNotIban term text = refl
+  due-same written.IfScheme term text = ap (λ value. if_so (is_some value) text) (same (scheme_of term))
+  due-same written.IfNoScheme term text = ap (λ value. if_so (is_none value) text) (same (scheme_of term))
+  due-same (written.OrFiller filler) term text = refl
+  due-same written.VatTotal term text = refl
+  due-same written.AccountingVatTotal term text = refl
+
+  filled-same : (rule : Written) → filled rule run c ≡ filled rule es c
+  filled-same written.Always = refl
+  filled-same written.Never = refl
+  filled-same written.IfIban = refl
+  filled-same written.IfNotIban = refl
+  filled-same written.IfScheme = refl
+  filled-same written.IfNoScheme = refl
+  filled-same (written.OrFiller filler) = ap (λ value. if_so (is_some value) filler.text) (same filler.beside)
+  filled-same written.VatTotal = refl
+  filled-same written.AccountingVatTotal = refl
+
+  value-same : (row : Row) (term : Term) → value_for row run term c ≡ value_for row es term c
+  value-same row term =
+      ap (λ value. elim (is_typed (form_for row.form term)) [
+        | true ↦ elim (has_slots row c) [ true ↦ option_and_then (of_form (form_for row.form term)) value | false ↦ None ]
+        | false ↦ value
+      ]) (same term)
+
+  -- the same text
+  pub text-same : (row : Row) (term : Term) → term_text row run term c ≡ term_text row es term c
+  text-same row term =
+      go (value_for row run term c)
+      ∙ ap (λ o. elim o [ None ↦ filled row.written es c | Some value ↦ if_due row.written es term c (formed (form_for row.form term) es c value) ]) (value-same row term)
+    where
+      go : (o : Option Value)
+          → ◌≡◌ {A = Option (List ℕ)} (elim o [ None ↦ filled row.written run c | Some value ↦ if_due row.written run term c (formed (form_for row.form term) run c value) ])
+          (elim o [ None ↦ filled row.written es c | Some value ↦ if_due row.written es term c (formed (form_for row.form term) es c value) ])
+      go None = filled-same row.written
+      go (Some value) = due-same row.written term (formed (form_for row.form term) run c value) ∙ ap (if_due row.written es term c) (formed-same (form_for row.form term) value)
+
+  pub writes-same : {A : Type 0} (f : A → List ℕ) (w : Option A) (row : Row) (term : Term) → option_map f w ≡ term_text row run term c → is_some w ≡ is_some (term_text row es term c)
+  writes-same {A = A} f w row term e = mapped w ∙ ap is_some (e ∙ text-same row term)
+    where
+      mapped : (o : Option A) → is_some o ≡ is_some (option_map f o)
+      mapped None = refl
+      mapped (Some x) = refl
+
+-- ---- what a row with a term writes
+
+pub row-said : (es : List Entry) (c d : Context) (row : Row) (term : Term) → row.content ≡ contents.Term term → d ≡ context_for row c → term_text row es term d ≡ row_text row es c
+row-said es c d row term is e = ap (term_text row es term) e ∙ ap (λ x. elim x [ (contents.Term t) ↦ term_text row es t (context_for row c) | (contents.Constant text) ↦ None ]) (sym is)
+
+pub row-written : (es : List Entry) (c : Context) (row : Row) (term : Term) → row.content ≡ contents.Term term → row_text row es c ≡ constant_or_text es c row
+row-written es c row term is = ap (λ x. elim x [ (contents.Constant text) ↦ Some text | (contents.Term t) ↦ row_text row es c ]) (sym is)

@@ -63,6 +63,8 @@ plain_form local forms.Model e = refl
 plain_form local forms.PlainDate e = refl
 plain_form local forms.DueDateTypeCode e = refl
 plain_form local forms.CodedNote e = cc
+plain_form local (forms.Typed letter) e = refl
+plain_form local forms.TypedPlainDate e = refl
 
 pub row-plain : (rows : List Row) (k : ℕ) (row : Row) (local : List ℕ) → list_all has_plain_attribute rows ≡ true → Some row ≡ slice_get rows k → row.leaf ≡ leaves.Attribute local → is_note row.form ≡ false
 row-plain rows k row local a e l = plain_form local row.form (ap (λ x. is_plain_leaf x row.form) (sym l) ∙ all-at has_plain_attribute rows k row a (sym e))

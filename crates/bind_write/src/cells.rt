@@ -11,7 +11,7 @@ ghost use Rattle.bind_write.specs.Cells as spec;
 use crate::holding::{row_at, wording_of, writes};
 use crate::source::Source;
 use crate::wording::{Plain, Wording, text_of};
-use bind_meaning::letter_of;
+use bind_meaning::{form_for, type_of};
 use bind_rows::{Content, Leaf, Namespace, Row, Step, Written};
 use bind_table::Line;
 use inv_base::{Sink, Txt};
@@ -49,7 +49,7 @@ fn is_amount(row: &Row) -> bool
 {
     match row.content {
         Content::Constant(_) => false,
-        Content::Term(term) => match letter_of(term) {
+        Content::Term(term) => match type_of(form_for(row.form, term), term) {
             Some(Letter::A) => true,
             _ => false,
         },

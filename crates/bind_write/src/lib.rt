@@ -8,8 +8,10 @@ mod roots;
 mod sizes;
 mod source;
 mod spots;
+mod types;
 mod walking;
 mod wording;
 
 pub use documents::write;
 pub use sizes::measure;
+pub use types::is_of_type;

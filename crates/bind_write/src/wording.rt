@@ -11,6 +11,7 @@ ghost use Rattle.bind_meaning.specs.Values as meaning;
 ghost use Rattle.bind_write.specs.Sources as sources;
 ghost use Rattle.bind_write.specs.Wordings as spec;
 
+use crate::types::value_for;
 use bind_meaning::form_for;
 use bind_rows::{Content, Form, Row, Written};
 use inv_base::Txt;
@@ -159,6 +160,14 @@ fn formed<'a>(form: Form, entries: &'a [Entry], context: Context, value: &'a Val
             subject: value_in(entries, SUBJECT, context),
             text: Plain::Value(value),
         },
+        Form::Typed(_) => Wording {
+            subject: None,
+            text: Plain::Value(value),
+        },
+        Form::TypedPlainDate => Wording {
+            subject: None,
+            text: plain_date(value),
+        },
     }
 }
 
@@ -282,7 +291,7 @@ pub(crate) fn term_wording<'a>(
     ensures text { option_map spec.wording_text result ≡ writing.term_text row.now entries.now term context }
     ensures plain { sources.is_note row.now.form ≡ false → spec.IsPlain result }
 {
-    match value_in(entries, term, context) {
+    match value_for(row, entries, term, context) {
         None => filler(row, entries, context),
         Some(value) => value_wording(row, entries, term, context, value),
     }

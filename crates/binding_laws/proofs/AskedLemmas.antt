@@ -142,7 +142,7 @@ module _ (law : Laws) (rows : List Row) (es : List Entry) (invoice : IsInvoice e
   full-part : (x : Together) → Among x (known_of rows).together → (d : Context) (v : Value) → value_in es x.part d ≡ Some v → is_full (trimmed (spelled v)) ≡ true
   full-part x a d v at =
       let f = fits x.part d v at in
-      ap is_full (trimmed-as-it-is law x.part v (together-is rows x a).letter f) ∙ back-full law forms.Model x.part es d v (whole-back es forms.Model d v refl) f
+      ap is_full (trimmed-as-it-is law x.part v (together-is rows x a).letter f) ∙ back-full law forms.Model x.part es d v (whole-back es forms.Model d v refl refl) f
 
   part-with : (x : Together) → Among x (known_of rows).together → (d : Context) → Among d (spots es root_context (Some x.group)) → (v : Value) → value_in es x.term (outer_context d) ≡ Some v
       → (w : Value) × (value_in es x.part (outer_context d) ≡ Some w)

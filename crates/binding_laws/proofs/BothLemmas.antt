@@ -22,15 +22,14 @@ use Rattle.bind_rows.specs.declared.rows.Form.{Form}
 use Rattle.bind_rows.specs.declared.rows.Form.TheVariants as forms
 use Rattle.bind_rows.specs.declared.rows.Written.TheVariants as written
 use Rattle.bind_table.specs.Lines.{plan_of}
-use Rattle.bind_meaning.specs.Values.{letter_of, form_for}
+use Rattle.bind_meaning.specs.Values.{letter_of, form_for, type_of}
 use Rattle.bind_meaning.specs.Elements.{is_full}
 use Rattle.bind_meaning.specs.Picks.{has_term, term_in}
 use Rattle.bind_meaning.specs.Currencies.{Currencies, invoice_currency, accounting_currency, currency_id, is_accounting}
-use Rattle.bind_meaning.specs.Judging.{is_amount}
 use Rattle.bind_meaning.specs.Writing.{context_for, formed, if_due, row_text, term_text, filled as filled_text}
-use Rattle.bind_meaning.specs.Trees.{attribute, document_of, constant_or_text, is_at_element, is_vat_total}
+use Rattle.bind_meaning.specs.Trees.{is_amount, attribute, document_of, constant_or_text, is_at_element, is_vat_total}
 use Rattle.binding_laws.specs.Apart.{is_at_attribute, holds_none}
-use Rattle.binding_laws.specs.Plain.{is_whole, has_content, rows_at}
+use Rattle.binding_laws.specs.Plain.{is_whole, is_of_one_term, has_content, rows_at}
 use Rattle.binding_laws.specs.Covered.{is_or_filler, beside_filler, is_accounting_rule, accounting_terms_of, accounting_terms, are_pair, is_of_pair, is_pair_in, currency_text, is_other_text}
 use Rattle.binding_laws.specs.Faultless.{is_in_invoice_currency, is_no_row}
 use Rattle.binding_laws.specs.Written.{Spot, values_named}
@@ -39,6 +38,7 @@ use Rattle.binding_laws.proofs.ListLemmas.{append-nil, not-true, or-either}
 use Rattle.binding_laws.proofs.CellLemmas.{own_text}
 use Rattle.binding_laws.proofs.ReachLemmas.{Among, among-flat_map, own-texts, any-is, all-is, none-is}
 use Rattle.binding_laws.proofs.FormLemmas.{Laws, whole-back}
+use Rattle.binding_laws.proofs.TakenLemmas.{one-untyped, as-modelled}
 use Rattle.binding_laws.proofs.RowLemmas.{Place, places_at, ArePlaced}
 use Rattle.binding_laws.proofs.PlainLemmas.{at-value}
 use Rattle.binding_laws.proofs.PlacedLemmas.{IsTotalThere, IsPair, test-behind, pair-by-test}
@@ -62,6 +62,8 @@ money-form forms.Model = refl
 money-form forms.PlainDate = refl
 money-form forms.DueDateTypeCode = refl
 money-form forms.CodedNote = refl
+money-form (forms.Typed letter) = refl
+money-form forms.TypedPlainDate = refl
 
 pub accounting-form : (form : Form) → form_for form accounting_currency ≡ forms.Model
 unfolding terms
@@ -69,24 +71,33 @@ accounting-form forms.Model = refl
 accounting-form forms.PlainDate = refl
 accounting-form forms.DueDateTypeCode = refl
 accounting-form forms.CodedNote = refl
+accounting-form (forms.Typed letter) = refl
+accounting-form forms.TypedPlainDate = refl
 
-no-amount : is_amount invoice_currency ≡ false
-unfolding terms
-no-amount = refl
+-- whether a value of the term is an amount in the form
+abbrev pub is_amount_as : Form → Term → Bool
+is_amount_as form term = elim (type_of (form_for form term) term) [ Some letters.A ↦ true | _ ↦ false ]
 
-no-accounting-amount : is_amount accounting_currency ≡ false
+no-amount : (form : Form) → is_amount_as form invoice_currency ≡ false
 unfolding terms
-no-accounting-amount = refl
+no-amount form = ap (λ f. elim (type_of f invoice_currency) [ Some letters.A ↦ true | _ ↦ false ]) (money-form form)
+
+no-accounting-amount : (form : Form) → is_amount_as form accounting_currency ≡ false
+unfolding terms
+no-accounting-amount form = ap (λ f. elim (type_of f accounting_currency) [ Some letters.A ↦ true | _ ↦ false ]) (accounting-form form)
 
 -- a currency is no amount
-no-money : (row : Row) (term : Term) → row.content ≡ contents.Term term → is_amount term ≡ true → (has_term invoice_currency row || has_term accounting_currency row) ≡ false
+no-money : (row : Row) (term : Term) → row.content ≡ contents.Term term → is_amount row ≡ true → (has_term invoice_currency row || has_term accounting_currency row) ≡ false
 no-money row term content amount =
     (λ i. (elim (term_in (content i)) [ None ↦ false | Some t ↦ same_term t invoice_currency ]) || (elim (term_in (content i)) [ None ↦ false | Some t ↦ same_term t accounting_currency ]))
-    ∙ (λ i. not-this invoice_currency no-amount (same_term term invoice_currency) refl i || not-this accounting_currency no-accounting-amount (same_term term accounting_currency) refl i)
+    ∙ (λ i. not-this invoice_currency (no-amount row.form) (same_term term invoice_currency) refl i || not-this accounting_currency (no-accounting-amount row.form) (same_term term accounting_currency) refl i)
   where
-    not-this : (money : Term) → is_amount money ≡ false → (b : Bool) → same_term term money ≡ b → b ≡ false
+    own : is_amount_as row.form term ≡ true
+    own = sym (ap (λ x. elim (term_in x) [ None ↦ false | Some t ↦ is_amount_as row.form t ]) content) ∙ amount
+
+    not-this : (money : Term) → is_amount_as row.form money ≡ false → (b : Bool) → same_term term money ≡ b → b ≡ false
     not-this money none false e = refl
-    not-this money none true e = absurd (false≢true (sym none ∙ (ap is_amount (sym (same_term_is term money e)) ∙ amount)))
+    not-this money none true e = absurd (false≢true (sym none ∙ (ap (is_amount_as row.form) (sym (same_term_is term money e)) ∙ own)))
 
 -- a text is that of a value
 mapped-text : (o : Option Value) (text : List ℕ) → option_map (λ (value : Value). trimmed (spelled value)) o ≡ Some text → (v : Value) × (o ≡ Some v)
@@ -144,10 +155,14 @@ module _ (law : Laws) (rows : List Row) (es : List Entry) (invoice : IsInvoice e
         ])
         says =
             ap (λ content. elim content [ (contents.Term term) ↦ term_text twin es term (context_for twin d) | (contents.Constant t) ↦ None ]) p.second.there.content
+            ∙ (ap (λ o. elim o [
+              | None ↦ filled_text twin.written es (context_for twin d)
+              | Some value ↦ if_due twin.written es p.second.term (context_for twin d) (formed (form_for twin.form p.second.term) es (context_for twin d) value)
+            ]) (as-modelled twin es p.second.term (context_for twin d) (one-untyped (form_for twin.form p.second.term) p.second.there.form))
             ∙ ap (λ rule. elim (value_in es p.second.term (context_for twin d)) [
               | None ↦ filled_text rule es (context_for twin d)
               | Some value ↦ if_due twin.written es p.second.term (context_for twin d) (formed (form_for twin.form p.second.term) es (context_for twin d) value)
-            ]) p.twin_rule
+            ]) p.twin_rule)
 
         held-so : (b : Bool) → holds_none (accounting_terms rows) es ≡ b → (v : Value) → value_in es p.second.term (context_for twin d) ≡ Some v → b ≡ false
         held-so false e v k = refl
@@ -168,9 +183,6 @@ module _ (law : Laws) (rows : List Row) (es : List Entry) (invoice : IsInvoice e
         go None e k = absurd (false≢true k)
         go (Some v) e k = held-so (holds_none (accounting_terms rows) es) refl v e
 
-    is-amount-row : Rattle.bind_meaning.specs.Trees.is_amount twin ≡ true
-    is-amount-row = ap (λ content. elim (term_in content) [ None ↦ false | Some term ↦ is_amount term ]) p.second.there.content ∙ p.second.amount
-
     accounting-there : (place : Place) → Among place (places_at rows es twin.path) → is_full place.spot.text ≡ true → (c : Currencies) → AreOwn rows es c → is_accounting c (currency_at place.spot) ≡ true
     accounting-there place a full c own =
         let text : place.spot.text ≡ own_text es place.spot.context twin =
@@ -186,11 +198,11 @@ module _ (law : Laws) (rows : List Row) (es : List Entry) (invoice : IsInvoice e
             let form = accounting-form twin.form in
             let black : is_full (spelled v.0) ≡ true =
             ap (λ f. is_full (formed f es root_context v.0)) (sym form)
-            ∙ full-string law rows es invoice twin accounting_currency x (at-value law es invoice accounting_currency root_context v.0 v.1) refl (whole-back es (form_for twin.form accounting_currency) root_context v.0 (ap is_whole form)) in
+            ∙ full-string law rows es invoice twin accounting_currency x (at-value law es invoice accounting_currency root_context v.0 v.1) refl (whole-back es (form_for twin.form accounting_currency) root_context v.0 (ap is_whole form) (ap is_of_one_term form)) in
             let shown = fact-at law rows es invoice twin.path
             (λ (spot : Spot). is_some (row_text twin es spot.context) ≡ true
             → values_named currency_id spot.attributes ≡ values_named currency_id (elim (value_in es accounting_currency root_context) [ None ↦ [] | Some value ↦ attribute currency_id (spelled value) ∷ [] ]))
-            (accounting-shown es twin p.twin_rule is-amount-row (plan_of rows) twin.path false root_context p.second.there.own p.second.there.free) place a some in
+            (accounting-shown es twin p.twin_rule p.second.amount (plan_of rows) twin.path false root_context p.second.there.own p.second.there.free) place a some in
             in-accounting es c n (differ held_some) (currency_at place.spot)
             (accounting-first es (values_named currency_id place.spot.attributes) v.0 v.1 (not-true (is_blank (spelled v.0)) black)
             (shown ∙ ap (λ o. values_named currency_id (elim o [ None ↦ [] | Some value ↦ attribute currency_id (spelled value) ∷ [] ])) v.1))

@@ -10,7 +10,7 @@ use Rattle.term_table.specs.declared.groups.Group.{Group}
 use Rattle.term_table.specs.declared.terms.Term.{Term}
 use Rattle.term_table.specs.declared.contexts.Context.{Context}
 use Rattle.term_table.specs.Contexts.{root_context, slot_group}
-use Rattle.term_table.specs.SemanticModel.{same_term, is_extension}
+use Rattle.term_table.specs.SemanticModel.{same_term}
 use Rattle.inv_terms.specs.declared.values.Value.{Value}
 use Rattle.inv_terms.specs.declared.entries.Entry.{Entry}
 use Rattle.inv_terms.specs.Values.{trimmed}
@@ -29,7 +29,7 @@ use Rattle.bind_meaning.specs.Values.{said, subject_code, form_for}
 use Rattle.bind_meaning.specs.Elements.{number, string_at, is_full, attributes_named}
 use Rattle.bind_meaning.specs.Picks.{Pick, has_term, has_any_term, rows_where, all_picked, is_filler, last_of, filled, leaves_of, picks_of_way, ways, nodes_picked}
 use Rattle.bind_meaning.specs.Currencies.{Currencies, invoice_currency, accounting_currency, is_in_its_currency}
-use Rattle.bind_meaning.specs.Writing.{slot_for, context_for, formed, if_so, if_due, writes_entry, term_text, filled as filled_text}
+use Rattle.bind_meaning.specs.Writing.{slot_for, context_for, formed, if_so, if_due, value_for, writes_entry, term_text, filled as filled_text}
 use Rattle.bind_meaning.specs.Trees.{spots, spots_of, or_here, written_lines, document_of, is_at_element, is_vat_total}
 use Rattle.binding_laws.specs.Apart.{Known, unknown, stands_apart}
 use Rattle.binding_laws.specs.Plain as plain
@@ -41,7 +41,8 @@ use Rattle.binding_laws.proofs.ListLemmas.{append-nil, both-true}
 use Rattle.binding_laws.proofs.CellLemmas.{own_text, own_strings}
 use Rattle.binding_laws.proofs.ReachLemmas.{Among, among-front, among-back, among-split, among-flat_map, among-filter, among-map, own-texts, Leads, reached}
 use Rattle.binding_laws.proofs.KnownLemmas.{Knows, knows-nothing}
-use Rattle.binding_laws.proofs.FormLemmas.{Laws, code_said, IsBack, whole-back, back-as, back-full}
+use Rattle.binding_laws.proofs.FormLemmas.{Laws, IsRead, code_said, IsBack, whole-back, back-as, back-full}
+use Rattle.binding_laws.proofs.TakenLemmas.{one-untyped, as-modelled}
 use Rattle.binding_laws.proofs.RowLemmas.{Place, places_at, places-spots, IsAt, ArePlaced, placed-known, placed-at, ends_at, spot-strings, string-ends}
 use Rattle.binding_laws.proofs.ValueLemmas as values
 use Rattle.binding_laws.proofs.PlainLemmas as plain_rows
@@ -199,9 +200,8 @@ module _ (law : Laws) (rows : List Row) (es : List Entry) (invoice : IsInvoice e
   due-of : (row : Row) (term : Term) (content : row.content ≡ contents.Term term) (unfilled : (x : Context) → values.IsUnfilled es row term (context_for row x)) (d c : Context) (v : Value) → context_for row d ≡ c → value_in es term c ≡ Some v
       → writes_entry row es d ≡ true → is_some (if_due row.written es term c (formed (form_for row.form term) es c v)) ≡ true
   due-of row term content unfilled d c v at is w =
-      sym (ap is_some (values.written-as es row term content unfilled d
-      ∙ (ap (λ x. values.due es row term content unfilled x (value_in es term x)) at ∙ ap (values.due es row term content unfilled c) is)))
-      ∙ w
+      subst (λ x. is_some (if_due row.written es term x (formed (form_for row.form term) es x v)) ≡ true) at
+      (values.due-as es row term content unfilled d v (ap (value_in es term) at ∙ is) w)
 
   -- a row that is always written lets each value pass
   due-always : (row : Row) (term : Term) → row.written ≡ written.Always → (c : Context) (v : Value) → is_some (if_due row.written es term c (formed (form_for row.form term) es c v)) ≡ true
@@ -338,7 +338,7 @@ module _ (law : Laws) (rows : List Row) (es : List Entry) (invoice : IsInvoice e
   spread-unfilled : (row : Row) (term : Term) → IsSpreadHere row term → (d : Context) → values.IsUnfilled es row term (context_for row d)
   spread-unfilled row term p d = go row.written refl
     where
-      go : (rule : Written) → row.written ≡ rule → (filled_text rule es (context_for row d) ≡ None) ⊎ (is_some (value_in es term (context_for row d)) ≡ true)
+      go : (rule : Written) → row.written ≡ rule → (filled_text rule es (context_for row d) ≡ None) ⊎ (is_some (value_for row es term (context_for row d)) ≡ true)
       go written.Always e = inl refl
       go written.Never e = inl refl
       go written.IfIban e = inl refl
@@ -347,7 +347,8 @@ module _ (law : Laws) (rows : List Row) (es : List Entry) (invoice : IsInvoice e
       go written.IfNoScheme e = inl refl
       go (written.OrFiller filler) e = elim (p.unfilled filler e) [
         | inl absent ↦ inl (ap (λ o. if_so (is_some o) filler.text) (no-value es filler.beside absent (context_for row d)))
-        | inr kept ↦ inr (ap (λ c. is_some (value_in es term c)) (cut-at-root row p.outer p.inner d) ∙ kept.stands)
+        | inr kept ↦ inr (ap is_some (as-modelled row es term (context_for row d) (one-untyped (form_for row.form term) p.form))
+            ∙ (ap (λ c. is_some (value_in es term c)) (cut-at-root row p.outer p.inner d) ∙ kept.stands))
       ]
       go written.VatTotal e = inl refl
       go written.AccountingVatTotal e = inl refl
@@ -632,7 +633,7 @@ module _ (law : Laws) (rows : List Row) (es : List Entry) (invoice : IsInvoice e
       values-at : (place : Place) → Among place (places_at rows es row.path) → values_named p.local place.spot.attributes ≡ value_strings_of row term root_context (value_in es term root_context)
       values-at place a =
           fact-at main.path (λ (spot : Spot). values_named p.local spot.attributes ≡ own_strings es spot.context row) (own-values p.local p.other es row (plan_of rows) main.path false root_context p.own) place (at-main place a)
-          ∙ (values.strings-as es row term p.content (values.by-value es row term (ap is_by_value p.written)) p.written place.spot.context
+          ∙ (values.strings-as es row term p.content (values.by-value es row term (ap is_by_value p.written)) p.written (one-untyped (form_for row.form term) p.one_term) place.spot.context
           ∙ ap (λ c. value_strings_of row term c (value_in es term c)) (cut-at-root row p.outer p.inner place.spot.context))
 
       full-main : (place : Place) → Among place (places_at rows es row.path) → (v : Value) → value_in es main_term root_context ≡ Some v → writes_entry main es place.spot.context ≡ true → is_full place.spot.text ≡ true
@@ -641,7 +642,7 @@ module _ (law : Laws) (rows : List Row) (es : List Entry) (invoice : IsInvoice e
           ap is_full (spread-text main main_term (spread-here main main_term p.beside) place (at-main place a)
           ∙ (ap (λ b. elim b [ true ↦ values.value_text es main main_term p.beside.content (values.by-value es main main_term p.beside.by_value) root_context (value_in es main_term root_context) | false ↦ [] ]) (pair-of (ap is_some e) w)
           ∙ ap (values.value_text es main main_term p.beside.content (values.by-value es main main_term p.beside.by_value) root_context) e))
-          ∙ full-string main main_term x (at-value law es invoice main_term root_context v e) refl (whole-back es (form_for main.form main_term) root_context v p.main_form)
+          ∙ full-string main main_term x (at-value law es invoice main_term root_context v e) refl (whole-back es (form_for main.form main_term) root_context v p.main_form p.beside.form)
 
       of-strings : (spot : Spot) (string : List ℕ) → Among string (spot-strings row.leaf spot) → Among string (values_named p.local spot.attributes)
       of-strings spot string a = go (is_full spot.text) (subst (λ leaf. Among string (spot-strings leaf spot)) p.leaf a)
@@ -733,19 +734,19 @@ module _ (law : Laws) (rows : List Row) (es : List Entry) (invoice : IsInvoice e
       let m = amount-of nodes es place at n (subst (λ l. Among n (leaves_of nodes l (last_of place.way))) s.leaf leaf) in
       record { out = inl (λ c own. ap (is_in c row.written) m.0 ∙ s.out c own m.1); no_money = s.no_money; beside = s.beside }
 
-  pub said-as : (row : Row) (term : Term) (e : Entry) → Among e es → e.term ≡ term → is_extension term ≡ false → IsBack es (form_for row.form term) e.context e.value → (string : List ℕ) → string ≡ formed (form_for row.form term) es e.context e.value
+  pub said-as : (row : Row) (term : Term) (e : Entry) → Among e es → e.term ≡ term → IsRead row.form term → IsBack es (form_for row.form term) e.context e.value → (string : List ℕ) → string ≡ formed (form_for row.form term) es e.context e.value
       → said row.form term string ≡ record { term = term; value = Some e.value } ∷ code_said (form_for row.form term) es e.context
-  said-as row term e a t modelled back string is =
-      ap (said row.form term) is ∙ (back-as law row.form term es e.context e.value back modelled (subst (λ x. Fits x e.value) t (fits-among law es invoice term e es invoice.fit a))).said
+  said-as row term e a t read back string is =
+      ap (said row.form term) is ∙ (back-as law row.form term es e.context e.value back read (subst (λ x. Fits x e.value) t (fits-among law es invoice term e es invoice.fit a))).said
 
   pub strings-at : (row : Row) (place : Place) → IsAt nodes es place → ends_at nodes row.leaf (last_of place.way) ≡ spot-strings row.leaf place.spot
   strings-at row place at =
       string-ends nodes row.leaf at.above (last_of place.way) at.name place.spot.attributes place.spot.text at.more at.lies place.spot refl refl
 
-  pub of-picked : (k : ℕ) (row : Row) (term : Term) → Covers row term → is_extension term ≡ false → ((e : Entry) → Among e es → e.term ≡ term → IsBack es (form_for row.form term) e.context e.value) → (pick : Pick) → Among pick (nodes_picked nodes k row)
+  pub of-picked : (k : ℕ) (row : Row) (term : Term) → Covers row term → IsRead row.form term → ((e : Entry) → Among e es → e.term ≡ term → IsBack es (form_for row.form term) e.context e.value) → (pick : Pick) → Among pick (nodes_picked nodes k row)
       → IsTold pick row term ⊎ IsNotTold pick
   unfolding ends_at
-  of-picked k row term cover modelled good pick a =
+  of-picked k row term cover read good pick a =
       let w = of-flat_map (picks_of_way nodes k row) pick (ways nodes row.path 0) a in
       let v = of-map (λ (q : Place). q.way) w.0 (cover.front ++ (places_at rows es row.path ++ cover.back)) (subst (Among w.0) cover.placed.ways_are w.1.0) in
       let place : Place = v.0 in
@@ -785,7 +786,7 @@ module _ (law : Laws) (rows : List Row) (es : List Entry) (invoice : IsInvoice e
             context = refl;
             string_is = said_it.string_is;
             due = said_it.due;
-            says = said-as row term said_it.e said_it.known said_it.term_is modelled (good said_it.e said_it.known said_it.term_is) (string_at nodes n) said_it.string_is;
+            says = said-as row term said_it.e said_it.known said_it.term_is read (good said_it.e said_it.known said_it.term_is) (string_at nodes n) said_it.string_is;
             at = at;
             leaf = leaf;
           }

@@ -40,6 +40,7 @@ use Rattle.binding_laws.proofs.CellLemmas.{own_text}
 use Rattle.binding_laws.proofs.ValueLemmas.{text_by, or_nothing}
 use Rattle.binding_laws.proofs.ReachLemmas.{Among, among-flat_map, among-filter, among-map, any-among, own-texts, any-is, none-is}
 use Rattle.binding_laws.proofs.FormLemmas.{Laws, IsBack, model-is}
+use Rattle.binding_laws.proofs.TakenLemmas.{one-untyped, as-modelled, none-for-none}
 use Rattle.binding_laws.proofs.RowLemmas.{At, sized, past, long_of, begin_in, Place, spot_of, behind, last_places, places, places_at, IsAt, placed-at, ends_at, spot-strings}
 use Rattle.binding_laws.proofs.CountLemmas.{each-among}
 use Rattle.binding_laws.proofs.PlaceLemmas.{of-flat_map, of-map, own_places, of-own}
@@ -213,7 +214,8 @@ module _ (law : Laws) (rows : List Row) (es : List Entry) (invoice : IsInvoice e
       let writes : writes_entry other es root_context ≡ true =
       ap (λ content. is_some (elim content [ (contents.Term u) ↦ term_text other es u (context_for other root_context) | (contents.Constant text) ↦ None ])) p.content
       ∙ (ap (λ c. is_some (term_text other es term c)) (cut-at-root law rows es invoice other p.outer p.inner root_context)
-      ∙ (ap (λ o. is_some (elim o [ None ↦ filled other.written es root_context | Some v ↦ if_due other.written es term root_context (formed (form_for other.form term) es root_context v) ])) value
+      ∙ (ap (λ o. is_some (elim o [ None ↦ filled other.written es root_context | Some v ↦ if_due other.written es term root_context (formed (form_for other.form term) es root_context v) ]))
+      (as-modelled other es term root_context (one-untyped (form_for other.form term) p.form) ∙ value)
       ∙ ap (λ rule. is_some (if_due rule es term root_context (formed (form_for other.form term) es root_context x.value))) always)) in
       ap (is_written_by other term es) root
       ∙ (λ i. (same_groups None (p.outer i) && same_groups None (p.inner i)) && (is_some (value i) && writes i))
@@ -248,7 +250,8 @@ module _ (law : Laws) (rows : List Row) (es : List Entry) (invoice : IsInvoice e
           ap (λ content. or_nothing (text_by (row_text row es d) content)) p.content
           ∙ (ap (λ content. or_nothing (elim content [ (contents.Term u) ↦ term_text row es u (context_for row d) | (contents.Constant text) ↦ None ])) p.content
           ∙ (ap (λ c. or_nothing (term_text row es term c)) (cut-at-root law rows es invoice row p.outer p.inner d)
-          ∙ (ap (λ o. or_nothing (elim o [ None ↦ filled row.written es root_context | Some v ↦ if_due row.written es term root_context (formed (form_for row.form term) es root_context v) ])) none
+          ∙ (ap (λ o. or_nothing (elim o [ None ↦ filled row.written es root_context | Some v ↦ if_due row.written es term root_context (formed (form_for row.form term) es root_context v) ]))
+          (none-for-none row es term root_context none)
           ∙ ap (λ r. or_nothing (filled r es root_context)) rule)))
 
       go : (b : Bool) → own_text es d row ≡ or_nothing (if_so b filler.text) → own_text es d row ≡ filler.text

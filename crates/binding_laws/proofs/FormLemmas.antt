@@ -19,6 +19,7 @@ use Rattle.term_table.specs.declared.terms.Letter.TheVariants as letters
 use Rattle.term_table.specs.declared.terms.Term.{Term}
 use Rattle.term_table.specs.declared.contexts.Context.{Context}
 use Rattle.term_table.specs.SemanticModel.{is_extension}
+use Rattle.term_table.specs.Rows.{is_base64}
 use Rattle.term_table.proofs.SeatLemmas.{same_term_is}
 use Rattle.term_table.proofs.ExtensionLemmas.{one-type, modelled-type}
 use Rattle.inv_terms.specs.declared.values.Value.{Value}
@@ -29,14 +30,15 @@ use Rattle.inv_terms.specs.Listing.{Fits, value_in}
 use Rattle.inv_terms.proofs.TrimLemmas.{HasEnds, trimmed-between}
 use Rattle.bind_rows.specs.declared.rows.Form.{Form}
 use Rattle.bind_rows.specs.declared.rows.Form.TheVariants as forms
+use Rattle.bind_rows.specs.Added.{is_typed}
 use Rattle.bind_meaning.specs.Values as meaning
 use Rattle.bind_meaning.specs.Values.{Image, images, Said, letter_of, by_type, is_day, suits, form_for, said_in}
 use Rattle.bind_meaning.specs.Elements.{is_full}
 use Rattle.bind_meaning.specs.Writing as writing
-use Rattle.bind_meaning.specs.Writing.{formed}
+use Rattle.bind_meaning.specs.Writing.{formed, is_of_type, of_form}
 use Rattle.binding_laws.proofs.ReachLemmas.{Among}
 use Rattle.binding_laws.proofs.ListLemmas.{not-true}
-use Rattle.binding_laws.specs.Plain.{is_whole}
+use Rattle.binding_laws.specs.Plain.{is_whole, is_of_one_term}
 use Rattle.binding_laws.specs.Known.{is_trimmed}
 use Rattle.binding_laws.specs.Covered.{is_subject, is_imaged, is_coded_note, is_read_back}
 use Rattle.binding_laws.specs.Faultless.{is_model}
@@ -163,6 +165,103 @@ taken : (o : Option CivilDay) (y : Value) → option_map values.Date o ≡ Some 
 taken None y h = absurd (let k : ◌≡◌ {A = Option Value} None (Some y) = h in cc)
 taken (Some d) y h = (d, refl, same_Some _ _ h)
 
+-- ---- the type of a value
+
+abbrev own_letter : Value → Letter
+own_letter (values.Text text) = letters.T
+own_letter (values.Identifier text) = letters.I
+own_letter (values.Code text) = letters.C
+own_letter (values.Amount number) = letters.A
+own_letter (values.Quantity number) = letters.Q
+own_letter (values.Percent number) = letters.P
+own_letter (values.Date day) = letters.D
+own_letter (values.Base64 text) = letters.B
+
+-- a value that a string has by a type, is of it
+own-letter : (letter : Letter) (text : List ℕ) (value : Value) → value_of letter text ≡ Some value → own_letter value ≡ letter
+unfolding value_of
+own-letter letter text value h = by letter (some-if (list_all is_char text) (value_by letter text) value h)
+  where
+    made : {X : Type 0} (make : X → Value) (l : Letter) → ((x : X) → own_letter (make x) ≡ l) → (o : Option X) → option_map make o ≡ Some value → own_letter value ≡ l
+    made make l is None k = absurd (let z : ◌≡◌ {A = Option Value} None (Some value) = k in cc)
+    made make l is (Some x) k = ap own_letter (sym (same_Some _ _ k)) ∙ is x
+
+    by : (l : Letter) → value_by l text ≡ Some value → own_letter value ≡ l
+    by letters.T k = made values.Text letters.T (λ x. refl) (if is_blank text then None else Some text) k
+    by letters.I k = made values.Identifier letters.I (λ x. refl) (identifier_in (trimmed text)) k
+    by letters.C k = made values.Code letters.C (λ x. refl) (if is_code (trimmed text) then Some (trimmed text) else None) k
+    by letters.A k = made values.Amount letters.A (λ x. refl) (read_scaled (trimmed text)) k
+    by letters.Q k = made values.Quantity letters.Q (λ x. refl) (read_scaled (trimmed text)) k
+    by letters.P k = made values.Percent letters.P (λ x. refl) (read_scaled (trimmed text)) k
+    by letters.D k = made values.Date letters.D (λ x. refl) (read_dashed_day (trimmed text)) k
+    by letters.B k = made values.Base64 letters.B (λ x. refl) (if is_blank text then None else Some text) k
+
+letter-of : (letter : Letter) (value : Value) → is_of_type letter value ≡ true → own_letter value ≡ letter
+letter-of letters.T (values.Text text) h = refl
+letter-of letters.T (values.Identifier text) h = absurd (false≢true h)
+letter-of letters.T (values.Code text) h = absurd (false≢true h)
+letter-of letters.T (values.Amount number) h = absurd (false≢true h)
+letter-of letters.T (values.Quantity number) h = absurd (false≢true h)
+letter-of letters.T (values.Percent number) h = absurd (false≢true h)
+letter-of letters.T (values.Date day) h = absurd (false≢true h)
+letter-of letters.T (values.Base64 text) h = absurd (false≢true h)
+letter-of letters.I (values.Text text) h = absurd (false≢true h)
+letter-of letters.I (values.Identifier text) h = refl
+letter-of letters.I (values.Code text) h = absurd (false≢true h)
+letter-of letters.I (values.Amount number) h = absurd (false≢true h)
+letter-of letters.I (values.Quantity number) h = absurd (false≢true h)
+letter-of letters.I (values.Percent number) h = absurd (false≢true h)
+letter-of letters.I (values.Date day) h = absurd (false≢true h)
+letter-of letters.I (values.Base64 text) h = absurd (false≢true h)
+letter-of letters.C (values.Text text) h = absurd (false≢true h)
+letter-of letters.C (values.Identifier text) h = absurd (false≢true h)
+letter-of letters.C (values.Code text) h = refl
+letter-of letters.C (values.Amount number) h = absurd (false≢true h)
+letter-of letters.C (values.Quantity number) h = absurd (false≢true h)
+letter-of letters.C (values.Percent number) h = absurd (false≢true h)
+letter-of letters.C (values.Date day) h = absurd (false≢true h)
+letter-of letters.C (values.Base64 text) h = absurd (false≢true h)
+letter-of letters.A (values.Text text) h = absurd (false≢true h)
+letter-of letters.A (values.Identifier text) h = absurd (false≢true h)
+letter-of letters.A (values.Code text) h = absurd (false≢true h)
+letter-of letters.A (values.Amount number) h = refl
+letter-of letters.A (values.Quantity number) h = absurd (false≢true h)
+letter-of letters.A (values.Percent number) h = absurd (false≢true h)
+letter-of letters.A (values.Date day) h = absurd (false≢true h)
+letter-of letters.A (values.Base64 text) h = absurd (false≢true h)
+letter-of letters.Q (values.Text text) h = absurd (false≢true h)
+letter-of letters.Q (values.Identifier text) h = absurd (false≢true h)
+letter-of letters.Q (values.Code text) h = absurd (false≢true h)
+letter-of letters.Q (values.Amount number) h = absurd (false≢true h)
+letter-of letters.Q (values.Quantity number) h = refl
+letter-of letters.Q (values.Percent number) h = absurd (false≢true h)
+letter-of letters.Q (values.Date day) h = absurd (false≢true h)
+letter-of letters.Q (values.Base64 text) h = absurd (false≢true h)
+letter-of letters.P (values.Text text) h = absurd (false≢true h)
+letter-of letters.P (values.Identifier text) h = absurd (false≢true h)
+letter-of letters.P (values.Code text) h = absurd (false≢true h)
+letter-of letters.P (values.Amount number) h = absurd (false≢true h)
+letter-of letters.P (values.Quantity number) h = absurd (false≢true h)
+letter-of letters.P (values.Percent number) h = refl
+letter-of letters.P (values.Date day) h = absurd (false≢true h)
+letter-of letters.P (values.Base64 text) h = absurd (false≢true h)
+letter-of letters.D (values.Text text) h = absurd (false≢true h)
+letter-of letters.D (values.Identifier text) h = absurd (false≢true h)
+letter-of letters.D (values.Code text) h = absurd (false≢true h)
+letter-of letters.D (values.Amount number) h = absurd (false≢true h)
+letter-of letters.D (values.Quantity number) h = absurd (false≢true h)
+letter-of letters.D (values.Percent number) h = absurd (false≢true h)
+letter-of letters.D (values.Date day) h = refl
+letter-of letters.D (values.Base64 text) h = absurd (false≢true h)
+letter-of letters.B (values.Text text) h = absurd (false≢true h)
+letter-of letters.B (values.Identifier text) h = absurd (false≢true h)
+letter-of letters.B (values.Code text) h = absurd (false≢true h)
+letter-of letters.B (values.Amount number) h = absurd (false≢true h)
+letter-of letters.B (values.Quantity number) h = absurd (false≢true h)
+letter-of letters.B (values.Percent number) h = absurd (false≢true h)
+letter-of letters.B (values.Date day) h = absurd (false≢true h)
+letter-of letters.B (values.Base64 text) h = refl
+
 -- a value that fits a term of days is a day
 day-value : AreDays → (letter : Letter) (text : List ℕ) (value : Value) → letter ≡ letters.D → value_of letter text ≡ Some value → (d : CivilDay) × (IsDay d) × (values.Date d ≡ value)
 unfolding value_of
@@ -192,6 +291,10 @@ form-day forms.DueDateTypeCode term true s e = absurd (let k : forms.DueDateType
 form-day forms.DueDateTypeCode term false s e = absurd (let k : forms.Model ≡ forms.PlainDate = e in cc)
 form-day forms.CodedNote term true s e = absurd (let k : forms.CodedNote ≡ forms.PlainDate = e in cc)
 form-day forms.CodedNote term false s e = absurd (let k : forms.Model ≡ forms.PlainDate = e in cc)
+form-day (forms.Typed letter) term true s e = absurd (let k : forms.Typed letter ≡ forms.PlainDate = e in cc)
+form-day (forms.Typed letter) term false s e = absurd (let k : forms.Model ≡ forms.PlainDate = e in cc)
+form-day forms.TypedPlainDate term true s e = absurd (let k : forms.TypedPlainDate ≡ forms.PlainDate = e in cc)
+form-day forms.TypedPlainDate term false s e = absurd (let k : forms.Model ≡ forms.PlainDate = e in cc)
 
 -- ---- by the form of a row
 
@@ -200,6 +303,8 @@ abbrev pub code_said : Form → List Entry → Context → List Said
 code_said forms.Model es c = []
 code_said forms.PlainDate es c = []
 code_said forms.DueDateTypeCode es c = []
+code_said (forms.Typed letter) es c = []
+code_said forms.TypedPlainDate es c = []
 code_said forms.CodedNote es c = elim (value_in es meaning.subject_code c) [ None ↦ [] | Some code ↦ record { term = meaning.subject_code; value = Some code } ∷ [] ]
 
 -- what is written of a value says that value, and isn't blank
@@ -269,14 +374,66 @@ trimmed-as-it-is laws term value is f = own (letter_of term) refl is
     own None e k = absurd (false≢true k)
     own (Some letter) e k = go f.letter (ap (λ l. is_trimmed (Some l)) (one-type term f.letter letter f.typed e) ∙ k) (laws.values f.letter f.text value f.read)
 
+-- a day is read back without dashes
+day-back : Laws → (term : Term) (value : Value) (f : Fits term value) → f.letter ≡ letters.D → meaning.plain_date (writing.plain_date value) ≡ Some value
+day-back laws term value f letter =
+    let w = day-value laws.are_days f.letter f.text value letter f.read in
+    ap (λ v. meaning.plain_date (writing.plain_date v)) (sym w.2) ∙ (day-read laws.days w.0 w.1 ∙ ap Some w.2)
+
 as-day : Laws → (term : Term) (es : List Entry) (c : Context) (value : Value) → is_day (letter_of term) ≡ true → Fits term value → ReadsAs forms.PlainDate term es c value
 as-day laws term es c value is f =
-    let w = day-value laws.are_days f.letter f.text value (one-type term f.letter letters.D f.typed (day-type (letter_of term) is)) f.read in
-    let back : meaning.plain_date (writing.plain_date value) ≡ Some value = ap (λ v. meaning.plain_date (writing.plain_date v)) (sym w.2) ∙ (day-read laws.days w.0 w.1 ∙ ap Some w.2) in
+    let back = day-back laws term value f (one-type term f.letter letters.D f.typed (day-type (letter_of term) is)) in
     record {
       said = ap (λ v. record { term = term; value = v } ∷ []) back;
       full = not-blank (writing.plain_date value) meaning.plain_date value blank-day back;
     }
+
+-- ---- forms that have a type of their own
+
+as-typed : Laws → (letter : Letter) (term : Term) (es : List Entry) (c : Context) (value : Value) → is_of_type letter value ≡ true → Fits term value → ReadsAs (forms.Typed letter) term es c value
+as-typed laws letter term es c value is f =
+    let same : f.letter ≡ letter = sym (own-letter f.letter f.text value f.read) ∙ letter-of letter value is in
+    record {
+      said = ap (λ v. record { term = term; value = v } ∷ []) (subst (λ l. value_of l (spelled value) ≡ Some value) same (laws.values f.letter f.text value f.read));
+      full = full-model laws.values term value f;
+    }
+
+as-typed-day : Laws → (term : Term) (es : List Entry) (c : Context) (value : Value) → is_of_type letters.D value ≡ true → Fits term value → ReadsAs forms.TypedPlainDate term es c value
+as-typed-day laws term es c value is f =
+    let back = day-back laws term value f (sym (own-letter f.letter f.text value f.read) ∙ letter-of letters.D value is) in
+    record {
+      said = ap (λ v. record { term = term; value = v } ∷ []) back;
+      full = not-blank (writing.plain_date value) meaning.plain_date value blank-day back;
+    }
+
+-- a value of any type that is written so isn't blank
+full-plain : Laws → (term : Term) (value : Value) → Fits term value → is_full (writing.plain_date value) ≡ true
+full-plain laws term (values.Date day) f =
+    not-blank (plain_day_text day) meaning.plain_date (values.Date day) blank-day (day-back laws term (values.Date day) f (sym (own-letter f.letter f.text (values.Date day) f.read)))
+full-plain laws term (values.Text text) f = full-model laws.values term (values.Text text) f
+full-plain laws term (values.Identifier text) f = full-model laws.values term (values.Identifier text) f
+full-plain laws term (values.Code text) f = full-model laws.values term (values.Code text) f
+full-plain laws term (values.Amount number) f = full-model laws.values term (values.Amount number) f
+full-plain laws term (values.Quantity number) f = full-model laws.values term (values.Quantity number) f
+full-plain laws term (values.Percent number) f = full-model laws.values term (values.Percent number) f
+full-plain laws term (values.Base64 text) f = full-model laws.values term (values.Base64 text) f
+
+-- Only a term that a user added stands in such a form.
+pub modelled-untyped : (form : Form) (term : Term) → is_extension term ≡ false → is_typed (form_for form term) ≡ false
+modelled-untyped form term own = go form (suits form term) refl
+  where
+    go : (g : Form) (b : Bool) → suits g term ≡ b → is_typed (elim b [ true ↦ g | false ↦ forms.Model ]) ≡ false
+    go g false s = refl
+    go forms.Model true s = refl
+    go forms.PlainDate true s = refl
+    go forms.DueDateTypeCode true s = refl
+    go forms.CodedNote true s = refl
+    go (forms.Typed letter) true s = absurd (false≢true (sym own ∙ (both (is_extension term) (not (is_base64 letter)) s).0))
+    go forms.TypedPlainDate true s = absurd (false≢true (sym own ∙ s))
+
+-- A value is read by the type of its term, or by that of the form.
+abbrev pub IsRead : Form → Term → Type 0
+IsRead form term = (is_extension term ≡ false) ⊎ (is_typed (form_for form term) ≡ true)
 
 pub reads-as : Laws → (form : Form) (term : Term) (es : List Entry) (c : Context) (value : Value) → is_whole (form_for form term) ≡ true → is_extension term ≡ false → Fits term value
     → ReadsAs (form_for form term) term es c value
@@ -287,6 +444,8 @@ reads-as laws form term es c value whole own f = go (form_for form term) refl wh
     go forms.PlainDate e h = as-day laws term es c value (form-day form term (suits form term) refl e) f
     go forms.DueDateTypeCode e h = absurd (false≢true h)
     go forms.CodedNote e h = absurd (false≢true h)
+    go (forms.Typed letter) e h = absurd (false≢true (sym (modelled-untyped form term own) ∙ ap is_typed e))
+    go forms.TypedPlainDate e h = absurd (false≢true (sym (modelled-untyped form term own) ∙ ap is_typed e))
 
 -- Whatever term it is of, such a value isn't blank.
 pub whole-full : Laws → (form : Form) (term : Term) (es : List Entry) (c : Context) (value : Value) → is_whole (form_for form term) ≡ true → Fits term value → is_full (formed (form_for form term) es c value) ≡ true
@@ -297,12 +456,16 @@ whole-full laws form term es c value whole f = go (form_for form term) refl whol
     go forms.PlainDate e h = (as-day laws term es c value (form-day form term (suits form term) refl e) f).full
     go forms.DueDateTypeCode e h = absurd (false≢true h)
     go forms.CodedNote e h = absurd (false≢true h)
+    go (forms.Typed letter) e h = full-model laws.values term value f
+    go forms.TypedPlainDate e h = full-plain laws term value f
 
 pub model-is : (form : Form) → is_model form ≡ true → form ≡ forms.Model
 model-is forms.Model h = refl
 model-is forms.PlainDate h = absurd (false≢true h)
 model-is forms.DueDateTypeCode h = absurd (false≢true h)
 model-is forms.CodedNote h = absurd (false≢true h)
+model-is (forms.Typed letter) h = absurd (false≢true h)
+model-is forms.TypedPlainDate h = absurd (false≢true h)
 
 -- ---- a code that another list spells
 
@@ -399,26 +562,39 @@ note-term forms.Model term true s e = absurd (let k : forms.Model ≡ forms.Code
 note-term forms.Model term false s e = absurd (let k : forms.Model ≡ forms.CodedNote = e in cc)
 note-term forms.DueDateTypeCode term true s e = absurd (let k : forms.DueDateTypeCode ≡ forms.CodedNote = e in cc)
 note-term forms.DueDateTypeCode term false s e = absurd (let k : forms.Model ≡ forms.CodedNote = e in cc)
+note-term (forms.Typed letter) term true s e = absurd (let k : forms.Typed letter ≡ forms.CodedNote = e in cc)
+note-term (forms.Typed letter) term false s e = absurd (let k : forms.Model ≡ forms.CodedNote = e in cc)
+note-term forms.TypedPlainDate term true s e = absurd (let k : forms.TypedPlainDate ≡ forms.CodedNote = e in cc)
+note-term forms.TypedPlainDate term false s e = absurd (let k : forms.Model ≡ forms.CodedNote = e in cc)
 
 -- a value that is written in the form is read as it
 abbrev pub IsBack : List Entry → Form → Context → Value → Type 0
 IsBack es form c value = (is_read_back form value ≡ true) × (form ≡ forms.CodedNote → IsNote es c value)
 
-pub whole-back : (es : List Entry) (form : Form) (c : Context) (value : Value) → is_whole form ≡ true → IsBack es form c value
-whole-back es forms.Model c value h = (refl, λ e. absurd (let z : forms.Model ≡ forms.CodedNote = e in cc))
-whole-back es forms.PlainDate c value h = (refl, λ e. absurd (let z : forms.PlainDate ≡ forms.CodedNote = e in cc))
-whole-back es forms.DueDateTypeCode c value h = absurd (false≢true h)
-whole-back es forms.CodedNote c value h = absurd (false≢true h)
+-- one that is written whole, by the type of its term
+pub whole-back : (es : List Entry) (form : Form) (c : Context) (value : Value) → is_whole form ≡ true → is_of_one_term form ≡ true → IsBack es form c value
+whole-back es forms.Model c value h k = (refl, λ e. absurd (let z : forms.Model ≡ forms.CodedNote = e in cc))
+whole-back es forms.PlainDate c value h k = (refl, λ e. absurd (let z : forms.PlainDate ≡ forms.CodedNote = e in cc))
+whole-back es forms.DueDateTypeCode c value h k = absurd (false≢true h)
+whole-back es forms.CodedNote c value h k = absurd (false≢true h)
+whole-back es (forms.Typed letter) c value h k = absurd (false≢true k)
+whole-back es forms.TypedPlainDate c value h k = absurd (false≢true k)
 
-pub back-as : Laws → (form : Form) (term : Term) (es : List Entry) (c : Context) (value : Value) → IsBack es (form_for form term) c value → is_extension term ≡ false → Fits term value
+pub back-as : Laws → (form : Form) (term : Term) (es : List Entry) (c : Context) (value : Value) → IsBack es (form_for form term) c value → IsRead form term → Fits term value
     → ReadsAs (form_for form term) term es c value
-back-as laws form term es c value back own f = go (form_for form term) refl back
+back-as laws form term es c value back read f = go (form_for form term) refl back
   where
+    modelled : form_for form term ≡ forms.Model → IsRead form term → is_extension term ≡ false
+    modelled e (inl own) = own
+    modelled e (inr typed) = absurd (false≢true (sym (ap is_typed e) ∙ typed))
+
     go : (g : Form) → form_for form term ≡ g → IsBack es g c value → ReadsAs g term es c value
-    go forms.Model e h = as-model laws.values term es c value own f
+    go forms.Model e h = as-model laws.values term es c value (modelled e read) f
     go forms.PlainDate e h = as-day laws term es c value (form-day form term (suits form term) refl e) f
     go forms.DueDateTypeCode e h = as-image term es c value h.0
     go forms.CodedNote e h = as-note laws.values term es c value (note-term form term (suits form term) refl e) (h.1 refl) f
+    go (forms.Typed letter) e h = as-typed laws letter term es c value h.0 f
+    go forms.TypedPlainDate e h = as-typed-day laws term es c value h.0 f
 
 -- Whatever term it is of, such a value isn't blank.
 pub back-full : Laws → (form : Form) (term : Term) (es : List Entry) (c : Context) (value : Value) → IsBack es (form_for form term) c value → Fits term value → is_full (formed (form_for form term) es c value) ≡ true
@@ -429,6 +605,24 @@ back-full laws form term es c value back f = go (form_for form term) refl back
     go forms.PlainDate e h = (as-day laws term es c value (form-day form term (suits form term) refl e) f).full
     go forms.DueDateTypeCode e h = (as-image term es c value h.0).full
     go forms.CodedNote e h = (as-note laws.values term es c value (note-term form term (suits form term) refl e) (h.1 refl) f).full
+    go (forms.Typed letter) e h = full-model laws.values term value f
+    go forms.TypedPlainDate e h = full-plain laws term value f
+
+-- what a row whose form has a type takes is read back
+pub typed-back : (es : List Entry) (form : Form) (c : Context) (value : Value) → is_typed form ≡ true → of_form form value ≡ Some value → IsBack es form c value
+typed-back es form c value typed own = (reads form typed own, λ e. absurd (false≢true (sym (ap is_typed e) ∙ typed)))
+  where
+    passed : (b : Bool) → (elim b [ true ↦ Some value | false ↦ None ]) ≡ Some value → b ≡ true
+    passed true k = refl
+    passed false k = absurd (let z : ◌≡◌ {A = Option Value} None (Some value) = k in cc)
+
+    reads : (f : Form) → is_typed f ≡ true → of_form f value ≡ Some value → is_read_back f value ≡ true
+    reads forms.Model t k = absurd (false≢true t)
+    reads forms.PlainDate t k = absurd (false≢true t)
+    reads forms.DueDateTypeCode t k = absurd (false≢true t)
+    reads forms.CodedNote t k = absurd (false≢true t)
+    reads (forms.Typed letter) t k = passed (is_of_type letter value) k
+    reads forms.TypedPlainDate t k = passed (is_of_type letters.D value) k
 
 -- what is said beside a value is its subject code
 pub record IsCodeSaid (form : Form) (es : List Entry) (c : Context) (said : Said) : Type 0 where
@@ -441,6 +635,8 @@ pub of-code-said : (form : Form) (es : List Entry) (c : Context) (said : Said) �
 of-code-said forms.Model es c said a = absurd a
 of-code-said forms.PlainDate es c said a = absurd a
 of-code-said forms.DueDateTypeCode es c said a = absurd a
+of-code-said (forms.Typed letter) es c said a = absurd a
+of-code-said forms.TypedPlainDate es c said a = absurd a
 of-code-said forms.CodedNote es c said a = go (value_in es meaning.subject_code c) refl a
   where
     go : (o : Option Value) → value_in es meaning.subject_code c ≡ o → Among said (elim o [ None ↦ [] | Some code ↦ record { term = meaning.subject_code; value = Some code } ∷ [] ]) → IsCodeSaid forms.CodedNote es c said
@@ -453,3 +649,5 @@ whole-uncoded forms.Model es c h = refl
 whole-uncoded forms.PlainDate es c h = refl
 whole-uncoded forms.DueDateTypeCode es c h = absurd (false≢true h)
 whole-uncoded forms.CodedNote es c h = absurd (false≢true h)
+whole-uncoded (forms.Typed letter) es c h = refl
+whole-uncoded forms.TypedPlainDate es c h = refl

@@ -19,10 +19,11 @@ use Rattle.bind_rows.specs.declared.rows.Written.{Written}
 use Rattle.bind_rows.specs.declared.rows.Written.TheVariants as written
 use Rattle.bind_table.specs.Lines.{Cell, Plan, nothing, a_line}
 use Rattle.bind_meaning.specs.Values.{form_for}
-use Rattle.bind_meaning.specs.Writing.{context_for, formed, if_so, if_due, filled, term_text, row_text}
+use Rattle.bind_meaning.specs.Writing.{context_for, formed, if_so, if_due, filled, value_for, term_text, row_text}
 use Rattle.bind_meaning.specs.Trees.{spots, either, cells_hold, holds, line_holds, is_emitted}
 use Rattle.binding_laws.specs.Apart.{is_constantly, is_holder, holds_none, is_gone, are_gone, is_unwritten}
 use Rattle.binding_laws.proofs.ListLemmas.{both-true, not-true}
+use Rattle.binding_laws.proofs.TakenLemmas.{none-for-none}
 
 any-false : {X : Type 0} (p : X → Bool) (xs : List X) → ((x : X) → p x ≡ false) → list_any p xs ≡ false
 any-false p [] f = refl
@@ -51,8 +52,9 @@ pub gone-row : (gone : List Term) (es : List Entry) (row : Row) (c : Context) �
 gone-row gone es row c unheld h = by-content row.content h
   where
     none : (rule : Written) (term : Term) (d : Context) → list_any (same_term term) gone ≡ true → filled rule es d ≡ None
-        → ◌≡◌ {A = Option (List ℕ)} (elim (value_in es term d) [ None ↦ filled rule es d | Some value ↦ if_due rule es term d (formed (form_for row.form term) es d value) ]) None
-    none rule term d k unfilled = ap (λ o. elim o [ None ↦ filled rule es d | Some value ↦ if_due rule es term d (formed (form_for row.form term) es d value) ]) (gone-value gone es term d unheld k) ∙ unfilled
+        → ◌≡◌ {A = Option (List ℕ)} (elim (value_for row es term d) [ None ↦ filled rule es d | Some value ↦ if_due rule es term d (formed (form_for row.form term) es d value) ]) None
+    none rule term d k unfilled =
+        ap (λ o. elim o [ None ↦ filled rule es d | Some value ↦ if_due rule es term d (formed (form_for row.form term) es d value) ]) (none-for-none row es term d (gone-value gone es term d unheld k)) ∙ unfilled
 
     never : (o : Option Value) → ◌≡◌ {A = Option (List ℕ)} (elim o [ None ↦ None | Some value ↦ None ]) None
     never None = refl
@@ -63,9 +65,9 @@ gone-row gone es row c unheld h = by-content row.content h
       | (written.OrFiller filler) ↦ list_any (same_term term) gone && list_any (same_term filler.beside) gone
       | _ ↦ list_any (same_term term) gone
     ]) ≡ true
-        → ◌≡◌ {A = Option (List ℕ)} (elim (value_in es term d) [ None ↦ filled rule es d | Some value ↦ if_due rule es term d (formed (form_for row.form term) es d value) ]) None
+        → ◌≡◌ {A = Option (List ℕ)} (elim (value_for row es term d) [ None ↦ filled rule es d | Some value ↦ if_due rule es term d (formed (form_for row.form term) es d value) ]) None
     by-rule written.Always term d k = none written.Always term d k refl
-    by-rule written.Never term d k = never (value_in es term d)
+    by-rule written.Never term d k = never (value_for row es term d)
     by-rule written.IfIban term d k = none written.IfIban term d k refl
     by-rule written.IfNotIban term d k = none written.IfNotIban term d k refl
     by-rule written.IfScheme term d k = none written.IfScheme term d k refl

@@ -16,6 +16,7 @@ use Rattle.bind_rows.specs.declared.rows.Row.{Row}
 use Rattle.bind_rows.specs.declared.rows.Written.{Written}
 use Rattle.bind_rows.specs.declared.rows.Written.TheVariants as written
 use Rattle.bind_rows.specs.Same.{same_or_none}
+use Rattle.bind_rows.specs.Added.{is_typed}
 use Rattle.bind_table.proofs.SameLemmas.{group-sound}
 use Rattle.bind_meaning.specs.Values.{form_for}
 use Rattle.bind_meaning.specs.Elements.{is_full}
@@ -25,6 +26,7 @@ use Rattle.binding_laws.specs.Apart.{Unlike, Together, Known, without, unknown, 
 use Rattle.binding_laws.proofs.ListLemmas.{both-true}
 use Rattle.binding_laws.proofs.ReachLemmas.{Among}
 use Rattle.binding_laws.proofs.GoneLemmas.{none-of-none}
+use Rattle.binding_laws.proofs.TakenLemmas.{as-modelled}
 
 -- What is known of the invoice holds of its entries, inside an element in the context.
 pub record Knows (known : Known) (es : List Entry) (c : Context) : Type 0 where
@@ -51,6 +53,8 @@ rule-and-form written.Always forms.Model h = (refl, refl)
 rule-and-form written.Always forms.PlainDate h = absurd (false≢true h)
 rule-and-form written.Always forms.DueDateTypeCode h = absurd (false≢true h)
 rule-and-form written.Always forms.CodedNote h = absurd (false≢true h)
+rule-and-form written.Always (forms.Typed letter) h = absurd (false≢true h)
+rule-and-form written.Always forms.TypedPlainDate h = absurd (false≢true h)
 rule-and-form written.Never form h = absurd (false≢true h)
 rule-and-form written.IfIban form h = absurd (false≢true h)
 rule-and-form written.IfNotIban form h = absurd (false≢true h)
@@ -63,7 +67,8 @@ rule-and-form written.AccountingVatTotal form h = absurd (false≢true h)
 pub written-as-it-is : (es : List Entry) (row : Row) (term : Term) (c : Context) → is_as_it_is row term ≡ true → term_text row es term c ≡ option_map spelled (value_in es term c)
 written-as-it-is es row term c h =
     let w = rule-and-form row.written (form_for row.form term) h in
-    (λ i. elim (value_in es term c) [ None ↦ filled (w.0 i) es c | Some value ↦ if_due (w.0 i) es term c (formed (w.1 i) es c value) ]) ∙ go (value_in es term c)
+    let modelled = as-modelled row es term c (ap is_typed w.1) in
+    (λ i. elim (modelled i) [ None ↦ filled (w.0 i) es c | Some value ↦ if_due (w.0 i) es term c (formed (w.1 i) es c value) ]) ∙ go (value_in es term c)
   where
     go : (o : Option Value) → ◌≡◌ {A = Option (List ℕ)} (elim o [ None ↦ None | Some value ↦ Some (spelled value) ]) (option_map spelled o)
     go None = refl

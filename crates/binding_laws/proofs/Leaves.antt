@@ -10,8 +10,8 @@ use Rattle.term_table.specs.Groups.{parent_of, occurrence_of}
 use Rattle.ubl_binding.specs.Tables.{invoice_listing, invoice_rows, credit_note_listing, credit_note_rows}
 use Rattle.cii_binding.specs.Table.{cii_listing, cii_rows}
 use Rattle.bind_rows.specs.declared.rows.Row.{Row}
-use Rattle.bind_meaning.specs.declared.tables.Which.{Which}
-use Rattle.bind_meaning.specs.declared.tables.Which.TheVariants as which
+use Rattle.bind_rows.specs.declared.tables.Which.{Which}
+use Rattle.bind_rows.specs.declared.tables.Which.TheVariants as which
 use Rattle.bind_meaning.specs.Tables.{rows_of}
 use Rattle.bind_meaning.specs.Picks.{has_term}
 use Rattle.binding_laws.specs.Apart.{Unlike, Together, unknown, stands_apart_without}

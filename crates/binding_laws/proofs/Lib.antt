@@ -3,6 +3,7 @@ pub mod NodeLemmas
 pub mod AttributeLemmas
 pub mod ListLemmas
 pub mod CellLemmas
+pub mod TakenLemmas
 pub mod GoneLemmas
 pub mod KnownLemmas
 pub mod GuardLemmas

@@ -60,10 +60,10 @@ use Rattle.bind_meaning.specs.Picks.{Pick, has_term, term_in, has_any_term, Numb
 use Rattle.bind_meaning.specs.Currencies.{Currencies, currencies, currency_id, first_full, amount_currency}
 use Rattle.bind_meaning.specs.Seats.{Placed, placed, slot_of, context_of, Room, outer_room, inner_room, each_once, rooms}
 use Rattle.bind_meaning.specs.declared.fault.BindKind.TheVariants as kinds
-use Rattle.bind_meaning.specs.Judging.{Told, told_by, is_of_seat, may_repeat, has_attribute, is_other_format, breaks, is_amount, is_accounting_total, differs, disagree, words, wrong_word, seat_of, missing_in, missing_place, name_of, Found, found, place_at, least}
+use Rattle.bind_meaning.specs.Judging.{Told, told_by, is_of_seat, may_repeat, has_attribute, is_other_format, breaks, is_accounting_total, differs, disagree, words, wrong_word, seat_of, missing_in, missing_place, name_of, Found, found, place_at, least}
 use Rattle.bind_meaning.specs.Terms.{term_picks, constant_picks, place_all, told, entries, passed_over, all_faults, Read, terms_of}
 use Rattle.bind_meaning.specs.Writing.{formed, if_so, scheme_of, if_due, row_text}
-use Rattle.bind_meaning.specs.Trees.{with_text, document_of, is_at_element, is_vat_total}
+use Rattle.bind_meaning.specs.Trees.{is_amount, with_text, document_of, is_at_element, is_vat_total}
 use Rattle.binding_laws.specs.Apart.{is_attribute_named, is_at_attribute, unknown, is_apart, stands_apart}
 use Rattle.binding_laws.specs.Plain as plain
 use Rattle.binding_laws.specs.Plain.{groups_of, is_element, has_content, rows_at, IsPlainAttributeThere, is_plain_attribute_in}
@@ -96,6 +96,7 @@ use Rattle.binding_laws.proofs.TotalLemmas.{row-of, amount-of}
 use Rattle.binding_laws.proofs.FaultLemmas.{IsFine, IsFair, no-faults}
 use Rattle.binding_laws.proofs.OnceLemmas.{MayBoth, picks-rising, same-place, seat-context}
 use Rattle.binding_laws.proofs.CoverLemmas.{row-at, fact-at, full-string, part-values}
+use Rattle.binding_laws.proofs.BothLemmas.{is_amount_as}
 use Rattle.binding_laws.proofs.RoundLemmas.{FromRow, currency-read, numbered-row, row-back, of-picks, context-at, said-at, told-by-pick, told-entry, entry-told, entries-read, none-inside}
 
 -- ---- equal values
@@ -132,9 +133,14 @@ same-value (values.Base64 a) = same-text a
 
 -- ---- subject codes
 
-no-code-amount : is_amount subject_code ≡ false
+no-code-amount : (form : Form) → is_amount_as form subject_code ≡ false
 unfolding terms
-no-code-amount = refl
+no-code-amount forms.Model = refl
+no-code-amount forms.PlainDate = refl
+no-code-amount forms.DueDateTypeCode = refl
+no-code-amount forms.CodedNote = refl
+no-code-amount (forms.Typed letter) = refl
+no-code-amount forms.TypedPlainDate = refl
 
 -- ---- rows as the tests say of them
 
@@ -610,7 +616,7 @@ module _ (law : Laws) (rows : List Row) (es : List Entry) (invoice : IsInvoice e
 
   -- ---- currencies
 
-  currency-shown : (pick : Pick) (f : From pick) → is_amount f.term ≡ true → is_accounting_total pick ≡ false → IsOwnCurrency es (amount_currency doc pick.node)
+  currency-shown : (pick : Pick) (f : From pick) → is_amount_as pick.row.form f.term ≡ true → is_accounting_total pick ≡ false → IsOwnCurrency es (amount_currency doc pick.node)
   currency-shown pick f amount first = elim f.cover.total [
     | inl no_total ↦ shown no_total
     | inr t ↦
@@ -633,9 +639,10 @@ module _ (law : Laws) (rows : List Row) (es : List Entry) (invoice : IsInvoice e
       shown : is_vat_total pick.row.written ≡ false → IsOwnCurrency es (amount_currency doc pick.node)
       shown no_total =
           let row : Row = pick.row in
+          let row_amount : is_amount row ≡ true = ap (λ content. elim (term_in content) [ None ↦ false | Some term ↦ is_amount_as row.form term ]) f.cover.content ∙ amount in
           let says : shows_currency_there (plan_of rows) row ≡ true =
-          sym (ap (λ content. elim content [ (contents.Term term) ↦ elim (is_amount term && not (is_vat_total row.written)) [ true ↦ shows_currency_there (plan_of rows) row | false ↦ true ] | (contents.Constant text) ↦ true ]) f.cover.content
-          ∙ (λ i. elim (amount i && not (no_total i)) [ true ↦ shows_currency_there (plan_of rows) row | false ↦ true ]))
+          sym (ap (λ content. elim content [ (contents.Term term) ↦ elim (is_amount row && not (is_vat_total row.written)) [ true ↦ shows_currency_there (plan_of rows) row | false ↦ true ] | (contents.Constant text) ↦ true ]) f.cover.content
+          ∙ (λ i. elim (row_amount i && not (no_total i)) [ true ↦ shows_currency_there (plan_of rows) row | false ↦ true ]))
           ∙ (fine-row row f.known).currency in
           let u = both-true (is_element row.leaf) _ says in
           let v = both-true (list_all (λ (r : Row). is_in_invoice_currency r.written) (rows_at is_at_element (plan_of rows) row.path)) (is_no_row (rows_at (is_at_attribute currency_id) (plan_of rows) row.path)) u.1 in
@@ -656,10 +663,10 @@ module _ (law : Laws) (rows : List Row) (es : List Entry) (invoice : IsInvoice e
       ∙ ap not (ap (λ v. bytes_eq (trimmed (spelled x.0)) (trimmed (spelled v))) (same_Some _ _ (sym y.1.0 ∙ x.1.0)) ∙ same-text (trimmed (spelled x.0)))
 
   not-foreign : (pick : Pick) (f : From pick)
-      → (elim (is_amount f.term && not (is_accounting_total pick)) [ true ↦ differs money.invoice (amount_currency doc pick.node) | false ↦ false ]) ≡ false
-  not-foreign pick f = go (is_amount f.term) refl (is_accounting_total pick) refl
+      → (elim (is_amount_as pick.row.form f.term && not (is_accounting_total pick)) [ true ↦ differs money.invoice (amount_currency doc pick.node) | false ↦ false ]) ≡ false
+  not-foreign pick f = go (is_amount_as pick.row.form f.term) refl (is_accounting_total pick) refl
     where
-      go : (b : Bool) → is_amount f.term ≡ b → (x : Bool) → is_accounting_total pick ≡ x → (elim (b && not x) [ true ↦ differs money.invoice (amount_currency doc pick.node) | false ↦ false ]) ≡ false
+      go : (b : Bool) → is_amount_as pick.row.form f.term ≡ b → (x : Bool) → is_accounting_total pick ≡ x → (elim (b && not x) [ true ↦ differs money.invoice (amount_currency doc pick.node) | false ↦ false ]) ≡ false
       go true e true first = refl
       go true e false first = same-currencies money.invoice (amount_currency doc pick.node) own_money.0 (currency-shown pick f e first)
       go false e x first = refl
@@ -668,11 +675,11 @@ module _ (law : Laws) (rows : List Row) (es : List Entry) (invoice : IsInvoice e
 
   -- an amount is in its currency, and a subject code is none
   own-currency : (pick : Pick) (f : From pick) (e : Entry) → (e ≡ f.told_is.e) ⊎ ((e.term ≡ subject_code) × (form_for pick.row.form f.term ≡ forms.CodedNote))
-      → (elim (is_amount e.term && not (is_accounting_total pick)) [ true ↦ differs money.invoice (amount_currency doc pick.node) | false ↦ false ]) ≡ false
+      → (elim (is_amount_as pick.row.form e.term && not (is_accounting_total pick)) [ true ↦ differs money.invoice (amount_currency doc pick.node) | false ↦ false ]) ≡ false
   own-currency pick f e (inl s) =
-      ap (λ u. elim (is_amount u && not (is_accounting_total pick)) [ true ↦ differs money.invoice (amount_currency doc pick.node) | false ↦ false ]) (ap (λ (x : Entry). x.term) s ∙ f.told_is.term_is) ∙ not-foreign pick f
+      ap (λ u. elim (is_amount_as pick.row.form u && not (is_accounting_total pick)) [ true ↦ differs money.invoice (amount_currency doc pick.node) | false ↦ false ]) (ap (λ (x : Entry). x.term) s ∙ f.told_is.term_is) ∙ not-foreign pick f
   own-currency pick f e (inr k) =
-      ap (λ b. elim (b && not (is_accounting_total pick)) [ true ↦ differs money.invoice (amount_currency doc pick.node) | false ↦ false ]) (ap is_amount k.0 ∙ no-code-amount)
+      ap (λ b. elim (b && not (is_accounting_total pick)) [ true ↦ differs money.invoice (amount_currency doc pick.node) | false ↦ false ]) (ap (is_amount_as pick.row.form) k.0 ∙ no-code-amount pick.row.form)
 
   fine-told : (t : Told) → Among t them → IsFine es invoice.listed doc lists money t
   fine-told t a =
@@ -804,6 +811,8 @@ module _ (law : Laws) (rows : List Row) (es : List Entry) (invoice : IsInvoice e
       go forms.Model e = ((tt, tt), ((a, (f, inl refl)), tt))
       go forms.PlainDate e = ((tt, tt), ((a, (f, inl refl)), tt))
       go forms.DueDateTypeCode e = ((tt, tt), ((a, (f, inl refl)), tt))
+      go (forms.Typed letter) e = ((tt, tt), ((a, (f, inl refl)), tt))
+      go forms.TypedPlainDate e = ((tt, tt), ((a, (f, inl refl)), tt))
       go forms.CodedNote e = coded (value_in es subject_code f.told_is.e.context) refl e
 
   all-fair : Rising (IsFair es invoice.listed doc lists money) them

@@ -15,13 +15,14 @@ use Rattle.inv_terms.proofs.OrderLemmas.{same_members}
 use Rattle.bind_rows.specs.declared.rows.Step.{Step}
 use Rattle.bind_rows.specs.declared.rows.Row.{Row}
 use Rattle.bind_rows.specs.declared.rows.Content.TheVariants as contents
+use Rattle.bind_rows.specs.declared.rows.Written.TheVariants as written
 use Rattle.bind_rows.specs.Same.{same_step}
 use Rattle.bind_table.specs.Lines.{Cell, Plan, nothing, a_line, plan_of}
 use Rattle.bind_meaning.specs.Values.{form_for}
 use Rattle.bind_meaning.specs.Currencies.{currency_id}
 use Rattle.bind_meaning.specs.Elements.{string_at, is_full}
 use Rattle.bind_meaning.specs.Picks.{Pick, nodes_picked}
-use Rattle.bind_meaning.specs.Writing.{context_for, slot_for, formed, if_due, filled, term_text, row_text, writes_entry}
+use Rattle.bind_meaning.specs.Writing.{context_for, slot_for, formed, if_due, filled, value_for, term_text, row_text, writes_entry}
 use Rattle.bind_meaning.specs.Trees.{attributes, element_text, holds_further, document_of}
 use Rattle.binding_laws.specs.Apart.{is_attribute_named, is_at_attribute, stands_apart}
 use Rattle.binding_laws.specs.Written.{Spot, emitted, at_end, spots_below, written_at, values_named}
@@ -33,6 +34,7 @@ use Rattle.binding_laws.proofs.ListLemmas.{append-nil, both-true}
 use Rattle.binding_laws.proofs.CellLemmas.{own_text, own_strings, in_a_list, line-values}
 use Rattle.binding_laws.proofs.ContextLemmas.{Later, each-flat_map, each-filter, all-each, each-both, rising-filter}
 use Rattle.binding_laws.proofs.ReachLemmas.{Among, among-filter, own-texts}
+use Rattle.binding_laws.proofs.TakenLemmas.{one-untyped, as-modelled}
 use Rattle.binding_laws.proofs.ValueLemmas.{text_by}
 use Rattle.binding_laws.proofs.PlainLemmas.{IsReachable, reaches, entry_at, entries-of, one-string, listed-entries, entry-known, among-entries, at-value, contexts, value_text, text-as, kept, entries-pass, written-spot, listed-filter, of-filter, contains-among, among-contains, own-value, fits-among}
 
@@ -100,8 +102,10 @@ module _ (law : Laws) (rows : List Row) (es : List Entry) (invoice : IsInvoice e
       written-as : row_text row es d ≡ option_map (formed (form_for row.form term) es (context_for main d)) (value_in es term (context_for main d))
       written-as =
           ap (λ content. elim content [ (contents.Term t) ↦ term_text row es t (context_for row d) | (contents.Constant text) ↦ None ]) plain.content
-          ∙ (ap (λ rule. elim (value_in es term (context_for row d)) [ None ↦ filled rule es (context_for row d) | Some value ↦ if_due rule es term (context_for row d) (formed (form_for row.form term) es (context_for row d) value) ]) plain.written
-          ∙ (to-text (value_in es term (context_for row d)) ∙ ap (λ c. option_map (formed (form_for row.form term) es c) (value_in es term c)) (same-context d)))
+          ∙ (ap (λ rule. elim (value_for row es term (context_for row d)) [ None ↦ filled rule es (context_for row d) | Some value ↦ if_due rule es term (context_for row d) (formed (form_for row.form term) es (context_for row d) value) ]) plain.written
+          ∙ (ap (λ o. elim o [ None ↦ filled written.Always es (context_for row d) | Some value ↦ if_due written.Always es term (context_for row d) (formed (form_for row.form term) es (context_for row d) value) ])
+          (as-modelled row es term (context_for row d) (one-untyped (form_for row.form term) plain.one_term))
+          ∙ (to-text (value_in es term (context_for row d)) ∙ ap (λ c. option_map (formed (form_for row.form term) es c) (value_in es term c)) (same-context d))))
 
       mapped : (o : Option Value) → ◌≡◌ {A = List (List ℕ)} (elim (option_map (formed (form_for row.form term) es (context_for main d)) o) [ None ↦ [] | Some text ↦ text ∷ [] ])
           (elim o [ None ↦ [] | Some value ↦ formed (form_for row.form term) es (context_for main d) value ∷ [] ])

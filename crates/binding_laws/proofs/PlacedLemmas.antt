@@ -28,9 +28,8 @@ use Rattle.std.proofs.lemmas.Slice.Eq.{bytes_eq-Decides}
 use Rattle.bind_table.proofs.EndLemmas.{rows-ends}
 use Rattle.bind_table.proofs.PathLemmas.{step-itself}
 use Rattle.bind_meaning.specs.Values.{subject_code, form_for}
-use Rattle.bind_meaning.specs.Judging.{is_amount}
 use Rattle.bind_meaning.specs.Picks.{has_term}
-use Rattle.bind_meaning.specs.Trees.{is_at_element}
+use Rattle.bind_meaning.specs.Trees.{is_at_element, is_amount}
 use Rattle.bind_meaning.specs.Currencies.{currency_id}
 use Rattle.binding_laws.specs.Apart as apart
 use Rattle.binding_laws.specs.Apart.{is_attribute_named, is_at_attribute, is_nothing, Known, without, unknown, beyond, is_met_or_unwritten, is_off, is_clear, is_apart, stands_apart_without, stands_apart}
@@ -288,6 +287,8 @@ coded-is forms.Model h = absurd (false≢true h)
 coded-is forms.PlainDate h = absurd (false≢true h)
 coded-is forms.DueDateTypeCode h = absurd (false≢true h)
 coded-is forms.CodedNote h = refl
+coded-is (forms.Typed letter) h = absurd (false≢true h)
+coded-is forms.TypedPlainDate h = absurd (false≢true h)
 
 no-group : (o : Option Group) → is_none o ≡ true → o ≡ None
 no-group None k = refl
@@ -404,7 +405,7 @@ pub record IsTotalRow (rows : List Row) (row : Row) (term : Term) : Type 0 where
 pub record IsHalf (rows : List Row) (others : List Term) (row : Row) : Type 0 where
   pub term : Term
   pub there : IsTotalThere rows others row term
-  pub amount : is_amount term ≡ true
+  pub amount : is_amount row ≡ true
   pub unfilled : list_any (λ t. has_term t row) (flat_map beside_filler rows) ≡ false
 
 -- They are the rows of both.
@@ -459,13 +460,13 @@ half-by-test : (rows : List Row) (others : List Term) (j : ℕ) (row : Row) → 
 half-by-test rows others j row long e h = go row.content h
   where
     go : (content : Content) → (elim content [
-      | (contents.Term term) ↦ is_total_there (plan_of rows) others row term && (is_amount term && not (list_any (λ t. has_term t row) (flat_map beside_filler rows)))
+      | (contents.Term term) ↦ is_total_there (plan_of rows) others row term && (is_amount row && not (list_any (λ t. has_term t row) (flat_map beside_filler rows)))
       | (contents.Constant text) ↦ false
     ]) ≡ true
         → IsHalf rows others row
     go (contents.Term term) k =
         let a = both-true (is_total_there (plan_of rows) others row term) _ k in
-        let b = both-true (is_amount term) (not (list_any (λ t. has_term t row) (flat_map beside_filler rows))) a.1 in
+        let b = both-true (is_amount row) (not (list_any (λ t. has_term t row) (flat_map beside_filler rows))) a.1 in
         record { term = term; there = there-by-test rows others j row term long e a.0; amount = b.0; unfilled = not-so (list_any (λ t. has_term t row) (flat_map beside_filler rows)) b.1 }
     go (contents.Constant text) k = absurd (false≢true k)
 
@@ -521,7 +522,8 @@ attribute-with-test known rows i j row term main main_term long e f h =
     let d = both-true (same_or_none row.inner main.inner) _ c.1 in
     let g = both-true (is_part_named (plan_of rows) main row.leaf) _ d.1 in
     let k = both-true (has_content term row.content) _ g.1 in
-    let l = both-true (is_whole (form_for row.form term)) (is_always row.written) k.1 in
+    let l = both-true (is_whole (form_for row.form term)) _ k.1 in
+    let o = both-true (is_of_one_term (form_for row.form term)) (is_always row.written) l.1 in
     let plain = plain-with-test known rows j main main_term long f b.0 in
     let path : row.path ≡ main.path = pointwise-sound same_step step-sound row.path main.path a.0 in
     let part = part-is (plan_of rows) main row.leaf g.0 in (
@@ -540,7 +542,8 @@ attribute-with-test known rows i j row term main main_term long e f h =
             (ap (λ p. is_one (rows_at (is_at_attribute part.local) (plan_of rows) p)) path ∙ part.one);
         content = content-is row.content term k.0;
         form = l.0;
-        written = rule-is row.written l.1;
+        one_term = o.0;
+        written = rule-is row.written o.1;
       },
     )
 
@@ -558,7 +561,8 @@ spread-attribute-by-test rows i j row term main main_term long e f h =
     let d = both-true (is_none row.inner) _ c.1 in
     let g = both-true (is_part_named (plan_of rows) main row.leaf) _ d.1 in
     let k = both-true (has_content term row.content) _ g.1 in
-    let l = both-true (is_whole (form_for row.form term)) (is_always row.written) k.1 in
+    let l = both-true (is_whole (form_for row.form term)) _ k.1 in
+    let o = both-true (is_of_one_term (form_for row.form term)) (is_always row.written) l.1 in
     let spread = spread-by-test rows j main main_term long f b.0 in
     let path : row.path ≡ main.path = pointwise-sound same_step step-sound row.path main.path a.0 in
     let part = part-is (plan_of rows) main row.leaf g.0 in
@@ -576,5 +580,6 @@ spread-attribute-by-test rows i j row term main main_term long e f h =
           (ap (λ p. is_one (rows_at (is_at_attribute part.local) (plan_of rows) p)) path ∙ part.one);
       content = content-is row.content term k.0;
       form = l.0;
-      written = rule-is row.written l.1;
+      one_term = o.0;
+      written = rule-is row.written o.1;
     }

@@ -19,12 +19,14 @@ use Rattle.term_table.specs.declared.contexts.Context.{Context}
 use Rattle.term_table.specs.Contexts.{root_context, slot_group, same_groups, stands_in, outer_group, inner_group, same_slot, same_context}
 use Rattle.term_table.specs.Groups.{same_group, parent_of, occurrence_of}
 use Rattle.term_table.specs.Places.{seat_place, place, slot_place, precedes, first_row}
-use Rattle.term_table.specs.Rows.{row_of, is_row_in}
+use Rattle.term_table.specs.Rows.{row_in, row_of, is_row_in}
 use Rattle.term_table.specs.SemanticModel.{same_term, is_extension, terms, extension_rows, listing_rows}
+use Rattle.term_table.proofs.ExtensionLemmas.{extension-row_is}
 use Rattle.term_table.proofs.GroupLemmas.{same_group_itself, same_groups_is}
 use Rattle.term_table.proofs.RunLemmas.{same_ahead, never_before_itself}
 use Rattle.term_table.proofs.SeatLemmas.{same_term_is}
 use Rattle.inv_terms.specs.declared.values.Value.{Value}
+use Rattle.inv_terms.specs.declared.values.Value.TheVariants as values_of
 use Rattle.inv_terms.specs.declared.entries.Entry.{Entry}
 use Rattle.inv_terms.specs.Listing.{seat_of, Fits, is_placed, comes_before, is_listed, is_counted, in_outer, in_inner, is_numbered, IsInvoice, is_at, value_in}
 use Rattle.inv_terms.proofs.OrderLemmas.{same_members}
@@ -33,17 +35,19 @@ use Rattle.bind_rows.specs.declared.rows.Step.{Step}
 use Rattle.bind_rows.specs.declared.rows.Row.{Row}
 use Rattle.bind_rows.specs.declared.rows.Form.{Form}
 use Rattle.bind_rows.specs.declared.rows.Written.TheVariants as written
+use Rattle.bind_rows.specs.Added.{is_typed}
 use Rattle.bind_table.specs.Lines.{Plan, nothing, a_line, plan_of}
 use Rattle.bind_meaning.specs.Values.{form_for, said}
 use Rattle.bind_meaning.specs.Elements.{string_at, is_full}
 use Rattle.bind_meaning.specs.Picks.{Pick, nodes_picked}
-use Rattle.bind_meaning.specs.Writing.{slot_for, context_for, formed, if_due, row_text, writes_entry}
+use Rattle.bind_meaning.specs.Writing.{slot_for, context_for, formed, if_due, value_for, row_text, writes_entry}
 use Rattle.bind_meaning.specs.Trees.{spots, spots_of, outer_spots, inner_spots, outer_count, inner_count, index_in, or_here, is_at_element, document_of}
 use Rattle.binding_laws.specs.Written.{Spot, written_at}
 use Rattle.binding_laws.specs.Apart.{stands_apart}
 use Rattle.binding_laws.specs.Plain.{rows_at, groups_of, listed, stands_there, is_beyond, stands_nowhere_else, is_in_groups, is_whole, IsPlainThere, is_written_by}
 use Rattle.binding_laws.proofs.TreeLemmas.{Each, each-weaker, filter-same}
-use Rattle.binding_laws.proofs.FormLemmas.{Laws, reads-as, whole-full, whole-uncoded}
+use Rattle.binding_laws.proofs.FormLemmas.{Laws, modelled-untyped, IsRead, ReadsAs, reads-as, whole-full, back-as, typed-back, whole-uncoded}
+use Rattle.binding_laws.proofs.TakenLemmas.{as-modelled, taken-is, slots-there}
 use Rattle.binding_laws.proofs.ValueLemmas as values
 use Rattle.binding_laws.proofs.RowLemmas.{elements-law}
 use Rattle.binding_laws.proofs.ListLemmas.{map-map}
@@ -250,6 +254,30 @@ groups-are e term outer inner same p there =
       same_groups_is i (inner_group r.group) here.1 ∙ sym (same_groups_is inner (inner_group r.group) therefore.1),
     )
 
+-- a term that stands in these groups alone is one of the model: one that a table adds may stand in lines and in the invoice
+pub stands-modelled : (term : Term) (outer inner : Option Group) → stands_there term outer inner ≡ true → is_extension term ≡ false
+unfolding parent_of occurrence_of
+stands-modelled term outer inner there = go (is_extension term) refl
+  where
+    at_root : Entry
+    at_root = record { context = root_context; term = term; value = values_of.Text [] }
+
+    in_line : Entry
+    in_line = record { context = record { outer = Some (record { group = groups.InvoiceLine; index = 1 }); inner = None }; term = term; value = values_of.Text [] }
+
+    has-place : (o : Option ℕ) (c : Context) → is_some o ≡ true → is_some (option_map (λ row. place row c) o) ≡ true
+    has-place None c h = absurd (false≢true h)
+    has-place (Some k) c h = refl
+
+    go : (b : Bool) → is_extension term ≡ b → b ≡ false
+    go false own = refl
+    go true own =
+        let first : is_placed at_root ≡ true = has-place (row_in term None None) root_context (ap is_some (sym (extension-row_is term None None own))) in
+        let second : is_placed in_line ≡ true = has-place (row_in term (Some groups.InvoiceLine) None) in_line.context (ap is_some (sym (extension-row_is term (Some groups.InvoiceLine) None own))) in
+        let a = groups-are at_root term outer inner refl first there in
+        let b = groups-are in_line term outer inner refl second there in
+        absurd (let z : ◌≡◌ {A = Option Group} None (Some groups.InvoiceLine) = a.0 ∙ sym b.0 in cc)
+
 -- the groups of a context differ
 abbrev differ : Option Group → Option Group → Bool
 differ (Some g) (Some h) = not (same_group g h)
@@ -374,6 +402,26 @@ context-there e term o i same p there reach =
     go group false h k l (inr (inl m)) = absurd (never group k (inl (around group None None l m)))
     go group false h k l (inr (inr (inl m))) = absurd (never group k (inr (inl (around group o None l m))))
     go group false h k l (inr (inr (inr m))) = absurd (never group k (inr (inr (around group i None l m))))
+
+-- a context that is led to and has the slots of both groups is that of the groups
+pub slots-at : (o i : Option Group) (d : Context) → ((is_none o || is_some d.outer) && (is_none i || is_some d.inner)) ≡ true → IsReachable o i d → IsAtGroups o i d
+slots-at o i d h reach =
+    let w = both (is_none o || is_some d.outer) (is_none i || is_some d.inner) h in
+    go w.0 w.1 reach
+  where
+    no-group : (g : Option Group) (s : Option Slot) → (is_none g || is_some s) ≡ true → slot_group s ≡ None → g ≡ None
+    no-group None s k e = refl
+    no-group (Some g) None k e = absurd (false≢true k)
+    no-group (Some g) (Some s) k e = absurd (let z : ◌≡◌ {A = Option Group} (Some s.group) None = e in cc)
+
+    go : (is_none o || is_some d.outer) ≡ true → (is_none i || is_some d.inner) ≡ true → IsReachable o i d → IsAtGroups o i d
+    go outer inner (inl at) = at
+    go outer inner (inr (inl at)) = (at.0 ∙ sym (no-group o d.outer outer at.0), at.1 ∙ sym (no-group i d.inner inner at.1))
+    go outer inner (inr (inr (inl at))) = (at.0, at.1 ∙ sym (no-group i d.inner inner at.1))
+    go outer inner (inr (inr (inr at))) =
+        let none = no-group i d.inner inner at.1 in
+        let first : slot_group d.outer ≡ None = at.0 ∙ none in
+        (first ∙ sym (no-group o d.outer outer first), at.1 ∙ sym none)
 
 -- ---- occurrences
 
@@ -559,19 +607,33 @@ module _ (law : Laws) (rows : List Row) (es : List Entry) (invoice : IsInvoice e
   abbrev pub is_written : Context → Bool
   is_written c = is_written_by row term es c
 
-  pub written-as : (d : Context) → row_text row es d ≡ values.due es row term plain.content (values.by-value es row term plain.by_value) (context_for row d) (value_in es term (context_for row d))
+  pub written-as : (d : Context) → row_text row es d ≡ values.due es row term plain.content (values.by-value es row term plain.by_value) (context_for row d) (value_for row es term (context_for row d))
   written-as d = values.written-as es row term plain.content (values.by-value es row term plain.by_value) d
 
   abbrev pub value_text : Context → Option Value → List ℕ
   value_text c o = elim o [ None ↦ [] | Some value ↦ formed (form_for row.form term) es c value ]
 
-  -- at an element in which a value stands, the context is one of the row
-  groups-there : (d : Context) → IsReachable row.outer row.inner d → (o : Option Value) → value_in es term d ≡ o → (b : Bool) → (is_some o && b) ≡ (is_in_groups row d && (is_some o && b))
-  groups-there d reach None e b = sym (and-false (is_in_groups row d))
-  groups-there d reach (Some v) e b =
-      let x : Entry = record { context = d; term = term; value = v } in
-      let at = context-there x term row.outer row.inner refl (placed-at law es invoice term x (at-value law es invoice term d v e)) plain.context reach in
-      sym (ap (λ c. c && b) (pair-of (ap (λ g. same_groups g row.outer) at.0 ∙ same-groups-itself row.outer) (ap (λ g. same_groups g row.inner) at.1 ∙ same-groups-itself row.inner)))
+  -- at an element in which a value is written, the context is one of the row: the term stands in no other that is led to, or
+  -- the row writes in none that lacks its groups
+  groups-of-value : (d : Context) → context_for row d ≡ d → IsReachable row.outer row.inner d → (v : Value) → value_in es term d ≡ Some v → writes_entry row es d ≡ true → IsAtGroups row.outer row.inner d
+  groups-of-value d own reach v e w = go (is_typed (form_for row.form term)) refl plain.context
+    where
+      go : (typed : Bool) → is_typed (form_for row.form term) ≡ typed → (typed || stands_nowhere_else term row.outer row.inner) ≡ true → IsAtGroups row.outer row.inner d
+      go false k there =
+          let x : Entry = record { context = d; term = term; value = v } in
+          context-there x term row.outer row.inner refl (placed-at law es invoice term x (at-value law es invoice term d v e)) there reach
+      go true k there =
+          let some : is_some (value_for row es term d) ≡ true =
+          ap (λ c. is_some (value_for row es term c)) (sym own) ∙ values.written-value es row term plain.content (values.by-value es row term plain.by_value) d w in
+          slots-at row.outer row.inner d (slots-there row es term d k some) reach
+
+  groups-there : (d : Context) → context_for row d ≡ d → IsReachable row.outer row.inner d → (o : Option Value) → value_in es term d ≡ o → (b : Bool) → writes_entry row es d ≡ b
+      → (is_some o && b) ≡ (is_in_groups row d && (is_some o && b))
+  groups-there d own reach None e b w = sym (and-false (is_in_groups row d))
+  groups-there d own reach (Some v) e false w = sym (and-false (is_in_groups row d))
+  groups-there d own reach (Some v) e true w =
+      let at = groups-of-value d own reach v e w in
+      sym (ap (λ c. c && true) (pair-of (ap (λ g. same_groups g row.outer) at.0 ∙ same-groups-itself row.outer) (ap (λ g. same_groups g row.inner) at.1 ∙ same-groups-itself row.inner)))
     where
       pair-of : {x y : Bool} → x ≡ true → y ≡ true → (x && y) ≡ true
       pair-of e f = rw (e, f) refl
@@ -580,7 +642,7 @@ module _ (law : Laws) (rows : List Row) (es : List Entry) (invoice : IsInvoice e
   text-as d own reach =
       values.text-as es row term plain.content (values.by-value es row term plain.by_value) d
       ∙ (ap (λ c. elim (is_some (value_in es term c) && writes_entry row es d) [ true ↦ elim (value_in es term c) [ None ↦ [] | Some value ↦ formed (form_for row.form term) es c value ] | false ↦ [] ]) own
-      ∙ ap (λ b. elim b [ true ↦ elim (value_in es term d) [ None ↦ [] | Some value ↦ formed (form_for row.form term) es d value ] | false ↦ [] ]) (groups-there d reach (value_in es term d) refl (writes_entry row es d)))
+      ∙ ap (λ b. elim b [ true ↦ elim (value_in es term d) [ None ↦ [] | Some value ↦ formed (form_for row.form term) es d value ] | false ↦ [] ]) (groups-there d own reach (value_in es term d) refl (writes_entry row es d) refl))
 
   -- its elements are written in such contexts
   pub reaches : Each (λ (spot : Spot). IsReachable row.outer row.inner spot.context) spots_at
@@ -771,8 +833,8 @@ module _ (law : Laws) (rows : List Row) (es : List Entry) (invoice : IsInvoice e
       let at = groups-are x term row.outer row.inner e (placed-at law es invoice term x a) stands in
       let v : value_in es term x.context ≡ Some x.value = ap (λ t. value_in es t x.context) (sym e) ∙ own-value es x invoice.listed a in
       let text : row_text row es x.context ≡ Some (formed (form_for row.form term) es x.context x.value) =
-      written-as x.context ∙ (ap (λ c. due c (value_in es term c)) (own-context x at)
-      ∙ (ap (due x.context) v ∙ ap (λ rule. if_due rule es term x.context (formed (form_for row.form term) es x.context x.value)) always)) in
+      written-as x.context ∙ (ap (λ c. due c (value_for row es term c)) (own-context x at)
+      ∙ (ap (due x.context) (as-modelled row es term x.context (modelled-untyped row.form term (stands-modelled term row.outer row.inner stands)) ∙ v) ∙ ap (λ rule. if_due rule es term x.context (formed (form_for row.form term) es x.context x.value)) always)) in
       pair (pair (ap (λ g. same_groups g row.outer) at.0 ∙ same-groups-itself row.outer) (ap (λ g. same_groups g row.inner) at.1 ∙ same-groups-itself row.inner)) (pair (ap is_some v) (ap is_some text))
     where
       pair : {a b : Bool} → a ≡ true → b ≡ true → (a && b) ≡ true
@@ -791,26 +853,44 @@ module _ (law : Laws) (rows : List Row) (es : List Entry) (invoice : IsInvoice e
 
   -- ---- what the strings say
 
-  said-again : is_whole (form_for row.form term) ≡ true → is_extension term ≡ false → (xs : List Entry) → All (λ (e : Entry). Fits e.term e.value) xs → map (λ s. said row.form term s) (map (λ (e : Entry). formed (form_for row.form term) es e.context e.value) (filter wanted xs))
+  -- what it writes of a value is read by the type of the term, or by that of its form
+  reads-so : is_whole (form_for row.form term) ≡ true → IsRead row.form term → (e : Entry) → Among e es → Fits e.term e.value → same_term e.term term ≡ true → is_written e.context ≡ true → ReadsAs (form_for row.form term) term es e.context e.value
+  reads-so form (inl own) e a fits same w = reads-as law row.form term es e.context e.value form own (subst (λ x. Fits x e.value) (same_term_is e.term term same) fits)
+  reads-so form (inr typed) e a fits same w =
+      let t : e.term ≡ term = same_term_is e.term term same in
+      let v : value_in es term e.context ≡ Some e.value = ap (λ u. value_in es u e.context) (sym t) ∙ own-value es e invoice.listed a in
+      let some : is_some (value_for row es term e.context) ≡ true =
+      ap (λ c. is_some (value_for row es term c)) (sym (own-context e (written-groups e.context w)))
+      ∙ values.written-value es row term plain.content (values.by-value es row term plain.by_value) e.context
+      (both (is_some (value_in es term e.context)) (writes_entry row es e.context) (both (is_in_groups row e.context) _ w).1).1 in
+      back-as law row.form term es e.context e.value (typed-back es (form_for row.form term) e.context e.value typed (taken-is row es term e.context e.value typed v some)) (inr typed)
+      (subst (λ x. Fits x e.value) t fits)
+
+  said-again : is_whole (form_for row.form term) ≡ true → IsRead row.form term → (xs : List Entry) → ((x : Entry) → Among x xs → Among x es) → All (λ (e : Entry). Fits e.term e.value) xs → map (λ s. said row.form term s) (map (λ (e : Entry). formed (form_for row.form term) es e.context e.value) (filter wanted xs))
       ≡ map (λ (e : Entry). record { term = term; value = Some e.value } ∷ []) (filter wanted xs)
-  said-again form modelled [] h = refl
-  said-again form modelled (e ∷ xs) h = go (wanted e) refl (said-again form modelled xs (All-tail (λ (x : Entry). Fits x.term x.value) e xs h))
+  said-again form read [] f h = refl
+  said-again form read (e ∷ xs) f h = go (wanted e) refl (said-again form read xs (λ x a. f x (inr a)) (All-tail (λ (x : Entry). Fits x.term x.value) e xs h))
     where
       fits : Fits e.term e.value
       fits = All-head (λ (x : Entry). Fits x.term x.value) e xs h
 
-      says : e.term ≡ term → said row.form term (formed (form_for row.form term) es e.context e.value) ≡ record { term = term; value = Some e.value } ∷ []
-      says t = (reads-as law row.form term es e.context e.value form modelled (subst (λ x. Fits x e.value) t fits)).said ∙ ap (λ l. record { term = term; value = Some e.value } ∷ l) (whole-uncoded (form_for row.form term) es e.context form)
+      says : (same_term e.term term ≡ true) × (is_written e.context ≡ true) → said row.form term (formed (form_for row.form term) es e.context e.value) ≡ record { term = term; value = Some e.value } ∷ []
+      says t = (reads-so form read e (f e (inl refl)) fits t.0 t.1).said ∙ ap (λ l. record { term = term; value = Some e.value } ∷ l) (whole-uncoded (form_for row.form term) es e.context form)
 
       go : (b : Bool) → wanted e ≡ b
           → map (λ s. said row.form term s) (map (λ (x : Entry). formed (form_for row.form term) es x.context x.value) (filter wanted xs)) ≡ map (λ (x : Entry). record { term = term; value = Some x.value } ∷ []) (filter wanted xs)
           → map (λ s. said row.form term s) (map (λ (x : Entry). formed (form_for row.form term) es x.context x.value) (if b then e ∷ filter wanted xs else filter wanted xs))
           ≡ map (λ (x : Entry). record { term = term; value = Some x.value } ∷ []) (if b then e ∷ filter wanted xs else filter wanted xs)
-      go true k more = (λ i. says (same_term_is e.term term (both (same_term e.term term) (is_written e.context) k).0) i ∷ more i)
+      go true k more = (λ i. says (both (same_term e.term term) (is_written e.context) k) i ∷ more i)
       go false k more = more
 
-  pub says-law : stands_apart rows row.path ≡ true → is_whole (form_for row.form term) ≡ true → is_extension term ≡ false → (k : ℕ) → map (λ (pick : Pick). said row.form term (string_at (document_nodes (document_of rows es)) pick.node)) (nodes_picked (document_nodes (document_of rows es)) k row)
+  pub says-law : stands_apart rows row.path ≡ true → is_whole (form_for row.form term) ≡ true → (is_extension term && not (is_typed (form_for row.form term))) ≡ false → (k : ℕ) → map (λ (pick : Pick). said row.form term (string_at (document_nodes (document_of rows es)) pick.node)) (nodes_picked (document_nodes (document_of rows es)) k row)
       ≡ map (λ (e : Entry). record { term = term; value = Some e.value } ∷ []) (filter (λ (e : Entry). same_term e.term term && is_written_by row term es e.context) es)
-  says-law apart form modelled k =
+  says-law apart form says k =
       sym (map-map (λ s. said row.form term s) (λ (pick : Pick). string_at (document_nodes (document_of rows es)) pick.node) (nodes_picked (document_nodes (document_of rows es)) k row))
-      ∙ (ap (map (λ s. said row.form term s)) (plain-law apart form k) ∙ said-again form modelled es invoice.fit)
+      ∙ (ap (map (λ s. said row.form term s)) (plain-law apart form k) ∙ said-again form (read-by (is_extension term) (is_typed (form_for row.form term)) refl refl says) es (λ x a. a) invoice.fit)
+    where
+      read-by : (a b : Bool) → is_extension term ≡ a → is_typed (form_for row.form term) ≡ b → (a && not b) ≡ false → IsRead row.form term
+      read-by false b own typed h = inl own
+      read-by true true own typed h = inr typed
+      read-by true false own typed h = absurd (false≢true (sym h))

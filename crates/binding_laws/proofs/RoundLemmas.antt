@@ -15,7 +15,7 @@ use Rattle.term_table.specs.declared.terms.Letter.TheVariants as letters
 use Rattle.term_table.specs.declared.contexts.Context.{Context}
 use Rattle.term_table.specs.Contexts.{root_context}
 use Rattle.term_table.specs.Groups.{same_group}
-use Rattle.term_table.specs.SemanticModel.{same_term, is_extension, terms, extension_rows, listing_rows}
+use Rattle.term_table.specs.SemanticModel.{same_term, terms, extension_rows, listing_rows}
 use Rattle.term_table.specs.Groups.{parent_of, occurrence_of}
 use Rattle.term_table.proofs.SeatLemmas.{same_term_is}
 use Rattle.term_table.proofs.GroupLemmas.{same_group_itself}
@@ -35,6 +35,7 @@ use Rattle.bind_rows.specs.declared.rows.Form.TheVariants as forms
 use Rattle.bind_rows.specs.declared.rows.Written.{Written}
 use Rattle.bind_rows.specs.declared.rows.Written.TheVariants as written
 use Rattle.bind_rows.specs.Same.{same_or_none, choose}
+use Rattle.bind_rows.specs.Added.{is_added}
 use Rattle.bind_table.specs.Lines.{plan_of}
 use Rattle.bind_table.specs.WellFormed.{depth_of, is_carried, first_fault}
 use Rattle.bind_table.specs.Fronts.{HasGroup}
@@ -59,7 +60,8 @@ use Rattle.binding_laws.specs.Twins.{same_way}
 use Rattle.binding_laws.proofs.TreeLemmas.{Each, same-is}
 use Rattle.binding_laws.proofs.ListLemmas.{both-true, not-true, or-either}
 use Rattle.binding_laws.proofs.ReachLemmas.{Among, among-front, among-back, among-flat_map, among-filter, among-map, any-is, all-is, none-is, any-among}
-use Rattle.binding_laws.proofs.FormLemmas.{code-as-it-is, trimmed-as-it-is, Laws, code_said, IsNote, note-term, IsBack, of-code-said}
+use Rattle.binding_laws.proofs.FormLemmas.{code-as-it-is, trimmed-as-it-is, Laws, IsRead, code_said, IsNote, note-term, IsBack, of-code-said}
+use Rattle.binding_laws.proofs.TakenLemmas.{added-typed, none-for-none}
 use Rattle.binding_laws.proofs.GoneLemmas.{gone-value}
 use Rattle.binding_laws.proofs.RowLemmas.{Place, places_at, IsAt, ArePlaced, placed-known, placed-without, placed-at}
 use Rattle.binding_laws.proofs.PlainLemmas as plain_rows
@@ -240,9 +242,13 @@ module _ (law : Laws) (rows : List Row) (es : List Entry) (invoice : IsInvoice e
           is-true true h = refl
           is-true false h = absurd (false≢true (sym h))
 
-  -- the term of a row is one of the semantic model
-  row-modelled : (row : Row) → Among row rows → (term : Term) → row.content ≡ contents.Term term → is_extension term ≡ false
-  row-modelled row a term content = let w = row-at rows row a in modelled-row rows w.0 row term fine w.1 content
+  -- the term of a row is one of the semantic model, or a user added the row, whose form has a type
+  row-read : (row : Row) → Among row rows → (term : Term) → row.content ≡ contents.Term term → IsRead row.form term
+  row-read row a term content = go (is_added row) refl
+    where
+      go : (b : Bool) → is_added row ≡ b → IsRead row.form term
+      go false e = let w = row-at rows row a in inl (modelled-row rows w.0 row term fine w.1 e content)
+      go true e = inr (added-typed row term content e)
 
   -- a row reads back what it writes of an entry of its term
   pub row-back : (row : Row) → Among row rows → (term : Term) → row.content ≡ contents.Term term → (e : Entry) → Among e es → e.term ≡ term → IsBack es (form_for row.form term) e.context e.value
@@ -603,7 +609,7 @@ module _ (law : Laws) (rows : List Row) (es : List Entry) (invoice : IsInvoice e
           ap (λ content. elim content [ (contents.Constant text) ↦ Some text | (contents.Term t) ↦ row_text row es c ]) e
           ∙ (ap (λ content. elim content [ (contents.Term t) ↦ term_text row es t (context_for row c) | (contents.Constant text) ↦ None ]) e
           ∙ (ap (λ o. elim o [ None ↦ filled_text row.written es (context_for row c) | Some value ↦ Rattle.bind_meaning.specs.Writing.if_due row.written es term (context_for row c) (formed (form_for row.form term) es (context_for row c) value) ])
-          (no-value es term (g term (inl refl)) (context_for row c))
+          (none-for-none row es term (context_for row c) (no-value es term (g term (inl refl)) (context_for row c)))
           ∙ unfilled row.written term g (context_for row c)))
 
   pub other-picks-nothing : (k : ℕ) (row : Row) → Among row rows → is_other (plan_of rows) rows row ≡ true → nodes_picked all_nodes k row ≡ []
@@ -691,7 +697,7 @@ module _ (law : Laws) (rows : List Row) (es : List Entry) (invoice : IsInvoice e
           ]
         where
           by-cover : HasCover r.row → FromRow pick ⊎ IsNotToldHere pick
-          by-cover cover = elim (of-picked law rows es invoice r.place r.row cover.term cover.cover (row-modelled r.row at.1.1 cover.term cover.cover.content) (row-back r.row at.1.1 cover.term cover.cover.content) pick b) [
+          by-cover cover = elim (of-picked law rows es invoice r.place r.row cover.term cover.cover (row-read r.row at.1.1 cover.term cover.cover.content) (row-back r.row at.1.1 cover.term cover.cover.content) pick b) [
             | inl is ↦ inl (subst (λ row. (slice_get rows at.0 ≡ Some row) → Among row rows → Covers law rows es invoice row cover.term → IsTold law rows es invoice pick row cover.term → Among pick (nodes_picked all_nodes r.place row) → FromRow pick) is.row_is
                 (λ at_it known covers told picked. record { j = at.0; at = at_it; known = known; term = cover.term; cover = covers; told_is = told; k = r.place; here = picked }) at.1.0 at.1.1 cover.cover is b)
             | inr n ↦ inr n
@@ -799,7 +805,7 @@ module _ (law : Laws) (rows : List Row) (es : List Entry) (invoice : IsInvoice e
           context = r.context;
           content = ap (λ (x : Row). x.content) r.row_is ∙ cover.content;
           says = ap (λ (x : Row). said x.form e.term (string_at all_nodes pick.node)) r.row_is
-              ∙ said-as law rows es invoice row e.term e a refl (row-modelled row b e.term cover.content) (row-back row b e.term cover.content e a refl) (string_at all_nodes pick.node) r.string_is;
+              ∙ said-as law rows es invoice row e.term e a refl (row-read row b e.term cover.content) (row-back row b e.term cover.content e a refl) (string_at all_nodes pick.node) r.string_is;
         }
       where
         no-filler-there : (pick : Pick) → string_at all_nodes pick.node ≡ formed (form_for row.form e.term) es e.context e.value → (filler : Filler) → row.written ≡ written.OrFiller filler → Absent es filler.beside ⊎ IsKept law rows es invoice row e.term filler
@@ -1130,6 +1136,8 @@ module _ (law : Laws) (rows : List Row) (es : List Entry) (invoice : IsInvoice e
           go forms.Model e = refl
           go forms.PlainDate e = refl
           go forms.DueDateTypeCode e = refl
+          go (forms.Typed letter) e = refl
+          go forms.TypedPlainDate e = refl
           go forms.CodedNote e =
               ap (λ o. elim o [ None ↦ [] | Some code ↦ record { term = subject_code; value = Some code } ∷ [] ])
               (gone-value (code_terms rows) es subject_code d unheld_codes

@@ -13,8 +13,8 @@ use Rattle.bind_rows.specs.declared.rows.Row.{Row}
 use Rattle.bind_table.specs.WellFormed.{first_fault}
 use Rattle.ubl_binding.specs.Tables.{invoice_listing, invoice_rows, credit_note_listing, credit_note_rows}
 use Rattle.cii_binding.specs.Table.{cii_listing, cii_rows}
-use Rattle.bind_meaning.specs.declared.tables.Which.{Which}
-use Rattle.bind_meaning.specs.declared.tables.Which.TheVariants as which
+use Rattle.bind_rows.specs.declared.tables.Which.{Which}
+use Rattle.bind_rows.specs.declared.tables.Which.TheVariants as which
 use Rattle.bind_meaning.specs.Tables.{rows_of}
 use Rattle.bind_meaning.specs.Terms.{Read, terms_of}
 use Rattle.bind_meaning.specs.Trees.{document_of}

@@ -13,8 +13,10 @@ use Rattle.bind_rows.specs.declared.rows.Row.{Row}
 use Rattle.bind_rows.specs.declared.rows.Written.{Written}
 use Rattle.bind_rows.specs.declared.rows.Written.TheVariants as written
 use Rattle.bind_meaning.specs.Values.{form_for}
-use Rattle.bind_meaning.specs.Writing.{context_for, formed, is_iban, if_so, scheme_of, if_due, filled, term_text, row_text, writes_entry}
+use Rattle.bind_rows.specs.Added.{is_typed}
+use Rattle.bind_meaning.specs.Writing.{context_for, formed, is_iban, if_so, scheme_of, if_due, filled, value_for, term_text, row_text, writes_entry}
 use Rattle.binding_laws.specs.Plain.{is_by_value}
+use Rattle.binding_laws.proofs.TakenLemmas.{as-modelled, taken-or-refused}
 use Rattle.binding_laws.proofs.CellLemmas.{own_text, own_strings, in_a_list}
 
 abbrev pub text_by : Option (List ℕ) → Content → Option (List ℕ)
@@ -25,7 +27,7 @@ or_nothing o = elim o [ None ↦ [] | Some text ↦ text ]
 
 -- Nothing stands in place of the value, or it stands itself.
 abbrev pub IsUnfilled : List Entry → Row → Term → Context → Type 0
-IsUnfilled es row term c = (filled row.written es c ≡ None) ⊎ (is_some (value_in es term c) ≡ true)
+IsUnfilled es row term c = (filled row.written es c ≡ None) ⊎ (is_some (value_for row es term c) ≡ true)
 
 -- a rule on the value and its scheme alone has no filler
 no-filler : (es : List Entry) (rule : Written) → is_by_value rule ≡ true → (c : Context) → filled rule es c ≡ None
@@ -47,7 +49,7 @@ module _ (es : List Entry) (row : Row) (term : Term) (content : row.content ≡ 
   abbrev pub due : Context → Option Value → Option (List ℕ)
   due c o = elim o [ None ↦ None | Some value ↦ if_due row.written es term c (formed (form_for row.form term) es c value) ]
 
-  pub written-as : (d : Context) → row_text row es d ≡ due (context_for row d) (value_in es term (context_for row d))
+  pub written-as : (d : Context) → row_text row es d ≡ due (context_for row d) (value_for row es term (context_for row d))
   written-as d =
       ap (λ x. elim x [ (contents.Term t) ↦ term_text row es t (context_for row d) | (contents.Constant text) ↦ None ]) content
       ∙ go (unfilled d)
@@ -59,13 +61,31 @@ module _ (es : List Entry) (row : Row) (term : Term) (content : row.content ≡ 
       standing (Some v) k = refl
 
       go : IsUnfilled es row term (context_for row d)
-          → ◌≡◌ {A = Option (List ℕ)} (elim (value_in es term (context_for row d)) [
+          → ◌≡◌ {A = Option (List ℕ)} (elim (value_for row es term (context_for row d)) [
             | None ↦ filled row.written es (context_for row d)
             | Some value ↦ if_due row.written es term (context_for row d) (formed (form_for row.form term) es (context_for row d) value)
           ])
-          (elim (value_in es term (context_for row d)) [ None ↦ None | Some value ↦ if_due row.written es term (context_for row d) (formed (form_for row.form term) es (context_for row d) value) ])
-      go (inl none) = ap (λ o. elim (value_in es term (context_for row d)) [ None ↦ o | Some value ↦ if_due row.written es term (context_for row d) (formed (form_for row.form term) es (context_for row d) value) ]) none
-      go (inr stands) = standing (value_in es term (context_for row d)) stands
+          (elim (value_for row es term (context_for row d)) [ None ↦ None | Some value ↦ if_due row.written es term (context_for row d) (formed (form_for row.form term) es (context_for row d) value) ])
+      go (inl none) = ap (λ o. elim (value_for row es term (context_for row d)) [ None ↦ o | Some value ↦ if_due row.written es term (context_for row d) (formed (form_for row.form term) es (context_for row d) value) ]) none
+      go (inr stands) = standing (value_for row es term (context_for row d)) stands
+
+  -- it writes something only of a value that it takes
+  pub written-value : (d : Context) → writes_entry row es d ≡ true → is_some (value_for row es term (context_for row d)) ≡ true
+  written-value d h = go (value_for row es term (context_for row d)) (sym (ap is_some (written-as d)) ∙ h)
+    where
+      go : (o : Option Value) → is_some (due (context_for row d) o) ≡ true → is_some o ≡ true
+      go None k = absurd (false≢true k)
+      go (Some v) k = refl
+
+  -- where it writes the term's value, its rule lets that pass
+  pub due-as : (d : Context) (v : Value) → value_in es term (context_for row d) ≡ Some v → writes_entry row es d ≡ true
+      → is_some (if_due row.written es term (context_for row d) (formed (form_for row.form term) es (context_for row d) v)) ≡ true
+  due-as d v at h = go (taken-or-refused row es term (context_for row d))
+    where
+      go : (value_for row es term (context_for row d) ≡ value_in es term (context_for row d)) ⊎ (value_for row es term (context_for row d) ≡ None)
+          → is_some (if_due row.written es term (context_for row d) (formed (form_for row.form term) es (context_for row d) v)) ≡ true
+      go (inl same) = sym (ap is_some (written-as d ∙ (ap (due (context_for row d)) same ∙ ap (due (context_for row d)) at))) ∙ h
+      go (inr none) = absurd (false≢true (sym (ap is_some none) ∙ written-value d h))
 
   -- a rule lets the whole text pass, or nothing
   due-or-not : (rule : Written) (c : Context) (text : List ℕ) → (if_due rule es term c text ≡ None) ⊎ (if_due rule es term c text ≡ Some text)
@@ -100,7 +120,7 @@ module _ (es : List Entry) (row : Row) (term : Term) (content : row.content ≡ 
 
   pub text-as : (d : Context) → own_text es d row
       ≡ (elim (is_some (value_in es term (context_for row d)) && writes_entry row es d) [ true ↦ value_text (context_for row d) (value_in es term (context_for row d)) | false ↦ [] ])
-  text-as d = ap (λ (x : Content). or_nothing (text_by (row_text row es d) x)) content ∙ go (row_text row es d) (value_in es term (context_for row d)) (written-as d)
+  text-as d = ap (λ (x : Content). or_nothing (text_by (row_text row es d) x)) content ∙ by-value-for (taken-or-refused row es term (context_for row d))
     where
       here : (o : Option (List ℕ)) (v : Value) → o ≡ if_due row.written es term (context_for row d) (formed (form_for row.form term) es (context_for row d) v)
           → (if_due row.written es term (context_for row d) (formed (form_for row.form term) es (context_for row d) v) ≡ None)
@@ -113,12 +133,23 @@ module _ (es : List Entry) (row : Row) (term : Term) (content : row.content ≡ 
       go o None e = ap (λ x. or_nothing x) e
       go o (Some v) e = here o v e (due-or-not row.written (context_for row d) (formed (form_for row.form term) es (context_for row d) v))
 
-  -- where it is always written, at an attribute
-  pub strings-as : row.written ≡ written.Always → (d : Context) → own_strings es d row
+      -- a value that is refused isn't written
+      refused : (o : Option (List ℕ)) (w : Option Value) → o ≡ None → or_nothing o ≡ (elim (is_some w && is_some o) [ true ↦ value_text (context_for row d) w | false ↦ [] ])
+      refused o None e = ap (λ x. or_nothing x) e
+      refused o (Some v) e = ap (λ x. or_nothing x) e ∙ sym (ap (λ x. elim (is_some x) [ true ↦ formed (form_for row.form term) es (context_for row d) v | false ↦ [] ]) e)
+
+      by-value-for : (value_for row es term (context_for row d) ≡ value_in es term (context_for row d)) ⊎ (value_for row es term (context_for row d) ≡ None)
+          → or_nothing (row_text row es d)
+          ≡ (elim (is_some (value_in es term (context_for row d)) && is_some (row_text row es d)) [ true ↦ value_text (context_for row d) (value_in es term (context_for row d)) | false ↦ [] ])
+      by-value-for (inl same) = go (row_text row es d) (value_in es term (context_for row d)) (written-as d ∙ ap (due (context_for row d)) same)
+      by-value-for (inr none) = refused (row_text row es d) (value_in es term (context_for row d)) (written-as d ∙ ap (due (context_for row d)) none)
+
+  -- where it is always written, at an attribute, and its form has no type
+  pub strings-as : row.written ≡ written.Always → is_typed (form_for row.form term) ≡ false → (d : Context) → own_strings es d row
       ≡ (elim (value_in es term (context_for row d)) [ None ↦ [] | Some value ↦ formed (form_for row.form term) es (context_for row d) value ∷ [] ])
-  strings-as always d =
+  strings-as always untyped d =
       ap (λ (x : Content). in_a_list (text_by (row_text row es d) x)) content
-      ∙ (ap in_a_list (written-as d) ∙ mapped (value_in es term (context_for row d)))
+      ∙ (ap in_a_list (written-as d ∙ ap (due (context_for row d)) (as-modelled row es term (context_for row d) untyped)) ∙ mapped (value_in es term (context_for row d)))
     where
       mapped : (o : Option Value) → ◌≡◌ {A = List (List ℕ)} (in_a_list (due (context_for row d) o)) (elim o [ None ↦ [] | Some value ↦ formed (form_for row.form term) es (context_for row d) value ∷ [] ])
       mapped None = refl

@@ -3,6 +3,7 @@
 use Rattle.std.specs.Prelude.{ℕ, ◌==◌, Bool, true, false, not, ◌&&◌, ◌||◌, List, [], ◌∷◌, ◌++◌, length, filter, flat_map, map, Option, Some, None, is_some, is_none, option_map}
 use Rattle.std.specs.List.{list_all, list_any}
 use Rattle.std.specs.Str.{bytes_eq}
+use Rattle.term_table.specs.declared.terms.Letter.TheVariants as letters
 use Rattle.term_table.specs.declared.terms.Term.{Term}
 use Rattle.term_table.specs.declared.terms.TermRow.{TermRow}
 use Rattle.term_table.specs.SemanticModel.{same_term, terms}
@@ -27,8 +28,8 @@ use Rattle.bind_table.specs.Lines.{Cell, Plan, nothing, a_line, plan_of}
 use Rattle.bind_meaning.specs.Currencies.{Currencies, invoice_currency, accounting_currency, currency_id}
 use Rattle.bind_meaning.specs.Picks.{has_term, has_any_term}
 use Rattle.bind_meaning.specs.Values.{Image, images, subject_code, note, is_subject_character, letter_of, form_for}
-use Rattle.bind_meaning.specs.Judging.{is_amount}
-use Rattle.bind_meaning.specs.Trees.{is_at_element, is_vat_total}
+use Rattle.bind_meaning.specs.Writing.{is_of_type}
+use Rattle.bind_meaning.specs.Trees.{is_at_element, is_amount, is_vat_total}
 use Rattle.binding_laws.specs.Apart.{is_called, is_nothing, is_at_attribute, rows_so, Known, without, unknown, holds_none, is_apart}
 use Rattle.binding_laws.specs.Twins.{same_way, are_twins}
 use Rattle.binding_laws.specs.Known.{is_trimmed, known_of, is_as_known}
@@ -101,7 +102,7 @@ beside_filler row = elim row.written [ (written.OrFiller filler) ↦ filler.besi
 -- It is the row of one of both totals: placed so without the terms of the other, of an amount beside which no filler stands.
 abbrev pub is_half : Plan → List Row → List Term → Row → Bool
 is_half plan rows others row = elim row.content [
-  | (contents.Term term) ↦ is_total_there plan others row term && (is_amount term && not (list_any (λ t. has_term t row) (flat_map beside_filler rows)))
+  | (contents.Term term) ↦ is_total_there plan others row term && (is_amount row && not (list_any (λ t. has_term t row) (flat_map beside_filler rows)))
   | (contents.Constant text) ↦ false
 ]
 
@@ -207,6 +208,8 @@ is_coded forms.Model = false
 is_coded forms.PlainDate = false
 is_coded forms.DueDateTypeCode = false
 is_coded forms.CodedNote = true
+is_coded (forms.Typed letter) = false
+is_coded forms.TypedPlainDate = false
 
 -- The row is plain, but for a subject code that it writes in front of its value, and no row has that term.
 abbrev pub is_noted_in : Plan → List Row → Row → Term → Bool
@@ -303,12 +306,14 @@ abbrev pub is_imaged : Value → Bool
 is_imaged (values.Code code) = list_any (λ (image : Image). bytes_eq image.code code) images
 is_imaged _ = false
 
--- A value that is written in the form is read as it.
+-- A value that is written in the form is read as it: in a form of a type, one of that type.
 abbrev pub is_read_back : Form → Value → Bool
 is_read_back forms.Model value = true
 is_read_back forms.PlainDate value = true
 is_read_back forms.DueDateTypeCode value = is_imaged value
 is_read_back forms.CodedNote value = true
+is_read_back (forms.Typed letter) value = is_of_type letter value
+is_read_back forms.TypedPlainDate value = is_of_type letters.D value
 
 -- Each row of the entry's term reads what it writes of its value as that value.
 abbrev pub reads_back : List Row → Entry → Bool

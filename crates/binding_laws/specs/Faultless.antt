@@ -25,9 +25,9 @@ use Rattle.bind_rows.specs.Same.{same_or_none}
 use Rattle.bind_table.specs.Lines.{Plan, plan_of}
 use Rattle.bind_meaning.specs.Currencies.{currency_id}
 use Rattle.bind_meaning.specs.Elements.{is_one_of}
-use Rattle.bind_meaning.specs.Judging.{may_repeat, is_amount, words}
+use Rattle.bind_meaning.specs.Judging.{may_repeat, words}
 use Rattle.bind_meaning.specs.Picks.{has_term, has_any_term}
-use Rattle.bind_meaning.specs.Trees.{is_at_element, is_vat_total}
+use Rattle.bind_meaning.specs.Trees.{is_at_element, is_amount, is_vat_total}
 use Rattle.bind_meaning.specs.Values.{form_for}
 use Rattle.bind_meaning.specs.Writing.{scheme_of}
 use Rattle.binding_laws.specs.Apart.{is_attribute_named, is_at_attribute, unknown, is_apart}
@@ -55,6 +55,8 @@ is_model forms.Model = true
 is_model forms.PlainDate = false
 is_model forms.DueDateTypeCode = false
 is_model forms.CodedNote = false
+is_model (forms.Typed letter) = false
+is_model forms.TypedPlainDate = false
 
 abbrev pub are_exclusive : Row → Row → Term → Bool
 are_exclusive a b term = excludes a.written b.written && (is_model (form_for a.form term) && is_model (form_for b.form term))
@@ -138,7 +140,7 @@ shows_currency_there plan row = is_element row.leaf && (list_all (λ (r : Row). 
 
 abbrev pub shows_its_currency : Plan → Row → Bool
 shows_its_currency plan row = elim row.content [
-  | (contents.Term term) ↦ elim (is_amount term && not (is_vat_total row.written)) [ true ↦ shows_currency_there plan row | false ↦ true ]
+  | (contents.Term term) ↦ elim (is_amount row && not (is_vat_total row.written)) [ true ↦ shows_currency_there plan row | false ↦ true ]
   | (contents.Constant text) ↦ true
 ]
 

@@ -23,6 +23,7 @@ use Rattle.bind_rows.specs.declared.rows.Form.TheVariants as forms
 use Rattle.bind_rows.specs.declared.rows.Written.{Written}
 use Rattle.bind_rows.specs.declared.rows.Written.TheVariants as written
 use Rattle.bind_rows.specs.Same.{same_step, same_or_none}
+use Rattle.bind_rows.specs.Added.{is_typed}
 use Rattle.bind_table.specs.Lines.{Cell, Plan, nothing, a_line, plan_of}
 use Rattle.bind_meaning.specs.Values.{form_for}
 use Rattle.bind_meaning.specs.Writing.{writes_entry}
@@ -67,6 +68,8 @@ is_whole forms.Model = true
 is_whole forms.PlainDate = true
 is_whole forms.DueDateTypeCode = false
 is_whole forms.CodedNote = false
+is_whole (forms.Typed letter) = true
+is_whole forms.TypedPlainDate = true
 
 -- Whether it is written hangs on the value and on its scheme alone: nothing stands in its place, and no currency tells it
 -- from another.
@@ -81,6 +84,10 @@ is_by_value (written.OrFiller filler) = false
 is_by_value written.VatTotal = false
 is_by_value written.AccountingVatTotal = false
 
+-- The row writes the term in no other context that its path may have: the term stands in none, or a user added the row.
+abbrev pub is_kept_apart : Row → Term → Bool
+is_kept_apart row term = is_typed (form_for row.form term) || stands_nowhere_else term row.outer row.inner
+
 -- It is a plain row of the term, but for whether its path stands apart, and for its form.
 pub record IsPlainThere (rows : List Row) (row : Row) (term : Term) : Type 0 where
   -- no other row ends at its element
@@ -89,10 +96,11 @@ pub record IsPlainThere (rows : List Row) (row : Row) (term : Term) : Type 0 whe
   -- it writes the term's value or nothing
   pub content : row.content ≡ contents.Term term
   pub by_value : is_by_value row.written ≡ true
-  -- its path goes through one element for each group of its context, and the term stands in no context around it
+  -- its path goes through one element for each group of its context, and the term stands in no context around it, unless
+  -- a user added the row, which then writes nothing there
   pub through : groups_of row.path ≡ listed row.outer ++ listed row.inner
   pub nested : (is_some row.outer || is_none row.inner) ≡ true
-  pub context : stands_nowhere_else term row.outer row.inner ≡ true
+  pub context : is_kept_apart row term ≡ true
 
 -- It is a plain row of the term.
 pub record IsPlain (rows : List Row) (row : Row) (term : Term) : Type 0 where
@@ -134,7 +142,7 @@ is_plain_there plan row term =
     && (is_element row.leaf
     && (has_content term row.content
     && (is_by_value row.written
-    && (pointwise same_group (groups_of row.path) (listed row.outer ++ listed row.inner) && ((is_some row.outer || is_none row.inner) && stands_nowhere_else term row.outer row.inner)))))
+    && (pointwise same_group (groups_of row.path) (listed row.outer ++ listed row.inner) && ((is_some row.outer || is_none row.inner) && is_kept_apart row term)))))
 
 -- by what is known of the invoice
 abbrev pub is_plain_with : Known → Plan → Row → Term → Bool
@@ -157,6 +165,15 @@ count_plain rows = length (filter (is_plain_by (plan_of rows)) rows)
 abbrev pub count_terms : List Row → ℕ
 count_terms rows = length (filter has_any_term rows)
 
+-- A value of one term of the model is written: whole, or as another list spells its code.
+abbrev pub is_of_one_term : Form → Bool
+is_of_one_term forms.Model = true
+is_of_one_term forms.PlainDate = true
+is_of_one_term forms.DueDateTypeCode = true
+is_of_one_term forms.CodedNote = false
+is_of_one_term (forms.Typed letter) = false
+is_of_one_term forms.TypedPlainDate = false
+
 -- It is a plain row of the term at an attribute of the element that a plain row of another term writes, but for whether
 -- their path stands apart.
 pub record IsPlainAttributeThere (rows : List Row) (row : Row) (term : Term) (main : Row) (main_term : Term) : Type 0 where
@@ -173,6 +190,7 @@ pub record IsPlainAttributeThere (rows : List Row) (row : Row) (term : Term) (ma
   -- it always writes the term's value, whole
   pub content : row.content ≡ contents.Term term
   pub form : is_whole (form_for row.form term) ≡ true
+  pub one_term : is_of_one_term (form_for row.form term) ≡ true
   pub written : row.written ≡ written.Always
 
 -- It is a plain row of the term at an attribute of the element that a plain row of another term writes.
@@ -181,13 +199,6 @@ pub record IsPlainAttribute (rows : List Row) (row : Row) (term : Term) (main : 
   pub there : IsPlainAttributeThere rows row term main main_term
 
 -- ---- rows of the whole invoice, written in each of the elements that their paths go through
-
--- A value of one term is written: whole, or as another list spells its code.
-abbrev pub is_of_one_term : Form → Bool
-is_of_one_term forms.Model = true
-is_of_one_term forms.PlainDate = true
-is_of_one_term forms.DueDateTypeCode = true
-is_of_one_term forms.CodedNote = false
 
 -- It is a spread row of the term by what is known of the invoice: the term stands in the invoice itself, whatever groups the
 -- path goes through.
@@ -239,7 +250,8 @@ is_plain_attribute_with known plan row term main main_term =
     && (is_plain_with known plan main main_term
     && (same_or_none row.outer main.outer
     && (same_or_none row.inner main.inner
-    && (is_part_named plan main row.leaf && (has_content term row.content && (is_whole (form_for row.form term) && is_always row.written))))))
+    && (is_part_named plan main row.leaf
+    && (has_content term row.content && (is_whole (form_for row.form term) && (is_of_one_term (form_for row.form term) && is_always row.written)))))))
 
 abbrev pub is_plain_attribute_in : Plan → Row → Term → Row → Term → Bool
 is_plain_attribute_in plan row term main main_term = is_plain_attribute_with unknown plan row term main main_term
@@ -275,6 +287,7 @@ pub record IsSpreadAttribute (rows : List Row) (row : Row) (term : Term) (main :
   -- it always writes the term's value, whole
   pub content : row.content ≡ contents.Term term
   pub form : is_whole (form_for row.form term) ≡ true
+  pub one_term : is_of_one_term (form_for row.form term) ≡ true
   pub written : row.written ≡ written.Always
 
 abbrev pub is_spread_attribute_in : Plan → Row → Term → Row → Term → Bool
@@ -282,7 +295,10 @@ is_spread_attribute_in plan row term main main_term =
     pointwise same_step row.path main.path
     && (is_spread_in plan main main_term
     && (is_whole (form_for main.form main_term)
-    && (is_none row.outer && (is_none row.inner && (is_part_named plan main row.leaf && (has_content term row.content && (is_whole (form_for row.form term) && is_always row.written)))))))
+    && (is_none row.outer
+    && (is_none row.inner
+    && (is_part_named plan main row.leaf
+    && (has_content term row.content && (is_whole (form_for row.form term) && (is_of_one_term (form_for row.form term) && is_always row.written))))))))
 
 -- It is one, if both are rows of these.
 abbrev pub is_spread_attribute : List Row → Row → Term → Row → Term → Bool

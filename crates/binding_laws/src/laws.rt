@@ -11,6 +11,7 @@ ghost use Rattle.inv_terms.specs.Whole.{IsValid};
 ghost use Rattle.bind_rows.specs.declared.names.Leaf.TheVariants as leaves;
 ghost use Rattle.bind_rows.specs.declared.rows.Row.{Row};
 ghost use Rattle.bind_rows.specs.declared.rows.Written.TheVariants as rules;
+ghost use Rattle.bind_rows.specs.Added.{is_typed};
 ghost use Rattle.std.specs.List.{list_all};
 ghost use Rattle.std.specs.Str.{bytes_eq};
 ghost use Rattle.bind_meaning.specs.Values.{said, form_for};
@@ -21,7 +22,7 @@ ghost use Rattle.bind_meaning.specs.Currencies.{Currencies, currencies};
 ghost use Rattle.bind_meaning.specs.Seats.{Placed, context_of};
 ghost use Rattle.bind_meaning.specs.Judging.{Told, said_by, is_of_seat};
 ghost use Rattle.bind_meaning.specs.Terms.{passed_over, term_picks, place_all, told, entries, Read, terms_of};
-ghost use Rattle.bind_meaning.specs.declared.tables.Which.{Which};
+ghost use Rattle.bind_rows.specs.declared.tables.Which.{Which};
 ghost use Rattle.bind_meaning.specs.Tables.{rows_of};
 ghost use Rattle.bind_meaning.specs.Trees.{document_of};
 ghost use Rattle.bind_meaning.specs.Writing.{formed};
@@ -77,14 +78,16 @@ pub fn rows_apart_without_terms_pick_what_is_written()
 
 /// In the document that an invoice is written as, a plain row of a term picks exactly the values of that term that it
 /// writes, in the row's form, each once and in listing order; and each string that it picks says that value of that term,
-/// if it is one of the semantic model, whose types the forms of rows go by.
+/// if it is one of the semantic model, whose types the forms of rows go by, or the form has a type itself, as that of a row
+/// which a user added.
 /// A row that is always written, of a term that stands in no other context, picks all values of its term. The table may
 /// have any other rows.
 pub fn plain_rows_pick_the_values_of_their_terms()
     ensures strings { (rows : List Row) (es : List Entry) (k : ℕ) (row : Row) (term : Term) → IsInvoice es → IsPlain rows row term
         → map (λ pick. string_at (document_nodes (document_of rows es)) pick.node) (nodes_picked (document_nodes (document_of rows es)) k row)
         ≡ map (λ e. formed (form_for row.form term) es e.context e.value) (filter (λ e. same_term e.term term && is_written_by row term es e.context) es) }
-    ensures says { (rows : List Row) (es : List Entry) (k : ℕ) (row : Row) (term : Term) → IsInvoice es → IsPlain rows row term → is_extension term ≡ false
+    ensures says { (rows : List Row) (es : List Entry) (k : ℕ) (row : Row) (term : Term) → IsInvoice es → IsPlain rows row term
+        → (is_extension term && not (is_typed (form_for row.form term))) ≡ false
         → map (λ pick. said row.form term (string_at (document_nodes (document_of rows es)) pick.node)) (nodes_picked (document_nodes (document_of rows es)) k row)
         ≡ map (λ e. record { term = term; value = Some e.value } ∷ []) (filter (λ e. same_term e.term term && is_written_by row term es e.context) es) }
     ensures always { (rows : List Row) (es : List Entry) (row : Row) (term : Term) → IsInvoice es → IsPlain rows row term → row.written ≡ rules.Always → stands_there term row.outer row.inner ≡ true

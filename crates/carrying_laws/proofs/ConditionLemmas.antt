@@ -1,5 +1,6 @@
 -- What the conditions of carrying say of one entry, where none of them fails.
 use Rattle.std.proofs.Common.{◌≡◌, Bool, true, false, not, ◌&&◌, ◌||◌, List, [], ◌∷◌, Option, Some, None, ◌⊎◌, inl, inr, refl, sym, ap, ◌∙◌}
+use Rattle.std.specs.List.{list_any}
 use Rattle.std.specs.Prelude.{find, is_some, is_none, option_map, Result, Ok, Err, if◌then◌else◌}
 use Rattle.std.proofs.lemmas.Bool.{false≢true}
 use Rattle.term_table.specs.declared.terms.Term.{Term}
@@ -9,10 +10,11 @@ use Rattle.inv_terms.specs.declared.entries.Entry.{Entry}
 use Rattle.inv_terms.specs.Listing.{value_in}
 use Rattle.inv_terms.specs.Values.{spelled}
 use Rattle.bind_rows.specs.declared.rows.Row.{Row}
-use Rattle.bind_meaning.specs.declared.tables.Which.{Which}
+use Rattle.bind_rows.specs.declared.tables.Which.{Which}
+use Rattle.bind_rows.specs.Same.{choose}
 use Rattle.bind_carrying.specs.declared.carrying.NotCarried.{NotCarried}
 use Rattle.bind_carrying.specs.Tables.{which_of, is_ubl}
-use Rattle.bind_carrying.specs.Carrying.{bt, is_bt, stands, main_term, lacks_main, stands_alone, marks_creditor, is_filler, is_bad_note, has_image, has_bad_code, lacks_means, has_no_currency, is_other_type, same_text, fails, all_conditions, first_at, first_term, told, first_failing, is_unplaced, first_unplaced, entries_fail, answer, is_too_large, entries_carried, carrying}
+use Rattle.bind_carrying.specs.Carrying.{bt, is_bt, stands, main_term, lacks_main, stands_alone, marks_creditor, is_filler, is_bad_note, has_image, has_bad_code, lacks_means, has_no_currency, is_other_type, same_text, fails, all_conditions, first_at, first_term, told, first_failing, is_row_of, is_unplaced, first_unplaced, entries_fail, answer, is_too_large, entries_carried, carrying}
 use Rattle.binding_laws.proofs.ReachLemmas.{Among}
 
 -- ---- no condition fails
@@ -82,25 +84,32 @@ answered None true unplaced h = absurd (let z : ◌≡◌ {A = Result (Unit {0})
 answered (Some fault) large unplaced h = absurd (let z : ◌≡◌ {A = Result (Unit {0}) NotCarried} (Err fault) (Ok tt) = h in cc)
 
 pub carried-keeps : (rows : List Row) (es : List Entry) → carrying rows es ≡ Ok tt → entries_fail rows es ≡ None
-carried-keeps rows es h = (answered (entries_fail rows es) (is_too_large rows es) (first_unplaced es) h).0
+carried-keeps rows es h = (answered (entries_fail rows es) (is_too_large rows es) (first_unplaced rows es) h).0
 
 -- so all but the size of its document is as it should be
 pub carried-entries : (rows : List Row) (es : List Entry) → carrying rows es ≡ Ok tt → entries_carried rows es ≡ Ok tt
 carried-entries rows es h =
-    let w = answered (entries_fail rows es) (is_too_large rows es) (first_unplaced es) h in
-    ap (λ fault. answer fault false (first_unplaced es)) w.0 ∙ ap (answer None false) w.1
+    let w = answered (entries_fail rows es) (is_too_large rows es) (first_unplaced rows es) h in
+    ap (λ fault. answer fault false (first_unplaced rows es)) w.0 ∙ ap (answer None false) w.1
 
 pub entries-keep : (rows : List Row) (es : List Entry) → entries_carried rows es ≡ Ok tt → entries_fail rows es ≡ None
-entries-keep rows es h = (answered (entries_fail rows es) false (first_unplaced es) h).0
+entries-keep rows es h = (answered (entries_fail rows es) false (first_unplaced rows es) h).0
 
--- ---- 9: each term is one of the semantic model
+-- ---- 9: each term is one of the semantic model, or the table has an added row of its context and type
 
-pub model-kept : (rows : List Row) (es : List Entry) → entries_carried rows es ≡ Ok tt → (e : Entry) → Among e es → is_extension e.term ≡ false
-model-kept rows es h e a = found-none is_unplaced es (no-fault _ (find is_unplaced es) (answered (entries_fail rows es) false (first_unplaced es) h).1) e a
+pub row-kept : (rows : List Row) (es : List Entry) → entries_carried rows es ≡ Ok tt → (e : Entry) → Among e es → is_unplaced rows e ≡ false
+row-kept rows es h e a = found-none (is_unplaced rows) es (no-fault _ (find (is_unplaced rows) es) (answered (entries_fail rows es) false (first_unplaced rows es) h).1) e a
   where
     no-fault : (f : Entry → NotCarried) (o : Option Entry) → option_map f o ≡ None → o ≡ None
     no-fault f None k = refl
     no-fault f (Some x) k = absurd (none-is-no-some _ k)
+
+pub added-kept : (rows : List Row) (e : Entry) → is_unplaced rows e ≡ false → is_extension e.term ≡ true → list_any (is_row_of e) rows ≡ true
+added-kept rows e h own = go (list_any (is_row_of e) rows) (sym (ap (λ b. choose b (λ _. not (list_any (is_row_of e) rows)) (λ _. false)) own) ∙ h)
+  where
+    go : (b : Bool) → not b ≡ false → b ≡ true
+    go true k = refl
+    go false k = absurd (false≢true (sym k))
 
 -- ---- 1: the main term of a part stands beside it
 

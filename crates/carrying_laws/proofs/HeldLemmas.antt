@@ -14,7 +14,7 @@ use Rattle.term_table.specs.declared.terms.Letter.TheVariants as letters
 use Rattle.term_table.specs.declared.terms.Term.{Term}
 use Rattle.term_table.specs.declared.terms.TermRow.{TermRow}
 use Rattle.term_table.specs.Rows.{HasType}
-use Rattle.term_table.specs.SemanticModel.{same_term, terms}
+use Rattle.term_table.specs.SemanticModel.{same_term, is_extension, terms}
 use Rattle.term_table.proofs.ExtensionLemmas.{one-type}
 use Rattle.term_table.specs.Contexts.{slot_group, root_context, outer_group, inner_group}
 use Rattle.term_table.proofs.SeatLemmas.{same_term_is}
@@ -41,12 +41,13 @@ use Rattle.binding_laws.specs.Covered.{accounting_terms, is_other_text, is_image
 use Rattle.binding_laws.specs.Faultless.{is_if_scheme}
 use Rattle.binding_laws.proofs.ReachLemmas.{Among}
 use Rattle.binding_laws.proofs.ListLemmas.{both-true, not-true}
-use Rattle.carrying_laws.specs.Complete.{also, lets_all, is_if_iban, is_if_not_iban, is_if_no_scheme, is_as_modelled, has_writer, has_attribute, has_coder, rows_with, is_written_in, writes_model, is_readable, reads_term, mistakes_none, is_complete}
+use Rattle.carrying_laws.specs.Complete.{also, lets_all, is_if_iban, is_if_not_iban, is_if_no_scheme, is_as_modelled, has_writer, has_attribute, has_coder, rows_with, is_written_in, writes_model, is_readable, reads_term, adds_plainly, mistakes_none, is_complete}
 use Rattle.carrying_laws.proofs.Disjuncts.{either-or, also-both, or-first, or-second, or-either, and-true}
-use Rattle.carrying_laws.proofs.ConditionLemmas.{image-stands, currencies-stand, entries-keep, model-kept}
+use Rattle.carrying_laws.proofs.ConditionLemmas.{image-stands, currencies-stand, entries-keep, row-kept, added-kept}
 use Rattle.carrying_laws.proofs.ModelLemmas as model
 use Rattle.carrying_laws.proofs.ModelLemmas.{any-found, all-each, each-all, all-fails, modelled}
 use Rattle.carrying_laws.proofs.WrittenLemmas.{by-one, by-iban, by-scheme, by-attribute, by-code}
+use Rattle.carrying_laws.proofs.AddedLemmas.{added-row, added-reads, added-writes}
 use Rattle.carrying_laws.proofs.MistakenLemmas.{unmistaken}
 
 -- ---- a value of BT-8 is a code
@@ -92,23 +93,32 @@ module _ (rows : List Row) (complete : is_complete rows ≡ true) (es : List Ent
   not-left : (e : Entry) → Among e es → list_any (same_term e.term) left ≡ false
   not-left e a = not-true _ (all-each (λ (x : Entry). not (list_any (same_term x.term) left)) es none e a)
 
-  tests : (writes_model (plan_of rows) (known_of rows) left rows ubl ≡ true) × ((list_all (reads_term left) rows ≡ true) × ((list_all (same_term (bt 111)) (accounting_terms rows) ≡ true) × (mistakes_none (known_of rows) rows ubl ≡ true)))
+  record Tests : Type 0 where
+    writes : writes_model (plan_of rows) (known_of rows) left rows ubl ≡ true
+    reads : list_all (reads_term left) rows ≡ true
+    totals : list_all (same_term (bt 111)) (accounting_terms rows) ≡ true
+    adds : adds_plainly (plan_of rows) rows ≡ true
+    mistakes : mistakes_none (known_of rows) rows ubl ≡ true
+
+  tests : Tests
   tests =
-      let w = both-true (writes_model (plan_of rows) (known_of rows) left rows ubl) (list_all (reads_term left) rows && (list_all (same_term (bt 111)) (accounting_terms rows) && mistakes_none (known_of rows) rows ubl)) complete in
-      let v = both-true (list_all (reads_term left) rows) (list_all (same_term (bt 111)) (accounting_terms rows) && mistakes_none (known_of rows) rows ubl) w.1 in
-      (w.0, (v.0, both-true (list_all (same_term (bt 111)) (accounting_terms rows)) (mistakes_none (known_of rows) rows ubl) v.1))
+      let a = both-true (writes_model (plan_of rows) (known_of rows) left rows ubl) _ complete in
+      let b = both-true (list_all (reads_term left) rows) _ a.1 in
+      let c = both-true (list_all (same_term (bt 111)) (accounting_terms rows)) _ b.1 in
+      let d = both-true (adds_plainly (plan_of rows) rows) (mistakes_none (known_of rows) rows ubl) c.1 in
+      record { writes = a.0; reads = b.0; totals = c.0; adds = d.0; mistakes = d.1 }
 
   -- ---- each entry is written
 
-  written-in : (e : Entry) → Among e es → is_written_in (plan_of rows) (known_of rows) left rows ubl e.term (slot_group e.context.outer) (slot_group e.context.inner) ≡ true
-  written-in e a =
-      let m = modelled e (model-kept rows es carried e a) (all-each is_placed es invoice.placed e a) in
+  written-in : (e : Entry) → Among e es → is_extension e.term ≡ false → is_written_in (plan_of rows) (known_of rows) left rows ubl e.term (slot_group e.context.outer) (slot_group e.context.inner) ≡ true
+  written-in e a of_model =
+      let m = modelled e of_model (all-each is_placed es invoice.placed e a) in
       ap (λ t. is_written_in (plan_of rows) (known_of rows) left rows ubl t (slot_group e.context.outer) (slot_group e.context.inner)) (sym m.term_is)
       ∙ (ap (λ o. is_written_in (plan_of rows) (known_of rows) left rows ubl m.row.term o (slot_group e.context.inner)) m.outer
       ∙ (ap (λ o. is_written_in (plan_of rows) (known_of rows) left rows ubl m.row.term (outer_group m.row.group) o) m.inner
-      ∙ all-each (λ (r : TermRow). is_written_in (plan_of rows) (known_of rows) left rows ubl r.term (outer_group r.group) (inner_group r.group)) terms tests.0 m.row m.known))
+      ∙ all-each (λ (r : TermRow). is_written_in (plan_of rows) (known_of rows) left rows ubl r.term (outer_group r.group) (inner_group r.group)) terms tests.writes m.row m.known))
 
-  module _ (e : Entry) (known : Among e es) where
+  module _ (e : Entry) (known : Among e es) (of_model : is_extension e.term ≡ false) where
     abbrev outer : Option Group
     outer = slot_group e.context.outer
 
@@ -152,27 +162,27 @@ module _ (rows : List Row) (complete : is_complete rows ≡ true) (es : List Ent
     in_one = either one (λ _. in_ibans)
 
     fifth : (part ≡ true) ⊎ (coded ≡ true) → is_written_plainly_in (plan_of rows) rows es e ≡ true
-    fifth (inl k) = by-attribute (plan_of rows) rows es e known keeps lists valid k
-    fifth (inr k) = by-code (plan_of rows) rows es e known keeps lists valid k
+    fifth (inl k) = by-attribute (plan_of rows) rows es e known of_model keeps lists valid k
+    fifth (inr k) = by-code (plan_of rows) rows es e known of_model keeps lists valid k
 
     fourth : (also schemed (λ _. unschemed) ≡ true) ⊎ (in_part ≡ true) → is_written_plainly_in (plan_of rows) rows es e ≡ true
-    fourth (inl k) = let w = also-both schemed (λ _. unschemed) k in by-scheme (plan_of rows) rows es e known w.0 w.1
+    fourth (inl k) = let w = also-both schemed (λ _. unschemed) k in by-scheme (plan_of rows) rows es e known of_model w.0 w.1
     fourth (inr k) = fifth (either-or part (λ _. coded) k)
 
     third : (also ibans (λ _. others) ≡ true) ⊎ (in_schemes ≡ true) → is_written_plainly_in (plan_of rows) rows es e ≡ true
-    third (inl k) = let w = also-both ibans (λ _. others) k in by-iban (plan_of rows) rows es e known w.0 w.1
+    third (inl k) = let w = also-both ibans (λ _. others) k in by-iban (plan_of rows) rows es e known of_model w.0 w.1
     third (inr k) = fourth (either-or (also schemed (λ _. unschemed)) (λ _. in_part) k)
 
     second : (one ≡ true) ⊎ (in_ibans ≡ true) → is_written_plainly_in (plan_of rows) rows es e ≡ true
-    second (inl k) = by-one (plan_of rows) rows es e known k
+    second (inl k) = by-one (plan_of rows) rows es e known of_model k
     second (inr k) = third (either-or (also ibans (λ _. others)) (λ _. in_schemes) k)
 
     first : (list_any (same_term e.term) left ≡ true) ⊎ (in_one ≡ true) → is_written_plainly_in (plan_of rows) rows es e ≡ true
     first (inl k) = absurd (false≢true (sym (not-left e known) ∙ k))
     first (inr k) = second (either-or one (λ _. in_ibans) k)
 
-    pub entry-written : is_written_plainly_in (plan_of rows) rows es e ≡ true
-    entry-written = first (either-or (list_any (same_term e.term) left) (λ _. in_one) (written-in e known))
+    entry-written : is_written_plainly_in (plan_of rows) rows es e ≡ true
+    entry-written = first (either-or (list_any (same_term e.term) left) (λ _. in_one) (written-in e known of_model))
 
     -- ---- each entry is read back
 
@@ -184,9 +194,11 @@ module _ (rows : List Row) (complete : is_complete rows ≡ true) (es : List Ent
         let code = code-of-8 e.value (subst (λ t. Fits t e.value) term (model.all-holds (λ (x : Entry). Fits x.term x.value) e es invoice.fit known)) in
         ap is_imaged code.1 ∙ (image-by-code code.0 ∙ (ap (λ v. has_image (spelled v)) (sym code.1) ∙ image-stands rows es keeps e known h))
     form-reads forms.CodedNote h = refl
+    form-reads (forms.Typed letter) h = absurd (false≢true (sym of_model ∙ h))
+    form-reads forms.TypedPlainDate h = absurd (false≢true (sym of_model ∙ h))
 
     row-reads : (row : Row) → Among row rows → (not (has_term e.term row) || is_read_back (form_for row.form e.term) e.value) ≡ true
-    row-reads row a = go row.content refl (all-each (reads_term left) rows tests.1.0 row a)
+    row-reads row a = go row.content refl (all-each (reads_term left) rows tests.reads row a)
       where
         there : (term : Term) → row.content ≡ contents.Term term → has_term e.term row ≡ same_term term e.term
         there term content = ap (λ (x : Content). elim (term_in x) [ None ↦ false | Some t ↦ same_term t e.term ]) content
@@ -212,13 +224,24 @@ module _ (rows : List Row) (complete : is_complete rows ≡ true) (es : List Ent
         go (contents.Term term) content h = by-term term content h (same_term term e.term) refl
         go (contents.Constant text) content h = or-first (not (has_term e.term row)) _ (ap not (nowhere text content))
 
-    pub entry-read : reads_back rows e ≡ true
+    entry-read : reads_back rows e ≡ true
     entry-read = each-all (λ (row : Row). not (has_term e.term row) || is_read_back (form_for row.form e.term) e.value) rows row-reads
 
-    pub entry-held : (not (list_any (same_term e.term) left) && (reads_back rows e && is_written_plainly_in (plan_of rows) rows es e)) ≡ true
-    entry-held =
-        and-true (not (list_any (same_term e.term) left)) (reads_back rows e && is_written_plainly_in (plan_of rows) rows es e) (ap not (not-left e known))
-        (and-true (reads_back rows e) (is_written_plainly_in (plan_of rows) rows es e) entry-read entry-written)
+    pub modelled-held : (reads_back rows e ≡ true) × (is_written_plainly_in (plan_of rows) rows es e ≡ true)
+    modelled-held = (entry-read, entry-written)
+
+  -- an entry of the model by these tests, one of an added term by its own row
+  held-by : (e : Entry) → Among e es → (b : Bool) → is_extension e.term ≡ b → (reads_back rows e ≡ true) × (is_written_plainly_in (plan_of rows) rows es e ≡ true)
+  held-by e known false own = modelled-held e known own
+  held-by e known true own =
+      let row = added-row rows es e own (added-kept rows e (row-kept rows es carried e known) own) tests.adds in
+      (added-reads rows es e own row, added-writes rows es e own row invoice known)
+
+  pub entry-held : (e : Entry) → Among e es → (not (list_any (same_term e.term) left) && (reads_back rows e && is_written_plainly_in (plan_of rows) rows es e)) ≡ true
+  entry-held e known =
+      let w = held-by e known (is_extension e.term) refl in
+      and-true (not (list_any (same_term e.term) left)) (reads_back rows e && is_written_plainly_in (plan_of rows) rows es e) (ap not (not-left e known))
+      (and-true (reads_back rows e) (is_written_plainly_in (plan_of rows) rows es e) w.0 w.1)
 
   -- ---- the two currencies
 
@@ -244,12 +267,12 @@ module _ (rows : List Row) (complete : is_complete rows ≡ true) (es : List Ent
           let x = all-fails (λ (y : Entry). not (list_any (same_term y.term) (accounting_terms rows))) es e in
           let t = any-found (same_term x.0.term) (accounting_terms rows) (model.not-false (list_any (same_term x.0.term) (accounting_terms rows)) x.1.1) in
           let total : bt 111 ≡ x.0.term =
-          same_term_is (bt 111) t.0 (all-each (same_term (bt 111)) (accounting_terms rows) tests.1.1.0 t.0 t.1.0) ∙ sym (same_term_is x.0.term t.0 t.1.1) in
+          same_term_is (bt 111) t.0 (all-each (same_term (bt 111)) (accounting_terms rows) tests.totals t.0 t.1.0) ∙ sym (same_term_is x.0.term t.0 t.1.1) in
           let w = currencies-stand rows es keeps x.0 x.1.0 (ap (is_bt 111 0) (sym total)) in
           differ (value_in es (bt 5) root_context) (value_in es (bt 6) root_context) (model.currency-stands es lists valid) w.0 w.1
 
   entry-unmistaken : (e : Entry) → Among e es → is_unmistaken (plan_of rows) rows es e ≡ true
-  entry-unmistaken e a = unmistaken (plan_of rows) rows es keeps lists valid e a (model-kept rows es carried e a) (all-each is_placed es invoice.placed e a) tests.1.1.1
+  entry-unmistaken e a = unmistaken (plan_of rows) rows es keeps lists valid e a (all-each is_placed es invoice.placed e a) tests.mistakes
 
   pub held : holds_plainly rows es ≡ true
   held =

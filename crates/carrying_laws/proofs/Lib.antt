@@ -2,6 +2,7 @@ pub mod Disjuncts
 pub mod ConditionLemmas
 pub mod ModelLemmas
 pub mod WrittenLemmas
+pub mod AddedLemmas
 pub mod MistakenLemmas
 pub mod HeldLemmas
 pub mod Computed

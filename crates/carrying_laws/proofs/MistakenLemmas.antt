@@ -6,12 +6,10 @@ use Rattle.std.specs.Str.{bytes_eq}
 use Rattle.std.proofs.lemmas.Bool.{false≢true}
 use Rattle.std.proofs.lemmas.Slice.Eq.{bytes_eq-Decides}
 use Rattle.code_lists.specs.CodeFiles.{Lists}
-use Rattle.term_table.specs.declared.terms.TermRow.{TermRow}
 use Rattle.term_table.specs.declared.contexts.Slot.{Slot}
 use Rattle.term_table.specs.SemanticModel.{same_term, is_extension, terms}
-use Rattle.term_table.specs.Contexts.{slot_group, same_groups, outer_group, inner_group, stands_in, root_context}
+use Rattle.term_table.specs.Contexts.{slot_group, same_groups, outer_group, inner_group, root_context}
 use Rattle.term_table.proofs.SeatLemmas.{same_term_is}
-use Rattle.term_table.proofs.GroupLemmas.{same_groups_is}
 use Rattle.inv_terms.specs.declared.entries.Entry.{Entry}
 use Rattle.inv_terms.specs.Listing.{value_in, is_placed}
 use Rattle.inv_terms.specs.Values.{is_blank, spelled}
@@ -39,7 +37,7 @@ use Rattle.binding_laws.proofs.ListLemmas.{both-true, not-true}
 use Rattle.carrying_laws.specs.Complete.{stands_with, is_kept_filler, keeps_filler, is_kept_unlike, keeps_together_at, keeps_together, keeps_known, keeps_notes, mistakes_none}
 use Rattle.carrying_laws.proofs.Disjuncts.{either-or, or-first, or-second, or-either, and-true}
 use Rattle.carrying_laws.proofs.ConditionLemmas.{and-false, creditor-kept, filler-kept, note-kept}
-use Rattle.carrying_laws.proofs.ModelLemmas.{all-each, each-all, same_term-itself, IsModelled, modelled}
+use Rattle.carrying_laws.proofs.ModelLemmas.{all-each, each-all, IsModelled, modelled}
 use Rattle.carrying_laws.proofs.WrittenLemmas.{main-here}
 
 -- ---- truth values
@@ -89,7 +87,7 @@ in-root e p h =
     let w = groups-are e e.term None None refl p h in
     λ z. record { outer = (no-slot e.context.outer w.0) z; inner = (no-slot e.context.inner w.1) z }
 
-module _ (plan : Plan) (rows : List Row) (es : List Entry) (keeps : entries_fail rows es ≡ None) (lists : Lists) (valid : IsValid es lists) (e : Entry) (known : Among e es) (own : is_extension e.term ≡ false) (placed : is_placed e ≡ true) where
+module _ (plan : Plan) (rows : List Row) (es : List Entry) (keeps : entries_fail rows es ≡ None) (lists : Lists) (valid : IsValid es lists) (e : Entry) (known : Among e es) (placed : is_placed e ≡ true) where
   abbrev ubl : Bool
   ubl = is_ubl (which_of rows)
 
@@ -161,24 +159,35 @@ module _ (plan : Plan) (rows : List Row) (es : List Entry) (keeps : entries_fail
   -- ---- terms that stand together
 
   part : (x : Together) → keeps_together ubl x ≡ true → (not (same_term e.term x.term && same_groups (slot_group e.context.outer) (Some x.group)) || is_some (value_in es x.part e.context)) ≡ true
-  part x h =
-      let m = modelled e own placed in
-      go m (either-or (not (same_term m.row.term x.term && same_groups (outer_group m.row.group) (Some x.group))) (λ _. stands_with ubl m.row.term (outer_group m.row.group) (inner_group m.row.group) x.part)
-      (all-each (keeps_together_at ubl x) terms h m.row m.known))
+  part x h = by (is_extension e.term) refl (both-true (not (is_extension x.term)) (list_all (keeps_together_at ubl x) terms) h)
     where
-      go : (m : IsModelled e)
+      -- no added term is asked for others
+      added : is_extension e.term ≡ true → not (is_extension x.term) ≡ true → (b : Bool) → same_term e.term x.term ≡ b
+          → (not (same_term e.term x.term && same_groups (slot_group e.context.outer) (Some x.group)) || is_some (value_in es x.part e.context)) ≡ true
+      added ext own false same = ap (λ b. not (b && same_groups (slot_group e.context.outer) (Some x.group)) || is_some (value_in es x.part e.context)) same
+      added ext own true same = absurd (false≢true (sym (not-true (is_extension x.term) own) ∙ (ap is_extension (sym (same_term_is e.term x.term same)) ∙ ext)))
+
+      go : is_extension e.term ≡ false → (m : IsModelled e)
           → (not (same_term m.row.term x.term && same_groups (outer_group m.row.group) (Some x.group)) ≡ true) ⊎ (stands_with ubl m.row.term (outer_group m.row.group) (inner_group m.row.group) x.part ≡ true)
           → (not (same_term e.term x.term && same_groups (slot_group e.context.outer) (Some x.group)) || is_some (value_in es x.part e.context)) ≡ true
-      go m (inl n) =
+      go own m (inl n) =
           or-first (not (same_term e.term x.term && same_groups (slot_group e.context.outer) (Some x.group))) _
           (ap (λ t. not (same_term t x.term && same_groups (slot_group e.context.outer) (Some x.group))) (sym m.term_is)
           ∙ (ap (λ o. not (same_term m.row.term x.term && same_groups o (Some x.group))) m.outer ∙ n))
-      go m (inr s) =
+      go own m (inr s) =
           or-second (not (same_term e.term x.term && same_groups (slot_group e.context.outer) (Some x.group))) _
-          (main-here plan rows es e known keeps lists valid x.part
+          (main-here plan rows es e known own keeps lists valid x.part
           (ap (λ t. stands_with ubl t (slot_group e.context.outer) (slot_group e.context.inner) x.part) (sym m.term_is)
           ∙ (ap (λ o. stands_with ubl m.row.term o (slot_group e.context.inner) x.part) m.outer
           ∙ (ap (λ o. stands_with ubl m.row.term (outer_group m.row.group) o x.part) m.inner ∙ s))))
+
+      by : (b : Bool) → is_extension e.term ≡ b → (not (is_extension x.term) ≡ true) × (list_all (keeps_together_at ubl x) terms ≡ true)
+          → (not (same_term e.term x.term && same_groups (slot_group e.context.outer) (Some x.group)) || is_some (value_in es x.part e.context)) ≡ true
+      by true ext w = added ext w.0 (same_term e.term x.term) refl
+      by false own w =
+          let m = modelled e own placed in
+          go own m (either-or (not (same_term m.row.term x.term && same_groups (outer_group m.row.group) (Some x.group))) (λ _. stands_with ubl m.row.term (outer_group m.row.group) (inner_group m.row.group) x.part)
+          (all-each (keeps_together_at ubl x) terms w.1 m.row m.known))
 
   as-known : keeps_known (known_of rows) ubl ≡ true → is_as_known (known_of rows) es e ≡ true
   as-known h =

@@ -1,16 +1,19 @@
 -- A row that is covered writes an entry's value where its rule lets it pass; of two that exclude one another one does.
-use Rattle.std.proofs.Common.{◌≡◌, ℕ, Bool, true, false, not, ◌&&◌, List, Option, Some, None, ◌⊎◌, inl, inr, refl, sym, ap, ◌∙◌}
-use Rattle.std.specs.Prelude.{is_some, is_none}
-use Rattle.std.specs.List.{list_any}
+use Rattle.std.proofs.Common.{◌≡◌, ℕ, Bool, true, false, not, ◌&&◌, ◌||◌, List, Option, Some, None, ◌⊎◌, inl, inr, refl, sym, ap, ◌∙◌, subst}
+use Rattle.std.specs.Prelude.{◌==◌, nat_le, is_some, is_none, if◌then◌else◌}
+use Rattle.std.specs.List.{list_all, list_any}
 use Rattle.std.specs.Cmp.Lexicographic.{pointwise}
-use Rattle.std.proofs.lemmas.Bool.{false≢true}
+use Rattle.std.proofs.lemmas.Bool.{eqb-true, false≢true}
+use Rattle.std.proofs.lemmas.Option.{same_Some}
 use Rattle.code_lists.specs.CodeFiles.{Lists}
 use Rattle.term_table.specs.declared.groups.Group.{Group}
 use Rattle.term_table.specs.declared.terms.Term.{Term}
 use Rattle.term_table.specs.declared.contexts.Slot.{Slot}
 use Rattle.term_table.specs.declared.contexts.Context.{Context}
-use Rattle.term_table.specs.SemanticModel.{same_term}
-use Rattle.term_table.specs.Contexts.{slot_group, same_groups}
+use Rattle.term_table.specs.declared.terms.TermRow.{TermRow}
+use Rattle.term_table.specs.SemanticModel.{same_term, is_extension, terms}
+use Rattle.term_table.specs.Groups.{is_repeated}
+use Rattle.term_table.specs.Contexts.{slot_group, same_groups, stands_in}
 use Rattle.term_table.proofs.SeatLemmas.{same_term_is}
 use Rattle.inv_terms.specs.declared.values.Value.{Value}
 use Rattle.inv_terms.specs.declared.entries.Entry.{Entry}
@@ -27,18 +30,20 @@ use Rattle.bind_rows.specs.declared.rows.Written.TheVariants as written
 use Rattle.bind_rows.specs.Same.{same_step}
 use Rattle.bind_table.specs.Lines.{Plan}
 use Rattle.bind_meaning.specs.Values.{subject_code, form_for}
-use Rattle.bind_meaning.specs.Writing.{slot_for, context_for, formed, is_iban, scheme_of, if_so, if_due, filled, term_text, row_text, writes_entry}
+use Rattle.bind_meaning.specs.Writing.{slot_for, context_for, formed, is_iban, scheme_of, if_so, if_due, filled, value_for, term_text, row_text, writes_entry}
 use Rattle.binding_laws.specs.Known.{known_of}
 use Rattle.binding_laws.specs.Plain.{has_content, is_in_groups, is_written_by}
 use Rattle.binding_laws.specs.Covered.{is_noted_in, is_written_plainly_in}
 use Rattle.binding_laws.specs.Faultless.{is_if_scheme, is_model}
-use Rattle.bind_carrying.specs.Carrying.{main_term, entries_fail}
+use Rattle.bind_carrying.specs.Carrying.{bt, is_bt, is_first_part, is_part, main_term, entries_fail}
 use Rattle.bind_carrying.specs.Tables.{which_of, is_ubl}
 use Rattle.binding_laws.proofs.ReachLemmas.{Among}
-use Rattle.binding_laws.proofs.ListLemmas.{both-true}
-use Rattle.carrying_laws.specs.Complete.{also, lets_all, is_if_iban, is_if_not_iban, is_if_no_scheme, is_as_modelled, is_of, is_covered_for, is_writer, has_writer, is_mandatory, is_own_main, stands_with, lets_beside, is_covered_beside, is_main, is_beside, has_attribute, is_note_of, is_coder, has_coder, rows_with}
-use Rattle.carrying_laws.proofs.Disjuncts.{either-or, also-both, and-true, element-writes, attribute-writes, code-writes, written-by-row}
-use Rattle.carrying_laws.proofs.ModelLemmas.{any-found, of-filter, value-stands, mandatory-stands}
+use Rattle.binding_laws.proofs.ListLemmas.{both-true, not-true}
+use Rattle.binding_laws.proofs.FormLemmas.{modelled-untyped}
+use Rattle.binding_laws.proofs.TakenLemmas as taken
+use Rattle.carrying_laws.specs.Complete.{also, lets_all, is_if_iban, is_if_not_iban, is_if_no_scheme, is_as_modelled, is_of, is_covered_for, is_writer, has_writer, is_mandatory_mark, is_mandatory_at, is_mandatory, is_own_main, stands_with, lets_beside, is_covered_beside, is_main, is_beside, has_attribute, is_note_of, is_coder, has_coder, rows_with}
+use Rattle.carrying_laws.proofs.Disjuncts.{either-or, or-either, also-both, and-true, element-writes, attribute-writes, code-writes, written-by-row}
+use Rattle.carrying_laws.proofs.ModelLemmas.{all-each, any-found, of-filter, value-stands, mandatory-stands}
 use Rattle.carrying_laws.proofs.ConditionLemmas.{main-stands}
 
 -- ---- what a row writes in a context of its own
@@ -60,19 +65,25 @@ some-value : (o : Option Value) → is_some o ≡ true → (v : Value) × (o ≡
 some-value None h = absurd (false≢true h)
 some-value (Some v) h = (v, refl)
 
-text-as : (row : Row) (es : List Entry) (term : Term) (c : Context) (v : Value) → row.content ≡ contents.Term term → is_in_groups row c ≡ true → value_in es term c ≡ Some v
+text-as : (row : Row) (es : List Entry) (term : Term) (c : Context) (v : Value) → row.content ≡ contents.Term term → is_in_groups row c ≡ true → value_for row es term c ≡ Some v
     → row_text row es c ≡ if_due row.written es term c (formed (form_for row.form term) es c v)
 text-as row es term c v content groups is =
     ap (λ (x : Content). elim x [ (contents.Term t) ↦ term_text row es t (context_for row c) | (contents.Constant text) ↦ None ]) content
     ∙ (ap (term_text row es term) (own-context row c groups)
     ∙ ap (λ (o : Option Value). elim o [ None ↦ filled row.written es c | Some x ↦ if_due row.written es term c (formed (form_for row.form term) es c x) ]) is)
 
--- The row writes the value, where its rule lets it pass.
-writes-value : (row : Row) (es : List Entry) (term : Term) (c : Context) (v : Value) → row.content ≡ contents.Term term → is_in_groups row c ≡ true → value_in es term c ≡ Some v
+-- The row writes the value, where it takes it and its rule lets it pass.
+pub takes-and-writes : (row : Row) (es : List Entry) (term : Term) (c : Context) (v : Value) → row.content ≡ contents.Term term → is_in_groups row c ≡ true → value_in es term c ≡ Some v → value_for row es term c ≡ Some v
     → is_some (if_due row.written es term c (formed (form_for row.form term) es c v)) ≡ true → is_written_by row term es c ≡ true
-writes-value row es term c v content groups is due =
+takes-and-writes row es term c v content groups is takes due =
     and-true (is_in_groups row c) (is_some (value_in es term c) && writes_entry row es c) groups
-    (and-true (is_some (value_in es term c)) (writes_entry row es c) (ap is_some is) (ap is_some (text-as row es term c v content groups is) ∙ due))
+    (and-true (is_some (value_in es term c)) (writes_entry row es c) (ap is_some is) (ap is_some (text-as row es term c v content groups takes) ∙ due))
+
+-- It takes each value of a term of the model.
+writes-value : (row : Row) (es : List Entry) (term : Term) (c : Context) (v : Value) → is_extension term ≡ false → row.content ≡ contents.Term term → is_in_groups row c ≡ true → value_in es term c ≡ Some v
+    → is_some (if_due row.written es term c (formed (form_for row.form term) es c v)) ≡ true → is_written_by row term es c ≡ true
+writes-value row es term c v own content groups is due =
+    takes-and-writes row es term c v content groups is (taken.as-modelled row es term c (modelled-untyped row.form term own) ∙ is) due
 
 -- ---- rules
 
@@ -139,6 +150,8 @@ as-modelled forms.Model h = refl
 as-modelled forms.PlainDate h = absurd (false≢true h)
 as-modelled forms.DueDateTypeCode h = absurd (false≢true h)
 as-modelled forms.CodedNote h = absurd (false≢true h)
+as-modelled (forms.Typed letter) h = absurd (false≢true h)
+as-modelled forms.TypedPlainDate h = absurd (false≢true h)
 
 term-content : (content : Content) (term : Term) → has_content term content ≡ true → content ≡ contents.Term term
 term-content (contents.Term other) term h = ap contents.Term (same_term_is other term h)
@@ -148,9 +161,63 @@ not-some : {X : Type 0} (o : Option X) → is_some o ≡ false → is_none o ≡
 not-some None h = refl
 not-some (Some x) h = absurd (false≢true (sym h))
 
--- ---- an entry by the rows of a table
+-- ---- main terms are those of the model
 
-module _ (plan : Plan) (rows : List Row) (es : List Entry) (e : Entry) (known : Among e es) where
+small : (n k : ℕ) → (n == k) ≡ true → nat_le 1001 k ≡ false → nat_le 1001 n ≡ false
+small n k h s = subst (λ m. nat_le 1001 m ≡ false) (sym (eqb-true n k h)) s
+
+or-small : (n k : ℕ) (rest : Bool) → nat_le 1001 k ≡ false → (rest ≡ true → nat_le 1001 n ≡ false) → ((n == k) || rest) ≡ true → nat_le 1001 n ≡ false
+or-small n k rest s later h = go (n == k) refl h
+  where
+    go : (b : Bool) → (n == k) ≡ b → (b || rest) ≡ true → nat_le 1001 n ≡ false
+    go true e l = small n k e s
+    go false e l = later l
+
+small-first : (n : ℕ) → is_first_part n ≡ true → nat_le 1001 n ≡ false
+small-first n =
+    or-small n 30 _ refl (or-small n 34 _ refl (or-small n 46 _ refl (or-small n 47 _ refl (or-small n 49 _ refl (or-small n 60 _ refl
+    (or-small n 61 _ refl (or-small n 71 _ refl (or-small n 125 _ refl (λ h. small n 157 h refl)))))))))
+
+small-part : (ubl : Bool) (term : Term) → is_part ubl term ≡ true → nat_le 1001 term.number ≡ false
+small-part ubl term h = elim (or-either (term.part == 1 && (is_first_part term.number || (ubl && (term.number == 18 || term.number == 128)))) (is_bt 125 2 term) h) [
+  | inl a ↦ elim (or-either (is_first_part term.number) (ubl && (term.number == 18 || term.number == 128)) (both-true (term.part == 1) _ a).1) [
+    | inl b ↦ small-first term.number b
+    | inr b ↦ or-small term.number 18 (term.number == 128) refl (λ k. small term.number 128 k refl) (both-true ubl (term.number == 18 || term.number == 128) b).1
+  ]
+  | inr a ↦ small term.number 125 (both-true (term.number == 125) (term.part == 2) a).0 refl
+]
+
+main-small : (ubl : Bool) (term main : Term) → main_term ubl term ≡ Some main → is_extension main ≡ false
+main-small ubl term main h = go (is_part ubl term) refl (is_bt 150 0 term) (ubl && is_bt 82 0 term) h
+  where
+    go : (a : Bool) → is_part ubl term ≡ a → (b c : Bool) → (if a then Some (bt term.number) else (if b then Some (bt 149) else (if c then Some (bt 81) else None))) ≡ Some main → is_extension main ≡ false
+    go true e b c k = ap is_extension (sym (same_Some _ _ k)) ∙ ap (λ x. x && nat_le term.number 1099) (small-part ubl term e)
+    go false e true c k = ap is_extension (sym (same_Some _ _ k))
+    go false e false true k = ap is_extension (sym (same_Some _ _ k))
+    go false e false false k = absurd (false≢true (ap is_some k))
+
+model-terms : list_all (λ (r : TermRow). not (is_extension r.term)) terms ≡ true
+unfolding terms
+model-terms = refl
+
+-- a term that stands wherever another does, is one of the model
+main-modelled : (ubl : Bool) (term : Term) (outer inner : Option Group) (main : Term) → stands_with ubl term outer inner main ≡ true → is_extension main ≡ false
+main-modelled ubl term outer inner main h = go (either-or (is_own_main ubl term main) (λ _. is_mandatory main outer inner) h)
+  where
+    own-main : (o : Option Term) → main_term ubl term ≡ o → (elim o [ None ↦ false | Some t ↦ same_term t main ]) ≡ true → is_extension main ≡ false
+    own-main None is k = absurd (false≢true k)
+    own-main (Some t) is k = ap is_extension (sym (same_term_is t main k)) ∙ main-small ubl term t is
+
+    go : (is_own_main ubl term main ≡ true) ⊎ (is_mandatory main outer inner ≡ true) → is_extension main ≡ false
+    go (inl a) = own-main (main_term ubl term) refl a
+    go (inr b) =
+        let found = any-found (is_mandatory_at main outer inner) terms b in
+        let w = also-both (same_term found.0.term main) (λ _. is_mandatory_mark found.0.mark && (is_repeated found.0.group && stands_in found.0.group outer inner)) found.1.1 in
+        ap is_extension (sym (same_term_is found.0.term main w.0)) ∙ not-true (is_extension found.0.term) (all-each (λ (r : TermRow). not (is_extension r.term)) terms model-terms found.0 found.1.0)
+
+-- ---- an entry of the model by the rows of a table
+
+module _ (plan : Plan) (rows : List Row) (es : List Entry) (e : Entry) (known : Among e es) (modelled : is_extension e.term ≡ false) where
   abbrev outer : Option Group
   outer = slot_group e.context.outer
 
@@ -188,7 +255,7 @@ module _ (plan : Plan) (rows : List Row) (es : List Entry) (e : Entry) (known : 
   by-writer : (lets : Row → Bool) (w : Writer lets) (v : Value) → value_in es e.term e.context ≡ Some v
       → is_some (if_due w.row.written es e.term e.context (formed (form_for w.row.form e.term) es e.context v)) ≡ true → is_written_plainly_in plan rows es e ≡ true
   by-writer lets w v is due =
-      written-by-row plan rows es e w.row w.among (element-writes plan rows es e w.row w.covered (writes-value w.row es e.term e.context v w.content w.groups is due))
+      written-by-row plan rows es e w.row w.among (element-writes plan rows es e w.row w.covered (writes-value w.row es e.term e.context v modelled w.content w.groups is due))
 
   pub by-one : has_writer plan (known_of rows) rows e.term outer inner (λ row. lets_all row.written) (rows_with e.term rows) ≡ true → is_written_plainly_in plan rows es e ≡ true
   by-one h =
@@ -278,7 +345,7 @@ module _ (plan : Plan) (rows : List Row) (es : List Entry) (e : Entry) (known : 
         let t = also-both (stands_with ubl e.term outer inner term) (λ _. is_covered_beside plan (known_of rows) e.term row main term) v.1 in
         let x = some-value (value_in es term e.context) (main-here term t.0) in
         written-by-row plan rows es e row a
-        (attribute-writes plan rows es e row main term b content t.1 (writes-value main es term e.context x.0 content u.0 x.1 (main-due term main.written u.1 (formed (form_for main.form term) es e.context x.0))))
+        (attribute-writes plan rows es e row main term b content t.1 (writes-value main es term e.context x.0 (main-modelled ubl e.term outer inner term t.0) content u.0 x.1 (main-due term main.written u.1 (formed (form_for main.form term) es e.context x.0))))
 
     by-beside : (row main : Row) → Among row rows → Among main rows → is_beside plan (known_of rows) (is_ubl (which_of rows)) e.term outer inner row main ≡ true → is_written_plainly_in plan rows es e ≡ true
     by-beside row main a b h = go main.content refl h
@@ -305,7 +372,7 @@ module _ (plan : Plan) (rows : List Row) (es : List Entry) (e : Entry) (known : 
         let u = also-both (stands_with ubl e.term outer inner term) (λ _. is_noted_in plan rows row term) w.1 in
         let x = some-value (value_in es term e.context) (main-here term u.0) in
         written-by-row plan rows es e row a
-        (code-writes plan rows es e row term content code u.1 (writes-value row es term e.context x.0 content v.1 x.1 (all-due row.written v.0 es term e.context (formed (form_for row.form term) es e.context x.0))))
+        (code-writes plan rows es e row term content code u.1 (writes-value row es term e.context x.0 (main-modelled ubl e.term outer inner term u.0) content v.1 x.1 (all-due row.written v.0 es term e.context (formed (form_for row.form term) es e.context x.0))))
 
     by-coder : (row : Row) → Among row rows → same_term e.term subject_code ≡ true → is_coder plan rows (is_ubl (which_of rows)) e.term outer inner row ≡ true → is_written_plainly_in plan rows es e ≡ true
     by-coder row a code h = go row.content refl h

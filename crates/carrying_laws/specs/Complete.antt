@@ -9,7 +9,7 @@ use Rattle.term_table.specs.declared.terms.Mark.{Mark}
 use Rattle.term_table.specs.declared.terms.Mark.TheVariants as marks
 use Rattle.term_table.specs.declared.terms.Term.{Term}
 use Rattle.term_table.specs.declared.terms.TermRow.{TermRow}
-use Rattle.term_table.specs.SemanticModel.{same_term, terms}
+use Rattle.term_table.specs.SemanticModel.{same_term, is_extension, terms}
 use Rattle.term_table.specs.Groups.{is_repeated}
 use Rattle.term_table.specs.Contexts.{same_groups, outer_group, inner_group, stands_in}
 use Rattle.bind_rows.specs.declared.rows.Content.TheVariants as contents
@@ -20,13 +20,14 @@ use Rattle.bind_rows.specs.declared.rows.Form.TheVariants as forms
 use Rattle.bind_rows.specs.declared.rows.Written.{Written}
 use Rattle.bind_rows.specs.declared.rows.Written.TheVariants as written
 use Rattle.bind_rows.specs.Same.{same_step}
+use Rattle.bind_rows.specs.Added.{is_added}
 use Rattle.bind_table.specs.Lines.{Plan, plan_of}
 use Rattle.bind_meaning.specs.Trees.{either}
 use Rattle.bind_meaning.specs.Values.{subject_code, form_for}
 use Rattle.bind_meaning.specs.Writing.{scheme_of}
 use Rattle.binding_laws.specs.Apart.{Unlike, Together, Known}
 use Rattle.binding_laws.specs.Known.{known_of}
-use Rattle.binding_laws.specs.Plain.{has_content, stands_there, is_plain_in, is_plain_with, is_spread_in, is_spread_with, is_plain_attribute_in, is_plain_attribute_with, is_spread_attribute_in}
+use Rattle.binding_laws.specs.Plain.{is_one, has_content, stands_there, is_plain_in, is_plain_with, is_spread_in, is_spread_with, is_plain_attribute_in, is_plain_attribute_with, is_spread_attribute_in}
 use Rattle.binding_laws.specs.Covered.{is_filled_in, is_total_in, is_pair_in, is_noted_in, is_coded_row, accounting_terms, left_out}
 use Rattle.binding_laws.specs.Faultless.{is_if_scheme, is_model}
 use Rattle.bind_carrying.specs.Carrying.{bt, is_bt, main_term}
@@ -176,12 +177,15 @@ writes_model plan known left rows ubl = list_all (λ (r : TermRow). is_written_i
 
 -- ---- values that are read back
 
--- Each value of the term that can be carried is read back from the form.
+-- Each value of the term that can be carried is read back from the form. A form with a type is that of a term that a user
+-- added: which values those are, condition 9 says.
 abbrev pub is_readable : Form → Term → Bool
 is_readable forms.Model term = true
 is_readable forms.PlainDate term = true
 is_readable forms.DueDateTypeCode term = is_bt 8 0 term
 is_readable forms.CodedNote term = true
+is_readable (forms.Typed letter) term = is_extension term
+is_readable forms.TypedPlainDate term = is_extension term
 
 abbrev pub reads_term : List Term → Row → Bool
 reads_term left row = elim row.content [
@@ -212,7 +216,7 @@ keeps_together_at ubl x r =
     either (not (same_term r.term x.term && same_groups (outer_group r.group) (Some x.group))) (λ _. stands_with ubl r.term (outer_group r.group) (inner_group r.group) x.part)
 
 abbrev pub keeps_together : Bool → Together → Bool
-keeps_together ubl x = list_all (keeps_together_at ubl x) terms
+keeps_together ubl x = not (is_extension x.term) && list_all (keeps_together_at ubl x) terms
 
 -- What has to be known of an invoice is so in each that can be carried.
 abbrev pub keeps_known : Known → Bool → Bool
@@ -225,13 +229,26 @@ keeps_notes rows ubl = ubl || not (list_any is_coded_row rows)
 abbrev pub mistakes_none : Known → List Row → Bool → Bool
 mistakes_none known rows ubl = list_all (keeps_filler ubl) rows && (keeps_known known ubl && keeps_notes rows ubl)
 
+-- ---- rows that users added
+
+abbrev pub is_plain_alone : Plan → List Row → Row → Bool
+is_plain_alone plan rows row = elim row.content [
+  | (contents.Term term) ↦ also (is_plain_in plan row term) (λ _. is_one (rows_with term rows))
+  | (contents.Constant text) ↦ false
+]
+
+-- Each row that a user added is plain, and the only one of its term.
+abbrev pub adds_plainly : Plan → List Row → Bool
+adds_plainly plan rows = list_all (λ row. either (not (is_added row)) (λ _. is_plain_alone plan rows row)) rows
+
 -- ---- the table
 
 abbrev pub is_complete_in : Plan → Known → List Term → List Row → Bool → Bool
 is_complete_in plan known left rows ubl =
-    writes_model plan known left rows ubl && (list_all (reads_term left) rows && (list_all (same_term (bt 111)) (accounting_terms rows) && mistakes_none known rows ubl))
+    writes_model plan known left rows ubl && (list_all (reads_term left) rows && (list_all (same_term (bt 111)) (accounting_terms rows) && (adds_plainly plan rows && mistakes_none known rows ubl)))
 
 -- Each value of a valid invoice that the table can carry is written by a covered row, read back, and not taken for
--- something else, unless its term is left out; and no VAT total is in accounting currency but BT-111.
+-- something else, unless its term is left out; no VAT total is in accounting currency but BT-111; and rows that users added
+-- are plain.
 abbrev pub is_complete : List Row → Bool
 is_complete rows = is_complete_in (plan_of rows) (known_of rows) (left_out rows) rows (is_ubl (which_of rows))

@@ -8,13 +8,13 @@ ghost use Rattle.inv_terms.specs.declared.entries.Entry.{Entry};
 ghost use Rattle.inv_terms.specs.Listing.{IsInvoice};
 ghost use Rattle.inv_terms.specs.Whole.{IsValid};
 ghost use Rattle.bind_rows.specs.declared.rows.Row.{Row};
-ghost use Rattle.bind_meaning.specs.declared.tables.Which.{Which};
-ghost use Rattle.bind_meaning.specs.declared.tables.Which.TheVariants as which;
+ghost use Rattle.bind_rows.specs.declared.tables.Which.{Which};
+ghost use Rattle.bind_rows.specs.declared.tables.Which.TheVariants as which;
 ghost use Rattle.bind_meaning.specs.Tables.{rows_of};
 ghost use Rattle.bind_meaning.specs.Terms.{Read, terms_of};
 ghost use Rattle.bind_meaning.specs.Trees.{document_of};
 ghost use Rattle.bind_carrying.specs.Tables.{which_of};
-ghost use Rattle.bind_carrying.specs.Carrying.{stands_alone, marks_creditor, is_filler, is_bad_note, has_bad_code, lacks_means, has_no_currency, entries_fail, entries_carried, carrying};
+ghost use Rattle.bind_carrying.specs.Carrying.{stands_alone, marks_creditor, is_filler, is_bad_note, has_bad_code, lacks_means, has_no_currency, is_unplaced, entries_fail, entries_carried, carrying};
 ghost use Rattle.binding_laws.specs.Apart.{holds_none};
 ghost use Rattle.binding_laws.specs.Covered.{left_out, holds_plainly};
 ghost use Rattle.carrying_laws.specs.Complete.{is_complete};
@@ -37,7 +37,8 @@ pub fn complete_tables_hold_carried_invoices()
 {}
 
 /// Where an invoice meets the conditions of carrying, or is carried, each of those that its entries show holds of each
-/// entry, in the order of bind_carrying: the first seven, and the ninth, that its terms are those of the semantic model.
+/// entry, in the order of bind_carrying: the first seven, and the ninth, that its terms are those of the semantic model or
+/// have an added row of the table, of their context and type. None of the three tables has such a row.
 pub fn carried_invoices_meet_each_condition()
     ensures carried { (rows : List Row) (es : List Entry) → carrying rows es ≡ Ok tt → entries_fail rows es ≡ None }
     ensures entries { (rows : List Row) (es : List Entry) → carrying rows es ≡ Ok tt → entries_carried rows es ≡ Ok tt }
@@ -49,7 +50,8 @@ pub fn carried_invoices_meet_each_condition()
     ensures code { (rows : List Row) (es : List Entry) (e : Entry) → entries_fail rows es ≡ None → Contains es e → has_bad_code (which_of rows) e ≡ false }
     ensures means { (rows : List Row) (es : List Entry) (e : Entry) → entries_fail rows es ≡ None → Contains es e → lacks_means (which_of rows) es e ≡ false }
     ensures currency { (rows : List Row) (es : List Entry) (e : Entry) → entries_fail rows es ≡ None → Contains es e → has_no_currency es e ≡ false }
-    ensures placed { (rows : List Row) (es : List Entry) (e : Entry) → entries_carried rows es ≡ Ok tt → Contains es e → is_extension e.term ≡ false }
+    ensures placed { (rows : List Row) (es : List Entry) (e : Entry) → entries_carried rows es ≡ Ok tt → Contains es e → is_unplaced rows e ≡ false }
+    ensures modelled { (table : Which) (es : List Entry) (e : Entry) → entries_carried (rows_of table) es ≡ Ok tt → Contains es e → is_extension e.term ≡ false }
 {}
 
 /// In each of the three tables: a valid invoice that meets the conditions of carrying is held.

@@ -1,5 +1,5 @@
 -- Checks: rule files one after another, what is active of them, and the report.
-use Rattle.std.proofs.Common.{◌≡◌, ℕ, ◌+◌, ◌<◌, ◌≤◌, List, [], ◌∷◌, ◌++◌, drop, take, map, length, get_or, ◌||◌, Bool, true, false, inl, inr, refl, ap, sym, subst, ◌∙◌, arith, option_map}
+use Rattle.std.proofs.Common.{◌≡◌, ℕ, ◌+◌, ◌<◌, ◌≤◌, List, [], ◌∷◌, ◌++◌, drop, take, map, length, get_or, ◌||◌, Bool, true, false, true≢false, inl, inr, refl, ap, sym, subst, ◌∙◌, option_map}
 use Rattle.std.specs.Prelude.{Option, Some, None, Result, Ok, Err, if◌then◌else◌, chars}
 use Rattle.std.specs.List.{list_any}
 use Rattle.std.proofs.lemmas.List.{append_assoc, append-nil, map-append, take_more, drop_more, drop_all}
@@ -9,59 +9,60 @@ use Rattle.std.proofs.lemmas.List.Folds.{list_any-append}
 use Rattle.inv_base.specs.Files.{bytes_under}
 use Rattle.inv_base.specs.Outside.{ShelfView, SinkView}
 use Rattle.inv_base.specs.Tree.{Node}
-use Rattle.xml_profile.specs.Profile as profile
 use Rattle.xml_document.specs.Loading.{IsLoaded}
 use Rattle.node_arena.specs.Document.{Document}
+use Rattle.rule_library.specs.Library.{Held}
 use Rattle.node_arena.specs.Moves.{tree_nodes}
 use Rattle.schematron_meaning.specs.Rules.{Rules, rules_of}
 use Rattle.schematron_meaning.specs.Phases.{Active, active_of}
 use Rattle.schematron_compile.specs.declared.compiling.RuleFault.{RuleFault}
-use Rattle.schematron_compile.specs.declared.compiling.RuleFault.TheVariants as f
-use Rattle.schematron_compile.specs.Answers.{Refuses}
+use Rattle.schematron_compile.specs.Answers.{is_memory, Tells}
 use Rattle.schematron_findings.specs.declared.finding.Line.{Line}
 use Rattle.schematron_run.specs.Judging.{findings}
-use Rattle.schematron_run.specs.Contexts.{HasPatterns}
-use Rattle.schematron_rules.specs.Seen.{seen_rules}
+use Rattle.schematron_rules.specs.Said.{CameFrom}
+use Rattle.schematron_rules.specs.Seen.{seen_rules, seen_active}
 use Rattle.svrl_report.specs.Plain.{all_lines}
 use Rattle.job_course.specs.declared.status.Status.{Status}
 use Rattle.job_course.specs.declared.status.Status.TheVariants as statuses
-use Rattle.job_course.specs.Course.{Course, ends, document_limits, rule_limits}
+use Rattle.job_course.specs.Course.{Course, ends, document_limits}
+use Rattle.job_course.specs.Libraries.{library_course}
 use Rattle.job_course.specs.Outside.{HasRead, IsAccepted, TakesOrFails}
 use Rattle.job_course.specs.Runs.{Runs, Continues, Fails}
-use Rattle.job_course.proofs.Ends.{written_here, memory_here, behind_document, behind_rules}
-use Rattle.job_course.proofs.FileLemmas.{memory_in, refused_here}
+use Rattle.job_course.proofs.Ends.{written_here, memory_here, behind_document}
+use Rattle.job_course.proofs.FileLemmas.{refused_here}
 use Rattle.job_course.specs.Views.{document_read}
 use Rattle.document_jobs.specs.declared.checks.Named as named_code
 use Rattle.document_jobs.specs.declared.checks.Chosen as chosen_code
-use Rattle.document_jobs.specs.Checks.{rule_line, no_phase_line, by_rules, said_course, Named, with_name, all_said, Chosen, with_active, with_more, chosen, by_phase, counts, named_of, chosen_of, all_found, finding_status, report_text, reported, CanJudge, AreNamed, AreChosen, IsRuleRefusal, IsPhaseRefusal, Reports, judged_next, chosen_next, said_next}
+use Rattle.document_jobs.specs.Checks.{rule_line, no_phase_line, by_rules, said_course, Named, with_name, all_said, Chosen, with_active, with_more, chosen, by_phase, counts, named_of, chosen_of, all_found, finding_status, report_text, reported, CanJudge, AreChosen, home_line, IsRefusalBy, IsRulesRefusal, IsPhaseRefusal, Reports, judged_next, chosen_next, said_next}
 
 -- ---- a rule file
 
-module _ (file : List ℕ) (doc : Document) (shelf mid : ShelfView) (err mid_err : SinkView) (read_one : HasRead 1 shelf mid) (quiet : mid_err ≡ err)
-    (found : IsLoaded rule_limits (option_map (bytes_under file) shelf.held) doc) where
-  of_found : rules_of (tree_nodes (document_read found.found)) ≡ rules_of (tree_nodes doc)
-  of_found = ap (λ d. rules_of (tree_nodes d)) (sym found.exactly)
+module _ (name : List ℕ) (held : Held) (shelf mid : ShelfView) (err mid_err : SinkView) (goes_on : Continues (library_course name) held shelf mid err mid_err) where
+  -- what follows behind a rule file with its parts
+  abbrev rules_next : (Rules → Course) → Held → Course
+  rules_next next all = by_rules name all next (rules_of (tree_nodes all.document))
 
-  -- what follows behind the document of a rule file
-  abbrev rules_next : (Rules → Course) → profile.Document → Course
-  rules_next next f = by_rules file (document_read f) next (rules_of (tree_nodes (document_read f)))
-
-  pub behind_said : (rules : Rules) → rules_of (tree_nodes doc) ≡ Ok rules → Continues (said_course file) rules shelf mid err mid_err
-  behind_said rules is = λ next shelf' out out' err' status further.
-      behind_rules file shelf mid shelf' out out' err mid_err err' status read_one quiet (rules_next next) doc found
+  pub behind_said : (rules : Rules) (there : SinkView) → rules_of (tree_nodes held.document) ≡ Ok rules → there ≡ mid_err → Continues (said_course name) rules shelf mid err there
+  behind_said rules there is quiet = λ next shelf' out out' err' status further.
+      goes_on (rules_next next) shelf' out out' err' status
       (subst (λ course. Runs course (record { shelf = mid; out = out; err = mid_err }) (record { shelf = shelf'; out = out'; err = err' }) status)
-      (sym (ap (by_rules file (document_read found.found) next) (of_found ∙ is))) further)
+      (sym (ap (by_rules name held next) is))
+      (subst (λ e. Runs (next rules) (record { shelf = mid; out = out; err = e }) (record { shelf = shelf'; out = out'; err = err' }) status) quiet further))
 
-  pub said_refused : (fault : RuleFault) (status : Status) (err' : SinkView) → Refuses fault (rules_of (tree_nodes doc)) → IsRuleRefusal doc file fault status mid_err err'
-      → Fails (said_course file) status shelf mid err err'
-  said_refused f.Memory status err' refuses told = λ next out.
-      rw told.0 (memory_in file shelf mid out err err' (said_course file next) (λ files. omega arith) read_one (told.1 ∙ quiet))
-  said_refused (f.Refused fault) status err' refuses told = λ next out.
-      let takes = subst (λ d. TakesOrFails (rule_line file d fault) mid_err err') found.exactly told.1 in
-      let refused = refused_here statuses.RulesRefused (rule_line file (document_read found.found) fault) mid out mid_err err' tt takes in
-      rw told.0 (behind_rules file shelf mid mid out out err mid_err err' statuses.RulesRefused read_one quiet (rules_next next) doc found
+  said_by : (b : Bool) (fault : RuleFault) (status : Status) (err' : SinkView) → is_memory fault.kind ≡ b → Tells held.document fault (rules_of (tree_nodes held.document))
+      → IsRefusalBy b name held fault status mid_err err' → Fails (said_course name) status shelf mid err err'
+  said_by true fault status err' is tells refused = λ next out.
+      rw (refused.0, refused.1) (goes_on (rules_next next) mid out out mid_err statuses.Memory (memory_here (rules_next next held) mid out mid_err))
+  said_by false fault status err' is (inl memory) refused = absurd (true≢false (sym (sym is ∙ ap (λ (f : RuleFault). is_memory f.kind) memory)))
+  said_by false fault status err' is (inr first) refused = λ next out.
+      let line = subst (λ (f : RuleFault). TakesOrFails (home_line name held f) mid_err err') first.2 refused.1 in
+      let here = refused_here statuses.RulesRefused (rule_line name held first.0) mid out mid_err err' tt line in
+      rw refused.0 (goes_on (rules_next next) mid out out err' statuses.RulesRefused
       (subst (λ course. Runs course (record { shelf = mid; out = out; err = mid_err }) (record { shelf = mid; out = out; err = err' }) statuses.RulesRefused)
-      (sym (ap (by_rules file (document_read found.found) next) (of_found ∙ refuses))) refused))
+      (sym (ap (by_rules name held next) first.1)) here))
+
+  pub said_refused : (status : Status) (err' : SinkView) → IsRulesRefusal name held status mid_err err' → Fails (said_course name) status shelf mid err err'
+  said_refused status err' refused = said_by (is_memory refused.0.kind) refused.0 status err' refl refused.1 refused.2
 
 -- ---- all rule files
 
@@ -117,14 +118,6 @@ pub leads_kept : (all rest : List (List ℕ)) (files more : List named_code.Name
 leads_kept all rest files more one shelf here err here_err is leads =
     subst (λ sofar. Leads all rest sofar shelf here err here_err) (sym (ap (map named_of) is ∙ map-append named_of files (one ∷ []))) leads
 
--- a document can be judged by the rules of one more file
-pub named_kept : (files more : List named_code.Named) (one : named_code.Named) → more ≡ files ++ one ∷ [] → AreNamed (map named_of files)
-    → CanJudge (seen_rules one.rules) → AreNamed (map named_of more)
-named_kept files more one is all can =
-    let J = λ (file : Named). CanJudge file.rules in
-    subst AreNamed (sym (ap (map named_of) is ∙ map-append named_of files (one ∷ [])))
-    (All-append J (map named_of files) (named_of one ∷ []) all (All-cons J (named_of one) [] can (All-nil J)))
-
 -- behind the last file
 pub leads_last : (all : List (List ℕ)) (files : List Named) (shelf here : ShelfView) (err here_err : SinkView) → Leads all [] files shelf here err here_err
     → Continues (all_said all) files shelf here err here_err
@@ -145,22 +138,21 @@ pub chosen_more : (sofar : List Chosen) (one : Chosen) (rest : Result (List Chos
 chosen_more sofar one (Ok others) = ap Ok (append_assoc sofar (one ∷ []) others)
 chosen_more sofar one (Err name) = refl
 
--- ---- rules by which a document can be judged
+-- ---- what is active came from the rules
 
-pub can_judge : (rules : Rules) → HasPatterns rules → CanJudge rules
+can_judge : (file : Chosen) → CameFrom file.rules file.active → CanJudge file
 unfolding CanJudge
-can_judge rules have = have
+can_judge file came = came
 
-have_patterns : (rules : Rules) → CanJudge rules → HasPatterns rules
+came_from : (file : Chosen) → CanJudge file → CameFrom file.rules file.active
 unfolding CanJudge
-have_patterns rules can = can
+came_from file can = can
 
-pub patterns_at : (files : List chosen_code.Chosen) (k : ℕ) (file : chosen_code.Chosen) → k < length files → file ≡ get_or files k file
-    → AreChosen (map chosen_of files) → HasPatterns (seen_rules file.rules.now)
-patterns_at files k file within is all =
-    let here = All-get_or (λ (f : Chosen). CanJudge f.rules) (map chosen_of files) k (chosen_of file) (rw (length-map files chosen_of) within) all in
-    have_patterns (seen_rules file.rules.now)
-    (subst (λ (f : Chosen). CanJudge f.rules) (get_or-map chosen_of files k file (chosen_of file) within ∙ ap chosen_of (sym is)) here)
+pub came_at : (files : List chosen_code.Chosen) (k : ℕ) (file : chosen_code.Chosen) → k < length files → file ≡ get_or files k file
+    → AreChosen (map chosen_of files) → CameFrom (seen_rules file.rules.now) (seen_active file.active)
+came_at files k file within is all =
+    let here = All-get_or CanJudge (map chosen_of files) k (chosen_of file) (rw (length-map files chosen_of) within) all in
+    came_from (chosen_of file) (subst CanJudge (get_or-map chosen_of files k file (chosen_of file) within ∙ ap chosen_of (sym is)) here)
 
 -- what follows by what is active of a file
 abbrev by_active : Rules → List ℕ → Result (List Chosen) (List ℕ) → Option Active → Result (List Chosen) (List ℕ)
@@ -185,14 +177,12 @@ module _ (phase : List ℕ) (files : List named_code.Named) (k : ℕ) (file : na
       ap (λ cs. chosen_behind cs rest) (ap (map chosen_of) kept ∙ map-append chosen_of sofar (one ∷ []))
       ∙ (chosen_more (map chosen_of sofar) (chosen_of one) rest ∙ (ap (chosen_behind (map chosen_of sofar)) (sym first) ∙ so_far))
 
-  pub patterns_kept : AreNamed (map named_of files) → AreChosen (map chosen_of sofar) → AreChosen (map chosen_of more)
-  patterns_kept all so_far =
-      let J = λ (f : Chosen). CanJudge f.rules in
-      let at_file = All-get_or (λ (f : Named). CanJudge f.rules) (map named_of files) k (named_of file) (rw (length-map files named_of) within) all in
-      let can : CanJudge (seen_rules file.rules) =
-      subst (λ (f : Named). CanJudge f.rules) (get_or-map named_of files k file (named_of file) within ∙ ap named_of (sym is)) at_file in
+  pub came_kept : active_of (seen_rules file.rules) (chars phase) ≡ Some (chosen_of one).active → AreChosen (map chosen_of sofar) → AreChosen (map chosen_of more)
+  came_kept active so_far =
+      let came : CameFrom (chosen_of one).rules (chosen_of one).active =
+      record { name = chars phase; is = ap (λ (r : Rules). active_of r (chars phase)) same ∙ active } in
       subst AreChosen (sym (ap (map chosen_of) kept ∙ map-append chosen_of sofar (one ∷ [])))
-      (All-append J (map chosen_of sofar) (chosen_of one ∷ []) so_far (All-cons J (chosen_of one) [] (subst CanJudge (sym same) can) (All-nil J)))
+      (All-append CanJudge (map chosen_of sofar) (chosen_of one ∷ []) so_far (All-cons CanJudge (chosen_of one) [] (can_judge (chosen_of one) came) (All-nil CanJudge)))
 
 -- ---- the report
 

@@ -1,5 +1,5 @@
 -- Queries: the expression of a text, and its answer at a document.
-use Rattle.std.proofs.Common.{◌≡◌, ℕ, Bool, true, false, List, [], ◌∷◌, ◌++◌, Option, Some, None, inl, inr, refl, ap, sym, subst, ◌∙◌, arith, option_map, codes}
+use Rattle.std.proofs.Common.{◌≡◌, ℕ, Bool, true, false, List, [], ◌∷◌, Some, None, inl, inr, refl, ap, sym, subst, ◌∙◌, arith, option_map, codes}
 use Rattle.std.specs.Prelude.{Result, Ok, Err, chars, nat_lt, ◌&&◌}
 use Rattle.std.specs.List.{list_all}
 use Rattle.std.specs.Str.{IsAscii}
@@ -30,7 +30,6 @@ use Rattle.xpath_grammar.specs.View.{view}
 use Rattle.xpath_types.specs.Scopes.{Declared, with_prefix}
 use Rattle.xpath_types.specs.Typing as typing
 use Rattle.xpath_types.specs.Typing.{Typing, TypedExpression, typing_of}
-use Rattle.xpath_items.specs.declared.outcome.Focus.{Focus}
 use Rattle.xpath_items.specs.declared.item.Item.TheVariants as i
 use Rattle.xpath_meaning.specs.Values.{Value}
 use Rattle.xpath_meaning.specs.Expressions.{Exp}
@@ -41,7 +40,7 @@ use Rattle.xpath_steps.specs.Variables as variables
 use Rattle.item_listing.specs.Listing.{listed, ValueWithin, WritesSome}
 use Rattle.job_course.specs.declared.status.Status.{Status}
 use Rattle.job_course.specs.declared.status.Status.TheVariants as statuses
-use Rattle.job_course.specs.Outside.{Outside, HasRead, TakesOrFails}
+use Rattle.job_course.specs.Outside.{Outside, HasRead}
 use Rattle.job_course.specs.Course.{Course, ends, done, refusal, document_limits}
 use Rattle.job_course.specs.Runs.{RunsInPieces}
 use Rattle.job_course.proofs.Ends.{written_here, memory_here, pieces_behind_document}

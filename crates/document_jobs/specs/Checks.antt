@@ -1,12 +1,12 @@
 -- What is answered to a check: what rule files find in a document (ISO/IEC 19757-3).
-use Rattle.std.specs.Prelude.{◌≡◌, ℕ, Bool, true, false, ◌||◌, List, [], ◌∷◌, ◌++◌, map, codes, decimal, chars, encode_utf8_all, Option, Some, None, Result, Ok, Err, if◌then◌else◌}
+use Rattle.std.specs.Prelude.{◌≡◌, ℕ, Bool, true, false, ◌||◌, List, [], ◌∷◌, ◌++◌, map, codes, decimal, chars, encode_utf8_all, Option, Some, None, option_map, unwrap_or, slice_get, Result, Ok, Err, if◌then◌else◌}
 use Rattle.std.proofs.Common.{◌⊎◌}
 use Rattle.std.specs.List.{All, list_any}
 use Rattle.inv_base.specs.Outside.{SinkView}
 use Rattle.inv_base.specs.Tree.{Node}
 use Rattle.inv_base.specs.Writing.{WritesAll, WritesFront}
 use Rattle.xml_profile.specs.Profile as profile
-use Rattle.node_arena.specs.Document.{Document, node_at}
+use Rattle.rule_library.specs.Library.{Held, Home, home_from, name_of}
 use Rattle.node_arena.specs.Moves.{tree_nodes}
 use Rattle.schematron_meaning.specs.declared.attribute.Attribute.{Attribute}
 use Rattle.schematron_meaning.specs.Words.{attribute_word}
@@ -17,21 +17,22 @@ use Rattle.schematron_meaning.specs.declared.fault.ExpressionFault.{ExpressionFa
 use Rattle.schematron_meaning.specs.declared.fault.ExpressionFault.TheVariants as x
 use Rattle.schematron_meaning.specs.Rules.{Rules, rules_of}
 use Rattle.schematron_meaning.specs.Phases.{Active, active_of, the_default}
+use Rattle.schematron_rules.specs.Said.{CameFrom}
 use Rattle.schematron_rules.specs.Seen.{seen_rules, seen_active}
+use Rattle.schematron_compile.specs.Answers.{told, is_memory, Tells}
 use Rattle.schematron_compile.specs.declared.compiling.RuleFault.{RuleFault}
-use Rattle.schematron_compile.specs.declared.compiling.RuleFault.TheVariants as f
 use Rattle.schematron_findings.specs.declared.level.Level.{Level}
 use Rattle.schematron_findings.specs.declared.finding.FindingKind.{FindingKind}
 use Rattle.schematron_findings.specs.declared.finding.Finding.{Finding}
 use Rattle.schematron_findings.specs.declared.finding.Line.{Line}
 use Rattle.schematron_run.specs.Judging.{findings}
-use Rattle.schematron_run.specs.Contexts.{HasPatterns}
 use Rattle.svrl_report.specs.Plain.{is_failed_by, is_error_by, is_found, all_lines, plain_report}
 use Rattle.svrl_report.specs.Svrl.{svrl_report}
 use Rattle.job_course.specs.declared.status.Status.{Status}
 use Rattle.job_course.specs.declared.status.Status.TheVariants as statuses
 use Rattle.job_course.specs.Outside.{TakesOrFails}
-use Rattle.job_course.specs.Course.{Answer, Course, ends, refusal, by_result, document_course, rules_course}
+use Rattle.job_course.specs.Course.{Answer, Course, ends, refusal, by_result, document_course}
+use Rattle.job_course.specs.Libraries.{library_course}
 use Rattle.job_course.specs.Views.{document_read}
 use Rattle.document_jobs.specs.Queries.{placed, syntax_text, type_text}
 use Rattle.document_jobs.specs.declared.checks.Named as code
@@ -51,6 +52,7 @@ rule_kind_text k.NoSuchRule = codes "NoSuchRule"
 rule_kind_text k.Cycle = codes "Cycle"
 rule_kind_text (k.Expression fault) = codes "Expression"
 rule_kind_text k.TooMany = codes "TooMany"
+rule_kind_text k.Memory = codes "Memory"
 
 abbrev pub rule_attribute_text : Option Attribute → List ℕ
 rule_attribute_text None = 0x2D ∷ []
@@ -66,24 +68,40 @@ abbrev pub reason_text : RuleKind → List ℕ
 reason_text (k.Expression fault) = codes ": " ++ rule_expression_text fault
 reason_text _ = []
 
--- a fault with its place, which is that of its node, and its attribute, or `-`
-abbrev pub rule_line : List ℕ → Document → Fault → List ℕ
-rule_line file document fault =
-    codes "einv: " ++ (file ++ (codes ": " ++ (rule_kind_text fault.kind ++ (codes " at " ++ (decimal (node_at document.nodes fault.node).place
+-- a fault with its file and the place there, and its attribute, or `-`
+abbrev pub fault_line : List ℕ → ℕ → RuleFault → List ℕ
+fault_line file place fault =
+    codes "einv: " ++ (file ++ (codes ": " ++ (rule_kind_text fault.kind ++ (codes " at " ++ (decimal place
     ++ (0x20 ∷ (rule_attribute_text fault.attribute ++ (reason_text fault.kind ++ 0xA ∷ []))))))))
+
+-- the name of the file of that number among those of a rule file of that name: some file has each place of a node
+abbrev pub file_at : List ℕ → Held → ℕ → List ℕ
+file_at name held number = unwrap_or (option_map name_of (slice_get held.files number)) name
+
+abbrev pub line_at : List ℕ → Held → RuleFault → Option Home → List ℕ
+line_at name held fault None = fault_line name fault.place.byte fault
+line_at name held fault (Some home) = fault_line (file_at name held home.file) home.place fault
+
+-- a fault by the file that has its place, and the place in that file
+abbrev pub home_line : List ℕ → Held → RuleFault → List ℕ
+home_line name held fault = line_at name held fault (home_from 0 held.files fault.place.byte)
+
+-- the same of a fault that tells a node of the document, whose place it has
+abbrev pub rule_line : List ℕ → Held → Fault → List ℕ
+rule_line name held fault = home_line name held (told held.document fault)
 
 abbrev pub no_phase_line : List ℕ → List ℕ → List ℕ
 no_phase_line file phase = codes "einv: " ++ (file ++ (codes ": NoPhase " ++ (phase ++ 0xA ∷ [])))
 
 -- ---- rule files
 
--- what follows by the rules of a file, or its first fault
-abbrev pub by_rules : List ℕ → Document → (Rules → Course) → Result Rules Fault → Course
-by_rules name document next found = by_result (λ fault. ends (refusal statuses.RulesRefused (rule_line name document fault))) next found
+-- what follows by the rules of a file with its parts, or its first fault
+abbrev pub by_rules : List ℕ → Held → (Rules → Course) → Result Rules Fault → Course
+by_rules name held next found = by_result (λ fault. ends (refusal statuses.RulesRefused (rule_line name held fault))) next found
 
--- what the rule file of that name says, and what follows by it
+-- what the rule file of that name says with the parts that it takes of other files, and what follows by it
 abbrev pub said_course : List ℕ → (Rules → Course) → Course
-said_course name next = rules_course name (λ found. by_rules name (document_read found) next (rules_of (tree_nodes (document_read found))))
+said_course name next = library_course name (λ held. by_rules name held next (rules_of (tree_nodes held.document)))
 
 -- a rule file with its name
 pub record Named : Type 0 where
@@ -181,20 +199,24 @@ named_of file = with_name file.name.now (seen_rules file.rules)
 abbrev pub chosen_of : chosen_code.Chosen → Chosen
 chosen_of file = with_active (seen_rules file.rules.now) (seen_active file.active)
 
--- A document can be judged by the rules: their contexts have the shape of patterns.
-unfoldable pub CanJudge : Rules → Type 0
-CanJudge rules = HasPatterns rules
-
-abbrev pub AreNamed : List Named → Type 0
-AreNamed files = All (λ (file : Named). CanJudge file.rules) files
+-- A document can be judged by what is active, which came from the rules.
+unfoldable pub CanJudge : Chosen → Type 0
+CanJudge file = CameFrom file.rules file.active
 
 abbrev pub AreChosen : List Chosen → Type 0
-AreChosen files = All (λ (file : Chosen). CanJudge file.rules) files
+AreChosen files = All CanJudge files
 
--- The status of a fault of a rule file, whose line was told; want of memory has none.
-abbrev pub IsRuleRefusal : Document → List ℕ → RuleFault → Status → SinkView → SinkView → Type 0
-IsRuleRefusal document file f.Memory status before after = (status ≡ statuses.Memory) × (after ≡ before)
-IsRuleRefusal document file (f.Refused fault) status before after = (status ≡ statuses.RulesRefused) × TakesOrFails (rule_line file document fault) before after
+abbrev pub IsRefusalBy : Bool → List ℕ → Held → RuleFault → Status → SinkView → SinkView → Type 0
+IsRefusalBy true name held fault status before after = (status ≡ statuses.Memory) × (after ≡ before)
+IsRefusalBy false name held fault status before after = (status ≡ statuses.RulesRefused) × TakesOrFails (home_line name held fault) before after
+
+-- The status of a fault of a rule file with its parts, whose line was told; want of memory has none.
+abbrev pub IsRuleRefusal : List ℕ → Held → RuleFault → Status → SinkView → SinkView → Type 0
+IsRuleRefusal name held fault status before after = IsRefusalBy (is_memory fault.kind) name held fault status before after
+
+-- The same of its first fault.
+abbrev pub IsRulesRefusal : List ℕ → Held → Status → SinkView → SinkView → Type 0
+IsRulesRefusal name held status before after = (fault : RuleFault) × Tells held.document fault (rules_of (tree_nodes held.document)) × IsRuleRefusal name held fault status before after
 
 -- A file has no such phase, and its line was told; or memory ran out.
 abbrev pub IsPhaseRefusal : List ℕ → Result (List Chosen) (List ℕ) → Status → SinkView → SinkView → Type 0

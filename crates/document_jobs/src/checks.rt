@@ -1,25 +1,24 @@
 //! The job that judges a document by rule files.
-ghost use Rattle.std.specs.Prelude.{◌≡◌, ◌<◌, length, map, option_map, IfOk, IfErr, OnOk};
+ghost use Rattle.std.specs.Prelude.{◌≡◌, ◌<◌, map, option_map, Ok, IfOk, IfErr, OnOk};
 ghost use Rattle.std.specs.List.{list_any};
 ghost use Rattle.inv_base.specs.Writing.{Writes};
 ghost use Rattle.node_arena.specs.Moves.{tree_nodes};
+ghost use Rattle.schematron_meaning.specs.Rules.{rules_of};
 ghost use Rattle.schematron_rules.specs.Seen.{seen_rules};
-ghost use Rattle.schematron_compile.specs.Answers.{IsOfANode};
 ghost use Rattle.job_course.specs.Runs.{Runs, Continues, Fails};
 ghost use Rattle.job_course.specs.Views.{text_of, texts_of};
 ghost use Rattle.document_jobs.specs.Checks as spec;
-ghost use Rattle.document_jobs.specs.Checks.{named_of, chosen_of, CanJudge, AreNamed, AreChosen, IsRuleRefusal, IsPhaseRefusal, Reports, said_course, all_said, chosen_next, said_next, check_course};
+ghost use Rattle.document_jobs.specs.Checks.{named_of, chosen_of, AreChosen, IsRuleRefusal, IsRulesRefusal, IsPhaseRefusal, Reports, said_course, all_said, chosen_next, said_next, check_course};
 
-use crate::refusals::{tell_no_phase, tell_rule_fault};
+use crate::refusals::{tell_at_home, tell_no_phase};
 use bumpalo::Bump;
 use inv_base::{Shelf, Sink, Steps};
-use job_course::{Status, load_document, load_rules};
+use job_course::{Status, load_document, load_library};
 use node_arena::Doc;
-use schematron_compile::{RuleFault, compile};
-use schematron_findings::{Finding, FindingKind, Findings, Level, Line};
-use schematron_meaning::PhaseFault;
-use schematron_rules::{Active, Rules};
-use schematron_run::{compiled_rules_have_patterns, judge};
+use rule_library::Library;
+use schematron_compile::{Active, PhaseFault, RuleFault, Rules, compile};
+use schematron_findings::Level;
+use schematron_run::{Finding, FindingKind, Findings, Line, judge};
 use std::alloc::{AllocError, Global};
 use std::marker::Brand;
 use std::sync::ledger::{Blank, Ledger};
@@ -99,7 +98,7 @@ fn check_by<L: Ledger, S: Shelf, O: Sink, E: Sink>(
         (record { shelf = S.view shelf.new; out = O.view out.new; err = E.view err.new }) result }
 {
     let mut steps = Steps::<L>::new(ledger);
-    match load_all(alloc, asked.rules, shelf, err, &mut steps) {
+    match load_all(alloc, asked.rules, shelf, err) {
         Ok(files) => {
             let status = check_with(alloc, asked, &files, shelf, out, err, &mut steps);
             drop(files);
@@ -119,7 +118,6 @@ fn check_with<L: Ledger, S: Shelf, O: Sink, E: Sink>(
     err: &mut E,
     steps: &mut Steps<L>,
 ) -> Status
-    requires { AreNamed (map named_of files.now) }
     ensures { Runs (said_next asked.now.svrl (spec.phase_asked (option_map text_of asked.now.phase)) asked.now.file.now (map named_of files.now))
         (record { shelf = S.view shelf.old; out = O.view out.old; err = E.view err.old })
         (record { shelf = S.view shelf.new; out = O.view out.new; err = E.view err.new }) result }
@@ -168,22 +166,20 @@ fn phase_asked(phase: Option<&str>) -> &str
 }
 
 /// What the rule files say, or the status with which the job ends.
-fn load_all<'f, L: Ledger, S: Shelf, E: Sink>(
+fn load_all<'f, S: Shelf, E: Sink>(
     alloc: Global,
     names: &[&'f str],
     shelf: &mut S,
     err: &mut E,
-    steps: &mut Steps<L>,
 ) -> Result<Vec<Named<'f>>, Status>
     ensures goes_on { IfOk result (λ files. Continues (all_said (texts_of names.now)) (map named_of files.items)
         (S.view shelf.old) (S.view shelf.new) (E.view err.old) (E.view err.new)) }
-    ensures patterns { IfOk result (λ files. AreNamed (map named_of files.items)) }
     ensures fails { IfErr result (λ status. Fails (all_said (texts_of names.now)) status
         (S.view shelf.old) (S.view shelf.new) (E.view err.old) (E.view err.new)) }
 {
     let mut files = Vec::new(alloc);
     'files: for name in names {
-        let rules = match load_said(alloc, name, shelf, err, steps) {
+        let rules = match load_said(alloc, name, shelf, err) {
             Ok(rules) => rules,
             Err(status) => return Err(status),
         };
@@ -194,44 +190,67 @@ fn load_all<'f, L: Ledger, S: Shelf, E: Sink>(
     Ok(files)
 }
 
-/// What a rule file says, or the status with which the job ends. The rules outlive the document of their file.
-fn load_said<L: Ledger, S: Shelf, E: Sink>(
+/// What a rule file says with the parts that it takes of other files, or the status with which the job ends. The rules
+/// outlive the document of their files.
+fn load_said<S: Shelf, E: Sink>(
     alloc: Global,
     name: &str,
     shelf: &mut S,
     err: &mut E,
-    steps: &mut Steps<L>,
 ) -> Result<Rules, Status>
     ensures goes_on { IfOk result (λ rules. Continues (said_course name.now) (seen_rules rules)
         (S.view shelf.old) (S.view shelf.new) (E.view err.old) (E.view err.new)) }
-    ensures patterns { IfOk result (λ rules. CanJudge (seen_rules rules)) }
     ensures fails { IfErr result (λ status. Fails (said_course name.now) status
         (S.view shelf.old) (S.view shelf.new) (E.view err.old) (E.view err.new)) }
 {
-    compiled_rules_have_patterns();
     let bump = Bump::new(alloc);
-    let doc = match load_rules(alloc, &bump, shelf, name, err) {
-        Ok(doc) => doc,
+    let library = match load_library(alloc, &bump, shelf, name, err) {
+        Ok(library) => library,
         Err(status) => return Err(status),
     };
-    match compile(alloc, &doc, steps) {
+    match rules_in(alloc, name, &library, err) {
+        Ok(rules) => {
+            drop(library);
+            Ok(rules)
+        }
+        Err(status) => {
+            drop(library);
+            Err(status)
+        }
+    }
+}
+
+/// What a rule file with its parts says, or the status with which the job ends.
+fn rules_in<E: Sink>(
+    alloc: Global,
+    name: &str,
+    library: &Library<'_>,
+    err: &mut E,
+) -> Result<Rules, Status>
+    ensures said { IfOk result (λ rules. rules_of (tree_nodes library.now.document) ≡ Ok (seen_rules rules)) }
+    ensures quiet { OnOk result (E.view err.new ≡ E.view err.old) }
+    ensures refused { IfErr result (λ status. IsRulesRefusal name.now library.now status (E.view err.old) (E.view err.new)) }
+{
+    match compile(alloc, library.doc()) {
         Ok(rules) => Ok(rules),
-        Err(fault) => Err(refuse_rules(&doc, name, &fault, err)),
+        Err(fault) => Err(refuse_rules(name, library, &fault, err)),
     }
 }
 
 /// The status with which a job ends whose rule file is refused; its line is told.
-fn refuse_rules<E: Sink>(doc: &Doc<'_>, file: &str, fault: &RuleFault, err: &mut E) -> Status
-    requires { IsOfANode (length doc.now.nodes) fault.now }
-    ensures { IsRuleRefusal doc.now file.now fault.now result (E.view err.old) (E.view err.new) }
+fn refuse_rules<E: Sink>(
+    name: &str,
+    library: &Library<'_>,
+    fault: &RuleFault,
+    err: &mut E,
+) -> Status
+    ensures { IsRuleRefusal name.now library.now fault.now result (E.view err.old) (E.view err.new) }
 {
-    match fault {
-        RuleFault::Memory => Status::Memory,
-        RuleFault::Refused(fault) => {
-            tell_rule_fault(doc, file, fault, err);
-            Status::RulesRefused
-        }
+    if fault.is_memory() {
+        return Status::Memory;
     }
+    tell_at_home(name, library, fault, err);
+    Status::RulesRefused
 }
 
 /// What is active in each file, or the status with which the job ends where the first file hasn't the phase.
@@ -241,9 +260,8 @@ fn choose<'r, E: Sink>(
     files: &'r [Named<'_>],
     err: &mut E,
 ) -> Result<Vec<Chosen<'r>>, Status>
-    requires { AreNamed (map named_of files.now) }
     ensures chosen { IfOk result (λ chosen. spec.chosen phase.now (map named_of files.now) ≡ Ok (map chosen_of chosen.items)) }
-    ensures patterns { IfOk result (λ chosen. AreChosen (map chosen_of chosen.items)) }
+    ensures came { IfOk result (λ chosen. AreChosen (map chosen_of chosen.items)) }
     ensures quiet { OnOk result (E.view err.new ≡ E.view err.old) }
     ensures fails { IfErr result (λ status. IsPhaseRefusal phase.now (spec.chosen phase.now (map named_of files.now)) status (E.view err.old) (E.view err.new)) }
 {

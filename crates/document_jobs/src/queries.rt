@@ -6,6 +6,7 @@ ghost use Rattle.job_course.specs.Outside.{TakesOrFails};
 ghost use Rattle.job_course.specs.declared.status.Status.TheVariants as statuses;
 ghost use Rattle.job_course.specs.Runs.{RunsInPieces};
 ghost use Rattle.node_arena.specs.Moves.{tree_nodes};
+ghost use Rattle.xpath_grammar.specs.Grammar.{Grammatical};
 ghost use Rattle.xpath_grammar.specs.View.{view};
 ghost use Rattle.xpath_meaning.specs.Meaning.{mean, at_top};
 ghost use Rattle.xpath_meaning.specs.Values.{value};
@@ -29,8 +30,10 @@ use std::marker::Brand;
 use std::sync::ledger::{Blank, Ledger};
 use xpath_grammar::expr::Expr;
 use xpath_items::{Focus, Item, Outcome};
+use xpath_plan::laws::typed_expressions_are_grammatical;
 use xpath_plan::{Plan, compile};
 use xpath_run::{Env, Run};
+use xpath_syntax::laws::answers_are_grammatical;
 use xpath_syntax::parse;
 use xpath_tokens::token::SyntaxFault;
 use xpath_types::{Scope, TypeFault, TypeKind, check};
@@ -94,6 +97,7 @@ fn query_by<S: Shelf, O: Sink, E: Sink>(
 fn plan_of(alloc: Global, text: &str) -> Result<Plan, QueryFault>
     ensures { Asks result (spec.expression_of text.now) }
 {
+    answers_are_grammatical();
     match parse(alloc, text) {
         Ok(tree) => {
             let plan = plan_of_tree(alloc, &tree);
@@ -106,6 +110,7 @@ fn plan_of(alloc: Global, text: &str) -> Result<Plan, QueryFault>
 
 /// The same of the tree of a text.
 fn plan_of_tree(alloc: Global, tree: &Expr) -> Result<Plan, QueryFault>
+    requires { Grammatical (view tree.now) }
     ensures { Asks result (spec.typed_in_query (view tree.now)) }
 {
     match query_scope(alloc) {
@@ -135,9 +140,11 @@ fn fault_of(fault: SyntaxFault) -> QueryFault
 
 /// The same where the prefixes of a query are bound.
 fn typed_plan(alloc: Global, tree: &Expr, scope: &Scope) -> Result<Plan, QueryFault>
-    requires { scope.now ≡ spec.query_scope }
+    requires scope { scope.now ≡ spec.query_scope }
+    requires tree { Grammatical (view tree.now) }
     ensures { Asks result (spec.typed_in_query (view tree.now)) }
 {
+    typed_expressions_are_grammatical();
     let typed = match check(alloc, tree, scope) {
         Ok(typed) => typed,
         Err(fault) => return Err(type_fault_of(fault)),

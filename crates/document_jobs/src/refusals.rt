@@ -1,20 +1,46 @@
 //! The lines of rule files that are refused, or have no phase of a name.
-ghost use Rattle.std.specs.Prelude.{◌≡◌, ◌<◌, length};
+ghost use Rattle.std.specs.Prelude.{◌≡◌};
 ghost use Rattle.inv_base.specs.Printing.{Prints};
 ghost use Rattle.job_course.specs.Outside.{TakesOrFails};
-ghost use Rattle.document_jobs.specs.Checks.{rule_line, rule_kind_text, rule_attribute_text, rule_expression_text, reason_text, no_phase_line};
+ghost use Rattle.document_jobs.specs.Checks.{fault_line, home_line, file_at, rule_kind_text, rule_attribute_text, rule_expression_text, reason_text, no_phase_line};
 
 use crate::queries::{print_placed, print_syntax_fault, type_name};
-use inv_base::{Printer, Sink};
+use inv_base::{Place, Printer, Sink};
 use itoa::Buffer;
-use node_arena::Doc;
-use schematron_meaning::{Attribute, ExpressionFault, Fault, RuleKind};
+use rule_library::Library;
+use schematron_compile::{Attribute, ExpressionFault, RuleFault, RuleKind};
 use xpath_grammar::words::Worded;
 
-/// Tells why a rule file is refused, and where.
-pub(crate) fn tell_rule_fault<E: Sink>(doc: &Doc<'_>, file: &str, fault: &Fault, err: &mut E)
-    requires { fault.now.node < length doc.now.nodes }
-    ensures { TakesOrFails (rule_line file.now doc.now fault.now) (E.view err.old) (E.view err.new) }
+/// Tells why a rule file with its parts is refused, and in which of the files, and where in it.
+pub(crate) fn tell_at_home<E: Sink>(
+    name: &str,
+    library: &Library<'_>,
+    fault: &RuleFault,
+    err: &mut E,
+)
+    ensures { TakesOrFails (home_line name.now library.now fault.now) (E.view err.old) (E.view err.new) }
+{
+    match library.home(fault.place) {
+        None => tell_rule_fault(name, fault.place, fault, err),
+        Some((number, place)) => {
+            tell_rule_fault(file_at(name, library, number), place, fault, err);
+        }
+    }
+}
+
+/// The name of the file of that number.
+fn file_at<'l>(name: &'l str, library: &'l Library<'_>, number: u32) -> &'l str
+    ensures { result.now ≡ file_at name.now library.now number }
+{
+    match library.file(number) {
+        None => name,
+        Some(file) => file,
+    }
+}
+
+/// Tells why a rule file is refused, and in which of its files, and where in it.
+fn tell_rule_fault<E: Sink>(file: &str, place: Place, fault: &RuleFault, err: &mut E)
+    ensures { TakesOrFails (fault_line file.now place.byte fault.now) (E.view err.old) (E.view err.new) }
 {
     let mut digits = Buffer::new();
     let mut printer = Printer::new();
@@ -23,7 +49,7 @@ pub(crate) fn tell_rule_fault<E: Sink>(doc: &Doc<'_>, file: &str, fault: &Fault,
     printer.put(err, b": ");
     printer.put(err, rule_kind_name(&fault.kind).as_bytes());
     printer.put(err, b" at ");
-    printer.put(err, digits.format(doc.place(fault.node).byte).as_bytes());
+    printer.put(err, digits.format(place.byte).as_bytes());
     printer.put(err, b" ");
     printer.put(err, rule_attribute_name(fault.attribute).as_bytes());
     print_reason(&fault.kind, &mut printer, err);
@@ -45,6 +71,7 @@ fn rule_kind_name(kind: &RuleKind) -> &'static str
         RuleKind::Cycle => "Cycle",
         RuleKind::Expression(_) => "Expression",
         RuleKind::TooMany => "TooMany",
+        RuleKind::Memory => "Memory",
     }
 }
 

@@ -1,6 +1,8 @@
 //! Each row: a pattern, and the numbers of the nodes that match it, in document order. A node matches where the pattern,
 //! taken as a path, finds it from itself or from a node around it.
 ghost use Rattle.std.specs.Prelude.{◌≡◌, ◌<◌, length, IfOk};
+ghost use Rattle.xpath_grammar.specs.Grammar.{Grammatical};
+ghost use Rattle.xpath_grammar.specs.View.{view};
 ghost use Rattle.xpath_steps.specs.Variables.{ValuesWithin};
 
 use crate::asking::{Asked, expect_answers};
@@ -14,8 +16,10 @@ use std::test::Fail;
 use xpath_grammar::pattern::Pattern;
 use xpath_items::{Item, Outcome, Seq};
 use xpath_marks::{Marks, marks_of};
+use xpath_plan::laws::typed_expressions_are_grammatical;
 use xpath_plan::{Plan, compile};
 use xpath_run::Env;
+use xpath_syntax::laws::answers_are_grammatical;
 use xpath_syntax::parse_pattern;
 use xpath_types::{Scope, check_pattern};
 
@@ -64,7 +68,10 @@ fn declare(alloc: Global, scope: &mut Scope) -> Result<(), Fail> {
     Ok(())
 }
 
-fn plan_by(alloc: Global, pattern: &Pattern, scope: &Scope) -> Result<Plan, Fail> {
+fn plan_by(alloc: Global, pattern: &Pattern, scope: &Scope) -> Result<Plan, Fail>
+    requires { Grammatical (view pattern.now) }
+{
+    typed_expressions_are_grammatical();
     let typed = check_pattern(alloc, pattern, scope).ok().ok_or("types")?;
     let plan = compile(alloc, &typed);
     drop(typed);
@@ -73,6 +80,7 @@ fn plan_by(alloc: Global, pattern: &Pattern, scope: &Scope) -> Result<Plan, Fail
 
 fn plan_in(alloc: Global, scope: &mut Scope, text: &str) -> Result<Plan, Fail> {
     declare(alloc, scope)?;
+    answers_are_grammatical();
     let pattern = parse_pattern(alloc, text).ok().ok_or("syntax")?;
     let plan = plan_by(alloc, &pattern, scope);
     drop(pattern);

@@ -357,7 +357,7 @@ module _ (steps : ℕ) (job : Job) (names : NamesFiles job) (before after : Outs
     read_fault = λ e. cc;
     write_fault = λ e. cc;
     write_done = λ e files is. cc;
-    shelf_rose = λ rise. absurd (no_rise before.shelf.faults after.shelf.faults r.read.faults rise);
+    shelf_rose = λ _. inr refl;
     out_rose = λ rise. absurd (no_rise before.out.faults after.out.faults (ap (λ (s : SinkView). s.faults) r.nothing) rise);
     nothing = λ refusal. absurd refusal;
     line = λ refusal. absurd refusal;

@@ -41,6 +41,7 @@ pub record IsRefusalLine (steps : ℕ) (job : Job) (status : Status) (held : Opt
   pub line_is : line ≡ answer.err
 
 -- The line names the file of the reading that failed: the k-th, where k files were opened. Nothing before it is refused.
+-- Where the shelf tells no files, each before it has some content: of the parts of a rule file that names the first alone.
 pub record IsReadFaultLine (steps : ℕ) (job : Job) (held : Option Files) (opens opens' : ℕ) (line : List ℕ) : Type 0 where
   pub count : ℕ
   pub file : List ℕ

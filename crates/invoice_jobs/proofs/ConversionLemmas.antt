@@ -15,7 +15,7 @@ use Rattle.node_arena.specs.Document.{built}
 use Rattle.node_arena.specs.Moves.{tree_nodes, HasNodesOf}
 use Rattle.bind_meaning.specs.Terms.{Read, terms_of}
 use Rattle.bind_meaning.specs.Tables.{rows_of}
-use Rattle.bind_meaning.specs.declared.tables.Which.{Which}
+use Rattle.bind_rows.specs.declared.tables.Which.{Which}
 use Rattle.bind_meaning.specs.declared.tables.Syntax.{Syntax}
 use Rattle.bind_run.specs.Reading.{by_root, invoice_of}
 use Rattle.bind_run.specs.Roots.{which_of}

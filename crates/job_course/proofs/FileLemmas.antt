@@ -1,7 +1,8 @@
 -- How a job ends at a file that can't be had.
-use Rattle.std.proofs.Common.{◌≡◌, ◌≢◌, ℕ, ◌<◌, ◌≤◌, suc, zero, List, [], ◌++◌, Option, Some, None, Result, Ok, Err, Bool, true, false, inl, inr, refl, ap, sym, subst, ◌∙◌, arith, option_map}
-use Rattle.std.specs.Prelude.{length, nat_le}
+use Rattle.std.proofs.Common.{◌≡◌, ◌≢◌, ℕ, ◌<◌, ◌≤◌, List, [], ◌++◌, Option, Some, None, Result, Ok, Err, true, false, inl, inr, refl, ap, sym, subst, ◌∙◌, arith, option_map}
+use Rattle.std.specs.Prelude.{length}
 use Rattle.std.proofs.lemmas.Bool.Decides.{nat_tests}
+use Rattle.inv_base.specs.Counts.{Rose}
 use Rattle.inv_base.specs.Files.{Files, bytes_under}
 use Rattle.inv_base.specs.Outside.{ShelfView, SinkView, WhereTold}
 use Rattle.code_lists.specs.CodeFiles.{Lists, file_lists}
@@ -21,11 +22,11 @@ use Rattle.xml_document.specs.Loading as documents
 use Rattle.xml_document.specs.Whole.{IsReadWhole, IsTooLong}
 use Rattle.job_course.specs.declared.status.Status.{Status}
 use Rattle.job_course.specs.declared.status.Status.TheVariants as statuses
-use Rattle.job_course.specs.Course.{Answer, Course, ends, Stop, at_fault, past_limit, refusal, by_result, by_test, by_lists, is_within, list_limit, loading, lists_course, answer_of, readings, stopped_at}
+use Rattle.job_course.specs.Course.{Answer, Course, ends, loads, Stop, at_fault, past_limit, refusal, by_result, by_test, by_lists, is_within, document_limits, list_limit, document_course, lists_course, readings, stopped_at}
 use Rattle.job_course.specs.Lines.{read_fault_line, document_line, list_line, too_long_line}
-use Rattle.job_course.specs.Outside.{Outside, HasRead, TakesOrFails, IsRefusedAnswer}
-use Rattle.job_course.specs.Runs.{IsContentOf, AreListed, EndsIn, at_end, refused_at, too_long_at, taken, ReadsAt, a_load, a_taking, StopsThere, Runs, IsListRefusal}
-use Rattle.job_course.proofs.Joins.{Behind, behind_a_taking, run_behind}
+use Rattle.job_course.specs.Outside.{Outside, HasRead, HasOpened, TakesOrFails, IsRefusedAnswer}
+use Rattle.job_course.specs.Runs.{IsContentOf, AreListed, at_end, refused_at, too_long_at, a_load, a_taking, StopsThere, Runs, IsListRefusal}
+use Rattle.job_course.proofs.Joins.{behind_a_taking, run_behind}
 
 -- A first fault is why the bytes are no document.
 abbrev by_fault : Limits → List ℕ → Option XmlFault → Result profile.Document XmlFault
@@ -52,23 +53,29 @@ module _ (name : List ℕ) (shelf shelf' : ShelfView) (out err err' : SinkView) 
   abbrev after : Outside
   after = record { shelf = shelf'; out = out; err = err' }
 
-  pub unread_document : (limits : Limits) (refusing : Status) (next : profile.Document → Course)
-      → ReadsFrom {T = Document} (Err load_faults.Read) load_faults.Read shelf shelf'
-      → TakesOrFails (read_fault_line name) err err' → Runs (loading limits refusing name next) before after statuses.ReadFault
-  unread_document limits refusing next reads takes = inr (inl (record {
+  -- The file of a reading can't be read.
+  pub unread_load : (limits : Limits) (refused : XmlFault → Answer) (next : ℕ → profile.Document → Course) → HasOpened 1 shelf shelf' → Rose shelf.faults shelf'.faults
+      → TakesOrFails (read_fault_line name) err err' → Runs (loads limits name refused next) before after statuses.ReadFault
+  unread_load limits refused next opened rose takes = inr (inl (record {
     count = 1;
     file = name;
     reads_at = a_load;
     told = refl;
-    held = reads.held;
-    opens = reads.opens;
-    rises = reads.rises;
-    rose = reads.rose refl;
+    held = opened.held;
+    opens = opened.opens;
+    rises = opened.rises;
+    rose = rose;
     nothing = refl;
     line = takes;
   }))
 
-  module _ (limits : Limits) (refusing : Status) (next : profile.Document → Course) (fault : XmlFault)
+  pub unread_document : (next : profile.Document → Course) → ReadsFrom {T = Document} (Err load_faults.Read) load_faults.Read shelf shelf'
+      → TakesOrFails (read_fault_line name) err err' → Runs (document_course name next) before after statuses.ReadFault
+  unread_document next reads takes =
+      unread_load document_limits (λ fault. refusal statuses.DocumentRefused (document_line name fault)) (λ bytes found. next found)
+      (record { held = reads.held; opens = reads.opens; rises = reads.rises }) (reads.rose refl) takes
+
+  module _ (limits : Limits) (refusing : Status) (next : ℕ → profile.Document → Course) (fault : XmlFault)
       (refused : documents.IsRefused limits (option_map (bytes_under name) shelf.held) fault)
       (stops : StopsInTime limits (option_map (bytes_under name) shelf.held) shelf'.left) where
     of_this_file : IsContentOf shelf.held name refused.content
@@ -82,32 +89,36 @@ module _ (name : List ℕ) (shelf shelf' : ShelfView) (out err err' : SinkView) 
         let stop_is : at_fault limits name ≡ stop = cc in
         subst (λ (s : Stop). StopsThere s files shelf'.left) stop_is (subst (λ held. StopsInTime limits (option_map (bytes_under name) held) shelf'.left) is stops)
 
-    pub refused_document : IsRefusedAnswer refusing → ReadsFrom {T = Document} (Err (load_faults.Refused fault)) load_faults.Read shelf shelf'
-        → TakesOrFails (document_line name fault) err err' → Runs (loading limits refusing name next) before after refusing
-    refused_document refuses reads takes = inl (record {
+    -- The file of a reading is no document.
+    pub refused_load : IsRefusedAnswer refusing → HasRead 1 shelf shelf' → TakesOrFails (document_line name fault) err err'
+        → Runs (loads limits name (λ f. refusal refusing (document_line name f)) next) before after refusing
+    refused_load refuses read takes = inl (record {
       count = 1;
       answer = refusal refusing (document_line name fault);
       ends_in = refused_at of_this_file (is_no_document limits refused.content fault refused.is);
       told = refl;
       refuses = refuses;
       empty = refl;
-      read = record { held = reads.held; opens = reads.opens; faults = reads.quiet (λ e. cc) };
+      read = read;
       nothing = refl;
       line = takes;
       stops = λ files is stop found. stops_at files stop is (sym (ap (by_result (λ fault. Some (at_fault limits name))
-          (λ f. stopped_at (next f) files)) (no_document files is)) ∙ found);
+          (λ f. stopped_at (next (length (bytes_under name files)) f) files)) (no_document files is)) ∙ found);
     })
 
-  -- Memory ran out in the first reading.
-  pub memory_in : (course : Course) → ((files : Files) → 1 ≤ readings course files) → HasRead 1 shelf shelf' → err' ≡ err → Runs course before after statuses.Memory
-  memory_in course some read quiet = inr (inr (inl (record {
+  -- Memory ran out in the first reading, which may have failed.
+  pub memory_inside : (course : Course) → ((files : Files) → 1 ≤ readings course files) → HasOpened 1 shelf shelf' → err' ≡ err → Runs course before after statuses.Memory
+  memory_inside course some opened quiet = inr (inr (inl (record {
     count = 1;
     told = refl;
     few = λ files is. some files;
-    read = read;
+    read = opened;
     nothing = refl;
     no_line = quiet;
   })))
+
+  pub memory_in : (course : Course) → ((files : Files) → 1 ≤ readings course files) → HasRead 1 shelf shelf' → err' ≡ err → Runs course before after statuses.Memory
+  memory_in course some read quiet = memory_inside course some (record { held = read.held; opens = read.opens; rises = omega (arith, read.faults) }) quiet
 
   pub unread_lists : {T : Type 0} (next : Lists → Course) → ReadsFrom {T = T} (Err whole_faults.Read) whole_faults.Read shelf shelf'
       → TakesOrFails (read_fault_line name) err err' → Runs (lists_course name next) before after statuses.ReadFault

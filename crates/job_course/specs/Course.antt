@@ -1,8 +1,9 @@
 -- What a job does: it reads files one after another, each by what the files before it hold, and ends with an answer.
-use Rattle.std.specs.Prelude.{ℕ, suc, zero, nat_le, Bool, true, false, List, [], length, Option, Some, None, Result, Ok, Err}
+use Rattle.std.specs.Prelude.{ℕ, suc, nat_le, Bool, true, false, List, [], length, Option, Some, None, Result, Ok, Err}
 use Rattle.inv_base.specs.Files.{Files, bytes_under}
 use Rattle.xml_state.specs.declared.fault.XmlFault.{XmlFault}
 use Rattle.xml_state.specs.declared.limits.Limits.{Limits}
+use Rattle.xml_state.specs.Sizes as sizes
 use Rattle.xml_profile.specs.Profile.{document}
 use Rattle.xml_profile.specs.Profile as profile
 use Rattle.code_lists.specs.declared.fault.ListFault.{ListFault}
@@ -27,8 +28,9 @@ refusal status line = record { status = status; out = []; err = line }
 pub data Course : Type 0 where
   -- what is answered
   ends : Answer → Course
-  -- a document, under limits: what is answered where it is refused, and what follows by what it is
-  loads : Limits → List ℕ → (XmlFault → Answer) → (profile.Document → Course) → Course
+  -- a document, under limits: what is answered where it is refused, and what follows by how many bytes its file has and
+  -- what it is
+  loads : Limits → List ℕ → (XmlFault → Answer) → (ℕ → profile.Document → Course) → Course
   -- a file that is taken whole, of at most so many bytes: what is answered where it is longer, and what follows by its
   -- bytes
   takes : ℕ → List ℕ → Answer → (List ℕ → Course) → Course
@@ -47,14 +49,16 @@ is_within limit bytes = nat_le (length bytes) limit
 -- what is answered where the files hold this
 abbrev pub answer_of : Course → Files → Answer
 answer_of (ends answer) files = answer
-answer_of (loads limits name refused next) files = by_result refused (λ found. answer_of (next found) files) (document limits (bytes_under name files))
+answer_of (loads limits name refused next) files =
+    by_result refused (λ found. answer_of (next (length (bytes_under name files)) found) files) (document limits (bytes_under name files))
 answer_of (takes limit name too_long next) files =
     by_test too_long (answer_of (next (bytes_under name files)) files) (is_within limit (bytes_under name files))
 
 -- how many files are opened until then
 abbrev pub readings : Course → Files → ℕ
 readings (ends answer) files = 0
-readings (loads limits name refused next) files = suc (by_result (λ fault. 0) (λ found. readings (next found) files) (document limits (bytes_under name files)))
+readings (loads limits name refused next) files =
+    suc (by_result (λ fault. 0) (λ found. readings (next (length (bytes_under name files)) found) files) (document limits (bytes_under name files)))
 readings (takes limit name too_long next) files = suc (by_test 0 (readings (next (bytes_under name files)) files) (is_within limit (bytes_under name files)))
 
 -- a file at which the job stops: a document that is refused, or a file that is longer than it may be
@@ -65,7 +69,7 @@ pub data Stop : Type 0 where
 abbrev pub stopped_at : Course → Files → Option Stop
 stopped_at (ends answer) files = None
 stopped_at (loads limits name refused next) files =
-    by_result (λ fault. Some (at_fault limits name)) (λ found. stopped_at (next found) files) (document limits (bytes_under name files))
+    by_result (λ fault. Some (at_fault limits name)) (λ found. stopped_at (next (length (bytes_under name files)) found) files) (document limits (bytes_under name files))
 stopped_at (takes limit name too_long next) files =
     by_test (Some (past_limit limit name)) (stopped_at (next (bytes_under name files)) files) (is_within limit (bytes_under name files))
 
@@ -73,27 +77,15 @@ stopped_at (takes limit name too_long next) files =
 
 -- how large a document may be
 abbrev pub document_limits : Limits
-document_limits = record { bytes = 16777216; nodes = 1000000; depth = 100; attributes = 64; name = 200; names = 10000 }
+document_limits = sizes.document_limits
 
 -- how large a file of code lists may be
 abbrev pub list_limit : ℕ
 list_limit = 4194304
 
--- how large a rule file may be
-abbrev pub rule_limits : Limits
-rule_limits = record { bytes = 4194304; nodes = 4000000; depth = 100; attributes = 64; name = 200; names = 10000 }
-
--- a document under limits by its name, the status with which it is refused, and what follows by what it is
-abbrev pub loading : Limits → Status → List ℕ → (profile.Document → Course) → Course
-loading limits status name next = loads limits name (λ fault. refusal status (document_line name fault)) next
-
 -- a document by its name, and what follows by what it is
 abbrev pub document_course : List ℕ → (profile.Document → Course) → Course
-document_course name next = loading document_limits statuses.DocumentRefused name next
-
--- a rule file by its name, and what follows by what it is as a document
-abbrev pub rules_course : List ℕ → (profile.Document → Course) → Course
-rules_course name next = loading rule_limits statuses.RulesRefused name next
+document_course name next = loads document_limits name (λ fault. refusal statuses.DocumentRefused (document_line name fault)) (λ bytes found. next found)
 
 -- what follows by the lists of a file, or its refusal
 abbrev pub by_lists : List ℕ → (Lists → Course) → Result Lists ListFault → Course

@@ -2,4 +2,5 @@ pub mod Lines
 pub mod Course
 pub mod Outside
 pub mod Runs
+pub mod Libraries
 pub mod Views

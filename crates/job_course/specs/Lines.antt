@@ -5,6 +5,9 @@ use Rattle.code_lists.specs.declared.fault.ListFault.TheVariants as list_faults
 use Rattle.xml_tokens.specs.declared.kind.XmlKind.{XmlKind}
 use Rattle.xml_tokens.specs.declared.kind.XmlKind.TheVariants as kinds
 use Rattle.xml_state.specs.declared.fault.XmlFault.{XmlFault}
+use Rattle.rule_library.specs.Readings.{Fault}
+use Rattle.rule_library.specs.declared.faults.LoadKind.{LoadKind}
+use Rattle.rule_library.specs.declared.faults.LoadKind.TheVariants as loads
 
 -- the name of a kind of fault
 abbrev pub kind_text : XmlKind → List ℕ
@@ -52,3 +55,33 @@ list_line file fault = codes "einv: " ++ (file ++ (codes ": " ++ (list_fault_tex
 
 abbrev pub too_long_line : List ℕ → List ℕ
 too_long_line file = codes "einv: " ++ (file ++ codes ": TooLong\n")
+
+-- the name of a kind of fault of a rule file or of a part that it takes of another file
+abbrev pub load_kind_text : LoadKind → List ℕ
+load_kind_text loads.Read = codes "Read"
+load_kind_text (loads.Xml kind) = kind_text kind
+load_kind_text loads.BadHref = codes "BadHref"
+load_kind_text loads.IncludeCycle = codes "IncludeCycle"
+load_kind_text loads.TooManyFiles = codes "TooManyFiles"
+load_kind_text loads.NotSame = codes "NotSame"
+load_kind_text loads.TooDeep = codes "TooDeep"
+load_kind_text loads.TooManyNodes = codes "TooManyNodes"
+load_kind_text loads.TooManyNames = codes "TooManyNames"
+load_kind_text loads.Memory = codes "Memory"
+
+-- how the line ends: with the attribute of an element that asks for a part, or `-` where what is put in passes a limit;
+-- of a file that is no document it ends as the line of a document
+abbrev pub load_end_text : LoadKind → List ℕ
+load_end_text loads.Read = codes "\n"
+load_end_text (loads.Xml kind) = codes "\n"
+load_end_text loads.BadHref = codes " href\n"
+load_end_text loads.IncludeCycle = codes " href\n"
+load_end_text loads.TooManyFiles = codes " href\n"
+load_end_text loads.NotSame = codes " href\n"
+load_end_text loads.TooDeep = codes " -\n"
+load_end_text loads.TooManyNodes = codes " -\n"
+load_end_text loads.TooManyNames = codes " -\n"
+load_end_text loads.Memory = codes "\n"
+
+abbrev pub load_line : Fault → List ℕ
+load_line fault = codes "einv: " ++ (fault.file ++ (codes ": " ++ (load_kind_text fault.kind ++ (codes " at " ++ (decimal fault.place ++ load_end_text fault.kind)))))

@@ -1,5 +1,5 @@
 -- What a run leaves of the shelf and of the outputs.
-use Rattle.std.specs.Prelude.{◌≡◌, ℕ, suc, zero, List}
+use Rattle.std.specs.Prelude.{◌≡◌, ℕ, ◌≤◌, suc, zero, List}
 use Rattle.std.proofs.Common.{◌⊎◌}
 use Rattle.inv_base.specs.Counts.{next_count}
 use Rattle.inv_base.specs.Outside.{ShelfView, SinkView}
@@ -49,3 +49,9 @@ pub record HasRead (n : ℕ) (before after : ShelfView) : Type 0 where
   pub held : after.held ≡ before.held
   pub opens : after.opens ≡ counted n before.opens
   pub faults : after.faults ≡ before.faults
+
+-- So many files were opened, of which the last may not have been read whole, and the files stay.
+pub record HasOpened (n : ℕ) (before after : ShelfView) : Type 0 where
+  pub held : after.held ≡ before.held
+  pub opens : after.opens ≡ counted n before.opens
+  pub rises : before.faults ≤ after.faults

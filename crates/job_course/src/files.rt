@@ -1,5 +1,5 @@
-//! The files of a job: a document, a rule file, or a file of code lists. Where one can't be had, its line is told and
-//! the status answered.
+//! The files of a job: a document, or a file of code lists. Where one can't be had, its line is told and the status
+//! answered.
 ghost use Rattle.std.specs.Prelude.{◌≡◌, option_map, IfOk, IfErr, OnOk, Ok};
 ghost use Rattle.inv_base.specs.Counts.{next_count};
 ghost use Rattle.inv_base.specs.Files.{bytes_under};
@@ -7,9 +7,9 @@ ghost use Rattle.inv_base.specs.Outside.{SinkView};
 ghost use Rattle.code_lists.specs.CodeFiles.{Lists};
 ghost use Rattle.xml_profile.specs.Profile as profile;
 ghost use Rattle.xml_document.specs.Loading.{IsLoaded};
-ghost use Rattle.job_course.specs.Course.{Course, document_limits, rule_limits, loading, document_course, rules_course, lists_course};
+ghost use Rattle.job_course.specs.Course.{Course, document_limits, document_course, lists_course};
 ghost use Rattle.job_course.specs.Lines.{list_line};
-ghost use Rattle.job_course.specs.Outside.{HasRead, IsRefusedAnswer, TakesOrFails};
+ghost use Rattle.job_course.specs.Outside.{HasRead, TakesOrFails};
 ghost use Rattle.job_course.specs.declared.status.Status.TheVariants as statuses;
 ghost use Rattle.job_course.specs.Runs.{Runs, AreListed, IsListRefusal};
 
@@ -21,24 +21,7 @@ use inv_base::{Shelf, Sink};
 use node_arena::Doc;
 use std::alloc::Global;
 use xml_document::{LoadFault, WholeFault, load, read_whole};
-use xml_state::Limits;
-
-/// How large a document may be.
-const DOCUMENT_LIMITS: Limits = Limits {
-    bytes: 16_777_216,
-    nodes: 1_000_000,
-    depth: 100,
-    attributes: 64,
-    name: 200,
-    names: 10_000,
-};
-
-/// How large a rule file may be.
-const RULE_LIMITS: Limits = Limits {
-    bytes: 4_194_304,
-    nodes: 4_000_000,
-    ..DOCUMENT_LIMITS
-};
+use xml_state::DOCUMENT_LIMITS;
 
 /// How many bytes a file of code lists may have.
 const LIST_LIMIT: usize = 4_194_304;
@@ -59,65 +42,7 @@ pub fn load_document<'a, S: Shelf, E: Sink>(
         (record { shelf = S.view shelf.old; out = out; err = E.view err.old })
         (record { shelf = S.view shelf.new; out = out; err = E.view err.new }) status) }
 {
-    load_under(
-        alloc,
-        bump,
-        shelf,
-        name,
-        DOCUMENT_LIMITS,
-        Status::DocumentRefused,
-        err,
-    )
-}
-
-/// The rule file of that name as a document under the limits of rule files, or the status with which the job ends.
-pub fn load_rules<'a, S: Shelf, E: Sink>(
-    alloc: Global,
-    bump: &'a Bump,
-    shelf: &mut S,
-    name: &str,
-    err: &mut E,
-) -> Result<Doc<'a>, Status>
-    ensures loaded { IfOk result (λ doc. IsLoaded rule_limits (option_map (bytes_under name.now) (S.view shelf.old).held) doc) }
-    ensures opens { (S.view shelf.new).opens ≡ next_count (S.view shelf.old).opens }
-    ensures read { OnOk result (HasRead 1 (S.view shelf.old) (S.view shelf.new)) }
-    ensures quiet { OnOk result (E.view err.new ≡ E.view err.old) }
-    ensures failed { IfErr result (λ status. (next : profile.Document → Course) (out : SinkView) → Runs (rules_course name.now next)
-        (record { shelf = S.view shelf.old; out = out; err = E.view err.old })
-        (record { shelf = S.view shelf.new; out = out; err = E.view err.new }) status) }
-{
-    load_under(
-        alloc,
-        bump,
-        shelf,
-        name,
-        RULE_LIMITS,
-        Status::RulesRefused,
-        err,
-    )
-}
-
-/// The file of that name as a document under these limits, or the status with which the job ends: this one where the
-/// file is refused.
-fn load_under<'a, S: Shelf, E: Sink>(
-    alloc: Global,
-    bump: &'a Bump,
-    shelf: &mut S,
-    name: &str,
-    limits: Limits,
-    refusing: Status,
-    err: &mut E,
-) -> Result<Doc<'a>, Status>
-    requires { IsRefusedAnswer refusing }
-    ensures loaded { IfOk result (λ doc. IsLoaded limits (option_map (bytes_under name.now) (S.view shelf.old).held) doc) }
-    ensures opens { (S.view shelf.new).opens ≡ next_count (S.view shelf.old).opens }
-    ensures read { OnOk result (HasRead 1 (S.view shelf.old) (S.view shelf.new)) }
-    ensures quiet { OnOk result (E.view err.new ≡ E.view err.old) }
-    ensures failed { IfErr result (λ status. (next : profile.Document → Course) (out : SinkView) → Runs (loading limits refusing name.now next)
-        (record { shelf = S.view shelf.old; out = out; err = E.view err.old })
-        (record { shelf = S.view shelf.new; out = out; err = E.view err.new }) status) }
-{
-    match load(alloc, bump, shelf, name, limits) {
+    match load(alloc, bump, shelf, name, DOCUMENT_LIMITS) {
         Ok(doc) => Ok(doc),
         Err(LoadFault::Read) => {
             tell_read_fault(name, err);
@@ -125,7 +50,7 @@ fn load_under<'a, S: Shelf, E: Sink>(
         }
         Err(LoadFault::Refused(fault)) => {
             tell_document_fault(name, &fault, err);
-            Err(refusing)
+            Err(Status::DocumentRefused)
         }
         Err(LoadFault::Memory) => Err(Status::Memory),
     }

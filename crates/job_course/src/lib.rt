@@ -3,9 +3,11 @@
 #![tactic(auto)]
 
 mod files;
+mod libraries;
 mod status;
 mod telling;
 
-pub use files::{load_document, load_rules, take_lists};
+pub use files::{load_document, take_lists};
+pub use libraries::load_library;
 pub use status::Status;
 pub use telling::{tell_bad_word, tell_document_fault, tell_read_fault};

@@ -1,11 +1,12 @@
 ghost use Rattle.job_course.specs.Outside.{TakesOrFails};
-ghost use Rattle.job_course.specs.Lines.{bad_word_line, read_fault_line, document_line, kind_text, list_line, list_fault_text, too_long_line};
+ghost use Rattle.job_course.specs.Lines.{bad_word_line, read_fault_line, document_line, kind_text, load_line, load_kind_text, load_end_text, list_line, list_fault_text, too_long_line};
 ghost use Rattle.inv_base.specs.Printing.{Prints};
 ghost use Rattle.std.specs.Prelude.{◌≡◌};
 
 use code_lists::ListFault;
-use inv_base::{Printer, Sink};
+use inv_base::{Place, Printer, Sink};
 use itoa::Buffer;
+use rule_library::LoadKind;
 use xml_state::XmlFault;
 use xml_tokens::XmlKind;
 
@@ -45,6 +46,21 @@ pub fn tell_document_fault<E: Sink>(file: &str, fault: &XmlFault, err: &mut E)
     printer.put(err, b"\n");
 }
 
+/// Tells why and where a rule file or a part that it takes of another file is refused.
+pub(crate) fn tell_load_fault<E: Sink>(file: &str, kind: LoadKind, place: Place, err: &mut E)
+    ensures { TakesOrFails (load_line (record { kind = kind; file = file.now; place = place.byte })) (E.view err.old) (E.view err.new) }
+{
+    let mut digits = Buffer::new();
+    let mut printer = Printer::new();
+    printer.put(err, b"einv: ");
+    printer.put(err, file.as_bytes());
+    printer.put(err, b": ");
+    printer.put(err, load_kind_name(kind).as_bytes());
+    printer.put(err, b" at ");
+    printer.put(err, digits.format(place.byte).as_bytes());
+    printer.put(err, load_end(kind).as_bytes());
+}
+
 /// Tells that a file of code lists is too long.
 pub fn tell_too_long<E: Sink>(file: &str, err: &mut E)
     ensures { TakesOrFails (too_long_line file.now) (E.view err.old) (E.view err.new) }
@@ -82,6 +98,36 @@ fn print_list_fault<E: Sink>(fault: &ListFault, printer: &mut Printer, err: &mut
             printer.put(err, key.as_str().as_bytes());
         }
         ListFault::Memory => printer.put(err, b"Memory"),
+    }
+}
+
+/// The name of a kind of fault of a rule file or of a part.
+fn load_kind_name(kind: LoadKind) -> &'static str
+    ensures { result.now ≡ load_kind_text kind }
+{
+    match kind {
+        LoadKind::Read => "Read",
+        LoadKind::Xml(kind) => kind_name(kind),
+        LoadKind::BadHref => "BadHref",
+        LoadKind::IncludeCycle => "IncludeCycle",
+        LoadKind::TooManyFiles => "TooManyFiles",
+        LoadKind::NotSame => "NotSame",
+        LoadKind::TooDeep => "TooDeep",
+        LoadKind::TooManyNodes => "TooManyNodes",
+        LoadKind::TooManyNames => "TooManyNames",
+        LoadKind::Memory => "Memory",
+    }
+}
+
+/// How the line of a fault of a rule file or of a part ends: with the attribute of the element that asks for a part.
+fn load_end(kind: LoadKind) -> &'static str
+    ensures { result.now ≡ load_end_text kind }
+{
+    match kind {
+        LoadKind::Read | LoadKind::Xml(_) | LoadKind::Memory => "\n",
+        LoadKind::BadHref | LoadKind::IncludeCycle | LoadKind::TooManyFiles | LoadKind::NotSame =>
+            " href\n",
+        LoadKind::TooDeep | LoadKind::TooManyNodes | LoadKind::TooManyNames => " -\n",
     }
 }
 

@@ -12,8 +12,8 @@ use Rattle.bind_rows.specs.declared.rows.Row.{Row}
 use Rattle.bind_table.specs.WellFormed.{first_fault}
 use Rattle.ubl_binding.specs.Tables.{invoice_rows, credit_note_rows}
 use Rattle.cii_binding.specs.Table.{cii_rows}
-use Rattle.bind_meaning.specs.declared.tables.Which.{Which}
-use Rattle.bind_meaning.specs.declared.tables.Which.TheVariants as which
+use Rattle.bind_rows.specs.declared.tables.Which.{Which}
+use Rattle.bind_rows.specs.declared.tables.Which.TheVariants as which
 use Rattle.bind_meaning.specs.Tables.{rows_of}
 use Rattle.bind_meaning.specs.Currencies.{currencies}
 use Rattle.bind_meaning.specs.Terms.{Read, told, term_picks, entries, terms_of}
@@ -24,14 +24,16 @@ use Rattle.reading_laws.specs.Nodes.{Rise}
 use Rattle.reading_laws.proofs.ListLemmas.{each-weaker, all-of-each, tests-hold}
 use Rattle.reading_laws.proofs.EntryLemmas.{HasValue, HasPlace, OfEntry, of-entries}
 use Rattle.reading_laws.proofs.FaultLemmas.{IsFine, places_in, read-of}
-use Rattle.reading_laws.proofs.RowLemmas.{IsSoundRow, IsPickOf, sound-rows, picks-of}
+use Rattle.bind_table.specs.Sound.{IsSoundRow}
+use Rattle.bind_table.proofs.SoundLemmas.{sound-each}
+use Rattle.reading_laws.proofs.RowLemmas.{IsPickOf, picks-of}
 use Rattle.reading_laws.proofs.PlaceLemmas.{told-placed}
 use Rattle.reading_laws.proofs.OrderLemmas.{entries-listed}
 use Rattle.reading_laws.proofs.NumberLemmas.{entries-numbered}
 use Rattle.reading_laws.proofs.NodeLemmas.{document-rises}
 
 sound-picks : (nodes : List Node) (rows : List Row) → first_fault rows ≡ Ok tt → AllByRecursion (IsPickOf (IsSoundRow rows)) (term_picks nodes (currencies nodes rows) rows)
-sound-picks nodes rows formed = picks-of nodes (IsSoundRow rows) rows (sound-rows rows formed) (currencies nodes rows)
+sound-picks nodes rows formed = picks-of nodes (IsSoundRow rows) rows (sound-each rows formed) (currencies nodes rows)
 
 all-placed : (nodes : List Node) (rows : List Row) → first_fault rows ≡ Ok tt → AllByRecursion HasPlace (told nodes (places_in nodes rows))
 all-placed nodes rows formed = told-placed rows nodes (term_picks nodes (currencies nodes rows) rows) (sound-picks nodes rows formed)

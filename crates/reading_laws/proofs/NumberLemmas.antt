@@ -30,7 +30,8 @@ use Rattle.reading_laws.specs.Nodes.{Rise}
 use Rattle.reading_laws.proofs.ListLemmas.{both, and-true, or-right, any-map, any-here, any-of-flat, each-map, each-unmap, each-weaker, each-filter, each-passes, each-both, tests-each, tests-hold}
 use Rattle.reading_laws.proofs.SayingLemmas.{of-said, of-placed}
 use Rattle.reading_laws.proofs.EntryLemmas.{HasValue, OfEntry, of-entries, seats-same}
-use Rattle.reading_laws.proofs.RowLemmas.{IsSoundRow, IsPickOf}
+use Rattle.bind_table.specs.Sound.{IsSoundRow}
+use Rattle.reading_laws.proofs.RowLemmas.{IsPickOf}
 use Rattle.reading_laws.proofs.PlaceLemmas.{IsKnown, known-in, some-place}
 use Rattle.reading_laws.proofs.CountLemmas.{counted}
 

@@ -31,7 +31,8 @@ use Rattle.bind_meaning.specs.Terms.{told, place_all}
 use Rattle.reading_laws.proofs.ListLemmas.{both, each-map, each-weaker}
 use Rattle.reading_laws.proofs.EntryLemmas.{HasPlace}
 use Rattle.reading_laws.proofs.SayingLemmas.{of-said, of-told}
-use Rattle.reading_laws.proofs.RowLemmas.{IsSoundRow, IsPickOf}
+use Rattle.bind_table.specs.Sound.{is_unplaced, IsSoundRow}
+use Rattle.reading_laws.proofs.RowLemmas.{IsPickOf}
 
 -- ---- where a row's element carries a group, each way along its path has that element
 
@@ -75,12 +76,8 @@ not-none : (o : Option ℕ) → is_none o ≡ false → is_some o ≡ true
 not-none None l = absurd (false≢true (sym l))
 not-none (Some n) l = refl
 
-placed-term : (added lost : Bool) → (added || lost) ≡ false → lost ≡ false
-placed-term true lost h = absurd (false≢true (sym h))
-placed-term false lost h = h
-
-pub known-in : (row : Row) (term : Term) (content : Content) → is_unknown row content ≡ false → term_in content ≡ Some term → IsKnown row term
-known-in row term (contents.Term t) k f = subst (IsKnown row) (let z : t ≡ term = cc in z) (not-none (row_in t row.outer row.inner) (placed-term (is_extension t) (is_none (row_in t row.outer row.inner)) k))
+pub known-in : (row : Row) (term : Term) (content : Content) → is_unplaced row content ≡ false → term_in content ≡ Some term → IsKnown row term
+known-in row term (contents.Term t) k f = subst (IsKnown row) (let z : t ≡ term = cc in z) (not-none (row_in t row.outer row.inner) k)
 known-in row term (contents.Constant text) k f = absurd (let z : ◌≡◌ {A = Option Term} None (Some term) = f in cc)
 
 -- ---- a note's subject code has the contexts of the note

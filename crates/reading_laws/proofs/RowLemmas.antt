@@ -7,55 +7,11 @@ use Rattle.inv_base.specs.Tree.{Node}
 use Rattle.bind_rows.specs.declared.rows.Row.{Row}
 use Rattle.bind_rows.specs.declared.rows.Step.{Step}
 use Rattle.bind_rows.specs.Same.{choose}
-use Rattle.bind_table.specs.declared.judging.TableKind.{TableKind}
-use Rattle.bind_table.specs.declared.judging.TableKind.TheVariants as kinds
-use Rattle.bind_table.specs.declared.judging.TableFault.{TableFault}
-use Rattle.bind_table.specs.WellFormed.{is_ambiguous, is_unknown, is_placed, is_nested, is_rooted, is_outside, fault_of, told, first_fault_from, first_fault}
 use Rattle.bind_meaning.specs.Elements.{met}
 use Rattle.bind_meaning.specs.Picks.{Pick, ways, last_of, leaves_of, picks_of_way, nodes_picked, has_any_term, Numbered, numbered, rows_where, all_picked, is_filler, without_fillers}
 use Rattle.bind_meaning.specs.Currencies.{Currencies, is_in_its_currency, in_their_currencies}
 use Rattle.bind_meaning.specs.Terms.{term_picks}
 use Rattle.reading_laws.proofs.ListLemmas.{both, not-not, each-map, each-flat, each-weaker, each-filter, each-passes, each-both, each-any}
-
--- the term of the row is one of the row's context, and its elements carry the occurrences
-pub record IsSoundRow (rows : List Row) (row : Row) : Type 0 where
-  pub known : is_unknown row row.content ≡ false
-  pub outer : is_placed rows row row.outer ≡ true
-  pub inner : is_placed rows row row.inner ≡ true
-
-sound-row : (rows : List Row) (row : Row) → is_unknown row row.content ≡ false → is_outside rows row ≡ false → IsSoundRow rows row
-sound-row rows row known h =
-    let a = both (is_rooted rows row) (is_placed rows row row.outer && (is_placed rows row row.inner && is_nested row row.outer row.inner)) (not-not _ h) in
-    let b = both (is_placed rows row row.outer) (is_placed rows row row.inner && is_nested row row.outer row.inner) a.1 in
-    let d = both (is_placed rows row row.inner) (is_nested row row.outer row.inner) b.1 in
-    record { known = known; outer = b.0; inner = d.0 }
-
-no-fault : (rows : List Row) (k : ℕ) (row : Row) → fault_of rows k row ≡ None → IsSoundRow rows row
-no-fault rows k row h = go (is_ambiguous rows k row) (is_unknown row row.content) (is_outside rows row) refl refl h
-  where
-    go : (a b c : Bool) → is_unknown row row.content ≡ b → is_outside rows row ≡ c
-        → choose {A = Option TableKind} a (λ _. Some kinds.Ambiguous) (λ _. choose b (λ _. Some kinds.UnknownTerm) (λ _. choose c (λ _. Some kinds.OutsideContext) (λ _. None))) ≡ None
-        → IsSoundRow rows row
-    go true b c e f l = absurd (false≢true (sym (ap is_some l)))
-    go false true c e f l = absurd (false≢true (sym (ap is_some l)))
-    go false false true e f l = absurd (false≢true (sym (ap is_some l)))
-    go false false false e f l = sound-row rows row e f
-
-is_ok : Result (Unit {0}) TableFault → Bool
-is_ok (Ok u) = true
-is_ok (Err fault) = false
-
-sound-from : (rows : List Row) (k : ℕ) (others : List Row) → first_fault_from rows k others ≡ Ok tt → AllByRecursion (IsSoundRow rows) others
-sound-from rows k [] h = tt
-sound-from rows k (row ∷ others) h = go (fault_of rows k row) refl h (sound-from rows (k + 1) others)
-  where
-    go : (o : Option TableKind) → fault_of rows k row ≡ o → told k o (first_fault_from rows (k + 1) others) ≡ Ok tt
-        → (first_fault_from rows (k + 1) others ≡ Ok tt → AllByRecursion (IsSoundRow rows) others) → IsSoundRow rows row × AllByRecursion (IsSoundRow rows) others
-    go None e l f = (no-fault rows k row e, f l)
-    go (Some kind) e l f = absurd (let z : ◌≡◌ {A = Result (Unit {0}) TableFault} (Err (record { kind = kind; row = k + 1 })) (Ok tt) = l in cc)
-
-pub sound-rows : (rows : List Row) → first_fault rows ≡ Ok tt → AllByRecursion (IsSoundRow rows) rows
-sound-rows rows h = sound-from rows 0 rows h
 
 -- ---- picks
 

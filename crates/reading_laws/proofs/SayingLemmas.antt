@@ -6,7 +6,7 @@ use Rattle.std.proofs.lemmas.Bool.{eqb-true}
 use Rattle.inv_base.specs.Tree.{Node}
 use Rattle.term_table.specs.declared.terms.Term.{Term}
 use Rattle.inv_terms.specs.declared.values.Value.{Value}
-use Rattle.inv_terms.specs.Values.{is_blank}
+use Rattle.inv_terms.specs.Values.{is_blank, value_of}
 use Rattle.bind_rows.specs.declared.rows.Form.{Form}
 use Rattle.bind_rows.specs.declared.rows.Form.TheVariants as forms
 use Rattle.bind_meaning.specs.Elements.{string_at}
@@ -57,6 +57,8 @@ module _ (P : List Said → Type 0) where
     suited forms.PlainDate string h = one (plain_date string)
     suited forms.DueDateTypeCode string h = one (due_date_type string)
     suited forms.CodedNote string h = of-note (λ value. subst (λ x. P (alone x value)) (note-is term h) (one value)) (two (note-is term h)) string
+    suited (forms.Typed letter) string h = one (value_of letter string)
+    suited forms.TypedPlainDate string h = one (plain_date string)
 
     formed : (form : Form) (string : List ℕ) (b : Bool) → suits form term ≡ b → P (said_in (elim b [ true ↦ form | false ↦ forms.Model ]) term string)
     formed form string true h = suited form string h

@@ -13,7 +13,7 @@ ghost use Rattle.node_arena.specs.Document.{Document};
 ghost use Rattle.node_arena.specs.Moves.{tree_nodes, IsOfATree};
 ghost use Rattle.bind_rows.specs.declared.rows.Row.{Row};
 ghost use Rattle.bind_table.specs.WellFormed.{first_fault};
-ghost use Rattle.bind_meaning.specs.declared.tables.Which.{Which};
+ghost use Rattle.bind_rows.specs.declared.tables.Which.{Which};
 ghost use Rattle.bind_meaning.specs.Tables.{rows_of};
 ghost use Rattle.bind_meaning.specs.Currencies.{currencies};
 ghost use Rattle.bind_meaning.specs.Seats.{context_of};

@@ -65,7 +65,7 @@ malformed_behind a b r s t wrong h k = record {
 -- A fault behind readings is one of them all.
 pub fails_behind : (a b : Readings) (fault : LoadFault) (r s t : ShelfView) → Reaches a b r s → Fails b fault s t → Fails a fault r t
 unfolding stops_behind malformed_behind
-fails_behind a b fault r s t h (given wrong is k) = given wrong is (reaches_join a b (gives (Err wrong)) r s t h k)
+fails_behind a b fault r s t h (given wrong node is k) = given wrong node is (reaches_join a b (gives (Err wrong)) r s t h k)
 fails_behind a b fault r s t h (unreadable k is rose) = unreadable (stops_behind a b r s t h k) is (subst (λ n. Rose n t.faults) h.has_read.faults rose)
 fails_behind a b fault r s t h (no_document wrong k is) = no_document wrong (malformed_behind a b r s t wrong h k) is
 fails_behind a b fault r s t h (full_between c is k) = full_between c is (reaches_join a b c r s t h k)
@@ -77,8 +77,8 @@ fails_full a fault v e = full_between a e (reaches_same a a v refl)
 
 -- A refusal is a fault, and nothing was read.
 pub refused_fails : (a : Readings) (fault : LoadFault) (v : ShelfView) → Refuses a fault → Fails a fault v v
-refused_fails a fault v (turns.given wrong is (inl e)) = given wrong e (reaches_same a (gives (Err wrong)) v is)
-refused_fails a fault v (turns.given wrong is (inr e)) = fails_full a fault v e
+refused_fails a fault v (turns.given wrong node is (inl e)) = given wrong node e (reaches_same a (gives (Err wrong)) v is)
+refused_fails a fault v (turns.given wrong node is (inr e)) = fails_full a fault v e
 refused_fails a fault v (turns.full e) = fails_full a fault v e
 
 -- Refusals of readings that are others.

@@ -13,7 +13,7 @@ use Rattle.xml_document.specs.declared.loading.LoadFault.TheVariants as file_fau
 use Rattle.rule_library.specs.Readings.{File, Readings, reads, rule_limits, file_at, no_file, file_behind, total}
 use Rattle.rule_library.specs.Reading.{IsReadAt}
 use Rattle.rule_library.specs.Leads.{Leads, here, read, Reaches, Stops, told_under}
-use Rattle.rule_library.specs.Faults.{TellsOf, want_of_memory, fault_of_file, Fails, unreadable, no_document, full_between, full_inside}
+use Rattle.rule_library.specs.Faults.{TellsOfFile, want_of_memory, Fails, unreadable, no_document, full_between, full_inside}
 use Rattle.rule_library.specs.Walk.{with_file, read_by}
 use Rattle.rule_library.specs.Turns.{Open, top_of, outer_of, state_of, opened, all_opened, enter_in, asking, behind_part, new_rest, found_by, found_rest, IsOpen, AreOpen, Stands, StandsAt, Keeps}
 use Rattle.rule_library.specs.declared.faults.LoadFault.{LoadFault}
@@ -34,7 +34,7 @@ was_read name kept start count doc before after e l h o f = record {
 }
 
 pub file_fails : (name : List ℕ) (next : ℕ → profile.Document → Readings) (fault : FileFault) (answer : LoadFault) (before after : ShelfView)
-    → TellsOf answer (fault_of_file name fault)
+    → TellsOfFile name fault answer
     → after.held ≡ before.held → after.opens ≡ next_count before.opens → before.faults ≤ after.faults
     → (fault ≡ file_faults.Read → Rose before.faults after.faults)
     → (fault ≢ file_faults.Read → after.faults ≡ before.faults)
@@ -46,17 +46,16 @@ file_fails name next fault answer before after tells held opens rises rose quiet
     stopped : Stops (reads name next) before after
     stopped = record { count = 0; name = name; next = next; held = held; opens = opens; rises = rises; leads = here }
 
-    by_fault : (fault : FileFault) → TellsOf answer (fault_of_file name fault) → (fault ≡ file_faults.Read → Rose before.faults after.faults)
+    by_fault : (fault : FileFault) → TellsOfFile name fault answer → (fault ≡ file_faults.Read → Rose before.faults after.faults)
         → (fault ≢ file_faults.Read → after.faults ≡ before.faults)
         → ((wrong : XmlFault) → fault ≡ file_faults.Refused wrong → IsRefused rule_limits (told_under name before.held) wrong)
         → ((wrong : XmlFault) → fault ≡ file_faults.Refused wrong → StopsInTime rule_limits (told_under name before.held) after.left)
         → Fails (reads name next) answer before after
     by_fault file_faults.Read (inl e) r q f s = unreadable stopped e (r refl)
     by_fault (file_faults.Refused wrong) (inl e) r q f s = no_document wrong (record { stops = stopped; quiet = q (λ x. cc); refused = f wrong refl; in_time = s wrong refl }) e
-    by_fault file_faults.Memory (inl e) r q f s = full_inside e stopped
+    by_fault file_faults.Memory e r q f s = full_inside e stopped
     by_fault file_faults.Read (inr e) r q f s = full_inside e stopped
     by_fault (file_faults.Refused wrong) (inr e) r q f s = full_inside e stopped
-    by_fault file_faults.Memory (inr e) r q f s = full_inside e stopped
 
 pub total-more : (files : List File) (file : File) → total (files ++ file ∷ []) ≡ total files + file.length
 total-more [] file = omega arith

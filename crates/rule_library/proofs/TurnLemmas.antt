@@ -1,6 +1,6 @@
 -- What is still to be done where a walk stands.
 use Rattle.std.proofs.Common.{◌≡◌, ℕ, suc, ◌+◌, ◌-◌, ◌<◌, ◌≤◌, ◌⊎◌, inl, inr, Bool, true, false, not, List, [], ◌∷◌, ◌++◌, length, drop, Option, Some, None, Result, Ok, Err, refl, sym, ap, subst, ◌∙◌, arith, length-append}
-use Rattle.std.specs.Prelude.{nat_le, ◌==◌}
+use Rattle.std.specs.Prelude.{nat_le, nat_lt, ◌==◌, if◌then◌else◌}
 use Rattle.std.proofs.lemmas.Bool.Decides.{nat_tests}
 use Rattle.std.specs.Option.{ForSome}
 use Rattle.std.proofs.Math.ListN.{get_or-append}
@@ -15,6 +15,7 @@ use Rattle.rule_library.specs.Asked.{given_at}
 use Rattle.rule_library.specs.Turns.{Open, from, is_part, opened_file, opened, all_opened, enter_in, goes_on, state_of, outer_of, top_of, rest_of, going_behind, node_in, passed, settled, at_rest, node_rest, asked_rest, asking, behind_part, part_rest, other_rest, new_rest, found_rest, fit_rest, IsOpen, AreOpen, Stands, StandsAt, fault_at}
 use Rattle.rule_library.specs.Turns.{Turns, TurnsTo}
 use Rattle.rule_library.specs.Leads.{Reaches}
+use Rattle.rule_library.specs.Faults.{IsOfANode}
 use Rattle.std.specs.Prelude.{IfOk}
 use Rattle.inv_base.specs.Outside.{ShelfView}
 use Rattle.rule_library.specs.declared.walk.Turn.{Turn}
@@ -111,6 +112,18 @@ settled-none w n e = ap (λ limit. unless_passed limit (top_of w).way (node_in (
 
 pub settled-some : (w : Walk) (n : ℕ) (kind : LoadKind) → Some kind ≡ passed_limit (is_part (outer_of w)) w.joined → settled w n ≡ gives (Err (fault_at w n kind))
 settled-some w n kind e = ap (λ limit. unless_passed limit (top_of w).way (node_in (top_of w) n) (going_behind (top_of w) (outer_of w) n None) (state_of w)) (sym e)
+
+limit_kind : (a b c : Bool) (kind : LoadKind) → (if a then Some kinds.TooDeep else (if b then Some kinds.TooManyNodes else (if c then Some kinds.TooManyNames else None))) ≡ Some kind
+    → IsOfANode kind
+limit_kind true b c kind e = let same : kinds.TooDeep ≡ kind = cc in subst IsOfANode same tt
+limit_kind false true c kind e = let same : kinds.TooManyNodes ≡ kind = cc in subst IsOfANode same tt
+limit_kind false false true kind e = let same : kinds.TooManyNames ≡ kind = cc in subst IsOfANode same tt
+limit_kind false false false kind e = cc
+
+-- What passes a limit is a node.
+pub passes-node : (part : Bool) (j : Joined) (kind : LoadKind) → passed_limit part j ≡ Some kind → IsOfANode kind
+passes-node false j kind e = cc
+passes-node true j kind e = limit_kind (nat_lt 101 (length j.built.open_nodes)) (nat_lt 4000000 (length j.built.nodes)) (nat_lt 10000 (length j.names)) kind e
 
 -- a node of a kind
 abbrev kind_rest : Walk → ℕ → Kind → Readings

@@ -6,7 +6,7 @@ use Rattle.node_arena.specs.Document.{Placed, Document, node_at}
 use Rattle.rule_library.specs.Readings.{File, State, Fault, Readings, gives, file_at, total}
 use Rattle.rule_library.specs.Asked.{Asked, given_at}
 use Rattle.rule_library.specs.Joining.{nothing_joined, passed_limit}
-use Rattle.rule_library.specs.Faults.{TellsOf, told, want_of_memory}
+use Rattle.rule_library.specs.Faults.{TellsOf, IsOfANode, want_of_memory}
 use Rattle.rule_library.specs.Walk.{Next, Enter, Way, Going, Asking, going, entered, unless_passed, at_node, at_asked, put_in, found_or_read, newly_read, checked, file_of, parent_name, own_name}
 use Rattle.rule_library.specs.Leads.{Reaches}
 use Rattle.rule_library.specs.declared.faults.LoadKind.{LoadKind}
@@ -159,7 +159,7 @@ pub record StandsAt (w : Walk) (n : ℕ) : Type 0 where
 
 -- The fault is the one that the readings give, or memory ran out.
 pub data Refuses (first : Readings) (fault : LoadFault) : Type 0 where
-  given : (wrong : Fault) → first ≡ gives (Err wrong) → TellsOf fault (told wrong) → Refuses first fault
+  given : (wrong : Fault) → IsOfANode wrong.kind → first ≡ gives (Err wrong) → TellsOf fault wrong → Refuses first fault
   full : fault ≡ want_of_memory → Refuses first fault
 
 -- Behind a turn the walk stands somewhere, or everything is joined.

@@ -1,6 +1,6 @@
 //! Why a rule file can't be had with its parts.
 ghost use Rattle.std.specs.Prelude.{◌≡◌};
-ghost use Rattle.rule_library.specs.Faults.{TellsOf, told, want_of_memory, fault_of_file};
+ghost use Rattle.rule_library.specs.Faults.{TellsOf, TellsOfFile, want_of_memory};
 
 use inv_base::{Place, Txt};
 use std::alloc::Global;
@@ -57,7 +57,7 @@ pub(crate) fn want_of_memory() -> LoadFault
 
 /// A fault at a place of a file.
 pub(crate) fn fault_at(alloc: Global, kind: LoadKind, name: &str, place: Place) -> LoadFault
-    ensures { TellsOf result (told (record { kind = kind; file = name.now; place = place.byte })) }
+    ensures { TellsOf result (record { kind = kind; file = name.now; place = place.byte }) }
 {
     match Txt::of(alloc, name) {
         Ok(file) => LoadFault {
@@ -71,7 +71,7 @@ pub(crate) fn fault_at(alloc: Global, kind: LoadKind, name: &str, place: Place) 
 
 /// The fault of a file that was asked for.
 pub(crate) fn fault_of_file(alloc: Global, name: &str, fault: FileFault) -> LoadFault
-    ensures { TellsOf result (fault_of_file name.now fault) }
+    ensures { TellsOfFile name.now fault result }
 {
     match fault {
         FileFault::Read => fault_at(alloc, LoadKind::Read, name, Place { byte: 0 }),

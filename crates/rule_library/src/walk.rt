@@ -3,7 +3,7 @@ ghost use Rattle.std.specs.Prelude.{◌≡◌, ℕ, ◌+◌, ◌-◌, ◌<◌, �
 ghost use Rattle.std.specs.Option.{ForSome};
 ghost use Rattle.xml_state.specs.Events.{name_at};
 ghost use Rattle.node_arena.specs.Document.{node_at};
-ghost use Rattle.rule_library.specs.Faults.{Fails, TellsOf, told, want_of_memory};
+ghost use Rattle.rule_library.specs.Faults.{Fails, TellsOf, want_of_memory};
 ghost use Rattle.rule_library.specs.Readings.{file_at, gives};
 ghost use Rattle.rule_library.specs.Requests.{asked_by};
 ghost use Rattle.rule_library.specs.Leads.{Reaches};
@@ -116,7 +116,7 @@ pub(crate) fn top_doc<'w, 'a>(walk: &'w Walk<'a>) -> &'w Doc<'a>
 /// A fault at a node of the file that is gone over.
 pub(crate) fn fault_in(alloc: Global, walk: &Walk<'_>, n: NodeId, kind: LoadKind) -> LoadFault
     requires { StandsAt walk.now n }
-    ensures { TellsOf result (told (spec.fault_at walk.now n kind)) }
+    ensures { TellsOf result (spec.fault_at walk.now n kind) }
 {
     fault_at(alloc, kind, top_file(walk).name(), top_doc(walk).place(n))
 }

@@ -1,10 +1,13 @@
-//! The tests of rules that put other rules, of texts of rule files and of reports.
+//! The tests of rule files that take parts of others, of rules that put other rules, of texts of rule files and of
+//! reports.
 #![tactic(auto)]
 
 #[cfg(test)]
 mod documents;
 #[cfg(test)]
 mod graph_cases;
+#[cfg(test)]
+mod library_cases;
 #[cfg(test)]
 mod report_cases;
 #[cfg(test)]

@@ -24,7 +24,7 @@ use Rattle.schematron_rules.specs.declared.rules.Assertion.{Assertion}
 use Rattle.schematron_rules.specs.declared.rules.Rule.{Rule}
 use Rattle.schematron_rules.specs.declared.rules.Expanded.{Expanded}
 use Rattle.schematron_rules.specs.declared.rules.Phase.{Phase}
-use Rattle.schematron_rules.specs.declared.rules.Rules.{Rules}
+use Rattle.schematron_rules.specs.declared.rules.Compiled.{Compiled}
 use Rattle.schematron_rules.specs.Seen.{seen_let, seen_lets, seen_shown, seen_part, seen_assertion, seen_rule, seen_pattern, seen_phase, seen_phases, seen_rules}
 
 -- ---- one more of a list
@@ -200,7 +200,7 @@ pub phases_begun : (es : List Entry) (zs items : List (Bor Read)) (found : List 
 phases_begun es zs items found none is = map_begun seen_phase (λ e. seen_entry e.now) (spec.phase_of es) zs items found (map (spec.phase_of es) (lent_entries zs)) none is refl
 
 -- the same of what is held and lent
-pub rules_built : (file : File) (x : Rules) (es : List Entry) (held lent : List Lent) (outer : Declared) → es ≡ file.entries → x.default_phase ≡ spec.default_phase_of es
+pub rules_built : (file : File) (x : Compiled) (es : List Entry) (held lent : List Lent) (outer : Declared) → es ≡ file.entries → x.default_phase ≡ spec.default_phase_of es
     → seen_lets x.lets ≡ spec.lets_behind [] (written.prefixes file.entries) (inside is_let file.entries the_schema)
     → seen_phases x.phases ≡ map (spec.phase_of file.entries) (of_role is_phase file.entries) → outer ≡ written.outer_scope file.entries → lent_instances held ≡ instances file.entries → lent ≡ held
     → map seen_pattern x.patterns ≡ map (spec.pattern_of file outer) (lent_instances lent) → seen_rules x ≡ spec.compiled file

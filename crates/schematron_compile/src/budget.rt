@@ -2,13 +2,8 @@
 ghost use Rattle.std.specs.Prelude.{◌≡◌, ◌≤◌, chars, IfOk};
 
 use inv_base::Txt;
+use schematron_meaning::{MOST_BUILT_BYTES, MOST_THINGS};
 use std::alloc::{AllocError, Global};
-
-/// How many things one file makes at most: lets, rules, assertions and parts of messages, each wherever it is put.
-pub(crate) const MOST_THINGS: usize = 4_000_000;
-
-/// How many bytes of texts are read and made for one file at most.
-pub(crate) const MOST_BYTES: usize = 268_435_456;
 
 /// How much may still be made. So a small file whose rules put others many times can't take all memory: what passes a
 /// limit counts as want of memory.
@@ -23,7 +18,7 @@ impl Budget {
     pub(crate) fn new() -> Budget {
         Budget {
             things: MOST_THINGS,
-            bytes: MOST_BYTES,
+            bytes: MOST_BUILT_BYTES,
         }
     }
 

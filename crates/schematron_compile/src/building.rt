@@ -18,7 +18,7 @@ use inv_base::{Many, Txt};
 use schematron_entries::Entry;
 use schematron_expansion::{Instance, RuleFile};
 use schematron_meaning::Attribute;
-use schematron_rules::{Expanded, Let, Phase, Rules, prefixes};
+use schematron_rules::{Compiled, Expanded, Let, Phase, prefixes};
 use std::alloc::{AllocError, Global};
 use xpath_types::Scope;
 
@@ -143,7 +143,7 @@ fn built_in<'d>(
     file: &RuleFile<'_, 'd>,
     scope: &mut Scope,
     instances: &[Instance<'_, 'd>],
-) -> Result<Rules, AllocError>
+) -> Result<Compiled, AllocError>
     requires scope { scope.old ≡ written.prefixes file.now.entries }
     requires instances { lent_instances instances.now ≡ expansion.instances file.now.entries }
     ensures { IfOk result (λ rules. seen_rules rules ≡ spec.compiled file.now) }
@@ -152,7 +152,7 @@ fn built_in<'d>(
     let default_phase = default_phase(alloc, &mut budget, file.entries())?;
     match schema_lets(alloc, &mut budget, file, scope) {
         Ok(lets) => match phases_and_patterns(alloc, &mut budget, file, scope, instances) {
-            Ok((phases, patterns)) => Ok(Rules {
+            Ok((phases, patterns)) => Ok(Compiled {
                 default_phase,
                 lets,
                 phases,
@@ -176,7 +176,7 @@ fn built_with<'d>(
     alloc: Global,
     file: &RuleFile<'_, 'd>,
     instances: &[Instance<'_, 'd>],
-) -> Result<Rules, AllocError>
+) -> Result<Compiled, AllocError>
     requires { lent_instances instances.now ≡ expansion.instances file.now.entries }
     ensures { IfOk result (λ rules. seen_rules rules ≡ spec.compiled file.now) }
 {
@@ -188,10 +188,9 @@ fn built_with<'d>(
 
 /// What the file says, whatever is wrong with it: a text that is refused as an expression says nothing.
 ///
-/// One scope grows and is cut back from element to element. More than 4,000,000 lets, rules, assertions and parts of
-/// messages, each counted wherever it is put, more than 1,000,000 in one rule that extends others, or more than
-/// 268,435,456 bytes of texts, as they are written and as they are made, count as want of memory.
-pub(crate) fn build(alloc: Global, file: &RuleFile<'_, '_>) -> Result<Rules, AllocError>
+/// One scope grows and is cut back from element to element. What comes to more than the caps of schematron_meaning counts
+/// as want of memory.
+pub(crate) fn build(alloc: Global, file: &RuleFile<'_, '_>) -> Result<Compiled, AllocError>
     ensures { IfOk result (λ rules. seen_rules rules ≡ spec.compiled file.now) }
 {
     let instances = file.instances(alloc)?;

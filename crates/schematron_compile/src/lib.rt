@@ -15,3 +15,5 @@ mod rules;
 mod texts;
 
 pub use compiling::{RuleFault, compile};
+pub use schematron_meaning::{AssertionKind, Attribute, ExpressionFault, PhaseFault, RuleKind};
+pub use schematron_rules::{Active, Assertion, Expanded, Let, Part, Phase, Rule, Rules, Shown};

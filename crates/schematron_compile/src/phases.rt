@@ -60,7 +60,7 @@ fn patterns_of<'d>(
     file: &RuleFile<'_, 'd>,
     places: &Places<'d>,
     element: u32,
-) -> Result<Many<usize>, AllocError>
+) -> Result<Many<u32>, AllocError>
     requires { ArePlaces (places_in places.now) (ids_of (expansion.instances file.now.entries)) }
     ensures { IfOk result (λ patterns. patterns ≡ spec.numbers_named (lookup.inside lookup.is_active file.now.entries element) 0 (expansion.instances file.now.entries)) }
 {
@@ -77,7 +77,7 @@ fn lets_and_patterns<'d>(
     scope: &mut Scope,
     places: &Places<'d>,
     element: u32,
-) -> Result<(Many<Let>, Many<usize>), AllocError>
+) -> Result<(Many<Let>, Many<u32>), AllocError>
     requires { ArePlaces (places_in places.now) (ids_of (expansion.instances file.now.entries)) }
     ensures lets { IfOk result (λ both. seen_lets both.0 ≡ spec.lets_behind [] scope.old (lookup.inside lookup.is_let file.now.entries element)) }
     ensures patterns { IfOk result (λ both. both.1 ≡ spec.numbers_named (lookup.inside lookup.is_active file.now.entries element) 0 (expansion.instances file.now.entries)) }

@@ -112,12 +112,30 @@ fn in_order(numbers: Vec<usize>) -> Vec<usize>
     ordered
 }
 
-fn listed(alloc: Global, numbers: &[usize]) -> Result<Many<usize>, AllocError>
+/// The number, in 32 bits. No file has as many patterns as there are numbers; one that had would count as want of memory.
+fn number_of(place: usize) -> Result<u32, AllocError>
+    ensures { IfOk result (λ number. number ≡ place) }
+{
+    match u32::try_from(place) {
+        Ok(number) => Ok(number),
+        Err(_) => Err(AllocError),
+    }
+}
+
+fn push_number(list: &mut Many<u32>, place: usize) -> Result<(), AllocError>
+    ensures { OnOk result (list.new ≡ list.old ++ place ∷ []) }
+{
+    let number = number_of(place)?;
+    list.push(number)?;
+    Ok(())
+}
+
+fn listed(alloc: Global, numbers: &[usize]) -> Result<Many<u32>, AllocError>
     ensures { IfOk result (λ list. list ≡ numbers.now) }
 {
     let mut list = Many::new(alloc);
     'numbers: for n in numbers {
-        list.push(*n)?;
+        push_number(&mut list, *n)?;
     }
     Ok(list)
 }
@@ -128,7 +146,7 @@ pub(crate) fn numbers_named<'d>(
     alloc: Global,
     places: &Places<'d>,
     actives: Vec<&Entry<'d>>,
-) -> Result<Many<usize>, AllocError>
+) -> Result<Many<u32>, AllocError>
     ensures { IfOk result (λ numbers. (instances : List expansion.Instance) → spec.ArePlaces (spec.places_in places.now) (spec.ids_of instances)
         → numbers ≡ meaning.numbers_named (lent_entries actives.entry.items) 0 instances) }
 {

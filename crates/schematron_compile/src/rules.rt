@@ -17,14 +17,11 @@ use crate::texts::shown;
 use inv_base::Many;
 use schematron_entries::Entry;
 use schematron_expansion::{Instance, Put, RuleFile, Sort};
-use schematron_meaning::Attribute;
+use schematron_meaning::{Attribute, MOST_THINGS_OF_A_RULE};
 use schematron_rules::{Assertion, Let, Rule};
 use schematron_texts::Parameters;
 use std::alloc::{AllocError, Global};
 use xpath_types::Scope;
-
-/// How many lets and assertions a rule that extends others has at most.
-const MOST_PUTS: usize = 1_000_000;
 
 /// The lets among what a rule has.
 fn lets_among<'e, 'd>(alloc: Global, puts: &[Put<'e, 'd>]) -> Result<Vec<&'e Entry<'d>>, AllocError>
@@ -152,7 +149,12 @@ fn rule_of(
     ensures scope { OnOk result (scope.new ≡ scope.old) }
 {
     budget.take_thing()?;
-    let puts = file.puts(alloc, MOST_PUTS, instance.stand, e.node.number())?;
+    let puts = file.puts(
+        alloc,
+        MOST_THINGS_OF_A_RULE,
+        instance.stand,
+        e.node.number(),
+    )?;
     let rule = rule_with(alloc, budget, file, instance, scope, e, &puts);
     drop(puts);
     rule

@@ -14,8 +14,7 @@ use std::alloc::{AllocError, Global};
 /// stand before it, and not behind the last element if one is given.
 ///
 /// All bytes of expressions that are judged and of names, and 16 for each thing, are counted over the whole file. More
-/// than 67,108,864 count as want of memory, and so do more than 16,777,216 turns of walks, so that a small file can't
-/// cost minutes.
+/// than `MOST_JUDGED_BYTES` count as want of memory, and so do more than `MOST_TURNS` of walks.
 pub(crate) fn first_expression(
     alloc: Global,
     file: &RuleFile<'_, '_>,

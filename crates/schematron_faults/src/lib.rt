@@ -38,8 +38,8 @@ use std::alloc::{AllocError, Global};
 ///
 /// Takes time in proportion to the entries and to the expressions, each wherever it is put. The bytes of those that are
 /// judged are counted over the whole file, with those of names of lets, and 16 for each thing that is gone over. More
-/// than 67,108,864 count as want of memory, and so do more than 16,777,216 turns of walks over what stands in elements
-/// and what `extends` puts, so that a small file can't cost minutes.
+/// than `MOST_JUDGED_BYTES` of schematron_meaning count as want of memory, and so do more than `MOST_TURNS` of walks over
+/// what stands in elements and what `extends` puts, so that a small file can't cost minutes.
 pub fn first_fault(alloc: Global, file: &RuleFile<'_, '_>) -> Result<Option<Fault>, AllocError>
     ensures { IfOk result (λ found. (nodes : List Node) → AreInOrder nodes → file.now ≡ file_of (entries nodes) → found ≡ first_fault nodes) }
 {

@@ -6,14 +6,8 @@ ghost use Rattle.schematron_faults.specs.Searching as spec;
 
 use schematron_expansion::{Found, sooner};
 use schematron_graph::Turns;
+use schematron_meaning::{MOST_JUDGED_BYTES, MOST_TURNS};
 use std::alloc::AllocError;
-
-/// How much is gone over at most: the bytes of all expressions that are judged and of all names that are declared, and
-/// a few more for each.
-const MOST_WORK: u64 = 67_108_864;
-
-/// How many turns are taken at most by walks over what stands in elements and over what `extends` puts.
-const MOST_TURNS: u64 = 16_777_216;
 
 /// How far a search is.
 #[derive(Clone, Copy)]
@@ -36,7 +30,7 @@ pub(crate) fn begin(best: Option<Found>, last: Option<u32>) -> Search
     Search {
         best,
         last,
-        left: MOST_WORK,
+        left: MOST_JUDGED_BYTES,
         turns: Turns { left: MOST_TURNS },
     }
 }

@@ -1,5 +1,6 @@
 use crate::attribute::Attribute;
 use node_arena::NodeId;
+use thiserror::Error;
 use xpath_tokens::token::SyntaxFault;
 use xpath_types::TypeKind;
 
@@ -35,6 +36,8 @@ pub enum RuleKind {
     Expression(ExpressionFault),
     /// More patterns, rules or assertions than may be, with those that are put where others are used.
     TooMany,
+    /// Memory ran out, or the file comes to more than it may. No file has this fault by itself.
+    Memory,
 }
 
 /// A fault of a rule file: its kind, the element that it tells, and the attribute if it has one.
@@ -46,10 +49,12 @@ pub struct Fault {
 }
 
 /// Why there is no phase of a name.
-#[derive(Clone, Copy, PartialEq, Eq)]
+#[derive(Clone, Copy, Debug, PartialEq, Eq, Error)]
 pub enum PhaseFault {
     /// No phase has the name, or it leads to none.
+    #[error("no such phase")]
     NoPhase,
     /// Memory ran out.
+    #[error("out of memory")]
     Memory,
 }

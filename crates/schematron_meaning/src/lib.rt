@@ -5,6 +5,7 @@
 mod around;
 mod assertion;
 mod attribute;
+mod caps;
 mod fault;
 mod key;
 mod role;
@@ -13,6 +14,9 @@ mod tag;
 pub use around::Around;
 pub use assertion::AssertionKind;
 pub use attribute::Attribute;
+pub use caps::{
+    MOST_BUILT_BYTES, MOST_JUDGED_BYTES, MOST_THINGS, MOST_THINGS_OF_A_RULE, MOST_TURNS,
+};
 pub use fault::{ExpressionFault, Fault, PhaseFault, RuleKind};
 pub use key::Space;
 pub use role::Role;

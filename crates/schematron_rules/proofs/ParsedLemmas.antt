@@ -5,7 +5,7 @@ use Rattle.xpath_tokens.specs.declared.token.SyntaxFault.{SyntaxFault}
 use Rattle.xpath_tokens.specs.declared.token.SyntaxFault.TheVariants as y
 use Rattle.xpath_tokens.specs.Tokens.{tokens_of, most_bytes, answer_of_characters}
 use Rattle.xpath_grammar.specs.Grammar as g
-use Rattle.xpath_grammar.specs.Grammar.{Tree}
+use Rattle.xpath_grammar.specs.Grammar.{Tree, Grammatical}
 use Rattle.xpath_grammar.specs.View.{view}
 use Rattle.xpath_grammar.specs.declared.expr.Expr.TheVariants as u
 use Rattle.xpath_grammar.proofs.ViewLaws.{view-leaf}
@@ -116,6 +116,11 @@ judges_planned is_pattern text scope tree (Err fault) (Ok plan) whole r h p = ab
 judges_planned is_pattern text scope tree (Err (f.Refused kind token)) (Err found) whole r h p = refused_so is_pattern text scope tree kind token found whole r h p
 judges_planned is_pattern text scope tree (Err f.Memory) (Err found) whole r h p = absurd p
 
+-- what was typed of a grammatical tree is grammatical
+pub typed_grammatical : (scope : Declared) (tree : Tree) (typed : Result TypedExpression TypeFault) → Grammatical tree → typings.Answers typed (typing_of scope tree) → spec.IsGrammatical typed
+typed_grammatical scope tree (Ok t) grammatical h = subst Grammatical (sym (kept_typing scope tree (typing t) h).0) grammatical
+typed_grammatical scope tree (Err fault) grammatical h = tt
+
 -- ---- calls
 
 ok_then : {A E : Type 0} (P Q : A → Type 0) (r : Result A E) → ((a : A) → P a → Q a) → IfOk r P → IfOk r Q
@@ -151,6 +156,13 @@ empty_typed scope = ap (λ tree. is_right (typing_of scope tree)) (view-leaf l.E
 
 pub empty_unrefused : {Y : Type 0} (scope : Declared) (fault : TypeFault) (kind : TypeKind) (token : ℕ) → fault ≡ f.Refused kind token → typings.Refuses fault (typing_of scope the_empty) → Y
 empty_unrefused scope fault kind token e h = absurd (true≢false (sym (empty_typed scope) ∙ ap is_right (subst (λ of. typings.Refuses of (typing_of scope the_empty)) e h)))
+
+empty_fits : Grammatical the_empty
+unfolding Grammatical
+empty_fits = subst Grammatical (sym (view-leaf l.Empty)) refl
+
+pub empty_grammatical : (scope : Declared) (t : TypedExpression) → typing_of scope the_empty ≡ Ok (typing t) → Grammatical (view t.expression)
+empty_grammatical scope t h = subst Grammatical (sym (kept_typing scope the_empty (typing t) h).0) empty_fits
 
 leaf_resolved : (scope : Declared) → resolved scope [] (g.leaf l.Empty) ≡ e.nothing
 unfolding resolved

@@ -7,7 +7,6 @@ use Rattle.schematron_meaning.specs.Rules.{Phase}
 use Rattle.schematron_meaning.specs.Phases as phases
 use Rattle.schematron_meaning.specs.declared.fault.PhaseFault.{PhaseFault}
 use Rattle.schematron_rules.specs.declared.rules.Phase.{Phase as Held}
-use Rattle.schematron_rules.specs.declared.rules.Active.{Active}
 use Rattle.schematron_rules.specs.Seen.{seen_phase, seen_phases}
 use Rattle.schematron_rules.specs.Answers.{PhaseAnswers}
 
@@ -33,7 +32,7 @@ from_false : (name : List ℕ) (n : ℕ) (phase : Phase) (others : List Phase) �
 from_false name n phase others h = ap (λ (b : Bool). elim b as (λ _. Option phases.Active) [ true ↦ Some (record { phase = Some n; patterns = phase.patterns }) | false ↦ phases.phase_from name (suc n) others ]) h
     ∙ ap (λ k. phases.phase_from name k others) (let on : suc n ≡ n + 1 = omega arith in on)
 
-pub phase_found : (name : List ℕ) (all : List Held) (n : ℕ) (p : Held) (result : Result Active PhaseFault) (answer : Option phases.Active) → n < length all → p ≡ get_or all n p → phases.has_id name (seen_phase p) ≡ true
+pub phase_found : (name : List ℕ) (all : List Held) (n : ℕ) (p : Held) (result : Result phases.Active PhaseFault) (answer : Option phases.Active) → n < length all → p ≡ get_or all n p → phases.has_id name (seen_phase p) ≡ true
     → phases.phase_from name n (seen_phases (drop n all)) ≡ answer → PhaseAnswers result (Some (record { phase = Some n; patterns = p.patterns })) → PhaseAnswers result answer
 phase_found name all n p result answer within here h left found = subst (PhaseAnswers result)
     (sym (ap (phases.phase_from name n) (front all n p within here) ∙ from_true name n (seen_phase p) (seen_phases (drop (n + 1) all)) h) ∙ left) found

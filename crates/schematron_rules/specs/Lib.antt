@@ -1,4 +1,5 @@
 pub mod Seen
+pub mod Said
 pub mod Answers
 pub mod PlanAnswers
 pub mod Parsed

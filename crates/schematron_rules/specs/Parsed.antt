@@ -2,6 +2,7 @@
 use Rattle.std.specs.Prelude.{◌≡◌, [], Result, Ok, Err}
 use Rattle.xpath_tokens.specs.declared.token.SyntaxFault.{SyntaxFault}
 use Rattle.xpath_tokens.specs.declared.token.SyntaxFault.TheVariants as y
+use Rattle.xpath_grammar.specs.Grammar.{Grammatical}
 use Rattle.xpath_grammar.specs.View.{view}
 use Rattle.xpath_types.specs.declared.fault.TypeFault.{TypeFault}
 use Rattle.xpath_types.specs.declared.fault.TypeFault.TheVariants as f
@@ -27,3 +28,8 @@ IsPlanned (Ok typed) (Ok plan) = expression plan ≡ resolved typed.declared [] 
 IsPlanned (Ok typed) (Err found) = ⊥
 IsPlanned (Err fault) (Ok plan) = ⊥
 IsPlanned (Err fault) (Err found) = IsRefused fault found
+
+-- What was typed is grammatical.
+abbrev pub IsGrammatical : Result TypedExpression TypeFault → Type 0
+IsGrammatical (Ok typed) = Grammatical (view typed.expression)
+IsGrammatical (Err fault) = Unit {0}

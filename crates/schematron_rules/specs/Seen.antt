@@ -1,5 +1,5 @@
 -- The rules of a file as the definitions have them.
-use Rattle.std.specs.Prelude.{ℕ, List, map}
+use Rattle.std.specs.Prelude.{ℕ, List, [], map, slice_get, Option, Some, None}
 use Rattle.xpath_plan.specs.Plans.{expression}
 use Rattle.schematron_meaning.specs.Rules as spec
 use Rattle.schematron_meaning.specs.Phases as phases
@@ -11,8 +11,7 @@ use Rattle.schematron_rules.specs.declared.rules.Assertion.{Assertion}
 use Rattle.schematron_rules.specs.declared.rules.Rule.{Rule}
 use Rattle.schematron_rules.specs.declared.rules.Expanded.{Expanded}
 use Rattle.schematron_rules.specs.declared.rules.Phase.{Phase}
-use Rattle.schematron_rules.specs.declared.rules.Rules.{Rules}
-use Rattle.schematron_rules.specs.declared.rules.Active.{Active}
+use Rattle.schematron_rules.specs.declared.rules.Compiled.{Compiled}
 
 abbrev pub seen_let : Let → spec.Let
 seen_let x = record { name = x.name; value = expression x.plan }
@@ -43,8 +42,22 @@ seen_phase x = record { id = x.id; lets = seen_lets x.lets; patterns = x.pattern
 abbrev pub seen_phases : List Phase → List spec.Phase
 seen_phases phases = map seen_phase phases
 
-abbrev pub seen_rules : Rules → spec.Rules
-seen_rules x = record { default_phase = x.default_phase; lets = seen_lets x.lets; phases = seen_phases x.phases; patterns = map seen_pattern x.patterns }
+abbrev pub seen_compiled : Compiled → spec.Rules
+seen_compiled x = record { default_phase = x.default_phase; lets = seen_lets x.lets; phases = seen_phases x.phases; patterns = map seen_pattern x.patterns }
 
-abbrev pub seen_active : Active → phases.Active
-seen_active x = record { phase = x.phase; patterns = x.patterns }
+-- what contracts see of rules is what the file comes to
+abbrev pub seen_rules : Compiled → spec.Rules
+seen_rules x = seen_compiled x
+
+-- what contracts see of what is active is that
+abbrev pub seen_active : phases.Active → phases.Active
+seen_active x = x
+
+-- the lets of the phase of that number
+abbrev pub lets_in : List Phase → ℕ → List Let
+lets_in phases n = elim (slice_get phases n) [ None ↦ [] | Some phase ↦ phase.lets ]
+
+-- the lets of the schema, or of the phase of that number
+abbrev pub all_lets : Compiled → Option ℕ → List Let
+all_lets x None = x.lets
+all_lets x (Some n) = lets_in x.phases n

@@ -14,6 +14,7 @@ use std::alloc::{AllocError, Global};
 use xpath_grammar::expr::{Expr, Leaf};
 use xpath_grammar::pattern::Pattern;
 use xpath_plan::{Plan, compile};
+use xpath_syntax::laws::answers_are_grammatical;
 use xpath_syntax::{parse, parse_pattern};
 use xpath_tokens::token::SyntaxFault;
 use xpath_types::{Scope, TypeFault, Typed, check, check_pattern};
@@ -42,6 +43,7 @@ pub fn judged(
 ) -> Result<Result<Plan, ExpressionFault>, AllocError>
     ensures { IfOk result (λ answer. Judges is_pattern (chars text.now) scope.now answer) }
 {
+    answers_are_grammatical();
     if is_pattern {
         match parse_pattern(alloc, text) {
             Ok(pattern) => {
@@ -115,6 +117,7 @@ fn planned(
     alloc: Global,
     typed: Result<Typed<'_>, TypeFault>,
 ) -> Result<Result<Plan, ExpressionFault>, AllocError>
+    requires { spec.IsGrammatical typed }
     ensures { IfOk result (λ answer. spec.IsPlanned typed.entry answer) }
 {
     match typed {

@@ -8,5 +8,5 @@ mod rules;
 mod scopes;
 
 pub use expressions::{fault_of, judged, plan_of};
-pub use rules::{Active, Assertion, Expanded, Let, Part, Phase, Rule, Rules, Shown};
+pub use rules::{Active, Assertion, Compiled, Expanded, Let, Part, Phase, Rule, Rules, Shown};
 pub use scopes::{declare_let, declare_lets, prefixes};

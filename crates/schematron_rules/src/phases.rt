@@ -6,7 +6,7 @@ ghost use Rattle.schematron_meaning.specs.Phases as phases;
 ghost use Rattle.schematron_rules.specs.Seen.{seen_rules, seen_phase, seen_phases, seen_active};
 ghost use Rattle.schematron_rules.specs.Answers.{PhaseAnswers};
 
-use crate::rules::{Active, Phase, Rules};
+use crate::rules::{Active, Compiled, Phase, Rules};
 use inv_base::{Many, Txt, is_same_text};
 use schematron_meaning::PhaseFault;
 use std::alloc::{AllocError, Global};
@@ -21,10 +21,11 @@ impl Rules {
     pub fn phase(&self, alloc: Global, name: &str) -> Result<Active, PhaseFault>
         ensures { PhaseAnswers result (phases.active_of (seen_rules self.now) (chars name.now)) }
     {
+        let compiled = &self.compiled;
         if is_default(name) {
-            by_default(alloc, self)
+            by_default(alloc, compiled)
         } else {
-            by_name(alloc, self, name)
+            by_name(alloc, compiled, name)
         }
     }
 }
@@ -41,8 +42,19 @@ fn is_all(name: &str) -> bool
     is_same_text(name, ALL)
 }
 
+/// The number, in 32 bits. No file has as many patterns or phases as there are numbers; one that had would count as
+/// want of memory.
+fn number_of(place: usize) -> Result<u32, AllocError>
+    ensures { IfOk result (λ number. number ≡ place) }
+{
+    match u32::try_from(place) {
+        Ok(number) => Ok(number),
+        Err(_) => Err(AllocError),
+    }
+}
+
 /// The numbers below a count.
-fn numbers_below(alloc: Global, count: usize) -> Result<Many<usize>, AllocError>
+fn numbers_below(alloc: Global, count: u32) -> Result<Many<u32>, AllocError>
     ensures { IfOk result (λ numbers. numbers ≡ range_with_len 0 count) }
 {
     let mut numbers = Many::new(alloc);
@@ -52,11 +64,19 @@ fn numbers_below(alloc: Global, count: usize) -> Result<Many<usize>, AllocError>
     Ok(numbers)
 }
 
+/// The numbers of so many patterns.
+fn all_numbers(alloc: Global, count: usize) -> Result<Many<u32>, AllocError>
+    ensures { IfOk result (λ numbers. numbers ≡ range_with_len 0 count) }
+{
+    let count = number_of(count)?;
+    numbers_below(alloc, count)
+}
+
 /// All patterns.
-fn all_active(alloc: Global, rules: &Rules) -> Result<Active, PhaseFault>
+fn all_active(alloc: Global, rules: &Compiled) -> Result<Active, PhaseFault>
     ensures { PhaseAnswers result (Some (phases.all_active (seen_rules rules.now))) }
 {
-    match numbers_below(alloc, rules.patterns.len()) {
+    match all_numbers(alloc, rules.patterns.len()) {
         Ok(patterns) => Ok(Active {
             phase: None,
             patterns,
@@ -65,7 +85,7 @@ fn all_active(alloc: Global, rules: &Rules) -> Result<Active, PhaseFault>
     }
 }
 
-fn by_default(alloc: Global, rules: &Rules) -> Result<Active, PhaseFault>
+fn by_default(alloc: Global, rules: &Compiled) -> Result<Active, PhaseFault>
     ensures { PhaseAnswers result (phases.by_default (seen_rules rules.now) rules.now.default_phase) }
 {
     match &rules.default_phase {
@@ -74,7 +94,7 @@ fn by_default(alloc: Global, rules: &Rules) -> Result<Active, PhaseFault>
     }
 }
 
-fn named_by_default(alloc: Global, rules: &Rules, name: &Txt) -> Result<Active, PhaseFault>
+fn named_by_default(alloc: Global, rules: &Compiled, name: &Txt) -> Result<Active, PhaseFault>
     ensures { PhaseAnswers result (phases.by_default (seen_rules rules.now) (Some name.now)) }
 {
     if is_default(name.as_str()) {
@@ -84,7 +104,7 @@ fn named_by_default(alloc: Global, rules: &Rules, name: &Txt) -> Result<Active, 
     }
 }
 
-fn by_name(alloc: Global, rules: &Rules, name: &str) -> Result<Active, PhaseFault>
+fn by_name(alloc: Global, rules: &Compiled, name: &str) -> Result<Active, PhaseFault>
     ensures { PhaseAnswers result (phases.by_name (seen_rules rules.now) (chars name.now)) }
 {
     if is_all(name) {
@@ -103,7 +123,7 @@ fn has_id(phase: &Phase, name: &str) -> bool
     }
 }
 
-fn copied(alloc: Global, numbers: &[usize]) -> Result<Many<usize>, AllocError>
+fn copied(alloc: Global, numbers: &[u32]) -> Result<Many<u32>, AllocError>
     ensures { IfOk result (λ copy. copy ≡ numbers.now) }
 {
     let mut copy = Many::new(alloc);
@@ -113,15 +133,25 @@ fn copied(alloc: Global, numbers: &[usize]) -> Result<Many<usize>, AllocError>
     Ok(copy)
 }
 
+/// The phase of that number.
+fn active_in(alloc: Global, number: u32, phase: &Phase) -> Result<Active, PhaseFault>
+    ensures { PhaseAnswers result (Some (record { phase = Some number; patterns = phase.now.patterns })) }
+{
+    match copied(alloc, phase.patterns.as_slice()) {
+        Ok(patterns) => Ok(Active {
+            phase: Some(number),
+            patterns,
+        }),
+        Err(_) => Err(PhaseFault::Memory),
+    }
+}
+
 /// The phase of that place.
 fn active_at(alloc: Global, n: usize, phase: &Phase) -> Result<Active, PhaseFault>
     ensures { PhaseAnswers result (Some (record { phase = Some n; patterns = phase.now.patterns })) }
 {
-    match copied(alloc, phase.patterns.as_slice()) {
-        Ok(patterns) => Ok(Active {
-            phase: Some(n),
-            patterns,
-        }),
+    match number_of(n) {
+        Ok(number) => active_in(alloc, number, phase),
         Err(_) => Err(PhaseFault::Memory),
     }
 }

@@ -2,13 +2,18 @@
 use Rattle.std.proofs.Common.{◌≡◌, ℕ, ◌+◌, ◌<◌, ◌≤◌, List, [], ◌∷◌, ◌++◌, length, map, take, drop, get_or, ap, sym, ◌∙◌, append_assoc, append-nil}
 use Rattle.std.proofs.Math.Seq.{take-append_seam}
 use Rattle.std.proofs.lemmas.List.{drop_all}
+use Rattle.std.proofs.lemmas.Option.{slice_get-map}
+use Rattle.std.specs.Prelude.{Option, Some, None, option_map, refl, slice_get}
 use Rattle.inv_base.specs.Tree.{Node}
 use Rattle.xpath_meaning.specs.Values.{Value}
 use Rattle.xpath_meaning.specs.Meaning.{mean, at_top}
 use Rattle.xpath_steps.specs.Variables.{ValueWithin, ValuesWithin}
-use Rattle.schematron_meaning.specs.Rules.{Let as SeenLet}
+use Rattle.schematron_meaning.specs.Rules.{Let as SeenLet, Phase as SeenPhase}
+use Rattle.schematron_rules.specs.declared.rules.Let.{Let}
+use Rattle.schematron_rules.specs.declared.rules.Phase.{Phase}
+use Rattle.schematron_rules.specs.Seen.{seen_lets, seen_phase, seen_phases, lets_in}
 use Rattle.schematron_run.specs.declared.ready.ReadyLet.{ReadyLet}
-use Rattle.schematron_run.specs.Judging.{Variables, filled}
+use Rattle.schematron_run.specs.Judging.{Variables, filled, lets_of}
 use Rattle.schematron_run.specs.Ready.{ready_let}
 use Rattle.schematron_run.proofs.ListLemmas.{drop_item}
 
@@ -39,3 +44,15 @@ pub cut_off : (nodes : List Node) (n : ℕ) (lets : List SeenLet) (outer : Varia
 cut_off nodes n lets outer =
     let r : (added : Variables) × (filled nodes n lets outer ≡ outer ++ added) = filled_front nodes n lets outer in
     ap (take (length outer)) r.1 ∙ take-append_seam outer r.0
+
+-- the lets of a phase, as the definitions have them
+
+abbrev lets_found : Option SeenPhase → List SeenLet
+lets_found found = elim found as (λ _. List SeenLet) [ None ↦ [] | Some phase ↦ phase.lets ]
+
+found_so : (found : Option Phase) → seen_lets (elim found as (λ _. List Let) [ None ↦ [] | Some phase ↦ phase.lets ]) ≡ lets_found (option_map seen_phase found)
+found_so None = refl
+found_so (Some phase) = refl
+
+pub phase_lets : (phases : List Phase) (n : ℕ) → seen_lets (lets_in phases n) ≡ lets_of (seen_phases phases) (Some n)
+phase_lets phases n = found_so (slice_get phases n) ∙ sym (ap lets_found (slice_get-map seen_phase phases n))

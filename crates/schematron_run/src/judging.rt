@@ -3,10 +3,12 @@ ghost use Rattle.std.specs.Prelude.{◌≡◌, length, IfOk, OnOk};
 ghost use Rattle.node_arena.specs.Moves.{tree_nodes};
 ghost use Rattle.xpath_steps.specs.Variables.{ValuesWithin};
 ghost use Rattle.schematron_rules.specs.Seen.{seen_rules, seen_active};
+ghost use Rattle.schematron_rules.specs.Said.{CameFrom};
 ghost use Rattle.schematron_run.specs.Contexts.{HasPatterns};
 ghost use Rattle.schematron_run.specs.Judging as spec;
 ghost use Rattle.schematron_run.specs.Scenes.{nodes_of, count, IsSet};
 
+use crate::law::compiled_rules_have_patterns;
 use crate::lets::{fill_once, lets_of};
 use crate::patterns::judge_patterns;
 use crate::scene::Scene;
@@ -40,8 +42,8 @@ fn file_variables<'a, L: Ledger>(
 {
     let mut env = Env::new(scene.alloc);
     let document = scene.doc.document();
-    fill_once(scene, rules.lets.as_slice(), document, &mut env, steps)?;
-    let lets = lets_of(rules.phases.as_slice(), active.phase);
+    fill_once(scene, rules.all_lets(None), document, &mut env, steps)?;
+    let lets = lets_of(rules, active.phase());
     fill_once(scene, lets, document, &mut env, steps)?;
     Ok(env)
 }
@@ -62,8 +64,8 @@ fn found_in<L: Ledger>(
     let mut findings = Findings::new(scene.alloc);
     judge_patterns(
         scene,
-        rules.patterns.as_slice(),
-        active.patterns.as_slice(),
+        rules.parts(),
+        active.parts(),
         &mut env,
         &mut table,
         &mut findings,
@@ -73,8 +75,8 @@ fn found_in<L: Ledger>(
 }
 
 /// All that the patterns that are active find in a document, pattern by pattern and in each node by node (ISO/IEC
-/// 19757-3, section 6): each node is judged by the first rule of the pattern whose context matches it. The number of a
-/// phase or a pattern that the rules haven't finds nothing. The only error is want of memory.
+/// 19757-3, section 6): each node is judged by the first rule of the pattern whose context matches it. What is active is
+/// what the rules say is active by some name. The only error is want of memory.
 ///
 /// A pattern costs what its contexts and its tests cost, and not a pass over all nodes besides; the names of its plans
 /// are looked up in the document once. Each move in the document takes a step.
@@ -85,9 +87,11 @@ pub fn judge<L: Ledger>(
     doc: &Doc<'_>,
     steps: &mut Steps<L>,
 ) -> Result<Findings, AllocError>
-    requires { HasPatterns (seen_rules rules.now) }
+    requires { CameFrom (seen_rules rules.now) (seen_active active.now) }
     ensures { IfOk result (λ found. found ≡ spec.findings (seen_rules rules.now) (seen_active active.now) (tree_nodes doc.now)) }
 {
+    rules.are_of_a_file();
+    compiled_rules_have_patterns();
     let ordinals = Ordinals::new(alloc, doc, steps)?;
     let scene = Scene {
         alloc,

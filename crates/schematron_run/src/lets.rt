@@ -12,7 +12,7 @@ use crate::scene::Scene;
 use crate::values::value_at;
 use inv_base::Steps;
 use node_arena::NodeId;
-use schematron_rules::{Let, Phase};
+use schematron_rules::{Let, Rules};
 use std::alloc::AllocError;
 use std::sync::ledger::Ledger;
 use xpath_run::Env;
@@ -74,21 +74,12 @@ pub(crate) fn fill_once<'a, L: Ledger>(
     fill(scene, ready.as_slice(), n, env, steps)
 }
 
-/// The variables of the phase of that place.
-pub(crate) fn lets_of<'r>(phases: &'r [Phase], phase: Option<usize>) -> &'r [Let]
-    ensures { seen_lets result.now ≡ spec.lets_of (seen_phases phases.now) phase }
+/// The variables of the phase of that number.
+pub(crate) fn lets_of(rules: &Rules, phase: Option<u32>) -> &[Let]
+    ensures { seen_lets result.now ≡ spec.lets_of (seen_phases rules.now.phases) phase }
 {
     match phase {
         None => &[],
-        Some(n) => lets_at(phases, n),
-    }
-}
-
-fn lets_at<'r>(phases: &'r [Phase], n: usize) -> &'r [Let]
-    ensures { seen_lets result.now ≡ spec.lets_of (seen_phases phases.now) (Some n) }
-{
-    match phases.get(n) {
-        None => &[],
-        Some(phase) => phase.lets.as_slice(),
+        Some(n) => rules.all_lets(Some(n)),
     }
 }

@@ -15,3 +15,4 @@ mod values;
 
 pub use judging::judge;
 pub use law::compiled_rules_have_patterns;
+pub use schematron_findings::{Finding, FindingKind, Findings, Line};

@@ -131,7 +131,7 @@ fn judge_by_number<'a, L: Ledger>(
 pub(crate) fn judge_patterns<'a, L: Ledger>(
     scene: &Scene<'_, 'a>,
     patterns: &[Expanded],
-    numbers: &[usize],
+    numbers: &[u32],
     env: &mut Env<'a>,
     table: &mut [Option<u32>],
     findings: &mut Findings,
@@ -145,7 +145,7 @@ pub(crate) fn judge_patterns<'a, L: Ledger>(
     ensures { OnOk result (findings.new ≡ findings.old ++ flat_map (spec.by_number (nodes_of scene.now) env.old (map seen_pattern patterns.now)) numbers.now) }
 {
     'numbers: for k in numbers {
-        judge_by_number(scene, patterns, *k, env, table, findings, steps)?;
+        judge_by_number(scene, patterns, *k as usize, env, table, findings, steps)?;
     }
     Ok(())
 }

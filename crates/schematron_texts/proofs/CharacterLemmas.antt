@@ -15,7 +15,7 @@ pub same_text : (a b : List ℕ) → IsUtf8 a → IsUtf8 b → bytes_eq (chars a
 same_text a b u v = same_from_decides _ _ (bytes_eq-Decides (chars a) (chars b))
     (Decides-like _ (λ e. ap chars e) (λ e. sym (encodes-chars a u) ∙ (ap encode_utf8_all e ∙ encodes-chars b v)) (bytes_eq-Decides a b))
 
-one_character : (c : ℕ) → IsUtf8 (encode c) → chars (encode c) ≡ c ∷ []
+pub one_character : (c : ℕ) → IsUtf8 (encode c) → chars (encode c) ≡ c ∷ []
 one_character c u = ap chars (sym (append-nil (encode c))) ∙ (chars_past_char (encode c ++ []) [] c (let e : IsUtf8 (encode c ++ []) = rw append-nil u in e) refl ∙ ap (λ x. c ∷ x) chars-nil)
 
 pub character_behind : (old new : List ℕ) (c : ℕ) → IsUtf8 old → IsUtf8 (encode c) → new ≡ old ++ encode c → chars new ≡ chars old ++ c ∷ []
@@ -25,9 +25,8 @@ pub character_pushed : {E : Type 0} (r : Result (Unit {0}) E) (old new : List �
 character_pushed (Ok x) old new c uo uc e = character_behind old new c uo uc e
 character_pushed (Err x) old new c uo uc e = tt
 
-pub text_pushed : {E : Type 0} (r : Result (Unit {0}) E) (old piece new : List ℕ) → IsUtf8 old → new ≡ (if is_ok r then old ++ piece else old) → OnOk r (chars new ≡ chars old ++ chars piece)
-text_pushed (Ok x) old piece new u e = ap chars e ∙ chars-append old piece u
-text_pushed (Err x) old piece new u e = tt
+pub text_behind : (old piece new : List ℕ) → IsUtf8 old → new ≡ old ++ piece → chars new ≡ chars old ++ chars piece
+text_behind old piece new u e = ap chars e ∙ chars-append old piece u
 
 -- the member at the place, and those behind it
 pub rest_at : {X : Type 0} (xs : List X) (k : ℕ) (x : X) → (k < length xs) × (x ≡ get_or xs k x) → drop k xs ≡ x ∷ drop (k + 1) xs

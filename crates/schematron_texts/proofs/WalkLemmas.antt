@@ -1,14 +1,15 @@
 -- One walk over a text makes what `replaced` says.
-use Rattle.std.proofs.Common.{◌≡◌, ℕ, zero, suc, ◌+◌, ◌<◌, ◌≤◌, Bool, true, false, cond, List, [], ◌∷◌, ◌++◌, length, take, Option, Some, None, refl, ap, sym, ◌∙◌, append_assoc, append-nil, arith, length-append, ◌⊎◌, inl, inr, true≢false, chars}
-use Rattle.std.specs.Prelude.{◌==◌, nat_eq, unwrap_or, encode_utf8_all, Result, Ok, Err, OnOk}
+use Rattle.std.proofs.Common.{◌≡◌, ℕ, zero, suc, ◌+◌, ◌<◌, ◌≤◌, Bool, true, false, cond, List, [], ◌∷◌, ◌++◌, length, take, Option, Some, None, refl, ap, sym, subst, ◌∙◌, append_assoc, append-nil, arith, length-append, ◌⊎◌, inl, inr, true≢false, chars}
+use Rattle.std.specs.Prelude.{◌==◌, nat_eq, unwrap_or, encode_utf8_all, Result, Ok, Err, IfOk}
 use Rattle.std.specs.Str.{IsUtf8}
 use Rattle.std.proofs.lemmas.Str.{chars-nil, encodes-chars, encodes-append}
 use Rattle.std.specs.List.{prefix_len}
 use Rattle.std.proofs.lemmas.Bool.Decides.{nat_tests}
 use Rattle.inv_base.specs.Characters.{is_name_start, is_name_char}
 use Rattle.schematron_texts.specs.Replacing.{Parameter, value_of, name_length, value_before, value_at, replaced_behind, replaced, bytes_of}
-use Rattle.schematron_texts.specs.Walking.{goes_on, value_for, put, walked}
-use lib.Utf8.{encodes}
+use Rattle.schematron_texts.specs.Walking.{IsMade, goes_on, value_for, put, walked}
+use Rattle.schematron_texts.proofs.CharacterLemmas.{one_character}
+use lib.Utf8.{encode, encodes}
 
 bool_cases : (b : Bool) → (b ≡ true) ⊎ (b ≡ false)
 bool_cases true = inl refl
@@ -16,6 +17,12 @@ bool_cases false = inr refl
 
 same_number : (c d : ℕ) → (c == d) ≡ true → c ≡ d
 same_number c d e = grind (arith, nat_tests)
+
+pub is_equal : (c d : ℕ) → c ≡ d → (c == d) ≡ true
+is_equal c d e = grind (arith, nat_tests)
+
+pub is_apart : (c d : ℕ) → (c ≡ d → ⊥) → (c == d) ≡ false
+is_apart c d h = elim (bool_cases (c == d)) [ inl same ↦ absurd (h (same_number c d same)) | inr other ↦ other ]
 
 -- `$` is no character of a name
 dollar_char : is_name_char 36 ≡ false
@@ -192,12 +199,6 @@ goes_on-more name c u e = let s = some_name name (chars name) u e refl in ap (λ
 pub value_for-more : (parameters : List Parameter) (name : List ℕ) → IsUtf8 name → nat_eq (length name) 0 ≡ false → value_of parameters (chars name) ≡ value_for parameters (chars name)
 value_for-more parameters name u e = let s = some_name name (chars name) u e refl in ap (value_of parameters) s.2 ∙ ap (value_for parameters) (sym s.2)
 
-pub is_equal : (c d : ℕ) → c ≡ d → (c == d) ≡ true
-is_equal c d e = grind (arith, nat_tests)
-
-pub is_apart : (c d : ℕ) → (c ≡ d → ⊥) → (c == d) ≡ false
-is_apart c d h = elim (bool_cases (c == d)) [ inl same ↦ absurd (h (same_number c d same)) | inr other ↦ other ]
-
 -- a character where no name is open
 pub outside-dollar : (parameters : List Parameter) (out name new_name : List ℕ) (opened : Bool) (c : ℕ) (rest : List ℕ) → opened ≡ false → (c == 36) ≡ true → new_name ≡ []
     → out ++ walked parameters true new_name rest ≡ out ++ walked parameters opened name (c ∷ rest)
@@ -215,57 +216,81 @@ outside-plain parameters out grown name opened c rest o e g =
     ∙ (sym (ap (λ b. out ++ (elim b as (λ _. List ℕ) [ true ↦ walked parameters true [] rest | false ↦ c ∷ walked parameters false name rest ])) e)
     ∙ ap (λ b. out ++ walked parameters b name (c ∷ rest)) (sym o))))
 
-pub outside-pushed : {E : Type 0} (r : Result (Unit {0}) E) (out grown name : List ℕ) (opened : Bool) (c : ℕ) → opened ≡ false → (c == 36) ≡ false → OnOk r (grown ≡ out ++ c ∷ [])
-    → OnOk r ((parameters : List Parameter) (rest : List ℕ) → grown ++ walked parameters opened name rest ≡ out ++ walked parameters opened name (c ∷ rest))
-outside-pushed (Ok x) out grown name opened c o e g = λ parameters rest. outside-plain parameters out grown name opened c rest o e g
-outside-pushed (Err x) out grown name opened c o e g = tt
+-- What fits was made, and what doesn't has more bytes.
+
+pub all_made : (most : ℕ) (fits : Bool) (whole made : List ℕ) → fits ≡ true → IsMade most fits whole made → made ≡ whole
+all_made most true whole made e h = h
+all_made most false whole made e h = absurd (true≢false (sym e))
+
+pub too_much : (most : ℕ) (fits : Bool) (whole made : List ℕ) → fits ≡ false → IsMade most fits whole made → most < bytes_of whole
+too_much most true whole made e h = absurd (true≢false e)
+too_much most false whole made e h = h
+
+-- what is too long is so with what stands behind it
+longer : (most : ℕ) (front rest : List ℕ) → most < bytes_of front → most < bytes_of (front ++ rest)
+longer most front rest h = omega (arith, h, ap length (encodes-append front rest), length-append (encodes front) (encodes rest))
+
+pub outside-pushed : {E : Type 0} (r : Result Bool E) (most : ℕ) (out grown name : List ℕ) (opened : Bool) (c : ℕ) → opened ≡ false → (c == 36) ≡ false → IfOk r (λ fits. IsMade most fits (out ++ c ∷ []) grown)
+    → IfOk r (λ fits. (parameters : List Parameter) (rest : List ℕ) → IsMade most fits (out ++ walked parameters opened name (c ∷ rest)) (grown ++ walked parameters opened name rest))
+outside-pushed (Ok true) most out grown name opened c o e g = λ parameters rest. outside-plain parameters out grown name opened c rest o e g
+outside-pushed (Ok false) most out grown name opened c o e g = λ parameters rest.
+    subst (λ t. most < bytes_of t) (outside-plain parameters out (out ++ c ∷ []) name opened c rest o e refl) (longer most (out ++ c ∷ []) (walked parameters opened name rest) g)
+outside-pushed (Err x) most out grown name opened c o e g = tt
+
+-- what is made for any parameters is made for these
+pub outside-taken : {E : Type 0} (r : Result Bool E) (most : ℕ) (parameters : List Parameter) (whole made : List Parameter → List ℕ → List ℕ)
+    → IfOk r (λ fits. (parameters : List Parameter) (rest : List ℕ) → IsMade most fits (whole parameters rest) (made parameters rest))
+    → IfOk r (λ fits. (rest : List ℕ) → IsMade most fits (whole parameters rest) (made parameters rest))
+outside-taken (Ok fits) most parameters whole made h = h parameters
+outside-taken (Err x) most parameters whole made h = tt
 
 -- a character with which the name goes on
-pub inside-more : {E : Type 0} (r : Result (Unit {0}) E) (parameters : List Parameter) (out name longer : List ℕ) (opened : Bool) (c : ℕ) → opened ≡ true → goes_on name c ≡ true
-    → OnOk r (longer ≡ name ++ c ∷ []) → OnOk r ((rest : List ℕ) → out ++ walked parameters opened longer rest ≡ out ++ walked parameters opened name (c ∷ rest))
-inside-more (Ok x) parameters out name longer opened c o goes g = λ rest.
+pub inside-more : (parameters : List Parameter) (out name longer : List ℕ) (opened : Bool) (c : ℕ) → opened ≡ true → goes_on name c ≡ true
+    → longer ≡ name ++ c ∷ [] → (rest : List ℕ) → out ++ walked parameters opened longer rest ≡ out ++ walked parameters opened name (c ∷ rest)
+inside-more parameters out name longer opened c o goes g rest =
     ap (λ b. out ++ walked parameters b longer rest) o
     ∙ (ap (λ n. out ++ walked parameters true n rest) g
     ∙ (sym (ap (λ b. out ++ inside_by parameters b name c rest) goes) ∙ ap (λ b. out ++ walked parameters b name (c ∷ rest)) (sym o)))
-inside-more (Err x) parameters out name longer opened c o goes g = tt
 
 -- a character before which the name ends
-pub inside-closed : {E : Type 0} (r : Result (Unit {0}) E) (parameters : List Parameter) (out grown made name after later : List ℕ) (opened closed later_open : Bool) (c : ℕ) → opened ≡ true → goes_on name c ≡ false
-    → grown ≡ out ++ put parameters name → closed ≡ false
-    → OnOk r ((parameters : List Parameter) (rest : List ℕ) → made ++ walked parameters later_open later rest ≡ grown ++ walked parameters closed after (c ∷ rest))
-    → OnOk r ((rest : List ℕ) → made ++ walked parameters later_open later rest ≡ out ++ walked parameters opened name (c ∷ rest))
-inside-closed (Ok x) parameters out grown made name after later opened closed later_open c o ends g k h = λ rest.
-    h parameters rest
-    ∙ (ap (λ b. grown ++ walked parameters b after (c ∷ rest)) k
+inside-ended : (parameters : List Parameter) (out grown name after : List ℕ) (opened closed : Bool) (c : ℕ) → opened ≡ true → goes_on name c ≡ false
+    → grown ≡ out ++ put parameters name → closed ≡ false → (rest : List ℕ) → grown ++ walked parameters closed after (c ∷ rest) ≡ out ++ walked parameters opened name (c ∷ rest)
+inside-ended parameters out grown name after opened closed c o ends g k rest =
+    ap (λ b. grown ++ walked parameters b after (c ∷ rest)) k
     ∙ (ap (λ t. t ++ walked parameters false after (c ∷ rest)) g
     ∙ (append_assoc out (put parameters name) (walked parameters false after (c ∷ rest))
     ∙ (ap (λ t. out ++ (put parameters name ++ t)) (walked-is parameters after (c ∷ rest) ∙ sym (walked-is parameters name (c ∷ rest)))
-    ∙ (sym (ap (λ b. out ++ inside_by parameters b name c rest) ends) ∙ ap (λ b. out ++ walked parameters b name (c ∷ rest)) (sym o))))))
-inside-closed (Err x) parameters out grown made name after later opened closed later_open c o ends g k h = tt
+    ∙ (sym (ap (λ b. out ++ inside_by parameters b name c rest) ends) ∙ ap (λ b. out ++ walked parameters b name (c ∷ rest)) (sym o)))))
 
--- the value that was found, put in
-pub put-found : {E : Type 0} (r : Result (Unit {0}) E) (parameters : List Parameter) (out grown name value : List ℕ) → Some value ≡ value_for parameters name → OnOk r (grown ≡ out ++ value) → OnOk r (grown ≡ out ++ put parameters name)
-put-found (Ok x) parameters out grown name value e g = g ∙ ap (λ v. out ++ unwrap_or v (36 ∷ name)) e
-put-found (Err x) parameters out grown name value e g = tt
+pub inside-closed : {E : Type 0} (r : Result Bool E) (most : ℕ) (parameters : List Parameter) (out grown name after : List ℕ) (opened closed : Bool) (c : ℕ) (made : List Parameter → List ℕ → List ℕ) → opened ≡ true → goes_on name c ≡ false
+    → grown ≡ out ++ put parameters name → closed ≡ false
+    → IfOk r (λ fits. (parameters : List Parameter) (rest : List ℕ) → IsMade most fits (grown ++ walked parameters closed after (c ∷ rest)) (made parameters rest))
+    → IfOk r (λ fits. (rest : List ℕ) → IsMade most fits (out ++ walked parameters opened name (c ∷ rest)) (made parameters rest))
+inside-closed (Ok fits) most parameters out grown name after opened closed c made o ends g k h = λ rest.
+    subst (λ t. IsMade most fits t (made parameters rest)) (inside-ended parameters out grown name after opened closed c o ends g k rest) (h parameters rest)
+inside-closed (Err x) most parameters out grown name after opened closed c made o ends g k h = tt
 
-pub put-none : {E : Type 0} (r : Result (Unit {0}) E) (parameters : List Parameter) (out grown name : List ℕ) → None ≡ value_for parameters name → OnOk r (grown ≡ out ++ 36 ∷ name) → OnOk r (grown ≡ out ++ put parameters name)
-put-none (Ok x) parameters out grown name e g = g ∙ ap (λ v. out ++ unwrap_or v (36 ∷ name)) e
-put-none (Err x) parameters out grown name e g = tt
+-- what stands for the name is too long
+pub inside-long : (most : ℕ) (parameters : List Parameter) (out name : List ℕ) (opened : Bool) (c : ℕ) → opened ≡ true → goes_on name c ≡ false → most < bytes_of (out ++ put parameters name)
+    → (rest : List ℕ) → most < bytes_of (out ++ walked parameters opened name (c ∷ rest))
+inside-long most parameters out name opened c o ends h rest =
+    subst (λ t. most < bytes_of t) (inside-ended parameters out (out ++ put parameters name) name name opened false c o ends refl refl rest)
+    (longer most (out ++ put parameters name) (walked parameters false name (c ∷ rest)) h)
 
-pub put-back : {E : Type 0} (r : Result (Unit {0}) E) (out once grown name : List ℕ) → once ≡ out ++ 36 ∷ [] → OnOk r (grown ≡ once ++ name) → OnOk r (grown ≡ out ++ 36 ∷ name)
-put-back (Ok x) out once grown name e g = g ∙ (ap (λ t. t ++ name) e ∙ append_assoc out (36 ∷ []) name)
-put-back (Err x) out once grown name e g = tt
+-- `$` and the name
+pub back-long : (most : ℕ) (out name : List ℕ) → most < bytes_of (out ++ 36 ∷ []) → most < bytes_of (out ++ 36 ∷ name)
+back-long most out name h = subst (λ t. most < bytes_of t) (append_assoc out (36 ∷ []) name) (longer most (out ++ 36 ∷ []) name h)
 
 -- Lengths
 
 bytes-front : (out rest : List ℕ) → IsUtf8 out → bytes_of (chars out ++ rest) ≡ length out + bytes_of rest
 bytes-front out rest u = ap length (encodes-append (chars out) rest) ∙ (length-append (encodes (chars out)) (encodes rest) ∙ ap (λ t. length t + bytes_of rest) (encodes-chars out u))
 
-pub too_long : (out rest : List ℕ) (most : ℕ) → IsUtf8 out → most < length out → most < bytes_of (chars out ++ rest)
-too_long out rest most u h = omega (arith, bytes-front out rest u)
-
 pub not_too_long : (out : List ℕ) (most : ℕ) → IsUtf8 out → length out ≤ most → bytes_of (chars out) ≤ most
 not_too_long out most u h = omega (arith, ap length (encodes-chars out u))
 
-pub all_too_long : (out : List ℕ) (most : ℕ) → IsUtf8 out → most < length out → most < bytes_of (chars out)
-all_too_long out most u h = omega (arith, ap length (encodes-chars out u))
+pub text_too_long : (out piece : List ℕ) (most : ℕ) → IsUtf8 out → IsUtf8 piece → most < length out + length piece → most < bytes_of (chars out ++ chars piece)
+text_too_long out piece most u v h = omega (arith, h, bytes-front out (chars piece) u, ap length (encodes-chars piece v))
+
+pub character_too_long : (out : List ℕ) (c most : ℕ) → IsUtf8 out → IsUtf8 (encode c) → most < length out + length (encode c) → most < bytes_of (chars out ++ c ∷ [])
+character_too_long out c most u v h = subst (λ t. most < bytes_of (chars out ++ t)) (one_character c v) (text_too_long out (encode c) most u v h)

@@ -1,10 +1,15 @@
 -- One walk over a text in which parameters are replaced, character by character. proofs/ has the law that it makes what
 -- `replaced` says.
-use Rattle.std.specs.Prelude.{◌≡◌, ℕ, Bool, true, false, ◌==◌, List, [], ◌∷◌, ◌++◌, Option, option_map, unwrap_or, chars, string_bytes}
+use Rattle.std.specs.Prelude.{◌≡◌, ℕ, ◌<◌, Bool, true, false, ◌==◌, List, [], ◌∷◌, ◌++◌, Option, option_map, unwrap_or, chars, string_bytes}
 use Rattle.std.specs.Borrow.{Bor}
 use Rattle.inv_base.specs.Characters.{is_name_start, is_name_char}
 use Rattle.schematron_texts.specs.declared.replacing.Walk.{Walk}
-use Rattle.schematron_texts.specs.Replacing.{Parameter, value_of}
+use Rattle.schematron_texts.specs.Replacing.{Parameter, value_of, bytes_of}
+
+-- All was made where it fits into so many bytes; where it doesn't, it has more.
+abbrev pub IsMade : ℕ → Bool → List ℕ → List ℕ → Type 0
+IsMade most true whole made = made ≡ whole
+IsMade most false whole made = most < bytes_of whole
 
 -- A name so far goes on with the character, or begins with it.
 abbrev pub goes_on : List ℕ → ℕ → Bool

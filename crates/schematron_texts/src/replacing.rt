@@ -1,9 +1,9 @@
-ghost use Rattle.std.specs.Prelude.{◌≡◌, ◌≢◌, ◌==◌, ◌∷◌, ◌++◌, [], ℕ, List, chars, string_bytes, true, false, IfOk, OnOk};
+ghost use Rattle.std.specs.Prelude.{◌≡◌, ◌≤◌, ◌∷◌, ◌++◌, [], ℕ, List, chars, string_bytes, string_len, false, IfOk, OnOk};
 ghost use Rattle.schematron_texts.specs.Replacing as spec;
 ghost use Rattle.schematron_texts.specs.Walking as walking;
 
 use crate::parameters::Parameters;
-use crate::pushing::{push, push_text};
+use crate::pushing::{push, push_text_within, push_within};
 use inv_base::{is_name_char, is_name_start};
 use std::alloc::{AllocError, Global};
 
@@ -29,8 +29,7 @@ pub fn replaced(alloc: Global, parameters: &Parameters, text: &str) -> Result<St
     }
 }
 
-/// The same, or None exactly where it would have more than so many bytes. Of a longer one at most the first so many
-/// bytes and one value or name more are made.
+/// The same, or None exactly where it would have more than so many bytes. No more than these are ever made.
 pub fn replaced_within(
     alloc: Global,
     parameters: &Parameters,
@@ -45,8 +44,7 @@ pub fn replaced_within(
         name: String::new(alloc),
     };
     'characters: for c in text.chars() {
-        take(&mut walk, parameters, c)?;
-        if walk.out.len() > most {
+        if !take(&mut walk, parameters, most, c)? {
             return Ok(None);
         }
     }
@@ -55,44 +53,46 @@ pub fn replaced_within(
 
 /// What was made, with the name that is open at the end of the text.
 fn end(mut walk: Walk, parameters: &Parameters, most: usize) -> Result<Option<String>, AllocError>
+    requires { string_len walk.out ≤ most }
     ensures { IfOk result (λ made. spec.IsWithin most (walking.made_with parameters.now walk []) made) }
 {
-    close(&mut walk, parameters)?;
-    Ok(within(walk.out, most))
+    if close(&mut walk, parameters, most)? {
+        Ok(Some(walk.out))
+    } else {
+        Ok(None)
+    }
 }
 
-/// Puts in the name that is open, if one is.
-fn close(walk: &mut Walk, parameters: &Parameters) -> Result<(), AllocError>
-    ensures { OnOk result (chars (string_bytes walk.new.out) ≡ walking.made_with parameters.now walk.old []) }
+/// Puts in the name that is open, if one is, and keeps what is made within so many bytes.
+fn close(walk: &mut Walk, parameters: &Parameters, most: usize) -> Result<bool, AllocError>
+    requires { string_len walk.old.out ≤ most }
+    ensures made { IfOk result (λ fits. walking.IsMade most fits (walking.made_with parameters.now walk.old []) (chars (string_bytes walk.new.out))) }
+    ensures within { string_len walk.new.out ≤ most }
 {
     if !walk.in_name {
-        return Ok(());
+        return Ok(true);
     }
-    put_name(walk, parameters)
+    put_name(walk, parameters, most)
 }
 
-/// The text, if it has at most so many bytes.
-fn within(text: String, most: usize) -> Option<String>
-    ensures { spec.IsWithin most (chars (string_bytes text)) result }
-{
-    if text.len() > most {
-        return None;
-    }
-    Some(text)
-}
-
-/// Reads a character.
-fn take(walk: &mut Walk, parameters: &Parameters, c: char) -> Result<(), AllocError>
-    ensures { OnOk result ((rest : List ℕ) → walking.made_with parameters.now walk.new rest ≡ walking.made_with parameters.now walk.old (c ∷ rest)) }
+/// Reads a character, and keeps what is made within so many bytes; answers whether all was made.
+fn take(walk: &mut Walk, parameters: &Parameters, most: usize, c: char) -> Result<bool, AllocError>
+    requires { string_len walk.old.out ≤ most }
+    ensures made { IfOk result (λ fits. (rest : List ℕ)
+        → walking.IsMade most fits (walking.made_with parameters.now walk.old (c ∷ rest)) (walking.made_with parameters.now walk.new rest)) }
+    ensures within { string_len walk.new.out ≤ most }
 {
     if !walk.in_name {
-        return take_outside(walk, c);
+        return take_outside(walk, most, c);
     }
     if goes_on(walk.name.as_str(), c) {
-        return push(&mut walk.name, c);
+        push(&mut walk.name, c)?;
+        return Ok(true);
     }
-    put_name(walk, parameters)?;
-    take_outside(walk, c)
+    if !put_name(walk, parameters, most)? {
+        return Ok(false);
+    }
+    take_outside(walk, most, c)
 }
 
 /// Whether a name goes on with the character, or begins with it.
@@ -107,27 +107,33 @@ fn goes_on(name: &str, c: char) -> bool
 }
 
 /// Reads a character where no name is open.
-fn take_outside(walk: &mut Walk, c: char) -> Result<(), AllocError>
-    requires { walk.old.in_name ≡ false }
-    ensures { OnOk result ((parameters : List spec.Parameter) (rest : List ℕ) → walking.made_with parameters walk.new rest ≡ walking.made_with parameters walk.old (c ∷ rest)) }
+fn take_outside(walk: &mut Walk, most: usize, c: char) -> Result<bool, AllocError>
+    requires in_name { walk.old.in_name ≡ false }
+    requires within { string_len walk.old.out ≤ most }
+    ensures made { IfOk result (λ fits. (parameters : List spec.Parameter) (rest : List ℕ)
+        → walking.IsMade most fits (walking.made_with parameters walk.old (c ∷ rest)) (walking.made_with parameters walk.new rest)) }
+    ensures within { string_len walk.new.out ≤ most }
 {
     if c == '$' {
         walk.in_name = true;
         walk.name.clear();
-        return Ok(());
+        return Ok(true);
     }
-    push(&mut walk.out, c)
+    push_within(&mut walk.out, most, c)
 }
 
 /// Puts in what stands for `$` and the name, and closes it.
-fn put_name(walk: &mut Walk, parameters: &Parameters) -> Result<(), AllocError>
-    ensures out { OnOk result (chars (string_bytes walk.new.out) ≡ chars (string_bytes walk.old.out) ++ walking.put parameters.now (chars (string_bytes walk.old.name))) }
-    ensures in_name { OnOk result (walk.new.in_name ≡ false) }
+fn put_name(walk: &mut Walk, parameters: &Parameters, most: usize) -> Result<bool, AllocError>
+    requires { string_len walk.old.out ≤ most }
+    ensures made { IfOk result (λ fits. walking.IsMade most fits
+        (chars (string_bytes walk.old.out) ++ walking.put parameters.now (chars (string_bytes walk.old.name))) (chars (string_bytes walk.new.out))) }
+    ensures within { string_len walk.new.out ≤ most }
+    ensures in_name { walk.new.in_name ≡ false }
 {
     walk.in_name = false;
     match value_for(parameters, walk.name.as_str()) {
-        Some(value) => push_text(&mut walk.out, value),
-        None => put_back(walk),
+        Some(value) => push_text_within(&mut walk.out, most, value),
+        None => put_back(walk, most),
     }
 }
 
@@ -142,10 +148,15 @@ fn value_for<'a>(parameters: &'a Parameters, name: &str) -> Option<&'a str>
 }
 
 /// Puts `$` and the name in as they stand.
-fn put_back(walk: &mut Walk) -> Result<(), AllocError>
-    ensures out { OnOk result (chars (string_bytes walk.new.out) ≡ chars (string_bytes walk.old.out) ++ 36 ∷ chars (string_bytes walk.old.name)) }
+fn put_back(walk: &mut Walk, most: usize) -> Result<bool, AllocError>
+    requires { string_len walk.old.out ≤ most }
+    ensures made { IfOk result (λ fits. walking.IsMade most fits
+        (chars (string_bytes walk.old.out) ++ 36 ∷ chars (string_bytes walk.old.name)) (chars (string_bytes walk.new.out))) }
+    ensures within { string_len walk.new.out ≤ most }
     ensures in_name { walk.new.in_name ≡ walk.old.in_name }
 {
-    push(&mut walk.out, '$')?;
-    push_text(&mut walk.out, walk.name.as_str())
+    if !push_within(&mut walk.out, most, '$')? {
+        return Ok(false);
+    }
+    push_text_within(&mut walk.out, most, walk.name.as_str())
 }

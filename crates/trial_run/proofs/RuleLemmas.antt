@@ -1,5 +1,5 @@
 -- The built-in rule file, compiled, and what it finds.
-use Rattle.std.proofs.Common.{◌≡◌, ℕ, true, List, [], ◌∷◌, Option, Some, None, Result, Ok, Err, refl, sym, ap, ◌∙◌}
+use Rattle.std.proofs.Common.{◌≡◌, ℕ, true, false, true≢false, inl, inr, List, [], ◌∷◌, Option, Some, None, option_map, Result, Ok, Err, IfOk, OnOk, refl, sym, ap, ◌∙◌}
 use Rattle.std.specs.Prelude.{nat_lt}
 use Rattle.std.specs.List.{list_all}
 use Rattle.std.specs.Str.{chars, IsAscii}
@@ -7,35 +7,28 @@ use Rattle.std.proofs.lemmas.Bool.{ltb-true, and_parts}
 use Rattle.std.proofs.lemmas.Str.{chars-IsAscii}
 use Rattle.std.proofs.lemmas.Str.Ascii.{IsAscii-nil, IsAscii-cons}
 use Rattle.inv_base.specs.Tree.{Node}
+use Rattle.node_arena.specs.Document.{Document}
 use Rattle.schematron_meaning.specs.declared.fault.Fault.{Fault}
-use Rattle.schematron_meaning.specs.Rules.{Rules, rules_of}
+use Rattle.schematron_meaning.specs.Rules.{Rules}
 use Rattle.schematron_meaning.specs.Phases.{Active, active_of, the_default}
+use Rattle.schematron_rules.specs.declared.rules.Compiled.{Compiled}
+use Rattle.schematron_rules.specs.Seen.{seen_rules}
+use Rattle.schematron_compile.specs.declared.compiling.RuleFault.{RuleFault}
+use Rattle.schematron_compile.specs.Answers.{is_memory, Tells}
 use Rattle.schematron_findings.specs.declared.finding.Line.{Line}
-use Rattle.schematron_run.specs.Contexts.{HasPatterns}
 use Rattle.schematron_run.specs.Judging.{findings}
 use Rattle.svrl_report.specs.declared.tally.Tally.{Tally}
 use Rattle.svrl_report.specs.Plain.{tally_of}
-use Rattle.trial_run.specs.Memory.{nodes_in}
-use Rattle.trial_run.specs.Trials.{rule_text, unless_faulty, rules_in, trial_rules, found_by_active, found_by}
-use Rattle.trial_run.proofs.MemoryLemmas.{found-same}
+use Rattle.trial_run.specs.Trials.{unless_faulty, found_by_active, found_by}
 
 -- ---- rules
 
--- The contexts of every rule file that was compiled have the shape of patterns.
-abbrev pub HavePatterns : Type 0
-HavePatterns = (nodes : List Node) (rules : Rules) → rules_of nodes ≡ Ok rules → HasPatterns rules
-
-said-from : (found : Result Rules Fault) (rules : Rules) → Some rules ≡ unless_faulty found → found ≡ Ok rules
-said-from (Ok said) rules e = ap Ok (sym (found-same rules said e))
-said-from (Err fault) rules e = cc
-
-patterns-from : HavePatterns → (nodes : Option (List Node)) (rules : Rules) → Some rules ≡ rules_in nodes → HasPatterns rules
-patterns-from law None rules e = cc
-patterns-from law (Some nodes) rules e = law nodes rules (said-from (rules_of nodes) rules e)
-
-pub trial-patterns : HavePatterns → (rules : Rules) → Some rules ≡ trial_rules → HasPatterns rules
-unfolding trial_rules
-trial-patterns law rules e = patterns-from law (nodes_in rule_text) rules e
+-- a file that was refused says nothing
+pub none-said : {E : Type 0} (document : Document) (fault : RuleFault) (answer : Result Rules Fault) (told : Result (Option Compiled) E) → Tells document fault answer
+    → IfOk told (λ rules. option_map seen_rules rules ≡ None) → OnOk told (is_memory fault.kind ≡ false) → IfOk told (λ rules. option_map seen_rules rules ≡ unless_faulty answer)
+none-said document fault answer (Err e) tells none is = tt
+none-said document fault answer (Ok rules) (inl memory) none is = absurd (true≢false (sym (ap (λ (f : RuleFault). is_memory f.kind) memory) ∙ is))
+none-said document fault answer (Ok rules) (inr first) none is = none ∙ sym (ap unless_faulty first.1)
 
 -- ---- findings
 

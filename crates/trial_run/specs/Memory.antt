@@ -2,6 +2,7 @@
 use Rattle.std.specs.Prelude.{◌≡◌, ℕ, List, [], Option, Some, None, Result, Ok, Err, encode_utf8_all}
 use Rattle.inv_base.specs.Tree.{Node}
 use Rattle.xml_state.specs.declared.limits.Limits.{Limits}
+use Rattle.xml_state.specs.Sizes.{document_limits}
 use Rattle.xml_state.specs.declared.fault.XmlFault.{XmlFault}
 use Rattle.xml_profile.specs.Profile as profile
 use Rattle.node_arena.specs.Document.{Document, built}
@@ -21,7 +22,7 @@ use Rattle.trial_run.specs.declared.reading.Means.{Means}
 
 -- how large a document may be: what every document may be that the program reads
 abbrev pub limits : Limits
-limits = record { bytes = 16777216; nodes = 1000000; depth = 100; attributes = 64; name = 200; names = 10000 }
+limits = document_limits
 
 -- the nodes of a document with their places, and its names
 abbrev pub document_read : profile.Document → Document

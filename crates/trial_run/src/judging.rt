@@ -1,8 +1,8 @@
 //! The judging of the trial.
-ghost use Rattle.std.specs.Prelude.{◌≡◌, ◌<◌, IfOk, option_map, Some};
+ghost use Rattle.std.specs.Prelude.{◌≡◌, false, IfOk, OnOk, option_map, Some, None};
 ghost use Rattle.node_arena.specs.Moves.{tree_nodes};
+ghost use Rattle.schematron_compile.specs.Answers.{is_memory};
 ghost use Rattle.schematron_rules.specs.Seen.{seen_rules};
-ghost use Rattle.schematron_run.specs.Contexts.{HasPatterns};
 ghost use Rattle.svrl_report.specs.Plain.{tally_of};
 ghost use Rattle.trial_run.specs.Memory.{AreBuiltIn, terms_in, terms_read};
 ghost use Rattle.trial_run.specs.Trials as spec;
@@ -13,13 +13,10 @@ use bumpalo::Bump;
 use inv_base::Steps;
 use inv_terms::Invoice;
 use node_arena::Doc;
-use schematron_compile::{RuleFault, compile};
-use schematron_meaning::PhaseFault;
-use schematron_rules::Rules;
-use schematron_run::{compiled_rules_have_patterns, judge};
+use schematron_compile::{PhaseFault, RuleFault, Rules, compile};
+use schematron_run::judge;
 use std::alloc::{AllocError, Global};
-use std::marker::Brand;
-use std::sync::ledger::{Blank, Ledger};
+use std::sync::ledger::Ledger;
 use svrl_report::Tally;
 
 /// The name under which a rule file says what is active by default.
@@ -29,50 +26,41 @@ const DEFAULT_PHASE: &str = "#DEFAULT";
 pub(crate) fn trial_rules(alloc: Global) -> Result<Option<Rules>, AllocError>
     ensures { IfOk result (λ rules. option_map seen_rules rules ≡ spec.trial_rules) }
 {
-    compiled_by::<Brand>(alloc, Blank::new(1))
-}
-
-/// The same by steps that nobody asks for.
-fn compiled_by<L: Ledger>(alloc: Global, ledger: Blank) -> Result<Option<Rules>, AllocError>
-    requires name { ledger.name ≡ L.name }
-    requires parts { ledger.parts ≡ L.parts }
-    requires some { 0 < ledger.parts }
-    ensures { IfOk result (λ rules. option_map seen_rules rules ≡ spec.trial_rules) }
-{
-    let mut steps = Steps::<L>::new(ledger);
     let bump = Bump::new(alloc);
     let doc = document_in(alloc, &bump, rule_file().as_bytes())?;
-    let rules = rules_in(alloc, &doc, &mut steps);
+    let rules = rules_in(alloc, &doc);
     drop(doc);
     rules
 }
 
 /// What the rule file of a document says; nothing where it is refused.
-fn rules_in<L: Ledger>(
-    alloc: Global,
-    doc: &Option<Doc<'_>>,
-    steps: &mut Steps<L>,
-) -> Result<Option<Rules>, AllocError>
+fn rules_in(alloc: Global, doc: &Option<Doc<'_>>) -> Result<Option<Rules>, AllocError>
     ensures { IfOk result (λ rules. option_map seen_rules rules ≡ spec.rules_in (option_map tree_nodes doc.now)) }
 {
     match doc {
-        Some(doc) => rules_of(alloc, doc, steps),
+        Some(doc) => rules_of(alloc, doc),
         None => Ok(None),
     }
 }
 
-fn rules_of<L: Ledger>(
-    alloc: Global,
-    doc: &Doc<'_>,
-    steps: &mut Steps<L>,
-) -> Result<Option<Rules>, AllocError>
+fn rules_of(alloc: Global, doc: &Doc<'_>) -> Result<Option<Rules>, AllocError>
     ensures { IfOk result (λ rules. option_map seen_rules rules ≡ spec.rules_in (Some (tree_nodes doc.now))) }
 {
-    match compile(alloc, doc, steps) {
+    match compile(alloc, doc) {
         Ok(rules) => Ok(Some(rules)),
-        Err(RuleFault::Refused(_)) => Ok(None),
-        Err(RuleFault::Memory) => Err(AllocError),
+        Err(fault) => no_rules(&fault),
     }
+}
+
+/// Nothing, where a rule file is refused.
+fn no_rules(fault: &RuleFault) -> Result<Option<Rules>, AllocError>
+    ensures so { IfOk result (λ rules. option_map seen_rules rules ≡ None) }
+    ensures refused { OnOk result (is_memory fault.now.kind ≡ false) }
+{
+    if fault.is_memory() {
+        return Err(AllocError);
+    }
+    Ok(None)
 }
 
 /// What bytes say as an invoice, and how many findings of each sort the built-in rule file has in them.
@@ -152,7 +140,6 @@ fn found_by<L: Ledger>(
     requires { option_map seen_rules rules.now ≡ spec.trial_rules }
     ensures { IfOk result (λ tally. tally ≡ tally_of (spec.found_by spec.trial_rules (tree_nodes doc.now))) }
 {
-    compiled_rules_have_patterns();
     match rules {
         Some(rules) => found_by_default(alloc, doc, rules, steps),
         None => Ok(Tally::new()),
@@ -166,7 +153,6 @@ fn found_by_default<L: Ledger>(
     rules: &Rules,
     steps: &mut Steps<L>,
 ) -> Result<Tally, AllocError>
-    requires { HasPatterns (seen_rules rules.now) }
     ensures { IfOk result (λ tally. tally ≡ tally_of (spec.found_by (Some (seen_rules rules.now)) (tree_nodes doc.now))) }
 {
     match rules.phase(alloc, DEFAULT_PHASE) {

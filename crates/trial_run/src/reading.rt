@@ -12,17 +12,7 @@ use inv_terms::Invoice;
 use node_arena::Doc;
 use std::alloc::{AllocError, Global};
 use xml_document::{LoadFault, load};
-use xml_state::Limits;
-
-/// How large a document may be.
-const LIMITS: Limits = Limits {
-    bytes: 16_777_216,
-    nodes: 1_000_000,
-    depth: 100,
-    attributes: 64,
-    name: 200,
-    names: 10_000,
-};
+use xml_state::DOCUMENT_LIMITS;
 
 /// The name under which a document is held in memory.
 const HELD: &str = "held";
@@ -90,7 +80,7 @@ pub(crate) fn document_in<'a>(
     ensures { IfOk result (λ doc. option_map tree_nodes doc ≡ spec.nodes_in bytes.now) }
 {
     let mut shelf = held(alloc, bytes)?;
-    match load(alloc, bump, &mut shelf, HELD, LIMITS) {
+    match load(alloc, bump, &mut shelf, HELD, DOCUMENT_LIMITS) {
         Ok(doc) => Ok(Some(doc)),
         Err(LoadFault::Refused(_)) => Ok(None),
         Err(LoadFault::Read) | Err(LoadFault::Memory) => Err(AllocError),

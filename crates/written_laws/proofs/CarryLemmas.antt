@@ -3,12 +3,14 @@ use Rattle.std.proofs.Common.{◌≡◌, ℕ, ◌≤◌, Bool, true, false, ◌|
 use Rattle.std.proofs.lemmas.Bool.Decides.{nat_tests}
 use Rattle.inv_base.specs.Tree.{Node, Forest, document_nodes}
 use Rattle.code_lists.specs.CodeFiles.{Lists}
+use Rattle.xml_tokens.specs.Beginnings.{greatest_tag}
+use Rattle.xml_state.specs.Sizes.{document_limits}
 use Rattle.xml_write.specs.Sizes.{longest, canonical_tags}
 use Rattle.term_table.specs.Contexts.{root_context}
 use Rattle.inv_terms.specs.declared.entries.Entry.{Entry}
 use Rattle.bind_rows.specs.declared.rows.Row.{Row}
 use Rattle.bind_table.specs.Lines.{plan_of}
-use Rattle.bind_meaning.specs.declared.tables.Which.{Which}
+use Rattle.bind_rows.specs.declared.tables.Which.{Which}
 use Rattle.bind_meaning.specs.Terms.{terms_of}
 use Rattle.bind_meaning.specs.Tables.{rows_of}
 use Rattle.bind_meaning.specs.Trees.{holds, document_of, written_lines}
@@ -33,12 +35,12 @@ small rows es h =
     let bytes = length (encode_utf8_all (document_text rows es)) in
     let tags = longest (canonical_tags (declarations_for rows) (document_of rows es)) in
     let nodes = node_count (document_of rows es) in
-    let a = neither (nat_lt 16777216 bytes) (nat_lt 262144 tags || nat_lt 1000000 nodes) h in
-    let b = neither (nat_lt 262144 tags) (nat_lt 1000000 nodes) a.1 in
-    record { bytes = not-more bytes 16777216 a.0; tags = not-more tags 262144 b.0; nodes = not-more nodes 1000000 b.1 }
+    let a = neither (nat_lt document_limits.bytes bytes) (nat_lt greatest_tag tags || nat_lt document_limits.nodes nodes) h in
+    let b = neither (nat_lt greatest_tag tags) (nat_lt document_limits.nodes nodes) a.1 in
+    record { bytes = not-more bytes document_limits.bytes a.0; tags = not-more tags greatest_tag b.0; nodes = not-more nodes document_limits.nodes b.1 }
 
 pub carried : (rows : List Row) (es : List Entry) → carrying rows es ≡ Ok tt → is_too_large rows es ≡ false
-carried rows es h = go (entries_fail rows es) (is_too_large rows es) (first_unplaced es) h
+carried rows es h = go (entries_fail rows es) (is_too_large rows es) (first_unplaced rows es) h
   where
     go : (o : Option NotCarried) (b : Bool) (u : Option NotCarried) → answer o b u ≡ Ok tt → b ≡ false
     go (Some fault) b u k = absurd (let z : ◌≡◌ {A = Result (Unit {0}) NotCarried} (Err fault) (Ok tt) = k in cc)

@@ -1,7 +1,7 @@
 -- The root of an invoice's document: where some line holds an entry, the document is that one element. So it is where a
 -- term stands that a row outside all groups always writes.
-use Rattle.std.proofs.Common.{◌≡◌, ℕ, zero, suc, ◌<◌, Bool, true, false, ◌&&◌, ◌||◌, List, [], ◌∷◌, length, Contains, slice_index_or, Option, Some, None, is_some, is_none, option_map, find, refl, ap, sym, ◌∙◌, arith, if◌then◌else◌, inl, lit<}
-use Rattle.std.specs.Prelude.{◌==◌}
+use Rattle.std.proofs.Common.{◌≡◌, ℕ, zero, suc, ◌<◌, Bool, true, false, ◌&&◌, ◌||◌, List, [], ◌∷◌, length, Contains, slice_index_or, Option, Some, None, is_some, is_none, option_map, option_and_then, find, refl, ap, sym, ◌∙◌, arith, if◌then◌else◌, inl, lit<}
+use Rattle.std.specs.Prelude.{◌==◌, not}
 use Rattle.std.specs.List.{list_any}
 use Rattle.std.proofs.lemmas.Bool.{false≢true}
 use Rattle.std.proofs.lemmas.Bool.Decides.{nat_tests}
@@ -27,10 +27,11 @@ use Rattle.bind_rows.specs.declared.rows.Row.{Row}
 use Rattle.bind_rows.specs.declared.rows.Step.{Step}
 use Rattle.bind_rows.specs.declared.rows.Written.{Written}
 use Rattle.bind_rows.specs.declared.rows.Written.TheVariants as written
+use Rattle.bind_rows.specs.Added.{is_typed}
 use Rattle.bind_table.specs.Lines.{Cell, Plan, nothing, a_line}
 use Rattle.bind_meaning.specs.Values.{form_for}
 use Rattle.bind_meaning.specs.Picks.{term_in, has_term}
-use Rattle.bind_meaning.specs.Writing.{slot_for, context_for, formed, if_due, filled, term_text, writes_entry}
+use Rattle.bind_meaning.specs.Writing.{slot_for, context_for, formed, if_due, filled, has_slots, of_form, value_for, term_text, writes_entry}
 use Rattle.bind_meaning.specs.Trees.{spots, either, cells_hold, holds, name_of, attributes, element_text, with_text, line_holds, is_due, is_emitted, holds_further, elements, written_lines}
 use Rattle.written_laws.specs.Readable.{is_one_root, is_always, always_writes, shows, invoice_number}
 use Rattle.written_laws.proofs.ListLemmas.{both, and-true, or-left, or-right}
@@ -99,6 +100,10 @@ always-due es (written.OrFiller filler) term c text h = absurd (false≢true h)
 always-due es written.VatTotal term c text h = absurd (false≢true h)
 always-due es written.AccountingVatTotal term c text h = absurd (false≢true h)
 
+not-so : (b : Bool) → not b ≡ true → b ≡ false
+not-so true h = absurd (false≢true h)
+not-so false h = refl
+
 no-slot : (row : Row) → context_for row root_context ≡ root_context
 no-slot row = λ i. record { outer = without row.outer i; inner = without row.inner i }
   where
@@ -107,8 +112,14 @@ no-slot row = λ i. record { outer = without row.outer i; inner = without row.in
     without (Some group) = refl
 
 module _ (es : List Entry) (term : Term) (stands : is_some (value_in es term root_context) ≡ true) where
-  text-there : (row : Row) → is_always row.written ≡ true → is_some (term_text row es term root_context) ≡ true
-  text-there row h = go (value_in es term root_context) stands
+  -- the row takes what stands
+  value-taken : (row : Row) → is_typed (form_for row.form term) ≡ false → is_some (value_for row es term root_context) ≡ true
+  value-taken row h =
+      ap (λ b. is_some (elim b [ true ↦ elim (has_slots row root_context) [ true ↦ option_and_then (of_form (form_for row.form term)) (value_in es term root_context) | false ↦ None ] | false ↦ value_in es term root_context ])) h
+      ∙ stands
+
+  text-there : (row : Row) → is_always row.written ≡ true → is_typed (form_for row.form term) ≡ false → is_some (term_text row es term root_context) ≡ true
+  text-there row h f = go (value_for row es term root_context) (value-taken row f)
     where
       go : (o : Option Value) → is_some o ≡ true
           → is_some (elim o [
@@ -119,14 +130,14 @@ module _ (es : List Entry) (term : Term) (stands : is_some (value_in es term roo
       go None k = absurd (false≢true k)
       go (Some value) k = always-due es row.written term root_context (formed (form_for row.form term) es root_context value) h
 
-  row-there : (row : Row) → is_always row.written ≡ true → has_term term row ≡ true → writes_entry row es root_context ≡ true
-  row-there row h k = go row.content k
+  row-there : (row : Row) → is_always row.written ≡ true → has_term term row ≡ true → is_typed (form_for row.form term) ≡ false → writes_entry row es root_context ≡ true
+  row-there row h k f = go row.content k
     where
       go : (content : Content) → (elim (term_in content) [ None ↦ false | Some t ↦ same_term t term ]) ≡ true
           → is_some (elim content [ (contents.Term t) ↦ term_text row es t (context_for row root_context) | (contents.Constant text) ↦ None ]) ≡ true
       go (contents.Term t) l =
           ap (λ x. is_some (term_text row es x (context_for row root_context))) (term-is t term l)
-          ∙ (ap (λ c. is_some (term_text row es term c)) (no-slot row) ∙ text-there row h)
+          ∙ (ap (λ c. is_some (term_text row es term c)) (no-slot row) ∙ text-there row h f)
       go (contents.Constant text) l = absurd (false≢true l)
 
   cells-there : (cells : List Cell) → list_any (always_writes term) cells ≡ true → cells_hold es cells root_context ≡ true
@@ -136,8 +147,10 @@ module _ (es : List Entry) (term : Term) (stands : is_some (value_in es term roo
       go : (b : Bool) → always_writes term cell ≡ b → (b || list_any (always_writes term) cells) ≡ true → (list_any (always_writes term) cells ≡ true → cells_hold es cells root_context ≡ true)
           → (writes_entry cell.row es root_context || cells_hold es cells root_context) ≡ true
       go true e k f =
-          let w = both (is_always cell.row.written) (has_term term cell.row) e in
-          or-left (writes_entry cell.row es root_context) (cells_hold es cells root_context) (row-there cell.row w.0 w.1)
+          let typed = is_typed (form_for cell.row.form term) in
+          let w = both (is_always cell.row.written) (has_term term cell.row && not typed) e in
+          let v = both (has_term term cell.row) (not typed) w.1 in
+          or-left (writes_entry cell.row es root_context) (cells_hold es cells root_context) (row-there cell.row w.0 v.0 (not-so typed v.1))
       go false e k f = or-right (writes_entry cell.row es root_context) (cells_hold es cells root_context) (f k)
 
   either-left : (a : Bool) (b : Unit {0} → Bool) → a ≡ true → either a b ≡ true

@@ -5,8 +5,8 @@ use Rattle.inv_base.specs.Characters.{is_char, is_name_start, is_name_char}
 use Rattle.ubl_binding.specs.Tables.{invoice_listing, invoice_rows, credit_note_listing, credit_note_rows}
 use Rattle.cii_binding.specs.Table.{cii_listing, cii_rows}
 use Rattle.bind_table.specs.Lines.{plan_of}
-use Rattle.bind_meaning.specs.declared.tables.Which.{Which}
-use Rattle.bind_meaning.specs.declared.tables.Which.TheVariants as which
+use Rattle.bind_rows.specs.declared.tables.Which.{Which}
+use Rattle.bind_rows.specs.declared.tables.Which.TheVariants as which
 use Rattle.bind_meaning.specs.Tables.{rows_of}
 use Rattle.written_laws.specs.Readable.{is_readable, reading_limits, shows, invoice_number}
 use Rattle.written_laws.specs.Roots.{root_table}

@@ -8,7 +8,7 @@ use Rattle.inv_terms.specs.Listing.{IsInvoice}
 use Rattle.inv_terms.specs.Whole.{IsValid}
 use Rattle.bind_rows.specs.declared.rows.Row.{Row}
 use Rattle.bind_table.specs.Lines.{plan_of}
-use Rattle.bind_meaning.specs.declared.tables.Which.{Which}
+use Rattle.bind_rows.specs.declared.tables.Which.{Which}
 use Rattle.bind_meaning.specs.Tables.{rows_of}
 use Rattle.bind_meaning.specs.Terms.{Read, terms_of}
 use Rattle.bind_meaning.specs.Trees.{document_of}

@@ -1,5 +1,5 @@
 -- What is written of an invoice is of Chars: its values are, and so is what rows write by themselves.
-use Rattle.std.proofs.Common.{◌≡◌, ℕ, zero, suc, ◌+◌, ◌<◌, ◌/◌, ◌%◌, ◌^◌, Bool, true, false, ◌||◌, List, [], ◌∷◌, ◌++◌, Option, Some, None, option_map, refl, arith, mod-lt, lit<, nat_le, if◌then◌else◌, find, is_some, is_none}
+use Rattle.std.proofs.Common.{◌≡◌, ℕ, zero, suc, ◌+◌, ◌<◌, ◌/◌, ◌%◌, ◌^◌, Bool, true, false, ◌||◌, List, [], ◌∷◌, ◌++◌, Option, Some, None, option_map, refl, arith, mod-lt, lit<, nat_le, if◌then◌else◌, find, is_some, is_none, option_and_then}
 use Rattle.std.specs.Prelude.{◌==◌, not}
 use Rattle.std.specs.Str.{bytes_eq}
 use Rattle.std.specs.List.{list_all, AllByRecursion}
@@ -24,8 +24,9 @@ use Rattle.bind_rows.specs.declared.rows.Form.TheVariants as forms
 use Rattle.bind_rows.specs.declared.rows.Row.{Row}
 use Rattle.bind_rows.specs.declared.rows.Written.{Written}
 use Rattle.bind_rows.specs.declared.rows.Written.TheVariants as written
+use Rattle.bind_rows.specs.Added.{letter_of_form, is_typed}
 use Rattle.bind_meaning.specs.Values.{Image, images, subject_code, form_for}
-use Rattle.bind_meaning.specs.Writing.{context_for, written_among, plain_date, coded_note, formed, is_iban, if_so, scheme_of, if_due, filled, term_text}
+use Rattle.bind_meaning.specs.Writing.{context_for, written_among, plain_date, coded_note, formed, is_iban, if_so, scheme_of, if_due, filled, has_slots, is_of_type, of_type, of_form, value_for, term_text}
 use Rattle.bind_meaning.specs.Trees.{constant_or_text}
 use Rattle.written_laws.specs.Readable.{constant_of, filler_of}
 use Rattle.written_laws.proofs.ListLemmas.{and-true, or-left, or-right, is-at-most, all-append}
@@ -134,12 +135,33 @@ note-chars (Some code) text h k =
 
 -- ---- what rows write
 
+type-chars : (b : Bool) (value : Value) → IsChars (spelled value) → ValueChars (elim b [ true ↦ Some value | false ↦ None ])
+type-chars true value h = h
+type-chars false value h = tt
+
+letter-chars : (o : Option Letter) (value : Value) → IsChars (spelled value) → ValueChars (elim o [ None ↦ Some value | Some letter ↦ of_type letter value ])
+letter-chars None value h = h
+letter-chars (Some letter) value h = type-chars (is_of_type letter value) value h
+
+form-chars : (form : Form) (o : Option Value) → ValueChars o → ValueChars (option_and_then (of_form form) o)
+form-chars form None h = tt
+form-chars form (Some value) h = letter-chars (letter_of_form form) value h
+
+-- what a row takes of what stands: whether it says the type itself, and whether the context has its groups
+value-chars : (form : Form) (typed slots : Bool) (o : Option Value) → ValueChars o
+    → ValueChars (elim typed [ true ↦ elim slots [ true ↦ option_and_then (of_form form) o | false ↦ None ] | false ↦ o ])
+value-chars form true true o h = form-chars form o h
+value-chars form true false o h = tt
+value-chars form false slots o h = h
+
 module _ (es : List Entry) (chars : AreChars es) where
   formed-chars : (form : Form) (c : Context) (value : Value) → IsChars (spelled value) → IsChars (formed form es c value)
   formed-chars forms.Model c value h = h
   formed-chars forms.PlainDate c value h = date-chars value h
   formed-chars forms.DueDateTypeCode c value h = images-chars (spelled value) h
   formed-chars forms.CodedNote c value h = note-chars (value_in es subject_code c) (spelled value) (standing-chars es chars subject_code c) h
+  formed-chars (forms.Typed letter) c value h = h
+  formed-chars forms.TypedPlainDate c value h = date-chars value h
 
   so-chars : (b : Bool) (text : List ℕ) → IsChars text → TextChars (if_so b text)
   so-chars true text h = h
@@ -167,8 +189,11 @@ module _ (es : List Entry) (chars : AreChars es) where
   filled-chars written.VatTotal c h = tt
   filled-chars written.AccountingVatTotal c h = tt
 
+  taken-chars : (row : Row) (term : Term) (c : Context) → ValueChars (value_for row es term c)
+  taken-chars row term c = value-chars (form_for row.form term) (is_typed (form_for row.form term)) (has_slots row c) (value_in es term c) (standing-chars es chars term c)
+
   term-chars : (row : Row) (term : Term) (c : Context) → IsChars (filler_of row.written) → TextChars (term_text row es term c)
-  term-chars row term c h = go (value_in es term c) (standing-chars es chars term c)
+  term-chars row term c h = go (value_for row es term c) (taken-chars row term c)
     where
       go : (o : Option Value) → ValueChars o → TextChars (elim o [
         | None ↦ filled row.written es c

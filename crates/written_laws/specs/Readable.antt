@@ -4,6 +4,7 @@ use Rattle.std.specs.List.{list_all, list_any}
 use Rattle.inv_base.specs.Characters.{is_char}
 use Rattle.inv_base.specs.Tree.{Name}
 use Rattle.xml_state.specs.declared.limits.Limits.{Limits}
+use Rattle.xml_state.specs.Sizes.{document_limits}
 use Rattle.xml_state.specs.Admission.{has_twice}
 use Rattle.xml_write.specs.Canonical.{Declaration, element_name, attribute_name, declaring_name}
 use Rattle.xml_laws.specs.Writable.{is_declarable, is_element_name, is_attribute_name, is_short}
@@ -17,15 +18,17 @@ use Rattle.bind_rows.specs.declared.rows.Content.{Content}
 use Rattle.bind_rows.specs.declared.rows.Content.TheVariants as contents
 use Rattle.bind_rows.specs.declared.rows.Written.{Written}
 use Rattle.bind_rows.specs.declared.rows.Written.TheVariants as written
+use Rattle.bind_rows.specs.Added.{is_typed}
 use Rattle.bind_table.specs.Lines.{Cell, Plan, nothing, a_line, plan_of}
 use Rattle.bind_meaning.specs.Currencies.{currency_id}
 use Rattle.bind_meaning.specs.Picks.{has_term}
+use Rattle.bind_meaning.specs.Values.{form_for}
 use Rattle.bind_meaning.specs.Trees.{holds, name_of, is_at_element}
 use Rattle.bind_write.specs.Documents.{declared_for, namespace_of}
 
 -- how large a document may be
 abbrev pub reading_limits : Limits
-reading_limits = record { bytes = 16777216; nodes = 1000000; depth = 100; attributes = 64; name = 200; names = 10000 }
+reading_limits = document_limits
 
 -- ---- what the lines of a table write, whatever the invoice is
 
@@ -118,9 +121,9 @@ abbrev pub is_always : Written → Bool
 is_always written.Always = true
 is_always _ = false
 
--- The row writes the term wherever it stands.
+-- The row writes the term wherever it stands, whatever the type of its value: a row that a user added writes values of its own type alone.
 abbrev pub always_writes : Term → Cell → Bool
-always_writes term cell = is_always cell.row.written && has_term term cell.row
+always_writes term cell = is_always cell.row.written && (has_term term cell.row && not (is_typed (form_for cell.row.form term)))
 
 -- So does one outside all groups.
 abbrev pub shows : Term → Plan → Bool

@@ -10,7 +10,7 @@ use Rattle.node_arena.specs.Moves.{tree_nodes}
 use Rattle.code_lists.specs.CodeFiles.{Lists}
 use Rattle.inv_terms.specs.declared.entries.Entry.{Entry}
 use Rattle.bind_rows.specs.declared.rows.Row.{Row}
-use Rattle.bind_meaning.specs.declared.tables.Which.{Which}
+use Rattle.bind_rows.specs.declared.tables.Which.{Which}
 use Rattle.bind_meaning.specs.Tables.{rows_of}
 use Rattle.bind_meaning.specs.Terms.{terms_of}
 use Rattle.bind_meaning.specs.Trees.{document_of}

@@ -3,7 +3,7 @@ use Rattle.std.specs.Prelude.{List, Option, Some, None, option_and_then}
 use Rattle.inv_base.specs.Tree.{Name}
 use Rattle.bind_rows.specs.declared.rows.Row.{Row}
 use Rattle.bind_table.specs.Lines.{Plan, nothing, a_line, plan_of}
-use Rattle.bind_meaning.specs.declared.tables.Which.{Which}
+use Rattle.bind_rows.specs.declared.tables.Which.{Which}
 use Rattle.bind_meaning.specs.Trees.{name_of}
 use Rattle.bind_run.specs.Roots.{which_named}
 

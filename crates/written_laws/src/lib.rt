@@ -16,7 +16,7 @@ ghost use Rattle.inv_terms.specs.Listing.{IsInvoice, value_in};
 ghost use Rattle.inv_terms.specs.Whole.{IsValid};
 ghost use Rattle.bind_rows.specs.declared.rows.Row.{Row};
 ghost use Rattle.bind_table.specs.Lines.{plan_of};
-ghost use Rattle.bind_meaning.specs.declared.tables.Which.{Which};
+ghost use Rattle.bind_rows.specs.declared.tables.Which.{Which};
 ghost use Rattle.bind_meaning.specs.Tables.{rows_of};
 ghost use Rattle.bind_meaning.specs.Terms.{Read, terms_of};
 ghost use Rattle.bind_meaning.specs.Trees.{document_of};

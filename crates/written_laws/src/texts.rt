@@ -8,7 +8,7 @@ ghost use Rattle.inv_terms.specs.declared.entries.Entry.{Entry};
 ghost use Rattle.inv_terms.specs.Listing.{IsInvoice};
 ghost use Rattle.inv_terms.specs.Whole.{IsValid};
 ghost use Rattle.bind_rows.specs.declared.rows.Row.{Row};
-ghost use Rattle.bind_meaning.specs.declared.tables.Which.{Which};
+ghost use Rattle.bind_rows.specs.declared.tables.Which.{Which};
 ghost use Rattle.bind_meaning.specs.declared.tables.Syntax.{Syntax};
 ghost use Rattle.bind_meaning.specs.Tables.{rows_of};
 ghost use Rattle.bind_meaning.specs.Trees.{document_of};

@@ -12,3 +12,4 @@ pub mod Scopes
 pub mod Recent
 pub mod StartTags
 pub mod LineEnds
+pub mod Sizes

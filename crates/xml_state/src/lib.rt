@@ -22,6 +22,6 @@ mod written;
 
 pub use events::Events;
 pub use fault::XmlFault;
-pub use limits::Limits;
+pub use limits::{DOCUMENT_LIMITS, Limits, RULE_LIMITS};
 pub use names::{NameId, NameTable};
 pub use nest::Nest;

@@ -14,3 +14,20 @@ pub struct Limits {
     /// Distinct expanded names of elements and attributes.
     pub names: u32,
 }
+
+/// How large a document may be that the program reads, and so one that it writes.
+pub const DOCUMENT_LIMITS: Limits = Limits {
+    bytes: 16_777_216,
+    nodes: 1_000_000,
+    depth: 100,
+    attributes: 64,
+    name: 200,
+    names: 10_000,
+};
+
+/// How large a rule file may be.
+pub const RULE_LIMITS: Limits = Limits {
+    bytes: 4_194_304,
+    nodes: 4_000_000,
+    ..DOCUMENT_LIMITS
+};

@@ -9,6 +9,7 @@ ghost use Rattle.xml_tokens.specs.Told as told;
 
 use crate::ascii::are_calm;
 use crate::beginning::{Beginning, Position};
+use crate::greatest::GREATEST_TAG;
 use crate::kind::XmlKind;
 use crate::markup::{comment, instruction, section};
 use crate::plain_tags::plain_tag;
@@ -19,9 +20,6 @@ use crate::token::Token;
 use inv_base::is_char;
 use std::alloc::{AllocError, Global};
 use std::str;
-
-/// The greatest number of bytes of a tag, its `<` and `>` among them.
-const GREATEST_TAG: usize = 262_144;
 
 /// Whether all characters of the text are Chars.
 fn are_chars(text: &str) -> bool

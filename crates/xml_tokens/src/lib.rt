@@ -11,6 +11,7 @@ mod comments;
 mod declaration;
 mod encoding;
 mod extents;
+mod greatest;
 mod instructions;
 mod kind;
 mod literals;
@@ -28,6 +29,7 @@ mod values;
 
 pub use asides::{ClosedAside, OpenAside};
 pub use beginning::{Beginning, Position, what_begins};
+pub use greatest::GREATEST_TAG;
 pub use kind::XmlKind;
 pub use run::run_at_front;
 pub use search::Search;

@@ -21,7 +21,7 @@ module _ (nodes : List Node) (w : IsWalkable nodes) (outer : List (List ℕ × V
   finds : Exp → ℕ → Node → Bool
   finds e k node = is_among k (found_at nodes outer e node.number)
 
-  found_by : (e : Exp) (n k : ℕ) → n < length nodes → is_among k (found_at nodes outer e n) ≡ true → is_found nodes outer e k ≡ true
+  pub found_by : (e : Exp) (n k : ℕ) → n < length nodes → is_among k (found_at nodes outer e n) ≡ true → is_found nodes outer e k ≡ true
   found_by e n k within h =
       list_any_at (λ (node : Node). is_among k (found_at nodes outer e node.number)) nodes n _ within (ap (λ m. is_among k (found_at nodes outer e m)) (w.counted n within) ∙ h)
 

@@ -6,3 +6,5 @@ pub mod FoundLemmas
 pub mod TurnLemmas
 pub mod InsideLemmas
 pub mod MarkingLemmas
+pub mod FirstStepLemmas
+pub mod AloneLemmas

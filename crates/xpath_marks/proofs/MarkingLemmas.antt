@@ -12,7 +12,7 @@ use Rattle.xpath_meaning.specs.Items.{is_empty}
 use Rattle.xpath_meaning.specs.Expressions as x
 use Rattle.xpath_meaning.specs.Expressions.{Exp, NodeTest}
 use Rattle.xpath_grammar.specs.declared.step.Axis.{Axis}
-use Rattle.xpath_meaning.specs.Resolving.{Operand, all_inside, chained, chained_on, linked, linked_by, kept_of, step_of}
+use Rattle.xpath_meaning.specs.Resolving.{Operand, all_inside, in_axis_order, chained, chained_on, linked, linked_by, kept_of, step_of}
 use Rattle.xpath_plan.specs.declared.work.Kind.{Kind}
 use Rattle.xpath_plan.specs.declared.work.Kind.TheVariants as kd
 use Rattle.xpath_plan.specs.declared.work.Link.{Link}
@@ -22,7 +22,7 @@ use Rattle.xpath_plan.specs.declared.work.Simple.TheVariants as s
 use Rattle.xpath_plan.specs.declared.work.Work.{Work}
 use Rattle.xpath_plan.specs.declared.work.Work.TheVariants as w
 use Rattle.xpath_plan.specs.Plans.{seen, made, label_of, simple_seen, test_seen}
-use Rattle.xpath_plan.proofs.SeenLaws.{seen-simple}
+use Rattle.xpath_run.proofs.SeenLemmas.{seen-simple}
 use Rattle.xpath_walks.specs.Walks.{IsWalked, node_numbers}
 use Rattle.xpath_walks.specs.Order.{AreNumbers}
 use Rattle.xpath_walks.proofs.FilterLemmas.{alike}
@@ -34,8 +34,10 @@ use Rattle.xpath_marks.specs.declared.marking.Joining.TheVariants as j
 use Rattle.xpath_marks.specs.Shapes.{is_step, is_pattern}
 use Rattle.xpath_marks.specs.Found.{is_found, all_found, all_reached}
 use Rattle.xpath_marks.specs.Marking.{FoundByStep, Reached, Marked, nodes_of, is_first_part, is_chain, is_root, is_operator, joined_by, joining_of, united_of}
+use Rattle.xpath_marks.specs.FirstSteps.{is_found_by_first}
+use Rattle.xpath_marks.proofs.ShapeLemmas.{step_pattern}
 use Rattle.xpath_marks.proofs.FoundLemmas.{path_found, bar_found, step_found}
-use Rattle.xpath_marks.proofs.TurnLemmas.{node_seen, first_part_is}
+use Rattle.xpath_marks.proofs.TurnLemmas.{node_seen, first_part_is, ordered_found, ordered_step}
 
 -- ---- the document, and nothing
 
@@ -118,8 +120,10 @@ no_parts_step kd.Conditional p = refl
 no_parts_step (kd.Cast word function optional) p = absurd (false≢true p)
 no_parts_step (kd.Signs signs) p = absurd (false≢true p)
 no_parts_step kd.FilteredStep p = refl
+no_parts_step kd.FreeStep p = refl
 no_parts_step kd.Filtered p = refl
 no_parts_step kd.Only p = refl
+no_parts_step (kd.Once slot height) p = refl
 no_parts_step (kd.Call function) p = absurd (false≢true p)
 no_parts_step (kd.Matches pattern) p = absurd (false≢true p)
 no_parts_step kd.Nothing p = refl
@@ -131,10 +135,12 @@ kept_pattern (next ∷ parts) e part = kept_pattern parts (x.filtered e part.1) 
 other_step : (names : List Name) (kind : Kind) (link : Link) (work : Work) (others : List (Link × Work)) → is_first_part kind link (is_empty others) ≡ false → is_chain kind ≡ false
     → is_pattern (made kind (operands_of names ((link, work) ∷ others))) ≡ true → is_step (made kind (operands_of names ((link, work) ∷ others))) ≡ true
 other_step names kd.Only link work others h c p = absurd (true≢false h)
+other_step names (kd.Once slot height) link work others h c p = absurd (true≢false h)
 other_step names kd.Chain link work others h c p = absurd (true≢false c)
 other_step names kd.Filtered link work [] h c p = absurd (true≢false h)
 other_step names kd.Filtered link work (other ∷ others) h c p = sym (kept_pattern (operands_of names others) (seen names work) (label_of other.0, seen names other.1)) ∙ p
 other_step names kd.FilteredStep link work others h c p = p
+other_step names kd.FreeStep link work others h c p = p
 other_step names (kd.Bound binder) link work [] h c p = absurd (true≢false h)
 other_step names (kd.Bound binder) link work (other ∷ others) h c p = absurd (false≢true p)
 other_step names kd.Conditional link work [] h c p = refl
@@ -146,6 +152,46 @@ other_step names (kd.Signs signs) link work others h c p = absurd (false≢true 
 other_step names (kd.Call function) link work others h c p = absurd (false≢true p)
 other_step names (kd.Matches pattern) link work others h c p = absurd (false≢true p)
 other_step names kd.Nothing link work others h c p = refl
+
+-- ---- what the first part finds
+
+ordered_marked : (base : Ground) (e : Exp) (found : List ℕ) → Marked base e found → Marked base (x.stepped (in_axis_order e)) found
+ordered_marked base e found m s =
+    m (step_pattern e (sym (ordered_step e) ∙ s))
+    ∙ (λ j. node_numbers (filter (λ (node : Node). list_any (λ (n : Node). is_among node.number (sym (ordered_found base e n.number) j)) (nodes_of base)) (nodes_of base)))
+
+first_finds : (base : Ground) (kind : Kind) (link : Link) (work : Work) (others : List (Link × Work)) (found : List ℕ) → is_found_by_first kind link (is_empty others) ≡ true
+    → Marked base (seen base.names.now work) found → Marked base (made kind (operands_of base.names.now ((link, work) ∷ others))) found
+first_finds base kd.FilteredStep link work [] found h m = ordered_marked base (seen base.names.now work) found m
+first_finds base kd.FreeStep link work [] found h m = ordered_marked base (seen base.names.now work) found m
+first_finds base kd.FilteredStep link work (other ∷ others) found h m = absurd (false≢true h)
+first_finds base kd.FreeStep link work (other ∷ others) found h m = absurd (false≢true h)
+first_finds base kd.Only link work others found h m = subst (λ e. Marked base e found) (sym (first_part_is base.names.now kd.Only link work others h)) m
+first_finds base (kd.Once slot height) link work others found h m = subst (λ e. Marked base e found) (sym (first_part_is base.names.now (kd.Once slot height) link work others h)) m
+first_finds base kd.Filtered link work others found h m = subst (λ e. Marked base e found) (sym (first_part_is base.names.now kd.Filtered link work others h)) m
+first_finds base (kd.Bound binder) link work others found h m = subst (λ e. Marked base e found) (sym (first_part_is base.names.now (kd.Bound binder) link work others h)) m
+first_finds base kd.Chain link work others found h m = subst (λ e. Marked base e found) (sym (first_part_is base.names.now kd.Chain link work others h)) m
+first_finds base kd.Conditional link work others found h m = absurd (false≢true h)
+first_finds base (kd.Cast word function optional) link work others found h m = absurd (false≢true h)
+first_finds base (kd.Signs signs) link work others found h m = absurd (false≢true h)
+first_finds base (kd.Call function) link work others found h m = absurd (false≢true h)
+first_finds base (kd.Matches pattern) link work others found h m = absurd (false≢true h)
+first_finds base kd.Nothing link work others found h m = absurd (false≢true h)
+
+not_first : (kind : Kind) (link : Link) (alone : Bool) → is_found_by_first kind link alone ≡ false → is_first_part kind link alone ≡ false
+not_first kd.FilteredStep link alone h = refl
+not_first kd.FreeStep link alone h = refl
+not_first kd.Only link alone h = h
+not_first (kd.Once slot height) link alone h = h
+not_first kd.Filtered link alone h = h
+not_first (kd.Bound binder) link alone h = h
+not_first kd.Chain link alone h = h
+not_first kd.Conditional link alone h = h
+not_first (kd.Cast word function optional) link alone h = h
+not_first (kd.Signs signs) link alone h = h
+not_first (kd.Call function) link alone h = h
+not_first (kd.Matches pattern) link alone h = h
+not_first kd.Nothing link alone h = h
 
 -- ---- works with parts
 
@@ -162,12 +208,13 @@ module _ (base : Ground) (work : Work) (kind : Kind) (parts : List (Link × Work
     divided_is : seen base.names.now work ≡ made kind (operands_of base.names.now (first ∷ others))
     divided_is = node_is ∙ ap (λ ps. made kind (operands_of base.names.now ps)) divided
 
-    pub first_marked : is_first_part kind first.0 (is_empty others) ≡ true → Marked base (seen base.names.now first.1) found → Marked base (seen base.names.now work) found
-    first_marked h m = subst (λ e. Marked base e found) (sym (divided_is ∙ first_part_is base.names.now kind first.0 first.1 others h)) m
+    pub first_marked : is_found_by_first kind first.0 (is_empty others) ≡ true → Marked base (seen base.names.now first.1) found → Marked base (seen base.names.now work) found
+    first_marked h m = subst (λ e. Marked base e found) (sym divided_is) (first_finds base kind first.0 first.1 others found h m)
 
-    pub others_marked : is_first_part kind first.0 (is_empty others) ≡ false → is_chain kind ≡ false → FoundByStep base (seen base.names.now work) found
+    pub others_marked : is_found_by_first kind first.0 (is_empty others) ≡ false → is_chain kind ≡ false → FoundByStep base (seen base.names.now work) found
         → Marked base (seen base.names.now work) found
-    others_marked h c f = λ p. f (ap is_step divided_is ∙ other_step base.names.now kind first.0 first.1 others h c (sym (ap is_pattern divided_is) ∙ p))
+    others_marked h c f = λ p.
+        f (ap is_step divided_is ∙ other_step base.names.now kind first.0 first.1 others (not_first kind first.0 (is_empty others) h) c (sym (ap is_pattern divided_is) ∙ p))
 
   pub chain_marked : is_chain kind ≡ true → Marked base (chained (operands_of base.names.now parts)) found → Marked base (seen base.names.now work) found
   chain_marked c m = subst (λ e. Marked base e found) (sym (node_is ∙ ap (λ k. made k (operands_of base.names.now parts)) (chain_is kind c))) m
@@ -179,8 +226,10 @@ module _ (base : Ground) (work : Work) (kind : Kind) (parts : List (Link × Work
       chain_is (kd.Cast word function optional) c = absurd (false≢true c)
       chain_is (kd.Signs signs) c = absurd (false≢true c)
       chain_is kd.FilteredStep c = absurd (false≢true c)
+      chain_is kd.FreeStep c = absurd (false≢true c)
       chain_is kd.Filtered c = absurd (false≢true c)
       chain_is kd.Only c = absurd (false≢true c)
+      chain_is (kd.Once slot height) c = absurd (false≢true c)
       chain_is (kd.Call function) c = absurd (false≢true c)
       chain_is (kd.Matches pattern) c = absurd (false≢true c)
       chain_is kd.Nothing c = absurd (false≢true c)

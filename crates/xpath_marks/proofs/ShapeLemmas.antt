@@ -52,7 +52,7 @@ kept_step : (parts : List Operand) (e : Exp) → is_step e ≡ true → is_step 
 kept_step [] e s = s
 kept_step (part ∷ parts) e s = kept_step parts (x.filtered e part.1) s
 
-step_pattern : (e : Exp) → is_step e ≡ true → is_pattern e ≡ true
+pub step_pattern : (e : Exp) → is_step e ≡ true → is_pattern e ≡ true
 step_pattern x.nothing s = refl
 step_pattern (x.axis_step axis test) s = s
 step_pattern (x.filtered e predicate) s = s

@@ -26,10 +26,9 @@ use Rattle.xpath_plan.specs.declared.work.Link.TheVariants as l
 use Rattle.xpath_plan.specs.declared.work.Work.{Work}
 use Rattle.xpath_plan.specs.declared.work.Work.TheVariants as w
 use Rattle.xpath_plan.specs.Plans.{seen, made, label_of}
-use Rattle.xpath_plan.proofs.SeenLaws.{seen-node, seen_all}
-use Rattle.xpath_plan.proofs.MadeLaws.{labelled}
 use Rattle.xpath_run.specs.declared.ground.Ground.{Ground}
 use Rattle.xpath_run.specs.Contexts.{count, operands_of}
+use Rattle.xpath_run.proofs.SeenLemmas.{seen-node}
 use Rattle.xpath_steps.proofs.WithinLemmas.{append_within, below_within, filter_below}
 use Rattle.xpath_steps.proofs.NodeLemmas.{document_below, items_of_numbers}
 use Rattle.xpath_steps.proofs.PathLemmas.{axis_within}
@@ -38,12 +37,8 @@ use Rattle.xpath_walks.specs.Walks.{IsWalked, axis_numbers, if_so, node_numbers}
 use Rattle.xpath_marks.specs.Shapes.{is_step}
 use Rattle.xpath_marks.specs.Marking.{AreNodes, Turned, Filtered, nodes_of, kept_by, kept_by_all, is_first_part, is_filter}
 
-labelled_all : (names : List Name) (parts : List (Link × Work)) → labelled (seen_all names parts) ≡ operands_of names parts
-labelled_all names [] = refl
-labelled_all names (part ∷ parts) = ap (λ xs. (label_of part.0, seen names part.1) ∷ xs) (labelled_all names parts)
-
 pub node_seen : (names : List Name) (kind : Kind) (parts : List (Link × Work)) → seen names (w.Node kind parts) ≡ made kind (operands_of names parts)
-node_seen names kind parts = seen-node names kind parts ∙ ap (made kind) (labelled_all names parts)
+node_seen names kind parts = seen-node names kind parts
 
 pub nodes_append : (base : Ground) (ns ms : List ℕ) → AreNodes base ns → AreNodes base ms → AreNodes base (ns ++ ms)
 nodes_append base ns ms h k =
@@ -125,8 +120,10 @@ no_parts kd.Conditional s = refl
 no_parts (kd.Cast word function optional) s = absurd (false≢true s)
 no_parts (kd.Signs signs) s = absurd (false≢true s)
 no_parts kd.FilteredStep s = refl
+no_parts kd.FreeStep s = refl
 no_parts kd.Filtered s = refl
 no_parts kd.Only s = refl
+no_parts (kd.Once slot height) s = refl
 no_parts (kd.Call function) s = absurd (false≢true s)
 no_parts (kd.Matches pattern) s = absurd (false≢true s)
 no_parts kd.Nothing s = refl
@@ -138,6 +135,7 @@ none_turned base kind n old new same = nothing_turned base (made kind []) n old 
 pub first_part_is : (names : List Name) (kind : Kind) (link : Link) (work : Work) (others : List (Link × Work)) → is_first_part kind link (is_empty others) ≡ true
     → made kind (operands_of names ((link, work) ∷ others)) ≡ seen names work
 first_part_is names kd.Only link work others h = refl
+first_part_is names (kd.Once slot height) link work others h = refl
 first_part_is names kd.Filtered link work [] h = refl
 first_part_is names kd.Filtered link work (other ∷ others) h = absurd (false≢true h)
 first_part_is names (kd.Bound binder) link work [] h = refl
@@ -150,16 +148,19 @@ first_part_is names kd.Conditional link work others h = absurd (false≢true h)
 first_part_is names (kd.Cast word function optional) link work others h = absurd (false≢true h)
 first_part_is names (kd.Signs signs) link work others h = absurd (false≢true h)
 first_part_is names kd.FilteredStep link work others h = absurd (false≢true h)
+first_part_is names kd.FreeStep link work others h = absurd (false≢true h)
 first_part_is names (kd.Call function) link work others h = absurd (false≢true h)
 first_part_is names (kd.Matches pattern) link work others h = absurd (false≢true h)
 first_part_is names kd.Nothing link work others h = absurd (false≢true h)
 
 -- neither that nor filtered: no step but nothing
-no_step : (names : List Name) (kind : Kind) (link : Link) (work : Work) (others : List (Link × Work)) → is_first_part kind link (is_empty others) ≡ false → is_filter kind ≡ false
+pub no_step : (names : List Name) (kind : Kind) (link : Link) (work : Work) (others : List (Link × Work)) → is_first_part kind link (is_empty others) ≡ false → is_filter kind ≡ false
     → is_step (made kind (operands_of names ((link, work) ∷ others))) ≡ true → made kind (operands_of names ((link, work) ∷ others)) ≡ x.nothing
 no_step names kd.Only link work others h f s = absurd (true≢false h)
+no_step names (kd.Once slot height) link work others h f s = absurd (true≢false h)
 no_step names kd.Filtered link work others h f s = absurd (true≢false f)
 no_step names kd.FilteredStep link work others h f s = absurd (true≢false f)
+no_step names kd.FreeStep link work others h f s = absurd (true≢false f)
 no_step names (kd.Bound binder) link work [] h f s = absurd (true≢false h)
 no_step names (kd.Bound binder) link work (other ∷ others) h f s = absurd (false≢true s)
 no_step names kd.Chain (l.Operator operator) work others h f s = chain_no_step x.the_root (k.Link operator, seen names work) (operands_of names others) s
@@ -191,7 +192,7 @@ first_turned base kind part others n old new h t =
 
 -- ---- predicates
 
-ordered_found : (base : Ground) (e : Exp) (n : ℕ) → found_at (nodes_of base) base.env.now (in_axis_order e) n ≡ found_at (nodes_of base) base.env.now e n
+pub ordered_found : (base : Ground) (e : Exp) (n : ℕ) → found_at (nodes_of base) base.env.now (in_axis_order e) n ≡ found_at (nodes_of base) base.env.now e n
 ordered_found base (x.text t) n = refl
 ordered_found base (x.number z) n = refl
 ordered_found base x.nothing n = refl
@@ -213,7 +214,7 @@ ordered_found base (x.bound binder e f) n = refl
 ordered_found base (x.cast word type optional e) n = refl
 ordered_found base (x.called function arguments) n = refl
 
-ordered_step : (e : Exp) → is_step (in_axis_order e) ≡ is_step e
+pub ordered_step : (e : Exp) → is_step (in_axis_order e) ≡ is_step e
 ordered_step (x.text t) = refl
 ordered_step (x.number z) = refl
 ordered_step x.nothing = refl
@@ -243,14 +244,33 @@ kept_found : (base : Ground) (parts : List Operand) (e : Exp) (n : ℕ) → foun
 kept_found base [] e n = refl
 kept_found base (part ∷ parts) e n = kept_found base parts (x.filtered e part.1) n
 
+-- what the first part finds at a node and the others keep
+pub filter_found : (base : Ground) (kind : Kind) (link : Link) (e : Exp) (predicates : List Operand) (n : ℕ) → is_filter kind ≡ true
+    → found_at (nodes_of base) base.env.now (made kind ((label_of link, e) ∷ predicates)) n ≡ kept_by_all base predicates (found_at (nodes_of base) base.env.now e n)
+filter_found base kd.FilteredStep link e predicates n h = kept_found base predicates (in_axis_order e) n ∙ ap (kept_by_all base predicates) (ordered_found base e n)
+filter_found base kd.FreeStep link e predicates n h = kept_found base predicates (in_axis_order e) n ∙ ap (kept_by_all base predicates) (ordered_found base e n)
+filter_found base kd.Filtered link e predicates n h = kept_found base predicates e n
+filter_found base kd.Only link e predicates n h = absurd (false≢true h)
+filter_found base (kd.Once slot height) link e predicates n h = absurd (false≢true h)
+filter_found base (kd.Bound binder) link e predicates n h = absurd (false≢true h)
+filter_found base kd.Chain link e predicates n h = absurd (false≢true h)
+filter_found base kd.Conditional link e predicates n h = absurd (false≢true h)
+filter_found base (kd.Cast word function optional) link e predicates n h = absurd (false≢true h)
+filter_found base (kd.Signs signs) link e predicates n h = absurd (false≢true h)
+filter_found base (kd.Call function) link e predicates n h = absurd (false≢true h)
+filter_found base (kd.Matches pattern) link e predicates n h = absurd (false≢true h)
+filter_found base kd.Nothing link e predicates n h = absurd (false≢true h)
+
 filter_turned : (base : Ground) (kind : Kind) (link : Link) (e : Exp) (predicates : List Operand) (n : ℕ) (old new : List ℕ) → is_filter kind ≡ true → Filtered base e predicates n old new
     → Turned base (made kind ((label_of link, e) ∷ predicates)) n old new
 filter_turned base kd.FilteredStep link e predicates n old new h f s =
-    f (sym (kept_step_is predicates (in_axis_order e) ∙ ordered_step e) ∙ s)
-    ∙ ap (λ ns. old ++ ns) (sym (kept_found base predicates (in_axis_order e) n ∙ ap (kept_by_all base predicates) (ordered_found base e n)))
+    f (sym (kept_step_is predicates (in_axis_order e) ∙ ordered_step e) ∙ s) ∙ ap (λ ns. old ++ ns) (sym (filter_found base kd.FilteredStep link e predicates n h))
+filter_turned base kd.FreeStep link e predicates n old new h f s =
+    f (sym (kept_step_is predicates (in_axis_order e) ∙ ordered_step e) ∙ s) ∙ ap (λ ns. old ++ ns) (sym (filter_found base kd.FreeStep link e predicates n h))
 filter_turned base kd.Filtered link e predicates n old new h f s =
-    f (sym (kept_step_is predicates e) ∙ s) ∙ ap (λ ns. old ++ ns) (sym (kept_found base predicates e n))
+    f (sym (kept_step_is predicates e) ∙ s) ∙ ap (λ ns. old ++ ns) (sym (filter_found base kd.Filtered link e predicates n h))
 filter_turned base kd.Only link e predicates n old new h f s = absurd (false≢true h)
+filter_turned base (kd.Once slot height) link e predicates n old new h f s = absurd (false≢true h)
 filter_turned base (kd.Bound binder) link e predicates n old new h f s = absurd (false≢true h)
 filter_turned base kd.Chain link e predicates n old new h f s = absurd (false≢true h)
 filter_turned base kd.Conditional link e predicates n old new h f s = absurd (false≢true h)

@@ -1,3 +1,4 @@
 pub mod Shapes
 pub mod Found
 pub mod Marking
+pub mod FirstSteps

@@ -75,6 +75,7 @@ is_operator _ = false
 -- what is made of the parts is the first part, where it is said whether it is the only one
 abbrev pub is_first_part : Kind → Link → Bool → Bool
 is_first_part k.Only link alone = true
+is_first_part (k.Once slot height) link alone = true
 is_first_part k.Filtered link alone = alone
 is_first_part (k.Bound binder) link alone = alone
 is_first_part k.Chain link alone = alone && not (is_operator link)
@@ -83,6 +84,7 @@ is_first_part _ link alone = false
 -- the first part is filtered by the others
 abbrev pub is_filter : Kind → Bool
 is_filter k.FilteredStep = true
+is_filter k.FreeStep = true
 is_filter k.Filtered = true
 is_filter _ = false
 

@@ -1,11 +1,12 @@
 -- Which expressions are those of patterns.
-use Rattle.std.specs.Prelude.{Bool, true, false, ◌&&◌}
+use Rattle.std.specs.Prelude.{Bool, true, false, ◌&&◌, Option, Some, None}
+use Rattle.inv_base.specs.Tree.{Name}
 use Rattle.xpath_tokens.specs.declared.token.Operator.{Operator}
 use Rattle.xpath_tokens.specs.declared.token.Operator.TheVariants as o
 use Rattle.xpath_grammar.specs.declared.step.Axis.{Axis}
 use Rattle.xpath_grammar.specs.declared.step.Axis.TheVariants as a
 use Rattle.xpath_meaning.specs.Expressions as x
-use Rattle.xpath_meaning.specs.Expressions.{Exp}
+use Rattle.xpath_meaning.specs.Expressions.{Exp, NodeTest}
 
 -- From a node it leads to that node, its attributes and what is inside it.
 abbrev pub is_downward : Axis → Bool
@@ -38,3 +39,14 @@ is_pattern (x.stepped e) = is_step e
 is_pattern (x.slash e step) = is_pattern e && is_step step
 is_pattern (x.operated operator e f) = is_bar operator && (is_pattern e && is_pattern f)
 is_pattern _ = false
+
+-- the full name that a step to children looks for
+abbrev pub child_test : Axis → NodeTest → Option Name
+child_test a.Child (x.named name) = Some name
+child_test _ _ = None
+
+-- the full name, where the pattern is such a step without predicates
+abbrev pub alone : Exp → Option Name
+alone (x.axis_step axis test) = child_test axis test
+alone (x.stepped e) = alone e
+alone _ = None

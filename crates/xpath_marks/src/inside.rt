@@ -16,7 +16,7 @@ use std::sync::ledger::Ledger;
 use xpath_grammar::step::{Axis, KindTest};
 use xpath_plan::work::StepTest;
 use xpath_run::Ground;
-use xpath_walks::{Step, axis_nodes, documents_are_walkable, in_order};
+use xpath_walks::{Step, axis_nodes, documents_are_walkable, in_order, is_around};
 
 /// All nodes.
 pub(crate) fn all_nodes<L: Ledger>(
@@ -47,9 +47,7 @@ fn is_covered_by<L: Ledger>(
     requires within { n < count ground.now }
     ensures { result ≡ (is_inside around (tree_node (nodes_of ground.now) n) && not (is_attribute (tree_node (nodes_of ground.now) n))) }
 {
-    documents_are_walkable(ground.doc);
-    let last = ground.doc.last_inside(around, steps);
-    around.number() < n.number() && n.number() <= last.number() && is_no_attribute(ground, n)
+    is_around(ground.doc, around, n, steps) && is_no_attribute(ground, n)
 }
 
 fn is_no_attribute(ground: &Ground<'_, '_>, n: NodeId) -> bool

@@ -1,6 +1,7 @@
 //! Which nodes of a document a pattern matches (XSLT 2.0, section 5.5.3).
 #![tactic(auto)]
 
+mod first_steps;
 mod inside;
 mod law;
 mod marking;

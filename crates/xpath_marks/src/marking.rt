@@ -1,13 +1,18 @@
 //! What a pattern finds, by its parts.
-ghost use Rattle.std.specs.Prelude.{◌≡◌, [], IfOk};
+ghost use Rattle.std.specs.Prelude.{◌≡◌, [], true, length, Some, IfOk};
+ghost use Rattle.inv_base.specs.Tree.{Name};
 ghost use Rattle.xpath_meaning.specs.Expressions as x;
-ghost use Rattle.xpath_meaning.specs.Expressions.{Exp};
+ghost use Rattle.xpath_meaning.specs.Expressions.{Exp, named};
 ghost use Rattle.xpath_meaning.specs.Resolving.{chained, chained_on, linked};
 ghost use Rattle.xpath_plan.specs.Plans.{seen, label_of};
 ghost use Rattle.xpath_run.specs.Contexts.{IsReadyFor, operands_of};
+ghost use Rattle.xpath_walks.specs.Walks.{Bounds, chain_of};
+ghost use Rattle.xpath_marks.specs.FirstSteps.{is_found_by_first};
 ghost use Rattle.xpath_marks.specs.Marking as spec;
-ghost use Rattle.xpath_marks.specs.Marking.{AreNodes, FoundByStep, Marked, united_of};
+ghost use Rattle.xpath_marks.specs.Marking.{AreNodes, FoundByStep, Marked, nodes_of, united_of};
+ghost use Rattle.xpath_marks.specs.Shapes.{alone};
 
+use crate::first_steps::{all_of_name, child_name, filtered_name, from_around};
 use crate::inside::{all_inside, all_nodes};
 use crate::steps::{is_first_part, is_operator, reached};
 use inv_base::Steps;
@@ -87,6 +92,41 @@ fn is_chain(kind: &Kind) -> bool
     }
 }
 
+/// Whether what the kind makes of its parts finds what the first part does: it is that part, or a step without
+/// predicates.
+fn is_found_by_first(kind: &Kind, link: Link, alone: bool) -> bool
+    ensures { result ≡ is_found_by_first kind.now link alone }
+{
+    match kind {
+        Kind::FilteredStep | Kind::FreeStep => alone,
+        _ => is_first_part(kind, link, alone),
+    }
+}
+
+/// What a pattern without parts finds.
+fn found_by_simple<L: Ledger>(
+    ground: &Ground<'_, '_>,
+    work: &Work,
+    simple: &Simple,
+    steps: &mut Steps<L>,
+) -> Result<Vec<NodeId>, AllocError>
+    requires ready { IsReadyFor ground.now [] }
+    requires is { work.now ≡ Work.Simple simple.now }
+    ensures marked { IfOk result (λ found. Marked ground.now (seen ground.now.names.now work.now) found.items) }
+    ensures within { IfOk result (λ found. AreNodes ground.now found.items) }
+    ensures cost { (name : Name) → alone (seen ground.now.names.now work.now) ≡ Some name
+        → Bounds (length (chain_of (nodes_of ground.now) (Some (named name)))) true result steps.old steps.new }
+{
+    documents_are_walkable(ground.doc);
+    if is_root(simple) {
+        return the_root(ground);
+    }
+    match child_name(simple) {
+        Some(k) => all_of_name(ground, k, steps),
+        None => from_everywhere(ground, work, steps),
+    }
+}
+
 /// The nodes that the pattern finds from some node, in document order. Where it is no pattern, any nodes.
 #[cycle(marking)]
 pub(crate) fn found<L: Ledger>(
@@ -97,25 +137,24 @@ pub(crate) fn found<L: Ledger>(
     requires { IsReadyFor ground.now [] }
     ensures marked { IfOk result (λ found. Marked ground.now (seen ground.now.names.now work.now) found.items) }
     ensures within { IfOk result (λ found. AreNodes ground.now found.items) }
+    ensures cost { (name : Name) → alone (seen ground.now.names.now work.now) ≡ Some name
+        → Bounds (length (chain_of (nodes_of ground.now) (Some (named name)))) true result steps.old steps.new }
 {
     match work {
-        Work::Simple(simple) => {
-            if is_root(simple) {
-                the_root(ground)
-            } else {
-                from_everywhere(ground, work, steps)
-            }
-        }
+        Work::Simple(simple) => found_by_simple(ground, work, simple, steps),
         Work::Node(kind, parts) => {
             let Some((first, others)) = parts.as_slice().split_first() else {
                 return from_everywhere(ground, work, steps);
             };
-            if is_first_part(kind, first.0, others.is_empty()) {
-                found(ground, &first.1, steps)
-            } else if is_chain(kind) {
-                chain(ground, parts.as_slice(), steps)
-            } else {
-                from_everywhere(ground, work, steps)
+            if is_found_by_first(kind, first.0, others.is_empty()) {
+                return found(ground, &first.1, steps);
+            }
+            if is_chain(kind) {
+                return chain(ground, parts.as_slice(), steps);
+            }
+            match filtered_name(kind, &first.1) {
+                Some(k) => from_around(ground, work, k, steps),
+                None => from_everywhere(ground, work, steps),
             }
         }
     }

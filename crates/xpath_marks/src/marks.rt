@@ -1,11 +1,14 @@
-ghost use Rattle.std.specs.Prelude.{◌≡◌, true, length, slice_get, IfOk};
+ghost use Rattle.std.specs.Prelude.{◌≡◌, true, length, slice_get, Some, IfOk};
+ghost use Rattle.inv_base.specs.Tree.{Name};
 ghost use Rattle.node_arena.specs.Moves.{tree_nodes};
+ghost use Rattle.xpath_meaning.specs.Expressions.{named};
 ghost use Rattle.xpath_meaning.specs.Patterns as meaning;
 ghost use Rattle.xpath_operators.specs.Nodes.{AreWithin};
 ghost use Rattle.xpath_plan.specs.Plans.{expression};
 ghost use Rattle.xpath_steps.specs.Variables.{ValuesWithin};
 ghost use Rattle.xpath_walks.specs.Order.{node_items};
-ghost use Rattle.xpath_marks.specs.Shapes.{is_pattern};
+ghost use Rattle.xpath_walks.specs.Walks.{Bounds, chain_of};
+ghost use Rattle.xpath_marks.specs.Shapes.{alone, is_pattern};
 
 use crate::law::marks_are_found;
 use crate::marking::found;
@@ -61,10 +64,11 @@ impl Marks {
     }
 }
 
-/// All nodes of the document that the plan's pattern matches, in document order, where these are the values of the variables
-/// (XSLT 2.0, section 5.5.3). The pattern is evaluated once over the document: from each step's nodes the next step is taken, and
-/// each predicate is evaluated once at a node that stands before it. Each move takes a step. Of a plan that is no pattern's it gives
-/// any nodes.
+/// All nodes of the document that the plan's pattern matches, in document order, where these are the values of the
+/// variables (XSLT 2.0, section 5.5.3). The pattern is evaluated once over the document: from each step's nodes the
+/// next step is taken, and each predicate is evaluated once at a node that stands before it. Each move takes a step.
+/// A pattern that is a full name alone goes along the elements and attributes of that name, and over no other node.
+/// Of a plan that is no pattern's it gives any nodes.
 pub fn marks_of<L: Ledger>(
     alloc: Global,
     plan: &Plan,
@@ -75,6 +79,8 @@ pub fn marks_of<L: Ledger>(
     requires { ValuesWithin (length doc.now.nodes) env.now }
     ensures marks { IfOk result (λ found. is_pattern (expression plan.now) ≡ true → found ≡ meaning.marks (tree_nodes doc.now) env.now (expression plan.now)) }
     ensures within { IfOk result (λ found. AreWithin (length doc.now.nodes) (node_items found)) }
+    ensures cost { (name : Name) → alone (expression plan.now) ≡ Some name
+        → Bounds (length (chain_of (tree_nodes doc.now) (Some (named name)))) true result steps.old steps.new }
 {
     documents_are_walkable(doc);
     marks_are_found();

@@ -68,7 +68,7 @@ pub(crate) fn is_first_part(kind: &Kind, link: Link, alone: bool) -> bool
     ensures { result ≡ spec.is_first_part kind.now link alone }
 {
     match kind {
-        Kind::Only => true,
+        Kind::Only | Kind::Once(_, _) => true,
         Kind::Filtered | Kind::Bound(_) => alone,
         Kind::Chain => alone && !is_operator(link),
         _ => false,
@@ -84,11 +84,11 @@ pub(crate) fn is_operator(link: Link) -> bool
     }
 }
 
-fn is_filter(kind: &Kind) -> bool
+pub(crate) fn is_filter(kind: &Kind) -> bool
     ensures { result ≡ spec.is_filter kind.now }
 {
     match kind {
-        Kind::FilteredStep | Kind::Filtered => true,
+        Kind::FilteredStep | Kind::FreeStep | Kind::Filtered => true,
         _ => false,
     }
 }

@@ -5,4 +5,5 @@ mod MeaningKinds
 mod Monotone
 mod TreeKinds
 mod SameValues
+mod MovedValues
 mod TreeUses

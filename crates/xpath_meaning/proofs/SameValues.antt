@@ -22,11 +22,11 @@ use Rattle.xpath_meaning.specs.Uses as u
 use Rattle.xpath_meaning.specs.Uses.{Uses, uses_of, uses_of_arguments, called_uses, reads_outside, arguments_read_outside, AreSameFor}
 use Rattle.xpath_meaning.proofs.KindFacts.{or_left, or_right}
 
-neither_left : (a b : Bool) → (a || b) ≡ false → a ≡ false
+pub neither_left : (a b : Bool) → (a || b) ≡ false → a ≡ false
 neither_left true b h = h
 neither_left false b h = refl
 
-neither_right : (a b : Bool) → (a || b) ≡ false → b ≡ false
+pub neither_right : (a b : Bool) → (a || b) ≡ false → b ≡ false
 neither_right true b h = absurd (true≢false h)
 neither_right false b h = h
 
@@ -69,7 +69,7 @@ inside_same {a} {depth} {c} {d} item h = record {
 
 -- Calls
 
-alone_same : (ns : List Node) (function : Function) (depth : ℕ) (c d : Context) → AreSameFor (called_uses function x.no_more u.no_uses) depth c d
+pub alone_same : (ns : List Node) (function : Function) (depth : ℕ) (c d : Context) → AreSameFor (called_uses function x.no_more u.no_uses) depth c d
     → call ns function c.focus [] ≡ call ns function d.focus []
 alone_same ns f.Position depth c d h = λ i. counted (h.position refl i)
 alone_same ns f.Last depth c d h = λ i. counted (h.last refl i)
@@ -90,10 +90,10 @@ call_same : (ns : List Node) (function : Function) (a b : Focus) (x : List Item)
 call_same ns f.Concat a b x xs = refl
 call_same ns function a b x xs = with_same ns function a b x xs
 
-abbrev arguments_of : Value → Result (List (List Item)) DynError → Result (List (List Item)) DynError
+abbrev pub arguments_of : Value → Result (List (List Item)) DynError → Result (List (List Item)) DynError
 arguments_of value values = then_ value (λ value. then_ values (λ values. Ok (value ∷ values)))
 
-focus_free : (ns : List Node) (function : Function) (a b : Focus) (value : Value) (values : Result (List (List Item)) DynError)
+pub focus_free : (ns : List Node) (function : Function) (a b : Focus) (value : Value) (values : Result (List (List Item)) DynError)
     → then_ (arguments_of value values) (call ns function a) ≡ then_ (arguments_of value values) (call ns function b)
 focus_free ns function a b (Ok x) (Ok xs) = call_same ns function a b x xs
 focus_free ns function a b (Ok x) (Err error) = refl

@@ -35,12 +35,13 @@ use Rattle.xpath_meaning.specs.Resolving.{Operand}
 use Rattle.xpath_items.specs.declared.item.Item.{Item}
 use Rattle.xpath_types.specs.Kinds.{is_nodes_alone}
 use Rattle.xpath_meaning.specs.Steps.{root_of}
-use Rattle.xpath_meaning.specs.Meaning.{Context, bound_at, mean}
+use Rattle.xpath_meaning.specs.Meaning.{Context, at, bound_at, mean}
 use Rattle.xpath_meaning.specs.Uses as u
 use Rattle.xpath_meaning.specs.Uses.{Uses, uses_of, uses_of_arguments, reads_outside, arguments_read_outside}
 use Rattle.xpath_meaning.proofs.KindFacts.{or_left, or_right}
 use Rattle.xpath_meaning.proofs.TreeKinds.{Follow, follow}
 use Rattle.xpath_meaning.proofs.SameValues.{mean_same}
+use Rattle.xpath_meaning.proofs.MovedValues.{positions_free}
 
 -- Free variables
 
@@ -483,3 +484,16 @@ alone_same ns at names c d h alone one two =
       count = one.count ∙ sym two.count;
       bound = λ height l. bound_none height c.bound (subst (λ count. count ≤ height) (sym one.count) l) ∙ sym (bound_none height d.bound (subst (λ count. count ≤ height) (sym two.count) l));
     })
+
+-- A part that uses no position
+
+none_under : (a b : Bool) → (a ≡ true → b ≡ true) → b ≡ false → a ≡ false
+none_under true b h e = absurd (true≢false (sym (h refl) ∙ e))
+none_under false b h e = refl
+
+pub position_same : (ns : List Node) (part : p.Placed) (names : List (List ℕ)) (c : Context) (item : Item) (position last position' last' : ℕ) → g.Grammatical part.part → (p.facts part).uses_position ≡ false
+    → mean ns (r.resolved part.environment.declared names part.part) (at c item position last) ≡ mean ns (r.resolved part.environment.declared names part.part) (at c item position' last')
+position_same ns part names c item position last position' last' h none =
+    let e : Exp = r.resolved part.environment.declared names part.part in
+    let uses : Uses = used part.environment.declared part.part in
+    positions_free ns e c item position last position' last' (none_under (uses_of e).position uses.position (tree_under part.environment.declared names part.part h).position none)

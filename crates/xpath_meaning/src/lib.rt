@@ -4,12 +4,13 @@
 
 ghost use Rattle.std.specs.Prelude.{◌≡◌, ℕ, true, false, List, length};
 ghost use Rattle.inv_base.specs.Tree.{Node};
+ghost use Rattle.xpath_items.specs.declared.item.Item.{Item};
 ghost use Rattle.xpath_grammar.specs.Grammar.{Tree, Grammatical};
 ghost use Rattle.xpath_types.specs.Judging.{Environment, judged};
 ghost use Rattle.xpath_types.specs.Parts.{Placed, facts};
 ghost use Rattle.xpath_meaning.specs.Expressions.{Exp};
 ghost use Rattle.xpath_meaning.specs.Resolving.{resolved};
-ghost use Rattle.xpath_meaning.specs.Meaning.{Context, mean};
+ghost use Rattle.xpath_meaning.specs.Meaning.{Context, at, mean};
 ghost use Rattle.xpath_meaning.specs.ItemKinds.{IsValueOf, Expected, Suits, kinds_of};
 ghost use Rattle.xpath_meaning.specs.PartKinds.{Bound, names, AreInScope, expected};
 ghost use Rattle.xpath_meaning.specs.Uses.{uses_of, reads_outside, AreSameFor, IsAtNode};
@@ -39,4 +40,12 @@ pub fn parts_depend_on_the_document_alone()
     ensures { (nodes : List Node) (at : Placed) (names : List (List ℕ)) (c d : Context) → Grammatical at.part → (facts at).depends_on_document_alone ≡ true
         → IsAtNode (length names) c → IsAtNode (length names) d
         → mean nodes (resolved at.environment.declared names at.part) c ≡ mean nodes (resolved at.environment.declared names at.part) d }
+{}
+
+/// A part that is judged to use no position has one value at an item, whatever its position and the last one.
+pub fn positions_change_nothing()
+    ensures { (nodes : List Node) (part : Placed) (names : List (List ℕ)) (c : Context) (item : Item) (position last position' last' : ℕ)
+        → Grammatical part.part → (facts part).uses_position ≡ false
+        → mean nodes (resolved part.environment.declared names part.part) (at c item position last)
+        ≡ mean nodes (resolved part.environment.declared names part.part) (at c item position' last') }
 {}

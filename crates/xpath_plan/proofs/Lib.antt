@@ -1,4 +1,13 @@
-pub mod MadeLaws
-pub mod SeenLaws
-pub mod NameLaws
-pub mod VariableLaws
+mod CompiledLaws
+mod MadeLaws
+mod MarkLaws
+mod NameLaws
+mod PlainLaws
+mod Rows
+mod SecondLaws
+mod SeenLaws
+mod ShapeLaws
+mod SoundLaws
+mod StatedLaws
+mod VariableLaws
+mod WalkLaws

@@ -94,19 +94,19 @@ arguments-told : (parts : List Operand) → arguments_of (told parts) ≡ argume
 arguments-told [] = refl
 arguments-told (part ∷ parts) = ap (e.argument part.1) (arguments-told parts)
 
-signs-made : (is_step : Bool) (declared : Declared) (second : Option (List ℕ)) (parts : List Operand) → made (kind_of declared f.Signs is_step second (map (λ part. part.0) parts)) (told parts) ≡ signed_of parts
-signs-made is_step declared second [] = refl
-signs-made is_step declared second ((k.First, x) ∷ parts) = refl
-signs-made is_step declared second ((k.Link operator, x) ∷ parts) = refl
-signs-made is_step declared second ((k.Comma, x) ∷ parts) = refl
-signs-made is_step declared second ((k.Binding lead name, x) ∷ parts) = refl
-signs-made is_step declared second ((k.Condition, x) ∷ parts) = refl
-signs-made is_step declared second ((k.Then, x) ∷ parts) = refl
-signs-made is_step declared second ((k.Signed operators, x) ∷ parts) = refl
-signs-made is_step declared second ((k.Predicate, x) ∷ parts) = refl
-signs-made is_step declared second ((k.Again, x) ∷ parts) = refl
-signs-made is_step declared second ((k.Opened, x) ∷ parts) = refl
-signs-made is_step declared second ((k.Calling name, x) ∷ parts) = refl
+signs-made : (is_step free : Bool) (declared : Declared) (second : Option (List ℕ)) (parts : List Operand) → made (kind_of declared f.Signs is_step free second (map (λ part. part.0) parts)) (told parts) ≡ signed_of parts
+signs-made is_step free declared second [] = refl
+signs-made is_step free declared second ((k.First, x) ∷ parts) = refl
+signs-made is_step free declared second ((k.Link operator, x) ∷ parts) = refl
+signs-made is_step free declared second ((k.Comma, x) ∷ parts) = refl
+signs-made is_step free declared second ((k.Binding lead name, x) ∷ parts) = refl
+signs-made is_step free declared second ((k.Condition, x) ∷ parts) = refl
+signs-made is_step free declared second ((k.Then, x) ∷ parts) = refl
+signs-made is_step free declared second ((k.Signed operators, x) ∷ parts) = refl
+signs-made is_step free declared second ((k.Predicate, x) ∷ parts) = refl
+signs-made is_step free declared second ((k.Again, x) ∷ parts) = refl
+signs-made is_step free declared second ((k.Opened, x) ∷ parts) = refl
+signs-made is_step free declared second ((k.Calling name, x) ∷ parts) = refl
 
 call-made : (called : Resolved) (parts : List Operand) → made (call_kind called) (told parts) ≡ call_of called (arguments_of parts)
 call-made r.Unbound parts = refl
@@ -150,38 +150,39 @@ named-made : (called : Resolved) (second : Option (List ℕ)) (parts : List Oper
 named-made called None parts h = call-made called parts
 named-made called (Some text) parts h = some-made called text parts h (is_matches called) refl
 
-called-made : (is_step : Bool) (declared : Declared) (second : Option (List ℕ)) (parts : List Operand) → AreSecond second parts
-    → made (kind_of declared f.Call is_step second (map (λ part. part.0) parts)) (told parts) ≡ called_of declared parts
-called-made is_step declared second [] h = refl
-called-made is_step declared second ((k.First, x) ∷ parts) h = refl
-called-made is_step declared second ((k.Link operator, x) ∷ parts) h = refl
-called-made is_step declared second ((k.Comma, x) ∷ parts) h = refl
-called-made is_step declared second ((k.Binding lead name, x) ∷ parts) h = refl
-called-made is_step declared second ((k.Condition, x) ∷ parts) h = refl
-called-made is_step declared second ((k.Then, x) ∷ parts) h = refl
-called-made is_step declared second ((k.Signed operators, x) ∷ parts) h = refl
-called-made is_step declared second ((k.Predicate, x) ∷ parts) h = refl
-called-made is_step declared second ((k.Again, x) ∷ parts) h = refl
-called-made is_step declared second ((k.Opened, x) ∷ parts) h = refl
-called-made is_step declared second ((k.Calling name, x) ∷ parts) h = named-made (function_called declared name) second ((k.Calling name, x) ∷ parts) h
+called-made : (is_step free : Bool) (declared : Declared) (second : Option (List ℕ)) (parts : List Operand) → AreSecond second parts
+    → made (kind_of declared f.Call is_step free second (map (λ part. part.0) parts)) (told parts) ≡ called_of declared parts
+called-made is_step free declared second [] h = refl
+called-made is_step free declared second ((k.First, x) ∷ parts) h = refl
+called-made is_step free declared second ((k.Link operator, x) ∷ parts) h = refl
+called-made is_step free declared second ((k.Comma, x) ∷ parts) h = refl
+called-made is_step free declared second ((k.Binding lead name, x) ∷ parts) h = refl
+called-made is_step free declared second ((k.Condition, x) ∷ parts) h = refl
+called-made is_step free declared second ((k.Then, x) ∷ parts) h = refl
+called-made is_step free declared second ((k.Signed operators, x) ∷ parts) h = refl
+called-made is_step free declared second ((k.Predicate, x) ∷ parts) h = refl
+called-made is_step free declared second ((k.Again, x) ∷ parts) h = refl
+called-made is_step free declared second ((k.Opened, x) ∷ parts) h = refl
+called-made is_step free declared second ((k.Calling name, x) ∷ parts) h = named-made (function_called declared name) second ((k.Calling name, x) ∷ parts) h
 
 cast-made : (word : CastWord) (optional : Bool) (named : Resolved) (parts : List Operand) → made (cast_kind word optional named) (told parts) ≡ cast_of word named optional (first_part parts)
 cast-made word optional r.Unbound parts = refl
 cast-made word optional r.Unknown parts = refl
 cast-made word optional (r.Known function) parts = ap (e.cast word function optional) (first-told parts)
 
-filter-made : (declared : Declared) (is_step : Bool) (second : Option (List ℕ)) (parts : List Operand) → made (kind_of declared f.Filter is_step second (map (λ part. part.0) parts)) (told parts) ≡ filtered_of is_step parts
-filter-made declared true second parts = filtered-told true parts
-filter-made declared false second parts = filtered-told false parts
+filter-made : (declared : Declared) (is_step free : Bool) (second : Option (List ℕ)) (parts : List Operand) → made (kind_of declared f.Filter is_step free second (map (λ part. part.0) parts)) (told parts) ≡ filtered_of is_step parts
+filter-made declared true true second parts = filtered-told true parts
+filter-made declared true false second parts = filtered-told true parts
+filter-made declared false free second parts = filtered-told false parts
 
 -- the form's kind makes what the form does
-pub form-made : (declared : Declared) (form : Form) (is_step : Bool) (second : Option (List ℕ)) (parts : List Operand) → AreSecond second parts
-    → made (kind_of declared form is_step second (map (λ part. part.0) parts)) (labelled (links parts)) ≡ combined declared form is_step parts
-form-made declared (f.Chain production) is_step second parts h = chained-told parts
-form-made declared (f.Bound binder) is_step second parts h = bound-told binder parts
-form-made declared f.Conditional is_step second parts h = chosen-told parts
-form-made declared (f.Cast word type optional) is_step second parts h = cast-made word optional (type_named declared type) parts
-form-made declared f.Signs is_step second parts h = signs-made is_step declared second parts
-form-made declared f.Filter is_step second parts h = filter-made declared is_step second parts
-form-made declared f.Parentheses is_step second parts h = first-told parts
-form-made declared f.Call is_step second parts h = called-made is_step declared second parts h
+pub form-made : (declared : Declared) (form : Form) (is_step free : Bool) (second : Option (List ℕ)) (parts : List Operand) → AreSecond second parts
+    → made (kind_of declared form is_step free second (map (λ part. part.0) parts)) (labelled (links parts)) ≡ combined declared form is_step parts
+form-made declared (f.Chain production) is_step free second parts h = chained-told parts
+form-made declared (f.Bound binder) is_step free second parts h = bound-told binder parts
+form-made declared f.Conditional is_step free second parts h = chosen-told parts
+form-made declared (f.Cast word type optional) is_step free second parts h = cast-made word optional (type_named declared type) parts
+form-made declared f.Signs is_step free second parts h = signs-made is_step free declared second parts
+form-made declared f.Filter is_step free second parts h = filter-made declared is_step free second parts
+form-made declared f.Parentheses is_step free second parts h = first-told parts
+form-made declared f.Call is_step free second parts h = called-made is_step free declared second parts h

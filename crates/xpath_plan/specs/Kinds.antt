@@ -1,4 +1,5 @@
--- What kind of work a form is, by what leads to its parts, whether the first is a step, and the text of the second of two.
+-- What kind of work a form is, by what leads to its parts, whether the first is a step, whether no predicate tests a position, and the
+-- text of the second of two.
 use Rattle.std.specs.Prelude.{ℕ, Bool, true, false, List, ◌∷◌, Option, Some, None, if◌then◌else◌}
 use Rattle.xsd_pattern.specs.declared.fault.PatternFault.{PatternFault}
 use Rattle.xsd_pattern.specs.Matching.{fault_of}
@@ -58,9 +59,11 @@ abbrev pub second_literal : Parts → Option (List ℕ)
 second_literal (t.more label first (t.more next second t.none)) = literal second
 second_literal _ = None
 
-abbrev pub filter_kind : Bool → Kind
-filter_kind true = m.FilteredStep
-filter_kind false = m.Filtered
+-- by whether a step is filtered, and whether no predicate tests a position
+abbrev pub filter_kind : Bool → Bool → Kind
+filter_kind true true = m.FreeStep
+filter_kind true false = m.FilteredStep
+filter_kind false free = m.Filtered
 
 abbrev pub signs_kind : List Label → Kind
 signs_kind (k.Signed signs ∷ labels) = m.Signs signs
@@ -70,12 +73,12 @@ abbrev pub called_kind : Declared → Option (List ℕ) → List Label → Kind
 called_kind declared second (k.Calling name ∷ labels) = named_kind (function_called declared name) second
 called_kind declared second _ = m.Nothing
 
-abbrev pub kind_of : Declared → Form → Bool → Option (List ℕ) → List Label → Kind
-kind_of declared (f.Chain production) is_step second labels = m.Chain
-kind_of declared (f.Bound binder) is_step second labels = m.Bound binder
-kind_of declared f.Conditional is_step second labels = m.Conditional
-kind_of declared (f.Cast word type optional) is_step second labels = cast_kind word optional (type_named declared type)
-kind_of declared f.Signs is_step second labels = signs_kind labels
-kind_of declared f.Filter is_step second labels = filter_kind is_step
-kind_of declared f.Parentheses is_step second labels = m.Only
-kind_of declared f.Call is_step second labels = called_kind declared second labels
+abbrev pub kind_of : Declared → Form → Bool → Bool → Option (List ℕ) → List Label → Kind
+kind_of declared (f.Chain production) is_step free second labels = m.Chain
+kind_of declared (f.Bound binder) is_step free second labels = m.Bound binder
+kind_of declared f.Conditional is_step free second labels = m.Conditional
+kind_of declared (f.Cast word type optional) is_step free second labels = cast_kind word optional (type_named declared type)
+kind_of declared f.Signs is_step free second labels = signs_kind labels
+kind_of declared f.Filter is_step free second labels = filter_kind is_step free
+kind_of declared f.Parentheses is_step free second labels = m.Only
+kind_of declared f.Call is_step free second labels = called_kind declared second labels

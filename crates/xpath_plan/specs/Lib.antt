@@ -1,3 +1,6 @@
 pub mod Names
 pub mod Plans
 pub mod Kinds
+pub mod Shapes
+pub mod Claims
+pub mod Walking

@@ -1,5 +1,5 @@
 -- The expression that a plan is.
-use Rattle.std.specs.Prelude.{true, false, List, Option, Some, None, map, pos, slice_get}
+use Rattle.std.specs.Prelude.{ℕ, true, false, List, Option, Some, None, map, pos, slice_get}
 use Rattle.inv_base.specs.Tree.{Name}
 use Rattle.xpath_grammar.specs.declared.functions.Function.TheVariants as f
 use Rattle.xpath_grammar.specs.declared.expr.Label.{Label}
@@ -55,8 +55,10 @@ made m.Conditional parts = chosen_of parts
 made (m.Cast word function optional) parts = e.cast word function optional (first_part parts)
 made (m.Signs signs) parts = e.signed signs (first_part parts)
 made m.FilteredStep parts = filtered_of true parts
+made m.FreeStep parts = filtered_of true parts
 made m.Filtered parts = filtered_of false parts
 made m.Only parts = first_part parts
+made (m.Once slot height) parts = first_part parts
 made (m.Call function) parts = e.called function (arguments_of parts)
 made (m.Matches pattern) parts = e.called f.Matches (e.argument (first_part parts) (e.argument (e.text pattern) e.no_more))
 made m.Nothing parts = e.nothing
@@ -74,6 +76,7 @@ seen names = fold-Work Exp (seen_step names)
 pub record Planned : Type 0 where
   pub names : List Name
   pub work : Work
+  pub slots : ℕ
 
 abbrev pub expression : Planned → Exp
 expression planned = seen planned.names planned.work

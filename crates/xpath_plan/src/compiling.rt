@@ -1,21 +1,23 @@
 //! The works of expressions with parts. A chain's operands, a path's steps, predicates and bindings stay lists, so nothing
 //! recurses once for each of them.
-ghost use Rattle.std.specs.Prelude.{◌≡◌, ◌++◌, ◌∷◌, [], List, IfOk, OnOk, length, take};
+ghost use Rattle.std.specs.Prelude.{◌≡◌, ◌+◌, ◌++◌, ◌∷◌, [], List, IfOk, OnOk, length, take, drop};
 ghost use Rattle.inv_base.specs.Tree.{Name};
 ghost use Rattle.xpath_grammar.specs.View.{view};
 ghost use Rattle.xpath_meaning.specs.Resolving as meaning;
 ghost use Rattle.xpath_plan.specs.Kinds as kinds;
-ghost use Rattle.xpath_plan.specs.Plans.{seen};
+ghost use Rattle.xpath_plan.specs.Claims.{known, known_alone};
+ghost use Rattle.xpath_plan.specs.Walking.{size, walked};
 
 use crate::forms::{kind_of, link_of};
 use crate::leaves::simple_of;
+use crate::marks::{Marks, keeps_next, kept_work, still_free};
 use crate::names::NameTable;
 use crate::work::{Link, Work};
 use std::alloc::{AllocError, Global};
 use xpath_grammar::expr::{Expr, Label, Leaf};
 use xpath_grammar::many::Many;
 use xpath_types::heights::Heights;
-use xpath_types::{Scope, written};
+use xpath_types::{Scope, Typed, written};
 
 /// What is kept along an expression.
 #[derive(Drop)]
@@ -59,37 +61,48 @@ fn leaf_work(
     state: &mut State,
     leaf: &Leaf,
 ) -> Result<Work, AllocError>
-    ensures work { IfOk result (λ work. (later : List Name) → seen (state.new.names ++ later) work ≡ meaning.leaf_of scope.now state.old.bound leaf.now) }
+    ensures work { IfOk result (λ work. (later : List Name) → known (state.new.names ++ later) work ≡ known_alone (meaning.leaf_of scope.now state.old.bound leaf.now)) }
     ensures grown { OnOk result (take (length state.old.names) state.new.names ≡ state.old.names) }
     ensures kept { OnOk result (state.new.bound ≡ state.old.bound) }
 {
     Ok(Work::Simple(simple_of(alloc, scope, state, leaf)?))
 }
 
-/// The work of the expression, inside the variables and with the names so far.
+/// The work of the expression, inside the variables and with the names and the marks so far.
 pub(crate) fn work_of(
     alloc: Global,
-    scope: &Scope,
+    typed: &Typed<'_>,
     state: &mut State,
+    marks: &mut Marks,
     x: &Expr,
 ) -> Result<Work, AllocError>
-    ensures work { IfOk result (λ work. (later : List Name) → seen (state.new.names ++ later) work ≡ meaning.resolved scope.now state.old.bound (view x.now)) }
+    ensures work { IfOk result (λ work. (later : List Name) → known (state.new.names ++ later) work
+        ≡ walked typed.now.declared state.old.bound (drop marks.old.before typed.now.parts) marks.old.slots (view x.now)) }
     ensures grown { OnOk result (take (length state.old.names) state.new.names ≡ state.old.names) }
     ensures kept { OnOk result (state.new.bound ≡ state.old.bound) }
+    ensures passed { OnOk result (marks.new.before ≡ marks.old.before + size (view x.now)) }
+    ensures slots { OnOk result (marks.new.slots ≡ marks.old.slots
+        + length (walked typed.now.declared state.old.bound (drop marks.old.before typed.now.parts) marks.old.slots (view x.now)).kept) }
 {
+    let keeps = keeps_next(typed, marks, x)?;
+    let height = state.bound.len();
     match x {
-        Expr::Leaf(leaf) => leaf_work(alloc, scope, state, leaf),
+        Expr::Leaf(leaf) => {
+            let work = leaf_work(alloc, typed.scope(), state, leaf)?;
+            kept_work(alloc, keeps, height, marks, work)
+        }
         Expr::Node(form, parts) => {
             let parts = parts.as_slice();
-            let height = state.bound.len();
             let mut works = Many::new(alloc);
+            let mut free = true;
             'parts: for part in parts {
-                let work = work_of(alloc, scope, state, &part.1)?;
+                free = still_free(free, typed, marks.before, &part.0);
+                let work = work_of(alloc, typed, state, marks, &part.1)?;
                 put(alloc, part, work, &mut works, &mut state.bound)?;
             }
             state.bound.truncate(height);
-            let kind = kind_of(alloc, scope, form, parts)?;
-            Ok(Work::Node(kind, works))
+            let kind = kind_of(alloc, typed.scope(), form, parts, free)?;
+            kept_work(alloc, keeps, height, marks, Work::Node(kind, works))
         }
     }
 }

@@ -1,5 +1,5 @@
 //! What kind of work the forms are.
-ghost use Rattle.std.specs.Prelude.{◌≡◌, map, option_map, IfOk};
+ghost use Rattle.std.specs.Prelude.{◌≡◌, true, map, option_map, IfOk};
 ghost use Rattle.xpath_grammar.specs.View.{view, viewed};
 ghost use Rattle.xpath_meaning.specs.Resolving.{begins_with_step, is_step_leaf};
 ghost use Rattle.xpath_plan.specs.Kinds as spec;
@@ -142,24 +142,35 @@ fn called_kind(alloc: Global, scope: &Scope, parts: &[(Label, Expr)]) -> Result<
     }
 }
 
-fn filter_kind(is_step: bool) -> Kind
-    ensures { result ≡ spec.filter_kind is_step }
+fn filter_kind(is_step: bool, free: bool) -> Kind
+    ensures { result ≡ spec.filter_kind is_step free }
 {
     if is_step {
-        Kind::FilteredStep
+        step_kind(free)
     } else {
         Kind::Filtered
     }
 }
 
-/// What the form makes of its parts.
+fn step_kind(free: bool) -> Kind
+    ensures { result ≡ spec.filter_kind true free }
+{
+    if free {
+        Kind::FreeStep
+    } else {
+        Kind::FilteredStep
+    }
+}
+
+/// What the form makes of its parts, where it is said whether no predicate tests a position.
 pub(crate) fn kind_of(
     alloc: Global,
     scope: &Scope,
     form: &Form,
     parts: &[(Label, Expr)],
+    free: bool,
 ) -> Result<Kind, AllocError>
-    ensures { IfOk result (λ kind. kind ≡ spec.kind_of scope.now form.now (begins_with_step (viewed parts.now)) (spec.second_literal (viewed parts.now)) (map (λ part. part.0) parts.now)) }
+    ensures { IfOk result (λ kind. kind ≡ spec.kind_of scope.now form.now (begins_with_step (viewed parts.now)) free (spec.second_literal (viewed parts.now)) (map (λ part. part.0) parts.now)) }
 {
     match form {
         Form::Chain(_) => Ok(Kind::Chain),
@@ -169,7 +180,7 @@ pub(crate) fn kind_of(
             Ok(cast_kind(*word, *optional, type_named(scope, name)))
         }
         Form::Signs => signs_kind(alloc, parts),
-        Form::Filter => Ok(filter_kind(begins_with_step(parts))),
+        Form::Filter => Ok(filter_kind(begins_with_step(parts), free)),
         Form::Parentheses => Ok(Kind::Only),
         Form::Call => called_kind(alloc, scope, parts),
     }

@@ -3,7 +3,9 @@
 
 mod compiling;
 mod forms;
+pub mod laws;
 mod leaves;
+mod marks;
 mod names;
 mod plan;
 pub mod work;

@@ -70,10 +70,15 @@ pub enum Kind {
     Signs(Many<Operator>),
     /// A step and its predicates, which count in the order of the axis.
     FilteredStep,
+    /// A step and its predicates, none of which tests a position: each has one value at an item, wherever that stands.
+    FreeStep,
     /// Another expression and its predicates.
     Filtered,
     /// The part itself: parentheses.
     Only,
+    /// The part itself, whose value is the same at all nodes of a document: the number of the slot that it may be kept in, and how many
+    /// variables are bound around it.
+    Once(usize, usize),
     /// A call with these arguments.
     Call(Function),
     /// A call of `matches` with two arguments, of which the second is a literal that is this pattern.

@@ -114,6 +114,8 @@ module _ (ground : Ground) (focus : Focus) (bound : List Item) (parts predicates
 pub filtered_step-made : (kind : Kind) (parts : List Operand) → is_filtered_step kind ≡ true → filtered_so true parts ≡ in_axis_order (made kind parts)
 filtered_step-made m.FilteredStep [] h = refl
 filtered_step-made m.FilteredStep (part ∷ parts) h = refl
+filtered_step-made m.FreeStep [] h = refl
+filtered_step-made m.FreeStep (part ∷ parts) h = refl
 filtered_step-made m.Chain parts h = absurd (false≢true h)
 filtered_step-made (m.Bound binder) parts h = absurd (false≢true h)
 filtered_step-made m.Conditional parts h = absurd (false≢true h)
@@ -121,6 +123,7 @@ filtered_step-made (m.Cast word function optional) parts h = absurd (false≢tru
 filtered_step-made (m.Signs signs) parts h = absurd (false≢true h)
 filtered_step-made m.Filtered parts h = absurd (false≢true h)
 filtered_step-made m.Only parts h = absurd (false≢true h)
+filtered_step-made (m.Once slot height) parts h = absurd (false≢true h)
 filtered_step-made (m.Call function) parts h = absurd (false≢true h)
 filtered_step-made (m.Matches pattern) parts h = absurd (false≢true h)
 filtered_step-made m.Nothing parts h = absurd (false≢true h)

@@ -42,6 +42,8 @@ strict-value nodes (m.Signs signs) [] c h = refl
 strict-value nodes (m.Signs signs) (part ∷ parts) c h = one-argument (mean nodes part.1 c) (finished nodes (m.Signs signs) c.focus)
 strict-value nodes m.Only [] c h = refl
 strict-value nodes m.Only (part ∷ parts) c h = same-value (mean nodes part.1 c) ∙ one-argument (mean nodes part.1 c) (finished nodes m.Only c.focus)
+strict-value nodes (m.Once slot height) [] c h = refl
+strict-value nodes (m.Once slot height) (part ∷ parts) c h = same-value (mean nodes part.1 c) ∙ one-argument (mean nodes part.1 c) (finished nodes (m.Once slot height) c.focus)
 strict-value nodes (m.Call function) parts c h = refl
 strict-value nodes (m.Matches pattern) [] c h = refl
 strict-value nodes (m.Matches pattern) (part ∷ parts) c h = matches-value nodes pattern (mean nodes part.1 c) c.focus
@@ -50,6 +52,7 @@ strict-value nodes m.Chain parts c h = absurd (false≢true h)
 strict-value nodes (m.Bound binder) parts c h = absurd (false≢true h)
 strict-value nodes m.Conditional parts c h = absurd (false≢true h)
 strict-value nodes m.FilteredStep parts c h = absurd (false≢true h)
+strict-value nodes m.FreeStep parts c h = absurd (false≢true h)
 strict-value nodes m.Filtered parts c h = absurd (false≢true h)
 
 first_alone-of : (names : List Name) (parts : List (Link × Work)) → first_alone (operands_of names parts) ≡ operands_of names (first_alone parts)
@@ -60,6 +63,7 @@ wanted-of : (names : List Name) (kind : Kind) (parts : List (Link × Work)) → 
 wanted-of names (m.Cast word function optional) parts = first_alone-of names parts
 wanted-of names (m.Signs signs) parts = first_alone-of names parts
 wanted-of names m.Only parts = first_alone-of names parts
+wanted-of names (m.Once slot height) parts = first_alone-of names parts
 wanted-of names (m.Call function) parts = refl
 wanted-of names (m.Matches pattern) parts = first_alone-of names parts
 wanted-of names _ parts = refl
@@ -68,6 +72,7 @@ pub wanted-no_deeper : (kind : Kind) (parts : List (Link × Work)) → deepest (
 wanted-no_deeper (m.Cast word function optional) parts = first_alone-no_deeper parts
 wanted-no_deeper (m.Signs signs) parts = first_alone-no_deeper parts
 wanted-no_deeper m.Only parts = first_alone-no_deeper parts
+wanted-no_deeper (m.Once slot height) parts = first_alone-no_deeper parts
 wanted-no_deeper (m.Call function) parts = omega arith
 wanted-no_deeper (m.Matches pattern) parts = first_alone-no_deeper parts
 wanted-no_deeper _ parts = omega arith

@@ -9,6 +9,7 @@ use Rattle.xpath_plan.specs.declared.work.Kind.TheVariants as m
 
 abbrev pub is_filtered_step : Kind → Bool
 is_filtered_step m.FilteredStep = true
+is_filtered_step m.FreeStep = true
 is_filtered_step _ = false
 
 -- There is one part alone.

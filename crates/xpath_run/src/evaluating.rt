@@ -71,7 +71,7 @@ fn by_kind<'a, L: Ledger>(
         Kind::Chain => chain(ground, parts, focus, bound, steps),
         Kind::Bound(binder) => bind(ground, *binder, parts, focus, bound, steps),
         Kind::Conditional => choose(ground, parts, focus, bound, steps),
-        Kind::FilteredStep => {
+        Kind::FilteredStep | Kind::FreeStep => {
             let items = filter(ground, true, parts, focus, bound, steps)?;
             document_ordered(ground.alloc, ground.doc, items.as_slice())
         }
@@ -82,6 +82,10 @@ fn by_kind<'a, L: Ledger>(
         | Kind::Call(_)
         | Kind::Matches(_)
         | Kind::Nothing => {
+            let values = values_of(ground, wanted(kind, parts), focus, bound, steps)?;
+            finished(ground.alloc, ground.doc, kind, focus, values)
+        }
+        Kind::Once(_, _) => {
             let values = values_of(ground, wanted(kind, parts), focus, bound, steps)?;
             finished(ground.alloc, ground.doc, kind, focus, values)
         }

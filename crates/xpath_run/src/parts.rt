@@ -67,7 +67,7 @@ pub(crate) fn is_filtered_step(kind: &Kind) -> bool
     ensures { result ≡ spec.is_filtered_step kind.now }
 {
     match kind {
-        Kind::FilteredStep => true,
+        Kind::FilteredStep | Kind::FreeStep => true,
         _ => false,
     }
 }
@@ -128,6 +128,7 @@ pub(crate) fn sole<'w>(kind: &Kind, parts: &'w [(Link, Work)]) -> Option<&'w Wor
 {
     match kind {
         Kind::Only => first(parts),
+        Kind::Once(_, _) => first(parts),
         Kind::Bound(_) => only(parts),
         Kind::Filtered => only(parts),
         Kind::Chain => only_operand(parts),

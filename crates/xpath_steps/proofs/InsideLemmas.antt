@@ -119,13 +119,13 @@ module _ (nodes : List Node) (w : IsWalkable nodes) where
   -- ---- steps from items
 
   -- what a step leads to from a node, and from items
-  abbrev from_node : Axis → Option NodeTest → ℕ → List Item
+  abbrev pub from_node : Axis → Option NodeTest → ℕ → List Item
   from_node axis o n = node_items (axis_numbers nodes axis n o)
 
   abbrev from_items : Axis → Option NodeTest → List Item → List Item
   from_items axis o items = node_items (numbers_over nodes axis o items)
 
-  has_from : (axis : Axis) (test : NodeTest) (n k : ℕ) → is_reverse axis ≡ false → k < length nodes
+  pub has_from : (axis : Axis) (test : NodeTest) (n k : ℕ) → is_reverse axis ≡ false → k < length nodes
       → has_node (from_node axis (Some test) n) k ≡ (is_on axis (tree_node nodes n) (tree_node nodes k) && passes axis test (tree_node nodes k))
   has_from axis test n k forward l =
       let so : Node → Bool = λ node. is_on axis (tree_node nodes n) node && passes axis test node in
@@ -216,7 +216,7 @@ module _ (nodes : List Node) (w : IsWalkable nodes) where
       where_alike (has_node xs) (has_node ys) nodes (λ k l. subst (λ x. has_node xs x ≡ has_node ys x) (sym (w.counted k l)) (has_same o items within k l))
 
   -- where an item is no node
-  off_path : (axis : Axis) (o : Option NodeTest) (items : List Item) → list_all is_node items ≡ false → stepped_path_seen nodes axis o items ≡ Err e.XPTY0019
+  pub off_path : (axis : Axis) (o : Option NodeTest) (items : List Item) → list_all is_node items ≡ false → stepped_path_seen nodes axis o items ≡ Err e.XPTY0019
   off_path axis o items h =
       let step : Item → ℕ → ℕ → Value = λ item position last. stepped_seen nodes axis o item in
       ap (λ (b : Bool). elim b [ true ↦ then_ (turns step (length items) 1 items) (of_turns nodes) | false ↦ Err e.XPTY0019 ]) h

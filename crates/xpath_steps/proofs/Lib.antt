@@ -5,3 +5,4 @@ pub mod InsideLemmas
 pub mod SetLemmas
 pub mod ValueLemmas
 pub mod VariableLemmas
+pub mod CoverLemmas

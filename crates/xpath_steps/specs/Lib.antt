@@ -2,3 +2,4 @@ pub mod Numbers
 pub mod Steps
 pub mod Sets
 pub mod Variables
+pub mod Insides

@@ -3,6 +3,7 @@
 #![tactic(auto)]
 
 mod bindings;
+mod insides;
 mod keeping;
 mod nodes;
 mod operating;
@@ -17,5 +18,5 @@ pub use nodes::{all_nodes, any_node};
 pub use operating::operated;
 pub use ordering::{document_ordered, of_turns};
 pub use sets::set_of;
-pub use stepping::{inside_over, root_of, step_from, stepped_from, steps_over};
+pub use stepping::{inside_named, inside_over, root_of, step_from, stepped_from, steps_over};
 pub use variables::Env;

@@ -1,18 +1,21 @@
 //! Steps from an item and from each of several (XPath 2.0, section 3.2.1).
-ghost use Rattle.std.specs.Prelude.{◌≡◌, ◌<◌, List, length, IfOk, is_some};
+ghost use Rattle.std.specs.Prelude.{◌≡◌, ◌<◌, ◌==◌, ◌∷◌, [], true, Ok, List, length, IfOk, is_some};
+ghost use Rattle.std.specs.List.{list_all};
 ghost use Rattle.inv_base.specs.Tree.{Name};
 ghost use Rattle.node_arena.specs.Moves.{tree_nodes};
 ghost use Rattle.xpath_items.specs.Faults.{Gives};
 ghost use Rattle.xpath_meaning.specs.Steps as meaning;
+ghost use Rattle.xpath_meaning.specs.Steps.{is_node};
 ghost use Rattle.xpath_operators.specs.Nodes.{IsWithin, AreWithin};
 ghost use Rattle.xpath_plan.specs.Plans.{test_seen};
 ghost use Rattle.xpath_steps.specs.Numbers.{at_number};
 ghost use Rattle.xpath_steps.specs.Steps as spec;
 ghost use Rattle.xpath_steps.specs.Steps.{GivesOf, GivesWithin, step_seen, stepped_seen, path_seen, stepped_path_seen, inside_seen, numbers_over};
 ghost use Rattle.xpath_walks.specs.Tests.{numbers_of};
-ghost use Rattle.xpath_walks.specs.Walks.{Adds, axis_numbers};
+ghost use Rattle.xpath_walks.specs.Walks.{Adds, Bounds, axis_numbers, chain_of};
 
-use crate::nodes::{all_nodes, of_nodes, ordered};
+use crate::insides::nodes_inside;
+use crate::nodes::{all_nodes, nodes_among, of_nodes, ordered};
 use inv_base::Steps;
 use node_arena::{Doc, NodeId};
 use std::alloc::{AllocError, Global};
@@ -21,7 +24,7 @@ use xml_state::NameId;
 use xpath_grammar::step::Axis;
 use xpath_items::{DynError, Fault, Item, Seq};
 use xpath_plan::work::StepTest;
-use xpath_walks::{Step, axis_nodes, documents_are_walkable};
+use xpath_walks::{Step, axis_nodes, documents_are_walkable, named_nodes};
 
 /// `/` at an item: the document, where the item is a node, else XPTY0020.
 pub fn root_of<'a>(alloc: Global, doc: &Doc<'_>, item: &Item<'_>) -> Result<Seq<'a>, Fault>
@@ -178,10 +181,33 @@ pub fn steps_over<'a, L: Ledger>(
     Ok(ordered(alloc, doc, nodes)?)
 }
 
+/// `//` and a step without predicates on the child axis, taken at each of several nodes.
+fn inside_nodes<'a, L: Ledger>(
+    alloc: Global,
+    doc: &Doc<'_>,
+    test: &StepTest,
+    numbers: &[Option<NameId>],
+    items: &[Item<'_>],
+    steps: &mut Steps<L>,
+) -> Result<Seq<'a>, AllocError>
+    requires nodes { list_all is_node items.now ≡ true }
+    requires within { AreWithin (length doc.now.nodes) items.now }
+    ensures value { (names : List Name) → numbers.now ≡ numbers_of doc.now.names names
+        → IfOk result (λ found. inside_seen (tree_nodes doc.now) (test_seen names test.now) items.now ≡ Ok found) }
+    ensures within { (names : List Name) → numbers.now ≡ numbers_of doc.now.names names
+        → IfOk result (λ found. AreWithin (length doc.now.nodes) found) }
+{
+    documents_are_walkable(doc);
+    let from = nodes_among(alloc, items)?;
+    let found = nodes_inside(alloc, doc, test, numbers, from.as_slice(), steps)?;
+    drop(from);
+    ordered(alloc, doc, found)
+}
+
 /// `//` and a step without predicates on the child axis, taken at each item: the nodes in document order, each once. It
 /// is given the step's test, and of each name of the plan the number that it has in the document. It is one step on the
-/// descendant axis: what is right inside an item or right inside a node inside it is what is inside the item. Where an
-/// item is no node it is XPTY0019.
+/// descendant axis: what is right inside an item or right inside a node inside it is what is inside the item. What is
+/// inside an item inside the item before it isn't gone over again. Where an item is no node it is XPTY0019.
 pub fn inside_over<'a, L: Ledger>(
     alloc: Global,
     doc: &Doc<'_>,
@@ -197,10 +223,32 @@ pub fn inside_over<'a, L: Ledger>(
         → IfOk result (λ found. AreWithin (length doc.now.nodes) found) }
 {
     documents_are_walkable(doc);
-    let step = Step {
-        axis: Axis::Descendant,
-        test,
-        numbers,
-    };
-    steps_over(alloc, doc, &step, items, steps)
+    if !all_nodes(items) {
+        return Err(Fault::Error(DynError::XPTY0019));
+    }
+    Ok(inside_nodes(alloc, doc, test, numbers, items, steps)?)
+}
+
+/// `//` and a step without predicates by the plan's k-th name on the child axis, taken at a node: the elements inside it in
+/// document order, along the chain of the name.
+pub fn inside_named<'a, L: Ledger>(
+    alloc: Global,
+    doc: &Doc<'_>,
+    k: usize,
+    numbers: &[Option<NameId>],
+    from: NodeId,
+    steps: &mut Steps<L>,
+) -> Result<Seq<'a>, AllocError>
+    requires { from < length doc.now.nodes }
+    ensures value { (names : List Name) → numbers.now ≡ numbers_of doc.now.names names
+        → IfOk result (λ found. inside_seen (tree_nodes doc.now) (test_seen names (StepTest.Named k)) (Item.Node from ∷ []) ≡ Ok found) }
+    ensures within { (names : List Name) → numbers.now ≡ numbers_of doc.now.names names
+        → IfOk result (λ found. AreWithin (length doc.now.nodes) found) }
+    ensures cost { (names : List Name) → numbers.now ≡ numbers_of doc.now.names names
+        → Bounds (length (chain_of (tree_nodes doc.now) (test_seen names (StepTest.Named k)))) (from == 0) result steps.old steps.new }
+{
+    documents_are_walkable(doc);
+    let mut nodes = Vec::new(alloc);
+    named_nodes(doc, k, numbers, from, &mut nodes, steps)?;
+    ordered(alloc, doc, nodes)
 }

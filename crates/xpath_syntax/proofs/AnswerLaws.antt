@@ -6,7 +6,7 @@ use Rattle.xpath_tokens.specs.declared.token.Token.{Token}
 use Rattle.xpath_tokens.specs.declared.token.SyntaxFault.{SyntaxFault}
 use Rattle.xpath_tokens.specs.declared.token.SyntaxFault.TheVariants as f
 use Rattle.xpath_tokens.specs.Tokens.{tokens_of}
-use Rattle.xpath_grammar.specs.Grammar.{Tree, Spells, level}
+use Rattle.xpath_grammar.specs.Grammar.{Tree, Spells, Grammatical, level}
 use Rattle.xpath_grammar.specs.Machine.{tree_of}
 use Rattle.xpath_grammar.specs.Patterns.{IsPattern, is_pattern}
 use Rattle.xpath_syntax.specs.Answers.{answer_of, pattern_answer_of, answer_of_tree, answer_of_pattern_tree, within_levels}
@@ -124,3 +124,18 @@ module _ (reads : (tokens : List Token) (x : Tree) → ((tree_of tokens ≡ Some
     by : (found : Option Tree) → tree_of tokens ≡ found → ((x : Tree) → IsPattern tokens x → ⊥) → answer_of_pattern_tree found ≡ Err f.Syntax
     by None t none = refl
     by (Some y) t none = at y (is_pattern y) refl t none
+
+-- each part stands where it may
+
+pub answer_grammatical : (reads : (tokens : List Token) (x : Tree) → ((tree_of tokens ≡ Some x) ↔ Spells tokens x)) (text : List ℕ) (x : Tree) → answer_of text ≡ Ok x → Grammatical x
+answer_grammatical reads text x e = by (tokens_of text) refl e where
+  by : (told : Result (List Token) SyntaxFault) → tokens_of text ≡ told → answered answer_of_tree told ≡ Ok x → Grammatical x
+  by (Err fault) t h = cc
+  by (Ok tokens) t h = ((answer_found reads text tokens t x).0 (is reads text tokens t ∙ h)).0.grammatical
+
+pub pattern_grammatical : (reads : (tokens : List Token) (x : Tree) → ((tree_of tokens ≡ Some x) ↔ Spells tokens x))
+    (patterns : (tokens : List Token) (x : Tree) → (IsPattern tokens x ↔ Spells tokens x × (is_pattern x ≡ true))) (text : List ℕ) (x : Tree) → pattern_answer_of text ≡ Ok x → Grammatical x
+pattern_grammatical reads patterns text x e = by (tokens_of text) refl e where
+  by : (told : Result (List Token) SyntaxFault) → tokens_of text ≡ told → answered answer_of_pattern_tree told ≡ Ok x → Grammatical x
+  by (Err fault) t h = cc
+  by (Ok tokens) t h = ((patterns tokens x).0 ((pattern_found reads patterns text tokens t x).0 (pattern_is reads patterns text tokens t ∙ h)).0).0.grammatical

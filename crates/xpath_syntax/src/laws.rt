@@ -5,7 +5,7 @@ ghost use Rattle.xpath_tokens.specs.declared.token.Token.{Token};
 ghost use Rattle.xpath_tokens.specs.declared.token.SyntaxFault.{SyntaxFault};
 ghost use Rattle.xpath_tokens.specs.declared.token.SyntaxFault.TheVariants as faults;
 ghost use Rattle.xpath_tokens.specs.Tokens.{tokens_of};
-ghost use Rattle.xpath_grammar.specs.Grammar.{Tree, Spells, level};
+ghost use Rattle.xpath_grammar.specs.Grammar.{Tree, Spells, Grammatical, level};
 ghost use Rattle.xpath_grammar.specs.Patterns.{IsPattern};
 ghost use Rattle.xpath_syntax.specs.Answers.{answer_of, pattern_answer_of};
 
@@ -34,6 +34,15 @@ pub fn pattern_answers_are_by_the_grammar()
         → ((pattern_answer_of text ≡ Err faults.TooDeep) ↔ (x : Tree) × IsPattern tokens x × (256 < level x)) }
     ensures syntax { (text : List ℕ) (tokens : List Token) → tokens_of text ≡ Ok tokens
         → ((pattern_answer_of text ≡ Err faults.Syntax) ↔ ((x : Tree) → IsPattern tokens x → ⊥)) }
+{
+    machine_reads();
+    patterns_are_expressions();
+}
+
+/// What a text is answered is grammatical: each part of the expression or the pattern stands where it may.
+pub fn answers_are_grammatical()
+    ensures expression { (text : List ℕ) (x : Tree) → answer_of text ≡ Ok x → Grammatical x }
+    ensures pattern { (text : List ℕ) (x : Tree) → pattern_answer_of text ≡ Ok x → Grammatical x }
 {
     machine_reads();
     patterns_are_expressions();

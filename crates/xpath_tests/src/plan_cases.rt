@@ -1,5 +1,7 @@
 //! Expressions and their plans. Names are those of the plan's table, `{uri}local`; what stands before a part is its
 //! operator.
+ghost use Rattle.xpath_grammar.specs.Grammar.{Grammatical};
+ghost use Rattle.xpath_grammar.specs.View.{view};
 
 use crate::made::{Made, expect_made};
 use crate::nestings::{Nesting, push_nesting};
@@ -10,8 +12,10 @@ use test_rows::expect;
 use xpath_grammar::expr::Expr;
 use xpath_grammar::functions::Function;
 use xpath_grammar::operators::CastWord;
+use xpath_plan::laws::typed_expressions_are_grammatical;
 use xpath_plan::work::{Kind, Link, Simple, StepTest, Work};
 use xpath_plan::{NameTable, Plan, compile};
+use xpath_syntax::laws::answers_are_grammatical;
 use xpath_syntax::parse;
 use xpath_tokens::token::Operator;
 use xpath_types::{Scope, check};
@@ -19,9 +23,9 @@ use xpath_types::{Scope, check};
 const LEAVES: &str = "\
 'it''s' → it's
 1.50 → 1.500000000000000000
-() → ()
+() → [Once(0, 0): ()]
 . → .
-/ → /
+/ → [Once(0, 0): /]
 .. → Parent::Node
 a → Child::{}a
 @a → Attribute::{}a
@@ -33,35 +37,37 @@ text() → Child::Text
 attribute() → Attribute::Attribute
 $v → $v
 $p:v → $p:v
-true() → True
+true() → [Once(0, 0): True]
 f:position() → Position";
 
 const FORMS: &str = "\
 1, 2, . → [Chain: 1; Comma 2; Comma .]
-1 + 2 - 3 → [Chain: 1; Plus 2; Minus 3]
-1 to 3 → [Chain: 1; To 3]
+1 + 2 - 3 → [Once(0, 0): [Chain: 1; Plus 2; Minus 3]]
+1 to 3 → [Once(0, 0): [Chain: 1; To 3]]
 a = 'b' → [Chain: Child::{}a; Equal b]
-true() and false() or true() → [Chain: [Chain: True; And False]; Or True]
+true() and false() or true() → [Once(4, 0): [Chain: [Once(2, 0): [Chain: [Once(0, 0): True]; And [Once(1, 0): False]]]; Or [Once(3, 0): True]]]
 a | b → [Chain: Child::{}a; Bar Child::{}b]
 a//b/@c → [Chain: Child::{}a; DoubleSlash Child::{}b; Slash Attribute::{}c]
-/a → [Chain: Slash Child::{}a]
-//a → [Chain: DoubleSlash Child::{}a]
-- + 1 → [Signs Minus Plus: 1]
-(1) → [Only: 1]
+/a → [Once(0, 0): [Chain: Slash Child::{}a]]
+//a → [Once(0, 0): [Chain: DoubleSlash Child::{}a]]
+- + 1 → [Once(0, 0): [Signs Minus Plus: 1]]
+(1) → [Once(0, 0): [Only: 1]]
 a[1][@b] → [FilteredStep: Child::{}a; 1; Attribute::{}b]
 ..[1] → [FilteredStep: Parent::Node; 1]
-(1, 2)[. = 1] → [Filtered: [Only: [Chain: 1; Comma 2]]; [Chain: .; Equal 1]]
+a[@b] → [FreeStep: Child::{}a; Attribute::{}b]
+(1, 2)[. = 1] → [Once(2, 0): [Filtered: [Once(1, 0): [Only: [Once(0, 0): [Chain: 1; Comma 2]]]]; [Chain: .; Equal 1]]]
 if (a) then 1 else 2 → [Conditional: Child::{}a; 1; Else 2]
-1 cast as xs:string → [Cast(Cast, XsString, false): 1]
+1 cast as xs:string → [Once(0, 0): [Cast(Cast, XsString, false): 1]]
 a castable as t:date? → [Cast(Castable, XsDate, true): Child::{}a]
 concat('a', 1, a) → [Call(Concat): a; Comma 1; Comma Child::{}a]
-xs:decimal('1') → [Call(XsDecimal): 1]
+xs:decimal('1') → [Once(0, 0): [Call(XsDecimal): 1]]
 matches(a, '^x$') → [Matches: Child::{}a; Comma ^x$]
 some $x in a satisfies $x → [Bound(Some): Child::{}a; Satisfies $0]
 every $x in a satisfies 1 → [Bound(Every): Child::{}a; Satisfies 1]
 for $x in 1, $y in $x return $y + $x + $v → [Bound(For): 1; $0; Return [Chain: $1; Plus $0; Plus $v]]
-for $x in 1 return for $x in $x return $x → [Bound(For): 1; Return [Bound(For): $0; Return $1]]
-(for $x in 1 return $x) + (for $y in 2 return $y) → [Chain: [Only: [Bound(For): 1; Return $0]]; Plus [Only: [Bound(For): 2; Return $0]]]";
+for $x in a return true() → [Bound(For): Child::{}a; Return [Once(0, 1): True]]
+for $x in 1 return for $x in $x return $x → [Once(0, 0): [Bound(For): 1; Return [Bound(For): $0; Return $1]]]
+(for $x in 1 return $x) + (for $y in 2 return $y) → [Once(4, 0): [Chain: [Once(1, 0): [Only: [Once(0, 0): [Bound(For): 1; Return $0]]]]; Plus [Once(3, 0): [Only: [Once(2, 0): [Bound(For): 2; Return $0]]]]]]";
 
 /// Declares three prefixes and two variables.
 fn declare(alloc: Global, scope: &mut Scope) -> Result<(), AllocError> {
@@ -140,8 +146,10 @@ fn push_kind(line: &mut String, kind: &Kind) -> Result<(), AllocError> {
         Kind::Cast(word, to, optional) => push_cast(line, *word, *to, *optional),
         Kind::Signs(signs) => push_signs(line, signs.as_slice()),
         Kind::FilteredStep => line.push_str("FilteredStep"),
+        Kind::FreeStep => line.push_str("FreeStep"),
         Kind::Filtered => line.push_str("Filtered"),
         Kind::Only => line.push_str("Only"),
+        Kind::Once(slot, height) => write!(line, "Once({slot}, {height})"),
         Kind::Call(function) => write!(line, "Call({function:?})"),
         Kind::Matches(_) => line.push_str("Matches"),
         Kind::Nothing => line.push_str("Nothing"),
@@ -166,7 +174,10 @@ fn push_work(line: &mut String, names: &NameTable, work: &Work) -> Result<(), Al
     }
 }
 
-fn compiled(alloc: Global, scope: &Scope, expression: &Expr) -> Option<Plan> {
+fn compiled(alloc: Global, scope: &Scope, expression: &Expr) -> Option<Plan>
+    requires { Grammatical (view expression.now) }
+{
+    typed_expressions_are_grammatical();
     match check(alloc, expression, scope) {
         Ok(typed) => {
             let plan = compile(alloc, &typed);
@@ -178,6 +189,7 @@ fn compiled(alloc: Global, scope: &Scope, expression: &Expr) -> Option<Plan> {
 }
 
 fn plan_in(alloc: Global, scope: &Scope, text: &str) -> Option<Plan> {
+    answers_are_grammatical();
     match parse(alloc, text) {
         Ok(expression) => {
             let plan = compiled(alloc, scope, &expression);
@@ -263,7 +275,7 @@ fn a_long_chain_has_its_plan(rt: HostRuntime) -> Result<(), Fail> {
     let mut chain = String::new(rt.alloc());
     push_nesting(&mut chain, &CHAIN)?;
     expect(
-        ends_so(rt.alloc(), chain.as_str(), "; Plus 1; Plus 1]")?,
+        ends_so(rt.alloc(), chain.as_str(), "; Plus 1; Plus 1]]")?,
         "chain",
     )
 }
@@ -281,6 +293,6 @@ fn push_bindings(text: &mut String) -> Result<(), AllocError> {
 fn many_bindings_have_their_plan(rt: HostRuntime) -> Result<(), Fail> {
     let mut bindings = String::new(rt.alloc());
     push_bindings(&mut bindings)?;
-    let end = "; $0; $0; Return $0]";
+    let end = "; $0; $0; Return $0]]";
     expect(ends_so(rt.alloc(), bindings.as_str(), end)?, "bindings")
 }

@@ -18,7 +18,7 @@ use Rattle.xpath_plan.specs.declared.work.StepTest.TheVariants as t
 use Rattle.xpath_plan.specs.Plans.{test_seen}
 use Rattle.xpath_walks.specs.declared.walk.Way.TheVariants as w
 use Rattle.xpath_walks.specs.Tests.{numbers_of, is_passed}
-use Rattle.xpath_walks.specs.Walks.{IsWalkable, node_numbers, is_taken, if_so, found_on, has_wanted, taken_from}
+use Rattle.xpath_walks.specs.Walks.{IsWalkable, node_numbers, is_taken, if_so, found_on, has_wanted, taken_from, chain_of, chain_from}
 use Rattle.xpath_walks.proofs.FilterLemmas.{right_none, alike, from_first, none_first}
 use Rattle.xpath_walks.proofs.WalkLemmas.{one_step}
 use Rattle.xpath_walks.proofs.TestLemmas.{at-node}
@@ -113,7 +113,7 @@ IsOfName axis test = (node : Node) → has_wanted test node ≡ false → is_pas
 pub is_of_name : (names : List Name) (k : ℕ) (axis : Axis) (test : StepTest) → test ≡ t.Named k → IsOfName axis (test_seen names test)
 is_of_name names k axis test e = subst (λ x. IsOfName axis (test_seen names x)) (sym e) (wanted_only names k axis)
 
-taken_only : (nodes : List Node) (axis : Axis) (test : Option NodeTest) → IsOfName axis test → (node : Node) → has_wanted test node ≡ false → is_taken w.All nodes axis test node ≡ false
+pub taken_only : (nodes : List Node) (axis : Axis) (test : Option NodeTest) → IsOfName axis test → (node : Node) → has_wanted test node ≡ false → is_taken w.All nodes axis test node ≡ false
 taken_only nodes axis test only node h = ap (λ b. not (is_attribute node) && b) (only node h) ∙ right_none (not (is_attribute node))
 
 nameless : (test : Option NodeTest) (node : Node) → node.name ≡ None → has_wanted test node ≡ false
@@ -152,3 +152,15 @@ module _ (nodes : List Node) (s : IsWalkable nodes) (axis : Axis) (test : Option
       ap node_numbers (sym (alike (λ node. is_on a.Descendant (tree_node nodes 0) node && is_passed axis test node) (is_taken w.All nodes axis test) 0 nodes
       (whole_alike rooted no_name alone)
       ∙ from_first (is_taken w.All nodes axis test) (has_wanted test) 0 nodes begin s.counted (taken_only nodes axis test only) e))
+
+-- ---- what it costs
+
+pub chain_first : (nodes : List Node) (s : IsWalkable nodes) (test : Option NodeTest) (first : Option ℕ) → first ≡ first_that (has_wanted test) nodes
+    → length (chain_from nodes first test) ≡ length (chain_of nodes test)
+chain_first nodes s test first e = ap (λ ns. length (node_numbers ns)) (sym (from_first (has_wanted test) (has_wanted test) 0 nodes first s.counted (λ node h. h) e))
+
+pub chain_more : (nodes : List Node) (s : IsWalkable nodes) (test : Option NodeTest) (n : ℕ) (next : Option ℕ) → n < length nodes → has_wanted test (tree_node nodes n) ≡ true
+    → next ≡ first_that (has_wanted test) (behind n nodes) → length (chain_from nodes (Some n) test) ≡ length (chain_from nodes next test) + 1
+chain_more nodes s test n next within is e =
+    ap length (one_step (has_wanted test) (has_wanted test) nodes n next s.counted within (λ node h. h) e
+    ∙ ap (λ b. if_so b n ++ chain_from nodes next test) is) ∙ (omega arith)

@@ -5,3 +5,6 @@ pub mod ForwardLemmas
 pub mod ChainLemmas
 pub mod ReverseLemmas
 pub mod OrderLemmas
+pub mod BehindLemmas
+pub mod InsideLemmas
+pub mod AroundLemmas

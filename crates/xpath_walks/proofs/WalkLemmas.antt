@@ -96,7 +96,7 @@ not_on : (way : Way) (nodes : List Node) (last : ℕ) (axis : Axis) (test : Opti
     → is_walked way nodes last axis test node ≡ false
 not_on way nodes last axis test node h = ap (λ b. b && (nat_le node.number last && is_taken way nodes axis test node)) h
 
-walked_at : (way : Way) (nodes : List Node) (last : ℕ) (axis : Axis) (test : Option NodeTest) (n : ℕ) → (tree_node nodes n).number ≡ n
+pub walked_at : (way : Way) (nodes : List Node) (last : ℕ) (axis : Axis) (test : Option NodeTest) (n : ℕ) → (tree_node nodes n).number ≡ n
     → is_on_way way (tree_node nodes n) ≡ true → n ≤ last
     → is_walked way nodes last axis test (tree_node nodes n) ≡ is_taken way nodes axis test (tree_node nodes n)
 walked_at way nodes last axis test n number on le =

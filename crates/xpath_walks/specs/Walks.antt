@@ -1,8 +1,8 @@
 -- Walks over the nodes of a document by its links.
-use Rattle.std.specs.Prelude.{◌≡◌, ℕ, ◌++◌, ◌<◌, ◌^◌, Bool, true, false, not, ◌&&◌, nat_le, List, [], ◌∷◌, length, map, filter, drop, Option, Some, None, Result, OnOk, if◌then◌else◌}
+use Rattle.std.specs.Prelude.{◌≡◌, ℕ, ◌+◌, ◌*◌, ◌++◌, ◌<◌, ◌≤◌, ◌^◌, Bool, true, false, not, ◌&&◌, nat_le, List, [], ◌∷◌, length, map, filter, drop, Option, Some, None, Result, OnOk, if◌then◌else◌}
 use Rattle.inv_base.specs.Tree.{Node, Name}
 use Rattle.node_arena.specs.Document.{Document}
-use Rattle.node_arena.specs.Moves.{tree_nodes, tree_node, has_name, is_attribute, is_child, is_attribute_of, is_inside, is_between, last_inside}
+use Rattle.node_arena.specs.Moves.{tree_nodes, tree_node, behind, first_that, has_name, is_attribute, is_child, is_attribute_of, is_inside, is_between, last_inside}
 use Rattle.node_arena.specs.Walks.{LeadsOn}
 use Rattle.xpath_grammar.specs.declared.step.Axis.{Axis}
 use Rattle.xpath_meaning.specs.Expressions.{NodeTest, named}
@@ -75,6 +75,41 @@ Adds document step result old new what =
 abbrev pub has_wanted : Option NodeTest → Node → Bool
 has_wanted (Some (named name)) node = has_name name node
 has_wanted _ node = false
+
+-- the chain of the expanded name that a test is for: the elements and attributes that have it, in document order
+abbrev pub chain_of : List Node → Option NodeTest → List ℕ
+chain_of nodes test = node_numbers (filter (has_wanted test) nodes)
+
+-- what is left of it from a node on
+abbrev pub chain_from : List Node → Option ℕ → Option NodeTest → List ℕ
+chain_from nodes begin test = node_numbers (filter (has_wanted test) (from_on begin nodes))
+
+-- the nodes of the chain up to a node
+abbrev pub is_passed_by : Option NodeTest → ℕ → Node → Bool
+is_passed_by test from node = has_wanted test node && nat_le node.number from
+
+abbrev pub chain_up_to : ℕ → List Node → Option NodeTest → List Node
+chain_up_to from nodes test = filter (is_passed_by test from) nodes
+
+-- The node is the first behind another that is so; where there is none, nothing behind that one is so up to a last number.
+abbrev pub LeadsInside : (Node → Bool) → ℕ → ℕ → List Node → Option ℕ → Type 0
+LeadsInside is_so from last nodes None = (k : ℕ) → from < k → k ≤ last → k < length nodes → is_so (tree_node nodes k) ≡ false
+LeadsInside is_so from last nodes (Some m) = Some m ≡ first_that is_so (behind from nodes)
+
+-- So many steps and at most one more were taken, or where memory ran out no more than that.
+pub record Costs {X E : Type 0} (count : ℕ) (result : Result X E) (before after : ℕ) : Type 0 where
+  pub most : after ≤ before + (count + 1)
+  pub least : OnOk result (before + count ≤ after)
+
+-- A step for each node of the chain, and at most one more, for any names that the step's numbers are those of.
+abbrev pub CostsChain : {X E : Type 0} → Document → Step → Result X E → ℕ → ℕ → Type 0
+CostsChain document step result before after = (names : List Name) → step.numbers.now ≡ numbers_of document.names names
+    → Costs (length (chain_of (tree_nodes document) (test_seen names step.test.now))) result before after
+
+-- What a walk along a chain of so many nodes may take; along the whole of it it takes a step for each, unless memory runs out.
+pub record Bounds {X E : Type 0} (count : ℕ) (leading : Bool) (result : Result X E) (before after : ℕ) : Type 0 where
+  pub most : after ≤ before + (2 * count + 2)
+  pub least : leading ≡ true → OnOk result (before + count ≤ after)
 
 -- what a walk over all nodes takes from one on
 abbrev pub taken_from : List Node → Option ℕ → Axis → Option NodeTest → List ℕ

@@ -3,6 +3,7 @@ ghost use Rattle.std.specs.Prelude.{◌≡◌, ◌<◌, length, IfSome};
 ghost use Rattle.node_arena.specs.Moves.{tree_nodes};
 ghost use Rattle.xpath_walks.specs.Walks.{Adds, found_on};
 
+use crate::behind::named_inside;
 use crate::chain::all_named;
 use crate::law::documents_are_walkable;
 use crate::step::Step;
@@ -75,22 +76,39 @@ pub(crate) fn descendant<L: Ledger>(
     requires { from < length doc.now.nodes }
     ensures { Adds doc.now step.now result out.old.items out.new.items (found_on Axis.Descendant step.now.axis (tree_nodes doc.now) from) }
 {
-    match name_in_whole(step, from) {
-        Some(k) => all_named(doc, step, k, out, steps),
+    match wanted_name(step) {
+        Some(k) => of_name(doc, step, k, from, out, steps),
         None => inside(doc, step, from, out, steps),
     }
 }
 
-/// Which of the plan's names the step looks for from the document's own node, if it wants an expanded name there.
-fn name_in_whole(step: &Step<'_>, from: NodeId) -> Option<usize>
-    ensures { IfSome result (λ k. (from ≡ 0) × (step.now.test.now ≡ StepTest.Named k)) }
+/// Which of the plan's names the step looks for, if it wants an expanded name.
+fn wanted_name(step: &Step<'_>) -> Option<usize>
+    ensures { IfSome result (λ k. step.now.test.now ≡ StepTest.Named k) }
 {
-    if from.number() > 0 {
-        return None;
-    }
     match step.test {
         StepTest::Named(k) => Some(*k),
         _ => None,
+    }
+}
+
+/// Descendants of the plan's k-th name, along its chain.
+fn of_name<L: Ledger>(
+    doc: &Doc<'_>,
+    step: &Step<'_>,
+    k: usize,
+    from: NodeId,
+    out: &mut Vec<NodeId>,
+    steps: &mut Steps<L>,
+) -> Result<(), AllocError>
+    requires named { step.now.test.now ≡ StepTest.Named k }
+    requires within { from < length doc.now.nodes }
+    ensures { Adds doc.now step.now result out.old.items out.new.items (found_on Axis.Descendant step.now.axis (tree_nodes doc.now) from) }
+{
+    if from.number() == 0 {
+        all_named(doc, step, k, out, steps)
+    } else {
+        named_inside(doc, step, k, from, out, steps)
     }
 }
 

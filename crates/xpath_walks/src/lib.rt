@@ -2,6 +2,7 @@
 #![tactic(auto)]
 
 mod axes;
+mod behind;
 mod chain;
 mod forward;
 mod law;
@@ -11,8 +12,9 @@ mod step;
 mod test;
 mod walk;
 
-pub use axes::axis_nodes;
+pub use axes::{axis_nodes, named_nodes};
 pub use law::documents_are_walkable;
 pub use order::in_order;
 pub use step::Step;
 pub use test::{is_passing, numbers_in};
+pub use walk::is_around;

@@ -95,7 +95,7 @@ pub(crate) fn number_at(numbers: &[Option<NameId>], k: usize) -> Option<NameId>
 }
 
 /// Whether a name has the number on an axis, where there is such a number.
-fn has_number(doc: &Doc<'_>, number: Option<NameId>, n: NodeId) -> bool
+pub(crate) fn has_number(doc: &Doc<'_>, number: Option<NameId>, n: NodeId) -> bool
     requires { n < length doc.now.nodes }
     ensures found { (name : Name) → number ≡ find_name name doc.now.names → result ≡ has_name name (tree_node (tree_nodes doc.now) n) }
     ensures none { number ≡ None → result ≡ false }

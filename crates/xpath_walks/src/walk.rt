@@ -125,7 +125,7 @@ pub(crate) fn is_no_attribute(doc: &Doc<'_>, n: NodeId) -> bool
 }
 
 /// Whether the second node is inside the first.
-fn is_around<L: Ledger>(doc: &Doc<'_>, n: NodeId, inner: NodeId, steps: &mut Steps<L>) -> bool
+pub fn is_around<L: Ledger>(doc: &Doc<'_>, n: NodeId, inner: NodeId, steps: &mut Steps<L>) -> bool
     requires within { n < length doc.now.nodes }
     requires inner { inner < length doc.now.nodes }
     ensures { result ≡ is_inside n (tree_node (tree_nodes doc.now) inner) }

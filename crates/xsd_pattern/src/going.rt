@@ -35,6 +35,45 @@ fn mark_ahead(step: Step, marks: &[bool]) -> bool
     }
 }
 
+/// Lets the place go that the branches before began at, and keeps the one that this branch ends at.
+fn next_branch(at: Place, places: &mut Places) -> Result<Place, AllocError>
+    ensures { IfOk result (λ p. spec.swapped at.before at.behind places.old ≡ spec.at p.before p.behind places.new) }
+{
+    match places.pop() {
+        None => Ok(at),
+        Some(place) => {
+            places.push(at)?;
+            Ok(place)
+        }
+    }
+}
+
+/// What holds where this branch or one before it ends.
+fn joined_branches(at: Place, places: &mut Places) -> Place
+    ensures { spec.both_ways at.before at.behind places.old ≡ spec.at result.before result.behind places.new }
+{
+    match places.pop() {
+        None => at,
+        Some(place) => Place {
+            before: place.before || at.before,
+            behind: place.behind || at.behind,
+        },
+    }
+}
+
+/// What holds behind a loop, whose body may match the empty text.
+fn behind_loop(at: Place, empty: bool, places: &mut Places) -> Place
+    ensures { spec.left_loop empty at.before at.behind places.old ≡ spec.at result.before result.behind places.new }
+{
+    match places.pop() {
+        None => at,
+        Some(place) => Place {
+            before: at.before,
+            behind: at.behind || (place.behind && empty),
+        },
+    }
+}
+
 /// What holds behind a step that has the mark, and behind the character the new one; later is the mark that a loop reads.
 fn act(
     step: Step,
@@ -55,20 +94,8 @@ fn act(
             places.push(at)?;
             Ok(at)
         }
-        Step::Or => match places.pop() {
-            None => Ok(at),
-            Some(place) => {
-                places.push(at)?;
-                Ok(place)
-            }
-        },
-        Step::Join => match places.pop() {
-            None => Ok(at),
-            Some(place) => Ok(Place {
-                before: place.before || at.before,
-                behind: place.behind || at.behind,
-            }),
-        },
+        Step::Or => next_branch(at, places),
+        Step::Join => Ok(joined_branches(at, places)),
         Step::Loop(_) => {
             places.push(at)?;
             Ok(Place {
@@ -76,13 +103,7 @@ fn act(
                 behind: false,
             })
         }
-        Step::End(empty) => match places.pop() {
-            None => Ok(at),
-            Some(place) => Ok(Place {
-                before: at.before,
-                behind: at.behind || (place.behind && empty),
-            }),
-        },
+        Step::End(empty) => Ok(behind_loop(at, empty, places)),
     }
 }
 

@@ -1,5 +1,6 @@
 use Rattle.binding_laws.proofs.PlacedLemmas.{contains-among}
-use Rattle.carrying_laws.proofs.ConditionLemmas.{carried-keeps, carried-entries, entries-keep, model-kept, part-kept, creditor-kept, filler-kept, note-kept, code-kept, means-kept, currency-kept}
+use Rattle.carrying_laws.proofs.ConditionLemmas.{carried-keeps, carried-entries, entries-keep, row-kept, part-kept, creditor-kept, filler-kept, note-kept, code-kept, means-kept, currency-kept}
+use Rattle.carrying_laws.proofs.TableLemmas.{tables-keep}
 use Rattle.carrying_laws.proofs.laws.carried_invoices_meet_each_condition.Goals as goal
 
 pub returns-clause-carried : goal.returns-clause-carried
@@ -33,4 +34,7 @@ pub returns-clause-currency : goal.returns-clause-currency
 returns-clause-currency c = λ rows es e keeps known. currency-kept rows es keeps e (contains-among e es known)
 
 pub returns-clause-placed : goal.returns-clause-placed
-returns-clause-placed c = λ rows es e carried known. model-kept rows es carried e (contains-among e es known)
+returns-clause-placed c = λ rows es e carried known. row-kept rows es carried e (contains-among e es known)
+
+pub returns-clause-modelled : goal.returns-clause-modelled
+returns-clause-modelled c = λ table es e carried known. tables-keep table es carried e (contains-among e es known)

@@ -1,6 +1,6 @@
 use Rattle.std.proofs.Common.{rules, ◌≡◌, true, refl}
 use Rattle.std.specs.Result.{is_ok}
-use Rattle.document_jobs.proofs.CheckLemmas.{kept_if, chosen_kept, patterns_kept}
+use Rattle.document_jobs.proofs.CheckLemmas.{kept_if, chosen_kept, came_kept}
 use Rattle.document_jobs.proofs.checks.choose.Goals as goal
 
 pub files-preserved : goal.files-preserved
@@ -10,7 +10,7 @@ files-preserved g c =
     record {
       chosen = chosen_kept c.args.phase.now c.args.files.now c.files.file-index c.file-item.result c.files-test.true c.file-item.is c.files.chosen.items
           c.push.new.self.items _ kept refl c.in-Ok.ensures c.files.invariant.chosen;
-      patterns = patterns_kept c.args.phase.now c.args.files.now c.files.file-index c.file-item.result c.files-test.true c.file-item.is c.files.chosen.items
-          c.push.new.self.items _ kept refl c.requires c.files.invariant.patterns;
+      came = came_kept c.args.phase.now c.args.files.now c.files.file-index c.file-item.result c.files-test.true c.file-item.is c.files.chosen.items
+          c.push.new.self.items _ kept refl c.in-Ok.ensures c.files.invariant.came;
       quiet = c.files.invariant.quiet;
     }

@@ -7,6 +7,6 @@ use Rattle.document_jobs.proofs.checks.choose.Given as goal
 abbrev pub invariant-files : goal.invariant-files
 invariant-files g l = record {
   chosen : chosen_behind (map chosen_of l.chosen.items) (chosen l.phase (map named_of (drop l.file-index l.files))) ≡ chosen l.phase (map named_of l.files);
-  patterns : AreChosen (map chosen_of l.chosen.items);
+  came : AreChosen (map chosen_of l.chosen.items);
   quiet : g.E.Sink.view l.err ≡ g.E.Sink.view l.initial.err;
 }

@@ -1,7 +1,6 @@
 use Rattle.std.proofs.Common.{ap, ◌∙◌}
 use Rattle.std.specs.Prelude.{chars}
 use Rattle.std.proofs.lemmas.Str.{chars-IsAscii}
-use Rattle.bind_rows.specs.Namespaces.{uri_of}
 use Rattle.xpath_types.specs.Scopes.{with_prefix}
 use Rattle.document_jobs.proofs.QueryLemmas.{uri_chars}
 use Rattle.document_jobs.proofs.queries.bind.Goals as goal

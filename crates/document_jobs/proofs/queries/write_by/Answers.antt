@@ -1,4 +1,4 @@
-use Rattle.document_jobs.proofs.QueryLemmas.{answer_text, nothing_answered, is_answered, some_answered}
+use Rattle.document_jobs.proofs.QueryLemmas.{answer_text, is_answered, some_answered}
 use Rattle.document_jobs.proofs.queries.write_by.Goals as goal
 
 pub returns-in-Ok-write_items : goal.returns-in-Ok-write_items

@@ -1,5 +1,4 @@
-use Rattle.std.proofs.Common.{[], ◌∷◌, ap, ◌∙◌}
-use Rattle.std.specs.Prelude.{decimal}
+use Rattle.std.proofs.Common.{[], ◌∷◌, ◌∙◌}
 use Rattle.inv_base.proofs.WritingLemmas.{WritesAll-nil}
 use Rattle.inv_base.proofs.PrintingLemmas.{Prints-append, Prints-same}
 use Rattle.job_course.proofs.Printed.{takes_printed}
@@ -9,7 +8,7 @@ pub returns : goal.returns
 returns g c =
     let file = Prints-same _ _ _ _ _ _ c.as_bytes.ensures.value c.put-2.ensures in
     let kind = Prints-same _ _ _ _ _ _ (c.as_bytes-2.ensures.value ∙ c.rule_kind_name.ensures) c.put-4.ensures in
-    let place = Prints-same _ _ _ _ _ _ (c.as_bytes-3.ensures.value ∙ (c.format.ensures.text ∙ ap decimal c.place.ensures)) c.put-6.ensures in
+    let place = Prints-same _ _ _ _ _ _ (c.as_bytes-3.ensures.value ∙ c.format.ensures.text) c.put-6.ensures in
     let attribute = Prints-same _ _ _ _ _ _ (c.as_bytes-4.ensures.value ∙ c.rule_attribute_name.ensures) c.put-8.ensures in
     let all = Prints-append _ _ _ _ _ _ _ _ c.put.ensures (Prints-append _ _ _ _ _ _ _ _ file (Prints-append _ _ _ _ _ _ _ _ c.put-3.ensures
     (Prints-append _ _ _ _ _ _ _ _ kind (Prints-append _ _ _ _ _ _ _ _ c.put-5.ensures (Prints-append _ _ _ _ _ _ _ _ place

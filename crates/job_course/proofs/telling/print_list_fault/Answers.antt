@@ -1,4 +1,4 @@
-use Rattle.std.proofs.Common.{◌++◌, codes, ap, sym, ◌∙◌}
+use Rattle.std.proofs.Common.{ap, sym, ◌∙◌}
 use Rattle.std.specs.Prelude.{encode_utf8_all}
 use Rattle.inv_base.proofs.TextLemmas.{encode-chars}
 use Rattle.inv_base.proofs.PrintingLemmas.{Prints-append, Prints-same}

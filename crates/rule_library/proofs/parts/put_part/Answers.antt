@@ -10,7 +10,7 @@ pub returns-then-is_open-clause-fails : goal.returns-then-is_open-clause-fails
 returns-then-is_open-clause-fails g c =
     let w = c.args.walk.now in
     refused_fails (part_rest w c.args.n c.args.bare c.args.name.now) c.fault_in.result (g.S.Shelf.view c.args.shelf.now)
-    (given (fault_at w c.args.n kinds.IncludeCycle) (part-cycle w c.args.n c.args.bare c.args.name.now (sym c.is_open.ensures ∙ c.if-is_open.true)) c.fault_in.ensures)
+    (given (fault_at w c.args.n kinds.IncludeCycle) tt (part-cycle w c.args.n c.args.bare c.args.name.now (sym c.is_open.ensures ∙ c.if-is_open.true)) c.fault_in.ensures)
 
 pub returns-in-Err-clause-fails : goal.returns-in-Err-clause-fails
 returns-in-Err-clause-fails g c =
@@ -27,7 +27,7 @@ returns-then-is_unfit-clause-fails g c =
     fails_behind (part_rest w c.args.n c.args.bare c.args.name.now) (found_rest v c.args.n c.args.bare k) c.fault_in-then-is_unfit.result (g.S.Shelf.view c.args.shelf.now) (g.S.Shelf.view c.find_part.new.shelf) (g.S.Shelf.view c.find_part.new.shelf)
     (reaches_from (part_rest w c.args.n c.args.bare c.args.name.now) (other_rest w c.args.n c.args.bare c.args.name.now) (found_rest v c.args.n c.args.bare k) _ _ other c.in-Ok.ensures.found)
     (refused_fails (found_rest v c.args.n c.args.bare k) c.fault_in-then-is_unfit.result (g.S.Shelf.view c.find_part.new.shelf)
-    (given (fault_at v c.args.n kinds.NotSame) (found-unfit v c.args.n c.args.bare k (sym c.is_unfit.ensures ∙ c.if-is_unfit.true)) c.fault_in-then-is_unfit.ensures))
+    (given (fault_at v c.args.n kinds.NotSame) tt (found-unfit v c.args.n c.args.bare k (sym c.is_unfit.ensures ∙ c.if-is_unfit.true)) c.fault_in-then-is_unfit.ensures))
 
 pub returns-in-Ok-enter-clause-goes : goal.returns-in-Ok-enter-clause-goes
 returns-in-Ok-enter-clause-goes g c =

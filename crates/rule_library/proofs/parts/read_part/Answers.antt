@@ -10,7 +10,7 @@ pub returns-then-has_many-clause-fails : goal.returns-then-has_many-clause-fails
 returns-then-has_many-clause-fails g c =
     let w = c.args.walk.now in
     refused_fails (new_rest w c.args.n c.args.bare c.args.name.now) c.fault_in.result (g.S.Shelf.view c.args.shelf.now)
-    (given (fault_at w c.args.n kinds.TooManyFiles) (new-many w c.args.n c.args.bare c.args.name.now (sym c.has_many.ensures ∙ c.if-has_many.true)) c.fault_in.ensures)
+    (given (fault_at w c.args.n kinds.TooManyFiles) tt (new-many w c.args.n c.args.bare c.args.name.now (sym c.has_many.ensures ∙ c.if-has_many.true)) c.fault_in.ensures)
 
 pub returns-in-Err-clause-fails : goal.returns-in-Err-clause-fails
 returns-in-Err-clause-fails g c =

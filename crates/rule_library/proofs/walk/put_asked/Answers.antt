@@ -28,7 +28,7 @@ returns-in-Bad-clause-fails g c =
     let w = c.args.walk.now in
     let n = c.args.n in
     let same = ap (λ r. asked_rest w n (asked_by r)) (sym c.in-Bad.is) ∙ c.request_in.ensures in
-    refused_fails (node_rest w n) c.fault_in.result (g.S.Shelf.view c.args.shelf.now) (given (fault_at w n kinds.BadHref) (sym same) c.fault_in.ensures)
+    refused_fails (node_rest w n) c.fault_in.result (g.S.Shelf.view c.args.shelf.now) (given (fault_at w n kinds.BadHref) tt (sym same) c.fault_in.ensures)
 
 pub returns-in-RootOf : goal.returns-in-RootOf
 returns-in-RootOf g c =

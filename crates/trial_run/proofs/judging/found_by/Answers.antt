@@ -4,12 +4,8 @@ use Rattle.node_arena.specs.Moves.{tree_nodes}
 use Rattle.schematron_rules.specs.Seen.{seen_rules}
 use Rattle.svrl_report.specs.Plain.{tally_of}
 use Rattle.trial_run.specs.Trials.{found_by, trial_rules}
-use Rattle.trial_run.proofs.RuleLemmas.{none-found, trial-patterns}
+use Rattle.trial_run.proofs.RuleLemmas.{none-found}
 use Rattle.trial_run.proofs.judging.found_by.Goals as goal
-
-pub found_by_default-requires : goal.found_by_default-requires
-found_by_default-requires g c =
-    trial-patterns c.compiled_rules_have_patterns.ensures (seen_rules c.in-Some.rules) (sym (ap (option_map seen_rules) c.in-Some.is) ∙ c.requires)
 
 pub returns-in-Some : goal.returns-in-Some
 returns-in-Some g c =

@@ -1,11 +1,12 @@
-use Rattle.std.proofs.Common.{◌∙◌}
+use Rattle.std.proofs.Common.{◌∙◌, chars}
 use Rattle.node_arena.specs.Moves.{tree_nodes}
+use Rattle.schematron_meaning.specs.Phases.{the_default}
 use Rattle.schematron_rules.specs.Seen.{seen_rules, seen_active}
 use Rattle.trial_run.proofs.RuleLemmas.{active-found, nothing-active}
 use Rattle.trial_run.proofs.judging.found_by_default.Goals as goal
 
 pub judge-requires : goal.judge-requires
-judge-requires g c = c.requires
+judge-requires g c = record { name = chars the_default; is = c.in-Ok.ensures }
 
 pub returns-in_ok-found-in-Ok : goal.returns-in_ok-found-in-Ok
 returns-in_ok-found-in-Ok g c =

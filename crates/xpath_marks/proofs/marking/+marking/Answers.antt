@@ -1,19 +1,48 @@
-use Rattle.std.proofs.Common.{◌≡◌, ◌∷◌, ap, sym, subst, false, ◌∙◌, take}
+use Rattle.std.proofs.Common.{◌≡◌, ◌∷◌, ap, sym, subst, true, false, ◌∙◌, take}
 use Rattle.xpath_meaning.specs.Expressions.{Exp}
 use Rattle.xpath_meaning.specs.Items.{is_empty}
 use Rattle.xpath_meaning.specs.Resolving.{all_inside, chained, chained_on, linked}
 use Rattle.xpath_plan.specs.Plans.{seen, label_of}
 use Rattle.xpath_run.specs.Contexts.{operands_of}
+use Rattle.xpath_marks.specs.FirstSteps.{is_found_by_first}
 use Rattle.xpath_marks.specs.Found.{all_reached}
-use Rattle.xpath_marks.specs.Marking.{Marked, Reached, FoundByStep, is_first_part, nodes_of, united_of}
+use Rattle.xpath_marks.specs.Marking.{Marked, Reached, FoundByStep, nodes_of, united_of}
+use Rattle.xpath_marks.proofs.AloneLemmas.{empty_alone, first_alone, others_alone}
+use Rattle.xpath_marks.proofs.FirstStepLemmas.{filter_children}
 use Rattle.xpath_marks.proofs.TurnLemmas.{alone_is}
-use Rattle.xpath_marks.proofs.MarkingLemmas.{along_ok, nothing_found, none_of_none, chain_marked, others_marked, below_marked, inside_marked, beside_marked, otherwise_marked, chain_more}
+use Rattle.xpath_marks.proofs.MarkingLemmas.{along_ok, nothing_found, none_of_none, first_marked, chain_marked, others_marked, below_marked, inside_marked, beside_marked, otherwise_marked, chain_more}
 use Rattle.xpath_marks.proofs.marking.+marking.Goals as goal
 
 pub chain-returns-in_default-clause-marked : goal.chain-returns-in_default-clause-marked
 chain-returns-in_default-clause-marked g t c =
     subst (λ ps. Marked c.args.ground.now (chained (operands_of c.args.ground.now.names.now ps)) c.new.result.items) (sym (none_of_none c.args.parts.now c.in_default.ensures.cases))
     (λ p. nothing_found c.args.ground.now c.new.result.items c.new.ensures.items)
+
+pub found-returns-in_default-clause-cost : goal.found-returns-in_default-clause-cost
+found-returns-in_default-clause-cost g t c = λ name e.
+    absurd (empty_alone c.args.ground.now.names.now c.args.work.now c.in-Node.kind c.in-Node.parts name c.in-Node.is
+    (sym c.as_slice.ensures ∙ none_of_none c.as_slice.result.now c.in_default.ensures.cases) e)
+
+pub found-returns-then-is_found_by_first-clause-marked : goal.found-returns-then-is_found_by_first-clause-marked
+found-returns-then-is_found_by_first-clause-marked g t c =
+    let base = c.args.ground.now in
+    let first = c.in-Some.first.now in
+    let others = c.in-Some.others.now in
+    let kind = c.in-Node.kind in
+    let divided : c.in-Node.parts ≡ first ∷ others = sym c.as_slice.ensures ∙ c.in-Some.ensures.cases.0 in
+    let yes : is_found_by_first kind first.0 (is_empty others) ≡ true = ap (is_found_by_first kind first.0) (alone_is others ∙ sym c.is_empty.ensures) ∙ sym c.if-is_found_by_first.ensures in
+    along_ok c.found.result (λ found. Marked base (seen base.names.now first.1) found.items) (λ found. Marked base (seen base.names.now c.args.work.now) found.items)
+    (λ found m. first_marked base c.args.work.now kind c.in-Node.parts c.in-Node.is found.items first others divided yes m) c.found.ensures.marked
+
+pub found-returns-then-is_found_by_first-clause-cost : goal.found-returns-then-is_found_by_first-clause-cost
+found-returns-then-is_found_by_first-clause-cost g t c =
+    let base = c.args.ground.now in
+    let first = c.in-Some.first.now in
+    let others = c.in-Some.others.now in
+    let kind = c.in-Node.kind in
+    let divided : c.in-Node.parts ≡ first ∷ others = sym c.as_slice.ensures ∙ c.in-Some.ensures.cases.0 in
+    let yes : is_found_by_first kind first.0 (is_empty others) ≡ true = ap (is_found_by_first kind first.0) (alone_is others ∙ sym c.is_empty.ensures) ∙ sym c.if-is_found_by_first.ensures in
+    λ name e. c.found.ensures.cost name (first_alone base.names.now c.args.work.now kind c.in-Node.parts c.in-Node.is first others divided yes ∙ e)
 
 pub found-returns-then-is_chain-clause-marked : goal.found-returns-then-is_chain-clause-marked
 found-returns-then-is_chain-clause-marked g t c =
@@ -24,17 +53,66 @@ found-returns-then-is_chain-clause-marked g t c =
     (subst (λ ps. Marked base (chained (operands_of base.names.now ps)) found.items) c.as_slice-then-is_chain.ensures m))
     c.chain.ensures.marked
 
-pub found-returns-else-is_chain-clause-marked : goal.found-returns-else-is_chain-clause-marked
-found-returns-else-is_chain-clause-marked g t c =
+pub found-returns-then-is_chain-clause-cost : goal.found-returns-then-is_chain-clause-cost
+found-returns-then-is_chain-clause-cost g t c =
     let base = c.args.ground.now in
     let first = c.in-Some.first.now in
     let others = c.in-Some.others.now in
     let kind = c.in-Node.kind in
     let divided : c.in-Node.parts ≡ first ∷ others = sym c.as_slice.ensures ∙ c.in-Some.ensures.cases.0 in
-    let no : is_first_part kind first.0 (is_empty others) ≡ false = ap (is_first_part kind first.0) (alone_is others ∙ sym c.is_empty.ensures) ∙ sym c.if-is_first_part.ensures in
-    along_ok c.from_everywhere-else-is_chain.result (λ found. FoundByStep base (seen base.names.now c.args.work.now) found.items) (λ found. Marked base (seen base.names.now c.args.work.now) found.items)
+    let no : is_found_by_first kind first.0 (is_empty others) ≡ false = ap (is_found_by_first kind first.0) (alone_is others ∙ sym c.is_empty.ensures) ∙ sym c.if-is_found_by_first.ensures in
+    λ name e. absurd (others_alone base.names.now c.args.work.now kind c.in-Node.parts c.in-Node.is first others divided name no e)
+
+pub found-from_around-requires-clause-children : goal.found-from_around-requires-clause-children
+found-from_around-requires-clause-children g t c =
+    let base = c.args.ground.now in
+    let divided : c.in-Node.parts ≡ c.in-Some.first.now ∷ c.in-Some.others.now = sym c.as_slice.ensures ∙ c.in-Some.ensures.cases.0 in
+    filter_children base c.args.work.now c.in-Node.kind c.in-Node.parts c.in-Some.first.now c.in-Some.others.now c.in-Some-filtered_name.k c.in-Node.is divided
+    c.in-Some-filtered_name.ensures.filter c.in-Some-filtered_name.ensures.step
+
+pub found-returns-in-Some-filtered_name-clause-marked : goal.found-returns-in-Some-filtered_name-clause-marked
+found-returns-in-Some-filtered_name-clause-marked g t c =
+    let base = c.args.ground.now in
+    let first = c.in-Some.first.now in
+    let others = c.in-Some.others.now in
+    let kind = c.in-Node.kind in
+    let divided : c.in-Node.parts ≡ first ∷ others = sym c.as_slice.ensures ∙ c.in-Some.ensures.cases.0 in
+    let no : is_found_by_first kind first.0 (is_empty others) ≡ false = ap (is_found_by_first kind first.0) (alone_is others ∙ sym c.is_empty.ensures) ∙ sym c.if-is_found_by_first.ensures in
+    along_ok c.from_around.result (λ found. FoundByStep base (seen base.names.now c.args.work.now) found.items) (λ found. Marked base (seen base.names.now c.args.work.now) found.items)
     (λ found f. others_marked base c.args.work.now kind c.in-Node.parts c.in-Node.is found.items first others divided no (sym c.if-is_chain.ensures) f)
-    c.from_everywhere-else-is_chain.ensures.marked
+    c.from_around.ensures.marked
+
+pub found-returns-in-Some-filtered_name-clause-cost : goal.found-returns-in-Some-filtered_name-clause-cost
+found-returns-in-Some-filtered_name-clause-cost g t c =
+    let base = c.args.ground.now in
+    let first = c.in-Some.first.now in
+    let others = c.in-Some.others.now in
+    let kind = c.in-Node.kind in
+    let divided : c.in-Node.parts ≡ first ∷ others = sym c.as_slice.ensures ∙ c.in-Some.ensures.cases.0 in
+    let no : is_found_by_first kind first.0 (is_empty others) ≡ false = ap (is_found_by_first kind first.0) (alone_is others ∙ sym c.is_empty.ensures) ∙ sym c.if-is_found_by_first.ensures in
+    λ name e. absurd (others_alone base.names.now c.args.work.now kind c.in-Node.parts c.in-Node.is first others divided name no e)
+
+pub found-returns-in-None-clause-marked : goal.found-returns-in-None-clause-marked
+found-returns-in-None-clause-marked g t c =
+    let base = c.args.ground.now in
+    let first = c.in-Some.first.now in
+    let others = c.in-Some.others.now in
+    let kind = c.in-Node.kind in
+    let divided : c.in-Node.parts ≡ first ∷ others = sym c.as_slice.ensures ∙ c.in-Some.ensures.cases.0 in
+    let no : is_found_by_first kind first.0 (is_empty others) ≡ false = ap (is_found_by_first kind first.0) (alone_is others ∙ sym c.is_empty.ensures) ∙ sym c.if-is_found_by_first.ensures in
+    along_ok c.from_everywhere-in-None.result (λ found. FoundByStep base (seen base.names.now c.args.work.now) found.items) (λ found. Marked base (seen base.names.now c.args.work.now) found.items)
+    (λ found f. others_marked base c.args.work.now kind c.in-Node.parts c.in-Node.is found.items first others divided no (sym c.if-is_chain.ensures) f)
+    c.from_everywhere-in-None.ensures.marked
+
+pub found-returns-in-None-clause-cost : goal.found-returns-in-None-clause-cost
+found-returns-in-None-clause-cost g t c =
+    let base = c.args.ground.now in
+    let first = c.in-Some.first.now in
+    let others = c.in-Some.others.now in
+    let kind = c.in-Node.kind in
+    let divided : c.in-Node.parts ≡ first ∷ others = sym c.as_slice.ensures ∙ c.in-Some.ensures.cases.0 in
+    let no : is_found_by_first kind first.0 (is_empty others) ≡ false = ap (is_found_by_first kind first.0) (alone_is others ∙ sym c.is_empty.ensures) ∙ sym c.if-is_found_by_first.ensures in
+    λ name e. absurd (others_alone base.names.now c.args.work.now kind c.in-Node.parts c.in-Node.is first others divided name no e)
 
 pub link_on-returns-in-Below-clause-marked : goal.link_on-returns-in-Below-clause-marked
 link_on-returns-in-Below-clause-marked g t c =

@@ -1,4 +1,4 @@
-use Rattle.std.proofs.Common.{◌≡◌, sym, ap, subst, ◌∙◌, List, ℕ, Err, chars}
+use Rattle.std.proofs.Common.{sym, ap, subst, ◌∙◌, List, ℕ, Err, chars}
 use Rattle.xsd_pattern.specs.declared.fault.PatternFault.{PatternFault}
 use Rattle.xsd_pattern.specs.Matching.{Judges, fault_of}
 use Rattle.xpath_plan.specs.declared.work.Kind.TheVariants as m

@@ -1,6 +1,6 @@
 use Rattle.std.proofs.Common.{sym, arith}
 use Rattle.std.proofs.lemmas.Bool.Decides.{nat_tests}
-use Rattle.xpath_plan.proofs.SeenLaws.{no_second}
+use Rattle.xpath_plan.proofs.SecondLaws.{no_second}
 use Rattle.xpath_plan.proofs.forms.second_literal.Goals as goal
 use Rattle.xpath_plan.proofs.forms.second_literal.Goals.{in_default-via-then-parts-lt2, in_default-via-else-parts-lt2+else-parts-lt3}
 

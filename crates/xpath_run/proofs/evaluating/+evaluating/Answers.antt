@@ -1,4 +1,4 @@
-use Rattle.std.proofs.Common.{rules, ◌≡◌, ◌+◌, ◌-◌, List, [], ◌∷◌, ◌++◌, length, drop, reverse, true, false, Ok, Err, IfOk, sym, ap, ◌∙◌, subst, arith}
+use Rattle.std.proofs.Common.{rules, ◌≡◌, ◌+◌, ◌-◌, List, [], ◌∷◌, ◌++◌, length, drop, reverse, true, false, Ok, Err, IfOk, sym, ap, ◌∙◌, subst, inl, inr, arith}
 use Rattle.node_arena.specs.Moves.{tree_nodes}
 use Rattle.xpath_items.specs.Faults.{Gives}
 use Rattle.xpath_meaning.specs.Resolving.{in_axis_order}
@@ -82,7 +82,10 @@ by_kind-returns-in_ok-items-in-FilteredStep-clause-value g t c =
     gives-along c.document_ordered.result _ _
     (ap (λ items. Ok (steps.in_document_order (tree_nodes c.args.ground.now.doc.now) items)) c.as_slice.ensures
     ∙ (sym (known.filtered_step-ordered (tree_nodes c.args.ground.now.doc.now) (operands_of c.args.ground.now.names.now c.args.parts.now) (context c.args.ground.now c.args.focus.now c.args.bound.now.items) c.in_ok-items-in-FilteredStep.items c.in_ok-items-in-FilteredStep.ensures.value)
-    ∙ ap (λ kind. value_in c.args.ground.now (made kind (operands_of c.args.ground.now.names.now c.args.parts.now)) c.args.focus.now c.args.bound.now.items) (sym c.in-FilteredStep.is)))
+    ∙ elim c.in-FilteredStep.is [
+      | inl is ↦ ap (λ kind. value_in c.args.ground.now (made kind (operands_of c.args.ground.now.names.now c.args.parts.now)) c.args.focus.now c.args.bound.now.items) (sym is)
+      | inr is ↦ ap (λ kind. value_in c.args.ground.now (made kind (operands_of c.args.ground.now.names.now c.args.parts.now)) c.args.focus.now c.args.bound.now.items) (sym is)
+    ]))
     c.document_ordered.ensures.value
 
 pub along_axis-returns-then-is_filtered_step-clause-value : goal.along_axis-returns-then-is_filtered_step-clause-value

@@ -4,6 +4,9 @@ use Rattle.xpath_run.proofs.parts.sole.Goals as goal
 pub returns-in-Only-clause-some : goal.returns-in-Only-clause-some
 returns-in-Only-clause-some c = λ names. rw c.in-Only.is (c.first.ensures.some names)
 
+pub returns-in-Once-clause-some : goal.returns-in-Once-clause-some
+returns-in-Once-clause-some c = λ names. rw c.in-Once.is (c.first-in-Once.ensures.some names)
+
 pub returns-in-Chain-clause-some : goal.returns-in-Chain-clause-some
 returns-in-Chain-clause-some c = λ names. rw c.in-Chain.is (c.only_operand.ensures.some names)
 

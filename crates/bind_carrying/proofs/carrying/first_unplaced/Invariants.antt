@@ -1,7 +1,0 @@
-use Rattle.std.proofs.Common.{◌≡◌, drop}
-use Rattle.std.specs.Prelude.{find}
-use Rattle.bind_carrying.specs.Carrying.{is_unplaced}
-use Rattle.bind_carrying.proofs.carrying.first_unplaced.Given as goal
-
-abbrev pub invariant-entries : goal.invariant-entries
-invariant-entries l = find is_unplaced (drop l.e-index l.entries) ≡ find is_unplaced l.entries

@@ -1,0 +1,10 @@
+use Rattle.std.proofs.Common.{◌≡◌, drop, map}
+use Rattle.std.specs.Prelude.{fold, max}
+use Rattle.bind_rows.specs.Added.{built}
+use Rattle.bind_rows.specs.declared.rows.Row.{Row}
+use Rattle.bind_table.specs.Crossings.{shared}
+use Rattle.bind_table.specs.WellFormed.{most_shared}
+use Rattle.bind_table.proofs.adding.most_shared.Given as goal
+
+abbrev pub invariant-rows : goal.invariant-rows
+invariant-rows l = fold max l.most (map (λ (row : Row). shared l.path row.path) (built (drop l.row-index l.rows))) ≡ most_shared l.path (built l.rows)

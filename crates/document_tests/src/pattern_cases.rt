@@ -72,19 +72,27 @@ fn plan_by(alloc: Global, pattern: &Pattern, scope: &Scope) -> Result<Plan, Fail
     requires { Grammatical (view pattern.now) }
 {
     typed_expressions_are_grammatical();
-    let typed = check_pattern(alloc, pattern, scope).ok().ok_or("types")?;
-    let plan = compile(alloc, &typed);
-    drop(typed);
-    Ok(plan?)
+    match check_pattern(alloc, pattern, scope) {
+        Ok(typed) => {
+            let plan = compile(alloc, &typed);
+            drop(typed);
+            Ok(plan?)
+        }
+        Err(_) => Err("types".into()),
+    }
 }
 
 fn plan_in(alloc: Global, scope: &mut Scope, text: &str) -> Result<Plan, Fail> {
     declare(alloc, scope)?;
     answers_are_grammatical();
-    let pattern = parse_pattern(alloc, text).ok().ok_or("syntax")?;
-    let plan = plan_by(alloc, &pattern, scope);
-    drop(pattern);
-    plan
+    match parse_pattern(alloc, text) {
+        Ok(pattern) => {
+            let plan = plan_by(alloc, &pattern, scope);
+            drop(pattern);
+            plan
+        }
+        Err(_) => Err("syntax".into()),
+    }
 }
 
 fn plan_of(alloc: Global, text: &str) -> Result<Plan, Fail> {

@@ -52,12 +52,12 @@ def whole(front, piece, back, size):
     return (front + piece * ((size - len(front) - len(back)) // len(piece)) + back).encode()
 
 
-# The greatest document has 16,777,216 bytes.
-GREATEST = 16_777_216
+# The greatest document has 67,108,864 bytes.
+GREATEST = 67_108_864
 HOSTILE = {
     "deep": lambda: whole("", "<a>", "", GREATEST),
     "100 deep, side by side": lambda: ("<r>" + ("<a>" * 99 + "</a>" * 99) * 10_000 + "</r>").encode(),
-    "wide: 1,000,000 nodes": lambda: whole("<r>", "<e/>", "</r>", 3 + 4 * 999_998 + 4),
+    "wide: 4,000,000 nodes": lambda: whole("<r>", "<e/>", "</r>", 3 + 4 * 3_999_998 + 4),
     "64 attributes an element": lambda: filled("<r>", "<e " + " ".join(f'a{n}=""' for n in range(64)) + "/>", "</r>", 8 * MEGABYTE),
     "64 declarations an element, 99 deep": lambda: (
         "".join(f"<e{d} " + " ".join(f'xmlns:p{d}x{n}="u{n}"' for n in range(64)) + ">" for d in range(99))

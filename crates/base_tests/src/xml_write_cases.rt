@@ -9,7 +9,7 @@ use std::alloc::{AllocError, Global};
 use std::test::Fail;
 use test_rows::{Holds, expect, expect_rows};
 use xml_profile::Reader;
-use xml_state::{Events, Limits, NameId, NameTable, XmlFault};
+use xml_state::{DOCUMENT_LIMITS, Events, NameId, NameTable, XmlFault};
 use xml_write::{Gauge, Nowhere, Pen, PenState, WriteFault, Writer};
 
 const FIRST_LINE: &str = "<?xml version=\"1.0\" encoding=\"UTF-8\"?>\n";
@@ -353,15 +353,6 @@ impl Events for Ignoring {
     }
 }
 
-const LIMITS: Limits = Limits {
-    bytes: 16_777_216,
-    nodes: 1_000_000,
-    depth: 100,
-    attributes: 64,
-    name: 200,
-    names: 10_000,
-};
-
 fn names_in(mut reader: Reader, document: &[u8]) -> Result<NameTable, XmlFault> {
     reader.feed(document, &mut Ignoring)?;
     reader.finish(&mut Ignoring)
@@ -369,7 +360,7 @@ fn names_in(mut reader: Reader, document: &[u8]) -> Result<NameTable, XmlFault> 
 
 /// The kind of the fault of a document and its place, or `read`.
 fn reading(alloc: Global, document: &[u8]) -> Result<String, AllocError> {
-    match names_in(Reader::new(alloc, LIMITS)?, document) {
+    match names_in(Reader::new(alloc, DOCUMENT_LIMITS)?, document) {
         Ok(names) => {
             drop(names);
             String::from_str(alloc, "read")

@@ -6,6 +6,7 @@ use Rattle.inv_base.specs.Characters.{is_char, is_white_space, is_name_start, is
 use Rattle.inv_base.specs.Tree.{document_nodes}
 use Rattle.xml_state.specs.Events.{tree_of_events}
 use Rattle.xml_state.specs.declared.limits.Limits.{Limits}
+use Rattle.xml_state.specs.Sizes.{document_limits}
 use Rattle.xml_tokens.specs.Encoding.{character_at}
 use Rattle.xml_tokens.specs.References.{referred, reference_at}
 use Rattle.xml_tokens.specs.WrittenNames.{is_qname}
@@ -61,7 +62,7 @@ use Rattle.bind_carrying.specs.Tables.{target}
 use Rattle.bind_carrying.specs.Carrying.{entries_carried, carrying}
 
 abbrev limits : Limits
-limits = record { bytes = 16777216; nodes = 1000000; depth = 100; attributes = 64; name = 200; names = 10000 }
+limits = document_limits
 
 abbrev term_text : Term → List ℕ
 term_text t = codes "BT-" ++ (decimal t.number ++ (elim (t.part == 0) [ true ↦ [] | false ↦ codes "-" ++ decimal t.part ]))

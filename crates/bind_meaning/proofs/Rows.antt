@@ -8,6 +8,7 @@ use Rattle.inv_base.specs.Text.{quoted}
 use Rattle.inv_base.specs.Tree.{Node, document_nodes}
 use Rattle.xml_state.specs.Events.{Event, starts, tree_of_events}
 use Rattle.xml_state.specs.declared.limits.Limits.{Limits}
+use Rattle.xml_state.specs.Sizes.{document_limits}
 use Rattle.xml_tokens.specs.Encoding.{character_at}
 use Rattle.xml_tokens.specs.References.{referred, reference_at}
 use Rattle.xml_tokens.specs.WrittenNames.{is_qname}
@@ -53,7 +54,7 @@ use Rattle.ubl_binding.specs.Tables.{invoice_rows, credit_note_rows, invoice_lis
 use Rattle.cii_binding.specs.Table.{cii_rows, cii_listing}
 
 abbrev limits : Limits
-limits = record { bytes = 16777216; nodes = 1000000; depth = 100; attributes = 64; name = 200; names = 10000 }
+limits = document_limits
 
 abbrev term_text : Term → List ℕ
 term_text t = codes "BT-" ++ (decimal t.number ++ (elim (t.part == 0) [ true ↦ [] | false ↦ codes "-" ++ decimal t.part ]))

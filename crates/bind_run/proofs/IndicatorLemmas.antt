@@ -1,5 +1,5 @@
 -- The rows that check an indicator, as the crates below name them; and the syntax of a document.
-use Rattle.std.proofs.Common.{◌≡◌, ℕ, Bool, true, false, not, ◌&&◌, List, Option, Some, None, Result, Ok, Err, filter, is_some, refl, ap, ◌∙◌}
+use Rattle.std.proofs.Common.{◌≡◌, not, ◌&&◌, List, Option, Some, None, Result, Ok, Err, filter, is_some, refl, ap, ◌∙◌}
 use Rattle.inv_base.specs.Tree.{Node}
 use Rattle.bind_rows.specs.declared.rows.Row.{Row}
 use Rattle.bind_rows.specs.declared.rows.Content.{Content}

@@ -3,3 +3,5 @@ pub mod WithinLemmas
 pub mod StepLemmas
 pub mod IndicatorLemmas
 pub mod TableLemmas
+pub mod RoomLemmas
+pub mod ExtendedLemmas

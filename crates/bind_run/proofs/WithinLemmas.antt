@@ -1,5 +1,5 @@
 -- The first fault of a document as an invoice stands at one of its nodes.
-use Rattle.std.proofs.Common.{◌≡◌, ℕ, ◌<◌, Bool, true, false, not, List, [], ◌∷◌, ◌++◌, length, map, filter, flat_map, All, Option, Some, None, Result, Ok, Err, refl, ap, sym, subst, ◌∙◌, arith}
+use Rattle.std.proofs.Common.{◌≡◌, ℕ, ◌<◌, Bool, true, false, not, List, [], ◌∷◌, ◌++◌, length, map, filter, flat_map, All, Option, Some, None, Result, Ok, Err, refl, sym, subst, arith}
 use Rattle.std.specs.Prelude.{◌≢◌, IfErr}
 use Rattle.std.specs.Option.{ForSome}
 use Rattle.std.specs.Ordering.{nat_cmp, is_lt}
@@ -30,12 +30,12 @@ use Rattle.bind_meaning.specs.Elements.{string_at, is_one_of}
 use Rattle.inv_terms.specs.Values.{trimmed}
 use Rattle.bind_meaning.specs.Picks.{Pick, has_any_term}
 use Rattle.bind_meaning.specs.Currencies.{Currencies, currencies}
-use Rattle.bind_meaning.specs.Kept.{kept_seat, all_kept_seats}
+use Rattle.bind_meaning.specs.Kept.{kept_seat}
 use Rattle.bind_meaning.specs.Seats.{Placed, Room, whole, outer_room, inner_room, each_once, rooms, context_of}
 use Rattle.bind_meaning.specs.Values.{Said}
 use Rattle.bind_meaning.specs.Judging.{Found, found, Told, told_by, said_by, first_before, first_cause, causes, place_at, fault_of, faults_behind, words, wrong_word, missing_in, missing_place, name_of, seat_of, earlier, least_from, least}
 use Rattle.term_table.specs.Contexts.{is_inside}
-use Rattle.bind_meaning.specs.Terms.{Read, term_picks, constant_picks, place_all, told, all_faults, read_placed, read_with, terms_of, entries, passed_over}
+use Rattle.bind_meaning.specs.Terms.{Read, term_picks, constant_picks, place_all, told, all_faults, terms_of, entries, passed_over}
 use Rattle.bind_terms.specs.Steps.{IsWithin}
 use Rattle.bind_terms.proofs.Sound.{all-flat_map, IsSound, terms-sound, unordered-sound, seated-within}
 

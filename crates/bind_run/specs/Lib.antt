@@ -1,3 +1,4 @@
 pub mod Roots
 pub mod Ascii
+pub mod Extensions
 pub mod Reading

@@ -1,32 +1,53 @@
 -- The invoice that a document is: by the table that its root element selects, or why it is none (CEN/TS 16931-3-2 and 16931-3-3).
-use Rattle.std.specs.Prelude.{◌≡◌, ◌≢◌, List, Option, Some, None, Result, Ok, Err}
+use Rattle.std.specs.Prelude.{◌≡◌, ◌≢◌, List, [], Option, Some, None, Result, Ok, Err}
 use Rattle.inv_base.specs.Tree.{Node}
 use Rattle.code_lists.specs.CodeFiles.{Lists}
 use Rattle.inv_terms.specs.declared.lacks.Name.TheVariants as lacks
+use Rattle.extension_files.specs.declared.terms.ExtTerm.{ExtTerm}
 use Rattle.bind_meaning.specs.declared.fault.BindFault.{BindFault}
 use Rattle.bind_meaning.specs.declared.fault.BindKind.TheVariants as kinds
+use Rattle.bind_rows.specs.declared.rows.Row.{Row}
 use Rattle.bind_rows.specs.declared.tables.Which.{Which}
+use Rattle.bind_rows.specs.declared.tables.Which.TheVariants as which
+use Rattle.bind_table.specs.WellFormed.{first_fault}
 use Rattle.bind_meaning.specs.Tables.{rows_of}
 use Rattle.bind_meaning.specs.Terms.{Read, terms_of}
-use Rattle.ubl_binding.specs.Tables.{invoice_rows, credit_note_rows}
-use Rattle.cii_binding.specs.Table.{cii_rows}
 use Rattle.bind_run.specs.declared.reading.ReadInvoice.{ReadInvoice}
 use Rattle.bind_run.specs.declared.tables.Tables.{Tables}
+use Rattle.bind_run.specs.Extensions.{rows_for}
 use Rattle.bind_run.specs.Roots.{which_of, unknown_root}
 
-abbrev pub by_root : List Node → Lists → Option Which → Result Read BindFault
-by_root nodes lists None = Err unknown_root
-by_root nodes lists (Some table) = terms_of nodes (rows_of table) lists
+abbrev pub by_root : (Which → List Row) → List Node → Lists → Option Which → Result Read BindFault
+by_root rows nodes lists None = Err unknown_root
+by_root rows nodes lists (Some table) = terms_of nodes (rows table) lists
 
--- the invoice that a document is, with how many elements were passed over, or its first fault
+-- the invoice that a document is by three tables, with how many elements were passed over, or its first fault
+abbrev pub invoice_by : (Which → List Row) → List Node → Lists → Result Read BindFault
+invoice_by rows nodes lists = by_root rows nodes lists (which_of nodes)
+
+-- the same by the tables of the standard
 abbrev pub invoice_of : List Node → Lists → Result Read BindFault
-invoice_of nodes lists = by_root nodes lists (which_of nodes)
+invoice_of nodes lists = invoice_by rows_of nodes lists
+
+-- ---- what the code has
+
+-- the rows of one of the tables
+abbrev pub rows_in : Tables → Which → List Row
+rows_in tables which.Invoice = tables.invoice
+rows_in tables which.CreditNote = tables.credit_note
+rows_in tables which.Cii = tables.cii
+
+-- Each is well formed.
+abbrev pub AreFormed : Tables → Type 0
+AreFormed tables = (table : Which) → first_fault (rows_in tables table) ≡ Ok tt
+
+-- They are the three tables with the rows of these terms.
+abbrev pub AreTablesFor : List ExtTerm → Tables → Type 0
+AreTablesFor terms tables = (table : Which) → rows_in tables table ≡ rows_for terms table
 
 -- They are the three tables.
-pub record AreTables (tables : Tables) : Type 0 where
-  pub invoice : tables.invoice ≡ invoice_rows
-  pub credit_note : tables.credit_note ≡ credit_note_rows
-  pub cii : tables.cii ≡ cii_rows
+abbrev pub AreTables : Tables → Type 0
+AreTables tables = AreTablesFor [] tables
 
 -- What was read is the definition's answer, unless memory ran out.
 abbrev pub Reads : Result Read BindFault → Result ReadInvoice BindFault → Type 0

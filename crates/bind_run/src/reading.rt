@@ -3,8 +3,7 @@ ghost use Rattle.node_arena.specs.Moves.{tree_nodes};
 ghost use Rattle.bind_table.specs.WellFormed.{first_fault};
 ghost use Rattle.bind_meaning.specs.declared.fault.BindKind.TheVariants as kinds;
 ghost use Rattle.bind_meaning.specs.Terms.{terms_of};
-ghost use Rattle.bind_run.specs.Reading.{AreTables, Reads, IsWholeIfMemory, invoice_of, want_of_memory};
-ghost use Rattle.bind_meaning.specs.Tables.{rows_of};
+ghost use Rattle.bind_run.specs.Reading.{AreFormed, Reads, IsWholeIfMemory, invoice_by, rows_in, want_of_memory};
 
 use crate::roots::binding_of;
 use crate::tables::Tables;
@@ -92,15 +91,16 @@ fn out_of_memory(doc: &Doc<'_>) -> BindFault
     }
 }
 
-/// The invoice that a document is by the table that its root element selects, or its first fault, which stands at a node of the document.
+/// The invoice that a document is by the one of three tables that its root element selects, or its first fault, which stands at a
+/// node of the document.
 pub fn read_document(
     alloc: Global,
     doc: &Doc<'_>,
     tables: &Tables,
     lists: &CodeLists,
 ) -> Result<ReadInvoice, BindFault>
-    requires { AreTables tables.now }
-    ensures reads { Reads (invoice_of (tree_nodes doc.now) lists.now) result }
+    requires { AreFormed tables.now }
+    ensures reads { Reads (invoice_by (rows_in tables.now) (tree_nodes doc.now) lists.now) result }
     ensures within { IfErr result (λ fault. fault.kind ≢ kinds.Memory → fault.node < length doc.now.nodes) }
     ensures memory { IfErr result IsWholeIfMemory }
 {
@@ -120,23 +120,13 @@ fn read_counted<L: Ledger>(
     lists: &CodeLists,
     ledger: Blank,
 ) -> Result<ReadInvoice, BindFault>
-    requires tables { AreTables tables.now }
+    requires tables { AreFormed tables.now }
     requires name { ledger.name ≡ L.name }
     requires parts { ledger.parts ≡ L.parts }
     requires some { 0 < ledger.parts }
-    ensures reads { Reads (terms_of (tree_nodes doc.now) (rows_of which) lists.now) result }
+    ensures reads { Reads (terms_of (tree_nodes doc.now) (rows_in tables.now which) lists.now) result }
     ensures memory { IfErr result IsWholeIfMemory }
 {
-    are_well_formed();
     let mut steps = Steps::<L>::new(ledger);
     read(alloc, doc, tables.table(which), lists, &mut steps)
-}
-
-/// The three tables are well formed: laws of the crates below, which have no code, in one.
-fn are_well_formed()
-    ensures { (which : Which) → first_fault (rows_of which) ≡ Ok tt }
-{
-    ubl_binding::invoice_is_well_formed();
-    ubl_binding::credit_note_is_well_formed();
-    cii_binding::cii_is_well_formed();
 }

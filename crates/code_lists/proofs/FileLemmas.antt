@@ -1,7 +1,7 @@
 -- A file of code lists, as `toml` holds it and as its members.
-use Rattle.std.proofs.Common.{◌≡◌, ℕ, Bool, true, false, not, List, [], ◌∷◌, ◌++◌, map, Option, Some, None, option_map, Result, Ok, Err, Less, refl, sym, ap, ◌∙◌, if◌then◌else◌, String, string_bytes, codes, chars, append-nil, append_assoc, subst, find, filter}
+use Rattle.std.proofs.Common.{◌≡◌, ℕ, Bool, true, false, List, [], ◌∷◌, ◌++◌, map, Option, Some, None, option_map, Result, Ok, Err, Less, refl, sym, ap, ◌∙◌, if◌then◌else◌, String, string_bytes, codes, chars, append-nil, append_assoc, subst, find, filter}
 use Rattle.std.specs.Global.{Global}
-use Rattle.std.specs.Str.{bytes_eq, IsUtf8, is_utf8}
+use Rattle.std.specs.Str.{IsUtf8, is_utf8}
 use Rattle.std.proofs.lemmas.Str.{IsUtf8-from_is_utf8, is_utf8-from_IsUtf8}
 use Rattle.std.specs.List.{AllByRecursion}
 use Rattle.std.specs.List.Sorted.{IsStrictlySortedBy}
@@ -19,8 +19,11 @@ use Rattle.code_lists.specs.declared.fault.ListFault.{ListFault}
 use Rattle.code_lists.specs.declared.fault.ListFault.TheVariants.{NotToml, NotALists, BadCode}
 use Rattle.code_lists.specs.ListNames.{list_named}
 use Rattle.code_lists.specs.Codes.{is_code, with_code}
-use Rattle.code_lists.specs.CodeFiles.{Lists, Offence, built_in_lists, code_of, with_items, given, first_of, first_fault, offences, given_lists, lists_table, keys_of, document_offences, document_of, file_lists}
-use Rattle.code_lists.proofs.OffenceLemmas.{key_cmp, skip_all}
+use Rattle.code_lists.specs.CodeFiles.{Lists, Offence, built_in_lists, code_of, with_items, given, first_of, first_fault, offences, given_lists, lists_table, document_offences, document_of, file_lists}
+use Rattle.code_lists.specs.Keys as keys
+use Rattle.code_lists.specs.Keys.{keys_of}
+use Rattle.code_lists.proofs.KeyLemmas.{key_cmp, keys-view}
+use Rattle.code_lists.proofs.OffenceLemmas.{skip_all}
 
 -- the document that bytes are, by what `toml` says
 pub document_read : (bytes : List ℕ) (m : Members) → IsUtf8 bytes × (parse_document bytes ≡ Some m) → document_of bytes ≡ Some m
@@ -109,14 +112,9 @@ pub later_keys : (e : Entry) (es : List Entry) → IsStrictlySortedBy string_cmp
 unfolding IsStrictlySortedBy
 later_keys e es s = s.1
 
--- the keys of a document
-pub keys-view : (es : List Entry) → keys_of (members_view es) ≡ map string_bytes (entry_keys es)
-keys-view [] = refl
-keys-view (e ∷ es) = ap (λ ks. string_bytes e.0 ∷ ks) (keys-view es)
-
 -- the key isn't `lists`
 abbrev pub is_other : List ℕ → Bool
-is_other key = not (bytes_eq key (codes "lists"))
+is_other = keys.is_other (codes "lists" ∷ [])
 
 abbrev pub not_a_list : List ℕ → Offence
 not_a_list key = (key, NotALists (chars key))
@@ -188,18 +186,6 @@ module _ (es : List Entry) where
 
   pub lists_missing : lists_table (members_view es) ≡ None → find is_other (keys_of (members_view es)) ≡ None → first_of (document_offences (members_view es)) ≡ Some (not_a_list (codes "lists"))
   lists_missing t f = without_other f ∙ ap (λ m. first_of (map not_a_list (missing m))) t
-
--- the first of the other keys, as a walk over the keys finds it
-pub other_found : (ks : List (String Global)) (key : String Global) (rest : List (String Global)) (es : List Entry) (asked text : List ℕ) → ks ≡ key ∷ rest
-    → find is_other (texts ks) ≡ find is_other (texts (entry_keys es)) → asked ≡ string_bytes key → true ≡ is_other asked → text ≡ string_bytes key
-    → Some text ≡ find is_other (keys_of (members_view es))
-other_found ks key rest es asked text step same name other it =
-    let passes : is_other (string_bytes key) ≡ true = ap is_other (sym name) ∙ sym other in
-    let here : find is_other (texts (key ∷ rest)) ≡ Some (string_bytes key) = rw passes refl in
-    ap Some it ∙ (sym here ∙ (ap (λ ks. find is_other (texts ks)) (sym step) ∙ (same ∙ ap (find is_other) (sym (keys-view es)))))
-
-pub other_missed : (ks : List (String Global)) (es : List Entry) → ks ≡ [] → find is_other (texts ks) ≡ find is_other (texts (entry_keys es)) → None ≡ find is_other (keys_of (members_view es))
-other_missed ks es end same = sym (ap (find is_other) (keys-view es) ∙ (sym same ∙ ap (λ ks. find is_other (texts ks)) end))
 
 -- a turn of the walk over the table
 module _ (it : List Entry) (e : Entry) (rest es : List Entry) (step : it ≡ e ∷ rest) (sorted : IsStrictlySortedBy string_cmp (entry_keys it))

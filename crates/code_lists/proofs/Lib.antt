@@ -1,4 +1,5 @@
 pub mod CodeLemmas
+pub mod KeyLemmas
 pub mod OffenceLemmas
 pub mod FileLemmas
 pub mod ListLemmas

@@ -1,15 +1,11 @@
 -- The first offence in byte order, among offences whose keys ascend.
-use Rattle.std.proofs.Common.{◌≡◌, ℕ, Bool, true, false, List, [], ◌∷◌, ◌++◌, Option, Some, None, Ordering, Less, Equal, Greater, refl, sym, ap, ◌∙◌, if◌then◌else◌, nat_cmp}
+use Rattle.std.proofs.Common.{◌≡◌, Bool, true, false, List, [], ◌∷◌, ◌++◌, Option, Some, None, Ordering, Less, Equal, Greater, refl, sym, ap, ◌∙◌, if◌then◌else◌}
 use Rattle.std.specs.List.{AllByRecursion}
-use Rattle.std.specs.Ordering.{is_lt, ordering_reverse}
-use Rattle.std.specs.Cmp.Lexicographic.{slice_cmp}
+use Rattle.std.specs.Ordering.{is_lt}
 use Rattle.std.proofs.lemmas.Cmp.{nat_list_cmp_total}
 use Rattle.std.proofs.lemmas.Bool.{false≢true}
 use Rattle.code_lists.specs.CodeFiles.{Offence, first_of}
-
--- the order of keys
-abbrev pub key_cmp : List ℕ → List ℕ → Ordering
-key_cmp a b = slice_cmp nat_cmp a b
+use Rattle.code_lists.proofs.KeyLemmas.{key_cmp, after-not}
 
 -- the earlier of an offence and another one, if there is one
 abbrev pick : Option Offence → Offence → Offence
@@ -19,10 +15,6 @@ less_of : (o : Ordering) → is_lt o ≡ true → o ≡ Less
 less_of Less h = refl
 less_of Equal h = absurd (false≢true h)
 less_of Greater h = absurd (false≢true h)
-
--- a key isn't before one that it comes after
-after-not : (a b : List ℕ) → key_cmp a b ≡ Less → is_lt (key_cmp b a) ≡ false
-after-not a b h = ap is_lt (nat_list_cmp_total.antisymm b a ∙ ap ordering_reverse h)
 
 skip_by : (o x p : Offence) → key_cmp o.0 x.0 ≡ Less → (b : Bool) → is_lt (key_cmp p.0 x.0) ≡ b → pick (Some (if b then p else x)) o ≡ pick (Some p) o
 skip_by o x p h true e = refl

@@ -1,6 +1,6 @@
 -- A file of code lists: a TOML document with one table `lists`, which gives lists by name as arrays of codes. What bytes are a
 -- TOML document, and which one, is what the crate `toml` reads.
-use Rattle.std.specs.Prelude.{ℕ, Bool, true, not, List, [], ◌∷◌, ◌++◌, Option, Some, None, Result, Ok, Err, filter, map, codes, chars, bytes_eq, if◌then◌else◌}
+use Rattle.std.specs.Prelude.{ℕ, Bool, true, List, [], ◌∷◌, ◌++◌, Option, Some, None, Result, Ok, Err, filter, map, codes, chars, if◌then◌else◌}
 use Rattle.std.specs.Option.{option_map, option_and_then}
 use Rattle.std.specs.Str.{is_utf8}
 use Rattle.std.specs.Ordering.{nat_cmp, is_lt}
@@ -11,6 +11,7 @@ use Rattle.code_lists.specs.declared.names.List.{List as CodeList}
 use Rattle.code_lists.specs.declared.names.List.TheVariants as lists
 use Rattle.code_lists.specs.declared.fault.ListFault.{ListFault}
 use Rattle.code_lists.specs.declared.fault.ListFault.TheVariants.{NotToml, NotALists, BadCode}
+use Rattle.code_lists.specs.Keys.{keys_of, is_other}
 use Rattle.code_lists.specs.ListNames.{list_named, same_list}
 use Rattle.code_lists.specs.Codes.{is_code, has_code, with_code}
 
@@ -85,14 +86,10 @@ given_lists (member key d ms) = elim (given key d) [ Ok l ↦ l ∷ given_lists 
 abbrev pub lists_table : Members → Option Members
 lists_table document = option_and_then as_table (get_member (codes "lists") document)
 
-abbrev pub keys_of : Members → List (List ℕ)
-keys_of no_members = []
-keys_of (member key d ms) = key ∷ keys_of ms
-
 -- The keys of a document that offend: each but `lists`, and `lists` where it is missing or no table.
 abbrev pub offending_keys : Members → List (List ℕ)
 offending_keys document =
-    filter (λ key. not (bytes_eq key (codes "lists"))) (keys_of document)
+    filter (is_other (codes "lists" ∷ [])) (keys_of document)
     ++ elim (lists_table document) [ None ↦ codes "lists" ∷ [] | Some ms ↦ [] ]
 
 abbrev pub document_offences : Members → List Offence

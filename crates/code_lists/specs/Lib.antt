@@ -1,3 +1,4 @@
+pub mod Keys
 pub mod ListNames
 pub mod Codes
 pub mod CodeFiles

@@ -1,13 +1,12 @@
 //! What a file of code lists gives, read key by key.
-ghost use Rattle.std.specs.Prelude.{◌≡◌, ◌≢◌, List, [], ◌++◌, Ok, Err, Some, None, IfOk, IfErr, OnOk, not, option_map, find, bytes_eq, codes, chars};
-ghost use Rattle.std.specs.BTreeMap.{IsOrdered};
-ghost use Rattle.std.specs.String.{string_cmp};
+ghost use Rattle.std.specs.Prelude.{◌≡◌, ◌≢◌, List, [], ◌++◌, Ok, Err, Some, None, IfOk, IfErr, OnOk, option_map, chars};
 ghost use Rattle.toml.specs.View.{view, array_view, table_view};
 ghost use Rattle.code_lists.specs.CodeFiles as spec;
 ghost use Rattle.code_lists.specs.declared.fault.ListFault.TheVariants.{Memory, NotToml, NotALists};
 
 use crate::codes::{Codes, is_code};
 use crate::fault::ListFault;
+use crate::keys::other_key;
 use crate::names::List;
 use inv_base::Txt;
 use std::alloc::{AllocError, Global};
@@ -38,7 +37,7 @@ pub fn lists_of(document: &Table) -> Result<&Table, &str>
     ensures fault { IfErr result (λ key.
         spec.first_of (spec.document_offences (table_view document.now)) ≡ Some (key.now, NotALists (chars key.now))) }
 {
-    match (lists_table(document), other_key(document)) {
+    match (lists_table(document), other_key(document, &["lists"])) {
         (Some(lists), None) => Ok(lists),
         (Some(_), Some(key)) => Err(key),
         (None, Some(key)) => {
@@ -59,20 +58,6 @@ fn lists_table(document: &Table) -> Option<&Table>
         Some(lists) => lists.as_table(),
         None => None,
     }
-}
-
-// The first key in byte order but `lists`.
-fn other_key(document: &Table) -> Option<&str>
-    ensures ordered { IsOrdered string_cmp document.now }
-    ensures first { option_map (λ key. key.now) result
-        ≡ find (λ key. not (bytes_eq key (codes "lists"))) (spec.keys_of (table_view document.now)) }
-{
-    'keys: for key in document.keys() {
-        if key.as_str() != "lists" {
-            return Some(key.as_str());
-        }
-    }
-    None
 }
 
 /// Adds the lists that the table gives to those found, up to the first key in byte order that offends.

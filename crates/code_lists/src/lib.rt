@@ -5,10 +5,12 @@
 mod codes;
 mod fault;
 mod file;
+mod keys;
 mod lists;
 mod names;
 
 pub use codes::is_code;
 pub use fault::ListFault;
+pub use keys::other_key;
 pub use lists::CodeLists;
 pub use names::List;

@@ -20,11 +20,11 @@ use Rattle.extension_files.specs.declared.terms.ExtPlace.{ExtPlace}
 use Rattle.extension_files.specs.declared.terms.ExtTerm.{ExtTerm}
 use Rattle.extension_files.specs.declared.terms.Paths.{Paths}
 use Rattle.extension_files.specs.declared.fault.ExtFault.{ExtFault}
-use Rattle.extension_files.specs.declared.fault.ExtFault.TheVariants.{NotAnExtension, BadTerm, Memory}
+use Rattle.extension_files.specs.declared.fault.ExtFault.TheVariants.{NotToml, NotAnExtension, BadTerm, Memory}
 use Rattle.extension_files.specs.Words.{place_named, letter_named, word_of_letter, added_letters}
 use Rattle.extension_files.specs.PathTexts.{is_slash, is_colon, is_local, parts_of, name_of, names_of, path_of}
 use Rattle.extension_files.specs.TermTables.{ubl_spaces, cii_spaces, text_at, integer_at, number_above, number_of, place_of, letter_of, head_in, other_key_of, head_of, path_at, has_path, some_paths, paths_of, term_of}
-use Rattle.extension_files.specs.Keys.{other_key}
+use Rattle.code_lists.specs.Keys.{other_key}
 use Rattle.extension_files.specs.ExtensionFiles.{value_term, before_terms, terms_from, term_tables, document_terms, file_terms}
 use Rattle.extension_files.specs.Extensions.{is_name, is_path, is_path_or_none, are_paths, are_terms, is_extension}
 use Rattle.extension_files.proofs.PathLemmas.{make, parts-fine}
@@ -254,6 +254,14 @@ document-fine document terms h = by (other_key (codes "term" ∷ []) document) (
     by (Some key) tables e f = let bad : ◌≡◌ {A = Terms} (Err (NotAnExtension (chars key))) (Ok terms) = sym (document-other document key (sym e)) ∙ h in cc
     by None None e f = let bad : ◌≡◌ {A = Terms} (Err (NotAnExtension (chars (codes "term")))) (Ok terms) = sym (document-none document (sym e) (sym f)) ∙ h in cc
     by None (Some tables) e f = terms-fine tables 0 1 terms (sym (document-tables document (sym e) tables (sym f)) ∙ h)
+
+-- so is what a file gives
+pub file-fine : (bytes : List ℕ) (terms : List ExtTerm) → file_terms bytes ≡ Ok terms → is_extension terms ≡ true
+file-fine bytes terms h = by (document_of bytes) refl
+  where
+    by : (o : Option Members) → document_of bytes ≡ o → is_extension terms ≡ true
+    by None e = let bad : ◌≡◌ {A = Terms} (Err NotToml) (Ok terms) = sym (file-no_toml bytes e) ∙ h in cc
+    by (Some document) e = document-fine document terms (sym (file-document bytes document e) ∙ h)
 
 pub ruleset files = (file-no_toml, file-terms, file-fault, document-fine)
 

@@ -12,7 +12,7 @@ use Rattle.code_lists.specs.CodeFiles.{document_of}
 use Rattle.extension_files.specs.declared.terms.ExtTerm.{ExtTerm}
 use Rattle.extension_files.specs.declared.fault.ExtFault.{ExtFault}
 use Rattle.extension_files.specs.declared.fault.ExtFault.TheVariants.{NotToml, NotAnExtension, BadTerm, Memory}
-use Rattle.extension_files.specs.Keys.{other_key}
+use Rattle.code_lists.specs.Keys.{other_key}
 use Rattle.extension_files.specs.ExtensionFiles.{value_term, before_terms, terms_from, are_tables, tables_in, term_tables, document_terms, file_terms}
 
 -- terms, and those that come behind them

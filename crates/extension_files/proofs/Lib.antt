@@ -1,4 +1,3 @@
-pub mod KeyLemmas
 pub mod PathLemmas
 pub mod TableLemmas
 pub mod FileLemmas

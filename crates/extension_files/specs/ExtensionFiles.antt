@@ -6,7 +6,7 @@ use Rattle.code_lists.specs.CodeFiles.{document_of}
 use Rattle.extension_files.specs.declared.terms.ExtTerm.{ExtTerm}
 use Rattle.extension_files.specs.declared.fault.ExtFault.{ExtFault}
 use Rattle.extension_files.specs.declared.fault.ExtFault.TheVariants.{NotToml, NotAnExtension, BadTerm}
-use Rattle.extension_files.specs.Keys.{other_key}
+use Rattle.code_lists.specs.Keys.{other_key}
 use Rattle.extension_files.specs.TermTables.{term_of}
 
 abbrev pub value_term : ℕ → Data → Option ExtTerm

@@ -11,7 +11,7 @@ use Rattle.extension_files.specs.declared.terms.ExtTerm.{ExtTerm}
 use Rattle.extension_files.specs.declared.terms.Paths.{Paths}
 use Rattle.extension_files.specs.Words.{place_named, letter_named}
 use Rattle.extension_files.specs.PathTexts.{path_of}
-use Rattle.extension_files.specs.Keys.{other_key}
+use Rattle.code_lists.specs.Keys.{other_key}
 
 -- the namespaces of a path in each syntax
 abbrev pub ubl_spaces : List Namespace

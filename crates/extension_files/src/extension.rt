@@ -1,4 +1,5 @@
-ghost use Rattle.std.specs.Prelude.{◌≡◌, ◌≢◌, true, Ok, Err, IfOk, IfErr};
+ghost use Rattle.std.specs.Prelude.{◌≡◌, ◌≢◌, ℕ, List, [], true, Ok, Err, IfOk, IfErr};
+ghost use Rattle.extension_files.specs.declared.terms.ExtTerm.{ExtTerm};
 ghost use Rattle.extension_files.specs.ExtensionFiles.{file_terms};
 ghost use Rattle.extension_files.specs.Extensions.{is_extension};
 ghost use Rattle.extension_files.specs.declared.fault.ExtFault.TheVariants.{Memory};
@@ -35,6 +36,15 @@ impl Model for Extension {
 }
 
 impl Extension {
+    /// No terms.
+    pub fn none(alloc: Global) -> Extension
+        ensures { result ≡ [] }
+    {
+        Extension {
+            terms: Many::new(alloc),
+        }
+    }
+
     /// The terms of a file: a TOML document with one array of tables `term`, each of which gives a term by its
     /// `number`, its `place`, its `type` and its paths `ubl`, `cn` and `cii`.
     #[tactic(auto, using(crate::proofs::ExtensionLemmas::files))]
@@ -63,3 +73,8 @@ impl Extension {
         self.terms.as_slice()
     }
 }
+
+/// What a file gives is an extension. The law has no code.
+pub fn file_terms_are_extensions()
+    ensures { (bytes : List ℕ) (terms : List ExtTerm) → file_terms bytes ≡ Ok terms → is_extension terms ≡ true }
+{}

@@ -6,9 +6,10 @@ ghost use Rattle.extension_files.specs.ExtensionFiles as spec;
 ghost use Rattle.extension_files.specs.declared.fault.ExtFault.TheVariants.{Memory, NotToml, NotAnExtension};
 
 use crate::fault::ExtFault;
-use crate::keys::{other_key, value_at};
+use crate::keys::value_at;
 use crate::tables::term_of;
 use crate::terms::ExtTerm;
+use code_lists::other_key;
 use inv_base::{Many, Txt};
 use std::alloc::{AllocError, Global};
 use toml::value::Array;

@@ -11,6 +11,6 @@ mod tables;
 mod terms;
 mod words;
 
-pub use extension::Extension;
+pub use extension::{Extension, file_terms_are_extensions};
 pub use fault::ExtFault;
 pub use terms::{ExtPlace, ExtTerm, Paths};

@@ -3,11 +3,12 @@ ghost use Rattle.std.specs.Prelude.{◌≡◌, IfOk, is_some, option_map};
 ghost use Rattle.toml.specs.View.{table_view};
 ghost use Rattle.extension_files.specs.TermTables as spec;
 
-use crate::keys::{other_key, value_at};
+use crate::keys::value_at;
 use crate::paths::path_of;
 use crate::terms::{ExtPlace, ExtTerm, Paths};
 use crate::words::{letter_named, place_named};
 use bind_rows::{ElementName, Namespace};
+use code_lists::other_key;
 use inv_base::Many;
 use std::alloc::{AllocError, Global};
 use term_table::Letter;

@@ -56,9 +56,9 @@ module _ (start shown now : SinkView) (status status' : Status) where
     -- What holds of a command in front of the output holds behind handing on.
     pub ends_handed : (steps : ℕ) (job : Job) → Ends steps job Before Shown status → Ends steps job Before Now status'
     ends_handed steps (outline file) ends = (ends.0, runs steps (outline file) ends.1)
-    ends_handed steps (show codes_file file) ends = (tt, runs steps (show codes_file file) ends.1)
-    ends_handed steps (totals codes_file file) ends = (tt, runs steps (totals codes_file file) ends.1)
-    ends_handed steps (convert syntax codes_file file) ends = (tt, runs steps (convert syntax codes_file file) ends.1)
+    ends_handed steps (show sources file) ends = (tt, runs steps (show sources file) ends.1)
+    ends_handed steps (totals sources file) ends = (tt, runs steps (totals sources file) ends.1)
+    ends_handed steps (convert syntax sources file) ends = (tt, runs steps (convert syntax sources file) ends.1)
     ends_handed steps (check svrl phase rules file) ends = (tt, runs steps (check svrl phase rules file) ends.1)
     ends_handed steps (extract number file) ends = (tt, runs steps (extract number file) ends.1)
     ends_handed steps (query expression file) ends =
@@ -75,9 +75,9 @@ still P s s' e e' shelf err p = subst (λ x. P x e') (sym shelf) (subst (P s) (s
 -- A command that ends so is answered: all of the contract holds.
 pub answers_of_ends : (steps : ℕ) (job : Job) (before after : Outside) (status : Status) → Ends steps job before after status → Answers steps job before after status
 answers_of_ends steps (outline file) before after status ends = answers_of_run steps (outline file) tt before after status (λ name is. ends.0) ends.1
-answers_of_ends steps (show codes_file file) before after status ends = answers_of_run steps (show codes_file file) tt before after status (λ name is. cc) ends.1
-answers_of_ends steps (totals codes_file file) before after status ends = answers_of_run steps (totals codes_file file) tt before after status (λ name is. cc) ends.1
-answers_of_ends steps (convert syntax codes_file file) before after status ends = answers_of_run steps (convert syntax codes_file file) tt before after status (λ name is. cc) ends.1
+answers_of_ends steps (show sources file) before after status ends = answers_of_run steps (show sources file) tt before after status (λ name is. cc) ends.1
+answers_of_ends steps (totals sources file) before after status ends = answers_of_run steps (totals sources file) tt before after status (λ name is. cc) ends.1
+answers_of_ends steps (convert syntax sources file) before after status ends = answers_of_run steps (convert syntax sources file) tt before after status (λ name is. cc) ends.1
 answers_of_ends steps (check svrl phase rules file) before after status ends = answers_of_run steps (check svrl phase rules file) tt before after status (λ name is. cc) ends.1
 answers_of_ends steps (extract number file) before after status ends = answers_of_run steps (extract number file) tt before after status (λ name is. cc) ends.1
 answers_of_ends steps (query expression file) before after status ends = answers_of_pieces steps (query expression file) tt before after tt status (λ name is. cc) ends

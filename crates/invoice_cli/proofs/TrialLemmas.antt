@@ -6,7 +6,7 @@ use Rattle.bind_meaning.specs.declared.tables.Syntax.{Syntax}
 use Rattle.invoice_cli.specs.declared.options.Optioned.{Optioned}
 use Rattle.invoice_cli.specs.declared.options.Optioned.TheVariants as commands
 use Rattle.invoice_cli.specs.declared.options.Switch.{Switch}
-use Rattle.invoice_cli.specs.Job.{Job, outline, show, totals, convert, check, extract, query, trial, help, version, bad_word, Options, none_given, is_option, with_no_more, last_operand, offered, takes_value, with_svrl, with_value, or_bad, last_word, optioned, show_of, totals_of, convert_of, check_of, is_digit, digits_value, at_most, number_up_to, by_number, extract_of, most_lines, try_of, query_of, job}
+use Rattle.invoice_cli.specs.Job.{Job, outline, show, totals, convert, check, extract, query, trial, help, version, bad_word, Options, none_given, is_option, with_no_more, last_operand, offered, takes_value, with_svrl, with_value, or_bad, last_word, optioned, sources, show_of, totals_of, convert_of, check_of, is_digit, digits_value, at_most, number_up_to, by_number, extract_of, most_lines, try_of, query_of, job}
 
 -- ---- numbers
 
@@ -100,9 +100,9 @@ module _ (command : Optioned) (further : Options → ℕ → List (List ℕ) →
 
 few-convert : (given : Options) (number : ℕ) (words : List (List ℕ)) → HasFew (convert_of given number words)
 few-convert given number words = by_target given.target where
-  by_target : (target : Option Syntax) → HasFew (elim target [ None ↦ bad_word number | (Some syntax) ↦ last_operand (convert syntax given.codes_file) number words ])
+  by_target : (target : Option Syntax) → HasFew (elim target [ None ↦ bad_word number | (Some syntax) ↦ last_operand (convert syntax (sources given)) number words ])
   by_target None = tt
-  by_target (Some syntax) = few-operand (convert syntax given.codes_file) number words (λ word. tt)
+  by_target (Some syntax) = few-operand (convert syntax (sources given)) number words (λ word. tt)
 
 few-check : (given : Options) (number : ℕ) (words : List (List ℕ)) → HasFew (check_of given number words)
 few-check given number words = by_rules given.rules where
@@ -138,8 +138,8 @@ few-job : (words : List (List ℕ)) → HasFew (job words)
 few-job [] = tt
 few-job (command ∷ words) =
     few-if (bytes_eq command (codes "outline")) _ _ (few-operand outline 2 words (λ word. tt))
-    (few-if (bytes_eq command (codes "show")) _ _ (few-optioned commands.Show show_of (λ given number ws. few-operand (show given.codes_file) number ws (λ word. tt)) none_given 2 words)
-    (few-if (bytes_eq command (codes "totals")) _ _ (few-optioned commands.Totals totals_of (λ given number ws. few-operand (totals given.codes_file) number ws (λ word. tt)) none_given 2 words)
+    (few-if (bytes_eq command (codes "show")) _ _ (few-optioned commands.Show show_of (λ given number ws. few-operand (show (sources given)) number ws (λ word. tt)) none_given 2 words)
+    (few-if (bytes_eq command (codes "totals")) _ _ (few-optioned commands.Totals totals_of (λ given number ws. few-operand (totals (sources given)) number ws (λ word. tt)) none_given 2 words)
     (few-if (bytes_eq command (codes "convert")) _ _ (few-optioned commands.Convert convert_of few-convert none_given 2 words)
     (few-if (bytes_eq command (codes "check")) _ _ (few-optioned commands.Check check_of few-check none_given 2 words)
     (few-if (bytes_eq command (codes "extract")) _ _ (few-extract words)

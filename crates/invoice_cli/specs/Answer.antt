@@ -16,9 +16,9 @@ use Rattle.document_jobs.specs.Checks.{check_course}
 -- What a job reads and answers. Only the last line of a trial tells how many steps its judging took, which nothing defines.
 abbrev pub course_of : ℕ → Job → Course
 course_of steps (outline file) = outline_course file
-course_of steps (show codes_file file) = show_course codes_file file
-course_of steps (totals codes_file file) = totals_course codes_file file
-course_of steps (convert syntax codes_file file) = convert_course syntax codes_file file
+course_of steps (show sources file) = show_course sources file
+course_of steps (totals sources file) = totals_course sources file
+course_of steps (convert syntax sources file) = convert_course syntax sources file
 course_of steps (check svrl phase rules file) = check_course svrl phase rules file
 course_of steps (extract number file) = extract_course number file
 course_of steps (query expression file) = query_course expression file

@@ -2,6 +2,7 @@
 use Rattle.std.specs.Prelude.{List, ℕ, take, Some, None, option_map, Result, Ok, Err}
 use Rattle.std.specs.Borrow.{Bor}
 use Rattle.job_course.specs.Views.{text_of, texts_of}
+use Rattle.invoice_jobs.specs.Sources.{sources_of}
 use Rattle.invoice_cli.specs.Job.{Job, outline, show, totals, convert, check, extract, query, trial, help, version, bad_word, Options, words_of}
 use Rattle.invoice_cli.specs.declared.words.Asked.{Asked}
 use Rattle.invoice_cli.specs.declared.words.Command.{Command}
@@ -16,7 +17,8 @@ named_files files = texts_of (take files.count files.names)
 
 abbrev pub given_options : Given → Options
 given_options given = record {
-  codes_file = option_map text_of given.codes_file;
+  codes_file = option_map text_of given.sources.codes_file;
+  extension_file = option_map text_of given.sources.extension_file;
   target = given.target;
   svrl = given.svrl;
   phase = option_map text_of given.phase;
@@ -35,9 +37,9 @@ by_operand make (Err number) = bad_word number
 -- what is asked, by the rule files that are named
 abbrev pub asked_by : List (List ℕ) → Command → Job
 asked_by rules (commands.Outline file) = outline file.now
-asked_by rules (commands.Show codes_file file) = show (option_map text_of codes_file) file.now
-asked_by rules (commands.Totals codes_file file) = totals (option_map text_of codes_file) file.now
-asked_by rules (commands.Convert syntax codes_file file) = convert syntax (option_map text_of codes_file) file.now
+asked_by rules (commands.Show sources file) = show (sources_of sources) file.now
+asked_by rules (commands.Totals sources file) = totals (sources_of sources) file.now
+asked_by rules (commands.Convert syntax sources file) = convert syntax (sources_of sources) file.now
 asked_by rules (commands.Check svrl phase file) = check svrl (option_map text_of phase) rules file.now
 asked_by rules (commands.Extract number file) = extract number file.now
 asked_by rules (commands.Query expression file) = query expression.now file.now

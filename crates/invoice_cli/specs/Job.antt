@@ -4,21 +4,22 @@ use Rattle.std.specs.Global.{Global}
 use Rattle.std.specs.List.{starts_with}
 use Rattle.bind_meaning.specs.declared.tables.Syntax.{Syntax}
 use Rattle.bind_meaning.specs.declared.tables.Syntax.TheVariants as syntaxes
+use Rattle.invoice_jobs.specs.Sources.{Sources}
 use Rattle.invoice_cli.specs.declared.options.Optioned.{Optioned}
 use Rattle.invoice_cli.specs.declared.options.Optioned.TheVariants as commands
 use Rattle.invoice_cli.specs.declared.options.Switch.{Switch}
 use Rattle.invoice_cli.specs.declared.options.Switch.TheVariants as switches
 
--- The outline of a file; the terms of an invoice, by the code lists of a file or the built-in ones; where its totals
--- differ, likewise; the invoice in a syntax, likewise; what rule files find in a document, in SVRL or plain, by the patterns of a phase or those that each
+-- The outline of a file; the terms of an invoice, by the code lists of a file or the built-in ones and by the terms that
+-- another file adds or none; where its totals differ, likewise; the invoice in a syntax, likewise; what rule files find in a document, in SVRL or plain, by the patterns of a phase or those that each
 -- file has by default; an invoice's attached document of that number; the value of an expression at a document; a trial
 -- of the whole tool on a generated invoice of so many lines; the help; the version; or the number of the first word that
 -- fits no command, counted from 1, where a missing word counts as one behind the last.
 pub data Job : Type 0 where
   outline : List ℕ → Job
-  show : Option (List ℕ) → List ℕ → Job
-  totals : Option (List ℕ) → List ℕ → Job
-  convert : Syntax → Option (List ℕ) → List ℕ → Job
+  show : Sources → List ℕ → Job
+  totals : Sources → List ℕ → Job
+  convert : Syntax → Sources → List ℕ → Job
   check : Bool → Option (List ℕ) → List (List ℕ) → List ℕ → Job
   extract : ℕ → List ℕ → Job
   query : List ℕ → List ℕ → Job
@@ -43,33 +44,38 @@ last_operand job number (word ∷ words) = if is_option word then bad_word numbe
 
 -- ---- options: between the command and its operands, in any order
 
--- the file of code lists, and the syntax to write; whether the report is SVRL, the phase, and the rule files
+-- the files of code lists and of further terms, and the syntax to write; whether the report is SVRL, the phase, and the rule files
 pub record Options : Type 0 where
   pub codes_file : Option (List ℕ)
+  pub extension_file : Option (List ℕ)
   pub target : Option Syntax
   pub svrl : Bool
   pub phase : Option (List ℕ)
   pub rules : List (List ℕ)
 
 abbrev pub none_given : Options
-none_given = record { codes_file = None; target = None; svrl = false; phase = None; rules = [] }
+none_given = record { codes_file = None; extension_file = None; target = None; svrl = false; phase = None; rules = [] }
 
 abbrev pub switch_named : List ℕ → Option Switch
 switch_named word =
     if bytes_eq word (codes "--codes") then Some switches.CodeLists
+    else (if bytes_eq word (codes "--extension") then Some switches.Extension
     else (if bytes_eq word (codes "--to") then Some switches.SyntaxToWrite
     else (if bytes_eq word (codes "--svrl") then Some switches.Svrl
     else (if bytes_eq word (codes "--phase") then Some switches.Phase
     else (if bytes_eq word (codes "--rules") then Some switches.RuleFile
-    else None))))
+    else None)))))
 
 -- which options a command has
 abbrev pub has : Optioned → Switch → Bool
 has commands.Show switches.CodeLists = true
+has commands.Show switches.Extension = true
 has commands.Show _ = false
 has commands.Totals switches.CodeLists = true
+has commands.Totals switches.Extension = true
 has commands.Totals _ = false
 has commands.Convert switches.CodeLists = true
+has commands.Convert switches.Extension = true
 has commands.Convert switches.SyntaxToWrite = true
 has commands.Convert _ = false
 has commands.Check switches.Svrl = true
@@ -80,6 +86,7 @@ has commands.Check _ = false
 -- An option may be given once, that of a rule file sixteen times.
 abbrev pub may_follow : Options → Switch → Bool
 may_follow given switches.CodeLists = is_none given.codes_file
+may_follow given switches.Extension = is_none given.extension_file
 may_follow given switches.SyntaxToWrite = is_none given.target
 may_follow given switches.Svrl = not given.svrl
 may_follow given switches.Phase = is_none given.phase
@@ -115,6 +122,7 @@ with_svrl given = record given { svrl = true }
 -- the options with the value of one more, if it is one
 abbrev pub with_value : Options → Switch → List ℕ → Option Options
 with_value given switches.CodeLists value = Some (record given { codes_file = Some value })
+with_value given switches.Extension value = Some (record given { extension_file = Some value })
 with_value given switches.SyntaxToWrite value = option_map (with_target given) (syntax_named value)
 with_value given switches.Svrl value = Some (with_svrl given)
 with_value given switches.Phase value = Some (record given { phase = Some value })
@@ -143,15 +151,19 @@ optioned command further given number (word ∷ (value ∷ words)) = elim (offer
 
 -- ---- the commands
 
+-- the files that may stand beside an invoice's document
+abbrev pub sources : Options → Sources
+sources given = record { codes_file = given.codes_file; extension_file = given.extension_file }
+
 abbrev pub show_of : Options → ℕ → List (List ℕ) → Job
-show_of given number words = last_operand (show given.codes_file) number words
+show_of given number words = last_operand (show (sources given)) number words
 
 abbrev pub totals_of : Options → ℕ → List (List ℕ) → Job
-totals_of given number words = last_operand (totals given.codes_file) number words
+totals_of given number words = last_operand (totals (sources given)) number words
 
 -- Without a syntax to write, the word where the file would stand is bad.
 abbrev pub convert_of : Options → ℕ → List (List ℕ) → Job
-convert_of given number words = elim given.target [ None ↦ bad_word number | (Some syntax) ↦ last_operand (convert syntax given.codes_file) number words ]
+convert_of given number words = elim given.target [ None ↦ bad_word number | (Some syntax) ↦ last_operand (convert syntax (sources given)) number words ]
 
 -- Without a rule file, likewise.
 abbrev pub check_of : Options → ℕ → List (List ℕ) → Job

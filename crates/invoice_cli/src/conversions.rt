@@ -2,8 +2,8 @@
 ghost use Rattle.invoice_cli.specs.Conversions.{ConversionsReturn};
 
 use invoice_jobs::{
-    carried_texts_are_read_exactly, converted_texts_are_documents, done_conversions_are_documents,
-    read_files_are_valid_invoices,
+    accepted_terms_are_good, carried_texts_are_read_exactly, converted_texts_are_documents,
+    done_conversions_are_documents, read_files_are_valid_invoices,
 };
 
 /// Converting an invoice that the syntax carries writes the syntax's document of it, and nothing else is answered as done.
@@ -12,6 +12,7 @@ use invoice_jobs::{
 pub(crate) fn conversions_return()
     ensures { ConversionsReturn }
 {
+    accepted_terms_are_good();
     read_files_are_valid_invoices();
     carried_texts_are_read_exactly();
     converted_texts_are_documents();

@@ -7,6 +7,7 @@ ghost use Rattle.job_course.specs.Views.{texts_of};
 ghost use Rattle.invoice_cli.specs.Commands.{named_files, given_options, followed};
 
 use bind_meaning::Syntax;
+use invoice_jobs::{NO_SOURCES, Sources};
 
 /// How many rule files may be named.
 const MOST_RULE_FILES: usize = 16;
@@ -61,8 +62,8 @@ impl<'w> RuleFiles<'w> {
 /// The options that were given.
 #[derive(Clone, Copy)]
 pub(crate) struct Given<'w> {
-    /// The file of code lists.
-    pub(crate) codes_file: Option<&'w str>,
+    /// The files of code lists and of further terms.
+    pub(crate) sources: Sources<'w>,
     /// The syntax to write.
     pub(crate) target: Option<Syntax>,
     /// Whether the report is to be SVRL.
@@ -74,7 +75,7 @@ pub(crate) struct Given<'w> {
 
 /// No option.
 pub(crate) const NONE_GIVEN: Given<'static> = Given {
-    codes_file: None,
+    sources: NO_SOURCES,
     target: None,
     svrl: false,
     phase: None,
@@ -104,6 +105,8 @@ pub(crate) enum Optioned {
 #[derive(Clone, Copy)]
 enum Switch {
     CodeLists,
+    /// The file of terms that are added to those of the standard.
+    Extension,
     SyntaxToWrite,
     /// The report is to be SVRL. It alone takes no value.
     Svrl,
@@ -117,6 +120,7 @@ fn switch_named(word: &str) -> Option<Switch>
 {
     match word {
         "--codes" => Some(Switch::CodeLists),
+        "--extension" => Some(Switch::Extension),
         "--to" => Some(Switch::SyntaxToWrite),
         "--svrl" => Some(Switch::Svrl),
         "--phase" => Some(Switch::Phase),
@@ -131,15 +135,15 @@ fn has(command: Optioned, switch: Switch) -> bool
 {
     match command {
         Optioned::Show => match switch {
-            Switch::CodeLists => true,
+            Switch::CodeLists | Switch::Extension => true,
             _ => false,
         },
         Optioned::Totals => match switch {
-            Switch::CodeLists => true,
+            Switch::CodeLists | Switch::Extension => true,
             _ => false,
         },
         Optioned::Convert => match switch {
-            Switch::CodeLists | Switch::SyntaxToWrite => true,
+            Switch::CodeLists | Switch::Extension | Switch::SyntaxToWrite => true,
             _ => false,
         },
         Optioned::Check => match switch {
@@ -154,7 +158,8 @@ fn may_follow(given: &Given<'_>, switch: Switch) -> bool
     ensures { result ≡ spec.may_follow (given_options given.now) switch }
 {
     match switch {
-        Switch::CodeLists => given.codes_file.is_none(),
+        Switch::CodeLists => given.sources.codes_file.is_none(),
+        Switch::Extension => given.sources.extension_file.is_none(),
         Switch::SyntaxToWrite => given.target.is_none(),
         Switch::Svrl => !given.svrl,
         Switch::Phase => given.phase.is_none(),
@@ -236,7 +241,17 @@ fn with_value<'w>(given: &Given<'w>, switch: Switch, value: &'w str) -> Option<G
     let mut more = *given;
     match switch {
         Switch::CodeLists => {
-            more.codes_file = Some(value);
+            more.sources = Sources {
+                codes_file: Some(value),
+                extension_file: given.sources.extension_file,
+            };
+            Some(more)
+        }
+        Switch::Extension => {
+            more.sources = Sources {
+                codes_file: given.sources.codes_file,
+                extension_file: Some(value),
+            };
             Some(more)
         }
         Switch::SyntaxToWrite => with_target(given, value),

@@ -31,7 +31,8 @@ use std::marker::Brand;
 /// An answer to `convert` means the invoice that was read (`conversions`): what is written of one that the syntax carries
 /// is a document of exactly the tree of the invoice's, and is read as exactly its terms; converting it to the other
 /// syntax, where that carries it too, and this back, writes the first bytes again. Nothing else is ever answered as done:
-/// where `convert` is, the code lists and the file were accepted, and the syntax carries the invoice.
+/// where `convert` is, the code lists, the further terms and the file were accepted, and the syntax carries the invoice. All of it
+/// holds whatever terms a user adds.
 pub fn run<S: Shelf, O: Sink, E: Sink>(
     alloc: Global,
     words: &[String],
@@ -84,10 +85,10 @@ fn answer<S: Shelf, O: Sink, E: Sink>(
     let asked = command_of(words);
     match asked.command {
         Command::Outline(file) => outline(alloc, file, shelf, out, err),
-        Command::Show(codes_file, file) => show(alloc, codes_file, file, shelf, out, err),
-        Command::Totals(codes_file, file) => totals(alloc, codes_file, file, shelf, out, err),
-        Command::Convert(syntax, codes_file, file) => {
-            convert(alloc, syntax, codes_file, file, shelf, out, err)
+        Command::Show(sources, file) => show(alloc, &sources, file, shelf, out, err),
+        Command::Totals(sources, file) => totals(alloc, &sources, file, shelf, out, err),
+        Command::Convert(syntax, sources, file) => {
+            convert(alloc, syntax, &sources, file, shelf, out, err)
         }
         Command::Check(svrl, phase, file) => {
             let checking = Checking {

@@ -8,9 +8,9 @@ look at any XML document
       prints a line for each element, attribute and text
 
 read an invoice
-  einv show [--codes LISTS] FILE
+  einv show [--codes LISTS] [--extension TERMS] FILE
       lists its business terms, a line each
-  einv totals [--codes LISTS] FILE
+  einv totals [--codes LISTS] [--extension TERMS] FILE
       lists each total that isn't what the other values make of it
 
 check a document, before it goes out or when it comes in
@@ -21,8 +21,8 @@ check a document, before it goes out or when it comes in
       --svrl          the report in SVRL, the XML of Schematron reports
 
 change the syntax of an invoice
-  einv convert --to ubl [--codes LISTS] FILE
-  einv convert --to cii [--codes LISTS] FILE
+  einv convert --to ubl [--codes LISTS] [--extension TERMS] FILE
+  einv convert --to cii [--codes LISTS] [--extension TERMS] FILE
       writes it in UBL or in CII
 
 take out what is attached
@@ -39,8 +39,9 @@ try the whole tool on this machine
       in CII, compares what was read, checks it, and prints what came of it
 
 --codes LISTS is a TOML file of code lists. A list that isn't in it, and isn't
-built in, allows every code. Options stand before FILE, in any order. A word
-that begins with -- is never a file; ./--name is one.
+built in, allows every code. --extension TERMS is a TOML file of further terms,
+EXT-1 to EXT-99, with the places of their elements. Options stand before FILE,
+in any order. A word that begins with -- is never a file; ./--name is one.
 
 einv --help prints this page, einv --version the version.
 
@@ -49,7 +50,7 @@ status
   1  check found something fatal, or totals a difference
   2  the words fit no command
   3  the document is refused
-  4  a rule file, code lists, a phase or an expression is refused
+  4  a rule file, code lists, further terms, a phase or an expression is refused
   5  the syntax can't carry the invoice, or there is no such attached document
   6  a file couldn't be opened or read
   7  standard output couldn't be written

@@ -6,6 +6,7 @@ ghost use Rattle.invoice_cli.specs.declared.options.Optioned.TheVariants as comm
 
 use crate::options::{Given, NO_RULES, NONE_GIVEN, Optioned, RuleFiles, scan};
 use bind_meaning::Syntax;
+use invoice_jobs::Sources;
 use trial_invoice::MOST_LINES;
 
 /// The greatest number of an attached document.
@@ -15,11 +16,11 @@ const MOST_DOCUMENTS: u32 = 9_999;
 #[derive(Clone, Copy)]
 pub(crate) enum Command<'w> {
     Outline(&'w str),
-    /// With the file of code lists, if one is named.
-    Show(Option<&'w str>, &'w str),
+    /// With the files beside the document, as far as they are named.
+    Show(Sources<'w>, &'w str),
     /// Likewise.
-    Totals(Option<&'w str>, &'w str),
-    Convert(Syntax, Option<&'w str>, &'w str),
+    Totals(Sources<'w>, &'w str),
+    Convert(Syntax, Sources<'w>, &'w str),
     /// Whether the report is to be SVRL, the phase, if one is named, and the document. The rule files are named beside.
     Check(bool, Option<&'w str>, &'w str),
     /// With the number of the attached document, from 1.
@@ -131,7 +132,7 @@ fn show_with<'w>(given: &Given<'w>, number: u64, words: &'w [String]) -> Command
     ensures { asked_by [] result ≡ spec.show_of (given_options given.now) number (words_of words.now) }
 {
     match last_operand(number, words) {
-        Ok(file) => Command::Show(given.codes_file, file),
+        Ok(file) => Command::Show(given.sources, file),
         Err(number) => Command::BadWord(number),
     }
 }
@@ -153,7 +154,7 @@ fn totals_with<'w>(given: &Given<'w>, number: u64, words: &'w [String]) -> Comma
     ensures { asked_by [] result ≡ spec.totals_of (given_options given.now) number (words_of words.now) }
 {
     match last_operand(number, words) {
-        Ok(file) => Command::Totals(given.codes_file, file),
+        Ok(file) => Command::Totals(given.sources, file),
         Err(number) => Command::BadWord(number),
     }
 }
@@ -178,7 +179,7 @@ fn convert_with<'w>(given: &Given<'w>, number: u64, words: &'w [String]) -> Comm
         return Command::BadWord(number);
     };
     match last_operand(number, words) {
-        Ok(file) => Command::Convert(syntax, given.codes_file, file),
+        Ok(file) => Command::Convert(syntax, given.sources, file),
         Err(number) => Command::BadWord(number),
     }
 }

@@ -1,5 +1,5 @@
 -- What is read of files, and of what conversions write.
-use Rattle.std.proofs.Common.{◌≡◌, ℕ, List, Option, Some, None, Ok, refl, sym, ap, subst, ◌∙◌}
+use Rattle.std.proofs.Common.{◌≡◌, ℕ, true, List, [], Option, Some, None, Ok, refl, sym, ap, subst, ◌∙◌}
 use Rattle.inv_base.specs.Tree.{Name, Node, Forest, IsDocument, document_nodes}
 use Rattle.inv_base.specs.Files.{Files, bytes_under}
 use Rattle.code_lists.specs.CodeFiles.{Lists, file_lists}
@@ -13,66 +13,136 @@ use Rattle.xml_profile.specs.Profile as profile
 use Rattle.xml_laws.specs.Told as told
 use Rattle.node_arena.specs.Document.{built}
 use Rattle.node_arena.specs.Moves.{tree_nodes, HasNodesOf}
+use Rattle.extension_files.specs.declared.terms.ExtTerm.{ExtTerm}
+use Rattle.extension_files.specs.ExtensionFiles.{file_terms}
+use Rattle.extension_files.specs.Extensions.{is_extension}
 use Rattle.bind_meaning.specs.Terms.{Read, terms_of}
-use Rattle.bind_meaning.specs.Tables.{rows_of}
+use Rattle.bind_rows.specs.declared.rows.Row.{Row}
 use Rattle.bind_rows.specs.declared.tables.Which.{Which}
+use Rattle.bind_rows.specs.declared.tables.Which.TheVariants as which
+use Rattle.bind_table.specs.WellFormed.{first_fault}
+use Rattle.ubl_binding.specs.Tables.{invoice_rows, credit_note_rows}
+use Rattle.cii_binding.specs.Table.{cii_rows}
 use Rattle.bind_meaning.specs.declared.tables.Syntax.{Syntax}
-use Rattle.bind_run.specs.Reading.{by_root, invoice_of}
+use Rattle.bind_run.specs.Extensions.{rows_for, judged, AreGood}
+use Rattle.bind_run.specs.Reading.{by_root, invoice_by}
 use Rattle.bind_run.specs.Roots.{which_of}
 use Rattle.reading_laws.specs.Nodes.{Rise}
-use Rattle.written_laws.specs.Texts.{exactly, text_in, IsCarriedBy, AreReadAs}
+use Rattle.written_laws.specs.Texts.{exactly}
+use Rattle.extension_laws.specs.Texts.{AreOpen, AreReadBy, IsCarriedIn, text_by}
 use Rattle.job_course.specs.Course.{Course, answer_of, by_result, by_test, done, document_limits, by_lists}
 use Rattle.job_course.specs.Views.{document_read}
-use Rattle.invoice_jobs.specs.Invoices.{by_invoice, invoice_course, listed_course, read_course, by_carrying, converted}
-use Rattle.invoice_jobs.specs.Conversions.{AreLists, built_in, of_file, IsReadAs, Holds}
+use Rattle.invoice_jobs.specs.Sources.{Sources, Basis, listed_course, extended_course, by_terms, by_good, basis_course}
+use Rattle.invoice_jobs.specs.Invoices.{Given, by_invoice, invoice_course, read_course, by_carrying, converted}
+use Rattle.invoice_jobs.specs.Conversions.{AreLists, built_in, of_file, AreTerms, none, of_a_file, IsBasis, IsReadAs, AreReadAs, IsCarriedBy, text_of_invoice, Holds}
+use Rattle.invoice_jobs.proofs.SourceLemmas.{each_formed}
 
 -- ---- what follows where something was read
 
-lists-go : (files : Files) (codes_file : Option (List ℕ)) (lists : Lists) (next : Lists → Course) → AreLists files codes_file lists → answer_of (listed_course codes_file next) files ≡ answer_of (next lists) files
+lists-go : (files : Files) (codes_file : Option (List ℕ)) (lists : Lists) (next : Lists → Course) → AreLists files codes_file lists
+    → answer_of (listed_course codes_file next) files ≡ answer_of (next lists) files
 lists-go files None lists next built_in = refl
 lists-go files (Some name) lists next (of_file name' lists' within are) =
-    ap (by_test _ (answer_of (by_lists name next (file_lists (bytes_under name files))) files)) within ∙ ap (λ found. answer_of (by_lists name next found) files) are
+    ap (by_test _ (answer_of (by_lists name next (file_lists (bytes_under name files))) files)) within ∙ ap
+    (λ found. answer_of (by_lists name next found) files) are
 
-invoice-goes : (files : Files) (file : List ℕ) (lists : Lists) (read : Read) (next : Read → Course) → IsReadAs files file lists read → answer_of (invoice_course file lists next) files ≡ answer_of (next read) files
-invoice-goes files file lists read next is =
-    ap (by_result _ (λ found. answer_of (by_invoice file (document_read found) next (invoice_of (tree_nodes (document_read found)) lists)) files)) is.is
+terms-go : (files : Files) (extension_file : Option (List ℕ)) (terms : List ExtTerm) (next : List ExtTerm → Course) → AreTerms files extension_file terms
+    → answer_of (extended_course extension_file next) files ≡ answer_of (next terms) files
+terms-go files None terms next none = refl
+terms-go files (Some name) terms next (of_a_file name' terms' within are good) =
+    ap (by_test _ (answer_of (by_terms name next (file_terms (bytes_under name files))) files)) within
+    ∙ (ap (λ found. answer_of (by_terms name next found) files) are ∙ ap (λ found. answer_of (by_good name terms next found) files) good)
+
+basis-goes : (files : Files) (sources : Sources) (basis : Basis) (next : Basis → Course) → IsBasis files sources basis
+    → answer_of (basis_course sources next) files ≡ answer_of (next basis) files
+basis-goes files sources basis next is =
+    lists-go files sources.codes_file basis.lists (λ lists. extended_course sources.extension_file (λ terms. next (record { lists = lists; terms = terms })))
+    is.lists_are
+    ∙ terms-go files sources.extension_file basis.terms (λ terms. next (record { lists = basis.lists; terms = terms })) is.terms_are
+
+invoice-goes : (files : Files) (file : List ℕ) (basis : Basis) (read : Read) (next : Read → Course) → IsReadAs files file basis read
+    → answer_of (invoice_course file basis next) files ≡ answer_of (next read) files
+invoice-goes files file basis read next is =
+    ap (by_result _ (λ found. answer_of (by_invoice file (document_read found) next
+    (invoice_by (rows_for basis.terms) (tree_nodes (document_read found)) basis.lists)) files)) is.is
     ∙ ap (λ found. answer_of (by_invoice file (document_read is.found) next found) files) is.invoice
 
-pub read-goes : (files : Files) (codes_file : Option (List ℕ)) (file : List ℕ) (lists : Lists) (read : Read) (next : Read → Course) → AreLists files codes_file lists → IsReadAs files file lists read
-    → answer_of (read_course codes_file file next) files ≡ answer_of (next read) files
-read-goes files codes_file file lists read next are is = lists-go files codes_file lists (λ found. invoice_course file found next) are ∙ invoice-goes files file lists read next is
+pub read-goes : (files : Files) (sources : Sources) (file : List ℕ) (basis : Basis) (read : Read) (next : Given → Course) → IsBasis files sources basis
+    → IsReadAs files file basis read
+    → answer_of (read_course sources file next) files ≡ answer_of (next (record { basis = basis; read = read })) files
+read-goes files sources file basis read next are is =
+    basis-goes files sources basis (λ found. invoice_course file found (λ r. next (record { basis = found; read = r }))) are
+    ∙ invoice-goes files file basis read (λ r. next (record { basis = basis; read = r })) is
 
-pub converted-done : (syntax : Syntax) (read : Read) (files : Files) → IsCarriedBy syntax read.entries → answer_of (converted syntax read) files ≡ done (text_in syntax read.entries)
-converted-done syntax read files by = ap (λ carried. answer_of (by_carrying (text_in syntax read.entries) carried) files) by
+pub converted-done : (syntax : Syntax) (basis : Basis) (read : Read) (files : Files) → IsCarriedBy syntax basis read.entries
+    → answer_of (converted syntax (record { basis = basis; read = read })) files ≡ done (text_of_invoice syntax basis read.entries)
+converted-done syntax basis read files by = ap (λ carried. answer_of (by_carrying (text_of_invoice syntax basis read.entries) carried) files) by
+
+-- ---- the terms are good
+
+pub none-good : first_fault invoice_rows ≡ Ok tt → first_fault credit_note_rows ≡ Ok tt → first_fault cii_rows ≡ Ok tt → AreGood []
+none-good invoice credit_note cii = record { fine = refl; formed = each }
+  where
+    each : (table : Which) → first_fault (rows_for [] table) ≡ Ok tt
+    each which.Invoice = invoice
+    each which.CreditNote = credit_note
+    each which.Cii = cii
+
+module _ (extensions : (bytes : List ℕ) (terms : List ExtTerm) → file_terms bytes ≡ Ok terms → is_extension terms ≡ true) where
+  pub file-terms-good : (bytes : List ℕ) (terms : List ExtTerm) → file_terms bytes ≡ Ok terms → judged (rows_for terms) ≡ Ok tt → AreGood terms
+  file-terms-good bytes terms are good = record { fine = extensions bytes terms are; formed = each_formed (rows_for terms) good }
+
+  are-good : (no_terms : AreGood []) (files : Files) (extension_file : Option (List ℕ)) (terms : List ExtTerm) → AreTerms files extension_file terms
+      → AreGood terms
+  are-good no_terms files None terms none = no_terms
+  are-good no_terms files (Some name) terms (of_a_file name' terms' within are good) = file-terms-good (bytes_under name files) terms are good
+
+  pub basis-good : AreGood [] → (files : Files) (sources : Sources) (basis : Basis) → IsBasis files sources basis → AreGood basis.terms
+  basis-good no_terms files sources basis is = are-good no_terms files sources.extension_file basis.terms is.terms_are
 
 -- ---- what is read is valid
 
 module _
-    (valid : (table : Which) (nodes : List Node) (lists : Lists) (read : Read) → Rise 0 nodes → terms_of nodes (rows_of table) lists ≡ Ok read → IsInvoice read.entries × IsValid read.entries lists)
+    (valid : (nodes : List Node) (rows : List Row) (lists : Lists) (read : Read) → Rise 0 nodes → first_fault rows ≡ Ok tt → terms_of nodes rows lists ≡ Ok read
+    → IsInvoice read.entries × IsValid read.entries lists)
     (rises : (forest : Forest) → Rise 0 (document_nodes forest))
-    (tells : (limits : Limits) (bytes : List ℕ) (found : profile.Document) → profile.document limits bytes ≡ Ok found → told.IsReadAs limits found (profile.tree_of found))
-    (builds : (names : List Name) (tree : Forest) (events : List Event) → IsDocument tree → Tells names tree events → HasNodesOf (record { nodes = (built events).nodes; names = names }) tree)
+    (tells : (limits : Limits) (bytes : List ℕ) (found : profile.Document) → profile.document limits bytes ≡ Ok found → told.IsReadAs limits found
+    (profile.tree_of found))
+    (builds : (names : List Name) (tree : Forest) (events : List Event) → IsDocument tree → Tells names tree events → HasNodesOf
+    (record { nodes = (built events).nodes; names = names }) tree)
   where
-    found-rises : (limits : Limits) (bytes : List ℕ) (found : profile.Document) → profile.document limits bytes ≡ Ok found → Rise 0 (tree_nodes (document_read found))
+    found-rises : (limits : Limits) (bytes : List ℕ) (found : profile.Document) → profile.document limits bytes ≡ Ok found
+        → Rise 0 (tree_nodes (document_read found))
     found-rises limits bytes found e =
         let t = tells limits bytes found e in
         subst (λ nodes. Rise 0 nodes) (sym (builds found.names (profile.tree_of found) found.events t.document t.tells)) (rises (profile.tree_of found))
 
-    by-root : (nodes : List Node) (lists : Lists) (read : Read) (which : Option Which) → Rise 0 nodes → by_root nodes lists which ≡ Ok read → IsInvoice read.entries × IsValid read.entries lists
-    by-root nodes lists read None rise e = cc
-    by-root nodes lists read (Some table) rise e = valid table nodes lists read rise e
+    by-root : (terms : List ExtTerm) (nodes : List Node) (lists : Lists) (read : Read) (which : Option Which) → AreGood terms → Rise 0 nodes
+        → by_root (rows_for terms) nodes lists which ≡ Ok read
+        → IsInvoice read.entries × IsValid read.entries lists
+    by-root terms nodes lists read None good rise e = cc
+    by-root terms nodes lists read (Some table) good rise e = valid nodes (rows_for terms table) lists read rise (good.formed table) e
 
-    pub bytes-valid : (bytes : List ℕ) (lists : Lists) (read : Read) → AreReadAs bytes lists read → IsInvoice read.entries × IsValid read.entries lists
-    bytes-valid bytes lists read is =
+    pub bytes-valid : (bytes : List ℕ) (basis : Basis) (read : Read) → AreGood basis.terms → AreReadAs bytes basis read
+        → IsInvoice read.entries × IsValid read.entries basis.lists
+    bytes-valid bytes basis read good is =
         let nodes = tree_nodes (document_read is.found) in
-        by-root nodes lists read (which_of nodes) (found-rises document_limits bytes is.found is.is) is.invoice
+        by-root basis.terms nodes basis.lists read (which_of nodes) good (found-rises document_limits bytes is.found is.is) is.invoice
 
-    pub read-valid : (files : Files) (file : List ℕ) (lists : Lists) (read : Read) → IsReadAs files file lists read → IsInvoice read.entries × IsValid read.entries lists
-    read-valid files file lists read is = bytes-valid (bytes_under file files) lists read is
+    pub read-valid : (files : Files) (file : List ℕ) (basis : Basis) (read : Read) → AreGood basis.terms → IsReadAs files file basis read
+        → IsInvoice read.entries × IsValid read.entries basis.lists
+    read-valid files file basis read good is = bytes-valid (bytes_under file files) basis read good is
 
 -- ---- what is written is read
 
-pub written-read : ((syntax : Syntax) (es : List Entry) (lists : Lists) → IsInvoice es → IsValid es lists → IsCarriedBy syntax es → AreReadAs (text_in syntax es) lists (exactly es))
-    → (files : Files) (file : List ℕ) (codes_file : Option (List ℕ)) (lists : Lists) (syntax : Syntax) (es : List Entry) → IsInvoice es → IsValid es lists → IsCarriedBy syntax es
-    → Holds files file (text_in syntax es) codes_file lists → IsReadAs files file lists (exactly es)
-written-read round files file codes_file lists syntax es invoice valid by held = subst (λ bytes. AreReadAs bytes lists (exactly es)) (sym held.same) (round syntax es lists invoice valid by)
+pub written-read : ((files : Files) (sources : Sources) (basis : Basis) → IsBasis files sources basis → AreGood basis.terms)
+    → ((terms : List ExtTerm) → AreGood terms → AreOpen (rows_for terms))
+    → ((tables : Which → List Row) (syntax : Syntax) (es : List Entry) (lists : Lists) → AreOpen tables → IsInvoice es → IsValid es lists → IsCarriedIn tables
+    syntax es
+    → AreReadBy tables (text_by tables syntax es) lists (exactly es))
+    → (files : Files) (file : List ℕ) (sources : Sources) (basis : Basis) (syntax : Syntax) (es : List Entry) → IsInvoice es → IsValid es basis.lists
+    → IsCarriedBy syntax basis es
+    → Holds files file (text_of_invoice syntax basis es) sources basis → IsReadAs files file basis (exactly es)
+written-read good opened round files file sources basis syntax es invoice valid by held =
+    subst (λ bytes. AreReadAs bytes basis (exactly es)) (sym held.same)
+    (round (rows_for basis.terms) syntax es basis.lists (opened basis.terms (good files sources basis held.basis_is)) invoice valid by)

@@ -1,5 +1,5 @@
 -- Where converting is done: what was read, and what is read of what was written.
-use Rattle.std.proofs.Common.{◌≡◌, ℕ, true, List, Option, Some, None, Result, Ok, Err, refl, sym, ap, subst, ◌∙◌}
+use Rattle.std.proofs.Common.{◌≡◌, ℕ, true, List, [], Option, Some, None, Result, Ok, Err, refl, sym, ap, subst, ◌∙◌}
 use Rattle.inv_base.specs.Files.{Files}
 use Rattle.code_lists.specs.CodeFiles.{Lists, built_in_lists, file_lists}
 use Rattle.inv_terms.specs.declared.entries.Entry.{Entry}
@@ -7,25 +7,33 @@ use Rattle.inv_terms.specs.Listing.{IsInvoice}
 use Rattle.inv_terms.specs.Whole.{IsValid}
 use Rattle.xml_profile.specs.Profile as profile
 use Rattle.node_arena.specs.Moves.{tree_nodes}
+use Rattle.extension_files.specs.declared.terms.ExtTerm.{ExtTerm}
+use Rattle.extension_files.specs.ExtensionFiles.{file_terms}
+use Rattle.bind_rows.specs.declared.rows.Row.{Row}
+use Rattle.bind_rows.specs.declared.tables.Which.{Which}
 use Rattle.bind_meaning.specs.Terms.{Read}
 use Rattle.bind_meaning.specs.declared.fault.BindFault.{BindFault}
 use Rattle.bind_meaning.specs.declared.tables.Syntax.{Syntax}
 use Rattle.bind_carrying.specs.declared.carrying.NotCarried.{NotCarried}
 use Rattle.bind_carrying.specs.Carrying.{carrying}
-use Rattle.bind_run.specs.Reading.{invoice_of}
-use Rattle.written_laws.specs.Texts.{target_rows, tree_in, text_in, IsCarriedBy, exactly, AreReadAs}
+use Rattle.bind_run.specs.Extensions.{rows_for, judged, AreGood}
+use Rattle.bind_run.specs.Reading.{invoice_by}
+use Rattle.written_laws.specs.Texts.{exactly}
+use Rattle.extension_laws.specs.Texts.{AreOpen, AreReadBy, IsCarriedIn, target_rows, text_by, tree_by}
 use Rattle.job_course.specs.declared.status.Status.TheVariants as statuses
 use Rattle.job_course.specs.Course.{Answer, Course, done, refusal, answer_of, readings, is_within, list_limit, document_limits}
 use Rattle.job_course.specs.Runs.{EndsIn}
 use Rattle.job_course.specs.Views.{document_read}
-use Rattle.invoice_jobs.proofs.EndLemmas.{end_is_answer, document_done, lists_done, answer_ends}
+use Rattle.invoice_jobs.proofs.EndLemmas.{end_is_answer, document_done, lists_done, terms_done, answer_ends}
+use Rattle.invoice_jobs.specs.Sources.{Sources, Basis, extended_course}
 use Rattle.invoice_jobs.specs.Invoices.{invoice_line, condition_line, by_invoice, invoice_course, by_carrying, converted, convert_course}
-use Rattle.invoice_jobs.specs.Conversions.{AreLists, built_in, of_file, IsDocumentText, IsConverted, AreAccepted, IsConvertedThere}
+use Rattle.invoice_jobs.specs.Conversions.{AreLists, built_in, of_file, AreTerms, none, of_a_file, AreReadAs, IsCarriedBy, text_of_invoice, IsDocumentText, IsConverted, AreAccepted, AreAddedOrNone, IsConvertedThere}
 
 -- ---- the ends of what follows by an invoice
 
 -- The syntax carried it, and its text was answered.
-carrying-done : (held : Option Files) (text : List ℕ) (carried : Result (Unit {0}) NotCarried) (n : ℕ) (a : Answer) → EndsIn held (by_carrying text carried) n a → a.status ≡ statuses.Done
+carrying-done : (held : Option Files) (text : List ℕ) (carried : Result (Unit {0}) NotCarried) (n : ℕ) (a : Answer)
+    → EndsIn held (by_carrying text carried) n a → a.status ≡ statuses.Done
     → (carried ≡ Ok tt) × (a ≡ done text)
 carrying-done held text (Ok fits) n a ended good = (refl, end_is_answer held (done text) a n ended)
 carrying-done held text (Err fault) n a ended good =
@@ -43,44 +51,90 @@ invoice-done : (held : Option Files) (file : List ℕ) (found : profile.Document
     → EndsIn held (by_invoice file (document_read found) next invoice) n a → a.status ≡ statuses.Done → IsInvoiceDone held invoice next a
 invoice-done held file found next (Ok read) n a ended good = record { read = read; is = refl; count = n; ends_in = ended }
 invoice-done held file found next (Err fault) n a ended good =
-    let refused = ap (λ (x : Answer). x.status) (end_is_answer held (refusal statuses.DocumentRefused (invoice_line file (document_read found) fault)) a n ended) in
+    let refused = ap (λ (x : Answer). x.status) (end_is_answer held (refusal statuses.DocumentRefused (invoice_line file (document_read found) fault)) a n
+    ended) in
     absurd (let z : statuses.DocumentRefused ≡ statuses.Done = sym refused ∙ good in cc)
 
 -- What is read and carried is written as a document, and that is read as it.
-pub text-of : ((bytes : List ℕ) (lists : Lists) (read : Read) → AreReadAs bytes lists read → IsInvoice read.entries × IsValid read.entries lists)
-    → ((syntax : Syntax) (es : List Entry) (lists : Lists) → IsInvoice es → IsValid es lists → IsCarriedBy syntax es → profile.IsXml document_limits (text_in syntax es) (tree_in syntax es))
-    → ((syntax : Syntax) (es : List Entry) (lists : Lists) → IsInvoice es → IsValid es lists → IsCarriedBy syntax es → AreReadAs (text_in syntax es) lists (exactly es))
-    → (bytes : List ℕ) (lists : Lists) (read : Read) (syntax : Syntax) → AreReadAs bytes lists read → IsCarriedBy syntax read.entries → IsDocumentText syntax lists read.entries
-text-of valid xml round bytes lists read syntax is by =
-    let v = valid bytes lists read is in
-    record { tree = xml syntax read.entries lists v.0 v.1 by; read = round syntax read.entries lists v.0 v.1 by }
+pub text-of : ((bytes : List ℕ) (basis : Basis) (read : Read) → AreGood basis.terms → AreReadAs bytes basis read → IsInvoice read.entries × IsValid
+    read.entries basis.lists)
+    → ((terms : List ExtTerm) → AreGood terms → AreOpen (rows_for terms))
+    → ((tables : Which → List Row) (syntax : Syntax) (es : List Entry) (lists : Lists) → AreOpen tables → IsInvoice es → IsValid es lists → IsCarriedIn tables
+    syntax es
+    → profile.IsXml document_limits (text_by tables syntax es) (tree_by tables syntax es))
+    → ((tables : Which → List Row) (syntax : Syntax) (es : List Entry) (lists : Lists) → AreOpen tables → IsInvoice es → IsValid es lists → IsCarriedIn tables
+    syntax es
+    → AreReadBy tables (text_by tables syntax es) lists (exactly es))
+    → (bytes : List ℕ) (basis : Basis) (read : Read) (syntax : Syntax) → AreGood basis.terms → AreReadAs bytes basis read
+    → IsCarriedBy syntax basis read.entries
+    → IsDocumentText syntax basis read.entries
+text-of valid opened xml round bytes basis read syntax good is by =
+    let v = valid bytes basis read good is in
+    let each = opened basis.terms good in
+    record {
+      tree = xml (rows_for basis.terms) syntax read.entries basis.lists each v.0 v.1 by;
+      read = round (rows_for basis.terms) syntax read.entries basis.lists each v.0 v.1 by;
+    }
 
 module _
-    (texts : (bytes : List ℕ) (lists : Lists) (read : Read) (syntax : Syntax) → AreReadAs bytes lists read → IsCarriedBy syntax read.entries → IsDocumentText syntax lists read.entries)
+    (texts : (bytes : List ℕ) (basis : Basis) (read : Read) (syntax : Syntax) → AreGood basis.terms → AreReadAs bytes basis read → IsCarriedBy syntax basis
+    read.entries
+    → IsDocumentText syntax basis read.entries)
+    (no_terms : AreGood [])
+    (terms_good : (bytes : List ℕ) (terms : List ExtTerm) → file_terms bytes ≡ Ok terms → judged (rows_for terms) ≡ Ok tt → AreGood terms)
   where
-    by-lists : (held : Option Files) (syntax : Syntax) (codes_file : Option (List ℕ)) (file : List ℕ) (lists : Lists) (n : ℕ) (a : Answer) → AreAccepted held codes_file lists
-        → EndsIn held (invoice_course file lists (converted syntax)) n a → a.status ≡ statuses.Done → IsConvertedThere held syntax codes_file file a
-    by-lists held syntax codes_file file lists n a accepted ended good =
-        let d = document_done held file (λ found. by_invoice file (document_read found) (converted syntax) (invoice_of (tree_nodes (document_read found)) lists)) n a ended good in
-        let i = invoice-done held file d.found (converted syntax) (invoice_of (tree_nodes (document_read d.found)) lists) d.count a d.ends_in good in
-        let c = carrying-done held (text_in syntax i.read.entries) (carrying (target_rows syntax i.read.entries) i.read.entries) i.count a i.ends_in good in
-        let is : AreReadAs d.content lists i.read = record { found = d.found; is = d.is; invoice = i.is } in
+    by-basis : (held : Option Files) (syntax : Syntax) (sources : Sources) (file : List ℕ) (basis : Basis) (n : ℕ) (a : Answer)
+        → AreAccepted held sources.codes_file basis.lists
+        → AreAddedOrNone held sources.extension_file basis.terms → AreGood basis.terms
+        → EndsIn held (invoice_course file basis (λ read. converted syntax (record { basis = basis; read = read }))) n a → a.status ≡ statuses.Done
+        → IsConvertedThere held syntax sources file a
+    by-basis held syntax sources file basis n a accepted added terms_are ended good =
+        let next : Read → Course = λ read. converted syntax (record { basis = basis; read = read }) in
+        let d = document_done held file (λ found. by_invoice file (document_read found) next
+        (invoice_by (rows_for basis.terms) (tree_nodes (document_read found)) basis.lists)) n a ended good in
+        let i = invoice-done held file d.found next (invoice_by (rows_for basis.terms) (tree_nodes (document_read d.found)) basis.lists) d.count a d.ends_in
+        good in
+        let c = carrying-done held (text_of_invoice syntax basis i.read.entries)
+        (carrying (target_rows (rows_for basis.terms) syntax i.read.entries) i.read.entries) i.count a i.ends_in good in
+        let is : AreReadAs d.content basis i.read = record { found = d.found; is = d.is; invoice = i.is } in
         record {
-          lists = lists;
-          accepted = accepted;
+          basis = basis;
+          lists_are = accepted;
+          terms_are = added;
           content = d.content;
           of_file = d.of_file;
           read = i.read;
           read_as = is;
-          gives = record { carried = c.0; answer_is = c.1; text = texts d.content lists i.read syntax is c.0 };
+          gives = record { carried = c.0; answer_is = c.1; text = texts d.content basis i.read syntax terms_are is c.0 };
         }
 
-    pub convert-ended : (held : Option Files) (syntax : Syntax) (codes_file : Option (List ℕ)) (file : List ℕ) (n : ℕ) (a : Answer)
-        → EndsIn held (convert_course syntax codes_file file) n a → a.status ≡ statuses.Done → IsConvertedThere held syntax codes_file file a
-    convert-ended held syntax None file n a ended good = by-lists held syntax None file built_in_lists n a refl ended good
-    convert-ended held syntax (Some name) file n a ended good =
-        let l = lists_done held name (λ lists. invoice_course file lists (converted syntax)) n a ended good in
-        by-lists held syntax (Some name) file l.lists l.count a l.are l.ends_in good
+    by-lists : (held : Option Files) (syntax : Syntax) (codes_file extension_file : Option (List ℕ)) (file : List ℕ) (lists : Lists) (n : ℕ) (a : Answer)
+        → AreAccepted held codes_file lists
+        → EndsIn held (extended_course extension_file (λ terms. invoice_course file (record { lists = lists; terms = terms })
+        (λ read. converted syntax (record { basis = record { lists = lists; terms = terms }; read = read })))) n a
+        → a.status ≡ statuses.Done → IsConvertedThere held syntax (record { codes_file = codes_file; extension_file = extension_file }) file a
+    by-lists held syntax codes_file None file lists n a accepted ended good =
+        by-basis held syntax (record { codes_file = codes_file; extension_file = None }) file (record { lists = lists; terms = [] }) n a accepted refl no_terms
+        ended good
+    by-lists held syntax codes_file (Some name) file lists n a accepted ended good =
+        let t = terms_done held name (λ terms. invoice_course file (record { lists = lists; terms = terms })
+        (λ read. converted syntax (record { basis = record { lists = lists; terms = terms }; read = read }))) n a ended good in
+        by-basis held syntax (record { codes_file = codes_file; extension_file = Some name }) file (record { lists = lists; terms = t.terms }) t.count a
+        accepted t.are
+        (terms_good t.are.content t.terms t.are.are t.are.good) t.ends_in good
+
+    by-files : (held : Option Files) (syntax : Syntax) (codes_file extension_file : Option (List ℕ)) (file : List ℕ) (n : ℕ) (a : Answer)
+        → EndsIn held (convert_course syntax (record { codes_file = codes_file; extension_file = extension_file }) file) n a → a.status ≡ statuses.Done
+        → IsConvertedThere held syntax (record { codes_file = codes_file; extension_file = extension_file }) file a
+    by-files held syntax None extension_file file n a ended good = by-lists held syntax None extension_file file built_in_lists n a refl ended good
+    by-files held syntax (Some name) extension_file file n a ended good =
+        let l = lists_done held name (λ lists. extended_course extension_file (λ terms. invoice_course file (record { lists = lists; terms = terms })
+        (λ read. converted syntax (record { basis = record { lists = lists; terms = terms }; read = read })))) n a ended good in
+        by-lists held syntax (Some name) extension_file file l.lists l.count a l.are l.ends_in good
+
+    pub convert-ended : (held : Option Files) (syntax : Syntax) (sources : Sources) (file : List ℕ) (n : ℕ) (a : Answer)
+        → EndsIn held (convert_course syntax sources file) n a → a.status ≡ statuses.Done → IsConvertedThere held syntax sources file a
+    convert-ended held syntax sources file n a ended good = by-files held syntax sources.codes_file sources.extension_file file n a ended good
 
 -- ---- where the files are told
 
@@ -90,19 +144,32 @@ are-lists files (Some name) lists are =
     let same = are.of_file files refl in
     of_file name lists (subst (λ bytes. is_within list_limit bytes ≡ true) same are.within) (subst (λ bytes. file_lists bytes ≡ Ok lists) same are.are)
 
-told : (files : Files) (syntax : Syntax) (codes_file : Option (List ℕ)) (file : List ℕ) (a : Answer) → IsConvertedThere (Some files) syntax codes_file file a → IsConverted files syntax codes_file file a
-told files syntax codes_file file a there = record {
-  lists = there.lists;
-  lists_are = are-lists files codes_file there.lists there.accepted;
+are-terms : (files : Files) (extension_file : Option (List ℕ)) (terms : List ExtTerm) → AreAddedOrNone (Some files) extension_file terms
+    → AreTerms files extension_file terms
+are-terms files None terms is = subst (AreTerms files None) (sym is) none
+are-terms files (Some name) terms are =
+    let same = are.of_file files refl in
+    of_a_file name terms (subst (λ bytes. is_within list_limit bytes ≡ true) same are.within) (subst (λ bytes. file_terms bytes ≡ Ok terms) same are.are)
+    are.good
+
+told : (files : Files) (syntax : Syntax) (sources : Sources) (file : List ℕ) (a : Answer) → IsConvertedThere (Some files) syntax sources file a
+    → IsConverted files syntax sources file a
+told files syntax sources file a there = record {
+  basis = there.basis;
+  basis_is = record {
+    lists_are = are-lists files sources.codes_file there.basis.lists there.lists_are;
+    terms_are = are-terms files sources.extension_file there.basis.terms there.terms_are;
+  };
   read = there.read;
-  read_as = subst (λ bytes. AreReadAs bytes there.lists there.read) (there.of_file files refl) there.read_as;
+  read_as = subst (λ bytes. AreReadAs bytes there.basis there.read) (there.of_file files refl) there.read_as;
   gives = there.gives;
 }
 
-pub convert-done : ((held : Option Files) (syntax : Syntax) (codes_file : Option (List ℕ)) (file : List ℕ) (n : ℕ) (a : Answer)
-    → EndsIn held (convert_course syntax codes_file file) n a → a.status ≡ statuses.Done → IsConvertedThere held syntax codes_file file a)
-    → (files : Files) (syntax : Syntax) (codes_file : Option (List ℕ)) (file : List ℕ) → (answer_of (convert_course syntax codes_file file) files).status ≡ statuses.Done
-    → IsConverted files syntax codes_file file (answer_of (convert_course syntax codes_file file) files)
-convert-done ended files syntax codes_file file good =
-    let course = convert_course syntax codes_file file in
-    told files syntax codes_file file (answer_of course files) (ended (Some files) syntax codes_file file (readings course files) (answer_of course files) (answer_ends files course) good)
+pub convert-done : ((held : Option Files) (syntax : Syntax) (sources : Sources) (file : List ℕ) (n : ℕ) (a : Answer)
+    → EndsIn held (convert_course syntax sources file) n a → a.status ≡ statuses.Done → IsConvertedThere held syntax sources file a)
+    → (files : Files) (syntax : Syntax) (sources : Sources) (file : List ℕ) → (answer_of (convert_course syntax sources file) files).status ≡ statuses.Done
+    → IsConverted files syntax sources file (answer_of (convert_course syntax sources file) files)
+convert-done ended files syntax sources file good =
+    let course = convert_course syntax sources file in
+    told files syntax sources file (answer_of course files) (ended (Some files) syntax sources file (readings course files) (answer_of course files)
+    (answer_ends files course) good)

@@ -1,106 +1,148 @@
 -- How the jobs run that read an invoice.
-use Rattle.std.proofs.Common.{◌≡◌, ◌≢◌, ℕ, List, Some, None, Result, Ok, Err, inl, inr, ap, sym, subst, ◌∙◌, arith, option_map, ◌⊎◌}
-use Rattle.std.specs.Prelude.{IfOk, IfErr, OnOk, encode_utf8_all}
+use Rattle.std.proofs.Common.{◌≡◌, ◌≢◌, ℕ, List, [], Option, Some, None, Result, Ok, Err, inl, inr, refl, ap, sym, subst, ◌∙◌, arith, option_map, ◌⊎◌}
 use Rattle.inv_base.specs.Files.{bytes_under}
 use Rattle.inv_base.specs.Outside.{ShelfView, SinkView}
+use Rattle.inv_base.specs.Tree.{Node}
 use Rattle.inv_base.specs.Writing.{WritesAll, WritesFront}
-use Rattle.code_lists.specs.CodeFiles.{Lists, built_in_lists}
+use Rattle.std.specs.Prelude.{true, encode_utf8_all}
+use Rattle.std.specs.List.{list_all}
+use Rattle.code_lists.specs.CodeFiles.{Lists}
 use Rattle.xml_document.specs.Loading.{IsLoaded}
 use Rattle.node_arena.specs.Document.{Document}
 use Rattle.node_arena.specs.Moves.{tree_nodes}
 use Rattle.inv_terms.specs.declared.attachments.AttachFault.{AttachFault}
 use Rattle.inv_terms.specs.Attachments.{attached}
+use Rattle.extension_files.specs.declared.terms.ExtTerm.{ExtTerm}
 use Rattle.bind_meaning.specs.declared.fault.BindFault.{BindFault}
 use Rattle.bind_meaning.specs.declared.fault.BindKind.TheVariants as kinds
 use Rattle.bind_meaning.specs.declared.tables.Syntax.{Syntax}
-use Rattle.bind_meaning.specs.Terms.{Read}
+use Rattle.bind_meaning.specs.Terms.{Read, terms_of}
 use Rattle.bind_rows.specs.declared.rows.Row.{Row}
+use Rattle.bind_rows.specs.declared.tables.Which.{Which}
+use Rattle.bind_table.specs.Laid.{is_laid}
+use Rattle.bind_table.specs.WellFormed.{first_fault}
 use Rattle.bind_write.specs.Documents.{document_text}
+use Rattle.bind_write.specs.Sources.{has_plain_attribute}
 use Rattle.bind_carrying.specs.declared.carrying.NotCarried.{NotCarried}
 use Rattle.bind_carrying.specs.Carrying.{carrying}
-use Rattle.bind_run.specs.Reading.{invoice_of}
-use Rattle.written_laws.specs.Texts.{target_rows}
+use Rattle.bind_run.specs.declared.tables.Tables.{Tables}
+use Rattle.bind_run.specs.Extensions.{rows_for, AreGood}
+use Rattle.bind_run.specs.Reading.{by_root, invoice_by, rows_in, AreFormed, AreTablesFor}
+use Rattle.bind_run.specs.Roots.{which_of}
+use Rattle.extension_laws.specs.Texts.{target_rows, text_by}
 use Rattle.job_course.specs.declared.status.Status.{Status}
 use Rattle.job_course.specs.declared.status.Status.TheVariants as statuses
-use Rattle.job_course.specs.Course.{Course, ends, done, refusal, by_result, document_limits, lists_course}
+use Rattle.job_course.specs.Course.{Course, ends, done, refusal, by_result, document_limits}
 use Rattle.job_course.specs.Outside.{TakesOrFails, HasRead}
-use Rattle.job_course.specs.Runs.{AreListed, Runs, Continues, Fails}
-use Rattle.job_course.proofs.Ends.{written_here, behind_document, behind_lists}
+use Rattle.job_course.specs.Runs.{Runs, Continues, Fails}
+use Rattle.job_course.proofs.Ends.{written_here, behind_document}
 use Rattle.job_course.proofs.FileLemmas.{memory_in, refused_here}
 use Rattle.job_course.specs.Views.{document_read}
-use Rattle.invoice_jobs.specs.Invoices.{invoice_line, by_invoice, invoice_course, listed_course, condition_line, by_carrying, converted, attachment_line, extracted, IsInvoiceRefusal}
+use Rattle.invoice_jobs.specs.Sources.{Sources, Basis, basis_course}
+use Rattle.invoice_jobs.specs.Invoices.{Given, invoice_line, by_invoice, invoice_course, read_course, condition_line, by_carrying, converted, attachment_line, extracted, IsInvoiceRefusal}
 
--- ---- the lists
+-- ---- the tables
 
-pub listed_goes_on : (file : List ℕ) (result : Result Lists Status) (shelf mid : ShelfView) (err mid_err : SinkView)
-    → IfOk result (λ lists. AreListed shelf.held file lists) → OnOk result (HasRead 1 shelf mid) → OnOk result (mid_err ≡ err)
-    → IfOk result (λ lists. Continues (listed_course (Some file)) lists shelf mid err mid_err)
-listed_goes_on file (Ok lists) shelf mid err mid_err are read quiet = λ next shelf' out out' err' status further.
-    behind_lists file shelf mid shelf' out out' err mid_err err' status read quiet next lists are further
-listed_goes_on file (Err status) shelf mid err mid_err are read quiet = tt
+-- Tables with the same rows read the same.
+by_same_rows : (rows other : Which → List Row) → ((table : Which) → rows table ≡ other table) → (nodes : List Node) (lists : Lists) (which : Option Which)
+    → by_root rows nodes lists which ≡ by_root other nodes lists which
+by_same_rows rows other same nodes lists None = refl
+by_same_rows rows other same nodes lists (Some table) = ap (λ r. terms_of nodes r lists) (same table)
 
-pub built_in_goes_on : (lists : Lists) (shelf : ShelfView) (err : SinkView) → lists ≡ built_in_lists
-    → Continues (listed_course None) lists shelf shelf err err
-built_in_goes_on lists shelf err is = λ next shelf' out out' err' status further.
-    subst (λ l. Runs (next l) (record { shelf = shelf; out = out; err = err }) (record { shelf = shelf'; out = out'; err = err' }) status) is further
+-- An invoice may be written by each of them.
+pub table_laid : (terms : List ExtTerm) (tables : Tables) → AreTablesFor terms tables → AreGood terms
+    → ((t : List ExtTerm) (table : Which) → AreGood t → is_laid (rows_for t table) ≡ true)
+    → (table : Which) (rows : List Row) → rows ≡ rows_in tables table → is_laid rows ≡ true
+table_laid terms tables are good laid table rows is = ap is_laid (is ∙ are table) ∙ laid terms table good
 
-pub listed_fails : (file : List ℕ) (result : Result Lists Status) (shelf mid : ShelfView) (err err' : SinkView)
-    → IfErr result (λ status. (next : Lists → Course) (out : SinkView)
-    → Runs (lists_course file next) (record { shelf = shelf; out = out; err = err }) (record { shelf = mid; out = out; err = err' }) status)
-    → IfErr result (λ status. Fails (listed_course (Some file)) status shelf mid err err')
-listed_fails file (Ok lists) shelf mid err err' fails = tt
-listed_fails file (Err status) shelf mid err err' fails = fails
+pub table_notes : (terms : List ExtTerm) (tables : Tables) → AreTablesFor terms tables → AreGood terms
+    → ((t : List ExtTerm) (table : Which) → AreGood t → list_all has_plain_attribute (rows_for t table) ≡ true)
+    → (table : Which) (rows : List Row) → rows ≡ rows_in tables table → list_all has_plain_attribute rows ≡ true
+table_notes terms tables are good notes table rows is = ap (list_all has_plain_attribute) (is ∙ are table) ∙ notes terms table good
+
+pub without_terms_good : (tables : Tables) → AreTablesFor [] tables → AreFormed tables → AreGood []
+without_terms_good tables are formed = record {
+  fine = refl;
+  formed = λ table. sym (ap first_fault (are table)) ∙ formed table;
+}
 
 -- ---- the document
 
-module _ (file : List ℕ) (lists : Lists) (doc : Document) (shelf mid : ShelfView) (err mid_err : SinkView) (read_one : HasRead 1 shelf mid) (quiet : mid_err ≡ err)
+module _ (file : List ℕ) (basis : Basis) (tables : Tables) (are : AreTablesFor basis.terms tables) (doc : Document) (shelf mid : ShelfView)
+    (err mid_err : SinkView) (read_one : HasRead 1 shelf mid) (quiet : mid_err ≡ err)
     (found : IsLoaded document_limits (option_map (bytes_under file) shelf.held) doc) where
-  of_found : invoice_of (tree_nodes (document_read found.found)) lists ≡ invoice_of (tree_nodes doc) lists
-  of_found = ap (λ d. invoice_of (tree_nodes d) lists) (sym found.exactly)
+  of_found : invoice_by (rows_for basis.terms) (tree_nodes (document_read found.found)) basis.lists ≡ invoice_by (rows_in tables) (tree_nodes doc) basis.lists
+  of_found =
+      ap (λ d. invoice_by (rows_for basis.terms) (tree_nodes d) basis.lists) (sym found.exactly)
+      ∙ sym (by_same_rows (rows_in tables) (rows_for basis.terms) are (tree_nodes doc) basis.lists (which_of (tree_nodes doc)))
 
-  pub behind_invoice : (read : Read) → invoice_of (tree_nodes doc) lists ≡ Ok read → Continues (invoice_course file lists) read shelf mid err mid_err
+  pub behind_invoice : (read : Read) → invoice_by (rows_in tables) (tree_nodes doc) basis.lists ≡ Ok read
+      → Continues (invoice_course file basis) read shelf mid err mid_err
   behind_invoice read is = λ next shelf' out out' err' status further.
       behind_document file shelf mid shelf' out out' err mid_err err' status read_one quiet
-      (λ f. by_invoice file (document_read f) next (invoice_of (tree_nodes (document_read f)) lists)) doc found
+      (λ f. by_invoice file (document_read f) next (invoice_by (rows_for basis.terms) (tree_nodes (document_read f)) basis.lists)) doc found
       (subst (λ course. Runs course (record { shelf = mid; out = out; err = mid_err }) (record { shelf = shelf'; out = out'; err = err' }) status)
       (sym (ap (by_invoice file (document_read found.found) next) (of_found ∙ is))) further)
 
-  pub invoice_refused : (fault : BindFault) (status : Status) (err' : SinkView) → (fault.kind ≢ kinds.Memory → invoice_of (tree_nodes doc) lists ≡ Err fault)
-      → IsInvoiceRefusal doc file fault status mid_err err' → Fails (invoice_course file lists) status shelf mid err err'
+  pub invoice_refused : (fault : BindFault) (status : Status) (err' : SinkView)
+      → (fault.kind ≢ kinds.Memory → invoice_by (rows_in tables) (tree_nodes doc) basis.lists ≡ Err fault)
+      → IsInvoiceRefusal doc file fault status mid_err err' → Fails (invoice_course file basis) status shelf mid err err'
   invoice_refused fault status err' fails (inl memory) = λ next out.
-      rw memory.1 (memory_in file shelf mid out err err' (invoice_course file lists next) (λ files. omega arith) read_one (memory.2 ∙ quiet))
+      rw memory.1 (memory_in file shelf mid out err err' (invoice_course file basis next) (λ files. omega arith) read_one (memory.2 ∙ quiet))
   invoice_refused fault status err' fails (inr told) = λ next out.
       let takes = subst (λ d. TakesOrFails (invoice_line file d fault) mid_err err') found.exactly told.2 in
       let refused = refused_here statuses.DocumentRefused (invoice_line file (document_read found.found) fault) mid out mid_err err' tt takes in
       rw told.1 (behind_document file shelf mid mid out out err mid_err err' statuses.DocumentRefused read_one quiet
-      (λ f. by_invoice file (document_read f) next (invoice_of (tree_nodes (document_read f)) lists)) doc found
+      (λ f. by_invoice file (document_read f) next (invoice_by (rows_for basis.terms) (tree_nodes (document_read f)) basis.lists)) doc found
       (subst (λ course. Runs course (record { shelf = mid; out = out; err = mid_err }) (record { shelf = mid; out = out; err = err' }) statuses.DocumentRefused)
       (sym (ap (by_invoice file (document_read found.found) next) (of_found ∙ fails told.0))) refused))
 
+-- ---- behind the files beside it
+
+module _ (sources : Sources) (file : List ℕ) (basis : Basis) (shelf mid shelf' : ShelfView) (err mid_err err' : SinkView)
+    (based : Continues (basis_course sources) basis shelf mid err mid_err) where
+  pub read_goes_on : (read : Read) → Continues (invoice_course file basis) read mid shelf' mid_err err'
+      → Continues (read_course sources file) (record { basis = basis; read = read }) shelf shelf' err err'
+  read_goes_on read reads = λ next shelf'' out out' err'' status further.
+      based (λ b. invoice_course file b (λ r. next (record { basis = b; read = r }))) shelf'' out out' err'' status
+      (reads (λ r. next (record { basis = basis; read = r })) shelf'' out out' err'' status further)
+
+  pub read_fails : (status : Status) → Fails (invoice_course file basis) status mid shelf' mid_err err'
+      → Fails (read_course sources file) status shelf shelf' err err'
+  read_fails status fails = λ next out.
+      based (λ b. invoice_course file b (λ r. next (record { basis = b; read = r }))) shelf' out out err' status
+      (fails (λ r. next (record { basis = basis; read = r })) out)
+
+pub no_basis : (sources : Sources) (file : List ℕ) (status : Status) (shelf shelf' : ShelfView) (err err' : SinkView)
+    → Fails (basis_course sources) status shelf shelf' err err'
+    → Fails (read_course sources file) status shelf shelf' err err'
+no_basis sources file status shelf shelf' err err' fails = λ next out. fails (λ b. invoice_course file b (λ r. next (record { basis = b; read = r }))) out
+
 -- ---- the invoice in a syntax
 
-module _ (syntax : Syntax) (read : Read) (rows : List Row) (is : rows ≡ target_rows syntax read.entries) (shelf : ShelfView) (out : SinkView) where
+module _ (syntax : Syntax) (given : Given) (rows : List Row) (is : rows ≡ target_rows (rows_for given.basis.terms) syntax given.read.entries)
+    (shelf : ShelfView) (out : SinkView) where
   abbrev document : List ℕ
-  document = encode_utf8_all (document_text (target_rows syntax read.entries) read.entries)
+  document = text_by (rows_for given.basis.terms) syntax given.read.entries
 
-  carried : (result : Result (Unit {0}) NotCarried) → result ≡ carrying rows read.entries → by_carrying document result ≡ converted syntax read
-  carried result given = ap (by_carrying document) (given ∙ ap (λ r. carrying r read.entries) is)
+  carried : (result : Result (Unit {0}) NotCarried) → result ≡ carrying rows given.read.entries → by_carrying document result ≡ converted syntax given
+  carried result it_is = ap (by_carrying document) (it_is ∙ ap (λ r. carrying r given.read.entries) is)
 
-  pub not_converted : (fault : NotCarried) (err err' : SinkView) → Err fault ≡ carrying rows read.entries → TakesOrFails (condition_line fault) err err'
-      → Runs (converted syntax read) (record { shelf = shelf; out = out; err = err }) (record { shelf = shelf; out = out; err = err' }) statuses.Unable
+  pub not_converted : (fault : NotCarried) (err err' : SinkView) → Err fault ≡ carrying rows given.read.entries → TakesOrFails (condition_line fault) err err'
+      → Runs (converted syntax given) (record { shelf = shelf; out = out; err = err }) (record { shelf = shelf; out = out; err = err' }) statuses.Unable
   not_converted fault err err' fails takes =
       subst (λ course. Runs course (record { shelf = shelf; out = out; err = err }) (record { shelf = shelf; out = out; err = err' }) statuses.Unable)
       (carried (Err fault) fails) (refused_here statuses.Unable (condition_line fault) shelf out err err' tt takes)
 
-  pub is_converted : (fitting : Unit {0}) (status : Status) (out' err : SinkView) → Ok fitting ≡ carrying rows read.entries
-      → ((status ≡ statuses.Done) × WritesAll (encode_utf8_all (document_text rows read.entries)) out out')
-      ⊎ ((status ≡ statuses.WriteFault) × WritesFront (encode_utf8_all (document_text rows read.entries)) out out')
-      → Runs (converted syntax read) (record { shelf = shelf; out = out; err = err }) (record { shelf = shelf; out = out'; err = err }) status
+  pub is_converted : (fitting : Unit {0}) (status : Status) (out' err : SinkView) → Ok fitting ≡ carrying rows given.read.entries
+      → ((status ≡ statuses.Done) × WritesAll (encode_utf8_all (document_text rows given.read.entries)) out out')
+      ⊎ ((status ≡ statuses.WriteFault) × WritesFront (encode_utf8_all (document_text rows given.read.entries)) out out')
+      → Runs (converted syntax given) (record { shelf = shelf; out = out; err = err }) (record { shelf = shelf; out = out'; err = err }) status
   is_converted fitting status out' err fits written =
       subst (λ course. Runs course (record { shelf = shelf; out = out; err = err }) (record { shelf = shelf; out = out'; err = err }) status)
       (carried (Ok fitting) fits) (written_here statuses.Done status document shelf out out' err tt
-      (subst (λ r. ((status ≡ statuses.Done) × WritesAll (encode_utf8_all (document_text r read.entries)) out out')
-      ⊎ ((status ≡ statuses.WriteFault) × WritesFront (encode_utf8_all (document_text r read.entries)) out out')) is written))
+      (subst (λ r. ((status ≡ statuses.Done) × WritesAll (encode_utf8_all (document_text r given.read.entries)) out out')
+      ⊎ ((status ≡ statuses.WriteFault) × WritesFront (encode_utf8_all (document_text r given.read.entries)) out out')) is written))
 
 -- ---- an attached document
 
@@ -115,7 +157,8 @@ module _ (number : ℕ) (read : Read) (shelf : ShelfView) (out : SinkView) where
       subst (λ course. Runs course (record { shelf = shelf; out = out; err = err }) (record { shelf = shelf; out = out'; err = err }) status)
       (sym (ap attach_course is)) (written_here statuses.Done status bytes shelf out out' err tt written)
 
-  pub not_extracted : (fault : AttachFault) (err err' : SinkView) → attached read.entries number ≡ Err fault → TakesOrFails (attachment_line number fault) err err'
+  pub not_extracted : (fault : AttachFault) (err err' : SinkView) → attached read.entries number ≡ Err fault
+      → TakesOrFails (attachment_line number fault) err err'
       → Runs (extracted number read) (record { shelf = shelf; out = out; err = err }) (record { shelf = shelf; out = out; err = err' }) statuses.Unable
   not_extracted fault err err' is takes =
       subst (λ course. Runs course (record { shelf = shelf; out = out; err = err }) (record { shelf = shelf; out = out; err = err' }) statuses.Unable)

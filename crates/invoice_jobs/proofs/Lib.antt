@@ -1,3 +1,4 @@
+pub mod SourceLemmas
 pub mod InvoiceLemmas
 pub mod ConversionLemmas
 pub mod DoneLemmas

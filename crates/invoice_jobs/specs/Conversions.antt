@@ -1,61 +1,103 @@
 -- What files hold and are read as, what converting them answers, and what is read of that: what conversions give back speaks of these.
-use Rattle.std.specs.Prelude.{◌≡◌, ℕ, List, Option, Some, None, Ok, true}
+use Rattle.std.specs.Prelude.{◌≡◌, ℕ, List, [], Option, Some, None, Ok, true}
 use Rattle.inv_base.specs.Files.{Files, bytes_under}
 use Rattle.code_lists.specs.CodeFiles.{Lists, built_in_lists, file_lists}
+use Rattle.extension_files.specs.declared.terms.ExtTerm.{ExtTerm}
+use Rattle.extension_files.specs.ExtensionFiles.{file_terms}
 use Rattle.inv_terms.specs.declared.entries.Entry.{Entry}
 use Rattle.xml_profile.specs.Profile.{IsXml}
 use Rattle.bind_meaning.specs.Terms.{Read}
 use Rattle.bind_meaning.specs.declared.tables.Syntax.{Syntax}
-use Rattle.written_laws.specs.Texts.{tree_in, text_in, IsCarriedBy, exactly, AreReadAs}
+use Rattle.bind_run.specs.Extensions.{rows_for, judged}
+use Rattle.written_laws.specs.Texts.{exactly}
+use Rattle.extension_laws.specs.Texts.{tree_by, text_by, IsCarriedIn, AreReadBy}
 use Rattle.job_course.specs.Course.{Answer, done, is_within, list_limit, document_limits}
 use Rattle.job_course.specs.Runs.{IsContentOf, AreListed}
+use Rattle.invoice_jobs.specs.Sources.{Sources, Basis}
+
+-- ---- what the files beside a document give
 
 -- The lists are those of a file, or the built-in ones.
 pub data AreLists (files : Files) : Option (List ℕ) → Lists → Type 0 where
   built_in : AreLists files None built_in_lists
-  of_file : (name : List ℕ) (lists : Lists) → is_within list_limit (bytes_under name files) ≡ true → file_lists (bytes_under name files) ≡ Ok lists → AreLists files (Some name) lists
+  of_file : (name : List ℕ) (lists : Lists) → is_within list_limit (bytes_under name files) ≡ true → file_lists (bytes_under name files) ≡ Ok lists
+      → AreLists files (Some name) lists
+
+-- The terms are those of a file with which each of the three tables is well formed, or none.
+pub data AreTerms (files : Files) : Option (List ℕ) → List ExtTerm → Type 0 where
+  none : AreTerms files None []
+  of_a_file : (name : List ℕ) (terms : List ExtTerm) → is_within list_limit (bytes_under name files) ≡ true → file_terms (bytes_under name files) ≡ Ok terms
+      → judged (rows_for terms) ≡ Ok tt → AreTerms files (Some name) terms
+
+pub record IsBasis (files : Files) (sources : Sources) (basis : Basis) : Type 0 where
+  pub lists_are : AreLists files sources.codes_file basis.lists
+  pub terms_are : AreTerms files sources.extension_file basis.terms
+
+-- ---- what an invoice is written as, and what bytes are read as, by these
+
+abbrev pub text_of_invoice : Syntax → Basis → List Entry → List ℕ
+text_of_invoice syntax basis es = text_by (rows_for basis.terms) syntax es
+
+abbrev pub IsCarriedBy : Syntax → Basis → List Entry → Type 0
+IsCarriedBy syntax basis es = IsCarriedIn (rows_for basis.terms) syntax es
+
+abbrev pub AreReadAs : List ℕ → Basis → Read → Type 0
+AreReadAs bytes basis read = AreReadBy (rows_for basis.terms) bytes basis.lists read
 
 -- The file is read as this invoice.
-abbrev pub IsReadAs : Files → List ℕ → Lists → Read → Type 0
-IsReadAs files file lists read = AreReadAs (bytes_under file files) lists read
+abbrev pub IsReadAs : Files → List ℕ → Basis → Read → Type 0
+IsReadAs files file basis read = AreReadAs (bytes_under file files) basis read
 
--- A file holds the text, and the lists are these.
-pub record Holds (files : Files) (file text : List ℕ) (codes_file : Option (List ℕ)) (lists : Lists) : Type 0 where
+-- A file holds the text, and the files beside it give this.
+pub record Holds (files : Files) (file text : List ℕ) (sources : Sources) (basis : Basis) : Type 0 where
   pub same : bytes_under file files ≡ text
-  pub lists_are : AreLists files codes_file lists
+  pub basis_is : IsBasis files sources basis
 
 -- ---- what converting answers
 
 -- The text of the invoice in the syntax is XML of exactly the tree of its document there, and is read as exactly its entries, with nothing passed over.
-pub record IsDocumentText (syntax : Syntax) (lists : Lists) (es : List Entry) : Type 0 where
-  pub tree : IsXml document_limits (text_in syntax es) (tree_in syntax es)
-  pub read : AreReadAs (text_in syntax es) lists (exactly es)
+pub record IsDocumentText (syntax : Syntax) (basis : Basis) (es : List Entry) : Type 0 where
+  pub tree : IsXml document_limits (text_of_invoice syntax basis es) (tree_by (rows_for basis.terms) syntax es)
+  pub read : AreReadAs (text_of_invoice syntax basis es) basis (exactly es)
 
 -- The answer is the text of an invoice that was read, which the syntax carries.
-pub record IsConversion (syntax : Syntax) (lists : Lists) (read : Read) (answer : Answer) : Type 0 where
-  pub carried : IsCarriedBy syntax read.entries
-  pub answer_is : answer ≡ done (text_in syntax read.entries)
-  pub text : IsDocumentText syntax lists read.entries
+pub record IsConversion (syntax : Syntax) (basis : Basis) (read : Read) (answer : Answer) : Type 0 where
+  pub carried : IsCarriedBy syntax basis read.entries
+  pub answer_is : answer ≡ done (text_of_invoice syntax basis read.entries)
+  pub text : IsDocumentText syntax basis read.entries
 
--- The lists were accepted, the file was read by them as an invoice, and the answer is its text.
-pub record IsConverted (files : Files) (syntax : Syntax) (codes_file : Option (List ℕ)) (file : List ℕ) (answer : Answer) : Type 0 where
-  pub lists : Lists
-  pub lists_are : AreLists files codes_file lists
+-- The files beside the document were accepted, it was read by them as an invoice, and the answer is its text.
+pub record IsConverted (files : Files) (syntax : Syntax) (sources : Sources) (file : List ℕ) (answer : Answer) : Type 0 where
+  pub basis : Basis
+  pub basis_is : IsBasis files sources basis
   pub read : Read
-  pub read_as : IsReadAs files file lists read
-  pub gives : IsConversion syntax lists read answer
+  pub read_as : IsReadAs files file basis read
+  pub gives : IsConversion syntax basis read answer
 
 -- The lists are those of some content of the file, which is its own where the files are told, or the built-in ones.
 abbrev pub AreAccepted : Option Files → Option (List ℕ) → Lists → Type 0
 AreAccepted held None lists = lists ≡ built_in_lists
 AreAccepted held (Some name) lists = AreListed held name lists
 
+-- The terms are those of some content of the file, likewise, and each of the three tables is well formed with them.
+pub record AreAdded (held : Option Files) (name : List ℕ) (terms : List ExtTerm) : Type 0 where
+  pub content : List ℕ
+  pub of_file : IsContentOf held name content
+  pub within : is_within list_limit content ≡ true
+  pub are : file_terms content ≡ Ok terms
+  pub good : judged (rows_for terms) ≡ Ok tt
+
+abbrev pub AreAddedOrNone : Option Files → Option (List ℕ) → List ExtTerm → Type 0
+AreAddedOrNone held None terms = terms ≡ []
+AreAddedOrNone held (Some name) terms = AreAdded held name terms
+
 -- The same of some content of each file, which is its own where the files are told.
-pub record IsConvertedThere (held : Option Files) (syntax : Syntax) (codes_file : Option (List ℕ)) (file : List ℕ) (answer : Answer) : Type 0 where
-  pub lists : Lists
-  pub accepted : AreAccepted held codes_file lists
+pub record IsConvertedThere (held : Option Files) (syntax : Syntax) (sources : Sources) (file : List ℕ) (answer : Answer) : Type 0 where
+  pub basis : Basis
+  pub lists_are : AreAccepted held sources.codes_file basis.lists
+  pub terms_are : AreAddedOrNone held sources.extension_file basis.terms
   pub content : List ℕ
   pub of_file : IsContentOf held file content
   pub read : Read
-  pub read_as : AreReadAs content lists read
-  pub gives : IsConversion syntax lists read answer
+  pub read_as : AreReadAs content basis read
+  pub gives : IsConversion syntax basis read answer

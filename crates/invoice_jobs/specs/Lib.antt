@@ -1,3 +1,4 @@
+pub mod Sources
 pub mod Invoices
 pub mod Conversions
 pub mod Totals

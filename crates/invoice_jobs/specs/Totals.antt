@@ -1,13 +1,13 @@
 -- What is answered to the job that compares an invoice's totals.
-use Rattle.std.specs.Prelude.{ℕ, Bool, true, false, List, [], Option}
-use Rattle.bind_meaning.specs.Terms.{Read}
+use Rattle.std.specs.Prelude.{ℕ, Bool, true, false, List, []}
 use Rattle.inv_totals.specs.declared.found.Difference.{Difference}
 use Rattle.inv_totals.specs.Totals.{differences, is_nothing}
 use Rattle.inv_totals.specs.Lines.{differences_text}
 use Rattle.job_course.specs.declared.status.Status.{Status}
 use Rattle.job_course.specs.declared.status.Status.TheVariants as statuses
 use Rattle.job_course.specs.Course.{Course, ends}
-use Rattle.invoice_jobs.specs.Invoices.{read_course}
+use Rattle.invoice_jobs.specs.Sources.{Sources}
+use Rattle.invoice_jobs.specs.Invoices.{Given, read_course}
 
 -- Findings, exactly where there is a difference
 abbrev pub status_by : Bool → Status
@@ -18,8 +18,8 @@ status_by false = statuses.Findings
 abbrev pub totalled : List Difference → Course
 totalled found = ends (record { status = status_by (is_nothing found); out = differences_text found; err = [] })
 
-abbrev pub compared : Read → Course
-compared read = totalled (differences read.entries)
+abbrev pub compared : Given → Course
+compared given = totalled (differences given.read.entries)
 
-abbrev pub totals_course : Option (List ℕ) → List ℕ → Course
-totals_course codes_file file = read_course codes_file file compared
+abbrev pub totals_course : Sources → List ℕ → Course
+totals_course sources file = read_course sources file compared

@@ -1,12 +1,13 @@
 //! The job that compares the totals of an invoice with what its other values make of them.
-ghost use Rattle.std.specs.Prelude.{◌≡◌, option_map};
+ghost use Rattle.std.specs.Prelude.{◌≡◌};
 ghost use Rattle.inv_base.specs.Outside.{ShelfView, SinkView};
 ghost use Rattle.inv_totals.specs.Totals as totals;
 ghost use Rattle.job_course.specs.Runs.{Runs};
-ghost use Rattle.job_course.specs.Views.{text_of};
+ghost use Rattle.invoice_jobs.specs.Sources.{sources_of};
 ghost use Rattle.invoice_jobs.specs.Totals.{status_by, totalled, totals_course};
 
 use crate::invoices::load;
+use crate::sources::Sources;
 use inv_base::{Shelf, Sink};
 use inv_terms::Invoice;
 use inv_totals::{Differences, differences, write_differences};
@@ -16,17 +17,17 @@ use std::alloc::Global;
 /// Lists each total of an invoice that isn't what its other values make of it, and how many they are.
 pub fn totals<S: Shelf, O: Sink, E: Sink>(
     alloc: Global,
-    codes_file: Option<&str>,
+    sources: &Sources<'_>,
     file: &str,
     shelf: &mut S,
     out: &mut O,
     err: &mut E,
 ) -> Status
-    ensures { Runs (totals_course (option_map text_of codes_file.entry) file.now)
+    ensures { Runs (totals_course (sources_of sources.now) file.now)
         (record { shelf = S.view shelf.old; out = O.view out.old; err = E.view err.old })
         (record { shelf = S.view shelf.new; out = O.view out.new; err = E.view err.new }) result }
 {
-    match load(alloc, codes_file, file, shelf, err) {
+    match load(alloc, sources, file, shelf, err) {
         Ok(loaded) => write_totals(alloc, &loaded.read.invoice, out),
         Err(status) => status,
     }

@@ -1,60 +1,38 @@
 //! Jobs that read an invoice.
-ghost use Rattle.std.specs.Prelude.{◌≢◌, ◌<◌, length, option_map, IfOk, IfErr};
+ghost use Rattle.std.specs.Prelude.{◌≢◌, ◌<◌, length, IfOk, IfErr};
 ghost use Rattle.bind_meaning.specs.declared.fault.BindKind.TheVariants as kinds;
 ghost use Rattle.inv_base.specs.Outside.{ShelfView};
-ghost use Rattle.bind_run.specs.Reading.{AreTables};
+ghost use Rattle.bind_run.specs.Extensions.{AreGood};
+ghost use Rattle.bind_run.specs.Reading.{AreTablesFor};
 ghost use Rattle.job_course.specs.Runs.{Runs, Continues, Fails};
-ghost use Rattle.job_course.specs.Views.{text_of};
-ghost use Rattle.invoice_jobs.specs.Invoices.{read_of, IsInvoiceRefusal, listed_course, invoice_course, read_course, show_course, converted, convert_course, extracted, extract_course};
+ghost use Rattle.invoice_jobs.specs.Sources.{basis_of, sources_of};
+ghost use Rattle.invoice_jobs.specs.Invoices.{read_of, given_of, IsInvoiceRefusal, invoice_course, read_course, show_course, converted, convert_course, extracted, extract_course};
 
 use crate::refusals::{tell_attach_fault, tell_condition, tell_invoice_fault};
-use bind_run::{
-    BindFault, BindKind, ReadInvoice, Syntax, Tables, carries, read_document, tables_are_laid,
-    target, write,
-};
+use crate::sources::{Basis, NO_SOURCES, Sources, load_basis};
+use bind_run::{BindFault, BindKind, ReadInvoice, Syntax, carries, read_document, target, write};
 use bumpalo::Bump;
-use code_lists::CodeLists;
+use extension_laws::extended_tables_are_laid;
 use inv_base::{Shelf, Sink};
 use inv_listing::print_listing;
 use inv_terms::{AttachFault, attachment};
-use job_course::{Status, load_document, take_lists};
+use job_course::{Status, load_document};
 use node_arena::Doc;
 use std::alloc::Global;
-
-/// The code lists of a file, or the built-in ones where none is named; or the status with which the job ends.
-fn load_lists<S: Shelf, E: Sink>(
-    alloc: Global,
-    codes_file: Option<&str>,
-    shelf: &mut S,
-    err: &mut E,
-) -> Result<CodeLists, Status>
-    ensures goes_on { IfOk result (λ lists. Continues (listed_course (option_map text_of codes_file.entry)) lists
-        (S.view shelf.old) (S.view shelf.new) (E.view err.old) (E.view err.new)) }
-    ensures fails { IfErr result (λ status. Fails (listed_course (option_map text_of codes_file.entry)) status
-        (S.view shelf.old) (S.view shelf.new) (E.view err.old) (E.view err.new)) }
-{
-    match codes_file {
-        Some(file) => take_lists(alloc, shelf, file, err),
-        None => match CodeLists::built_in(alloc) {
-            Ok(lists) => Ok(lists),
-            Err(_) => Err(Status::Memory),
-        },
-    }
-}
 
 /// The invoice of a file, or the status with which the job ends.
 fn load_invoice<S: Shelf, E: Sink>(
     alloc: Global,
-    tables: &Tables,
-    lists: &CodeLists,
+    basis: &Basis,
     file: &str,
     shelf: &mut S,
     err: &mut E,
 ) -> Result<ReadInvoice, Status>
-    requires { AreTables tables.now }
-    ensures goes_on { IfOk result (λ read. Continues (invoice_course file.now lists.now) (read_of read)
+    requires tables { AreTablesFor basis.now.extension basis.now.tables }
+    requires good { AreGood basis.now.extension }
+    ensures goes_on { IfOk result (λ read. Continues (invoice_course file.now (basis_of basis.now)) (read_of read)
         (S.view shelf.old) (S.view shelf.new) (E.view err.old) (E.view err.new)) }
-    ensures fails { IfErr result (λ status. Fails (invoice_course file.now lists.now) status
+    ensures fails { IfErr result (λ status. Fails (invoice_course file.now (basis_of basis.now)) status
         (S.view shelf.old) (S.view shelf.new) (E.view err.old) (E.view err.new)) }
 {
     let bump = Bump::new(alloc);
@@ -62,7 +40,7 @@ fn load_invoice<S: Shelf, E: Sink>(
         Ok(doc) => doc,
         Err(status) => return Err(status),
     };
-    match read_document(alloc, &doc, tables, lists) {
+    match read_document(alloc, &doc, &basis.tables, &basis.lists) {
         Ok(read) => Ok(read),
         Err(fault) => Err(refuse_invoice(&doc, file, &fault, err)),
     }
@@ -82,63 +60,63 @@ fn refuse_invoice<E: Sink>(doc: &Doc<'_>, file: &str, fault: &BindFault, err: &m
     }
 }
 
-/// What a job works on: the tables and an invoice.
+/// What a job works on: what an invoice is read and written by, and the invoice.
 pub(crate) struct Loaded {
-    pub(crate) tables: Tables,
+    pub(crate) basis: Basis,
     pub(crate) read: ReadInvoice,
 }
 
 impl Drop for Loaded {
     fn drop(self) {
-        let Loaded { tables, read } = self;
-        drop(tables);
+        let Loaded { basis, read } = self;
+        drop(basis);
         drop(read);
     }
 }
 
-/// The invoice of a file by the code lists of another, or by the built-in ones; or the status with which the job ends. The tables are
-/// there before the document is opened.
+/// The invoice of a file, by what the files beside it give; or the status with which the job ends. The tables are there before
+/// the document is opened.
 pub(crate) fn load<S: Shelf, E: Sink>(
     alloc: Global,
-    codes_file: Option<&str>,
+    sources: &Sources<'_>,
     file: &str,
     shelf: &mut S,
     err: &mut E,
 ) -> Result<Loaded, Status>
-    ensures tables { IfOk result (λ loaded. AreTables loaded.tables) }
-    ensures goes_on { IfOk result (λ loaded. Continues (read_course (option_map text_of codes_file.entry) file.now) (read_of loaded.read)
+    ensures tables { IfOk result (λ loaded. AreTablesFor loaded.basis.extension loaded.basis.tables) }
+    ensures good { IfOk result (λ loaded. AreGood loaded.basis.extension) }
+    ensures goes_on { IfOk result (λ loaded. Continues (read_course (sources_of sources.now) file.now) (given_of loaded)
         (S.view shelf.old) (S.view shelf.new) (E.view err.old) (E.view err.new)) }
-    ensures fails { IfErr result (λ status. Fails (read_course (option_map text_of codes_file.entry) file.now) status
+    ensures fails { IfErr result (λ status. Fails (read_course (sources_of sources.now) file.now) status
         (S.view shelf.old) (S.view shelf.new) (E.view err.old) (E.view err.new)) }
 {
-    let lists = match load_lists(alloc, codes_file, shelf, err) {
-        Ok(lists) => lists,
+    let basis = match load_basis(alloc, sources, shelf, err) {
+        Ok(basis) => basis,
         Err(status) => return Err(status),
     };
-    let tables = match Tables::built_in(alloc) {
-        Ok(tables) => tables,
-        Err(_) => return Err(Status::Memory),
-    };
-    match load_invoice(alloc, &tables, &lists, file, shelf, err) {
-        Ok(read) => Ok(Loaded { tables, read }),
-        Err(status) => Err(status),
+    match load_invoice(alloc, &basis, file, shelf, err) {
+        Ok(read) => Ok(Loaded { basis, read }),
+        Err(status) => {
+            drop(basis);
+            Err(status)
+        }
     }
 }
 
 /// Lists the terms of an invoice.
 pub fn show<S: Shelf, O: Sink, E: Sink>(
     alloc: Global,
-    codes_file: Option<&str>,
+    sources: &Sources<'_>,
     file: &str,
     shelf: &mut S,
     out: &mut O,
     err: &mut E,
 ) -> Status
-    ensures { Runs (show_course (option_map text_of codes_file.entry) file.now)
+    ensures { Runs (show_course (sources_of sources.now) file.now)
         (record { shelf = S.view shelf.old; out = O.view out.old; err = E.view err.old })
         (record { shelf = S.view shelf.new; out = O.view out.new; err = E.view err.new }) result }
 {
-    let loaded = match load(alloc, codes_file, file, shelf, err) {
+    let loaded = match load(alloc, sources, file, shelf, err) {
         Ok(loaded) => loaded,
         Err(status) => return status,
     };
@@ -153,17 +131,17 @@ pub fn show<S: Shelf, O: Sink, E: Sink>(
 pub fn convert<S: Shelf, O: Sink, E: Sink>(
     alloc: Global,
     syntax: Syntax,
-    codes_file: Option<&str>,
+    sources: &Sources<'_>,
     file: &str,
     shelf: &mut S,
     out: &mut O,
     err: &mut E,
 ) -> Status
-    ensures { Runs (convert_course syntax (option_map text_of codes_file.entry) file.now)
+    ensures { Runs (convert_course syntax (sources_of sources.now) file.now)
         (record { shelf = S.view shelf.old; out = O.view out.old; err = E.view err.old })
         (record { shelf = S.view shelf.new; out = O.view out.new; err = E.view err.new }) result }
 {
-    match load(alloc, codes_file, file, shelf, err) {
+    match load(alloc, sources, file, shelf, err) {
         Ok(loaded) => write_converted(&loaded, syntax, out, err),
         Err(status) => status,
     }
@@ -176,14 +154,15 @@ fn write_converted<O: Sink, E: Sink>(
     out: &mut O,
     err: &mut E,
 ) -> Status
-    requires { AreTables loaded.now.tables }
-    ensures { (shelf : ShelfView) → Runs (converted syntax (read_of loaded.now.read))
+    requires tables { AreTablesFor loaded.now.basis.extension loaded.now.basis.tables }
+    requires good { AreGood loaded.now.basis.extension }
+    ensures { (shelf : ShelfView) → Runs (converted syntax (given_of loaded.now))
         (record { shelf = shelf; out = O.view out.old; err = E.view err.old })
         (record { shelf = shelf; out = O.view out.new; err = E.view err.new }) result }
 {
-    tables_are_laid();
+    extended_tables_are_laid();
     let invoice = &loaded.read.invoice;
-    let table = loaded.tables.table(target(invoice, syntax));
+    let table = loaded.basis.tables.table(target(invoice, syntax));
     match carries(invoice, table) {
         Ok(()) => {}
         Err(fault) => {
@@ -210,7 +189,7 @@ pub fn extract<S: Shelf, O: Sink, E: Sink>(
         (record { shelf = S.view shelf.old; out = O.view out.old; err = E.view err.old })
         (record { shelf = S.view shelf.new; out = O.view out.new; err = E.view err.new }) result }
 {
-    match load(alloc, None, file, shelf, err) {
+    match load(alloc, &NO_SOURCES, file, shelf, err) {
         Ok(loaded) => write_attachment(alloc, &loaded.read, number, out, err),
         Err(status) => status,
     }

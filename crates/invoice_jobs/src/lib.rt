@@ -6,10 +6,12 @@ mod comparison;
 mod conversions;
 mod invoices;
 mod refusals;
+mod sources;
 
 pub use comparison::totals;
 pub use conversions::{
-    carried_texts_are_read_exactly, converted_texts_are_documents, done_conversions_are_documents,
-    read_files_are_valid_invoices,
+    accepted_terms_are_good, carried_texts_are_read_exactly, converted_texts_are_documents,
+    done_conversions_are_documents, read_files_are_valid_invoices,
 };
 pub use invoices::{convert, extract, show};
+pub use sources::{NO_SOURCES, Sources};

@@ -2,9 +2,12 @@
 ghost use Rattle.std.specs.Prelude.{◌≡◌, ◌<◌, length};
 ghost use Rattle.inv_base.specs.Printing.{Prints};
 ghost use Rattle.job_course.specs.Outside.{TakesOrFails};
-ghost use Rattle.invoice_jobs.specs.Invoices.{invoice_line, bind_kind_text, condition_line, condition_term, attachment_line, attach_fault_text};
+ghost use Rattle.invoice_jobs.specs.Sources.{term_or_dash, extension_line, extension_fault_text, bad_row_line, table_kind_text};
+ghost use Rattle.invoice_jobs.specs.Invoices.{invoice_line, bind_kind_text, condition_line, attachment_line, attach_fault_text};
 
-use bind_run::{BindFault, BindKind, NotCarried};
+use bind_run::{BadRow, BindFault, BindKind, NotCarried};
+use bind_table::TableKind;
+use extension_files::ExtFault;
 use inv_base::{Printer, Sink};
 use inv_listing::{print_name, print_term};
 use inv_terms::AttachFault;
@@ -55,12 +58,12 @@ pub(crate) fn tell_condition<E: Sink>(fault: &NotCarried, err: &mut E)
     printer.put(err, b"einv: condition ");
     printer.put(err, digits.format(fault.condition).as_bytes());
     printer.put(err, b" ");
-    print_condition_term(fault.term, &mut printer, err);
+    print_term_or_dash(fault.term, &mut printer, err);
     printer.put(err, b"\n");
 }
 
-fn print_condition_term<E: Sink>(term: Option<Term>, printer: &mut Printer, err: &mut E)
-    ensures { Prints (condition_term term) printer.old.failed printer.new.failed (E.view err.old) (E.view err.new) }
+fn print_term_or_dash<E: Sink>(term: Option<Term>, printer: &mut Printer, err: &mut E)
+    ensures { Prints (term_or_dash term) printer.old.failed printer.new.failed (E.view err.old) (E.view err.new) }
 {
     match term {
         None => printer.put(err, b"-"),
@@ -89,5 +92,59 @@ fn attach_fault_name(fault: &AttachFault) -> &'static str
         AttachFault::NotBase64 => "NotBase64",
         AttachFault::WriteFault => "WriteFault",
         AttachFault::Memory => "Memory",
+    }
+}
+
+/// Tells why a file is none of extension terms.
+pub(crate) fn tell_extension_fault<E: Sink>(file: &str, fault: &ExtFault, err: &mut E)
+    ensures { TakesOrFails (extension_line file.now fault.now) (E.view err.old) (E.view err.new) }
+{
+    let mut printer = Printer::new();
+    printer.put(err, b"einv: ");
+    printer.put(err, file.as_bytes());
+    printer.put(err, b": ");
+    print_extension_fault(fault, &mut printer, err);
+    printer.put(err, b"\n");
+}
+
+/// Prints a fault of extension terms, with the key or the place at which it stands.
+fn print_extension_fault<E: Sink>(fault: &ExtFault, printer: &mut Printer, err: &mut E)
+    ensures { Prints (extension_fault_text fault.now) printer.old.failed printer.new.failed (E.view err.old) (E.view err.new) }
+{
+    match fault {
+        ExtFault::NotToml => printer.put(err, b"NotToml"),
+        ExtFault::NotAnExtension(key) => {
+            printer.put(err, b"NotAnExtension ");
+            printer.put(err, key.as_str().as_bytes());
+        }
+        ExtFault::BadTerm(place) => {
+            let mut digits = Buffer::new();
+            printer.put(err, b"BadTerm ");
+            printer.put(err, digits.format(*place).as_bytes());
+        }
+        ExtFault::Memory => printer.put(err, b"Memory"),
+    }
+}
+
+/// Tells what is wrong with a table that the terms of a file extend, and at which term.
+pub(crate) fn tell_bad_row<E: Sink>(file: &str, bad: &BadRow, err: &mut E)
+    ensures { TakesOrFails (bad_row_line file.now bad.now) (E.view err.old) (E.view err.new) }
+{
+    let mut printer = Printer::new();
+    printer.put(err, b"einv: ");
+    printer.put(err, file.as_bytes());
+    printer.put(err, b": ");
+    printer.put(err, table_kind_name(bad.kind).as_bytes());
+    print_term_or_dash(bad.term, &mut printer, err);
+    printer.put(err, b"\n");
+}
+
+fn table_kind_name(kind: TableKind) -> &'static str
+    ensures { result.now ≡ table_kind_text kind }
+{
+    match kind {
+        TableKind::Ambiguous => "Ambiguous ",
+        TableKind::UnknownTerm => "UnknownTerm ",
+        TableKind::OutsideContext => "OutsideContext ",
     }
 }

@@ -22,10 +22,10 @@ use Rattle.xml_document.specs.Loading as documents
 use Rattle.xml_document.specs.Whole.{IsReadWhole, IsTooLong}
 use Rattle.job_course.specs.declared.status.Status.{Status}
 use Rattle.job_course.specs.declared.status.Status.TheVariants as statuses
-use Rattle.job_course.specs.Course.{Answer, Course, ends, loads, Stop, at_fault, past_limit, refusal, by_result, by_test, by_lists, is_within, document_limits, list_limit, document_course, lists_course, readings, stopped_at}
+use Rattle.job_course.specs.Course.{Answer, Course, ends, loads, Stop, at_fault, past_limit, refusal, by_result, by_test, by_lists, is_within, document_limits, list_limit, document_course, taken_course, lists_course, readings, stopped_at}
 use Rattle.job_course.specs.Lines.{read_fault_line, document_line, list_line, too_long_line}
 use Rattle.job_course.specs.Outside.{Outside, HasRead, HasOpened, TakesOrFails, IsRefusedAnswer}
-use Rattle.job_course.specs.Runs.{IsContentOf, AreListed, at_end, refused_at, too_long_at, a_load, a_taking, StopsThere, Runs, IsListRefusal}
+use Rattle.job_course.specs.Runs.{IsContentOf, AreListed, at_end, refused_at, too_long_at, a_load, a_taking, StopsThere, Runs, Continues, IsListRefusal}
 use Rattle.job_course.proofs.Joins.{behind_a_taking, run_behind}
 
 -- A first fault is why the bytes are no document.
@@ -120,9 +120,9 @@ module _ (name : List ℕ) (shelf shelf' : ShelfView) (out err err' : SinkView) 
   pub memory_in : (course : Course) → ((files : Files) → 1 ≤ readings course files) → HasRead 1 shelf shelf' → err' ≡ err → Runs course before after statuses.Memory
   memory_in course some read quiet = memory_inside course some (record { held = read.held; opens = read.opens; rises = omega (arith, read.faults) }) quiet
 
-  pub unread_lists : {T : Type 0} (next : Lists → Course) → ReadsFrom {T = T} (Err whole_faults.Read) whole_faults.Read shelf shelf'
-      → TakesOrFails (read_fault_line name) err err' → Runs (lists_course name next) before after statuses.ReadFault
-  unread_lists next reads takes = inr (inl (record {
+  pub unread_file : {T : Type 0} → ReadsFrom {T = T} (Err whole_faults.Read) whole_faults.Read shelf shelf'
+      → TakesOrFails (read_fault_line name) err err' → (next : List ℕ → Course) → Runs (taken_course name next) before after statuses.ReadFault
+  unread_file reads takes next = inr (inl (record {
     count = 1;
     file = name;
     reads_at = a_taking;
@@ -162,9 +162,9 @@ module _ (name : List ℕ) (shelf shelf' : ShelfView) (out err err' : SinkView) 
       let stop_is : past_limit list_limit name ≡ stop = cc in
       subst (λ (s : Stop). StopsThere s files shelf'.left) stop_is (subst (λ held. IsTooLong list_limit (option_map (bytes_under name) held) shelf'.left) is found)
 
-  pub long_lists : (next : Lists → Course) → HasRead 1 shelf shelf' → IsTooLong list_limit (option_map (bytes_under name) shelf.held) shelf'.left
-      → TakesOrFails (too_long_line name) err err' → Runs (lists_course name next) before after statuses.RulesRefused
-  long_lists next read found takes =
+  pub long_file : HasRead 1 shelf shelf' → IsTooLong list_limit (option_map (bytes_under name) shelf.held) shelf'.left
+      → TakesOrFails (too_long_line name) err err' → (next : List ℕ → Course) → Runs (taken_course name next) before after statuses.RulesRefused
+  long_file read found takes next =
       let long = long_content shelf.held refl found in
       inl (record {
         count = 1;
@@ -178,7 +178,7 @@ module _ (name : List ℕ) (shelf shelf' : ShelfView) (out err err' : SinkView) 
         line = takes;
         stops = λ files is stop stopped. let not_within = ap (is_within list_limit) (sym (long.of_it files is)) ∙ long.long in
             long_stops files stop found is
-            (sym (ap (by_test (Some (past_limit list_limit name)) (stopped_at (by_lists name next (file_lists (bytes_under name files))) files)) not_within) ∙ stopped);
+            (sym (ap (by_test (Some (past_limit list_limit name)) (stopped_at (next (bytes_under name files)) files)) not_within) ∙ stopped);
       })
 
 -- A refusal that ends a course, whatever was read before.
@@ -197,17 +197,15 @@ refused_here status line shelf out err err' refuses takes = inl (record {
 })
 
 module _ (name : List ℕ) (shelf shelf' : ShelfView) (out err err' : SinkView) where
-  -- the lists of a file are refused behind the reading of it
-  refused_lists : (next : Lists → Course) (bytes : List ℕ) (fault : ListFault) → HasRead 1 shelf shelf'
-      → IsReadWhole list_limit (option_map (bytes_under name) shelf.held) bytes → file_lists bytes ≡ Err fault → TakesOrFails (list_line name fault) err err'
-      → Runs (lists_course name next) (record { shelf = shelf; out = out; err = err }) (record { shelf = shelf'; out = out; err = err' }) statuses.RulesRefused
-  refused_lists next bytes fault read found fails takes =
-      let refused = refused_here statuses.RulesRefused (list_line name fault) shelf' out err err' tt takes in
-      let next_is : by_lists name next (file_lists bytes) ≡ ends (refusal statuses.RulesRefused (list_line name fault)) = ap (by_lists name next) fails in
-      run_behind (lists_course name next) (by_lists name next (file_lists bytes)) shelf shelf' shelf' out out err err err' statuses.RulesRefused
-      (behind_a_taking shelf.held list_limit name (refusal statuses.RulesRefused (too_long_line name)) (λ bytes. by_lists name next (file_lists bytes)) bytes
-      (of_file name bytes shelf.held found.whole) (is_short bytes found.within)) read refl
-      (subst (λ course. Runs course (record { shelf = shelf'; out = out; err = err }) (record { shelf = shelf'; out = out; err = err' }) statuses.RulesRefused) (sym next_is) refused)
+  -- what follows behind the bytes of a file
+  behind_bytes : (mid : ShelfView) (mid_err : SinkView) → HasRead 1 shelf mid → mid_err ≡ err → (bytes : List ℕ) → IsReadWhole list_limit (option_map (bytes_under name) shelf.held) bytes
+      → (next : List ℕ → Course) (out' : SinkView) (status : Status)
+      → Runs (next bytes) (record { shelf = mid; out = out; err = mid_err }) (record { shelf = shelf'; out = out'; err = err' }) status
+      → Runs (taken_course name next) (record { shelf = shelf; out = out; err = err }) (record { shelf = shelf'; out = out'; err = err' }) status
+  behind_bytes mid mid_err read quiet bytes found next out' status further =
+      run_behind (taken_course name next) (next bytes) shelf mid shelf' out out' err mid_err err' status
+      (behind_a_taking shelf.held list_limit name (refusal statuses.RulesRefused (too_long_line name)) next bytes (of_file name bytes shelf.held found.whole) (is_short bytes found.within))
+      read quiet further
 
   pub are_listed : (bytes : List ℕ) (lists : Lists) → IsReadWhole list_limit (option_map (bytes_under name) shelf.held) bytes → file_lists bytes ≡ Ok lists
       → AreListed shelf.held name lists
@@ -218,15 +216,30 @@ module _ (name : List ℕ) (shelf shelf' : ShelfView) (out err err' : SinkView) 
     are = are;
   }
 
-  pub lists_failed : (next : Lists → Course) (bytes : List ℕ) (fault : ListFault) (status : Status) → HasRead 1 shelf shelf'
-      → IsReadWhole list_limit (option_map (bytes_under name) shelf.held) bytes → (fault ≢ list_faults.Memory → file_lists bytes ≡ Err fault)
-      → IsListRefusal fault name status err err'
+-- Whatever follows by the bytes of a file, behind the reading of it.
+pub taken_goes_on : (name : List ℕ) (shelf mid : ShelfView) (err mid_err : SinkView) → HasRead 1 shelf mid → mid_err ≡ err → (bytes : List ℕ)
+    → IsReadWhole list_limit (option_map (bytes_under name) shelf.held) bytes → Continues (taken_course name) bytes shelf mid err mid_err
+taken_goes_on name shelf mid err mid_err read quiet bytes found = λ next shelf' out out' err' status further.
+    behind_bytes name shelf shelf' out err err' mid mid_err read quiet bytes found next out' status further
+
+module _ (name : List ℕ) (shelf shelf' : ShelfView) (out err mid_err err' : SinkView) (bytes : List ℕ) (goes_on : Continues (taken_course name) bytes shelf shelf' err mid_err) where
+  -- the lists of a file are refused behind the reading of it
+  refused_lists : (next : Lists → Course) (fault : ListFault) → file_lists bytes ≡ Err fault → TakesOrFails (list_line name fault) mid_err err'
+      → Runs (lists_course name next) (record { shelf = shelf; out = out; err = err }) (record { shelf = shelf'; out = out; err = err' }) statuses.RulesRefused
+  refused_lists next fault fails takes =
+      let refused = refused_here statuses.RulesRefused (list_line name fault) shelf' out mid_err err' tt takes in
+      let next_is : by_lists name next (file_lists bytes) ≡ ends (refusal statuses.RulesRefused (list_line name fault)) = ap (by_lists name next) fails in
+      goes_on (λ bytes. by_lists name next (file_lists bytes)) shelf' out out err' statuses.RulesRefused
+      (subst (λ course. Runs course (record { shelf = shelf'; out = out; err = mid_err }) (record { shelf = shelf'; out = out; err = err' }) statuses.RulesRefused) (sym next_is) refused)
+
+  pub lists_failed : (next : Lists → Course) (fault : ListFault) (status : Status) → HasRead 1 shelf shelf' → mid_err ≡ err
+      → (fault ≢ list_faults.Memory → file_lists bytes ≡ Err fault) → IsListRefusal fault name status mid_err err'
       → Runs (lists_course name next) (record { shelf = shelf; out = out; err = err }) (record { shelf = shelf'; out = out; err = err' }) status
-  lists_failed next bytes list_faults.Memory status read found fails refusal =
-      rw refusal.0 (memory_in name shelf shelf' out err err' (lists_course name next) (λ files. omega arith) read refusal.1)
-  lists_failed next bytes list_faults.NotToml status read found fails refusal =
-      rw refusal.0 (refused_lists next bytes list_faults.NotToml read found (fails (λ e. cc)) refusal.1)
-  lists_failed next bytes (list_faults.NotALists key) status read found fails refusal =
-      rw refusal.0 (refused_lists next bytes (list_faults.NotALists key) read found (fails (λ e. cc)) refusal.1)
-  lists_failed next bytes (list_faults.BadCode key) status read found fails refusal =
-      rw refusal.0 (refused_lists next bytes (list_faults.BadCode key) read found (fails (λ e. cc)) refusal.1)
+  lists_failed next list_faults.Memory status read quiet fails refusal =
+      rw refusal.0 (memory_in name shelf shelf' out err err' (lists_course name next) (λ files. omega arith) read (refusal.1 ∙ quiet))
+  lists_failed next list_faults.NotToml status read quiet fails refusal =
+      rw refusal.0 (refused_lists next list_faults.NotToml (fails (λ e. cc)) refusal.1)
+  lists_failed next (list_faults.NotALists key) status read quiet fails refusal =
+      rw refusal.0 (refused_lists next (list_faults.NotALists key) (fails (λ e. cc)) refusal.1)
+  lists_failed next (list_faults.BadCode key) status read quiet fails refusal =
+      rw refusal.0 (refused_lists next (list_faults.BadCode key) (fails (λ e. cc)) refusal.1)

@@ -4,7 +4,8 @@ use Rattle.inv_base.specs.Counts.{next_count, Rose}
 use Rattle.inv_base.specs.Files.{Files, bytes_under}
 use Rattle.inv_base.specs.Outside.{ShelfView, SinkView, WhereTold}
 use Rattle.xml_state.specs.declared.fault.XmlFault.{XmlFault}
-use Rattle.rule_library.specs.Readings.{State, Fault, Readings, gives, reads, rule_limits}
+use Rattle.xml_state.specs.Sizes.{rule_limits}
+use Rattle.rule_library.specs.Readings.{State, Fault, Readings, gives, reads}
 use Rattle.rule_library.specs.Leads as walked
 use Rattle.rule_library.specs.Leads.{Leads, here, read, Reaches, Stops, told_under}
 use Rattle.rule_library.specs.Library.{Held, Loads}

@@ -87,10 +87,14 @@ list_limit = 4194304
 abbrev pub document_course : List ℕ → (profile.Document → Course) → Course
 document_course name next = loads document_limits name (λ fault. refusal statuses.DocumentRefused (document_line name fault)) (λ bytes found. next found)
 
+-- a file by its name that is taken whole, as large as a file of code lists may be, and what follows by its bytes
+abbrev pub taken_course : List ℕ → (List ℕ → Course) → Course
+taken_course name next = takes list_limit name (refusal statuses.RulesRefused (too_long_line name)) next
+
 -- what follows by the lists of a file, or its refusal
 abbrev pub by_lists : List ℕ → (Lists → Course) → Result Lists ListFault → Course
 by_lists name next found = by_result (λ fault. ends (refusal statuses.RulesRefused (list_line name fault))) next found
 
 -- a file of code lists by its name, and what follows by its lists
 abbrev pub lists_course : List ℕ → (Lists → Course) → Course
-lists_course name next = takes list_limit name (refusal statuses.RulesRefused (too_long_line name)) (λ bytes. by_lists name next (file_lists bytes))
+lists_course name next = taken_course name (λ bytes. by_lists name next (file_lists bytes))

@@ -2,7 +2,8 @@
 use Rattle.std.specs.Prelude.{◌≡◌, ℕ, Bool, true, false, List, encode_utf8_all, Option, Some, None, Result}
 use Rattle.inv_base.specs.Outside.{SinkView}
 use Rattle.inv_base.specs.declared.place.Place.{Place}
-use Rattle.rule_library.specs.Readings.{State, Fault, Readings, gives, reads, rule_limits}
+use Rattle.xml_state.specs.Sizes.{rule_limits}
+use Rattle.rule_library.specs.Readings.{State, Fault, Readings, gives, reads}
 use Rattle.rule_library.specs.Walk.{library}
 use Rattle.rule_library.specs.Library.{Held, held_of}
 use Rattle.rule_library.specs.declared.faults.LoadKind.{LoadKind}

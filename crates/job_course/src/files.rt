@@ -7,11 +7,12 @@ ghost use Rattle.inv_base.specs.Outside.{SinkView};
 ghost use Rattle.code_lists.specs.CodeFiles.{Lists};
 ghost use Rattle.xml_profile.specs.Profile as profile;
 ghost use Rattle.xml_document.specs.Loading.{IsLoaded};
-ghost use Rattle.job_course.specs.Course.{Course, document_limits, document_course, lists_course};
+ghost use Rattle.xml_document.specs.Whole.{IsReadWhole};
+ghost use Rattle.job_course.specs.Course.{Course, document_limits, list_limit, document_course, taken_course, lists_course};
 ghost use Rattle.job_course.specs.Lines.{list_line};
 ghost use Rattle.job_course.specs.Outside.{HasRead, TakesOrFails};
 ghost use Rattle.job_course.specs.declared.status.Status.TheVariants as statuses;
-ghost use Rattle.job_course.specs.Runs.{Runs, AreListed, IsListRefusal};
+ghost use Rattle.job_course.specs.Runs.{Runs, Continues, Fails, AreListed, IsListRefusal};
 
 use crate::status::Status;
 use crate::telling::{tell_document_fault, tell_list_fault, tell_read_fault, tell_too_long};
@@ -56,6 +57,36 @@ pub fn load_document<'a, S: Shelf, E: Sink>(
     }
 }
 
+/// The bytes of the file of that name, as large as a file of code lists may be, or the status with which the job ends.
+pub fn take_file<S: Shelf, E: Sink>(
+    alloc: Global,
+    shelf: &mut S,
+    name: &str,
+    err: &mut E,
+) -> Result<Vec<u8>, Status>
+    ensures taken { IfOk result (λ bytes. IsReadWhole list_limit (option_map (bytes_under name.now) (S.view shelf.old).held) bytes.items) }
+    ensures opens { (S.view shelf.new).opens ≡ next_count (S.view shelf.old).opens }
+    ensures read { OnOk result (HasRead 1 (S.view shelf.old) (S.view shelf.new)) }
+    ensures quiet { OnOk result (E.view err.new ≡ E.view err.old) }
+    ensures goes_on { IfOk result (λ bytes. Continues (taken_course name.now) bytes.items
+        (S.view shelf.old) (S.view shelf.new) (E.view err.old) (E.view err.new)) }
+    ensures fails { IfErr result (λ status. Fails (taken_course name.now) status
+        (S.view shelf.old) (S.view shelf.new) (E.view err.old) (E.view err.new)) }
+{
+    match read_whole(alloc, shelf, name, LIST_LIMIT) {
+        Ok(bytes) => Ok(bytes),
+        Err(WholeFault::Read) => {
+            tell_read_fault(name, err);
+            Err(Status::ReadFault)
+        }
+        Err(WholeFault::TooLong) => {
+            tell_too_long(name, err);
+            Err(Status::RulesRefused)
+        }
+        Err(WholeFault::Memory) => Err(Status::Memory),
+    }
+}
+
 /// The code lists of the file of that name, or the status with which the job ends.
 pub fn take_lists<S: Shelf, E: Sink>(
     alloc: Global,
@@ -71,21 +102,19 @@ pub fn take_lists<S: Shelf, E: Sink>(
         (record { shelf = S.view shelf.old; out = out; err = E.view err.old })
         (record { shelf = S.view shelf.new; out = out; err = E.view err.new }) status) }
 {
-    let bytes = match read_whole(alloc, shelf, name, LIST_LIMIT) {
+    let bytes = match take_file(alloc, shelf, name, err) {
         Ok(bytes) => bytes,
-        Err(WholeFault::Read) => {
-            tell_read_fault(name, err);
-            return Err(Status::ReadFault);
-        }
-        Err(WholeFault::TooLong) => {
-            tell_too_long(name, err);
-            return Err(Status::RulesRefused);
-        }
-        Err(WholeFault::Memory) => return Err(Status::Memory),
+        Err(status) => return Err(status),
     };
-    match CodeLists::from_toml(alloc, bytes.as_slice()) {
+    let found = CodeLists::from_toml(alloc, bytes.as_slice());
+    drop(bytes);
+    match found {
         Ok(lists) => Ok(lists),
-        Err(fault) => Err(refuse_lists(name, &fault, err)),
+        Err(fault) => {
+            let status = refuse_lists(name, &fault, err);
+            drop(fault);
+            Err(status)
+        }
     }
 }
 

@@ -7,7 +7,7 @@ mod libraries;
 mod status;
 mod telling;
 
-pub use files::{load_document, take_lists};
+pub use files::{load_document, take_file, take_lists};
 pub use libraries::load_library;
 pub use status::Status;
 pub use telling::{tell_bad_word, tell_document_fault, tell_read_fault};

@@ -209,18 +209,18 @@ fn has_fault_behind(
 }
 
 fn keeps_limit(alloc: Global, inside: &str) -> Result<bool, AllocError> {
-    let last = has_fault_behind(alloc, inside, "xxxxxxxxxxxxx", "Truncated at 16777216")?;
-    let more = has_fault_behind(alloc, inside, "xxxxxxxxxxxxxx", "TooLong at 16777216")?;
+    let last = has_fault_behind(alloc, inside, "x", "Truncated at 67108864")?;
+    let more = has_fault_behind(alloc, inside, "xx", "TooLong at 67108864")?;
     Ok(last & more)
 }
 
-/// As many bytes as a document may have, 3 and 16,777,200 and 13, and one more.
+/// As many bytes as a document may have, 3 and 67,108,860 and 1, and one more.
 #[test]
 fn the_limit_on_bytes_is_kept(rt: HostRuntime) -> Result<(), Fail> {
-    let inside = repeated(rt.alloc(), "xxxxxxxxxxxxxxxxxxxx", 838_860)?;
+    let inside = repeated(rt.alloc(), "xxxxxxxxxxxxxxxxxxxx", 3_355_443)?;
     let kept = keeps_limit(rt.alloc(), inside.as_str());
     drop(inside);
-    expect(kept?, "16777216")
+    expect(kept?, "67108864")
 }
 
 /// A document with a fault at its 3rd byte, told at its 7th, and much behind it. With so many bytes a read, no call

@@ -13,6 +13,18 @@ money = []
 ¶spaced
 [lists]
 currency = ["US D"]
+¶brand
+[[term]]
+number = 1
+place = "line"
+type = "T"
+ubl = "cac:Item/cbc:BrandName"
+¶named
+[[term]]
+number = 7
+place = "line"
+type = "T"
+cn = "cac:Item/cbc:Name"
 ¶first
 <a><b>x</b></a>
 ¶ill

@@ -74,7 +74,9 @@ fn is_listed(alloc: Global, words: &str) -> Result<bool, AllocError> {
 #[test]
 fn invoices_are_listed(rt: HostRuntime) -> Result<(), Fail> {
     expect(is_listed(rt.alloc(), "show f")?, "show f")?;
-    expect(is_listed(rt.alloc(), "show --codes eur f")?, "show --codes")
+    expect(is_listed(rt.alloc(), "show --codes eur f")?, "show --codes")?;
+    let extended = is_listed(rt.alloc(), "show --extension brand f")?;
+    expect(extended, "show --extension")
 }
 
 /// Whether the invoice is written as it stands here.
@@ -95,7 +97,9 @@ fn invoices_are_converted(rt: HostRuntime) -> Result<(), Fail> {
     let plain = is_converted(rt.alloc(), "convert --to ubl f")?;
     expect(plain, "convert")?;
     let listed = is_converted(rt.alloc(), "convert --codes eur --to ubl f")?;
-    expect(listed, "convert --codes")
+    expect(listed, "convert --codes")?;
+    let extended = is_converted(rt.alloc(), "convert --extension brand --to ubl f")?;
+    expect(extended, "convert --extension")
 }
 
 /// Of each row the words, the number of the status, the line on the error output, and what stands in the invoice in the
@@ -113,6 +117,12 @@ show --codes money f|4|money: NotALists money|A1|A1
 show --codes spaced f|4|spaced: BadCode currency|A1|A1
 show --codes f f|4|f: NotToml|A1|A1
 show --codes absent f|6|absent: read fault|A1|A1
+show --extension eur f|4|eur: NotAnExtension lists|A1|A1
+show --extension text f|4|text: NotToml|A1|A1
+totals --extension named f|4|named: Ambiguous EXT-7|A1|A1
+show --extension named --codes spaced f|4|spaced: BadCode currency|A1|A1
+convert --to ubl --extension absent f|6|absent: read fault|A1|A1
+extract --extension brand 1 f|2|bad word 2|A1|A1
 show absent|6|absent: read fault|A1|A1
 convert --to ubl f|5|condition 6 BT-83|<cac:TaxTotal>|<cac:PaymentMeans><cbc:PaymentID>x</cbc:PaymentID></cac:PaymentMeans><cac:TaxTotal>
 extract 1 f|5|attachment 1: NoSuch|A1|A1
@@ -136,10 +146,10 @@ fn invoices_are_refused(rt: HostRuntime) -> Result<(), Fail> {
     expect_rows(rt.alloc(), &Refusals, REFUSALS)
 }
 
-/// The calls that open the lists, read them and find their end, and those of the invoice.
+/// The calls that open the lists, read them and find their end, those of the further terms, and those of the invoice.
 #[test]
 fn each_failing_call_is_told(rt: HostRuntime) -> Result<(), Fail> {
-    let words = "convert --to cii --codes eur f";
+    let words = "convert --to cii --extension brand --codes eur f";
     let job = case_of(words, INVOICE.as_bytes());
-    expect(fails_reads(rt.alloc(), job, "eur f")?, words)
+    expect(fails_reads(rt.alloc(), job, "eur brand f")?, words)
 }

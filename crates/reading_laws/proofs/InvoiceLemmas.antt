@@ -97,6 +97,6 @@ pub root-read : ((table : Which) (document : Document) (lists : Lists) (read : R
     → (document : Document) (lists : Lists) (read : Read) → IsOfATree document → invoice_of (tree_nodes document) lists ≡ Ok read → IsInvoice read.entries × IsValid read.entries lists
 root-read valid document lists read tree h = go (which_of (tree_nodes document)) h
   where
-    go : (o : Option Which) → by_root (tree_nodes document) lists o ≡ Ok read → IsInvoice read.entries × IsValid read.entries lists
+    go : (o : Option Which) → by_root rows_of (tree_nodes document) lists o ≡ Ok read → IsInvoice read.entries × IsValid read.entries lists
     go None k = absurd (let z : ◌≡◌ {A = Result Read BindFault} (Err unknown_root) (Ok read) = k in cc)
     go (Some table) k = valid table document lists read tree k

@@ -11,7 +11,8 @@ use Rattle.xml_profile.specs.Profile as profile
 use Rattle.xml_profile.specs.Profile.{document}
 use Rattle.node_arena.specs.Document.{Placed, Document, node_at}
 use Rattle.node_arena.specs.Moves.{node_of, IsOfATree}
-use Rattle.rule_library.specs.Readings.{File, Joined, State, Readings, gives, reads, rule_limits, file_behind}
+use Rattle.xml_state.specs.Sizes.{rule_limits}
+use Rattle.rule_library.specs.Readings.{File, Joined, State, Readings, gives, reads, file_behind}
 use Rattle.rule_library.specs.Asked.{Given, Asked, stays, bad, root_of, inside_of, asked, given_at, is_schematron, included, extended, value_of}
 use Rattle.rule_library.specs.Joining.{nothing_joined, closed_to, with_element, with_text, passed_limit}
 use Rattle.rule_library.specs.Walk.{Next, Enter, Way, Going, Asking, going, entered, library, is_dropped, is_in, is_unfit, file_of, closed_for, around, at_kind, at_asked, stays_by, is_left_out, put_in, put_by, found_or_read, newly_read, read_by, checked, checked_by, unless_passed, with_joined, with_file, parent_name, own_name, element_name, nearest}

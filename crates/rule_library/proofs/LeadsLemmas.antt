@@ -6,7 +6,8 @@ use Rattle.inv_base.specs.Files.{Files}
 use Rattle.inv_base.specs.Outside.{ShelfView}
 use Rattle.xml_state.specs.declared.fault.XmlFault.{XmlFault}
 use Rattle.xml_document.specs.Loading.{IsRefused, StopsInTime}
-use Rattle.rule_library.specs.Readings.{Readings, gives, reads, rule_limits}
+use Rattle.xml_state.specs.Sizes.{rule_limits}
+use Rattle.rule_library.specs.Readings.{Readings, gives, reads}
 use Rattle.rule_library.specs.Leads.{Leads, here, read, counted, Reaches, Stops, told_under}
 use Rattle.rule_library.specs.Faults.{want_of_memory, IsMalformed, Fails, given, unreadable, no_document, full_between, full_inside}
 use Rattle.rule_library.specs.Turns.{Refuses}

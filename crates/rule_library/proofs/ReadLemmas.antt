@@ -10,7 +10,8 @@ use Rattle.node_arena.specs.Document.{Document}
 use Rattle.xml_document.specs.Loading.{IsRefused, StopsInTime, IsLoadedOf}
 use Rattle.xml_document.specs.declared.loading.LoadFault.{LoadFault as FileFault}
 use Rattle.xml_document.specs.declared.loading.LoadFault.TheVariants as file_faults
-use Rattle.rule_library.specs.Readings.{File, Readings, reads, rule_limits, file_at, no_file, file_behind, total}
+use Rattle.xml_state.specs.Sizes.{rule_limits}
+use Rattle.rule_library.specs.Readings.{File, Readings, reads, file_at, no_file, file_behind, total}
 use Rattle.rule_library.specs.Reading.{IsReadAt}
 use Rattle.rule_library.specs.Leads.{Leads, here, read, Reaches, Stops, told_under}
 use Rattle.rule_library.specs.Faults.{TellsOfFile, want_of_memory, Fails, unreadable, no_document, full_between, full_inside}

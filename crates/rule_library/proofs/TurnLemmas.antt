@@ -6,6 +6,7 @@ use Rattle.std.specs.Option.{ForSome}
 use Rattle.std.proofs.Math.ListN.{get_or-append}
 use Rattle.inv_base.specs.declared.tree.Kind.{Kind}
 use Rattle.inv_base.specs.declared.tree.Kind.TheVariants as nodes_are
+use Rattle.xml_state.specs.Sizes.{rule_limits}
 use Rattle.node_arena.specs.Document.{Placed}
 use Rattle.rule_library.specs.Readings.{File, Joined, State, Readings, gives, file_at, no_file}
 use Rattle.rule_library.specs.Asked.{Asked, stays, asked}
@@ -123,7 +124,7 @@ limit_kind false false false kind e = cc
 -- What passes a limit is a node.
 pub passes-node : (part : Bool) (j : Joined) (kind : LoadKind) → passed_limit part j ≡ Some kind → IsOfANode kind
 passes-node false j kind e = cc
-passes-node true j kind e = limit_kind (nat_lt 101 (length j.built.open_nodes)) (nat_lt 4000000 (length j.built.nodes)) (nat_lt 10000 (length j.names)) kind e
+passes-node true j kind e = limit_kind (nat_lt (rule_limits.depth + 1) (length j.built.open_nodes)) (nat_lt rule_limits.nodes (length j.built.nodes)) (nat_lt rule_limits.names (length j.names)) kind e
 
 -- a node of a kind
 abbrev kind_rest : Walk → ℕ → Kind → Readings

@@ -7,7 +7,8 @@ use Rattle.xml_state.specs.declared.fault.XmlFault.{XmlFault}
 use Rattle.xml_document.specs.Loading.{IsRefused, StopsInTime}
 use Rattle.xml_document.specs.declared.loading.LoadFault.{LoadFault as FileFault}
 use Rattle.xml_document.specs.declared.loading.LoadFault.TheVariants as file_faults
-use Rattle.rule_library.specs.Readings.{Fault, Readings, gives, rule_limits}
+use Rattle.xml_state.specs.Sizes.{rule_limits}
+use Rattle.rule_library.specs.Readings.{Fault, Readings, gives}
 use Rattle.rule_library.specs.Leads.{told_under, Reaches, Stops}
 use Rattle.rule_library.specs.declared.faults.LoadFault.{LoadFault}
 use Rattle.rule_library.specs.declared.faults.LoadKind.{LoadKind}

@@ -1,8 +1,9 @@
 -- How nodes of files are joined into one document.
-use Rattle.std.specs.Prelude.{ℕ, zero, suc, ◌-◌, Bool, true, false, List, [], ◌∷◌, length, Option, Some, None, nat_lt, if◌then◌else◌}
+use Rattle.std.specs.Prelude.{ℕ, zero, suc, ◌+◌, ◌-◌, Bool, true, false, List, [], ◌∷◌, length, Option, Some, None, nat_lt, if◌then◌else◌}
 use Rattle.inv_base.specs.Tree.{Name}
 use Rattle.xml_state.specs.Events.{starts, has_attribute, has_text, ends}
 use Rattle.xml_state.specs.Names.{number_of, with_name}
+use Rattle.xml_state.specs.Sizes.{rule_limits}
 use Rattle.node_arena.specs.Document.{Built, begun, after}
 use Rattle.rule_library.specs.Readings.{Joined}
 use Rattle.rule_library.specs.Asked.{Given}
@@ -38,11 +39,11 @@ with_element name given place j = with_attributes given (with_start name place j
 abbrev pub with_text : List ℕ → ℕ → Joined → Joined
 with_text characters place j = record { built = after (has_text characters place) j.built; names = j.names }
 
--- The limit of the joined document that is passed, by what a part has put in: deeper elements than a hundred, the
--- document's node beside them; more nodes; more names.
+-- The limit of a rule file that the joined document passes, by what a part has put in: deeper elements, the document's
+-- node beside them; more nodes; more names.
 abbrev pub passed_limit : Bool → Joined → Option LoadKind
 passed_limit false j = None
 passed_limit true j =
-    if nat_lt 101 (length j.built.open_nodes) then Some kinds.TooDeep
-    else (if nat_lt 4000000 (length j.built.nodes) then Some kinds.TooManyNodes
-    else (if nat_lt 10000 (length j.names) then Some kinds.TooManyNames else None))
+    if nat_lt (rule_limits.depth + 1) (length j.built.open_nodes) then Some kinds.TooDeep
+    else (if nat_lt rule_limits.nodes (length j.built.nodes) then Some kinds.TooManyNodes
+    else (if nat_lt rule_limits.names (length j.names) then Some kinds.TooManyNames else None))

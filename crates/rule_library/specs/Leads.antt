@@ -5,7 +5,8 @@ use Rattle.inv_base.specs.Files.{Files, bytes_under}
 use Rattle.inv_base.specs.Outside.{ShelfView, WhereTold}
 use Rattle.xml_profile.specs.Profile as profile
 use Rattle.xml_profile.specs.Profile.{document}
-use Rattle.rule_library.specs.Readings.{Readings, reads, rule_limits}
+use Rattle.xml_state.specs.Sizes.{rule_limits}
+use Rattle.rule_library.specs.Readings.{Readings, reads}
 
 -- the bytes of a file, where the files are told
 abbrev pub told_under : List ℕ → Option Files → Option (List ℕ)

@@ -4,7 +4,8 @@ use Rattle.inv_base.specs.Outside.{ShelfView, WhereTold}
 use Rattle.xml_profile.specs.Profile as profile
 use Rattle.xml_profile.specs.Profile.{document}
 use Rattle.node_arena.specs.Document.{built}
-use Rattle.rule_library.specs.Readings.{File, rule_limits}
+use Rattle.xml_state.specs.Sizes.{rule_limits}
+use Rattle.rule_library.specs.Readings.{File}
 use Rattle.rule_library.specs.Leads.{told_under, HasRead}
 
 -- The file of that name was opened and read without a fault: it is a document, of some content, which is its own where the

@@ -2,7 +2,6 @@
 use Rattle.std.specs.Prelude.{ℕ, ◌+◌, List, [], ◌∷◌, Result, get_or}
 use Rattle.inv_base.specs.Tree.{Name}
 use Rattle.xml_profile.specs.Profile as profile
-use Rattle.xml_state.specs.declared.limits.Limits.{Limits}
 use Rattle.node_arena.specs.Document.{Built, Document, built}
 use Rattle.rule_library.specs.declared.faults.LoadKind.{LoadKind}
 
@@ -34,10 +33,6 @@ pub record Fault : Type 0 where
 pub data Readings : Type 0 where
   gives : Result State Fault → Readings
   reads : List ℕ → (ℕ → profile.Document → Readings) → Readings
-
--- the limits of each file
-abbrev pub rule_limits : Limits
-rule_limits = record { bytes = 4194304; nodes = 4000000; depth = 100; attributes = 64; name = 200; names = 10000 }
 
 -- how many bytes the files have together
 abbrev pub total : List File → ℕ

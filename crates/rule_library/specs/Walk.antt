@@ -13,7 +13,8 @@ use Rattle.xml_state.specs.Names.{same_name}
 use Rattle.xml_profile.specs.Profile as profile
 use Rattle.xml_profile.specs.Profile.{document}
 use Rattle.node_arena.specs.Document.{Placed, Document, node_at}
-use Rattle.rule_library.specs.Readings.{File, Joined, State, Fault, Readings, gives, reads, rule_limits, file_behind}
+use Rattle.xml_state.specs.Sizes.{rule_limits}
+use Rattle.rule_library.specs.Readings.{File, Joined, State, Fault, Readings, gives, reads, file_behind}
 use Rattle.rule_library.specs.Asked.{Given, given_at, Asked, stays, bad, root_of, inside_of, asked}
 use Rattle.rule_library.specs.Joining.{nothing_joined, closed_to, with_element, with_text, passed_limit}
 use Rattle.rule_library.specs.declared.faults.LoadKind.{LoadKind}

@@ -7,7 +7,8 @@ use Rattle.xml_profile.specs.Profile as profile
 use Rattle.xml_profile.specs.Profile.{document}
 use Rattle.node_arena.specs.Document.{built}
 use Rattle.node_arena.specs.Moves.{IsOfATree}
-use Rattle.rule_library.specs.Readings.{Joined, rule_limits}
+use Rattle.xml_state.specs.Sizes.{rule_limits}
+use Rattle.rule_library.specs.Readings.{Joined}
 
 -- It is what the events of a document build.
 pub record TellsDocument (j : Joined) : Type 0 where

@@ -22,11 +22,11 @@ pub enum LoadKind {
     TooManyFiles,
     /// The root whose inside is asked for isn't of the parent's name.
     NotSame,
-    /// More than 100 elements would be inside one another.
+    /// More elements would be inside one another than in a rule file.
     TooDeep,
-    /// The document would have more than 4,000,000 nodes.
+    /// The document would have more nodes than a rule file.
     TooManyNodes,
-    /// The document would have more than 10,000 names.
+    /// The document would have more names than a rule file.
     TooManyNames,
     /// Memory ran out.
     Memory,

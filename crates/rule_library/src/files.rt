@@ -15,17 +15,7 @@ use node_arena::Doc;
 use std::alloc::Global;
 use std::marker::Model;
 use xml_document::load_sized;
-use xml_state::Limits;
-
-/// How large each file may be.
-const LIMITS: Limits = Limits {
-    bytes: 4_194_304,
-    nodes: 4_000_000,
-    depth: 100,
-    attributes: 64,
-    name: 200,
-    names: 10_000,
-};
+use xml_state::RULE_LIMITS;
 
 /// A file by its name, with how many bytes it has.
 pub(crate) struct Named {
@@ -149,7 +139,7 @@ pub(crate) fn read_file<'a, S: Shelf>(
         Ok(copied) => copied,
         Err(_) => return Err(want_of_memory()),
     };
-    match load_sized(alloc, bump, shelf, name, LIMITS) {
+    match load_sized(alloc, bump, shelf, name, RULE_LIMITS) {
         Ok(loaded) => Ok(File {
             name: copied,
             bytes: loaded.length,

@@ -19,20 +19,20 @@ use node_arena::{
 };
 use std::alloc::{AllocError, Global};
 use std::marker::Model;
-use xml_state::{NameId, NameTable};
+use xml_state::{NameId, NameTable, RULE_LIMITS};
 
 /// How many bytes of texts and values are joined at most: a text of white space that is put in twice by each file
 /// doubles with each.
 const TEXTS: u64 = 268_435_456;
 
-/// How many nodes may be open in what a part puts in: a hundred elements, and the document's node.
-const DEPTH: usize = 101;
+/// How many nodes may be open in what a part puts in: as many elements as in a rule file, and the document's node.
+const DEPTH: usize = RULE_LIMITS.depth as usize + 1;
 
 /// How many nodes a document may have that parts are put in.
-const NODES: usize = 4_000_000;
+const NODES: usize = RULE_LIMITS.nodes as usize;
 
 /// How many names a document may have that parts are put in.
-const NAMES: usize = 10_000;
+const NAMES: usize = RULE_LIMITS.names as usize;
 
 /// How many nodes a document may have at all: they are numbered by 32 bits.
 const NUMBERS: usize = 4_294_967_295;

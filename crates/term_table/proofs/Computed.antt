@@ -1,5 +1,5 @@
--- Terms that tables add, in listing order: computed.
-use Rattle.std.proofs.Common.{◌≡◌, ℕ, Bool, true, false, List, [], ◌∷◌, Option, Some, None, refl}
+-- What is computed: terms that tables add, in listing order, and names of terms.
+use Rattle.std.proofs.Common.{◌≡◌, ℕ, true, length, codes, Option, Some, None, refl}
 use Rattle.term_table.specs.declared.groups.Group.{Group}
 use Rattle.term_table.specs.declared.groups.Group.TheVariants as groups
 use Rattle.term_table.specs.declared.terms.Term.{Term}
@@ -9,8 +9,9 @@ use Rattle.term_table.specs.declared.contexts.Seat.{Seat}
 use Rattle.term_table.specs.SemanticModel.{terms, extension_rows, listing_rows}
 use Rattle.term_table.specs.Groups.{parent_of, occurrence_of}
 use Rattle.term_table.specs.Contexts.{root_context}
-use Rattle.term_table.specs.Places.{first_row, place_of, comes_before}
+use Rattle.term_table.specs.Places.{first_row, comes_before}
 use Rattle.term_table.specs.Rows.{row_in, letter_in}
+use Rattle.term_table.specs.Names.{names, name_of}
 
 bt : ℕ → Term
 bt n = record { number = n; part = 0 }
@@ -64,3 +65,28 @@ behind-lines = refl
 by-number : comes_before (at (bt 1002) root_context) (at (bt 1010) root_context) ≡ true
 unfolding bt at line attribute slot terms extension_rows listing_rows parent_of occurrence_of first_row
 by-number = refl
+
+-- ---- names
+
+-- each row has a name
+every-row : length names ≡ length terms
+unfolding terms
+every-row = refl
+
+first-name : name_of (bt 1) ≡ Some (codes "Invoice number")
+unfolding bt terms
+first-name = refl
+
+-- of a term with two rows
+name-29 : name_of (bt 29) ≡ Some (codes "Seller identifier")
+unfolding bt terms
+name-29 = refl
+
+-- of the last row
+last-name : name_of (bt 161) ≡ Some (codes "Item attribute value")
+unfolding bt terms
+last-name = refl
+
+no-name : name_of (bt 1001) ≡ None
+unfolding bt terms
+no-name = refl

@@ -6,3 +6,4 @@ pub mod Places
 pub mod Numbers
 pub mod Runs
 pub mod Starts
+pub mod Names

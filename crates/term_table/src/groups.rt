@@ -1,5 +1,5 @@
 ghost use Rattle.std.specs.Prelude.{◌≡◌};
-ghost use Rattle.term_table.specs.Groups.{parent_of, occurrence_of, is_repeated, label_of, same_group};
+ghost use Rattle.term_table.specs.Groups.{parent_of, occurrence_of, is_repeated, label_of, name_of, same_group};
 ghost use Rattle.term_table.specs.Contexts.{outer_group, inner_group};
 
 /// The groups of business terms of EN 16931-1, the invoice itself, and three groups of this program for the terms
@@ -245,6 +245,50 @@ impl Group {
             Group::ItemInformation => "BG-31",
             Group::ItemClassification => "P-158",
             Group::ItemAttribute => "BG-32",
+        }
+    }
+
+    /// Its name, after the standard; of this program's own groups, what stands in them: `Seller postal address`.
+    pub fn name(self) -> &'static str
+        ensures { result.now ≡ name_of self }
+    {
+        match self {
+            Group::Root => "Invoice",
+            Group::InvoiceNote => "Invoice note",
+            Group::ProcessControl => "Process control",
+            Group::PrecedingInvoice => "Preceding invoice reference",
+            Group::Seller => "Seller",
+            Group::SellerIdentifier => "Seller identifier without a scheme",
+            Group::SellerSchemedIdentifier => "Seller identifier with its scheme",
+            Group::SellerAddress => "Seller postal address",
+            Group::SellerContact => "Seller contact",
+            Group::Buyer => "Buyer",
+            Group::BuyerAddress => "Buyer postal address",
+            Group::BuyerContact => "Buyer contact",
+            Group::Payee => "Payee",
+            Group::TaxRepresentative => "Seller tax representative",
+            Group::TaxRepresentativeAddress => "Tax representative postal address",
+            Group::Delivery => "Delivery information",
+            Group::InvoicingPeriod => "Invoicing period",
+            Group::DeliveryAddress => "Deliver to address",
+            Group::PaymentInstructions => "Payment instructions",
+            Group::CreditTransfer => "Credit transfer",
+            Group::PaymentCard => "Payment card information",
+            Group::DirectDebit => "Direct debit",
+            Group::DocumentAllowance => "Document level allowances",
+            Group::DocumentCharge => "Document level charges",
+            Group::DocumentTotals => "Document totals",
+            Group::VatBreakdown => "VAT breakdown",
+            Group::SupportingDocument => "Additional supporting documents",
+            Group::InvoiceLine => "Invoice line",
+            Group::LinePeriod => "Invoice line period",
+            Group::LineAllowance => "Invoice line allowances",
+            Group::LineCharge => "Invoice line charges",
+            Group::PriceDetails => "Price details",
+            Group::LineVat => "Line VAT information",
+            Group::ItemInformation => "Item information",
+            Group::ItemClassification => "Item classification",
+            Group::ItemAttribute => "Item attributes",
         }
     }
 }

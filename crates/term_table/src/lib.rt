@@ -5,6 +5,7 @@
 mod contexts;
 mod groups;
 mod laws;
+mod names;
 mod places;
 mod rows;
 mod runs;
@@ -16,6 +17,7 @@ pub use laws::{
     entries_of_a_context_are_a_run, equal_places_are_one_seat, placed_contexts_are_nested,
     places_are_ordered, terms_have_one_type,
 };
+pub use names::term_name;
 pub use places::{ListingPlace, first_row, place_at, place_of};
 pub use rows::{has_context, letter_in, list_in, row_in, row_of};
 pub use runs::{Seated, run_in};

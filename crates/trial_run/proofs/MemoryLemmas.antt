@@ -1,6 +1,7 @@
 -- Documents that are held in memory, written and loaded.
 use Rattle.std.proofs.Common.{◌≡◌, ℕ, true, List, [], ◌∷◌, ◌++◌, Option, Some, None, Result, Ok, Err, refl, sym, ap, subst, ◌∙◌}
 use Rattle.std.specs.Prelude.{bytes_eq, encode_utf8_all, option_map, if◌then◌else◌}
+use Rattle.inv_base.specs.Tree.{Node}
 use Rattle.inv_base.specs.Files.{content_of, bytes_under}
 use Rattle.inv_base.specs.Memory.{Kept, Taken, shelf_of, sink_of}
 use Rattle.inv_base.specs.Writing.{WritesAll}
@@ -12,12 +13,17 @@ use Rattle.xml_profile.specs.TokenByToken.{read_whole}
 use Rattle.node_arena.specs.Document.{Document}
 use Rattle.node_arena.specs.Moves.{tree_nodes}
 use Rattle.xml_document.specs.Loading.{IsLoaded, IsRefused}
+use Rattle.code_lists.specs.CodeFiles.{built_in_lists}
 use Rattle.inv_terms.specs.declared.entries.Entry.{Entry}
 use Rattle.bind_meaning.specs.declared.tables.Syntax.{Syntax}
 use Rattle.bind_meaning.specs.Tables.{rows_of}
+use Rattle.bind_meaning.specs.Terms.{terms_of}
 use Rattle.bind_write.specs.Documents.{document_text}
 use Rattle.bind_carrying.specs.Tables.{target}
-use Rattle.trial_run.specs.Memory.{limits, unless_refused, nodes_in, written}
+use Rattle.bind_run.specs.Reading.{by_root, invoice_by, invoice_of, rows_in}
+use Rattle.bind_run.specs.Roots.{which_of}
+use Rattle.trial_run.specs.declared.reading.Means.{Means}
+use Rattle.trial_run.specs.Memory.{limits, unless_refused, nodes_in, written, AreBuiltIn}
 
 pub found-same : {A : Type 0} (x y : A) → Some x ≡ Some y → x ≡ y
 found-same x y e = cc
@@ -73,3 +79,17 @@ pub written-kept : (syntax : Syntax) (es : List Entry) (text : List ℕ) (before
 unfolding written
 written-kept syntax es text before after is none w =
     found-same after.bytes (before.bytes ++ text) w.told ∙ (λ i. none i ++ is i)
+
+-- ---- read
+
+by-option : {X Y : Type 0} (f g : Option X → Y) → f None ≡ g None → ((x : X) → f (Some x) ≡ g (Some x)) → (o : Option X) → f o ≡ g o
+by-option f g none some None = none
+by-option f g none some (Some x) = some x
+
+-- by the built-in tables and lists
+pub by-built_in : (means : Means) → AreBuiltIn means → (nodes : List Node)
+    → invoice_by (rows_in means.tables) nodes means.lists ≡ invoice_of nodes built_in_lists
+by-built_in means are nodes =
+    by-option (by_root (rows_in means.tables) nodes means.lists) (by_root rows_of nodes means.lists) refl
+    (λ table. ap (λ rows. terms_of nodes rows means.lists) (are.tables table)) (which_of nodes)
+    ∙ ap (invoice_of nodes) are.lists

@@ -15,7 +15,7 @@ use Rattle.bind_meaning.specs.Tables.{rows_of}
 use Rattle.bind_meaning.specs.Terms.{Read}
 use Rattle.bind_write.specs.Documents.{document_text}
 use Rattle.bind_carrying.specs.Tables.{target}
-use Rattle.bind_run.specs.Reading.{AreTables, invoice_of}
+use Rattle.bind_run.specs.Reading.{AreTables, AreFormed, invoice_of}
 use Rattle.trial_run.specs.declared.reading.Means.{Means}
 
 -- ---- documents
@@ -57,7 +57,8 @@ terms_read bytes = terms_in (nodes_in bytes)
 
 -- ---- what the code has
 
--- The tables and the lists are the built-in ones.
+-- The tables and the lists are the built-in ones, and each table is well formed.
 pub record AreBuiltIn (means : Means) : Type 0 where
   pub tables : AreTables means.tables
+  pub formed : AreFormed means.tables
   pub lists : means.lists ≡ built_in_lists

@@ -57,7 +57,7 @@ root-is rows es h there =
     ap (λ (f : Forest). which_of (document_nodes f)) e ∙ ap (λ q. option_and_then which_named (root_name q)) (sym r.is)
 
 pub by-table : (table : Which) (nodes : List Node) (lists : Lists) → which_of nodes ≡ Some table → invoice_of nodes lists ≡ terms_of nodes (rows_of table) lists
-by-table table nodes lists e = ap (by_root nodes lists) e
+by-table table nodes lists e = ap (by_root rows_of nodes lists) e
 
 pub read-by-table : (table : Which) (es : List Entry) (lists : Lists) → which_of (document_nodes (document_of (rows_of table) es)) ≡ Some table → IsReadBack reading_limits (rows_of table) es → IsReadByTable table es lists
 read-by-table table es lists e back =

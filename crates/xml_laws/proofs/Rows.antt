@@ -15,6 +15,7 @@ use Rattle.xml_tokens.specs.Markup.{comment, section, is_declaration, instructio
 use Rattle.xml_tokens.specs.Tags.{attribute_at, tag_inside, value_of, start_tag, end_tag}
 use Rattle.xml_tokens.specs.Beginnings.{extent, beginning}
 use Rattle.xml_state.specs.declared.limits.Limits.{Limits}
+use Rattle.xml_state.specs.Sizes.{document_limits}
 use Rattle.xml_state.specs.Faults.{fault_at}
 use Rattle.xml_state.specs.Events.{tree_of_events}
 use Rattle.xml_state.specs.States.{with_names, state_behind, events_of}
@@ -26,7 +27,7 @@ use Rattle.xml_write.specs.Canonical.{Declaration, declaration_line, canonical_t
 use Rattle.xml_laws.specs.Writable.{namespace_of, is_declarable, is_element_name, is_attribute_name, all_texts, depth_of, names_in, keep_limits, IsWritable}
 
 abbrev ample : Limits
-ample = record { bytes = 16777216; nodes = 1000000; depth = 100; attributes = 64; name = 200; names = 10000 }
+ample = document_limits
 
 -- limits that the tree below just keeps
 abbrev tight : Limits

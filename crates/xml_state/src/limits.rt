@@ -17,8 +17,8 @@ pub struct Limits {
 
 /// How large a document may be that the program reads, and so one that it writes.
 pub const DOCUMENT_LIMITS: Limits = Limits {
-    bytes: 16_777_216,
-    nodes: 1_000_000,
+    bytes: 67_108_864,
+    nodes: 4_000_000,
     depth: 100,
     attributes: 64,
     name: 200,
@@ -28,6 +28,5 @@ pub const DOCUMENT_LIMITS: Limits = Limits {
 /// How large a rule file may be.
 pub const RULE_LIMITS: Limits = Limits {
     bytes: 4_194_304,
-    nodes: 4_000_000,
     ..DOCUMENT_LIMITS
 };

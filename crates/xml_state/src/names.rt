@@ -31,7 +31,7 @@ impl NameId {
         self.number
     }
 
-    // A number of 32 bits serves 4,294,967,296 names. A document of 16,777,216 bytes has fewer; one under a far greater
+    // A number of 32 bits serves 4,294,967,296 names. A document of 67,108,864 bytes has fewer; one under a far greater
     // limit that has more is refused as where memory runs out, and no number wraps.
     fn at(index: usize) -> Result<NameId, AllocError>
         ensures { IfOk result (λ id. id ≡ index) }

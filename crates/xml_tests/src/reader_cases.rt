@@ -6,7 +6,7 @@ use std::alloc::{AllocError, Global};
 use std::test::Fail;
 use test_rows::{Holds, expect, expect_rows};
 use xml_profile::Reader;
-use xml_state::{Events, Limits, NameId, NameTable, XmlFault};
+use xml_state::{DOCUMENT_LIMITS, Events, Limits, NameId, NameTable, XmlFault};
 
 /// What was told, a word an event: elements and attributes by the numbers of their names, a text's pieces behind one
 /// another.
@@ -135,14 +135,7 @@ fn outcome(
     found
 }
 
-pub(crate) const AMPLE: Limits = Limits {
-    bytes: 16_777_216,
-    nodes: 1_000_000,
-    depth: 100,
-    attributes: 64,
-    name: 200,
-    names: 10_000,
-};
+pub(crate) const AMPLE: Limits = DOCUMENT_LIMITS;
 
 const SMALL: Limits = Limits {
     bytes: 32,

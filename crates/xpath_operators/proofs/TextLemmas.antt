@@ -1,6 +1,6 @@
 -- Texts by their bytes and by their characters.
 use Rattle.std.proofs.Common.{◌≡◌, ℕ, List, [], ◌∷◌, ◌++◌, length, take, Bool, true, false, refl, ap, sym, ◌∙◌, arith, ◌⊎◌, inl, inr}
-use Rattle.std.specs.Prelude.{◌==◌, bytes_eq, codes, if◌then◌else◌, Result, Ok, Err, is_ok, OnOk}
+use Rattle.std.specs.Prelude.{◌==◌, bytes_eq, codes, if◌then◌else◌, Result, Ok, Err, is_ok}
 use Rattle.std.specs.Str.{chars, IsUtf8}
 use Rattle.std.proofs.lemmas.Str.{chars-nil, chars-append, encodes-chars}
 use Rattle.std.proofs.lemmas.Slice.Eq.{bytes_eq-Decides}
@@ -8,6 +8,7 @@ use Rattle.std.proofs.lemmas.Bool.{false≢true}
 use Rattle.std.proofs.lemmas.Bool.Decides.{nat_tests}
 use Rattle.std.proofs.lemmas.Grind.{common_steps}
 use Rattle.xpath_meaning.specs.Items.{is_empty}
+use Rattle.xpath_operators.specs.Texts.{Puts}
 use lib.Utf8.{encodes}
 
 bool_cases : (b : Bool) → (b ≡ true) ⊎ (b ≡ false)
@@ -34,9 +35,9 @@ pub no_characters : (s : List ℕ) → IsUtf8 s → (length s == 0) ≡ is_empty
 no_characters [] u = ap is_empty (sym chars-nil)
 no_characters (b ∷ s) u = let e : (length (b ∷ s) == 0) ≡ false = grind (arith, nat_tests) in e ∙ sym (some_characters (chars (b ∷ s)) b s (encodes-chars (b ∷ s) u))
 
-pub pushed : {E : Type 0} (r : Result (Unit {0}) E) (old new t : List ℕ) → IsUtf8 old → IsUtf8 t → new ≡ (if is_ok r then old ++ t else old) → OnOk r (chars new ≡ chars old ++ chars t)
+pub pushed : {E : Type 0} (r : Result (Unit {0}) E) (old new t : List ℕ) → IsUtf8 old → IsUtf8 t → new ≡ (if is_ok r then old ++ t else old) → Puts r (chars t) old new
 pushed (Ok x) old new t uo ut e = ap chars e ∙ chars-append old t uo
-pushed (Err x) old new t uo ut e = tt
+pushed (Err x) old new t uo ut e = e
 
 pub take_front : (xs ys : List ℕ) (n : ℕ) → n ≡ length xs → take n (xs ++ ys) ≡ xs
 take_front xs ys n h = grind (arith, common_steps)

@@ -5,3 +5,4 @@ pub mod Ranges
 pub mod Spaces
 pub mod Ranks
 pub mod Rows
+pub mod Texts

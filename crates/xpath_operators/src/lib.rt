@@ -27,6 +27,6 @@ pub use numbers::{arithmetic, in_range, number_of, signed};
 pub use ranges::range;
 pub use readings::{read_boolean, read_day, read_number, read_whole_number};
 pub use spaces::trimmed;
-pub use texts::{push, push_text, text_of};
+pub use texts::{push, text_of};
 pub use truths::truth;
 pub use values::{boolean, counted, number, one, outcome};

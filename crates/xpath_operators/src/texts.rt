@@ -1,11 +1,12 @@
 //! The text of an item (Functions and Operators, sections 2.3 and 17.1.2).
-ghost use Rattle.std.specs.Prelude.{◌≡◌, ◌++◌, [], length, take, chars, string_bytes, IfOk, OnOk};
+ghost use Rattle.std.specs.Prelude.{◌≡◌, length, chars, string_bytes, IfOk};
 ghost use Rattle.std.specs.Str.{IsAscii};
 ghost use Rattle.inv_decimal.specs.WrittenNumber.{decimal_text};
 ghost use Rattle.inv_decimal.specs.WrittenDay.{dashed_day_text};
 ghost use Rattle.node_arena.specs.Moves.{tree_nodes};
 ghost use Rattle.xpath_meaning.specs.Items as spec;
 ghost use Rattle.xpath_operators.specs.Nodes.{IsWithin};
+ghost use Rattle.xpath_operators.specs.Texts.{Puts};
 
 use crate::strings::string_at;
 use inv_decimal::laws::printed_texts_are_ascii;
@@ -66,27 +67,9 @@ pub fn text_of<'a>(alloc: Global, doc: &Doc<'a>, item: &Item<'a>) -> Result<Str<
     }
 }
 
-/// Puts the text of an item behind another.
-pub fn push_text<'a>(
-    alloc: Global,
-    doc: &Doc<'a>,
-    item: &Item<'a>,
-    out: &mut String,
-) -> Result<(), AllocError>
-    requires { IsWithin (length doc.now.nodes) item.now }
-    ensures { OnOk result (chars (string_bytes out.new) ≡ chars (string_bytes out.old) ++ spec.text_of (tree_nodes doc.now) item.now) }
-{
-    match item {
-        Item::String(text) => push(out, text.as_str()),
-        Item::Untyped(text) => push(out, text.as_str()),
-        Item::Boolean(b) => push(out, boolean_text(*b)),
-        _ => push(out, text_of(alloc, doc, item)?.as_str()),
-    }
-}
-
-/// Puts a text behind another.
+/// Puts a text behind another. Without memory nothing is put.
 pub fn push(out: &mut String, text: &str) -> Result<(), AllocError>
-    ensures { OnOk result (chars (string_bytes out.new) ≡ chars (string_bytes out.old) ++ chars text.now) }
+    ensures { Puts result (chars text.now) (string_bytes out.old) (string_bytes out.new) }
 {
     out.push_str(text)
 }

@@ -1,6 +1,5 @@
 use Rattle.std.proofs.Common.{◌<◌, length, ap, sym, subst, ◌∙◌}
-use Rattle.bind_meaning.specs.Tables.{rows_of}
-use Rattle.bind_run.specs.Reading.{Reads, by_root}
+use Rattle.bind_run.specs.Reading.{Reads, by_root, rows_in}
 use Rattle.bind_run.proofs.IndicatorLemmas.{known-ok, known-err, same-node, not-memory}
 use Rattle.bind_run.proofs.WithinLemmas.{reads-within, document-within}
 use Rattle.bind_run.proofs.reading.read_document.Goals as goal
@@ -8,17 +7,17 @@ use Rattle.bind_run.proofs.reading.read_document.Goals as goal
 pub returns-in-Ok-clause-reads : goal.returns-in-Ok-clause-reads
 returns-in-Ok-clause-reads c =
     let table = known-ok _ c.in-Ok.which (sym c.binding_of.ensures ∙ c.in-Ok.is) in
-    subst (λ expected. Reads expected c.read_counted.result) (sym (ap (by_root _ c.args.lists.now) table)) c.read_counted.ensures.reads
+    subst (λ expected. Reads expected c.read_counted.result) (sym (ap (by_root (rows_in c.args.tables.now) _ c.args.lists.now) table)) c.read_counted.ensures.reads
 
 pub returns-in-Ok-clause-within : goal.returns-in-Ok-clause-within
 returns-in-Ok-clause-within c =
     reads-within _ _ c.read_counted.result c.read_counted.ensures.reads
-    (document-within c.args.doc.now c.is_of_a_tree.ensures.numbers c.is_of_a_tree.ensures.rooted c.args.lists.now (rows_of c.in-Ok.which))
+    (document-within c.args.doc.now c.is_of_a_tree.ensures.numbers c.is_of_a_tree.ensures.rooted c.args.lists.now (rows_in c.args.tables.now c.in-Ok.which))
 
 pub returns-in-Err-clause-reads : goal.returns-in-Err-clause-reads
 returns-in-Err-clause-reads c = λ _.
     let known = known-err _ c.in-Err.fault (sym c.binding_of.ensures ∙ c.in-Err.is) in
-    ap (by_root _ c.args.lists.now) known.0 ∙ known.1
+    ap (by_root (rows_in c.args.tables.now) _ c.args.lists.now) known.0 ∙ known.1
 
 pub returns-in-Err-clause-within : goal.returns-in-Err-clause-within
 returns-in-Err-clause-within c = λ _.

@@ -1,5 +1,3 @@
-use Rattle.std.proofs.Common.{refl}
-use Rattle.bind_rows.specs.declared.tables.Which.TheVariants as which
 use Rattle.bind_run.proofs.TableLemmas.{laid, notes}
 use Rattle.bind_run.proofs.tables.tables_are_laid.Goals as goal
 

@@ -1,19 +1,23 @@
-use Rattle.job_course.proofs.Ends.{memory_here}
-use Rattle.invoice_jobs.specs.Invoices.{invoice_course}
-use Rattle.job_course.specs.declared.status.Status.TheVariants as statuses
+use Rattle.invoice_jobs.specs.Sources.{basis_of, sources_of}
+use Rattle.invoice_jobs.specs.Invoices.{read_of}
+use Rattle.invoice_jobs.proofs.InvoiceLemmas.{no_basis, read_goes_on, read_fails}
 use Rattle.invoice_jobs.proofs.invoices.load.Goals as goal
 
-pub returns-in-Err-built_in-clause-fails : goal.returns-in-Err-built_in-clause-fails
-returns-in-Err-built_in-clause-fails g c = λ next out.
-    c.in-Ok.ensures.goes_on (λ lists. invoice_course c.args.file.now lists next) (g.S.Shelf.view c.load_lists.new.shelf) out out (g.E.Sink.view c.load_lists.new.err)
-    statuses.Memory (memory_here (invoice_course c.args.file.now c.in-Ok.lists next) (g.S.Shelf.view c.load_lists.new.shelf) out (g.E.Sink.view c.load_lists.new.err))
+pub returns-in-Err-clause-fails : goal.returns-in-Err-clause-fails
+returns-in-Err-clause-fails g c =
+    no_basis (sources_of c.args.sources.now) c.args.file.now c.in-Err.status (g.S.Shelf.view c.args.shelf.now) (g.S.Shelf.view c.load_basis.new.shelf)
+    (g.E.Sink.view c.args.err.now) (g.E.Sink.view c.load_basis.new.err) c.in-Err.ensures.fails
 
 pub returns-in-Ok-load_invoice-clause-goes_on : goal.returns-in-Ok-load_invoice-clause-goes_on
-returns-in-Ok-load_invoice-clause-goes_on g c = λ next shelf' out out' err' status further.
-    c.in-Ok.ensures.goes_on (λ lists. invoice_course c.args.file.now lists next) shelf' out out' err' status
-    (c.in-Ok-load_invoice.ensures.goes_on next shelf' out out' err' status further)
+returns-in-Ok-load_invoice-clause-goes_on g c =
+    read_goes_on (sources_of c.args.sources.now) c.args.file.now (basis_of c.in-Ok.basis) (g.S.Shelf.view c.args.shelf.now)
+    (g.S.Shelf.view c.load_basis.new.shelf)
+    (g.S.Shelf.view c.load_invoice.new.shelf) (g.E.Sink.view c.args.err.now) (g.E.Sink.view c.load_basis.new.err) (g.E.Sink.view c.load_invoice.new.err)
+    c.in-Ok.ensures.goes_on (read_of c.in-Ok-load_invoice.read) c.in-Ok-load_invoice.ensures.goes_on
 
-pub returns-clause-fails : goal.returns-clause-fails
-returns-clause-fails g c = λ next out.
-    c.in-Ok.ensures.goes_on (λ lists. invoice_course c.args.file.now lists next) (g.S.Shelf.view c.load_invoice.new.shelf) out out (g.E.Sink.view c.load_invoice.new.err)
-    c.in-Err-load_invoice.status (c.in-Err-load_invoice.ensures.fails next out)
+pub returns-in-Err-load_invoice-clause-fails : goal.returns-in-Err-load_invoice-clause-fails
+returns-in-Err-load_invoice-clause-fails g c =
+    read_fails (sources_of c.args.sources.now) c.args.file.now (basis_of c.in-Ok.basis) (g.S.Shelf.view c.args.shelf.now)
+    (g.S.Shelf.view c.load_basis.new.shelf)
+    (g.S.Shelf.view c.load_invoice.new.shelf) (g.E.Sink.view c.args.err.now) (g.E.Sink.view c.load_basis.new.err) (g.E.Sink.view c.load_invoice.new.err)
+    c.in-Ok.ensures.goes_on c.in-Err-load_invoice.status c.in-Err-load_invoice.ensures.fails

@@ -8,5 +8,5 @@ pub returns : goal.returns
 returns g c =
     let number = Prints-same _ _ _ _ _ _ (c.as_bytes.ensures.value ∙ c.format.ensures.text) c.put-2.ensures in
     let all = Prints-append _ _ _ _ _ _ _ _ c.put.ensures (Prints-append _ _ _ _ _ _ _ _ number (Prints-append _ _ _ _ _ _ _ _ c.put-3.ensures
-    (Prints-append _ _ _ _ _ _ _ _ c.print_condition_term.ensures c.put-4.ensures))) in
+    (Prints-append _ _ _ _ _ _ _ _ c.print_term_or_dash.ensures c.put-4.ensures))) in
     takes_printed _ _ _ _ (all [] (g.E.Sink.view c.args.err.now) (rw c.new-printer.ensures (WritesAll-nil _)))

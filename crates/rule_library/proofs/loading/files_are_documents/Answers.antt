@@ -1,5 +1,5 @@
 use Rattle.xml_profile.specs.Profile.{tree_of}
-use Rattle.rule_library.specs.Readings.{rule_limits}
+use Rattle.xml_state.specs.Sizes.{rule_limits}
 use Rattle.rule_library.proofs.loading.files_are_documents.Goals as goal
 
 pub returns : goal.returns

@@ -1,5 +1,4 @@
-use Rattle.std.proofs.Common.{◌≤◌, true, false, refl, sym, subst, ap, ◌∙◌, length}
-use Rattle.std.specs.Prelude.{position}
+use Rattle.std.proofs.Common.{◌≤◌, sym, subst, ap, ◌∙◌, length}
 use Rattle.term_table.specs.declared.terms.TheConstants.{TERMS}
 use Rattle.term_table.specs.Numbers.{row_from}
 use Rattle.term_table.proofs.TermLemmas.{first_fits, row_from-is}

@@ -10,5 +10,5 @@ pub returns-in-Ok : goal.returns-in-Ok
 returns-in-Ok c =
     let text = encode_utf8_all (document_text c.table-table.result.now c.args.invoice.now) in
     written-kept c.args.syntax c.args.invoice.now text c.in_ok-text.text c.write.new.out
-    (ap (λ rows. encode_utf8_all (document_text rows c.args.invoice.now)) (c.table-table.ensures ∙ ap rows_of c.target.ensures))
+    (ap (λ rows. encode_utf8_all (document_text rows c.args.invoice.now)) (c.table-table.ensures ∙ (c.requires.tables c.target.result ∙ ap rows_of c.target.ensures)))
     (ap (λ (s : Taken). s.bytes) c.in_ok-text.ensures) c.in-Ok.ensures

@@ -1,0 +1,13 @@
+use Rattle.std.proofs.Common.{[], ◌∙◌}
+use Rattle.inv_base.proofs.WritingLemmas.{WritesAll-nil}
+use Rattle.inv_base.proofs.PrintingLemmas.{Prints-append, Prints-same}
+use Rattle.job_course.proofs.Printed.{takes_printed}
+use Rattle.invoice_jobs.proofs.refusals.tell_bad_row.Goals as goal
+
+pub returns : goal.returns
+returns g c =
+    let file = Prints-same _ _ _ _ _ _ c.as_bytes.ensures.value c.put-2.ensures in
+    let kind = Prints-same _ _ _ _ _ _ (c.as_bytes-2.ensures.value ∙ c.table_kind_name.ensures) c.put-4.ensures in
+    let all = Prints-append _ _ _ _ _ _ _ _ c.put.ensures (Prints-append _ _ _ _ _ _ _ _ file (Prints-append _ _ _ _ _ _ _ _ c.put-3.ensures
+    (Prints-append _ _ _ _ _ _ _ _ kind (Prints-append _ _ _ _ _ _ _ _ c.print_term_or_dash.ensures c.put-5.ensures)))) in
+    takes_printed _ _ _ _ (all [] (g.E.Sink.view c.args.err.now) (rw c.new-printer.ensures (WritesAll-nil _)))

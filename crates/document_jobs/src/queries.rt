@@ -357,7 +357,7 @@ fn value_of<'a, L: Ledger>(
     ensures value { IfOk result (λ outcome. value outcome ≡ mean (tree_nodes doc.now) (expression plan.now) (at_top 0 [])) }
     ensures within { IfOk result (λ outcome. ValueWithin (length doc.now.nodes) (value outcome)) }
 {
-    let run = Run::new(alloc, plan, doc)?;
+    let mut run = Run::new(alloc, plan, doc)?;
     let env = Env::new(alloc);
     let focus = Focus {
         item: Item::Node(doc.document()),

@@ -22,6 +22,8 @@ mod operator_cases;
 #[cfg(test)]
 mod pattern_cases;
 #[cfg(test)]
+mod run_cases;
+#[cfg(test)]
 mod string_cases;
 #[cfg(test)]
 mod walk_cases;

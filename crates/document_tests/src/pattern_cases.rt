@@ -62,7 +62,7 @@ p[$x = 2] ->
 n:p -> 
 *:q -> 4 8 10";
 
-fn declare(alloc: Global, scope: &mut Scope) -> Result<(), Fail> {
+pub(crate) fn declare(alloc: Global, scope: &mut Scope) -> Result<(), Fail> {
     scope.prefix(alloc, "n", "urn:n")?;
     scope.variable(alloc, "x")?;
     Ok(())
@@ -103,7 +103,7 @@ fn plan_of(alloc: Global, text: &str) -> Result<Plan, Fail> {
 }
 
 /// The variable `$x` is the number 1.
-fn variables<'a>(alloc: Global, doc: &Doc<'_>) -> Result<Env<'a>, Fail>
+pub(crate) fn variables<'a>(alloc: Global, doc: &Doc<'_>) -> Result<Env<'a>, Fail>
     ensures { IfOk result (λ env. ValuesWithin (length doc.now.nodes) env) }
 {
     let one = Dec::read("1").ok_or("number")?;

@@ -1,5 +1,5 @@
 -- How the value of an expression is listed for a person.
-use Rattle.std.specs.Prelude.{ℕ, List, [], ◌∷◌, ◌++◌, codes, encode_utf8_all, flat_map, Result, Ok, Err}
+use Rattle.std.specs.Prelude.{ℕ, List, [], ◌∷◌, ◌++◌, codes, encode_utf8_all, flat_map, Ok, Err}
 use Rattle.inv_base.specs.Outside.{SinkView}
 use Rattle.inv_base.specs.Text.{quoted}
 use Rattle.inv_base.specs.Tree.{Node}

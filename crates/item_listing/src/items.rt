@@ -51,21 +51,20 @@ fn write_value<K: Sink, L: Ledger>(
     ensures ok { IfOk result (λ failed. Printed failed (flat_map (item_line (tree_nodes doc.now)) items.now) (K.view out.old) (K.view out.new)) }
     ensures err { OnErr result (WritesSome (flat_map (item_line (tree_nodes doc.now)) items.now) (K.view out.old) (K.view out.new)) }
 {
-    let ordinals = ordinals_for(alloc, doc, items, steps)?;
+    let ordinals = ordinals_for(alloc, doc, items)?;
     write_all_items(alloc, doc, &ordinals, items, out, steps)
 }
 
 /// The ordinals of a document's nodes, where a node is among the items.
-fn ordinals_for<L: Ledger>(
+fn ordinals_for(
     alloc: Global,
     doc: &Doc<'_>,
     items: &[Item<'_>],
-    steps: &mut Steps<L>,
 ) -> Result<Option<Ordinals>, AllocError>
     ensures { IfOk result (λ ordinals. list_any meaning.is_node items.now ≡ true → HasOrdinals doc.now ordinals) }
 {
     if has_node(items) {
-        Ok(Some(Ordinals::new(alloc, doc, steps)?))
+        Ok(Some(Ordinals::new(alloc, doc)?))
     } else {
         Ok(None)
     }

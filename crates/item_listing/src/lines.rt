@@ -61,7 +61,7 @@ fn print_node<K: Sink, L: Ledger>(
     requires ordinals { HasOrdinals doc.now ordinals.now }
     ensures { PrintsLine result (item_line (tree_nodes doc.now) (items.Node n)) printer.old printer.new (K.view out.old) (K.view out.new) }
 {
-    locate(doc, ordinals, n, place, steps)?;
+    locate(doc, ordinals, n, place)?;
     let string = doc.string(alloc, n, steps)?;
     print_placed(place.as_str(), string.as_str(), printer, out);
     Ok(())
@@ -76,12 +76,11 @@ fn print_placed<K: Sink>(place: &str, string: &str, printer: &mut Printer, out: 
 }
 
 /// Makes a text the location of a node.
-fn locate<L: Ledger>(
+fn locate(
     doc: &Doc<'_>,
     ordinals: &Option<Ordinals>,
     n: NodeId,
     place: &mut String,
-    steps: &mut Steps<L>,
 ) -> Result<(), AllocError>
     requires within { n < length doc.now.nodes }
     requires ordinals { HasOrdinals doc.now ordinals.now }
@@ -91,7 +90,7 @@ fn locate<L: Ledger>(
         unreachable!()
     };
     place.clear();
-    push_location(doc, ordinals, n, place, steps)?;
+    push_location(doc, ordinals, n, place)?;
     Ok(())
 }
 

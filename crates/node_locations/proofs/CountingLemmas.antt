@@ -1,5 +1,5 @@
 -- Children counted by keys, and their ordinals.
-use Rattle.std.proofs.Common.{◌≡◌, ℕ, zero, suc, ◌+◌, ◌-◌, ◌<◌, ◌≤◌, ◌^◌, ◌==◌, ◌&&◌, Bool, true, false, not, cond, List, [], ◌∷◌, length, take, drop, get_or, set, Option, Some, None, IfSome, option_map, refl, ap, sym, subst, ◌∙◌, arith, ⊎_elim, inl, inr}
+use Rattle.std.proofs.Common.{◌≡◌, ℕ, zero, suc, ◌+◌, ◌<◌, ◌≤◌, ◌^◌, ◌==◌, ◌&&◌, Bool, true, false, not, cond, List, [], ◌∷◌, length, take, drop, get_or, set, Option, Some, None, IfSome, option_map, refl, ap, sym, subst, ◌∙◌, arith, ⊎_elim, inl}
 use Rattle.std.specs.Prelude.{filter}
 use Rattle.std.specs.Option.{ForSome}
 use Rattle.std.proofs.lemmas.Bool.{eqb-true, eq-eqb, cases_lt, cases_eq, and_parts, not-true}
@@ -14,7 +14,7 @@ use Rattle.xml_state.specs.Events.{name_at}
 use Rattle.xml_state.specs.Names.{same_name, AreDistinct}
 use Rattle.node_arena.specs.Document.{Document, Placed, document_node, node_at, AreNamed}
 use Rattle.node_arena.specs.Moves.{node_of, tree_nodes, tree_node, behind, nearest, is_nearest, is_child, is_attribute, first_that, first_child, next_sibling, parent}
-use Rattle.node_arena.proofs.FoundLemmas.{IsFirstFrom, first_from, none_from}
+use Rattle.node_arena.proofs.FoundLemmas.{first_from, none_from}
 use Rattle.node_arena.proofs.StepLemmas.{Walk, In}
 use Rattle.node_arena.proofs.WalkLemmas.{before, both_ways}
 use Rattle.node_locations.specs.Locations.{same_names, is_alike, ordinal, is_counted, AreOrdinals}

@@ -1,4 +1,5 @@
 mod TextLemmas
+mod PutLemmas
 mod CountingLemmas
 mod LocationLemmas
 mod Rows

@@ -1,6 +1,6 @@
 -- Locations in a small document: `<r a="1"><b/>x<b xmlns="u'v"/><b/>y</r>`.
 use Rattle.std.specs.Prelude.{ℕ, ◌≡◌, List, [], ◌∷◌, ◌++◌, codes, refl}
-use Rattle.inv_base.specs.Tree.{Node, Name, Forest, no_more, a_text, an_element, document_nodes}
+use Rattle.inv_base.specs.Tree.{Node, Name, no_more, a_text, an_element, document_nodes}
 use Rattle.node_locations.specs.Locations.{ordinal, bracketed, step, location}
 
 abbrev named : List ℕ → List ℕ → Name

@@ -7,8 +7,8 @@ use crate::counting::{NONE_SEEN, Seen, count_one, key_of};
 use inv_base::Steps;
 use node_arena::{Doc, NodeId, moves_lead_on};
 use std::alloc::{AllocError, Global};
-use std::marker::Model;
-use std::sync::ledger::Ledger;
+use std::marker::{Brand, Model};
+use std::sync::ledger::{Blank, Ledger};
 
 /// Of each element and text of a document how many siblings like it stand before it, and one. It is made once for a
 /// document.
@@ -27,23 +27,18 @@ impl Model for Ordinals {
 
 impl Ordinals {
     /// The ordinals of a document's nodes, in one pass over its nodes and their children. From node to node it takes
-    /// a few steps, however many names there are.
-    pub fn new<L: Ledger>(
-        alloc: Global,
-        doc: &Doc<'_>,
-        steps: &mut Steps<L>,
-    ) -> Result<Ordinals, AllocError>
+    /// a few moves, however many names there are, whose steps nobody counts.
+    pub fn new(alloc: Global, doc: &Doc<'_>) -> Result<Ordinals, AllocError>
         ensures { IfOk result (λ ordinals. AreOrdinals doc.now ordinals) }
     {
-        doc.is_of_a_tree();
-        // No table of names has as many as that.
-        let Some(keys) = doc.names().len().checked_add(1) else {
-            return Err(AllocError);
-        };
-        let mut table = vec![in alloc; NONE_SEEN; keys]?;
-        let mut counts = vec![in alloc; 0u32; node_count(doc, steps)]?;
-        count_all(doc, &mut table, &mut counts, steps);
-        Ok(Ordinals { counts })
+        ordinals_by::<Brand>(alloc, doc, Blank::new(1))
+    }
+
+    /// How many nodes the document has.
+    pub fn len(&self) -> usize
+        ensures { result ≡ length self.now }
+    {
+        self.counts.len()
     }
 
     /// The ordinal of an element or a text, from 1 on.
@@ -53,6 +48,29 @@ impl Ordinals {
     {
         count_at(&self.counts, n)
     }
+}
+
+/// The same by steps that nobody asks for.
+fn ordinals_by<L: Ledger>(
+    alloc: Global,
+    doc: &Doc<'_>,
+    ledger: Blank,
+) -> Result<Ordinals, AllocError>
+    requires name { ledger.name ≡ L.name }
+    requires parts { ledger.parts ≡ L.parts }
+    requires some { 0 < ledger.parts }
+    ensures { IfOk result (λ ordinals. AreOrdinals doc.now ordinals) }
+{
+    let mut steps = Steps::<L>::new(ledger);
+    doc.is_of_a_tree();
+    // No table of names has as many as that.
+    let Some(keys) = doc.names().len().checked_add(1) else {
+        return Err(AllocError);
+    };
+    let mut table = vec![in alloc; NONE_SEEN; keys]?;
+    let mut counts = vec![in alloc; 0u32; node_count(doc, &mut steps)]?;
+    count_all(doc, &mut table, &mut counts, &mut steps);
+    Ok(Ordinals { counts })
 }
 
 /// The count that is kept of a node.

@@ -1,10 +1,11 @@
 //! Pieces of locations, put behind a text.
-ghost use Rattle.std.specs.Prelude.{◌≡◌, ◌++◌, chars, string_bytes, flat_map, OnOk};
+ghost use Rattle.std.specs.Prelude.{◌≡◌, chars, string_bytes, flat_map};
 ghost use Rattle.std.specs.Str.{IsAscii};
 ghost use Rattle.std.specs.Option.{ForSome};
 ghost use Rattle.std.specs.Prelude.{◌<◌, length, option_map};
 ghost use Rattle.xml_state.specs.Events.{name_at};
 ghost use Rattle.node_locations.specs.Locations.{doubled, optional_name_test, bracketed};
+ghost use Rattle.node_locations.specs.Puts.{Puts};
 
 use itoa::Buffer;
 use node_arena::Doc;
@@ -13,35 +14,32 @@ use xml_state::NameId;
 
 /// Puts a text behind another.
 fn push_text(text: &str, out: &mut String) -> Result<(), AllocError>
-    ensures { OnOk result (chars (string_bytes out.new) ≡ chars (string_bytes out.old) ++ chars text.now) }
+    ensures { Puts result (chars text.now) (chars (string_bytes out.old)) (chars (string_bytes out.new)) }
 {
-    out.push_str(text)?;
-    Ok(())
+    out.push_str(text)
 }
 
 /// Puts a text of ASCII behind another, whose bytes are its characters.
 pub(crate) fn push_plain(text: &str, out: &mut String) -> Result<(), AllocError>
     requires { IsAscii text.now }
-    ensures { OnOk result (chars (string_bytes out.new) ≡ chars (string_bytes out.old) ++ text.now) }
+    ensures { Puts result text.now (chars (string_bytes out.old)) (chars (string_bytes out.new)) }
 {
-    push_text(text, out)?;
-    Ok(())
+    push_text(text, out)
 }
 
 /// Puts a number between brackets behind a text.
 pub(crate) fn push_bracketed(number: u32, out: &mut String) -> Result<(), AllocError>
-    ensures { OnOk result (chars (string_bytes out.new) ≡ chars (string_bytes out.old) ++ bracketed number) }
+    ensures { Puts result (bracketed number) (chars (string_bytes out.old)) (chars (string_bytes out.new)) }
 {
     let mut digits = Buffer::new();
     push_plain("[", out)?;
     push_plain(digits.format(number), out)?;
-    push_plain("]", out)?;
-    Ok(())
+    push_plain("]", out)
 }
 
 /// Puts a text behind another, each of its apostrophes twice.
 fn push_doubled(text: &str, out: &mut String) -> Result<(), AllocError>
-    ensures { OnOk result (chars (string_bytes out.new) ≡ chars (string_bytes out.old) ++ flat_map doubled (chars text.now)) }
+    ensures { Puts result (flat_map doubled (chars text.now)) (chars (string_bytes out.old)) (chars (string_bytes out.new)) }
 {
     'characters: for c in text.chars() {
         push_character(c, out)?;
@@ -51,14 +49,12 @@ fn push_doubled(text: &str, out: &mut String) -> Result<(), AllocError>
 
 /// Puts a character behind a text, an apostrophe twice.
 fn push_character(c: char, out: &mut String) -> Result<(), AllocError>
-    ensures { OnOk result (chars (string_bytes out.new) ≡ chars (string_bytes out.old) ++ doubled c) }
+    ensures { Puts result (doubled c) (chars (string_bytes out.old)) (chars (string_bytes out.new)) }
 {
     if c == '\'' {
-        push_plain("''", out)?;
-        return Ok(());
+        return push_plain("''", out);
     }
-    out.push(c)?;
-    Ok(())
+    out.push(c)
 }
 
 /// Puts a test of a name behind a text, or nothing where there is no name.
@@ -68,7 +64,8 @@ pub(crate) fn push_name_test(
     out: &mut String,
 ) -> Result<(), AllocError>
     requires { ForSome name (λ number. number < length doc.now.names) }
-    ensures { OnOk result (chars (string_bytes out.new) ≡ chars (string_bytes out.old) ++ optional_name_test (option_map (name_at doc.now.names) name)) }
+    ensures { Puts result (optional_name_test (option_map (name_at doc.now.names) name))
+        (chars (string_bytes out.old)) (chars (string_bytes out.new)) }
 {
     let Some(id) = name else {
         return Ok(());
@@ -77,6 +74,5 @@ pub(crate) fn push_name_test(
     push_text(doc.names().local(id), out)?;
     push_plain("[namespace-uri()='", out)?;
     push_doubled(doc.names().uri(id), out)?;
-    push_plain("']", out)?;
-    Ok(())
+    push_plain("']", out)
 }

@@ -66,10 +66,26 @@ fn trials_are_written(rt: HostRuntime) -> Result<(), Fail> {
     expect(is_written(rt.alloc(), 3, THREE_LINES)?, "three")
 }
 
-#[test]
-fn judging_takes_steps(rt: HostRuntime) -> Result<(), Fail> {
-    let trial = trial_of(rt.alloc(), 200)?;
-    let is_judged = 200 <= trial.steps && trial.same_terms;
+/// How many steps the judging of so many lines takes, if all their terms were read.
+fn steps_of(alloc: Global, lines: u32) -> Result<Option<u64>, AllocError>
+    requires { lines ≤ 10000 }
+{
+    let trial = trial_of(alloc, lines)?;
+    let steps = if trial.same_terms {
+        Some(trial.steps)
+    } else {
+        None
+    };
     drop(trial);
-    expect(is_judged, "steps, terms")
+    Ok(steps)
+}
+
+// A line has 24 nodes in the UBL document. No line walks through the whole of it: then twice the lines would take four
+// times the steps, or nearly so.
+#[test]
+fn judging_takes_steps_by_lines(rt: HostRuntime) -> Result<(), Fail> {
+    let some = steps_of(rt.alloc(), 200)?.ok_or("terms of 200")?;
+    let twice = steps_of(rt.alloc(), 400)?.ok_or("terms of 400")?;
+    expect(200 <= some && some <= 60 * 24 * 200, "steps")?;
+    expect(twice / 2 <= some, "twice the steps")
 }

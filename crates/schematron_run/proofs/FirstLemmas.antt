@@ -149,11 +149,6 @@ pub no_entry : (nodes : List Node) (outer : Variables) (rules : List ReadyRule) 
 no_entry nodes outer rules n k e =
     ap (λ o. elim o [ None ↦ [] | Some rule ↦ by_rule nodes outer n k rule ]) (slice_get-map ready_rule rules k ∙ ap (option_map ready_rule) e)
 
-pub an_entry : (nodes : List Node) (outer : Variables) (rules : List ReadyRule) (n k : ℕ) (rule : ReadyRule) → slice_get rules k ≡ Some rule
-    → by_entry nodes outer (map ready_rule rules) n (Some k) ≡ by_rule nodes outer n k (ready_rule rule)
-an_entry nodes outer rules n k rule e =
-    ap (λ o. elim o [ None ↦ [] | Some found ↦ by_rule nodes outer n k found ]) (slice_get-map ready_rule rules k ∙ ap (option_map ready_rule) e)
-
 pub no_number : (nodes : List Node) (outer : Variables) (patterns : List Expanded) (k : ℕ) → slice_get patterns k ≡ None → by_number nodes outer (map seen_pattern patterns) k ≡ []
 no_number nodes outer patterns k e =
     ap (λ o. elim o [ None ↦ [] | Some pattern ↦ by_pattern nodes outer pattern ]) (slice_get-map seen_pattern patterns k ∙ ap (option_map seen_pattern) e)

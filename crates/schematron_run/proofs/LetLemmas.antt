@@ -15,18 +15,19 @@ use Rattle.schematron_rules.specs.Seen.{seen_lets, seen_phase, seen_phases, lets
 use Rattle.schematron_run.specs.declared.ready.ReadyLet.{ReadyLet}
 use Rattle.schematron_run.specs.Judging.{Variables, filled, lets_of}
 use Rattle.schematron_run.specs.Ready.{ready_let}
-use Rattle.schematron_run.proofs.ListLemmas.{drop_item}
+use Rattle.schematron_run.proofs.ListLemmas.{drop_seen, all_seen}
 
-pub fill_next : (nodes : List Node) (n : ℕ) (lets : List ReadyLet) (i : ℕ) (x : ReadyLet) (env env' : Variables) {whole : Variables}
-    → x ≡ get_or lets i x → i < length lets → env' ≡ filled nodes n (ready_let x ∷ []) env
-    → filled nodes n (map ready_let (drop i lets)) env ≡ whole → filled nodes n (map ready_let (drop (i + 1) lets)) env' ≡ whole
-fill_next nodes n lets i x env env' at l e h =
-    ap (filled nodes n (map ready_let (drop (i + 1) lets))) e
-    ∙ (ap (λ ls. filled nodes n (map ready_let ls) env) (sym (drop_item lets i x at l)) ∙ h)
+pub fill_next : (nodes : List Node) (n : ℕ) (lets first : List ReadyLet) (k : ℕ) (d : ReadyLet) (env env' : Variables) {whole : Variables}
+    → k < length lets → map ready_let lets ≡ map ready_let first → env' ≡ filled nodes n (ready_let (get_or lets k d) ∷ []) env
+    → filled nodes n (drop k (map ready_let first)) env ≡ whole → filled nodes n (drop (k + 1) (map ready_let first)) env' ≡ whole
+fill_next nodes n lets first k d env env' within same e h =
+    ap (filled nodes n (drop (k + 1) (map ready_let first))) e
+    ∙ (ap (λ ls. filled nodes n ls env) (sym (drop_seen ready_let lets first k d within same)) ∙ h)
 
-pub fill_done : (nodes : List Node) (n : ℕ) (lets : List ReadyLet) (i : ℕ) (env : Variables) {whole : Variables}
-    → length lets ≤ i → filled nodes n (map ready_let (drop i lets)) env ≡ whole → env ≡ whole
-fill_done nodes n lets i env l h = ap (λ ls. filled nodes n (map ready_let ls) env) (sym (drop_all i lets l)) ∙ h
+pub fill_done : (nodes : List Node) (n : ℕ) (lets first : List ReadyLet) (k : ℕ) (env : Variables) {whole : Variables}
+    → length lets ≤ k → map ready_let lets ≡ map ready_let first → filled nodes n (drop k (map ready_let first)) env ≡ whole → env ≡ whole
+fill_done nodes n lets first k env l same h =
+    ap (λ ls. filled nodes n ls env) (sym (drop_all k (map ready_let first) (all_seen ready_let lets first k l same))) ∙ h
 
 pub put_within : (count : ℕ) (env : Variables) (v : List ℕ × Value) → ValuesWithin count env → ValueWithin count v.1 → ValuesWithin count (env ++ v ∷ [])
 put_within count [] v h w = (w, tt)

@@ -1,9 +1,10 @@
 -- What loops over slices keep.
 use Rattle.std.proofs.Common.{◌≡◌, ℕ, ◌+◌, ◌<◌, ◌≤◌, zero, suc, true, ⊎_elim, List, [], ◌∷◌, ◌++◌, length, map, drop, get_or, Some, Result, Ok, Err, OnOk, ap, sym, subst, ◌∙◌, append_assoc, append-nil, arith}
-use Rattle.std.specs.Prelude.{◌==◌, slice_get}
+use Rattle.std.specs.Prelude.{◌==◌, slice_get, Vec}
+use Rattle.std.specs.Vec.{with_items}
 use Rattle.std.specs.List.{All, flat_map}
 use Rattle.std.proofs.lemmas.Bool.{or_left, or_right, or_cases, eqb-true, eq-eqb, false≢true}
-use Rattle.std.proofs.lemmas.List.{drop_more, drop_all, get_or-map, length-map, map-append}
+use Rattle.std.proofs.lemmas.List.{drop_more, drop_all, get_or-map, length-map, map-append, with_items_is}
 use Rattle.std.proofs.lemmas.List.Elements.{All-push}
 use Rattle.std.proofs.lemmas.List.Concat.{flat_map-cons}
 use Rattle.std.proofs.lemmas.Option.{get_or_from_slice_get, slice_get_within}
@@ -20,21 +21,7 @@ on_ok (Err x) f p = tt
 pub drop_item : {X : Type 0} (xs : List X) (i : ℕ) (x : X) → x ≡ get_or xs i x → i < length xs → drop i xs ≡ x ∷ drop (i + 1) xs
 drop_item xs i x at l = drop_more xs i x l ∙ ap (λ y. y ∷ drop (i + 1) xs) (sym at)
 
--- what is found of mapped items, one after the other
-pub flat_next : {X Y Z : Type 0} (f : Y → List Z) (g : X → Y) (xs : List X) (i : ℕ) (x : X) (old new : List Z) {whole : List Z}
-    → x ≡ get_or xs i x → i < length xs → new ≡ old ++ f (g x)
-    → old ++ flat_map f (map g (drop i xs)) ≡ whole → new ++ flat_map f (map g (drop (i + 1) xs)) ≡ whole
-flat_next f g xs i x old new at l put h =
-    ap (λ zs. zs ++ flat_map f (map g (drop (i + 1) xs))) put
-    ∙ (append_assoc old (f (g x)) (flat_map f (map g (drop (i + 1) xs)))
-    ∙ (ap (λ zs. old ++ zs) (sym (flat_map-cons f (g x) (map g (drop (i + 1) xs))))
-    ∙ (ap (λ ys. old ++ flat_map f (map g ys)) (sym (drop_item xs i x at l)) ∙ h)))
-
-pub flat_done : {X Y Z : Type 0} (f : Y → List Z) (g : X → Y) (xs : List X) (i : ℕ) (old : List Z) {whole : List Z}
-    → length xs ≤ i → old ++ flat_map f (map g (drop i xs)) ≡ whole → old ≡ whole
-flat_done f g xs i old l h = sym (append-nil old) ∙ (ap (λ ys. old ++ flat_map f (map g ys)) (sym (drop_all i xs l)) ∙ h)
-
--- the same of the items themselves
+-- what is found of items, one after the other
 pub flat_next-plain : {X Z : Type 0} (f : X → List Z) (xs : List X) (i : ℕ) (x : X) (old new : List Z) {whole : List Z}
     → drop i xs ≡ x ∷ drop (i + 1) xs → new ≡ old ++ f x
     → old ++ flat_map f (drop i xs) ≡ whole → new ++ flat_map f (drop (i + 1) xs) ≡ whole
@@ -47,10 +34,6 @@ flat_next-plain f xs i x old new is put h =
 pub flat_done-plain : {X Z : Type 0} (f : X → List Z) (xs : List X) (i : ℕ) (old : List Z) {whole : List Z}
     → length xs ≤ i → old ++ flat_map f (drop i xs) ≡ whole → old ≡ whole
 flat_done-plain f xs i old l h = sym (append-nil old) ∙ (ap (λ ys. old ++ flat_map f ys) (sym (drop_all i xs l)) ∙ h)
-
--- what holds of all items holds of each
-pub all_item : {X : Type 0} (P : X → Type 0) (xs : List X) (i : ℕ) (x : X) → All P xs → slice_get xs i ≡ Some x → P x
-all_item P xs i x h e = subst P (get_or_from_slice_get xs i x x e) (h i x (slice_get_within xs i x e))
 
 -- what holds of all items that are seen holds of each
 pub all_at : {X Y : Type 0} (P : Y → Type 0) (g : X → Y) (xs : List X) (i : ℕ) (x : X) → All P (map g xs) → x ≡ get_or xs i x → i < length xs → P (g x)
@@ -98,3 +81,37 @@ pub item_at : (count : ℕ) (items : List Item) (i : ℕ) (x : Item) → AreWith
 item_at count [] i x h at l = absurd (omega (arith, l))
 item_at count (y ∷ items) zero x h at l = subst (IsWithin count) (sym at) h.0
 item_at count (y ∷ items) (suc i) x h at l = item_at count items i x h.1 at (omega (arith, l))
+
+-- Items that are changed one after the other, and seen as they were
+pub drop_seen : {X Y : Type 0} (see : X → Y) (xs first : List X) (k : ℕ) (d : X) → k < length xs → map see xs ≡ map see first
+    → drop k (map see first) ≡ see (get_or xs k d) ∷ drop (k + 1) (map see first)
+drop_seen see xs first k d within same =
+    let long : k < length (map see xs) = omega (arith, within, length-map xs see) in
+    ap (drop k) (sym same)
+    ∙ (drop_more (map see xs) k (see (get_or xs k d)) long
+    ∙ (ap (λ y. y ∷ drop (k + 1) (map see xs)) (get_or-map see xs k d (see (get_or xs k d)) within)
+    ∙ ap (λ ys. see (get_or xs k d) ∷ drop (k + 1) ys) same))
+
+pub all_seen : {X Y : Type 0} (see : X → Y) (xs first : List X) (k : ℕ) → length xs ≤ k → map see xs ≡ map see first → length (map see first) ≤ k
+all_seen see xs first k l same = subst (λ n. n ≤ k) (sym (length-map xs see) ∙ ap length same) l
+
+pub flat_seen : {X Y Z : Type 0} (f : Y → List Z) (see : X → Y) (xs first : List X) (k : ℕ) (d : X) (old new : List Z) {whole : List Z}
+    → k < length xs → map see xs ≡ map see first → new ≡ old ++ f (see (get_or xs k d))
+    → old ++ flat_map f (drop k (map see first)) ≡ whole → new ++ flat_map f (drop (k + 1) (map see first)) ≡ whole
+flat_seen f see xs first k d old new within same put h =
+    flat_next-plain f (map see first) k (see (get_or xs k d)) old new (drop_seen see xs first k d within same) put h
+
+pub flat_seen-done : {X Y Z : Type 0} (f : Y → List Z) (see : X → Y) (xs first : List X) (k : ℕ) (old : List Z) {whole : List Z}
+    → length xs ≤ k → map see xs ≡ map see first → old ++ flat_map f (drop k (map see first)) ≡ whole → old ≡ whole
+flat_seen-done f see xs first k old l same h = flat_done-plain f (map see first) k old (all_seen see xs first k l same) h
+
+-- Items that are lent as a slice and written back, seen as they were
+module _ {X Y Z : Type 0} (see : X → Y) (v : Vec X Z) (old new : List X) (long : length old ≡ v.len) (same : map see new ≡ map see old) where
+  pub back_is : (with_items v new).items ≡ new
+  back_is = with_items_is v new (sym (length-map new see) ∙ (ap length same ∙ (length-map old see ∙ long)))
+
+  pub back_seen : old ≡ v.items → map see (with_items v new).items ≡ map see v.items
+  back_seen is = ap (map see) back_is ∙ (same ∙ ap (map see) is)
+
+  pub back_all : (P : X → Type 0) → All P new → All P (with_items v new).items
+  back_all P h = subst (All P) (sym back_is) h

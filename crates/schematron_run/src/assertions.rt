@@ -59,37 +59,35 @@ fn copied_text(text: &Txt) -> Result<Option<Txt>, AllocError>
     Ok(Some(copy))
 }
 
-fn location_at<L: Ledger>(
-    scene: &Scene<'_, '_>,
-    n: NodeId,
-    steps: &mut Steps<L>,
-) -> Result<Txt, AllocError>
+fn location_at(scene: &Scene<'_, '_>, n: NodeId) -> Result<Txt, AllocError>
     requires within { n < count scene.now }
     requires set { IsSet scene.now }
     ensures { IfOk result (λ text. text ≡ location (nodes_of scene.now) n) }
 {
     let mut text = String::new(scene.alloc);
-    push_location(scene.doc, scene.ordinals, n, &mut text, steps)?;
+    push_location(scene.doc, scene.ordinals, n, &mut text)?;
     Txt::of(scene.alloc, text.as_str())
 }
 
 /// Where a node stands, and what an assertion says there.
 fn location_and_message<'a, L: Ledger>(
     scene: &Scene<'_, 'a>,
-    assertion: &ReadyAssertion<'_, '_, 'a>,
+    assertion: &mut ReadyAssertion<'_, '_, 'a>,
     n: NodeId,
     env: &Env<'a>,
     steps: &mut Steps<L>,
 ) -> Result<(Txt, Txt), AllocError>
-    requires ready { IsAssertionFor scene.now.doc.now assertion.now }
+    requires ready { IsAssertionFor scene.now.doc.now assertion.old }
     requires within { n < count scene.now }
     requires set { IsSet scene.now }
     requires variables { ValuesWithin (count scene.now) env.now }
     ensures location { IfOk result (λ both. both.0 ≡ location (nodes_of scene.now) n) }
-    ensures message { IfOk result (λ both. both.1 ≡ spec.message_at (nodes_of scene.now) n env.now (map ready_part assertion.now.message.items)) }
+    ensures message { IfOk result (λ both. both.1 ≡ spec.message_at (nodes_of scene.now) n env.now (map ready_part assertion.old.message.items)) }
+    ensures same { OnOk result (ready_assertion assertion.new ≡ ready_assertion assertion.old) }
+    ensures ready { OnOk result (IsAssertionFor scene.now.doc.now assertion.new) }
 {
-    let location = location_at(scene, n, steps)?;
-    match message_at(scene, assertion.message.as_slice(), n, env, steps) {
+    let location = location_at(scene, n)?;
+    match message_at(scene, assertion.message.as_mut_slice(), n, env, steps) {
         Ok(message) => Ok((location, message)),
         Err(error) => {
             drop(location);
@@ -131,17 +129,19 @@ fn labels_of(source: &Assertion) -> Result<(Option<Txt>, Option<Txt>, Option<Txt
 
 fn finding_of<'a, L: Ledger>(
     scene: &Scene<'_, 'a>,
-    assertion: &ReadyAssertion<'_, '_, 'a>,
+    assertion: &mut ReadyAssertion<'_, '_, 'a>,
     n: NodeId,
     env: &Env<'a>,
     outcome: FindingKind,
     steps: &mut Steps<L>,
 ) -> Result<Finding, AllocError>
-    requires ready { IsAssertionFor scene.now.doc.now assertion.now }
+    requires ready { IsAssertionFor scene.now.doc.now assertion.old }
     requires within { n < count scene.now }
     requires set { IsSet scene.now }
     requires variables { ValuesWithin (count scene.now) env.now }
-    ensures { IfOk result (λ finding. finding ≡ spec.finding_of (nodes_of scene.now) n env.now (ready_assertion assertion.now) outcome) }
+    ensures finding { IfOk result (λ finding. finding ≡ spec.finding_of (nodes_of scene.now) n env.now (ready_assertion assertion.old) outcome) }
+    ensures same { OnOk result (ready_assertion assertion.new ≡ ready_assertion assertion.old) }
+    ensures ready { OnOk result (IsAssertionFor scene.now.doc.now assertion.new) }
 {
     let source = assertion.source;
     let test = source.test.text.try_clone()?;
@@ -174,18 +174,20 @@ fn finding_of<'a, L: Ledger>(
 /// Adds what is told of an assertion, if anything is.
 fn tell<'a, L: Ledger>(
     scene: &Scene<'_, 'a>,
-    assertion: &ReadyAssertion<'_, '_, 'a>,
+    assertion: &mut ReadyAssertion<'_, '_, 'a>,
     n: NodeId,
     env: &Env<'a>,
     told: Option<FindingKind>,
     findings: &mut Findings,
     steps: &mut Steps<L>,
 ) -> Result<(), AllocError>
-    requires ready { IsAssertionFor scene.now.doc.now assertion.now }
+    requires ready { IsAssertionFor scene.now.doc.now assertion.old }
     requires within { n < count scene.now }
     requires set { IsSet scene.now }
     requires variables { ValuesWithin (count scene.now) env.now }
-    ensures { OnOk result (findings.new ≡ findings.old ++ spec.lines_told (nodes_of scene.now) n env.now (ready_assertion assertion.now) told) }
+    ensures found { OnOk result (findings.new ≡ findings.old ++ spec.lines_told (nodes_of scene.now) n env.now (ready_assertion assertion.old) told) }
+    ensures same { OnOk result (ready_assertion assertion.new ≡ ready_assertion assertion.old) }
+    ensures ready { OnOk result (IsAssertionFor scene.now.doc.now assertion.new) }
 {
     let Some(outcome) = told else {
         return Ok(());
@@ -196,19 +198,21 @@ fn tell<'a, L: Ledger>(
 
 fn judge_assertion<'a, L: Ledger>(
     scene: &Scene<'_, 'a>,
-    assertion: &ReadyAssertion<'_, '_, 'a>,
+    assertion: &mut ReadyAssertion<'_, '_, 'a>,
     n: NodeId,
     env: &Env<'a>,
     findings: &mut Findings,
     steps: &mut Steps<L>,
 ) -> Result<(), AllocError>
-    requires ready { IsAssertionFor scene.now.doc.now assertion.now }
+    requires ready { IsAssertionFor scene.now.doc.now assertion.old }
     requires within { n < count scene.now }
     requires set { IsSet scene.now }
     requires variables { ValuesWithin (count scene.now) env.now }
-    ensures { OnOk result (findings.new ≡ findings.old ++ spec.by_assertion (nodes_of scene.now) n env.now (ready_assertion assertion.now)) }
+    ensures found { OnOk result (findings.new ≡ findings.old ++ spec.by_assertion (nodes_of scene.now) n env.now (ready_assertion assertion.old)) }
+    ensures same { OnOk result (ready_assertion assertion.new ≡ ready_assertion assertion.old) }
+    ensures ready { OnOk result (IsAssertionFor scene.now.doc.now assertion.new) }
 {
-    let outcome = value_at(scene, &assertion.test, n, env, steps)?;
+    let outcome = value_at(scene, &mut assertion.test, n, env, steps)?;
     let source = assertion.source;
     let told = told_of(source.kind, truth_in(&outcome));
     tell(scene, assertion, n, env, told, findings, steps)
@@ -217,20 +221,22 @@ fn judge_assertion<'a, L: Ledger>(
 /// Judges a node by the assertions of a rule.
 pub(crate) fn judge_assertions<'a, L: Ledger>(
     scene: &Scene<'_, 'a>,
-    assertions: &[ReadyAssertion<'_, '_, 'a>],
+    assertions: &mut [ReadyAssertion<'_, '_, 'a>],
     n: NodeId,
     env: &Env<'a>,
     findings: &mut Findings,
     steps: &mut Steps<L>,
 ) -> Result<(), AllocError>
-    requires ready { All (IsAssertionFor scene.now.doc.now) assertions.now }
+    requires ready { All (IsAssertionFor scene.now.doc.now) assertions.old }
     requires within { n < count scene.now }
     requires set { IsSet scene.now }
     requires variables { ValuesWithin (count scene.now) env.now }
-    ensures { OnOk result (findings.new ≡ findings.old ++ flat_map (spec.by_assertion (nodes_of scene.now) n env.now) (map ready_assertion assertions.now)) }
+    ensures found { OnOk result (findings.new ≡ findings.old ++ flat_map (spec.by_assertion (nodes_of scene.now) n env.now) (map ready_assertion assertions.old)) }
+    ensures same { OnOk result (map ready_assertion assertions.new ≡ map ready_assertion assertions.old) }
+    ensures ready { OnOk result (All (IsAssertionFor scene.now.doc.now) assertions.new) }
 {
-    'assertions: for assertion in assertions {
-        judge_assertion(scene, assertion, n, env, findings, steps)?;
+    'assertions: for k in 0..assertions.len() {
+        judge_assertion(scene, &mut assertions[k], n, env, findings, steps)?;
     }
     Ok(())
 }

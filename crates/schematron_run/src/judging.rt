@@ -1,5 +1,5 @@
 //! What the rules of a file find in a document.
-ghost use Rattle.std.specs.Prelude.{◌≡◌, length, IfOk, OnOk};
+ghost use Rattle.std.specs.Prelude.{◌≡◌, IfOk};
 ghost use Rattle.node_arena.specs.Moves.{tree_nodes};
 ghost use Rattle.xpath_steps.specs.Variables.{ValuesWithin};
 ghost use Rattle.schematron_rules.specs.Seen.{seen_rules, seen_active};
@@ -13,22 +13,13 @@ use crate::lets::{fill_once, lets_of};
 use crate::patterns::judge_patterns;
 use crate::scene::Scene;
 use inv_base::Steps;
-use node_arena::{Doc, moves_lead_on};
+use node_arena::Doc;
 use node_locations::Ordinals;
 use schematron_findings::Findings;
 use schematron_rules::{Active, Rules};
 use std::alloc::{AllocError, Global};
 use std::sync::ledger::Ledger;
 use xpath_run::Env;
-
-/// How many nodes a document has.
-fn node_count<L: Ledger>(doc: &Doc<'_>, steps: &mut Steps<L>) -> usize
-    ensures { result ≡ length doc.now.nodes }
-{
-    doc.is_of_a_tree();
-    moves_lead_on();
-    doc.last_inside(doc.document(), steps).number() as usize + 1
-}
 
 /// The variables of the whole file: the schema's, then those of the phase that is active.
 fn file_variables<'a, L: Ledger>(
@@ -60,7 +51,7 @@ fn found_in<L: Ledger>(
     ensures { IfOk result (λ found. found ≡ spec.findings (seen_rules rules.now) (seen_active active.now) (nodes_of scene.now)) }
 {
     let mut env = file_variables(scene, rules, active, steps)?;
-    let mut table = vec![in scene.alloc; None; node_count(scene.doc, steps)]?;
+    let mut table = vec![in scene.alloc; None; scene.ordinals.len()]?;
     let mut findings = Findings::new(scene.alloc);
     judge_patterns(
         scene,
@@ -79,7 +70,8 @@ fn found_in<L: Ledger>(
 /// what the rules say is active by some name. The only error is want of memory.
 ///
 /// A pattern costs what its contexts and its tests cost, and not a pass over all nodes besides; the names of its plans
-/// are looked up in the document once. Each move in the document takes a step.
+/// are looked up in the document once. Each move of contexts, variables, tests and messages takes a step; those that
+/// locations are made by are no part of it.
 pub fn judge<L: Ledger>(
     alloc: Global,
     rules: &Rules,
@@ -92,7 +84,7 @@ pub fn judge<L: Ledger>(
 {
     rules.are_of_a_file();
     compiled_rules_have_patterns();
-    let ordinals = Ordinals::new(alloc, doc, steps)?;
+    let ordinals = Ordinals::new(alloc, doc)?;
     let scene = Scene {
         alloc,
         doc,

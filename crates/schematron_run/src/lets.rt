@@ -21,19 +21,21 @@ use xpath_run::Env;
 /// cut them off again.
 pub(crate) fn fill<'a, L: Ledger>(
     scene: &Scene<'_, 'a>,
-    lets: &[ReadyLet<'_, '_, 'a>],
+    lets: &mut [ReadyLet<'_, '_, 'a>],
     n: NodeId,
     env: &mut Env<'a>,
     steps: &mut Steps<L>,
 ) -> Result<(), AllocError>
-    requires ready { All (IsLetFor scene.now.doc.now) lets.now }
+    requires ready { All (IsLetFor scene.now.doc.now) lets.old }
     requires within { n < count scene.now }
     requires variables { ValuesWithin (count scene.now) env.old }
-    ensures filled { OnOk result (env.new ≡ spec.filled (nodes_of scene.now) n (map ready_let lets.now) env.old) }
+    ensures filled { OnOk result (env.new ≡ spec.filled (nodes_of scene.now) n (map ready_let lets.old) env.old) }
     ensures within { OnOk result (ValuesWithin (count scene.now) env.new) }
+    ensures same { OnOk result (map ready_let lets.new ≡ map ready_let lets.old) }
+    ensures ready { OnOk result (All (IsLetFor scene.now.doc.now) lets.new) }
 {
-    'lets: for variable in lets {
-        fill_one(scene, variable, n, env, steps)?;
+    'lets: for k in 0..lets.len() {
+        fill_one(scene, &mut lets[k], n, env, steps)?;
     }
     Ok(())
 }
@@ -41,18 +43,20 @@ pub(crate) fn fill<'a, L: Ledger>(
 /// Declares one variable.
 fn fill_one<'a, L: Ledger>(
     scene: &Scene<'_, 'a>,
-    variable: &ReadyLet<'_, '_, 'a>,
+    variable: &mut ReadyLet<'_, '_, 'a>,
     n: NodeId,
     env: &mut Env<'a>,
     steps: &mut Steps<L>,
 ) -> Result<(), AllocError>
-    requires ready { IsLetFor scene.now.doc.now variable.now }
+    requires ready { IsLetFor scene.now.doc.now variable.old }
     requires within { n < count scene.now }
     requires variables { ValuesWithin (count scene.now) env.old }
-    ensures filled { OnOk result (env.new ≡ spec.filled (nodes_of scene.now) n (ready_let variable.now ∷ []) env.old) }
+    ensures filled { OnOk result (env.new ≡ spec.filled (nodes_of scene.now) n (ready_let variable.old ∷ []) env.old) }
     ensures within { OnOk result (ValuesWithin (count scene.now) env.new) }
+    ensures same { OnOk result (ready_let variable.new ≡ ready_let variable.old) }
+    ensures ready { OnOk result (IsLetFor scene.now.doc.now variable.new) }
 {
-    let outcome = value_at(scene, &variable.run, n, env, steps)?;
+    let outcome = value_at(scene, &mut variable.run, n, env, steps)?;
     env.push(variable.name.as_str(), outcome)?;
     Ok(())
 }
@@ -70,8 +74,10 @@ pub(crate) fn fill_once<'a, L: Ledger>(
     ensures filled { OnOk result (env.new ≡ spec.filled (nodes_of scene.now) n (seen_lets lets.now) env.old) }
     ensures within { OnOk result (ValuesWithin (count scene.now) env.new) }
 {
-    let ready = ready_lets(scene, lets)?;
-    fill(scene, ready.as_slice(), n, env, steps)
+    let mut ready = ready_lets(scene, lets)?;
+    let filled = fill(scene, ready.as_mut_slice(), n, env, steps);
+    drop(ready);
+    filled
 }
 
 /// The variables of the phase of that number.

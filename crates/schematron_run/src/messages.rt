@@ -131,16 +131,18 @@ fn push_name(scene: &Scene<'_, '_>, n: NodeId, message: &mut Message) -> Result<
 
 fn push_part<'a, L: Ledger>(
     scene: &Scene<'_, 'a>,
-    part: &ReadyPart<'_, '_, 'a>,
+    part: &mut ReadyPart<'_, '_, 'a>,
     n: NodeId,
     env: &Env<'a>,
     message: &mut Message,
     steps: &mut Steps<L>,
 ) -> Result<(), AllocError>
-    requires ready { IsPartFor scene.now.doc.now part.now }
+    requires ready { IsPartFor scene.now.doc.now part.old }
     requires within { n < count scene.now }
     requires variables { ValuesWithin (count scene.now) env.now }
-    ensures { OnOk result (Says (spec.part_text (nodes_of scene.now) n env.now (ready_part part.now)) message.old message.new) }
+    ensures says { OnOk result (Says (spec.part_text (nodes_of scene.now) n env.now (ready_part part.old)) message.old message.new) }
+    ensures same { OnOk result (ready_part part.new ≡ ready_part part.old) }
+    ensures ready { OnOk result (IsPartFor scene.now.doc.now part.new) }
 {
     match part {
         ReadyPart::Words(text) => push(message, text.as_str()),
@@ -154,19 +156,21 @@ fn push_part<'a, L: Ledger>(
 
 fn push_parts<'a, L: Ledger>(
     scene: &Scene<'_, 'a>,
-    parts: &[ReadyPart<'_, '_, 'a>],
+    parts: &mut [ReadyPart<'_, '_, 'a>],
     n: NodeId,
     env: &Env<'a>,
     message: &mut Message,
     steps: &mut Steps<L>,
 ) -> Result<(), AllocError>
-    requires ready { All (IsPartFor scene.now.doc.now) parts.now }
+    requires ready { All (IsPartFor scene.now.doc.now) parts.old }
     requires within { n < count scene.now }
     requires variables { ValuesWithin (count scene.now) env.now }
-    ensures { OnOk result (Says (flat_map (spec.part_text (nodes_of scene.now) n env.now) (map ready_part parts.now)) message.old message.new) }
+    ensures says { OnOk result (Says (flat_map (spec.part_text (nodes_of scene.now) n env.now) (map ready_part parts.old)) message.old message.new) }
+    ensures same { OnOk result (map ready_part parts.new ≡ map ready_part parts.old) }
+    ensures ready { OnOk result (All (IsPartFor scene.now.doc.now) parts.new) }
 {
-    'parts: for part in parts {
-        push_part(scene, part, n, env, message, steps)?;
+    'parts: for k in 0..parts.len() {
+        push_part(scene, &mut parts[k], n, env, message, steps)?;
     }
     Ok(())
 }
@@ -174,15 +178,17 @@ fn push_parts<'a, L: Ledger>(
 /// What the parts say at a node, as one text with its spaces squeezed.
 pub(crate) fn message_at<'a, L: Ledger>(
     scene: &Scene<'_, 'a>,
-    parts: &[ReadyPart<'_, '_, 'a>],
+    parts: &mut [ReadyPart<'_, '_, 'a>],
     n: NodeId,
     env: &Env<'a>,
     steps: &mut Steps<L>,
 ) -> Result<Txt, AllocError>
-    requires ready { All (IsPartFor scene.now.doc.now) parts.now }
+    requires ready { All (IsPartFor scene.now.doc.now) parts.old }
     requires within { n < count scene.now }
     requires variables { ValuesWithin (count scene.now) env.now }
-    ensures { IfOk result (λ text. text ≡ spec.message_at (nodes_of scene.now) n env.now (map ready_part parts.now)) }
+    ensures text { IfOk result (λ text. text ≡ spec.message_at (nodes_of scene.now) n env.now (map ready_part parts.old)) }
+    ensures same { OnOk result (map ready_part parts.new ≡ map ready_part parts.old) }
+    ensures ready { OnOk result (All (IsPartFor scene.now.doc.now) parts.new) }
 {
     let mut message = Message::new(scene.alloc);
     push_parts(scene, parts, n, env, &mut message, steps)?;

@@ -1,5 +1,5 @@
 //! Nodes, each judged by its rule.
-ghost use Rattle.std.specs.Prelude.{◌≡◌, ◌<◌, ◌++◌, length, map, option_copied, slice_get, OnOk};
+ghost use Rattle.std.specs.Prelude.{◌≡◌, ◌<◌, ◌++◌, length, map, OnOk};
 ghost use Rattle.std.specs.List.{All, flat_map};
 ghost use Rattle.xpath_steps.specs.Variables.{ValuesWithin};
 ghost use Rattle.schematron_run.specs.Firsts.{entry, by_entry, AreBelow};
@@ -22,22 +22,31 @@ use xpath_run::Env;
 /// Judges a node by a rule with its variables, which are cut off behind it.
 fn judge_inside<'a, L: Ledger>(
     scene: &Scene<'_, 'a>,
-    rule: &ReadyRule<'_, '_, 'a>,
+    rule: &mut ReadyRule<'_, '_, 'a>,
     n: NodeId,
     env: &mut Env<'a>,
     findings: &mut Findings,
     steps: &mut Steps<L>,
 ) -> Result<(), AllocError>
-    requires ready { IsRuleFor scene.now.doc.now rule.now }
+    requires ready { IsRuleFor scene.now.doc.now rule.old }
     requires within { n < count scene.now }
     requires set { IsSet scene.now }
     requires variables { ValuesWithin (count scene.now) env.old }
-    ensures found { OnOk result (findings.new ≡ findings.old ++ flat_map (spec.by_assertion (nodes_of scene.now) n (spec.filled (nodes_of scene.now) n (map ready_let rule.now.lets.items) env.old)) (map ready_assertion rule.now.assertions.items)) }
+    ensures found { OnOk result (findings.new ≡ findings.old ++ flat_map (spec.by_assertion (nodes_of scene.now) n (spec.filled (nodes_of scene.now) n (map ready_let rule.old.lets.items) env.old)) (map ready_assertion rule.old.assertions.items)) }
     ensures env { OnOk result (env.new ≡ env.old) }
+    ensures same { OnOk result (ready_rule rule.new ≡ ready_rule rule.old) }
+    ensures ready { OnOk result (IsRuleFor scene.now.doc.now rule.new) }
 {
     let before = env.len();
-    fill(scene, rule.lets.as_slice(), n, env, steps)?;
-    judge_assertions(scene, rule.assertions.as_slice(), n, env, findings, steps)?;
+    fill(scene, rule.lets.as_mut_slice(), n, env, steps)?;
+    judge_assertions(
+        scene,
+        rule.assertions.as_mut_slice(),
+        n,
+        env,
+        findings,
+        steps,
+    )?;
     env.truncate(before);
     Ok(())
 }
@@ -45,19 +54,21 @@ fn judge_inside<'a, L: Ledger>(
 /// Judges a node by the rule of that number.
 fn judge_by_rule<'a, L: Ledger>(
     scene: &Scene<'_, 'a>,
-    rule: &ReadyRule<'_, '_, 'a>,
+    rule: &mut ReadyRule<'_, '_, 'a>,
     k: u32,
     n: NodeId,
     env: &mut Env<'a>,
     findings: &mut Findings,
     steps: &mut Steps<L>,
 ) -> Result<(), AllocError>
-    requires ready { IsRuleFor scene.now.doc.now rule.now }
+    requires ready { IsRuleFor scene.now.doc.now rule.old }
     requires within { n < count scene.now }
     requires set { IsSet scene.now }
     requires variables { ValuesWithin (count scene.now) env.old }
-    ensures found { OnOk result (findings.new ≡ findings.old ++ spec.by_rule (nodes_of scene.now) env.old n k (ready_rule rule.now)) }
+    ensures found { OnOk result (findings.new ≡ findings.old ++ spec.by_rule (nodes_of scene.now) env.old n k (ready_rule rule.old)) }
     ensures env { OnOk result (env.new ≡ env.old) }
+    ensures same { OnOk result (ready_rule rule.new ≡ ready_rule rule.old) }
+    ensures ready { OnOk result (IsRuleFor scene.now.doc.now rule.new) }
 {
     let source = rule.source;
     let context = source.context.text.try_clone()?;
@@ -69,60 +80,56 @@ fn judge_by_rule<'a, L: Ledger>(
     judge_inside(scene, rule, n, env, findings, steps)
 }
 
-/// The rule of that number, where there is one.
-fn rule_at<'r, 'p, 'd, 'a>(
-    rules: &'r [ReadyRule<'p, 'd, 'a>],
-    k: u32,
-) -> Option<&'r ReadyRule<'p, 'd, 'a>>
-    ensures { option_copied result ≡ slice_get rules.now k }
-{
-    rules.get(k as usize)
-}
-
 /// Judges a node by the rule that is kept of it.
 fn judge_by_entry<'a, L: Ledger>(
     scene: &Scene<'_, 'a>,
-    rules: &[ReadyRule<'_, '_, 'a>],
+    rules: &mut [ReadyRule<'_, '_, 'a>],
     kept: Option<u32>,
     n: NodeId,
     env: &mut Env<'a>,
     findings: &mut Findings,
     steps: &mut Steps<L>,
 ) -> Result<(), AllocError>
-    requires ready { All (IsRuleFor scene.now.doc.now) rules.now }
+    requires ready { All (IsRuleFor scene.now.doc.now) rules.old }
     requires within { n < count scene.now }
     requires set { IsSet scene.now }
     requires variables { ValuesWithin (count scene.now) env.old }
-    ensures found { OnOk result (findings.new ≡ findings.old ++ by_entry (nodes_of scene.now) env.old (map ready_rule rules.now) n kept) }
+    ensures found { OnOk result (findings.new ≡ findings.old ++ by_entry (nodes_of scene.now) env.old (map ready_rule rules.old) n kept) }
     ensures env { OnOk result (env.new ≡ env.old) }
+    ensures same { OnOk result (map ready_rule rules.new ≡ map ready_rule rules.old) }
+    ensures ready { OnOk result (All (IsRuleFor scene.now.doc.now) rules.new) }
 {
     let Some(k) = kept else {
         return Ok(());
     };
-    match rule_at(rules, k) {
-        None => Ok(()),
-        Some(rule) => judge_by_rule(scene, rule, k, n, env, findings, steps),
+    let place = k as usize;
+    if place < rules.len() {
+        judge_by_rule(scene, &mut rules[place], k, n, env, findings, steps)
+    } else {
+        Ok(())
     }
 }
 
 /// Judges each of these nodes by the rule that the table keeps of it.
 pub(crate) fn judge_nodes<'a, L: Ledger>(
     scene: &Scene<'_, 'a>,
-    rules: &[ReadyRule<'_, '_, 'a>],
+    rules: &mut [ReadyRule<'_, '_, 'a>],
     table: &[Option<u32>],
     nodes: &[NodeId],
     env: &mut Env<'a>,
     findings: &mut Findings,
     steps: &mut Steps<L>,
 ) -> Result<(), AllocError>
-    requires ready { All (IsRuleFor scene.now.doc.now) rules.now }
+    requires ready { All (IsRuleFor scene.now.doc.now) rules.old }
     requires long { length table.now ≡ count scene.now }
     requires within { AreBelow (count scene.now) nodes.now }
     requires set { IsSet scene.now }
     requires variables { ValuesWithin (count scene.now) env.old }
     ensures found { OnOk result (findings.new ≡ findings.old
-        ++ flat_map (λ n. by_entry (nodes_of scene.now) env.old (map ready_rule rules.now) n (entry table.now n)) nodes.now) }
+        ++ flat_map (λ n. by_entry (nodes_of scene.now) env.old (map ready_rule rules.old) n (entry table.now n)) nodes.now) }
     ensures env { OnOk result (env.new ≡ env.old) }
+    ensures same { OnOk result (map ready_rule rules.new ≡ map ready_rule rules.old) }
+    ensures ready { OnOk result (All (IsRuleFor scene.now.doc.now) rules.new) }
 {
     'nodes: for n in nodes {
         let kept = entry_at(table, *n);

@@ -46,10 +46,10 @@ fn judge_by_rules<'a, L: Ledger>(
 {
     documents_are_walkable(scene.doc);
     let touched = first_rules(scene, rules, env, table, steps)?;
-    let ready = ready_rules(scene, rules)?;
+    let mut ready = ready_rules(scene, rules)?;
     judge_nodes(
         scene,
-        ready.as_slice(),
+        ready.as_mut_slice(),
         table,
         touched.as_slice(),
         env,

@@ -15,19 +15,22 @@ use xpath_items::{DynError, Focus, Item, Outcome};
 use xpath_operators::truth;
 use xpath_run::{Env, Run};
 
-/// The value of the expression of a plan that is ready, at a node, or its error.
+/// The value of the expression of a plan that is ready, at a node, or its error. What it keeps of the document stays for
+/// the next node.
 pub(crate) fn value_at<'a, L: Ledger>(
     scene: &Scene<'_, 'a>,
-    run: &Run<'_, '_, 'a>,
+    run: &mut Run<'_, '_, 'a>,
     n: NodeId,
     env: &Env<'a>,
     steps: &mut Steps<L>,
 ) -> Result<Outcome<'a>, AllocError>
-    requires ready { run.now.document ≡ scene.now.doc.now }
+    requires ready { run.old.document ≡ scene.now.doc.now }
     requires within { n < count scene.now }
     requires variables { ValuesWithin (count scene.now) env.now }
-    ensures value { IfOk result (λ outcome. value outcome ≡ mean (nodes_of scene.now) (expression run.now.plan) (at_top n env.now)) }
+    ensures value { IfOk result (λ outcome. value outcome ≡ mean (nodes_of scene.now) (expression run.old.plan) (at_top n env.now)) }
     ensures within { IfOk result (λ outcome. ValueWithin (count scene.now) (value outcome)) }
+    ensures plan { run.new.plan ≡ run.old.plan }
+    ensures document { run.new.document ≡ run.old.document }
 {
     let focus = Focus {
         item: Item::Node(n),

@@ -2,6 +2,7 @@
 ghost use Rattle.std.specs.Prelude.{◌≡◌, ◌<◌, ◌++◌, [], true, length, IfOk, IfSome, OnOk};
 ghost use Rattle.xpath_plan.specs.Plans.{seen, test_seen};
 ghost use Rattle.xpath_run.specs.Contexts.{IsReadyFor, count};
+ghost use Rattle.xpath_run.specs.Slots.{AreHeld, PlacedWork};
 ghost use Rattle.xpath_walks.specs.Walks.{Bounds, chain_of};
 ghost use Rattle.xpath_marks.specs.FirstSteps as spec;
 ghost use Rattle.xpath_marks.specs.FirstSteps.{GoesToChildren, all_around, around_at, elements_of};
@@ -14,7 +15,7 @@ use std::alloc::AllocError;
 use std::sync::ledger::Ledger;
 use xpath_grammar::step::Axis;
 use xpath_plan::work::{Kind, Simple, StepTest, Work};
-use xpath_run::Ground;
+use xpath_run::{Ground, Slots};
 use xpath_walks::{documents_are_walkable, in_order, named_nodes};
 
 fn name_of(test: &StepTest) -> Option<usize>
@@ -129,20 +130,24 @@ fn around<L: Ledger>(
 
 /// What a step to children of the plan's k-th name and its predicates find from some node: what they find from the
 /// nodes around the elements of that name.
-pub(crate) fn from_around<L: Ledger>(
-    ground: &Ground<'_, '_>,
+pub(crate) fn from_around<'a, L: Ledger>(
+    ground: &Ground<'_, 'a>,
     work: &Work,
     k: usize,
+    slots: &mut Slots<'a>,
     steps: &mut Steps<L>,
 ) -> Result<Vec<NodeId>, AllocError>
     requires ready { IsReadyFor ground.now [] }
     requires children { GoesToChildren ground.now k (seen ground.now.names.now work.now) }
+    requires placed { PlacedWork ground.now work.now }
+    requires slots { AreHeld ground.now slots.old }
     ensures marked { IfOk result (λ found. FoundByStep ground.now (seen ground.now.names.now work.now) found.items) }
     ensures within { IfOk result (λ found. AreNodes ground.now found.items) }
+    ensures held { AreHeld ground.now slots.new }
 {
     documents_are_walkable(ground.doc);
     let named = all_of_name(ground, k, steps)?;
     let from = around(ground, named.as_slice(), steps)?;
     drop(named);
-    reached(ground, work, from.as_slice(), steps)
+    reached(ground, work, from.as_slice(), slots, steps)
 }

@@ -18,7 +18,7 @@ use std::alloc::{AllocError, Global};
 use std::marker::Model;
 use std::sync::ledger::Ledger;
 use xpath_plan::Plan;
-use xpath_run::{Env, Ground};
+use xpath_run::{Env, Ground, Slots};
 use xpath_walks::{documents_are_walkable, numbers_in};
 
 /// The nodes of a document that a pattern matches, in document order. Contracts see the list of their numbers.
@@ -82,16 +82,36 @@ pub fn marks_of<L: Ledger>(
     ensures cost { (name : Name) → alone (expression plan.now) ≡ Some name
         → Bounds (length (chain_of (tree_nodes doc.now) (Some (named name)))) true result steps.old steps.new }
 {
+    marks_over(alloc, plan, doc, env, steps)
+}
+
+/// The same, where what the document and the variables borrow lives as long: so do the values that are kept meanwhile.
+fn marks_over<'a, L: Ledger>(
+    alloc: Global,
+    plan: &Plan,
+    doc: &Doc<'a>,
+    env: &Env<'a>,
+    steps: &mut Steps<L>,
+) -> Result<Marks, AllocError>
+    requires { ValuesWithin (length doc.now.nodes) env.now }
+    ensures marks { IfOk result (λ found. is_pattern (expression plan.now) ≡ true → found ≡ meaning.marks (tree_nodes doc.now) env.now (expression plan.now)) }
+    ensures within { IfOk result (λ found. AreWithin (length doc.now.nodes) (node_items found)) }
+    ensures cost { (name : Name) → alone (expression plan.now) ≡ Some name
+        → Bounds (length (chain_of (tree_nodes doc.now) (Some (named name)))) true result steps.old steps.new }
+{
     documents_are_walkable(doc);
     marks_are_found();
+    plan.parts_are_sound();
     let numbers = numbers_in(alloc, doc, plan.names())?;
+    let mut slots = Slots::new(alloc, plan.slots())?;
     let ground = Ground {
         alloc,
         doc,
+        plan,
         names: plan.names(),
         numbers: numbers.as_slice(),
         env,
     };
-    let nodes = found(&ground, plan.work(), steps)?;
+    let nodes = found(&ground, plan.work(), &mut slots, steps)?;
     Ok(Marks { nodes })
 }

@@ -5,6 +5,7 @@ ghost use Rattle.xpath_meaning.specs.Steps as meaning;
 ghost use Rattle.xpath_meaning.specs.Values.{then_};
 ghost use Rattle.xpath_plan.specs.Plans.{seen};
 ghost use Rattle.xpath_run.specs.Contexts.{IsReadyFor, count, operands_of};
+ghost use Rattle.xpath_run.specs.Slots.{AreHeld, PlacedParts, PlacedWork};
 ghost use Rattle.xpath_walks.specs.Walks.{if_so};
 ghost use Rattle.xpath_marks.specs.Marking as spec;
 ghost use Rattle.xpath_marks.specs.Marking.{AreNodes};
@@ -15,7 +16,7 @@ use std::alloc::AllocError;
 use std::sync::ledger::Ledger;
 use xpath_items::{DynError, Fault, Focus, Item};
 use xpath_plan::work::{Link, Work};
-use xpath_run::{Ground, evaluate};
+use xpath_run::{Ground, Slots, evaluate};
 use xpath_steps::keeps;
 
 /// Whether a predicate that comes to this keeps the node. An error doesn't.
@@ -29,17 +30,21 @@ fn is_kept(answer: Result<bool, DynError>) -> bool
 }
 
 /// Whether the predicate keeps the node, which is the one at that position of so many.
-fn holds<L: Ledger>(
-    ground: &Ground<'_, '_>,
+fn holds<'a, L: Ledger>(
+    ground: &Ground<'_, 'a>,
     predicate: &Work,
     n: NodeId,
     position: u64,
     last: u64,
+    slots: &mut Slots<'a>,
     steps: &mut Steps<L>,
 ) -> Result<bool, AllocError>
     requires ready { IsReadyFor ground.now [] }
     requires within { n < count ground.now }
-    ensures { IfOk result (λ kept. kept ≡ patterns.is_kept (then_ (spec.judged ground.now (seen ground.now.names.now predicate.now) n position last) (meaning.keeps position))) }
+    requires placed { PlacedWork ground.now predicate.now }
+    requires slots { AreHeld ground.now slots.old }
+    ensures kept { IfOk result (λ kept. kept ≡ patterns.is_kept (then_ (spec.judged ground.now (seen ground.now.names.now predicate.now) n position last) (meaning.keeps position))) }
+    ensures held { AreHeld ground.now slots.new }
 {
     let focus = Focus {
         item: Item::Node(n),
@@ -47,7 +52,7 @@ fn holds<L: Ledger>(
         last,
     };
     let mut bound = Vec::new(ground.alloc);
-    match evaluate(ground, predicate, &focus, &mut bound, steps) {
+    match evaluate(ground, predicate, &focus, &mut bound, slots, steps) {
         Ok(value) => Ok(is_kept(keeps(position, &value))),
         Err(Fault::Memory) => Err(AllocError),
         Err(Fault::Error(_)) => Ok(false),
@@ -65,41 +70,49 @@ fn put_if(is_kept: bool, n: NodeId, kept: &mut Vec<NodeId>) -> Result<(), AllocE
 }
 
 /// The nodes that the predicate keeps. They are gone through in this order.
-fn kept_by<L: Ledger>(
-    ground: &Ground<'_, '_>,
+fn kept_by<'a, L: Ledger>(
+    ground: &Ground<'_, 'a>,
     predicate: &Work,
     nodes: Vec<NodeId>,
+    slots: &mut Slots<'a>,
     steps: &mut Steps<L>,
 ) -> Result<Vec<NodeId>, AllocError>
     requires ready { IsReadyFor ground.now [] }
     requires within { AreNodes ground.now nodes.items }
+    requires placed { PlacedWork ground.now predicate.now }
+    requires slots { AreHeld ground.now slots.old }
     ensures kept { IfOk result (λ kept. kept.items ≡ spec.kept_by ground.now (seen ground.now.names.now predicate.now) nodes.items) }
     ensures within { IfOk result (λ kept. AreNodes ground.now kept.items) }
+    ensures held { AreHeld ground.now slots.new }
 {
     let last = nodes.len() as u64;
     let mut kept = Vec::new(ground.alloc);
     'nodes: for (k, n) in nodes.iter().enumerate() {
-        let is_kept = holds(ground, predicate, *n, k as u64 + 1, last, steps)?;
+        let is_kept = holds(ground, predicate, *n, k as u64 + 1, last, slots, steps)?;
         put_if(is_kept, *n, &mut kept)?;
     }
     Ok(kept)
 }
 
 /// The nodes that all predicates keep, each given what the one before it kept.
-pub(crate) fn kept_by_all<L: Ledger>(
-    ground: &Ground<'_, '_>,
+pub(crate) fn kept_by_all<'a, L: Ledger>(
+    ground: &Ground<'_, 'a>,
     predicates: &[(Link, Work)],
     nodes: Vec<NodeId>,
+    slots: &mut Slots<'a>,
     steps: &mut Steps<L>,
 ) -> Result<Vec<NodeId>, AllocError>
     requires ready { IsReadyFor ground.now [] }
     requires within { AreNodes ground.now nodes.items }
+    requires placed { PlacedParts ground.now predicates.now }
+    requires slots { AreHeld ground.now slots.old }
     ensures kept { IfOk result (λ kept. kept.items ≡ spec.kept_by_all ground.now (operands_of ground.now.names.now predicates.now) nodes.items) }
     ensures within { IfOk result (λ kept. AreNodes ground.now kept.items) }
+    ensures held { AreHeld ground.now slots.new }
 {
     let mut nodes = nodes;
     'predicates: for predicate in predicates {
-        nodes = kept_by(ground, &predicate.1, nodes, steps)?;
+        nodes = kept_by(ground, &predicate.1, nodes, slots, steps)?;
     }
     Ok(nodes)
 }

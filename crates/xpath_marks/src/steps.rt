@@ -2,6 +2,7 @@
 ghost use Rattle.std.specs.Prelude.{◌≡◌, ◌<◌, [], IfOk, OnOk};
 ghost use Rattle.xpath_plan.specs.Plans.{seen, made, simple_seen};
 ghost use Rattle.xpath_run.specs.Contexts.{IsReadyFor, count, operands_of};
+ghost use Rattle.xpath_run.specs.Slots.{AreHeld, PlacedParts, PlacedWork};
 ghost use Rattle.xpath_marks.specs.Marking as spec;
 ghost use Rattle.xpath_marks.specs.Marking.{AreNodes, Turned, Reached};
 
@@ -11,7 +12,7 @@ use node_arena::NodeId;
 use std::alloc::AllocError;
 use std::sync::ledger::Ledger;
 use xpath_plan::work::{Kind, Link, Simple, Work};
-use xpath_run::Ground;
+use xpath_run::{Ground, Slots};
 use xpath_walks::{Step, axis_nodes, documents_are_walkable, in_order};
 
 /// Puts what a step without predicates finds at the node behind the others.
@@ -44,22 +45,26 @@ fn simple_turn<L: Ledger>(
 
 /// Puts what the step finds at the node behind the others. What is no step puts anything.
 #[cycle(turning)]
-fn turn<L: Ledger>(
-    ground: &Ground<'_, '_>,
+fn turn<'a, L: Ledger>(
+    ground: &Ground<'_, 'a>,
     work: &Work,
     n: NodeId,
     out: &mut Vec<NodeId>,
+    slots: &mut Slots<'a>,
     steps: &mut Steps<L>,
 ) -> Result<(), AllocError>
     requires ready { IsReadyFor ground.now [] }
     requires within { n < count ground.now }
     requires out { AreNodes ground.now out.old.items }
+    requires placed { PlacedWork ground.now work.now }
+    requires slots { AreHeld ground.now slots.old }
     ensures turned { OnOk result (Turned ground.now (seen ground.now.names.now work.now) n out.old.items out.new.items) }
     ensures within { OnOk result (AreNodes ground.now out.new.items) }
+    ensures held { AreHeld ground.now slots.new }
 {
     match work {
         Work::Simple(simple) => simple_turn(ground, simple, n, out, steps),
-        Work::Node(kind, parts) => turn_by(ground, kind, parts.as_slice(), n, out, steps),
+        Work::Node(kind, parts) => turn_by(ground, kind, parts.as_slice(), n, out, slots, steps),
     }
 }
 
@@ -95,27 +100,31 @@ pub(crate) fn is_filter(kind: &Kind) -> bool
 
 /// The same by what the parts are made to.
 #[cycle(turning)]
-fn turn_by<L: Ledger>(
-    ground: &Ground<'_, '_>,
+fn turn_by<'a, L: Ledger>(
+    ground: &Ground<'_, 'a>,
     kind: &Kind,
     parts: &[(Link, Work)],
     n: NodeId,
     out: &mut Vec<NodeId>,
+    slots: &mut Slots<'a>,
     steps: &mut Steps<L>,
 ) -> Result<(), AllocError>
     requires ready { IsReadyFor ground.now [] }
     requires within { n < count ground.now }
     requires out { AreNodes ground.now out.old.items }
+    requires placed { PlacedParts ground.now parts.now }
+    requires slots { AreHeld ground.now slots.old }
     ensures turned { OnOk result (Turned ground.now (made kind.now (operands_of ground.now.names.now parts.now)) n out.old.items out.new.items) }
     ensures within { OnOk result (AreNodes ground.now out.new.items) }
+    ensures held { AreHeld ground.now slots.new }
 {
     let Some((first, others)) = parts.split_first() else {
         return Ok(());
     };
     if is_first_part(kind, first.0, others.is_empty()) {
-        turn(ground, &first.1, n, out, steps)
+        turn(ground, &first.1, n, out, slots, steps)
     } else if is_filter(kind) {
-        filtered(ground, &first.1, others, n, out, steps)
+        filtered(ground, &first.1, others, n, out, slots, steps)
     } else {
         Ok(())
     }
@@ -123,42 +132,51 @@ fn turn_by<L: Ledger>(
 
 /// Puts what the first part finds at the node and all predicates behind it keep behind the others.
 #[cycle(turning)]
-fn filtered<L: Ledger>(
-    ground: &Ground<'_, '_>,
+fn filtered<'a, L: Ledger>(
+    ground: &Ground<'_, 'a>,
     first: &Work,
     predicates: &[(Link, Work)],
     n: NodeId,
     out: &mut Vec<NodeId>,
+    slots: &mut Slots<'a>,
     steps: &mut Steps<L>,
 ) -> Result<(), AllocError>
     requires ready { IsReadyFor ground.now [] }
     requires within { n < count ground.now }
     requires out { AreNodes ground.now out.old.items }
+    requires first { PlacedWork ground.now first.now }
+    requires placed { PlacedParts ground.now predicates.now }
+    requires slots { AreHeld ground.now slots.old }
     ensures turned { OnOk result (spec.Filtered ground.now (seen ground.now.names.now first.now) (operands_of ground.now.names.now predicates.now) n out.old.items out.new.items) }
     ensures within { OnOk result (AreNodes ground.now out.new.items) }
+    ensures held { AreHeld ground.now slots.new }
 {
     let mut nodes = Vec::new(ground.alloc);
-    turn(ground, first, n, &mut nodes, steps)?;
-    let mut kept = kept_by_all(ground, predicates, nodes, steps)?;
+    turn(ground, first, n, &mut nodes, slots, steps)?;
+    let mut kept = kept_by_all(ground, predicates, nodes, slots, steps)?;
     out.append(&mut kept)?;
     Ok(())
 }
 
 /// The nodes that the step leads to from these, in document order.
-pub(crate) fn reached<L: Ledger>(
-    ground: &Ground<'_, '_>,
+pub(crate) fn reached<'a, L: Ledger>(
+    ground: &Ground<'_, 'a>,
     work: &Work,
     from: &[NodeId],
+    slots: &mut Slots<'a>,
     steps: &mut Steps<L>,
 ) -> Result<Vec<NodeId>, AllocError>
     requires ready { IsReadyFor ground.now [] }
     requires from { AreNodes ground.now from.now }
+    requires placed { PlacedWork ground.now work.now }
+    requires slots { AreHeld ground.now slots.old }
     ensures reached { IfOk result (λ found. Reached ground.now (seen ground.now.names.now work.now) from.now found.items) }
     ensures within { IfOk result (λ found. AreNodes ground.now found.items) }
+    ensures held { AreHeld ground.now slots.new }
 {
     let mut out = Vec::new(ground.alloc);
     'from: for n in from {
-        turn(ground, work, *n, &mut out, steps)?;
+        turn(ground, work, *n, &mut out, slots, steps)?;
     }
     documents_are_walkable(ground.doc);
     Ok(in_order(out))

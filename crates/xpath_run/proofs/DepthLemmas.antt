@@ -1,5 +1,5 @@
 -- How deep works are nested.
-use Rattle.std.proofs.Common.{◌≡◌, ℕ, suc, zero, ◌<◌, ◌≤◌, List, [], ◌∷◌, length, get_or, drop, sym, ap, ◌∙◌, arith}
+use Rattle.std.proofs.Common.{◌≡◌, ℕ, suc, zero, ◌<◌, ◌≤◌, List, [], ◌∷◌, length, get_or, drop, sym, ap, ◌∙◌, subst, arith}
 use Rattle.xpath_plan.specs.declared.work.Link.{Link}
 use Rattle.xpath_plan.specs.declared.work.Kind.{Kind}
 use Rattle.xpath_plan.specs.declared.work.Work.{Work, Work-F, fold-roll-Work}
@@ -19,6 +19,11 @@ pub no_deeper : (parts : List (Link × Work)) (k : ℕ) (part : Link × Work) �
 no_deeper [] k part within is = absurd (omega (arith, within))
 no_deeper (first ∷ parts) zero part within is = omega (arith, ap (λ (it : Link × Work). depth it.1) is)
 no_deeper (first ∷ parts) (suc k) part within is = omega (arith, no_deeper parts k part (omega (arith, within)) is)
+
+pub there-no_deeper : (parts : List (Link × Work)) (k : ℕ) (part : Link × Work) → k < length parts → part ≡ get_or parts k part
+    → (depth part.1 ≤ deepest parts) × (depth (get_or parts k part).1 ≤ deepest parts)
+there-no_deeper parts k part within is =
+    (no_deeper parts k part within is, subst (λ (p : Link × Work). depth p.1 ≤ deepest parts) is (no_deeper parts k part within is))
 
 pub first-no_deeper : (parts others : List (Link × Work)) (part : Link × Work) → parts ≡ part ∷ others → (depth part.1 ≤ deepest parts) × (deepest others ≤ deepest parts)
 first-no_deeper parts others part is = (omega (arith, ap deepest is), omega (arith, ap deepest is))

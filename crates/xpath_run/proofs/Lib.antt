@@ -13,3 +13,6 @@ pub mod PartLemmas
 pub mod LoopLemmas
 pub mod TurnSteps
 pub mod SeenLemmas
+pub mod SlotLemmas
+pub mod WalkLemmas
+pub mod NamedLemmas

@@ -31,6 +31,10 @@ behind-again xs ys (Err error) = refl
 
 -- Arguments
 
+pub begun : (values : List (List Item)) (others : Result (List (List Item)) DynError) → values ≡ [] → behind_those values others ≡ others
+begun values (Ok zs) is = ap (λ vs. Ok (vs ++ zs)) is
+begun values (Err error) is = refl
+
 module _ (nodes : List Node) (names : List Name) (c : Context) (parts : List (Link × Work)) (i : ℕ) (part : Link × Work) (within : i < length parts) (at : part ≡ get_or parts i part) where
   pub argument-ok : (values values' : List (List Item)) (items : List Item) → mean nodes (seen names part.1) c ≡ Ok items → values' ≡ values ++ items ∷ []
       → behind_those values' (means nodes (arguments_of (operands_of names (drop (i + 1) parts))) c) ≡ behind_those values (means nodes (arguments_of (operands_of names (drop i parts))) c)

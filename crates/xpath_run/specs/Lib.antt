@@ -4,4 +4,9 @@ pub mod Finishing
 pub mod Turns
 pub mod Depths
 pub mod Parts
+pub mod Held
+pub mod Placed
+pub mod Slots
 pub mod Runs
+pub mod Whole
+pub mod Named

@@ -4,13 +4,14 @@ ghost use Rattle.std.specs.Prelude.{◌≡◌, ℕ, ◌<◌, ◌+◌, ◌∷◌,
 ghost use Rattle.node_arena.specs.Moves.{tree_nodes};
 ghost use Rattle.xpath_items.specs.Faults.{Gives};
 ghost use Rattle.xpath_meaning.specs.Meaning.{means};
-ghost use Rattle.xpath_meaning.specs.Resolving.{in_axis_order, chained, bound_all, chosen_of, filtered_of, arguments_of};
+ghost use Rattle.xpath_meaning.specs.Resolving.{in_axis_order, chained, bound_all, chosen_of, filtered_of, arguments_of, first_part};
 ghost use Rattle.xpath_meaning.specs.Steps as steps_spec;
 ghost use Rattle.xpath_meaning.specs.Values as values_spec;
 ghost use Rattle.xpath_operators.specs.Nodes.{AreWithin, AllWithin};
 ghost use Rattle.xpath_plan.specs.Plans.{seen, made};
 ghost use Rattle.xpath_run.specs.Contexts.{IsReady, IsReadyFor, context, count, operands_of, turn_in, value_in};
 ghost use Rattle.xpath_run.specs.Finishing.{is_strict};
+ghost use Rattle.xpath_run.specs.Slots.{AreHeld, Grows, PlacedWork, PlacedParts, PlacedNode};
 ghost use Rattle.xpath_run.specs.Links as links;
 ghost use Rattle.xpath_steps.specs.Variables.{ValueWithin};
 
@@ -18,8 +19,12 @@ use crate::calling::value_of;
 use crate::finishing::{finished, wanted};
 use crate::ground::Ground;
 use crate::linking::{Ahead, ahead_of, joined_by, step_inside, test_inside};
-use crate::parts::{append_found, as_step, is_filtered_step, is_operator, keep_if, part_at, sole};
+use crate::parts::{
+    append_found, as_step, first, is_filtered_step, is_light, is_node, is_operator, keep_if,
+    part_at, sole,
+};
 use crate::simple::{simple, simple_in_axis_order};
+use crate::slots::Slots;
 use crate::turns::{Turn, advance, decided, ended, take_turn};
 use crate::values::Values;
 use inv_base::Steps;
@@ -39,16 +44,29 @@ pub fn evaluate<'a, L: Ledger>(
     work: &Work,
     focus: &Focus<'a>,
     bound: &mut Vec<Item<'a>>,
+    slots: &mut Slots<'a>,
     steps: &mut Steps<L>,
 ) -> Result<Seq<'a>, Fault>
-    requires { IsReady ground.now focus.now bound.old.items }
+    requires ready { IsReady ground.now focus.now bound.old.items }
+    requires placed { PlacedWork ground.now work.now }
+    requires slots { AreHeld ground.now slots.old }
     ensures value { Gives result (value_in ground.now (seen ground.now.names.now work.now) focus.now bound.old.items) }
     ensures within { IfOk result (λ items. AreWithin (count ground.now) items) }
     ensures kept { bound.new.items ≡ bound.old.items }
+    ensures held { AreHeld ground.now slots.new }
+    ensures grown { Grows slots.old slots.new }
 {
     match work {
         Work::Simple(x) => simple(ground, x, focus, bound.as_slice(), steps),
-        Work::Node(kind, parts) => by_kind(ground, kind, parts.as_slice(), focus, bound, steps),
+        Work::Node(kind, parts) => by_kind(
+            ground,
+            kind,
+            parts.as_slice(),
+            focus,
+            bound,
+            slots,
+            steps,
+        ),
     }
 }
 
@@ -60,34 +78,74 @@ fn by_kind<'a, L: Ledger>(
     parts: &[(Link, Work)],
     focus: &Focus<'a>,
     bound: &mut Vec<Item<'a>>,
+    slots: &mut Slots<'a>,
     steps: &mut Steps<L>,
 ) -> Result<Seq<'a>, Fault>
-    requires { IsReady ground.now focus.now bound.old.items }
+    requires ready { IsReady ground.now focus.now bound.old.items }
+    requires placed { PlacedNode ground.now kind.now parts.now }
+    requires slots { AreHeld ground.now slots.old }
     ensures value { Gives result (value_in ground.now (made kind.now (operands_of ground.now.names.now parts.now)) focus.now bound.old.items) }
     ensures within { IfOk result (λ items. AreWithin (count ground.now) items) }
     ensures kept { bound.new.items ≡ bound.old.items }
+    ensures held { AreHeld ground.now slots.new }
+    ensures grown { Grows slots.old slots.new }
 {
     match kind {
-        Kind::Chain => chain(ground, parts, focus, bound, steps),
-        Kind::Bound(binder) => bind(ground, *binder, parts, focus, bound, steps),
-        Kind::Conditional => choose(ground, parts, focus, bound, steps),
+        Kind::Chain => chain(ground, parts, focus, bound, slots, steps),
+        Kind::Bound(binder) => bind(ground, *binder, parts, focus, bound, slots, steps),
+        Kind::Conditional => choose(ground, parts, focus, bound, slots, steps),
         Kind::FilteredStep | Kind::FreeStep => {
-            let items = filter(ground, true, parts, focus, bound, steps)?;
+            let items = filter(ground, true, parts, focus, bound, slots, steps)?;
             document_ordered(ground.alloc, ground.doc, items.as_slice())
         }
-        Kind::Filtered => filter(ground, false, parts, focus, bound, steps),
+        Kind::Filtered => filter(ground, false, parts, focus, bound, slots, steps),
+        Kind::Once(slot, height) => once(ground, *slot, *height, parts, focus, bound, slots, steps),
         Kind::Cast(_, _, _)
         | Kind::Signs(_)
         | Kind::Only
         | Kind::Call(_)
         | Kind::Matches(_)
         | Kind::Nothing => {
-            let values = values_of(ground, wanted(kind, parts), focus, bound, steps)?;
+            let values = values_of(ground, wanted(kind, parts), focus, bound, slots, steps)?;
             finished(ground.alloc, ground.doc, kind, focus, values)
         }
-        Kind::Once(_, _) => {
-            let values = values_of(ground, wanted(kind, parts), focus, bound, steps)?;
-            finished(ground.alloc, ground.doc, kind, focus, values)
+    }
+}
+
+/// The first part, whose value is kept in the slot where it is evaluated at a node and inside so many bound variables. It
+/// is evaluated once. A part whose value costs nothing, or is kept inside it, needs no slot.
+#[cycle(evaluating)]
+fn once<'a, L: Ledger>(
+    ground: &Ground<'_, 'a>,
+    slot: usize,
+    height: usize,
+    parts: &[(Link, Work)],
+    focus: &Focus<'a>,
+    bound: &mut Vec<Item<'a>>,
+    slots: &mut Slots<'a>,
+    steps: &mut Steps<L>,
+) -> Result<Seq<'a>, Fault>
+    requires ready { IsReady ground.now focus.now bound.old.items }
+    requires placed { PlacedNode ground.now (Kind.Once slot height) parts.now }
+    requires slots { AreHeld ground.now slots.old }
+    ensures value { Gives result (value_in ground.now (first_part (operands_of ground.now.names.now parts.now)) focus.now bound.old.items) }
+    ensures within { IfOk result (λ items. AreWithin (count ground.now) items) }
+    ensures kept { bound.new.items ≡ bound.old.items }
+    ensures held { AreHeld ground.now slots.new }
+    ensures grown { Grows slots.old slots.new }
+{
+    let Some(part) = first(parts) else {
+        return Ok(Seq::new(ground.alloc));
+    };
+    if !is_node(&focus.item) || bound.len() != height || is_light(part) {
+        return evaluate(ground, part, focus, bound, slots, steps);
+    }
+    match slots.read(ground.alloc, slot)? {
+        Some(outcome) => value_of(outcome),
+        None => {
+            let found = evaluate(ground, part, focus, bound, slots, steps);
+            let kept = outcome(found)?;
+            value_of(slots.fill(ground.alloc, slot, kept)?)
         }
     }
 }
@@ -99,16 +157,21 @@ fn values_of<'a, L: Ledger>(
     parts: &[(Link, Work)],
     focus: &Focus<'a>,
     bound: &mut Vec<Item<'a>>,
+    slots: &mut Slots<'a>,
     steps: &mut Steps<L>,
 ) -> Result<Values<'a>, Fault>
-    requires { IsReady ground.now focus.now bound.old.items }
+    requires ready { IsReady ground.now focus.now bound.old.items }
+    requires placed { PlacedParts ground.now parts.now }
+    requires slots { AreHeld ground.now slots.old }
     ensures value { Gives result (means (tree_nodes ground.now.doc.now) (arguments_of (operands_of ground.now.names.now parts.now)) (context ground.now focus.now bound.old.items)) }
     ensures within { IfOk result (λ values. AllWithin (count ground.now) values) }
     ensures kept { bound.new.items ≡ bound.old.items }
+    ensures held { AreHeld ground.now slots.new }
+    ensures grown { Grows slots.old slots.new }
 {
     let mut values = Values::new(ground.alloc);
     'parts: for part in parts {
-        match evaluate(ground, &part.1, focus, bound, steps) {
+        match evaluate(ground, &part.1, focus, bound, slots, steps) {
             Ok(value) => values.push(value)?,
             Err(fault) => return Err(fault),
         }
@@ -123,21 +186,26 @@ fn choose<'a, L: Ledger>(
     parts: &[(Link, Work)],
     focus: &Focus<'a>,
     bound: &mut Vec<Item<'a>>,
+    slots: &mut Slots<'a>,
     steps: &mut Steps<L>,
 ) -> Result<Seq<'a>, Fault>
-    requires { IsReady ground.now focus.now bound.old.items }
+    requires ready { IsReady ground.now focus.now bound.old.items }
+    requires placed { PlacedParts ground.now parts.now }
+    requires slots { AreHeld ground.now slots.old }
     ensures value { Gives result (value_in ground.now (chosen_of (operands_of ground.now.names.now parts.now)) focus.now bound.old.items) }
     ensures within { IfOk result (λ items. AreWithin (count ground.now) items) }
     ensures kept { bound.new.items ≡ bound.old.items }
+    ensures held { AreHeld ground.now slots.new }
+    ensures grown { Grows slots.old slots.new }
 {
     match parts {
         [(_, condition), (_, then), (_, otherwise)] => {
-            let found = evaluate(ground, condition, focus, bound, steps)?;
+            let found = evaluate(ground, condition, focus, bound, slots, steps)?;
             let holds = truth(&found)?;
             if holds {
-                evaluate(ground, then, focus, bound, steps)
+                evaluate(ground, then, focus, bound, slots, steps)
             } else {
-                evaluate(ground, otherwise, focus, bound, steps)
+                evaluate(ground, otherwise, focus, bound, slots, steps)
             }
         }
         _ => Ok(Seq::new(ground.alloc)),
@@ -151,22 +219,27 @@ fn chain<'a, L: Ledger>(
     parts: &[(Link, Work)],
     focus: &Focus<'a>,
     bound: &mut Vec<Item<'a>>,
+    slots: &mut Slots<'a>,
     steps: &mut Steps<L>,
 ) -> Result<Seq<'a>, Fault>
-    requires { IsReady ground.now focus.now bound.old.items }
+    requires ready { IsReady ground.now focus.now bound.old.items }
+    requires placed { PlacedParts ground.now parts.now }
+    requires slots { AreHeld ground.now slots.old }
     ensures value { Gives result (value_in ground.now (chained (operands_of ground.now.names.now parts.now)) focus.now bound.old.items) }
     ensures within { IfOk result (λ items. AreWithin (count ground.now) items) }
     ensures kept { bound.new.items ≡ bound.old.items }
+    ensures held { AreHeld ground.now slots.new }
+    ensures grown { Grows slots.old slots.new }
 {
     let Some((first, others)) = parts.split_first() else {
         return Ok(Seq::new(ground.alloc));
     };
     if is_operator(first.0) {
         let root = root_of(ground.alloc, ground.doc, &focus.item);
-        links_on(ground, outcome(root)?, parts, focus, bound, steps)
+        links_on(ground, outcome(root)?, parts, focus, bound, slots, steps)
     } else {
-        let found = evaluate(ground, &first.1, focus, bound, steps);
-        links_on(ground, outcome(found)?, others, focus, bound, steps)
+        let found = evaluate(ground, &first.1, focus, bound, slots, steps);
+        links_on(ground, outcome(found)?, others, focus, bound, slots, steps)
     }
 }
 
@@ -178,17 +251,22 @@ fn links_on<'a, L: Ledger>(
     parts: &[(Link, Work)],
     focus: &Focus<'a>,
     bound: &mut Vec<Item<'a>>,
+    slots: &mut Slots<'a>,
     steps: &mut Steps<L>,
 ) -> Result<Seq<'a>, Fault>
     requires ready { IsReady ground.now focus.now bound.old.items }
     requires before { ValueWithin (count ground.now) (values_spec.value before) }
+    requires placed { PlacedParts ground.now parts.now }
+    requires slots { AreHeld ground.now slots.old }
     ensures value { Gives result (links.chain_value (tree_nodes ground.now.doc.now) (links.linked_parts ground.now.names.now parts.now) (values_spec.value before.entry) (context ground.now focus.now bound.old.items)) }
     ensures within { IfOk result (λ items. AreWithin (count ground.now) items) }
     ensures kept { bound.new.items ≡ bound.old.items }
+    ensures held { AreHeld ground.now slots.new }
+    ensures grown { Grows slots.old slots.new }
 {
     let mut so_far = before;
     'parts: for part in parts {
-        so_far = link_on(ground, so_far, part.0, &part.1, focus, bound, steps)?;
+        so_far = link_on(ground, so_far, part.0, &part.1, focus, bound, slots, steps)?;
     }
     value_of(so_far)
 }
@@ -202,26 +280,31 @@ fn link_on<'a, L: Ledger>(
     work: &Work,
     focus: &Focus<'a>,
     bound: &mut Vec<Item<'a>>,
+    slots: &mut Slots<'a>,
     steps: &mut Steps<L>,
 ) -> Result<Outcome<'a>, AllocError>
     requires ready { IsReady ground.now focus.now bound.old.items }
     requires before { ValueWithin (count ground.now) (values_spec.value before) }
+    requires placed { PlacedWork ground.now work.now }
+    requires slots { AreHeld ground.now slots.old }
     ensures value { IfOk result (λ outcome. values_spec.value outcome ≡ links.linked_value (tree_nodes ground.now.doc.now) link (values_spec.value before.entry)
         (seen ground.now.names.now work.now) (context ground.now focus.now bound.old.items)) }
     ensures within { IfOk result (λ outcome. ValueWithin (count ground.now) (values_spec.value outcome)) }
     ensures kept { bound.new.items ≡ bound.old.items }
+    ensures held { AreHeld ground.now slots.new }
+    ensures grown { Grows slots.old slots.new }
 {
     if let Some(test) = test_inside(link, work) {
         return step_inside(ground, before, test, steps);
     }
     match ahead_of(ground, before, link, steps)? {
         Ahead::Done(done) => Ok(done),
-        Ahead::Operand(xs) => match evaluate(ground, work, focus, bound, steps) {
+        Ahead::Operand(xs) => match evaluate(ground, work, focus, bound, slots, steps) {
             Ok(ys) => outcome(joined_by(ground, link, xs, ys)),
             Err(Fault::Error(error)) => Ok(Outcome::Error(error)),
             Err(Fault::Memory) => Err(AllocError),
         },
-        Ahead::Turns(xs) => outcome(path(ground, xs, work, bound, steps)),
+        Ahead::Turns(xs) => outcome(path(ground, xs, work, bound, slots, steps)),
     }
 }
 
@@ -232,13 +315,18 @@ fn path<'a, L: Ledger>(
     items: Seq<'a>,
     work: &Work,
     bound: &mut Vec<Item<'a>>,
+    slots: &mut Slots<'a>,
     steps: &mut Steps<L>,
 ) -> Result<Seq<'a>, Fault>
     requires ready { IsReadyFor ground.now bound.old.items }
     requires items { AreWithin (count ground.now) items }
+    requires placed { PlacedWork ground.now work.now }
+    requires slots { AreHeld ground.now slots.old }
     ensures value { Gives result (steps_spec.path (tree_nodes ground.now.doc.now) (turn_in ground.now (seen ground.now.names.now work.now) bound.old.items) items.entry) }
     ensures within { IfOk result (λ items. AreWithin (count ground.now) items) }
     ensures kept { bound.new.items ≡ bound.old.items }
+    ensures held { AreHeld ground.now slots.new }
+    ensures grown { Grows slots.old slots.new }
 {
     match as_step(work) {
         Some((axis, test)) => {
@@ -251,7 +339,7 @@ fn path<'a, L: Ledger>(
         }
         None => {
             if all_nodes(items.as_slice()) {
-                let out = turns(ground, items, work, bound, steps)?;
+                let out = turns(ground, items, work, bound, slots, steps)?;
                 of_turns(ground.alloc, ground.doc, out)
             } else {
                 Err(Fault::Error(DynError::XPTY0019))
@@ -267,13 +355,18 @@ fn turns<'a, L: Ledger>(
     items: Seq<'a>,
     work: &Work,
     bound: &mut Vec<Item<'a>>,
+    slots: &mut Slots<'a>,
     steps: &mut Steps<L>,
 ) -> Result<Seq<'a>, Fault>
     requires ready { IsReadyFor ground.now bound.old.items }
     requires items { AreWithin (count ground.now) items }
+    requires placed { PlacedWork ground.now work.now }
+    requires slots { AreHeld ground.now slots.old }
     ensures value { Gives result (steps_spec.turns (turn_in ground.now (seen ground.now.names.now work.now) bound.old.items) (length items.entry) 1 items.entry) }
     ensures within { IfOk result (λ items. AreWithin (count ground.now) items) }
     ensures kept { bound.new.items ≡ bound.old.items }
+    ensures held { AreHeld ground.now slots.new }
+    ensures grown { Grows slots.old slots.new }
 {
     let items = items.into_items();
     let last = items.len() as u64;
@@ -286,7 +379,7 @@ fn turns<'a, L: Ledger>(
             position,
             last,
         };
-        let found = evaluate(ground, work, &focus, bound, steps)?;
+        let found = evaluate(ground, work, &focus, bound, slots, steps)?;
         append_found(&mut out, found, focus)?;
     }
     Ok(out)
@@ -300,24 +393,29 @@ fn filter<'a, L: Ledger>(
     parts: &[(Link, Work)],
     focus: &Focus<'a>,
     bound: &mut Vec<Item<'a>>,
+    slots: &mut Slots<'a>,
     steps: &mut Steps<L>,
 ) -> Result<Seq<'a>, Fault>
-    requires { IsReady ground.now focus.now bound.old.items }
+    requires ready { IsReady ground.now focus.now bound.old.items }
+    requires placed { PlacedParts ground.now parts.now }
+    requires slots { AreHeld ground.now slots.old }
     ensures value { Gives result (value_in ground.now (links.filtered_so is_step (operands_of ground.now.names.now parts.now)) focus.now bound.old.items) }
     ensures within { IfOk result (λ items. AreWithin (count ground.now) items) }
     ensures kept { bound.new.items ≡ bound.old.items }
+    ensures held { AreHeld ground.now slots.new }
+    ensures grown { Grows slots.old slots.new }
 {
     let Some((first, predicates)) = parts.split_first() else {
         return Ok(Seq::new(ground.alloc));
     };
     if is_step {
-        match along_axis(ground, &first.1, focus, bound, steps) {
-            Ok(nodes) => keep_all(ground, nodes, predicates, bound, steps),
+        match along_axis(ground, &first.1, focus, bound, slots, steps) {
+            Ok(nodes) => keep_all(ground, nodes, predicates, bound, slots, steps),
             Err(fault) => Err(fault),
         }
     } else {
-        match evaluate(ground, &first.1, focus, bound, steps) {
-            Ok(items) => keep_all(ground, items, predicates, bound, steps),
+        match evaluate(ground, &first.1, focus, bound, slots, steps) {
+            Ok(items) => keep_all(ground, items, predicates, bound, slots, steps),
             Err(fault) => Err(fault),
         }
     }
@@ -330,17 +428,22 @@ fn keep_all<'a, L: Ledger>(
     items: Seq<'a>,
     predicates: &[(Link, Work)],
     bound: &mut Vec<Item<'a>>,
+    slots: &mut Slots<'a>,
     steps: &mut Steps<L>,
 ) -> Result<Seq<'a>, Fault>
     requires ready { IsReadyFor ground.now bound.old.items }
     requires items { AreWithin (count ground.now) items }
+    requires placed { PlacedParts ground.now predicates.now }
+    requires slots { AreHeld ground.now slots.old }
     ensures value { Gives result (links.kept_by_all (λ e. turn_in ground.now e bound.old.items) (operands_of ground.now.names.now predicates.now) items.entry) }
     ensures within { IfOk result (λ items. AreWithin (count ground.now) items) }
     ensures kept { bound.new.items ≡ bound.old.items }
+    ensures held { AreHeld ground.now slots.new }
+    ensures grown { Grows slots.old slots.new }
 {
     let mut kept = items;
     'predicates: for predicate in predicates {
-        match keep(ground, kept, &predicate.1, bound, steps) {
+        match keep(ground, kept, &predicate.1, bound, slots, steps) {
             Ok(items) => kept = items,
             Err(fault) => return Err(fault),
         }
@@ -364,13 +467,18 @@ fn keep<'a, L: Ledger>(
     items: Seq<'a>,
     predicate: &Work,
     bound: &mut Vec<Item<'a>>,
+    slots: &mut Slots<'a>,
     steps: &mut Steps<L>,
 ) -> Result<Seq<'a>, Fault>
     requires ready { IsReadyFor ground.now bound.old.items }
     requires items { AreWithin (count ground.now) items }
+    requires placed { PlacedWork ground.now predicate.now }
+    requires slots { AreHeld ground.now slots.old }
     ensures value { Gives result (steps_spec.filtered_by (turn_in ground.now (seen ground.now.names.now predicate.now) bound.old.items) items.entry) }
     ensures within { IfOk result (λ items. AreWithin (count ground.now) items) }
     ensures kept { bound.new.items ≡ bound.old.items }
+    ensures held { AreHeld ground.now slots.new }
+    ensures grown { Grows slots.old slots.new }
 {
     let items = items.into_items();
     let last = items.len() as u64;
@@ -383,7 +491,7 @@ fn keep<'a, L: Ledger>(
             position,
             last,
         };
-        let answer = evaluate(ground, predicate, &focus, bound, steps)?;
+        let answer = evaluate(ground, predicate, &focus, bound, slots, steps)?;
         let is_kept = judged(position, answer)?;
         keep_if(&mut kept, is_kept, focus)?;
     }
@@ -397,22 +505,27 @@ fn along_axis<'a, L: Ledger>(
     work: &Work,
     focus: &Focus<'a>,
     bound: &mut Vec<Item<'a>>,
+    slots: &mut Slots<'a>,
     steps: &mut Steps<L>,
 ) -> Result<Seq<'a>, Fault>
-    requires { IsReady ground.now focus.now bound.old.items }
+    requires ready { IsReady ground.now focus.now bound.old.items }
+    requires placed { PlacedWork ground.now work.now }
+    requires slots { AreHeld ground.now slots.old }
     ensures value { Gives result (value_in ground.now (in_axis_order (seen ground.now.names.now work.now)) focus.now bound.old.items) }
     ensures within { IfOk result (λ items. AreWithin (count ground.now) items) }
     ensures kept { bound.new.items ≡ bound.old.items }
+    ensures held { AreHeld ground.now slots.new }
+    ensures grown { Grows slots.old slots.new }
 {
     match work {
         Work::Simple(x) => simple_in_axis_order(ground, x, focus, bound.as_slice(), steps),
         Work::Node(kind, parts) => {
             if is_filtered_step(kind) {
-                return filter(ground, true, parts.as_slice(), focus, bound, steps);
+                return filter(ground, true, parts.as_slice(), focus, bound, slots, steps);
             }
             match sole(kind, parts.as_slice()) {
-                Some(part) => along_axis(ground, part, focus, bound, steps),
-                None => by_kind(ground, kind, parts.as_slice(), focus, bound, steps),
+                Some(part) => along_axis(ground, part, focus, bound, slots, steps),
+                None => by_kind(ground, kind, parts.as_slice(), focus, bound, slots, steps),
             }
         }
     }
@@ -426,22 +539,27 @@ fn bind<'a, L: Ledger>(
     parts: &[(Link, Work)],
     focus: &Focus<'a>,
     bound: &mut Vec<Item<'a>>,
+    slots: &mut Slots<'a>,
     steps: &mut Steps<L>,
 ) -> Result<Seq<'a>, Fault>
-    requires { IsReady ground.now focus.now bound.old.items }
+    requires ready { IsReady ground.now focus.now bound.old.items }
+    requires placed { PlacedParts ground.now parts.now }
+    requires slots { AreHeld ground.now slots.old }
     ensures value { Gives result (value_in ground.now (bound_all binder (operands_of ground.now.names.now parts.now)) focus.now bound.old.items) }
     ensures within { IfOk result (λ items. AreWithin (count ground.now) items) }
     ensures kept { bound.new.items ≡ bound.old.items }
+    ensures held { AreHeld ground.now slots.new }
+    ensures grown { Grows slots.old slots.new }
 {
     let Some((first, inside)) = parts.split_first() else {
         return Ok(Seq::new(ground.alloc));
     };
-    let items = evaluate(ground, &first.1, focus, bound, steps)?;
+    let items = evaluate(ground, &first.1, focus, bound, slots, steps)?;
     if inside.len() == 0 {
         return Ok(items);
     }
     let height = bound.len();
-    let found = take_turns(ground, binder, inside, items, focus, bound, steps);
+    let found = take_turns(ground, binder, inside, items, focus, bound, slots, steps);
     bound.truncate(height);
     found
 }
@@ -456,14 +574,19 @@ fn take_turns<'a, L: Ledger>(
     items: Seq<'a>,
     focus: &Focus<'a>,
     bound: &mut Vec<Item<'a>>,
+    slots: &mut Slots<'a>,
     steps: &mut Steps<L>,
 ) -> Result<Seq<'a>, Fault>
     requires ready { IsReady ground.now focus.now bound.old.items }
     requires items { AreWithin (count ground.now) items }
     requires inside { 0 < length inside.now }
+    requires placed { PlacedParts ground.now inside.now }
+    requires slots { AreHeld ground.now slots.old }
     ensures value { Gives result (links.bound_value binder (tree_nodes ground.now.doc.now) (operands_of ground.now.names.now inside.now) items.entry (context ground.now focus.now bound.old.items)) }
     ensures within { IfOk result (λ items. AreWithin (count ground.now) items) }
     ensures kept { take (length bound.old.items) bound.new.items ≡ bound.old.items }
+    ensures held { AreHeld ground.now slots.new }
+    ensures grown { Grows slots.old slots.new }
 {
     let height = bound.len();
     let mut out = Seq::new(ground.alloc);
@@ -472,7 +595,7 @@ fn take_turns<'a, L: Ledger>(
     'turns: while advance(&mut turns, bound, height)? {
         let k = turns.len() - 1;
         let part = part_at(inside, k);
-        match evaluate(ground, &part.1, focus, bound, steps) {
+        match evaluate(ground, &part.1, focus, bound, slots, steps) {
             Err(fault) => return Err(fault),
             Ok(found) => {
                 if turns.len() == inside.len() {

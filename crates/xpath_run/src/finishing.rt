@@ -40,8 +40,7 @@ pub(crate) fn wanted<'w>(kind: &Kind, parts: &'w [(Link, Work)]) -> &'w [(Link, 
     ensures { result.now ≡ spec.wanted kind.now parts.now }
 {
     match kind {
-        Kind::Cast(_, _, _) | Kind::Signs(_) | Kind::Only | Kind::Once(_, _) | Kind::Matches(_) =>
-            first_alone(parts),
+        Kind::Cast(_, _, _) | Kind::Signs(_) | Kind::Only | Kind::Matches(_) => first_alone(parts),
         Kind::Call(_) => parts,
         _ => &[],
     }
@@ -117,7 +116,7 @@ pub(crate) fn finished<'a>(
         Kind::Signs(signs) => {
             signed_first(alloc, doc, signs.as_slice(), values.into_first(alloc))
         }
-        Kind::Only | Kind::Once(_, _) => Ok(values.into_first(alloc)),
+        Kind::Only => Ok(values.into_first(alloc)),
         Kind::Call(function) => called(alloc, doc, *function, focus, values),
         Kind::Matches(pattern) => found_first(alloc, doc, pattern, values.into_first(alloc)),
         _ => Ok(Seq::new(alloc)),

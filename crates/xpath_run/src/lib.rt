@@ -6,13 +6,18 @@ mod evaluating;
 mod finishing;
 mod ground;
 mod linking;
+mod named;
 mod parts;
 mod run;
 mod simple;
+mod slots;
 mod turns;
 mod values;
+mod whole;
 
 pub use evaluating::evaluate;
 pub use ground::Ground;
+pub use named::Walk;
 pub use run::Run;
+pub use slots::Slots;
 pub use xpath_steps::Env;

@@ -6,11 +6,14 @@ ghost use Rattle.xpath_meaning.specs.Resolving.{in_axis_order, first_part, chain
 ghost use Rattle.xpath_plan.specs.Plans.{label_of, made, seen, simple_seen, test_seen};
 ghost use Rattle.xpath_run.specs.Contexts.{operands_of};
 ghost use Rattle.xpath_run.specs.Depths.{depth, deepest};
+ghost use Rattle.xpath_run.specs.declared.ground.Ground.{Ground};
+ghost use Rattle.xpath_run.specs.Slots.{PlacedWork, PlacedParts};
 ghost use Rattle.xpath_run.specs.Parts as spec;
+ghost use Rattle.xpath_meaning.specs.Steps as steps;
 
 use std::alloc::AllocError;
 use xpath_grammar::step::Axis;
-use xpath_items::{Focus, Seq};
+use xpath_items::{Focus, Item, Seq};
 use xpath_plan::work::{Kind, Link, Simple, StepTest, Work};
 
 /// The part with the index.
@@ -73,10 +76,11 @@ pub(crate) fn is_filtered_step(kind: &Kind) -> bool
 }
 
 /// The first part.
-fn first(parts: &[(Link, Work)]) -> Option<&Work>
+pub(crate) fn first(parts: &[(Link, Work)]) -> Option<&Work>
     ensures some { (names : List Name) → IfSome result (λ work. first_part (operands_of names parts.now) ≡ seen names work.now) }
     ensures none { (names : List Name) → IfNone result (first_part (operands_of names parts.now) ≡ nothing) }
     ensures deeper { IfSome result (λ work. depth work.now ≤ deepest parts.now) }
+    ensures placed { (base : Ground) → PlacedParts base parts.now → IfSome result (λ work. PlacedWork base work.now) }
 {
     match parts {
         [(_, work), ..] => Some(work),
@@ -89,6 +93,7 @@ fn only(parts: &[(Link, Work)]) -> Option<&Work>
     ensures some { (names : List Name) → IfSome result (λ work. spec.IsOnly (operands_of names parts.now) (seen names work.now)) }
     ensures none { (names : List Name) → IfNone result (spec.is_one (operands_of names parts.now) ≡ false) }
     ensures deeper { IfSome result (λ work. depth work.now ≤ deepest parts.now) }
+    ensures placed { (base : Ground) → PlacedParts base parts.now → IfSome result (λ work. PlacedWork base work.now) }
 {
     match parts {
         [(_, work)] => Some(work),
@@ -111,6 +116,7 @@ fn only_operand(parts: &[(Link, Work)]) -> Option<&Work>
     ensures some { (names : List Name) → IfSome result (λ work. chained (operands_of names parts.now) ≡ seen names work.now) }
     ensures none { (names : List Name) → IfNone result (in_axis_order (chained (operands_of names parts.now)) ≡ chained (operands_of names parts.now)) }
     ensures deeper { IfSome result (λ work. depth work.now ≤ deepest parts.now) }
+    ensures placed { (base : Ground) → PlacedParts base parts.now → IfSome result (λ work. PlacedWork base work.now) }
 {
     if is_plain_one(parts) {
         only(parts)
@@ -125,6 +131,7 @@ pub(crate) fn sole<'w>(kind: &Kind, parts: &'w [(Link, Work)]) -> Option<&'w Wor
     ensures none { spec.is_filtered_step kind.now ≡ false → (names : List Name)
         → IfNone result (in_axis_order (made kind.now (operands_of names parts.now)) ≡ made kind.now (operands_of names parts.now)) }
     ensures deeper { IfSome result (λ work. depth work.now ≤ deepest parts.now) }
+    ensures placed { (base : Ground) → PlacedParts base parts.now → IfSome result (λ work. PlacedWork base work.now) }
 {
     match kind {
         Kind::Only => first(parts),
@@ -133,6 +140,25 @@ pub(crate) fn sole<'w>(kind: &Kind, parts: &'w [(Link, Work)]) -> Option<&'w Wor
         Kind::Filtered => only(parts),
         Kind::Chain => only_operand(parts),
         _ => None,
+    }
+}
+
+/// Whether a slot would save nothing for the work: it has no parts, or stands in parentheses and is kept inside them.
+pub(crate) fn is_light(work: &Work) -> bool {
+    match work {
+        Work::Simple(_) => true,
+        Work::Node(Kind::Only, _) => true,
+        Work::Node(_, _) => false,
+    }
+}
+
+/// Whether it is a node.
+pub(crate) fn is_node(item: &Item<'_>) -> bool
+    ensures { result ≡ steps.is_node item.now }
+{
+    match item {
+        Item::Node(_) => true,
+        _ => false,
     }
 }
 

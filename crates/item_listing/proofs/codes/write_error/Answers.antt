@@ -1,4 +1,4 @@
-use Rattle.std.proofs.Common.{[], ◌∷◌, ◌++◌, codes, sym, subst, ◌∙◌}
+use Rattle.std.proofs.Common.{[], ◌∷◌, codes, sym, subst, ◌∙◌}
 use Rattle.inv_base.specs.Printing.{Printed}
 use Rattle.inv_base.proofs.PrintingLemmas.{Prints-append, Prints-same}
 use Rattle.inv_base.proofs.WritingLemmas.{WritesAll-nil}

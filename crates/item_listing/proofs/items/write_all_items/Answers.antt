@@ -1,5 +1,4 @@
-use Rattle.std.proofs.Common.{◌∙◌, take, drop, arith}
-use Rattle.std.specs.Prelude.{flat_map}
+use Rattle.std.proofs.Common.{arith}
 use Rattle.node_arena.specs.Moves.{tree_nodes}
 use Rattle.item_listing.specs.Listing.{item_line}
 use Rattle.item_listing.proofs.ItemLemmas.{within_at, lines_parted, stopped_ok, stopped_err}

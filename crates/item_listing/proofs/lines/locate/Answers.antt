@@ -6,5 +6,5 @@ use Rattle.node_locations.specs.Locations.{location}
 use Rattle.item_listing.proofs.lines.locate.Goals as goal
 
 pub returns : goal.returns
-returns g c =
+returns c =
     c.in_ok-push_location.ensures ∙ ap (λ x. x ++ location (tree_nodes c.args.doc.now) c.args.n) (ap chars c.clear.ensures.bytes ∙ chars-nil)

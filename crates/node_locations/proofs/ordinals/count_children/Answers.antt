@@ -1,8 +1,7 @@
-use Rattle.std.proofs.Common.{◌≡◌, ◌<◌, ◌+◌, ◌∙◌, Some, length, set, refl, ap, sym, subst, arith}
+use Rattle.std.proofs.Common.{◌∙◌, refl, subst}
 use Rattle.std.proofs.lemmas.List.{length-set}
 use Rattle.node_arena.proofs.IntervalLemmas.{walk_of}
-use Rattle.node_locations.specs.Counting.{seen}
-use Rattle.node_locations.proofs.CountingLemmas.{IsCounting, counting-begin, counting-room, counting-step, counting-end}
+use Rattle.node_locations.proofs.CountingLemmas.{IsCounting, counting-begin, counting-room, counting-step}
 use Rattle.node_locations.proofs.ordinals.count_children.Goals as goal
 
 pub children-init : goal.children-init

@@ -1,4 +1,4 @@
-use Rattle.std.proofs.Common.{◌≡◌, ◌∙◌, ◌+◌, List, None, length, arith, ap}
+use Rattle.std.proofs.Common.{◌≡◌, ◌∙◌, ◌+◌, List, None, arith, ap}
 use Rattle.std.proofs.lemmas.List.{length-map}
 use Rattle.inv_base.specs.Tree.{Node}
 use Rattle.node_arena.specs.Moves.{tree_nodes, tree_node, node_of, nearest, parent, last_inside}

@@ -5,7 +5,7 @@ use Rattle.schematron_run.specs.Scenes.{nodes_of}
 use Rattle.schematron_run.proofs.assertions.location_at.Goals as goal
 
 pub returns : goal.returns
-returns g c =
+returns c =
     let place = location (nodes_of c.args.scene.now) c.args.n in
     let is : chars c.as_str.result.now ≡ place =
     ap chars c.as_str.ensures.value ∙ (c.in_ok-push_location.ensures ∙ ap (λ front. front ++ place) (ap chars c.new-text.ensures.bytes ∙ chars-nil)) in

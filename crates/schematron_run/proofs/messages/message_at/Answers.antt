@@ -5,8 +5,8 @@ use Rattle.schematron_run.specs.Ready.{ready_part}
 use Rattle.schematron_run.specs.Scenes.{nodes_of}
 use Rattle.schematron_run.proofs.messages.message_at.Goals as goal
 
-pub returns : goal.returns
-returns g c =
+pub returns-clause-text : goal.returns-clause-text
+returns-clause-text g c =
     let is : chars c.as_str.result.now ≡ spec.message_at (nodes_of c.args.scene.now) c.args.n c.args.env.now (map ready_part c.args.parts.now) =
-    c.as_str.ensures ∙ ap (λ (message : Written). message.text) (c.in_ok-push_parts.ensures [] c.new-message.ensures) in
+    c.as_str.ensures ∙ ap (λ (message : Written). message.text) (c.in_ok-push_parts.ensures.says [] c.new-message.ensures) in
     subst (λ t. IfOk c.of.result (λ text. text ≡ t)) is c.of.ensures

@@ -21,3 +21,9 @@ returns-clause-value g c =
 pub returns-clause-within : goal.returns-clause-within
 returns-clause-within g c =
     subst (λ (document : Document). IfOk c.run_plan.result (λ outcome. ValueWithin (length document.nodes) (value outcome))) c.requires.ready c.run_plan.ensures.within
+
+pub returns-clause-plan : goal.returns-clause-plan
+returns-clause-plan g c = c.run_plan.ensures.slots.plan
+
+pub returns-clause-document : goal.returns-clause-document
+returns-clause-document g c = c.run_plan.ensures.slots.document

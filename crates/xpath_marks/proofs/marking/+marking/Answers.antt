@@ -1,9 +1,12 @@
-use Rattle.std.proofs.Common.{◌≡◌, ◌∷◌, ap, sym, subst, true, false, ◌∙◌, take}
+use Rattle.std.proofs.Common.{rules, arith, ◌≡◌, ◌∷◌, ap, sym, subst, true, false, ◌∙◌, take}
 use Rattle.xpath_meaning.specs.Expressions.{Exp}
 use Rattle.xpath_meaning.specs.Items.{is_empty}
 use Rattle.xpath_meaning.specs.Resolving.{all_inside, chained, chained_on, linked}
 use Rattle.xpath_plan.specs.Plans.{seen, label_of}
 use Rattle.xpath_run.specs.Contexts.{operands_of}
+use Rattle.xpath_run.specs.Depths.{deepest}
+use Rattle.xpath_run.proofs.DepthLemmas.{deeper, no_deeper, first-no_deeper}
+use Rattle.xpath_run.proofs.SlotLemmas as slots
 use Rattle.xpath_marks.specs.FirstSteps.{is_found_by_first}
 use Rattle.xpath_marks.specs.Found.{all_reached}
 use Rattle.xpath_marks.specs.Marking.{Marked, Reached, FoundByStep, nodes_of, united_of}
@@ -154,7 +157,87 @@ links_on-parts-preserved g t c =
     let base = c.args.ground.now in
     record {
       within = c.in_ok-before.ensures.within;
+      held = c.in_ok-before.ensures.held;
       marked = λ e m. subst (λ x. Marked base x c.in_ok-before.before.items)
           (sym (chain_more base c.args.parts.now c.parts.part-index c.part-item.result e c.part-item.is c.parts-test.true))
           (c.in_ok-before.ensures.marked (chained_on e (operands_of base.names.now (take c.parts.part-index c.args.parts.now))) (c.parts.invariant.marked e m));
     }
+
+pub found-found-requires : goal.found-found-requires
+found-found-requires g t c κs within =
+    let base = c.args.ground.now in
+    let lent = c.as_slice.result.now in
+    let first = c.in-Some.first.now in
+    let others = c.in-Some.others.now in
+    let node = slots.placed_node base c.args.work.now c.in-Node.kind c.in-Node.parts lent c.in-Node.is c.as_slice.ensures c.requires.placed in
+    let inside = slots.placed_parts base c.in-Node.kind lent node in (
+      omega (
+        arith,
+        c.decreases,
+        deeper c.args.work.now c.in-Node.kind c.in-Node.parts c.in-Node.is,
+        ap deepest c.as_slice.ensures,
+        first-no_deeper
+            lent others first c.in-Some.ensures.cases.0,
+      ),
+      (search rules, (c.requires.ready, (slots.placed_first base lent others first c.in-Some.ensures.cases.0 inside, c.requires.slots))),
+    )
+
+pub found-chain-requires : goal.found-chain-requires
+found-chain-requires g t c κs within =
+    let base = c.args.ground.now in
+    let lent = c.as_slice-then-is_chain.result.now in
+    let same = c.as_slice-then-is_chain.ensures in
+    let node = slots.placed_node base c.args.work.now c.in-Node.kind c.in-Node.parts lent c.in-Node.is same c.requires.placed in (
+      omega (arith, c.decreases, deeper c.args.work.now c.in-Node.kind c.in-Node.parts c.in-Node.is, ap deepest same),
+      (search rules, (c.requires.ready, (slots.placed_parts base c.in-Node.kind lent node, c.requires.slots))),
+    )
+
+pub chain-found-requires : goal.chain-found-requires
+chain-found-requires g t c κs within =
+    let parts = c.args.parts.now in
+    let first = c.in-Some.first.now in
+    let others = c.in-Some.others.now in
+    let divided = c.in-Some.ensures.cases.0 in (
+      omega (arith, c.decreases, first-no_deeper parts others first divided),
+      (search rules, (c.requires.ready, (slots.placed_first c.args.ground.now parts others first divided c.requires.placed, c.requires.slots))),
+    )
+
+pub chain-links_on-requires-else-is_operator : goal.chain-links_on-requires-else-is_operator
+chain-links_on-requires-else-is_operator g t c κs within =
+    let parts = c.args.parts.now in
+    let first = c.in-Some.first.now in
+    let others = c.in-Some.others.now in
+    let divided = c.in-Some.ensures.cases.0 in (
+      omega (arith, c.decreases, first-no_deeper parts others first divided),
+      (
+        search rules,
+        (
+          c.requires.ready,
+          (
+            c.in_ok-before.ensures.within,
+            (
+              slots.placed_others c.args.ground.now parts others first divided c.requires.placed,
+              c.in_ok-before.ensures.held,
+            ),
+          ),
+        ),
+      ),
+    )
+
+pub links_on-link_on-requires : goal.links_on-link_on-requires
+links_on-link_on-requires g t c κs within = (
+  omega (arith, c.decreases, no_deeper c.args.parts.now c.parts.part-index c.part-item.result c.parts-test.true c.part-item.is),
+  (
+    search rules,
+    (
+      c.requires.ready,
+      (
+        c.parts.invariant.within,
+        (
+          slots.placed_at c.args.ground.now c.args.parts.now c.parts.part-index c.part-item.result c.parts-test.true c.part-item.is c.requires.placed,
+          c.parts.invariant.held,
+        ),
+      ),
+    ),
+  ),
+)

@@ -1,10 +1,13 @@
 use Rattle.std.proofs.Common.{◌≡◌, drop}
 use Rattle.xpath_run.specs.Contexts.{operands_of}
+use Rattle.xpath_run.specs.Slots.{AreHeld}
 use Rattle.xpath_marks.specs.Marking.{AreNodes, kept_by_all}
 use Rattle.xpath_marks.proofs.predicates.kept_by_all.Given as goal
 
 abbrev pub invariant-predicates : goal.invariant-predicates
-invariant-predicates g l =
-    AreNodes l.ground l.nodes.items
-    × (kept_by_all l.ground (operands_of l.ground.names.now (drop l.predicate-index l.predicates)) l.nodes.items
-    ≡ kept_by_all l.ground (operands_of l.ground.names.now l.predicates) l.fn.nodes.items)
+invariant-predicates g l = record {
+  within : AreNodes l.ground l.nodes.items;
+  held : AreHeld l.ground l.slots;
+  goes : kept_by_all l.ground (operands_of l.ground.names.now (drop l.predicate-index l.predicates)) l.nodes.items
+      ≡ kept_by_all l.ground (operands_of l.ground.names.now l.predicates) l.fn.nodes.items;
+}

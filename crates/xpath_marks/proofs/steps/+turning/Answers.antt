@@ -1,7 +1,10 @@
-use Rattle.std.proofs.Common.{◌∙◌, ap, sym, subst, refl, true, false, ◌≡◌}
+use Rattle.std.proofs.Common.{rules, arith, ◌∙◌, ap, sym, subst, refl, true, false, ◌≡◌}
 use Rattle.xpath_meaning.specs.Items.{is_empty}
 use Rattle.xpath_plan.specs.Plans.{seen, made}
 use Rattle.xpath_run.specs.Contexts.{operands_of}
+use Rattle.xpath_run.specs.Depths.{deepest}
+use Rattle.xpath_run.proofs.DepthLemmas.{deeper, first-no_deeper}
+use Rattle.xpath_run.proofs.SlotLemmas as slots
 use Rattle.xpath_marks.specs.Marking.{AreNodes, is_first_part}
 use Rattle.xpath_marks.proofs.TurnLemmas.{node_seen, other_turned, first_turned, filters_turned, along_ok, nodes_append, alone_is}
 use Rattle.xpath_marks.proofs.steps.+turning.Goals as goal
@@ -35,3 +38,61 @@ turn_by-returns-then-is_first_part-clause-turned g t c =
     ap (is_first_part c.args.kind.now c.in-Some.first.now.0) (alone_is others ∙ sym c.is_empty.ensures) ∙ sym c.if-is_first_part.ensures in
     rw c.in-Some.ensures.cases.0 (along_ok c.turn.result _ _
     (first_turned c.args.ground.now c.args.kind.now c.in-Some.first.now others c.args.n c.args.out.now.items c.turn.new.out.items yes) c.turn.ensures.turned)
+
+pub turn-turn_by-requires : goal.turn-turn_by-requires
+turn-turn_by-requires g t c κs within =
+    let base = c.args.ground.now in
+    let lent = c.as_slice.result.now in
+    let node = slots.placed_node base c.args.work.now c.in-Node.kind c.in-Node.parts lent c.in-Node.is c.as_slice.ensures c.requires.placed in (
+      omega (arith, c.decreases, deeper c.args.work.now c.in-Node.kind c.in-Node.parts c.in-Node.is, ap deepest c.as_slice.ensures),
+      (search rules, (c.requires.ready, (c.requires.within, (c.requires.out, (slots.placed_parts base c.in-Node.kind lent node, c.requires.slots))))),
+    )
+
+pub turn_by-turn-requires : goal.turn_by-turn-requires
+turn_by-turn-requires g t c κs within =
+    let parts = c.args.parts.now in
+    let first = c.in-Some.first.now in
+    let others = c.in-Some.others.now in
+    let divided = c.in-Some.ensures.cases.0 in (
+      omega (arith, c.decreases, first-no_deeper parts others first divided),
+      (
+        search rules,
+        (
+          c.requires.ready,
+          (
+            c.requires.within,
+            (
+              c.requires.out,
+              (slots.placed_first c.args.ground.now parts others first divided c.requires.placed, c.requires.slots),
+            ),
+          ),
+        ),
+      ),
+    )
+
+pub turn_by-filtered-requires : goal.turn_by-filtered-requires
+turn_by-filtered-requires g t c κs within =
+    let base = c.args.ground.now in
+    let parts = c.args.parts.now in
+    let first = c.in-Some.first.now in
+    let others = c.in-Some.others.now in
+    let divided = c.in-Some.ensures.cases.0 in
+    let placed = c.requires.placed in (
+      omega (arith, c.decreases, first-no_deeper parts others first divided),
+      (
+        search rules,
+        (
+          c.requires.ready,
+          (
+            c.requires.within,
+            (
+              c.requires.out,
+              (
+                slots.placed_first base parts others first divided placed,
+                (slots.placed_others base parts others first divided placed, c.requires.slots),
+              ),
+            ),
+          ),
+        ),
+      ),
+    )

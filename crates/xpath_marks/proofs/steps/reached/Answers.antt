@@ -16,13 +16,13 @@ returns-clause-reached g c = λ s.
     let base = c.args.ground.now in
     let step = seen base.names.now c.args.work.now in
     let walked = c.documents_are_walkable.ensures in
-    c.in_order.ensures.numbers (nodes_of base) (are_numbers base.doc.now c.from.out.items walked c.from.invariant.0)
+    c.in_order.ensures.numbers (nodes_of base) (are_numbers base.doc.now c.from.out.items walked c.from.invariant.within)
     ∙ all_of_turns (nodes_of base) walked.walkable base.env.now step c.args.from.now c.from.out.items
-    (flat_done (found_at (nodes_of base) base.env.now step) c.args.from.now c.from.n-index c.from.out.items c.from-test.false (c.from.invariant.1 s))
+    (flat_done (found_at (nodes_of base) base.env.now step) c.args.from.now c.from.n-index c.from.out.items c.from-test.false (c.from.invariant.goes s))
 
 pub returns-clause-within : goal.returns-clause-within
 returns-clause-within g c =
     let base = c.args.ground.now in
     let walked = c.documents_are_walkable.ensures in
-    subst (AreNodes base) (sym (c.in_order.ensures.numbers (nodes_of base) (are_numbers base.doc.now c.from.out.items walked c.from.invariant.0)))
+    subst (AreNodes base) (sym (c.in_order.ensures.numbers (nodes_of base) (are_numbers base.doc.now c.from.out.items walked c.from.invariant.within)))
     (ordered_within base walked (λ node. is_among node.number c.from.out.items))

@@ -11,6 +11,7 @@ use Rattle.xpath_steps.specs.Variables.{ValueWithin}
 use Rattle.xpath_run.specs.Contexts.{context, count, operands_of, turn_in}
 use Rattle.xpath_run.specs.Depths.{depth, deepest}
 use Rattle.xpath_run.specs.Links as links
+use Rattle.xpath_run.specs.Slots.{AreHeld, Grows}
 use Rattle.xpath_run.specs.Turns.{after}
 use Rattle.xpath_run.proofs.Continuing.{behind_those}
 use Rattle.xpath_run.proofs.Costs.{level, costs, to_come}
@@ -58,13 +59,19 @@ decreases-filter g l = 8 * deepest l.parts.now + 5
 abbrev pub decreases-bind : goal.decreases-bind
 decreases-bind g l = 8 * deepest l.parts.now + 5
 
+abbrev pub decreases-once : goal.decreases-once
+decreases-once g l = 8 * deepest l.parts.now + 5
+
 abbrev pub decreases-by_kind : goal.decreases-by_kind
 decreases-by_kind g l = 8 * deepest l.parts.now + 6
 
 abbrev pub invariant-values_of-parts : goal.invariant-values_of-parts
 invariant-values_of-parts g l = record {
   kept : l.bound.items ≡ l.initial.bound.items;
-  goes : behind_those l.values (means (tree_nodes l.ground.doc.now) (arguments_of (operands_of l.ground.names.now (drop l.part-index l.parts))) (context l.ground l.focus l.initial.bound.items))
+  held : AreHeld l.ground l.slots;
+  grown : Grows l.fn.slots l.slots;
+  goes : behind_those l.values (means (tree_nodes l.ground.doc.now) (arguments_of (operands_of l.ground.names.now (drop l.part-index l.parts)))
+      (context l.ground l.focus l.initial.bound.items))
       ≡ means (tree_nodes l.ground.doc.now) (arguments_of (operands_of l.ground.names.now l.parts)) (context l.ground l.focus l.initial.bound.items);
   within : AllWithin (count l.ground) l.values;
 }
@@ -72,17 +79,24 @@ invariant-values_of-parts g l = record {
 abbrev pub invariant-links_on-parts : goal.invariant-links_on-parts
 invariant-links_on-parts g l = record {
   kept : l.bound.items ≡ l.initial.bound.items;
-  goes : links.chain_value (tree_nodes l.ground.doc.now) (links.linked_parts l.ground.names.now (drop l.part-index l.parts)) (value l.so_far) (context l.ground l.focus l.initial.bound.items)
-      ≡ links.chain_value (tree_nodes l.ground.doc.now) (links.linked_parts l.ground.names.now l.parts) (value l.initial.so_far) (context l.ground l.focus l.initial.bound.items);
+  held : AreHeld l.ground l.slots;
+  grown : Grows l.fn.slots l.slots;
+  goes : links.chain_value (tree_nodes l.ground.doc.now) (links.linked_parts l.ground.names.now (drop l.part-index l.parts)) (value l.so_far)
+      (context l.ground l.focus l.initial.bound.items)
+      ≡ links.chain_value (tree_nodes l.ground.doc.now) (links.linked_parts l.ground.names.now l.parts) (value l.initial.so_far)
+      (context l.ground l.focus l.initial.bound.items);
   within : ValueWithin (count l.ground) (value l.so_far);
 }
 
 abbrev pub invariant-turns-items : goal.invariant-turns-items
 invariant-turns-items g l = record {
   kept : l.bound.items ≡ l.initial.bound.items;
+  held : AreHeld l.ground l.slots;
+  grown : Grows l.fn.slots l.slots;
   left : into_iter_len l.item-iterator ≡ length (into_iter_items l.item-iterator);
   counted : l.position + length (into_iter_items l.item-iterator) ≡ l.last;
-  goes : behind_those l.out (steps.turns (turn_in l.ground (seen l.ground.names.now l.work) l.initial.bound.items) l.last (suc l.position) (into_iter_items l.item-iterator))
+  goes : behind_those l.out (steps.turns (turn_in l.ground (seen l.ground.names.now l.work) l.initial.bound.items) l.last (suc l.position)
+      (into_iter_items l.item-iterator))
       ≡ steps.turns (turn_in l.ground (seen l.ground.names.now l.work) l.initial.bound.items) (length l.fn.items) 1 l.fn.items;
   inside : AreWithin (count l.ground) (into_iter_items l.item-iterator);
   within : AreWithin (count l.ground) l.out;
@@ -91,9 +105,12 @@ invariant-turns-items g l = record {
 abbrev pub invariant-keep-items : goal.invariant-keep-items
 invariant-keep-items g l = record {
   kept : l.bound.items ≡ l.initial.bound.items;
+  held : AreHeld l.ground l.slots;
+  grown : Grows l.fn.slots l.slots;
   left : into_iter_len l.item-iterator ≡ length (into_iter_items l.item-iterator);
   counted : l.position + length (into_iter_items l.item-iterator) ≡ l.last;
-  goes : behind_those l.kept (steps.kept (turn_in l.ground (seen l.ground.names.now l.predicate) l.initial.bound.items) l.last (suc l.position) (into_iter_items l.item-iterator))
+  goes : behind_those l.kept (steps.kept (turn_in l.ground (seen l.ground.names.now l.predicate) l.initial.bound.items) l.last (suc l.position)
+      (into_iter_items l.item-iterator))
       ≡ steps.filtered_by (turn_in l.ground (seen l.ground.names.now l.predicate) l.initial.bound.items) l.fn.items;
   inside : AreWithin (count l.ground) (into_iter_items l.item-iterator);
   within : AreWithin (count l.ground) l.kept;
@@ -102,6 +119,8 @@ invariant-keep-items g l = record {
 abbrev pub invariant-keep_all-predicates : goal.invariant-keep_all-predicates
 invariant-keep_all-predicates g l = record {
   kept : l.bound.items ≡ l.initial.bound.items;
+  held : AreHeld l.ground l.slots;
+  grown : Grows l.fn.slots l.slots;
   goes : links.kept_by_all (λ e. turn_in l.ground e l.initial.bound.items) (operands_of l.ground.names.now (drop l.predicate-index l.predicates)) l.kept
       ≡ links.kept_by_all (λ e. turn_in l.ground e l.initial.bound.items) (operands_of l.ground.names.now l.predicates) l.initial.kept;
   within : AreWithin (count l.ground) l.kept;
@@ -110,10 +129,14 @@ invariant-keep_all-predicates g l = record {
 abbrev pub invariant-take_turns-turns : goal.invariant-take_turns-turns
 invariant-take_turns-turns g l = record {
   kept : take l.height l.bound.items ≡ l.initial.bound.items;
+  held : AreHeld l.ground l.slots;
+  grown : Grows l.fn.slots l.slots;
   room : l.height + length l.turns.items ≤ length l.bound.items + 1;
   fewer : length l.turns.items ≤ length l.inside;
-  goes : after l.binder l.out (to_come l.binder (tree_nodes l.ground.doc.now) (operands_of l.ground.names.now l.inside) (level l.ground l.focus l.bound.items l.height) (reverse l.turns.items))
-      ≡ links.bound_value l.binder (tree_nodes l.ground.doc.now) (operands_of l.ground.names.now l.inside) l.fn.items (context l.ground l.focus l.initial.bound.items);
+  goes : after l.binder l.out (to_come l.binder (tree_nodes l.ground.doc.now) (operands_of l.ground.names.now l.inside)
+      (level l.ground l.focus l.bound.items l.height) (reverse l.turns.items))
+      ≡ links.bound_value l.binder (tree_nodes l.ground.doc.now) (operands_of l.ground.names.now l.inside) l.fn.items
+      (context l.ground l.focus l.initial.bound.items);
   bound : AreWithin (count l.ground) l.bound.items;
   turns : AllWithin (count l.ground) l.turns.items;
   within : AreWithin (count l.ground) l.out;

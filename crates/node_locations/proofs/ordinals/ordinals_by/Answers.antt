@@ -1,10 +1,10 @@
-use Rattle.std.proofs.Common.{◌≡◌, ◌∙◌, List, length, refl, ap, sym, arith}
+use Rattle.std.proofs.Common.{◌≡◌, ◌∙◌, List, length, ap}
 use Rattle.std.proofs.lemmas.List.{with_items_is}
 use Rattle.inv_base.specs.Tree.{Node}
 use Rattle.node_arena.specs.Moves.{tree_node}
 use Rattle.node_arena.proofs.IntervalLemmas.{walk_of}
 use Rattle.node_locations.proofs.CountingLemmas.{ordinals_are}
-use Rattle.node_locations.proofs.ordinals.Ordinals.new.Goals as goal
+use Rattle.node_locations.proofs.ordinals.ordinals_by.Goals as goal
 
 pub returns : goal.returns
 returns g c =

@@ -153,8 +153,8 @@ fn fronts_and_other_bytes_are_refused(rt: HostRuntime) -> Result<(), Fail> {
 /// comes, a back, and the fault, or nothing where there is none.
 const LIMITS: &str = r#"|<a>|100||Truncated at 300
 |<a>|101||TooDeep at 300
-<r>|<e/>|999999|</r>|TooManyNodes at 3999995
-<r>|<e/>|999997|<e x=""/></r>|TooManyNodes at 3999991
+<r>|<e/>|3999999|</r>|TooManyNodes at 15999995
+<r>|<e/>|3999997|<e x=""/></r>|TooManyNodes at 15999991
 <a| x#=""|64|/>|
 <a| x#=""|65|/>|TooManyAttributes at 0
 <|n|200|/>|

@@ -16,6 +16,15 @@ HERE = pathlib.Path(__file__).resolve().parent
 SECONDS = 60
 
 
+def changed(text, changes):
+    """The text with one thing after another changed wherever it stands."""
+    for old, new in changes.items():
+        if old.encode() not in text:
+            sys.exit(f"{old!r} stands nowhere in what is to be changed")
+        text = text.replace(old.encode(), new.encode())
+    return text
+
+
 def content(value):
     """The bytes that a value of a case stands for."""
     if isinstance(value, str):
@@ -25,7 +34,7 @@ def content(value):
     if "hex" in value:
         return bytes.fromhex(value["hex"])
     if "example" in value:
-        return (HERE.parent / "examples" / value["example"]).read_bytes()
+        return changed((HERE.parent / "examples" / value["example"]).read_bytes(), value.get("with", {}))
     if "parts" in value:
         return b"".join(content(part) for part in value["parts"])
     if value.get("numbered"):

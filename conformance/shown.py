@@ -1,12 +1,14 @@
 #!/usr/bin/env python3
 """Runs the commands that the pages for users show, and prints each one whose output isn't what its page shows.
 
-    python3 conformance/shown.py PROGRAM            README.md, docs/GUIDE.md, docs/FAULTS.md, examples/README.md
+    python3 conformance/shown.py PROGRAM            README.md, docs/GUIDE.md, docs/FAULTS.md, docs/RULES.md, docs/einv.1,
+                                                    examples/README.md
     python3 conformance/shown.py PROGRAM PAGE ..    these pages
 
 In a block that is fenced or indented by four spaces, a line `$ COMMAND` is a command, which goes on in the next line
 where it ends in a backslash. The lines behind it, up to the next command or the end of the block, are what it prints on
-standard output and standard error together. Blocks without a command aren't looked at.
+standard output and standard error together. Blocks without a command aren't looked at. Of the manual page, docs/einv.1,
+the examples are run, and one differs where its status is above 1 or it tells something on standard error.
 
 Each page has a folder of its own with copies of examples/, rules/ and docs/, in which `./einv` is PROGRAM. Its commands run
 there by bash, in order, so a command may use a file that an earlier one of the page has written, and nothing is written
@@ -21,7 +23,7 @@ import sys
 import tempfile
 
 HOME = pathlib.Path(__file__).resolve().parent.parent
-PAGES = "README.md", "docs/GUIDE.md", "docs/FAULTS.md", "examples/README.md"
+PAGES = "README.md", "docs/GUIDE.md", "docs/FAULTS.md", "docs/RULES.md", "docs/einv.1", "examples/README.md"
 FOLDERS = "examples", "rules", "docs"
 SECONDS = 60
 
@@ -77,11 +79,41 @@ def printed(command, folder):
     return done.stdout.decode(errors="backslashreplace").removesuffix("\n").split("\n") if done.stdout else []
 
 
+def examples(text):
+    """The examples of a manual page: of each the number of its first line and the command."""
+    found, block, inside = [], None, False
+    for number, line in enumerate(text.split("\n"), 1):
+        if line.startswith(".Sh "):
+            inside = line == ".Sh EXAMPLES"
+        elif inside and line.startswith(".Bd "):
+            block = []
+        elif inside and line == ".Ed":
+            found.append((number - len(block), "\n".join(block)))
+            block = None
+        elif block is not None:
+            block.append(line.replace("\\e", "\\"))
+    return found
+
+
+def try_manual(page, folder):
+    """How many examples a manual page has, and how many of them fail; prints these."""
+    shown, wrong = examples(page.read_text(encoding="utf-8")), 0
+    env = os.environ | {"LC_ALL": "C", "PATH": "%s:%s" % (folder, os.environ["PATH"])}
+    for number, command in shown:
+        done = subprocess.run(["bash", "-c", command], cwd=folder, env=env, timeout=SECONDS, capture_output=True, stdin=subprocess.DEVNULL)
+        if done.returncode > 1 or done.stderr:
+            wrong += 1
+            print(f"FAILS {page}:{number}: {command}\n  status {done.returncode}: {done.stderr.decode(errors='backslashreplace')}")
+    return len(shown), wrong
+
+
 def try_page(page, program, folder):
     """How many commands a page shows, and how many of them print something else; prints these."""
     for name in FOLDERS:
         shutil.copytree(HOME / name, folder / name)
     (folder / "einv").symlink_to(program)
+    if page.suffix == ".1":
+        return try_manual(page, folder)
     shown = [one for block in blocks(page.read_text(encoding="utf-8")) for one in commands(block)]
     wrong = 0
     for number, command, wanted in shown:

@@ -7,18 +7,9 @@
 set -u
 einv="${EINV:-./einv}"
 
-# The rules for the syntax of a document.
-rules_for() {
-    case "$("$einv" query 'local-name(/*)' "$1")" in
-        '"CrossIndustryInvoice"') echo rules/en16931-cii.sch ;;
-        *) echo rules/en16931-ubl.sch ;;
-    esac
-}
-
 worst=0
 for file in "$@"; do
-    told="$("$einv" show "$file" 2>&1 >/dev/null)" &&
-        told="$("$einv" check --rules "$(rules_for "$file")" "$file" 2>&1)"
+    told="$("$einv" validate "$file" 2>&1)"
     status=$?
     case "$status" in
         0) echo "accepted: $file" && continue ;;

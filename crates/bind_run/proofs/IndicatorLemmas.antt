@@ -36,6 +36,10 @@ pub known-err : (o : Option Which) (fault : BindFault) → known o ≡ Err fault
 known-err None fault e = let same : unknown_root ≡ fault = cc in (refl, ap Err same)
 known-err (Some x) fault e = cc
 
+pub known-same : (o : Option Which) (fault : BindFault) → known o ≡ Err fault → (o ≡ None) × (unknown_root ≡ fault)
+known-same None fault e = let same : unknown_root ≡ fault = cc in (refl, same)
+known-same (Some x) fault e = cc
+
 pub same-node : (a b : BindFault) → ◌≡◌ {A = Result Read BindFault} (Err a) (Err b) → a.node ≡ b.node
 same-node a b e = let same : a ≡ b = cc in ap (λ (f : BindFault). f.node) same
 

@@ -5,3 +5,4 @@ pub mod IndicatorLemmas
 pub mod TableLemmas
 pub mod RoomLemmas
 pub mod ExtendedLemmas
+pub mod PassedLemmas

@@ -1,5 +1,5 @@
 -- The invoice that a document is: by the table that its root element selects, or why it is none (CEN/TS 16931-3-2 and 16931-3-3).
-use Rattle.std.specs.Prelude.{◌≡◌, ◌≢◌, List, [], Option, Some, None, Result, Ok, Err}
+use Rattle.std.specs.Prelude.{◌≡◌, ◌≢◌, ◌<◌, ℕ, All, List, [], Option, Some, None, Result, Ok, Err}
 use Rattle.inv_base.specs.Tree.{Node}
 use Rattle.code_lists.specs.CodeFiles.{Lists}
 use Rattle.inv_terms.specs.declared.lacks.Name.TheVariants as lacks
@@ -12,6 +12,8 @@ use Rattle.bind_rows.specs.declared.tables.Which.TheVariants as which
 use Rattle.bind_table.specs.WellFormed.{first_fault}
 use Rattle.bind_meaning.specs.Tables.{rows_of}
 use Rattle.bind_meaning.specs.Terms.{Read, terms_of}
+use Rattle.bind_meaning.specs.Faults.{faults_in, passed_nodes}
+use Rattle.bind_run.specs.declared.faults.Faulted.{Faulted as FaultsFound}
 use Rattle.bind_run.specs.declared.reading.ReadInvoice.{ReadInvoice}
 use Rattle.bind_run.specs.declared.tables.Tables.{Tables}
 use Rattle.bind_run.specs.Extensions.{rows_for}
@@ -28,6 +30,33 @@ invoice_by rows nodes lists = by_root rows nodes lists (which_of nodes)
 -- the same by the tables of the standard
 abbrev pub invoice_of : List Node → Lists → Result Read BindFault
 invoice_of nodes lists = invoice_by rows_of nodes lists
+
+-- ---- all faults
+
+-- all faults of a document by a table, and the elements that the table passes over
+pub record Faulted : Type 0 where
+  pub which : Which
+  pub faults : List BindFault
+  pub passed : List ℕ
+
+abbrev pub faults_by_root : (Which → List Row) → List Node → Lists → Option Which → Result Faulted BindFault
+faults_by_root rows nodes lists None = Err unknown_root
+faults_by_root rows nodes lists (Some table) =
+    Ok (record { which = table; faults = faults_in nodes (rows table) lists; passed = passed_nodes nodes (rows table) })
+
+-- the same by the table that the root selects, or why none is selected
+abbrev pub faults_by : (Which → List Row) → List Node → Lists → Result Faulted BindFault
+faults_by rows nodes lists = faults_by_root rows nodes lists (which_of nodes)
+
+-- What was found is the definition's answer, unless memory ran out.
+abbrev pub FindsFaults : Result Faulted BindFault → Result FaultsFound BindFault → Type 0
+FindsFaults expected (Ok found) = expected ≡ Ok (record { which = found.which; faults = found.faults.items; passed = found.passed_over.items })
+FindsFaults expected (Err fault) = fault.kind ≢ kinds.Memory → expected ≡ Err fault
+
+-- The faults, and what is passed over, are at nodes of the document.
+pub record IsWithin (count : ℕ) (found : FaultsFound) : Type 0 where
+  pub faults : All (λ (fault : BindFault). fault.node < count) found.faults.items
+  pub passed_over : All (λ n. n < count) found.passed_over.items
 
 -- ---- what the code has
 

@@ -1,8 +1,10 @@
-//! Documents as invoices: which table a document is read by, and the invoice that it is or its first fault; the three tables with
-//! the terms that a user adds. Beside them stands what writes invoices.
+//! Documents as invoices: which table a document is read by, and the invoice that it is, its first fault or all its faults; the
+//! three tables with the terms that a user adds. Beside them stands what writes invoices.
 #![tactic(auto)]
 
 mod extensions;
+mod faults;
+mod gathering;
 mod reading;
 mod roots;
 mod tables;
@@ -11,6 +13,7 @@ pub use bind_carrying::{NotCarried, carries, target};
 pub use bind_meaning::{BindFault, BindKind, Syntax, Which};
 pub use bind_write::write;
 pub use extensions::{BadRow, ExtendFault};
+pub use faults::{Faulted, faults_of_document};
 pub use reading::{ReadInvoice, read, read_document};
 pub use roots::binding_of;
 pub use tables::{Tables, tables_are_laid};

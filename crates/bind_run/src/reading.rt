@@ -5,13 +5,12 @@ ghost use Rattle.bind_meaning.specs.declared.fault.BindKind.TheVariants as kinds
 ghost use Rattle.bind_meaning.specs.Terms.{terms_of};
 ghost use Rattle.bind_run.specs.Reading.{AreFormed, Reads, IsWholeIfMemory, invoice_by, rows_in, want_of_memory};
 
+use crate::gathering::gather;
 use crate::roots::binding_of;
 use crate::tables::Tables;
 use bind_meaning::{BindFault, BindKind, Which};
-use bind_seats::seat;
 use bind_table::Binding;
 use bind_terms::judge;
-use bind_walk::pick_all;
 use code_lists::CodeLists;
 use inv_base::{Steps, Txt};
 use inv_terms::{Invoice, Name};
@@ -41,46 +40,35 @@ pub fn read<L: Ledger>(
     ensures reads { Reads (terms_of (tree_nodes doc.now) table.now lists.now) result }
     ensures memory { IfErr result IsWholeIfMemory }
 {
-    let picks = match pick_all(alloc, doc, table, steps) {
-        Ok(picks) => picks,
+    doc.is_of_a_tree();
+    let gathered = match gather(alloc, doc, table, steps) {
+        Ok(gathered) => gathered,
         Err(_) => return Err(out_of_memory(doc)),
     };
-    let seating = match seat(alloc, doc, table, picks.terms.as_slice(), steps) {
-        Ok(seating) => seating,
-        Err(_) => return Err(out_of_memory(doc)),
-    };
-    let currency = seating.invoice_currency.as_ref().map(Txt::as_str);
-    match judge(
+    let currency = gathered.seating.invoice_currency.as_ref().map(Txt::as_str);
+    let judged = judge(
         alloc,
         doc,
         table,
         lists,
         currency,
-        seating.picks.as_slice(),
-        picks.indicators.as_slice(),
+        gathered.seating.picks.as_slice(),
+        gathered.others.indicators.as_slice(),
         steps,
-    ) {
+    );
+    let passed_over = gathered.others.passed_over.as_slice().len() as u32;
+    drop(gathered);
+    match judged {
         Ok(invoice) => Ok(ReadInvoice {
             invoice,
-            passed_over: picks.passed_over,
+            passed_over,
         }),
-        Err(fault) => Err(whole_if_memory(doc, fault)),
-    }
-}
-
-/// The fault as it is told: want of memory is one of the whole document.
-fn whole_if_memory(doc: &Doc<'_>, fault: BindFault) -> BindFault
-    ensures others { result.kind ≢ kinds.Memory → (fault.kind ≢ kinds.Memory) × (result ≡ fault) }
-    ensures memory { IsWholeIfMemory result }
-{
-    match fault.kind {
-        BindKind::Memory => out_of_memory(doc),
-        _ => fault,
+        Err(fault) => Err(fault),
     }
 }
 
 /// Want of memory, as a fault of the whole document.
-fn out_of_memory(doc: &Doc<'_>) -> BindFault
+pub(crate) fn out_of_memory(doc: &Doc<'_>) -> BindFault
     ensures kind { result.kind ≡ kinds.Memory }
     ensures whole { result ≡ want_of_memory }
 {

@@ -12,3 +12,4 @@ pub mod SeatLemmas
 pub mod KnownLemmas
 pub mod WholeLemmas
 pub mod SeatingLemmas
+pub mod AgainLemmas

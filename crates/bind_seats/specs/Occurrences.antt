@@ -1,7 +1,7 @@
 -- The occurrences of groups, as marks, and the picks in them.
-use Rattle.std.specs.Prelude.{◌≡◌, ℕ, true, List, Option, option_map, option_and_then, map, filter_map}
+use Rattle.std.specs.Prelude.{◌≡◌, ℕ, ◌==◌, Bool, true, false, List, Option, Some, None, option_map, option_and_then, map, filter_map}
 use Rattle.term_table.specs.declared.groups.Group.{Group}
-use Rattle.term_table.specs.Groups.{number_of}
+use Rattle.term_table.specs.Groups.{number_of, same_group}
 use Rattle.bind_rows.specs.declared.rows.Row.{Row}
 use Rattle.bind_meaning.specs.declared.picked.Picked.{Picked}
 use Rattle.bind_meaning.specs.declared.picked.Seated.{Seated}
@@ -29,6 +29,15 @@ inner_marks rows qs = filter_map (λ (q : Picked). inner_mark (row_at rows q.row
 -- the occurrence of the group that the element is
 abbrev pub seat_at : List Mark → ℕ → Group → ℕ → Seated
 seat_at marks n group m = record { slot = record { group = group; index = place_of marks (group_mark n group m) }; element = m }
+
+-- it is that of the group at the element
+abbrev pub is_of : Seated → Group → ℕ → Bool
+is_of seat group m = elim (seat.element == m) [ true ↦ same_group seat.slot.group group | false ↦ false ]
+
+-- The occurrence, if any, is one of an outer group by these marks.
+abbrev pub IsOuterSeat : List Mark → Option Seated → Type 0
+IsOuterSeat marks None = Unit {0}
+IsOuterSeat marks (Some seat) = seat ≡ seat_at marks 0 seat.slot.group seat.element
 
 abbrev pub outer_seat_of : List Mark → Row → Picked → Option Seated
 outer_seat_of marks row q = option_and_then (λ group. option_map (seat_at marks 0 group) q.outer) row.outer

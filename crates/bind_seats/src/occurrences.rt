@@ -1,11 +1,11 @@
 //! The occurrences of groups in which picks stand.
 
-ghost use Rattle.std.specs.Prelude.{◌≡◌, ◌+◌, ◌<◌, ◌^◌, length, true, IfOk};
+ghost use Rattle.std.specs.Prelude.{◌≡◌, ◌+◌, ◌<◌, ◌^◌, ◌++◌, ◌∷◌, [], length, true, IfOk, OnOk};
 ghost use Rattle.std.specs.Option.{ForSome};
 ghost use Rattle.term_table.specs.Groups as groups;
 ghost use Rattle.bind_seats.specs.declared.marks.Mark.{Mark};
 ghost use Rattle.bind_seats.specs.Marks.{rises, has_mark};
-ghost use Rattle.bind_seats.specs.Rowed.{AreRowed};
+ghost use Rattle.bind_seats.specs.Rowed.{AreRowed, IsRowed};
 ghost use Rattle.bind_seats.specs.Occurrences as spec;
 ghost use Rattle.bind_seats.specs.Occurrences.{IsSeated};
 
@@ -148,16 +148,49 @@ fn seat_at(marks: &[Mark], around: u32, group: Group, element: NodeId) -> Seated
     }
 }
 
-fn outer_seat(marks: &[Mark], row: &Row, pick: &Picked) -> Option<Seated>
+/// The same, where the last one may be it: many picks that follow one another stand in one occurrence.
+fn seat_again(marks: &[Mark], group: Group, element: NodeId, last: Option<Seated>) -> Seated
+    requires order { rises marks.now ≡ true }
+    requires few { element + 1 < 2 ^ 32 }
+    requires last { spec.IsOuterSeat marks.now last }
+    ensures { result ≡ spec.seat_at marks.now 0 group element }
+{
+    match last {
+        Some(seat) => {
+            if is_of(&seat, group, element) {
+                seat
+            } else {
+                seat_at(marks, DOCUMENT, group, element)
+            }
+        }
+        None => seat_at(marks, DOCUMENT, group, element),
+    }
+}
+
+/// Whether an occurrence is that of the group at the element.
+fn is_of(seat: &Seated, group: Group, element: NodeId) -> bool
+    ensures { result ≡ spec.is_of seat.now group element }
+{
+    if seat.element == element {
+        seat.slot.group.is_same(group)
+    } else {
+        false
+    }
+}
+
+/// The occurrence of its row's outer group in which a pick stands, where the pick before it stands in the last one.
+fn outer_seat(marks: &[Mark], row: &Row, pick: &Picked, last: Option<Seated>) -> Option<Seated>
     requires order { rises marks.now ≡ true }
     requires few { ForSome pick.now.outer (λ n. n + 1 < 2 ^ 32) }
-    ensures { result ≡ spec.outer_seat_of marks.now row.now pick.now }
+    requires last { spec.IsOuterSeat marks.now last }
+    ensures seat { result ≡ spec.outer_seat_of marks.now row.now pick.now }
+    ensures last { spec.IsOuterSeat marks.now result }
 {
     match row.outer {
         None => None,
         Some(group) => match pick.outer {
             None => None,
-            Some(element) => Some(seat_at(marks, DOCUMENT, group, element)),
+            Some(element) => Some(seat_again(marks, group, element, last)),
         },
     }
 }
@@ -179,6 +212,57 @@ fn inner_seat(marks: &[Mark], row: &Row, pick: &Picked) -> Option<Seated>
     }
 }
 
+/// A pick with the occurrences in which it stands.
+fn seated(
+    rows: &[Row],
+    outers: &[Mark],
+    inners: &[Mark],
+    pick: &Picked,
+    last: Option<Seated>,
+) -> SeatedPick
+    requires row { IsRowed (length rows.now) pick.now }
+    requires outers { rises outers.now ≡ true }
+    requires inners { rises inners.now ≡ true }
+    requires last { spec.IsOuterSeat outers.now last }
+    ensures seat { result ≡ spec.seated rows.now outers.now inners.now pick.now }
+    ensures last { spec.IsOuterSeat outers.now result.outer }
+{
+    let row = row_of(rows, pick);
+    SeatedPick {
+        picked: *pick,
+        outer: outer_seat(outers, row, pick, last),
+        inner: inner_seat(inners, row, pick),
+    }
+}
+
+fn outer_of(seat: &SeatedPick) -> Option<Seated>
+    ensures { result ≡ seat.now.outer }
+{
+    seat.outer
+}
+
+/// Puts a pick behind the others with the occurrences in which it stands, and answers the one of the outer group.
+fn add_seat(
+    rows: &[Row],
+    outers: &[Mark],
+    inners: &[Mark],
+    pick: &Picked,
+    last: Option<Seated>,
+    seats: &mut Vec<SeatedPick>,
+) -> Result<Option<Seated>, AllocError>
+    requires row { IsRowed (length rows.now) pick.now }
+    requires outers { rises outers.now ≡ true }
+    requires inners { rises inners.now ≡ true }
+    requires last { spec.IsOuterSeat outers.now last }
+    ensures added { OnOk result (seats.new.items ≡ seats.old.items ++ spec.seated rows.now outers.now inners.now pick.now ∷ []) }
+    ensures last { IfOk result (λ seat. spec.IsOuterSeat outers.now seat) }
+{
+    let seat = seated(rows, outers, inners, pick, last);
+    let outer = outer_of(&seat);
+    seats.push(seat)?;
+    Ok(outer)
+}
+
 /// The picks with the occurrences of groups in which they stand.
 pub(crate) fn all_seated(
     alloc: Global,
@@ -191,15 +275,16 @@ pub(crate) fn all_seated(
     let outers = outer_marks(alloc, rows, picks)?;
     let inners = inner_marks(alloc, rows, picks)?;
     let mut seats = Vec::new(alloc);
+    let mut last = None;
     'picks: for pick in picks {
-        let row = row_of(rows, pick);
-        let outer = outer_seat(outers.as_slice(), row, pick);
-        let inner = inner_seat(inners.as_slice(), row, pick);
-        seats.push(SeatedPick {
-            picked: *pick,
-            outer,
-            inner,
-        })?;
+        last = add_seat(
+            rows,
+            outers.as_slice(),
+            inners.as_slice(),
+            pick,
+            last,
+            &mut seats,
+        )?;
     }
     Ok(seats)
 }

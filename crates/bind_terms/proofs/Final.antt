@@ -1,5 +1,5 @@
 -- What the passes leave is the invoice that the document is, or its first fault.
-use Rattle.std.proofs.Common.{◌≡◌, ℕ, zero, suc, ◌+◌, ◌<◌, Bool, true, false, not, ◌&&◌, ◌||◌, List, [], ◌∷◌, ◌++◌, length, get_or, map, flat_map, All, Option, Some, None, option_map, is_some, Result, Ok, Err, ◌⊎◌, inl, inr, refl, sym, ap, ◌∙◌, subst, append_assoc, arith, Ordering}
+use Rattle.std.proofs.Common.{◌≡◌, ℕ, zero, suc, ◌<◌, Bool, true, false, ◌||◌, List, [], ◌∷◌, ◌++◌, length, map, flat_map, All, Option, Some, None, is_some, Ok, Err, refl, sym, ap, ◌∙◌, subst, append_assoc, arith, Ordering}
 use Rattle.std.specs.Prelude.{is_none}
 use Rattle.std.specs.List.{list_any, AllPairs, AllByRecursion}
 use Rattle.std.specs.List.Sorted.{IsStrictlySortedBy}
@@ -20,44 +20,40 @@ use Rattle.inv_terms.specs.declared.values.Value.{Value}
 use Rattle.bind_rows.specs.declared.rows.Row.{Row}
 use Rattle.bind_meaning.specs.declared.fault.BindKind.{BindKind}
 use Rattle.bind_meaning.specs.declared.fault.BindKind.TheVariants as kinds
-use Rattle.bind_meaning.specs.declared.fault.BindFault.{BindFault}
 use Rattle.bind_meaning.specs.declared.picked.Picked.{Picked}
 use Rattle.bind_meaning.specs.declared.picked.SeatedPick.{SeatedPick}
 use Rattle.bind_meaning.specs.Currencies.{Currencies, currencies}
 use Rattle.bind_meaning.specs.Kept.{kept, all_kept, kept_seat, all_kept_seats}
-use Rattle.bind_meaning.specs.Picks.{Pick}
+use Rattle.bind_meaning.specs.Picks.{Pick, numbered}
+use Rattle.bind_meaning.specs.declared.fault.BindFault.{BindFault}
+use Rattle.bind_meaning.specs.Faults.{lacks_in, every_fault, put_faults, in_fault_order, faults_in}
 use Rattle.bind_meaning.specs.Seats.{Placed, rooms}
-use Rattle.bind_meaning.specs.Judging.{Found, Told, seat_of, first_before, Cause, first_cause, causes, fault_of, faults_behind, wrong_word, missing_in, earlier, least, least_from, is_bad, is_excess, is_not_listed, is_foreign, is_disagreeing, breaks}
+use Rattle.bind_meaning.specs.Judging.{Found, Told, seat_of, first_before, Cause, first_cause, causes, fault_of, faults_behind, wrong_word, least, least_from, is_bad, is_excess, is_not_listed, is_foreign, is_disagreeing, breaks}
 use Rattle.bind_meaning.specs.Elements.{has_element_inside}
-use Rattle.bind_meaning.specs.Terms.{in_order, constant_picks, term_picks, place_all, told, all_faults, entries, passed_over, Read, read_placed, firsts_behind}
+use Rattle.bind_meaning.specs.Terms.{in_order, constant_picks, term_picks, all_faults, entries, passed_over, firsts_behind}
 use Rattle.node_arena.proofs.FoundLemmas.{AreInOrder}
 use Rattle.bind_terms.specs.Sayings.{FitsIts}
-use Rattle.bind_terms.specs.declared.found.Found.{Found as Kept}
 use Rattle.bind_terms.specs.declared.firsts.First.{First}
 use Rattle.bind_terms.specs.declared.judging.Verdict.{Verdict}
 use Rattle.bind_terms.specs.declared.judging.Verdict.TheVariants as verdicts
 use Rattle.bind_terms.specs.Entries.{FitsFirst, entries_of}
-use Rattle.bind_terms.specs.Passes.{IsVerdict}
-use Rattle.bind_terms.specs.Faults.{found_of, with_found, least_of}
+use Rattle.bind_terms.specs.Passes.{all_told, words_found, lacks_found, found_at_picks, all_found, HasTold, HasFound, IsVerdict}
+use Rattle.bind_terms.specs.declared.found.Spot.{Spot}
+use Rattle.bind_terms.specs.Faults.{found_in, least_of, Puts}
 use Rattle.bind_terms.specs.Reading.{indicator_picks, term_places, reading, Answers, AreSorted}
 use Rattle.bind_terms.specs.Telling.{seat_of_first, first_of, Entries, told_place, arranged, is_placed, IsAtItsPlace, Holds}
 use Rattle.bind_terms.specs.Steps.{HasRow, IsOfRow, IsPickOfRow, IsWithin, TellsAll}
-use Rattle.bind_terms.proofs.Tolds.{append-nil, least-append}
+use Rattle.bind_terms.proofs.Tolds.{least-append, puts-same}
 use Rattle.bind_terms.proofs.Listing.{Each, each-first, IsWhole, arranged-listed}
 use Rattle.bind_terms.proofs.Missing.{rooms-same}
-use Rattle.bind_terms.proofs.Indicating.{words-same}
+use Rattle.bind_terms.proofs.Indicating.{words-same, words-leave, words-enter, words-are-one, rows-words}
+use Rattle.bind_terms.proofs.FaultOrder.{puts-rising, puts-append, in-any-order}
+use Rattle.bind_terms.proofs.FirstFault.{every-least}
+use Rattle.bind_terms.proofs.Gathering.{entries-fault}
 use Rattle.bind_terms.proofs.Sound.{terms-sound, rows-sound, seated-within, seated-rows, kept-within, kept-rows}
 use Rattle.bind_terms.specs.Reading.{has_indicator}
 
--- ---- the first of all
-
-least-from : (a : Found) (xs : List Found) → least_of (Some a) xs ≡ Some (least_from a xs)
-least-from a [] = refl
-least-from a (x ∷ xs) = least-from (earlier a x) xs
-
-least-is : (xs : List Found) → least_of None xs ≡ least xs
-least-is [] = refl
-least-is (x ∷ xs) = least-from x xs
+-- ---- lists without elements
 
 least-none : (xs : List Found) → least xs ≡ None → xs ≡ []
 least-none [] h = refl
@@ -180,9 +176,9 @@ all-of : (es : Entries) → Each (λ (x : List ℕ × First). FitsFirst x.1) es 
 all-of [] h = All-nil FitsFirst
 all-of (e ∷ es) h = All-cons FitsFirst e.1 (kept_firsts es) h.0 (all-of es h.1)
 
-pub firsts-fit : (nodes : List Node) (lists : Lists) (c : Currencies) (before : List Told) (es : Entries) (least : Option Found) (firsts : List First) → Holds nodes lists c before es least
-    → firsts ≡ map (λ (e : List ℕ × First). e.1) es → All FitsFirst firsts
-firsts-fit nodes lists c before es least firsts h e =
+pub firsts-fit : (nodes : List Node) (lists : Lists) (c : Currencies) (before : List Told) (es : Entries) (given : List Found → Type 0) (firsts : List First)
+    → Holds nodes lists c before es given → firsts ≡ map (λ (e : List ℕ × First). e.1) es → All FitsFirst firsts
+firsts-fit nodes lists c before es given firsts h e =
     subst (All FitsFirst) (sym (e ∙ ap kept_firsts h.entries_are))
     (all-of (arranged [] (firsts_behind [] before)) (fits-arranged [] (firsts_behind [] before) tt (each-first (λ (t : Told). FitsIts t.said) [] before (each-of (λ (t : Told). FitsIts t.said) before h.fit))))
 
@@ -213,60 +209,116 @@ module _ (nodes : List Node) (order : AreInOrder nodes) (some : 0 < length nodes
       (All-weaker (IsPickOfRow rows) (λ p. HasRow rows (kept p).row) (λ p h. ap is_some h) (in_order nodes (indicator_picks nodes rows))
       (kept-rows nodes order some rows (in_order nodes (indicator_picks nodes rows)) (rows-sound nodes order some rows has_indicator))))
 
-  pub standing : (invoice : Option (List ℕ)) (picks : List SeatedPick) (es : Entries) (at_nodes : Option Found) → invoice ≡ (currencies nodes rows).invoice → picks ≡ all_kept_seats (term_places nodes rows)
-      → TellsAll nodes lists invoice picks rows es at_nodes → Holds nodes lists (currencies nodes rows) (told nodes (term_places nodes rows)) es at_nodes
-  standing invoice picks es at_nodes currency picks_are tells =
+  pub standing : (invoice : Option (List ℕ)) (picks : List SeatedPick) (es : Entries) (given : List Found → Type 0) → invoice ≡ (currencies nodes rows).invoice
+      → picks ≡ all_kept_seats (term_places nodes rows) → TellsAll nodes lists invoice picks rows es given
+      → Holds nodes lists (currencies nodes rows) (all_told nodes rows) es given
+  standing invoice picks es given currency picks_are tells =
       tells (term_places nodes rows) (currencies nodes rows) (sym currency) picks_are
       (seated-rows nodes order some rows (term_picks nodes (currencies nodes rows) rows) (terms-sound nodes order some rows (currencies nodes rows)))
 
-  module _ (picks : List SeatedPick) (indicators : List Picked) (es : Entries) (at_nodes worded last : Option Found) (firsts : List First)
-      (h : Holds nodes lists (currencies nodes rows) (told nodes (term_places nodes rows)) es at_nodes)
-      (picks_are : picks ≡ all_kept_seats (term_places nodes rows)) (indicators_are : indicators ≡ all_kept (in_order nodes (indicator_picks nodes rows)))
-      (words : (qs : List Pick) → indicators ≡ all_kept qs → All (IsPickOfRow rows) qs → worded ≡ least_of at_nodes (flat_map (wrong_word nodes) qs))
-      (firsts_are : firsts ≡ map (λ (e : List ℕ × First). e.1) es)
-      (lacks : (qs : List Placed) → picks ≡ all_kept_seats qs → last ≡ least_of worded (flat_map (missing_in nodes (map seat_of_first firsts)) (rooms qs))) where
-    alike : (p : Seat → Bool) → list_any p (map seat_of_first firsts) ≡ list_any p (map seat_of (told nodes (term_places nodes rows)))
+  -- the faults of the indicators are given behind those of what the picks say
+  pub told-words : (invoice : Option (List ℕ)) (picks : List SeatedPick) (indicators : List Picked) (es : Entries) (was given : List Found → Type 0)
+      → invoice ≡ (currencies nodes rows).invoice
+      → picks ≡ all_kept_seats (term_places nodes rows) → indicators ≡ all_kept (in_order nodes (indicator_picks nodes rows))
+      → TellsAll nodes lists invoice picks rows es was
+      → ((qs : List Pick) → indicators ≡ all_kept qs → All (IsPickOfRow rows) qs → Puts was given (flat_map (wrong_word nodes) qs))
+      → HasTold nodes lists rows es given
+  told-words invoice picks indicators es was given currency picks_are indicators_are tells words =
+      let h = standing invoice picks es was currency picks_are tells in
+      let put = words (in_order nodes (indicator_picks nodes rows)) indicators_are
+      (kept-rows nodes order some rows (in_order nodes (indicator_picks nodes rows)) (rows-sound nodes order some rows has_indicator)) in
+      record {
+        look_up = h.look_up;
+        entries_are = h.entries_are;
+        at_places = h.at_places;
+        same_seats = h.same_seats;
+        is_given = put (found_at_picks nodes lists rows) h.is_given;
+        fit = h.fit;
+        placed = h.placed;
+      }
+
+  module _ (picks : List SeatedPick) (es : Entries) (was given : List Found → Type 0) (firsts : List First) (h : HasTold nodes lists rows es was)
+      (picks_are : picks ≡ all_kept_seats (term_places nodes rows)) (firsts_are : firsts ≡ map (λ (e : List ℕ × First). e.1) es)
+      (lacks : (qs : List Placed) → picks ≡ all_kept_seats qs → Puts was given (flat_map (lacks_in nodes (map seat_of_first firsts)) (rooms qs))) where
+    alike : (p : Seat → Bool) → list_any p (map seat_of_first firsts) ≡ list_any p (map seat_of (all_told nodes rows))
     alike p =
         any-map seat_of_first p firsts ∙ (ap (list_any (λ (f : First). p (seat_of_first f))) firsts_are
-        ∙ (any-map (λ (e : List ℕ × First). e.1) (λ (f : First). p (seat_of_first f)) es ∙ (h.same_seats p ∙ sym (any-map seat_of p (told nodes (term_places nodes rows))))))
+        ∙ (any-map (λ (e : List ℕ × First). e.1) (λ (f : First). p (seat_of_first f)) es ∙ (h.same_seats p ∙ sym (any-map seat_of p (all_told nodes rows)))))
 
-    a : List Found
-    a = faults_behind nodes lists (currencies nodes rows) [] (told nodes (term_places nodes rows))
+    lacks-put : Puts was given (lacks_found nodes rows)
+    lacks-put =
+        puts-same was given _ _ (rooms-same nodes (map seat_of_first firsts) (map seat_of (all_told nodes rows)) (rooms (term_places nodes rows)) alike)
+        (lacks (term_places nodes rows) picks_are)
 
-    b : List Found
-    b = flat_map (wrong_word nodes) (constant_picks nodes rows)
+    invoice-is : found_at_picks nodes lists rows ≡ [] → flat_map entries_of firsts ≡ entries (all_told nodes rows)
+    invoice-is faultless =
+        let whole = all-valued nodes lists (currencies nodes rows) [] (all_told nodes rows) faultless h.placed in
+        ap (flat_map entries_of) (firsts_are ∙ ap kept_firsts h.entries_are) ∙ arranged-listed (all_told nodes rows) whole
 
-    d : List Found
-    d = flat_map (missing_in nodes (map seat_of (told nodes (term_places nodes rows)))) (rooms (term_places nodes rows))
+    pub has-found : HasFound nodes lists rows firsts given
+    has-found = record {
+      is_given = lacks-put (found_at_picks nodes lists rows ++ words_found nodes rows) h.is_given;
+      fit = firsts-fit nodes lists (currencies nodes rows) (all_told nodes rows) es (λ fs. was (fs ++ words_found nodes rows)) firsts h firsts_are;
+      entries_are = invoice-is;
+    }
 
-    pub whole-least : last ≡ least (all_faults nodes lists (currencies nodes rows) rows (term_places nodes rows))
-    unfolding a b d
-    whole-least =
-        lacks (term_places nodes rows) picks_are
-        ∙ (ap (least_of worded) (rooms-same nodes (map seat_of_first firsts) (map seat_of (told nodes (term_places nodes rows))) (rooms (term_places nodes rows)) alike)
-        ∙ (ap (λ o. least_of o d) (words (in_order nodes (indicator_picks nodes rows)) indicators_are
-        (kept-rows nodes order some rows (in_order nodes (indicator_picks nodes rows)) (rows-sound nodes order some rows has_indicator))
-        ∙ (words-same nodes order some rows at_nodes ∙ ap (λ o. least_of o b) h.least_is))
-        ∙ (ap (λ o. least_of o d) (sym (least-append None a b))
-        ∙ (sym (least-append None (a ++ b) d) ∙ (ap (least_of None) (append_assoc a b d) ∙ least-is (a ++ (b ++ d)))))))
+  -- ---- the first of all, and all in their order
 
-    pub told-fault : (fault : Found) → last ≡ Some fault → reading nodes lists rows ≡ Err fault.fault
+  words_placed : List Found
+  words_placed = flat_map (wrong_word nodes) (constant_picks nodes rows)
+
+  pub found-least : least_of None (all_found nodes lists rows) ≡ least (all_faults nodes lists (currencies nodes rows) rows (term_places nodes rows))
+  unfolding words_placed
+  found-least =
+      least-append None (found_at_picks nodes lists rows ++ words_found nodes rows) (lacks_found nodes rows)
+      ∙ (ap (λ o. least_of o (lacks_found nodes rows))
+      (least-append None (found_at_picks nodes lists rows) (words_found nodes rows)
+      ∙ (words-same nodes order some rows (least_of None (found_at_picks nodes lists rows))
+      ∙ sym (least-append None (found_at_picks nodes lists rows) words_placed)))
+      ∙ (sym (least-append None (found_at_picks nodes lists rows ++ words_placed) (lacks_found nodes rows))
+      ∙ (ap (least_of None) (append_assoc (found_at_picks nodes lists rows) words_placed (lacks_found nodes rows))
+      ∙ every-least nodes lists (currencies nodes rows) rows (term_places nodes rows))))
+
+  pub found-in-order : in_fault_order (all_found nodes lists rows) ≡ in_fault_order
+      (every_fault nodes lists (currencies nodes rows) rows (term_places nodes rows))
+  unfolding words_placed
+  found-in-order =
+      let a = found_at_picks nodes lists rows in
+      let kept = put_faults [] a in
+      let inner : put_faults kept (words_found nodes rows) ≡ put_faults kept words_placed =
+      in-any-order kept (words_found nodes rows) (flat_map (wrong_word nodes) (indicator_picks nodes rows)) (puts-rising [] a tt)
+      (words-leave nodes order some rows) (words-enter nodes order some rows)
+      (words-are-one nodes order some rows)
+      ∙ ap (put_faults kept) (rows-words nodes (numbered 1 rows)) in
+      puts-append [] (a ++ words_found nodes rows) (lacks_found nodes rows)
+      ∙ (ap (λ l. put_faults l (lacks_found nodes rows)) (puts-append [] a (words_found nodes rows) ∙ inner)
+      ∙ (sym (puts-append kept words_placed (lacks_found nodes rows)) ∙ sym (puts-append [] a (words_placed ++ lacks_found nodes rows))))
+
+  pub kept-faults : (es : List (Spot × BindFault)) → map found_in es ≡ in_fault_order (all_found nodes lists rows)
+      → map (λ (e : Spot × BindFault). e.1) es ≡ faults_in nodes rows lists
+  unfolding faults_in
+  kept-faults es e = sym (entries-fault es _ (e ∙ found-in-order))
+
+  module _ (firsts : List First) (last : Option Found) (h : HasFound nodes lists rows firsts (λ fs. last ≡ least_of None fs)) where
+    whole-least : last ≡ least (all_faults nodes lists (currencies nodes rows) rows (term_places nodes rows))
+    whole-least = h.is_given ∙ found-least
+
+    told-fault : (fault : Found) → last ≡ Some fault → reading nodes lists rows ≡ Err fault.fault
     told-fault fault e =
         ap (λ (o : Option Found). elim o [
           | Some first ↦ Err first.fault
-          | None ↦ Ok (record { entries = entries (told nodes (term_places nodes rows)); passed_over = passed_over nodes rows })
+          | None ↦ Ok (record { entries = entries (all_told nodes rows); passed_over = passed_over nodes rows })
         ]) (sym whole-least ∙ e)
 
-    pub told-invoice : (invoice : List Entry) → last ≡ None → invoice ≡ flat_map entries_of firsts → reading nodes lists rows ≡ Ok (record { entries = invoice; passed_over = passed_over nodes rows })
+    told-invoice : (invoice : List Entry) → last ≡ None → invoice ≡ flat_map entries_of firsts
+        → reading nodes lists rows ≡ Ok (record { entries = invoice; passed_over = passed_over nodes rows })
     told-invoice invoice e made =
         let none : least (all_faults nodes lists (currencies nodes rows) rows (term_places nodes rows)) ≡ None = sym whole-least ∙ e in
-        let faultless = front-none (faults_behind nodes lists (currencies nodes rows) [] (told nodes (term_places nodes rows))) _ (least-none _ none) in
-        let whole = all-valued nodes lists (currencies nodes rows) [] (told nodes (term_places nodes rows)) faultless h.placed in
-        let entries_are : invoice ≡ entries (told nodes (term_places nodes rows)) =
-        made ∙ (ap (flat_map entries_of) (firsts_are ∙ ap kept_firsts h.entries_are) ∙ arranged-listed (told nodes (term_places nodes rows)) whole) in
+        let faultless = front-none (found_at_picks nodes lists rows) _ (least-none _ none) in
+        let entries_are : invoice ≡ entries (all_told nodes rows) = made ∙ h.entries_are faultless in
         ap (λ (o : Option Found). elim o [
           | Some first ↦ Err first.fault
-          | None ↦ Ok (record { entries = entries (told nodes (term_places nodes rows)); passed_over = passed_over nodes rows })
+          | None ↦ Ok (record { entries = entries (all_told nodes rows); passed_over = passed_over nodes rows })
         ]) none
         ∙ (λ i. Ok (record { entries = (sym entries_are) i; passed_over = passed_over nodes rows }))
 

@@ -1,5 +1,5 @@
 -- What is kept of what was told stands for it, one after another.
-use Rattle.std.proofs.Common.{◌≡◌, ℕ, Bool, true, false, ◌||◌, cond, List, [], ◌∷◌, ◌++◌, map, All, Option, Some, None, option_map, is_some, ◌⊎◌, inl, inr, refl, sym, ap, ◌∙◌, subst, Ordering}
+use Rattle.std.proofs.Common.{◌≡◌, ℕ, Bool, true, false, ◌||◌, cond, List, [], ◌∷◌, ◌++◌, All, Option, Some, None, option_map, is_some, inl, inr, refl, sym, ap, ◌∙◌, subst, Ordering}
 use Rattle.std.specs.Prelude.{unwrap_or}
 use Rattle.std.specs.List.{list_any}
 use Rattle.std.specs.Ordering.{nat_cmp, is_eq, is_lt, ordering_reverse, match_ordering}
@@ -22,10 +22,10 @@ use Rattle.bind_meaning.specs.Judging.{Found, Told, is_of_seat, first_before, fa
 use Rattle.bind_meaning.specs.Terms.{firsts_behind}
 use Rattle.bind_terms.specs.Sayings.{FitsIts}
 use Rattle.bind_terms.specs.declared.firsts.First.{First}
-use Rattle.bind_terms.specs.Faults.{with_found, least_of}
+use Rattle.bind_terms.specs.Faults.{Puts}
 use Rattle.bind_terms.specs.Telling.{seat_of_first, first_of, Entries, kept_at, told_place, arranged, is_placed, IsAtItsPlace, Holds}
 use Rattle.bind_terms.specs.Steps.{put_entry, kept_behind}
-use Rattle.bind_terms.proofs.Tolds.{bool_cases, told-seat, seat-told, or_else, first-append, first-same, one-true, other-more, known-more, append-nil, kept_if, firsts-more, faults-more, least-append, any-first}
+use Rattle.bind_terms.proofs.Tolds.{bool_cases, told-seat, seat-told, or_else, first-append, first-same, one-true, other-more, known-more, append-nil, kept_if, firsts-more, faults-more, any-first}
 
 abbrev order : List ℕ → List ℕ → Ordering
 order = slice_cmp nat_cmp
@@ -100,13 +100,13 @@ arranged-append entries (x ∷ xs) ys = arranged-append (insert_entry order entr
 
 -- ---- the beginning
 
-pub holds-none : (nodes : List Node) (lists : Lists) (c : Currencies) → Holds nodes lists c [] [] None
-holds-none nodes lists c = record {
+pub holds-none : (nodes : List Node) (lists : Lists) (c : Currencies) (given : List Found → Type 0) → given [] → Holds nodes lists c [] [] given
+holds-none nodes lists c given fresh = record {
   look_up = λ t place e. refl;
   entries_are = refl;
   at_places = All-nil IsAtItsPlace;
   same_seats = λ p. refl;
-  least_is = refl;
+  is_given = fresh;
   fit = All-nil (λ (t : Told). FitsIts t.said);
   placed = All-nil (λ t. is_placed t ≡ true);
 }
@@ -121,20 +121,18 @@ some-first : (o : Option Told) (x : First) → option_map first_of o ≡ Some x 
 some-first None x h = absurd (let k : ◌≡◌ {A = Option First} None (Some x) = h in cc)
 some-first (Some f) x h = (f, refl)
 
-module _ (nodes : List Node) (lists : Lists) (c : Currencies) (before : List Told) (entries : Entries) (least : Option Found) (h : Holds nodes lists c before entries least)
+module _ (nodes : List Node) (lists : Lists) (c : Currencies) (before : List Told) (entries : Entries) (was : List Found → Type 0)
+    (h : Holds nodes lists c before entries was)
     (t : Told) (place : List ℕ) (at : seat_place (seat_of t) ≡ Some place) (fits : FitsIts t.said)
-    (more : Entries) (new : Option Found) (fault : new ≡ least_of least (fault_of nodes lists c (first_before before t) t)) where
+    (more : Entries) (is : List Found → Type 0) (fault : Puts was is (fault_of nodes lists c (first_before before t) t)) where
   place-told : told_place t ≡ place
   place-told = ap (λ o. unwrap_or o []) at
 
   placed-told : is_placed t ≡ true
   placed-told = ap is_some at
 
-  least-more : new ≡ least_of None (faults_behind nodes lists c [] (before ++ t ∷ []))
-  least-more =
-      fault ∙ (ap (λ o. least_of o (fault_of nodes lists c (first_before before t) t)) h.least_is
-      ∙ (sym (least-append None (faults_behind nodes lists c [] before) (fault_of nodes lists c (first_before before t) t))
-      ∙ ap (least_of None) (sym (faults-more nodes lists c [] before t))))
+  given-more : is (faults_behind nodes lists c [] (before ++ t ∷ []))
+  given-more = subst is (sym (faults-more nodes lists c [] before t)) (fault (faults_behind nodes lists c [] before) h.is_given)
 
   seats-more : (p : Seat → Bool) → list_any (λ u. p (seat_of u)) (before ++ t ∷ []) ≡ (list_any (λ u. p (seat_of u)) before || p (seat_of t))
   seats-more p = list_any-append (λ u. p (seat_of u)) before (t ∷ []) ∙ ap (λ b. list_any (λ u. p (seat_of u)) before || b) (or-false (p (seat_of t)))
@@ -144,13 +142,13 @@ module _ (nodes : List Node) (lists : Lists) (c : Currencies) (before : List Tol
     absorbed p true e = rw (any-first p before t f known e) refl
     absorbed p false e = or-false (list_any (λ u. p (seat_of u)) before)
 
-    pub holds-known : Holds nodes lists c (before ++ t ∷ []) more new
-    holds-known = subst (λ x. Holds nodes lists c (before ++ t ∷ []) x new) (sym same) (record {
+    pub holds-known : Holds nodes lists c (before ++ t ∷ []) more is
+    holds-known = subst (λ x. Holds nodes lists c (before ++ t ∷ []) x is) (sym same) (record {
       look_up = λ u q e. h.look_up u q e ∙ ap (option_map first_of) (known-more before t f known u);
       entries_are = h.entries_are ∙ ap (arranged []) (sym (firsts-more [] [] before t (λ u. refl) ∙ (ap (λ o. firsts_behind [] before ++ kept_if o t) known ∙ append-nil (firsts_behind [] before))));
       at_places = h.at_places;
       same_seats = λ p. h.same_seats p ∙ sym (seats-more p ∙ absorbed p (p (seat_of t)) refl);
-      least_is = least-more;
+      is_given = given-more;
       fit = All-push (λ (u : Told). FitsIts u.said) before t h.fit fits;
       placed = All-push (λ u. is_placed u ≡ true) before t h.placed placed-told;
     })
@@ -165,14 +163,14 @@ module _ (nodes : List Node) (lists : Lists) (c : Currencies) (before : List Tol
         ap (option_map first_of) (sym (first-append before (t ∷ []) u ∙ (ap (λ o. or_else o (first_before (t ∷ []) u)) fresh ∙ one-true t u (seat-told t u one))))
     look u q false e apart =
         let other : is_of_seat t u ≡ false = elim (bool_cases (is_of_seat t u)) [
-          | inl is ↦
-              let places : place ≡ q = same_Some _ _ (sym at ∙ (ap seat_place (told-seat t u is) ∙ e)) in
+          | inl one ↦
+              let places : place ≡ q = same_Some _ _ (sym at ∙ (ap seat_place (told-seat t u one) ∙ e)) in
               absurd (false≢true (sym apart ∙ (ap (λ x. is_eq (order x q)) places ∙ place-itself q)))
           | inr apart_it ↦ apart_it
         ] in
         h.look_up u q e ∙ ap (option_map first_of) (sym (other-more before t u other))
 
-    pub holds-new : Holds nodes lists c (before ++ t ∷ []) more new
+    pub holds-new : Holds nodes lists c (before ++ t ∷ []) more is
     holds-new = record {
       look_up = λ u q e. looked q ∙ look u q (is_eq (order place q)) e refl;
       entries_are = put ∙ (ap (λ x. insert_entry order x place (first_of t)) h.entries_are ∙ (ap (λ x. insert_entry order (arranged [] (firsts_behind [] before)) x (first_of t)) (sym place-told)
@@ -182,16 +180,17 @@ module _ (nodes : List Node) (lists : Lists) (c : Currencies) (before : List Tol
       same_seats = λ p. ap (list_any (λ (e : List ℕ × First). p (seat_of_first e.1))) put
           ∙ (any-insert (λ (e : List ℕ × First). p (seat_of_first e.1)) entries place (first_of t) absent
           ∙ (or-comm (p (seat_of t)) _ ∙ (ap (λ b. b || p (seat_of t)) (h.same_seats p) ∙ sym (seats-more p))));
-      least_is = least-more;
+      is_given = given-more;
       fit = All-push (λ (u : Told). FitsIts u.said) before t h.fit fits;
       placed = All-push (λ u. is_placed u ≡ true) before t h.placed placed-told;
     }
 
-  pub holds-more : more ≡ put_entry entries place (first_of t) → ((q : List ℕ) → kept_at q more ≡ kept_behind q entries place (first_of t)) → Holds nodes lists c (before ++ t ∷ []) more new
+  pub holds-more : more ≡ put_entry entries place (first_of t) → ((q : List ℕ) → kept_at q more ≡ kept_behind q entries place (first_of t))
+      → Holds nodes lists c (before ++ t ∷ []) more is
   holds-more put looked = go (kept_at place entries) refl put looked
     where
       go : (o : Option First) → kept_at place entries ≡ o → more ≡ (elim o [ None ↦ insert_entry order entries place (first_of t) | Some other ↦ entries ])
           → ((q : List ℕ) → kept_at q more ≡ (elim o [ None ↦ cond (is_eq (order place q)) (Some (first_of t)) (kept_at q entries) | Some other ↦ kept_at q entries ]))
-          → Holds nodes lists c (before ++ t ∷ []) more new
+          → Holds nodes lists c (before ++ t ∷ []) more is
       go None e put looked = holds-new (none-first (first_before before t) (sym (h.look_up t place at) ∙ e)) e put looked
       go (Some x) e put looked = let k = some-first (first_before before t) x (sym (h.look_up t place at) ∙ e) in holds-known k.0 k.1 put

@@ -1,13 +1,12 @@
 -- The first wrong word is the same whether the picks of all rows without a term are judged in the order of the rows, or those of
 -- the indicators in the order of the document.
-use Rattle.std.proofs.Common.{◌≡◌, ℕ, zero, suc, ◌+◌, ◌<◌, Bool, true, false, not, ◌&&◌, List, [], ◌∷◌, ◌++◌, length, get_or, map, filter, flat_map, All, Option, Some, None, ◌⊎◌, inl, inr, refl, sym, ap, ◌∙◌, subst, append_assoc, arith}
+use Rattle.std.proofs.Common.{◌≡◌, ℕ, zero, suc, ◌<◌, Bool, true, false, not, ◌&&◌, List, [], ◌∷◌, ◌++◌, length, map, filter, flat_map, All, Option, Some, inl, inr, refl, sym, ap, ◌∙◌, subst, arith}
 use Rattle.std.specs.Prelude.{◌==◌, if◌then◌else◌}
 use Rattle.std.proofs.lemmas.Bool.{false≢true}
 use Rattle.std.proofs.lemmas.Bool.Decides.{nat_tests}
 use Rattle.std.proofs.lemmas.Option.{same_Some}
 use Rattle.std.proofs.lemmas.List.Elements.{All-head, All-tail}
 use Rattle.std.proofs.lemmas.List.Concat.{flat_map-append}
-use Rattle.inv_base.specs.declared.tree.Kind.TheVariants as node_kinds
 use Rattle.inv_base.specs.Tree.{Node}
 use Rattle.term_table.specs.declared.terms.Term.{Term}
 use Rattle.inv_terms.specs.declared.lacks.Name.TheVariants as names
@@ -17,7 +16,7 @@ use Rattle.bind_rows.specs.declared.rows.Check.{Check}
 use Rattle.bind_rows.specs.declared.rows.Check.TheVariants as checks
 use Rattle.bind_meaning.specs.declared.fault.BindKind.TheVariants as kinds
 use Rattle.bind_meaning.specs.Elements.{string_at, is_one_of}
-use Rattle.bind_meaning.specs.Picks.{Pick, Numbered, numbered, rows_where, all_picked, nodes_picked, picks_of_way, leaves_of, ways, last_of, has_any_term}
+use Rattle.bind_meaning.specs.Picks.{Pick, Numbered, numbered, nodes_picked, picks_of_way, leaves_of, ways, last_of, has_any_term}
 use Rattle.bind_meaning.specs.Judging.{Found, found, place_at, wrong_word, words}
 use Rattle.bind_meaning.specs.Terms.{in_order, constant_picks}
 use Rattle.node_arena.specs.Moves.{tree_node}
@@ -25,7 +24,7 @@ use Rattle.node_arena.proofs.FoundLemmas.{AreInOrder}
 use Rattle.bind_terms.specs.Faults.{least_of}
 use Rattle.bind_terms.specs.Reading.{is_indicator, has_indicator, indicator_picks}
 use Rattle.bind_terms.specs.Steps.{row_numbered}
-use Rattle.bind_terms.proofs.Order.{Among, among-flat_map, IsFrom, flat_map-among, among-filter, filter-among, AreOne, same-least}
+use Rattle.bind_terms.proofs.Order.{Among, among-flat_map, flat_map-among, among-filter, filter-among, AreOne, same-least}
 use Rattle.bind_terms.proofs.Sound.{IsSound, rows-sound, unordered-sound}
 
 -- ---- what a pick says by its check
@@ -88,7 +87,7 @@ rows-step true true nodes r xs ys none h =
 rows-step true false nodes r xs ys none h =
     h ∙ sym (flat_map-append (wrong_word nodes) (picks_in nodes r) (flat_map (picks_in nodes) ys) ∙ ap (λ l. l ++ flat_map (wrong_word nodes) (flat_map (picks_in nodes) ys)) (none refl))
 
-rows-words : (nodes : List Node) (rows : List Numbered)
+pub rows-words : (nodes : List Node) (rows : List Numbered)
     → flat_map (wrong_word nodes) (flat_map (picks_in nodes) (filter (λ (r : Numbered). has_indicator r.row) rows))
     ≡ flat_map (wrong_word nodes) (flat_map (picks_in nodes) (filter (λ (r : Numbered). not (has_any_term r.row)) rows))
 rows-words nodes [] = refl
@@ -151,6 +150,24 @@ module _ (nodes : List Node) (order : AreInOrder nodes) (some : 0 < length nodes
       let a = among-all (IsSound nodes order some rows) f.source (in_order nodes picks) all f.among in
       let b = among-all (IsSound nodes order some rows) g.source (in_order nodes picks) all g.among in
       one-word x y f.source g.source (word-is nodes f.source x f.source.row.check refl f.piece) (word-is nodes g.source y g.source.row.check refl g.piece) a.of_row b.of_row same
+
+  abbrev pub in_document_order : List Found
+  in_document_order = flat_map (wrong_word nodes) (in_order nodes (indicator_picks nodes rows))
+
+  abbrev pub in_row_order : List Found
+  in_row_order = flat_map (wrong_word nodes) (indicator_picks nodes rows)
+
+  pub words-leave : (x : Found) → Among x in_document_order → Among x in_row_order
+  unfolding picks
+  words-leave = leaves
+
+  pub words-enter : (x : Found) → Among x in_row_order → Among x in_document_order
+  unfolding picks
+  words-enter = enters
+
+  pub words-are-one : AreOne in_document_order
+  unfolding picks
+  words-are-one = one-each
 
   pub words-same : (o : Option Found)
       → least_of o (flat_map (wrong_word nodes) (in_order nodes (indicator_picks nodes rows))) ≡ least_of o (flat_map (wrong_word nodes) (constant_picks nodes rows))

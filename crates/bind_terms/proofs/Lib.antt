@@ -15,3 +15,8 @@ pub mod Fronts
 pub mod Images
 pub mod NodeLists
 pub mod Literals
+pub mod Least
+pub mod FaultOrder
+pub mod FirstFault
+pub mod Gathering
+pub mod Within

@@ -1,5 +1,5 @@
 -- Entries put one after another by their places are the entries in listing order.
-use Rattle.std.proofs.Common.{◌≡◌, ℕ, Bool, true, false, ◌||◌, cond, List, [], ◌∷◌, ◌++◌, map, flat_map, Option, Some, None, is_some, is_none, ◌⊎◌, inl, inr, refl, sym, ap, ◌∙◌, subst, Ordering}
+use Rattle.std.proofs.Common.{◌≡◌, ℕ, Bool, true, false, ◌||◌, cond, List, [], ◌∷◌, ◌++◌, map, flat_map, Option, Some, None, ◌⊎◌, inl, inr, refl, sym, ap, ◌∙◌, Ordering}
 use Rattle.std.specs.Prelude.{unwrap_or}
 use Rattle.std.specs.List.{list_any}
 use Rattle.std.specs.Ordering.{nat_cmp, is_eq, is_lt, match_ordering}
@@ -7,7 +7,6 @@ use Rattle.std.specs.declared.cmp.Ordering.TheVariants.{Less, Equal, Greater}
 use Rattle.std.specs.Cmp.Lexicographic.{slice_cmp}
 use Rattle.std.specs.BTreeMap.{insert_entry}
 use Rattle.std.proofs.lemmas.Bool.{false≢true}
-use Rattle.std.proofs.lemmas.Option.{same_Some}
 use Rattle.term_table.specs.declared.contexts.Seat.{Seat}
 use Rattle.term_table.specs.Places.{seat_place, precedes, comes_before}
 use Rattle.term_table.proofs.RunLemmas.{neither_before, not_both_ways}
@@ -18,10 +17,10 @@ use Rattle.bind_meaning.specs.Seats.{context_of}
 use Rattle.bind_meaning.specs.Judging.{Told, is_of_seat, first_before, seat_of}
 use Rattle.bind_meaning.specs.Terms.{firsts_behind, entry_of, seat_of_entry, put, listed, entries}
 use Rattle.bind_terms.specs.declared.firsts.First.{First}
-use Rattle.bind_terms.specs.Telling.{seat_of_first, first_of, Entries, kept_at, told_place, arranged, is_placed, IsAtItsPlace}
+use Rattle.bind_terms.specs.Telling.{seat_of_first, first_of, Entries, kept_at, told_place, arranged}
 use Rattle.bind_terms.specs.Entries.{entries_of}
 use Rattle.bind_terms.proofs.Tolds.{bool_cases, seat-told, or_else, first-append}
-use Rattle.bind_terms.proofs.Holding.{place-is, place-itself, any-insert}
+use Rattle.bind_terms.proofs.Holding.{place-is, any-insert}
 
 abbrev pub Each : {X : Type 0} → (X → Type 0) → List X → Type 0
 Each P [] = Unit {0}

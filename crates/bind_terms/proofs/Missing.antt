@@ -1,6 +1,6 @@
 -- What is missing in a context, over seats that stand for others.
-use Rattle.std.proofs.Common.{◌≡◌, ℕ, ◌+◌, Bool, true, false, not, ◌&&◌, ◌||◌, List, [], ◌∷◌, ◌++◌, map, filter, flat_map, Option, Some, None, ◌⊎◌, inl, inr, refl, sym, ap, ◌∙◌, append_assoc}
-use Rattle.std.specs.Prelude.{if◌then◌else◌, ◌==◌}
+use Rattle.std.proofs.Common.{◌≡◌, ℕ, ◌+◌, Bool, true, false, not, ◌&&◌, ◌||◌, List, [], ◌∷◌, ◌++◌, map, filter, flat_map, Option, Some, None, refl, sym, ap, ◌∙◌}
+use Rattle.std.specs.Prelude.{if◌then◌else◌, ◌==◌, slice_get}
 use Rattle.std.specs.List.{list_any}
 use Rattle.inv_base.specs.Tree.{Node}
 use Rattle.term_table.specs.declared.groups.Group.{Group}
@@ -16,14 +16,12 @@ use Rattle.term_table.specs.SemanticModel.{same_term, terms}
 use Rattle.term_table.specs.Groups.{parent_of, occurrence_of}
 use Rattle.term_table.specs.Contexts.{has_context, is_inside}
 use Rattle.term_table.specs.Places.{first_row, place}
-use Rattle.inv_terms.specs.declared.lacks.Name.{Name}
 use Rattle.inv_terms.specs.declared.lacks.Name.TheVariants as names
 use Rattle.inv_terms.specs.declared.lacks.TermFault.TheVariants as faults
-use Rattle.inv_terms.specs.declared.lacks.Lack.{Lack}
-use Rattle.inv_terms.specs.Lacking.{is_at, has, has_term, is_around, shows_its_group, stands, decided, first_decided, is_there, whole_term, is_needed, is_missing, is_slot_in, has_occurrence, is_at_least_once, lacks_group, missing_at, missing_from, first_missing}
+use Rattle.inv_terms.specs.Lacking.{is_at, has, has_term, is_around, shows_its_group, stands, decided, first_decided, is_there, whole_term, is_needed, is_missing, is_slot_in, is_at_least_once, lacks_group, missing_at, first_missing, all_missing_from, all_missing}
+use Rattle.inv_terms.proofs.AllLemmas.{first-is}
 use Rattle.bind_meaning.specs.Seats.{Room}
-use Rattle.bind_meaning.specs.Judging.{Found, found, missing_in, missing_place, name_of}
-use Rattle.bind_meaning.specs.declared.fault.BindKind.TheVariants as kinds
+use Rattle.bind_meaning.specs.Faults.{lack_found, lacks_in}
 
 -- No test tells them apart by whether some seat passes.
 abbrev pub AreAlike : List Seat → List Seat → Type 0
@@ -84,14 +82,21 @@ module _ (xs ys : List Seat) (alike : AreAlike xs ys) (context : Context) where
       ap (λ b. if has_context row.group context then (if b then Some (names.Term row.term) else None) else (if lacks_group xs context k row then Some (names.Group row.group) else None)) (missing-same row)
       ∙ ap (λ b. if has_context row.group context then (if is_missing ys context row then Some (names.Term row.term) else None) else (if b then Some (names.Group row.group) else None)) (lacks-same k row)
 
-  from-same : (k : ℕ) (rows : List TermRow) → missing_from xs context k rows ≡ missing_from ys context k rows
+  from-same : (k : ℕ) (rows : List TermRow) → all_missing_from xs context k rows ≡ all_missing_from ys context k rows
   from-same k [] = refl
   from-same k (row ∷ rows) =
-      ap (λ o. elim o [ Some name ↦ Some (record { place = place k context; fault = faults.Missing name }) | None ↦ missing_from xs context (k + 1) rows ]) (at-same k row)
-      ∙ ap (λ l. elim (missing_at ys context k row) [ Some name ↦ Some (record { place = place k context; fault = faults.Missing name }) | None ↦ l ]) (from-same (k + 1) rows)
+      ap (λ o. elim o [
+        | Some name ↦ record { place = place k context; fault = faults.Missing name } ∷ all_missing_from xs context (k + 1) rows
+        | None ↦ all_missing_from xs context (k + 1) rows
+      ]) (at-same k row)
+      ∙ ap (λ l. elim (missing_at ys context k row) [ Some name ↦ record { place = place k context; fault = faults.Missing name } ∷ l | None ↦ l ])
+      (from-same (k + 1) rows)
+
+  pub all-same : all_missing xs context ≡ all_missing ys context
+  all-same = from-same 0 terms
 
   pub first-same : first_missing xs context ≡ first_missing ys context
-  first-same = from-same 0 terms
+  first-same = first-is xs context ∙ (ap (λ l. slice_get l 0) all-same ∙ sym (first-is ys context))
 
 any-filter : (p q : Seat → Bool) (xs : List Seat) → list_any p (filter q xs) ≡ list_any (λ x. q x && p x) xs
 any-filter p q [] = refl
@@ -104,15 +109,16 @@ any-filter p q (x ∷ xs) = go (q x) (any-filter p q xs)
 filtered-alike : (q : Seat → Bool) (xs ys : List Seat) → AreAlike xs ys → AreAlike (filter q xs) (filter q ys)
 filtered-alike q xs ys alike p = any-filter p q xs ∙ (alike (λ x. q x && p x) ∙ sym (any-filter p q ys))
 
-pub room-same : (nodes : List Node) (xs ys : List Seat) (room : Room) → AreAlike xs ys → missing_in nodes xs room ≡ missing_in nodes ys room
+pub room-same : (nodes : List Node) (xs ys : List Seat) (room : Room) → AreAlike xs ys → lacks_in nodes xs room ≡ lacks_in nodes ys room
 room-same nodes xs ys room alike =
-    ap (λ o. elim o [ None ↦ [] | Some lack ↦ found (missing_place nodes room lack.place) kinds.Missing (name_of lack.fault) room.element ∷ [] ])
-    (first-same _ _ (filtered-alike (λ (seat : Seat). is_inside room.context seat.context) xs ys alike) room.context)
+    ap (map (lack_found nodes room)) (all-same _ _ (filtered-alike (λ (seat : Seat). is_inside room.context seat.context) xs ys alike) room.context)
 
-pub rooms-same : (nodes : List Node) (xs ys : List Seat) (rooms : List Room) → AreAlike xs ys → flat_map (missing_in nodes xs) rooms ≡ flat_map (missing_in nodes ys) rooms
+pub rooms-same : (nodes : List Node) (xs ys : List Seat) (rooms : List Room) → AreAlike xs ys
+    → flat_map (lacks_in nodes xs) rooms ≡ flat_map (lacks_in nodes ys) rooms
 rooms-same nodes xs ys [] alike = refl
 rooms-same nodes xs ys (room ∷ rooms) alike =
-    ap (λ l. l ++ flat_map (missing_in nodes xs) rooms) (room-same nodes xs ys room alike) ∙ ap (λ l. missing_in nodes ys room ++ l) (rooms-same nodes xs ys rooms alike)
+    ap (λ l. l ++ flat_map (lacks_in nodes xs) rooms) (room-same nodes xs ys room alike)
+    ∙ ap (λ l. lacks_in nodes ys room ++ l) (rooms-same nodes xs ys rooms alike)
 
 -- ---- of a list of things that have seats
 

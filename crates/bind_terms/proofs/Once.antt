@@ -1,12 +1,11 @@
 -- The rooms of a document, each once.
-use Rattle.std.proofs.Common.{◌≡◌, ℕ, ◌+◌, ◌<◌, ◌≤◌, zero, suc, Bool, true, false, not, ◌&&◌, ◌||◌, cond, List, [], ◌∷◌, ◌++◌, length, get_or, take, map, filter, flat_map, find, Option, Some, None, is_some, option_map, ◌⊎◌, inl, inr, refl, sym, ap, ◌∙◌, subst, append_assoc, arith}
-use Rattle.std.specs.Prelude.{if◌then◌else◌, ◌==◌, is_none}
+use Rattle.std.proofs.Common.{◌≡◌, ℕ, Bool, true, false, not, ◌||◌, List, [], ◌∷◌, ◌++◌, filter, flat_map, find, Option, Some, None, inl, inr, refl, sym, ap, ◌∙◌, subst, append_assoc}
+use Rattle.std.specs.Prelude.{if◌then◌else◌, ◌==◌}
 use Rattle.std.specs.List.{list_any}
 use Rattle.std.specs.Ordering.{nat_cmp, is_eq}
 use Rattle.std.specs.Cmp.Lexicographic.{slice_cmp}
 use Rattle.std.proofs.lemmas.Bool.{false≢true}
 use Rattle.std.proofs.lemmas.Option.{same_Some}
-use Rattle.std.proofs.lemmas.List.{length-map, get_or-map, take_more}
 use Rattle.std.proofs.lemmas.List.Folds.{list_any-append}
 use Rattle.inv_base.specs.Tree.{Node}
 use Rattle.term_table.specs.declared.groups.Group.{Group}
@@ -15,19 +14,19 @@ use Rattle.term_table.specs.declared.contexts.Slot.{Slot}
 use Rattle.term_table.specs.declared.contexts.Context.{Context}
 use Rattle.term_table.specs.declared.contexts.Seat.{Seat}
 use Rattle.term_table.specs.SemanticModel.{terms}
-use Rattle.term_table.specs.Contexts.{same_slot, same_context, outer_context}
-use Rattle.term_table.specs.Places.{first_row, slot_place, place}
+use Rattle.term_table.specs.Contexts.{same_context, outer_context}
+use Rattle.term_table.specs.Places.{first_row, slot_place}
 use Rattle.inv_terms.proofs.PushLemmas.{same_slot_itself}
 use Rattle.inv_terms.proofs.ContextLemmas.{context_is}
 use Rattle.bind_meaning.specs.declared.picked.Seated.{Seated}
 use Rattle.bind_meaning.specs.declared.picked.SeatedPick.{SeatedPick}
-use Rattle.bind_meaning.specs.Kept.{kept_seat, all_kept_seats}
-use Rattle.bind_meaning.specs.Seats.{Placed, Room, whole, context_of, outer_room, inner_room, each_once, rooms}
-use Rattle.bind_meaning.specs.Judging.{Found, missing_in}
-use Rattle.bind_terms.specs.Faults.{least_of}
+use Rattle.bind_meaning.specs.Kept.{all_kept_seats}
+use Rattle.bind_meaning.specs.Seats.{Placed, Room, context_of, outer_room, inner_room, each_once, rooms}
+use Rattle.bind_meaning.specs.Judging.{Found}
+use Rattle.bind_meaning.specs.Faults.{lacks_in}
 use Rattle.bind_terms.specs.Telling.{context_in}
-use Rattle.bind_terms.specs.Rooms.{room_at, room_key, rooms_at, has_key, Seen}
-use Rattle.bind_terms.proofs.Tolds.{bool_cases, append-nil, least-append}
+use Rattle.bind_terms.specs.Rooms.{room_at, room_key, rooms_at, has_key, AreKeysOf, once_if, unseen, SeesMore, Seen}
+use Rattle.bind_terms.proofs.Tolds.{bool_cases, append-nil, puts-both, puts-none, puts-same}
 use Rattle.bind_terms.proofs.Holding.{place-is, place-itself}
 
 -- ---- the key of a context tells it
@@ -149,10 +148,6 @@ key-same a b = elim (bool_cases (is_eq (slice_cmp nat_cmp (room_key a) (room_key
 known : Room → List Room → Bool
 known room before = list_any (λ (r : Room). same_context r.context room.context) before
 
-abbrev pub once_if : Bool → Room → List Room
-once_if true room = []
-once_if false room = room ∷ []
-
 apart_from : Room → Room → Bool
 apart_from a b = not (same_context a.context b.context)
 
@@ -190,40 +185,44 @@ or-end : (b : Bool) → (b || false) ≡ b
 or-end true = refl
 or-end false = refl
 
-module _ (nodes : List Node) (seats : List Seat) (first : Option Found) (before : List Room) (keys more : List (List ℕ)) (least later : Option Found) (s : Seen nodes seats first before keys least)
-    (room : Room) where
-  once-least : (b : Bool) → list_any (λ (r : Room). same_context r.context room.context) before ≡ b → later ≡ least_of least (flat_map (missing_in nodes seats) (once_if b room))
-      → later ≡ least_of first (flat_map (missing_in nodes seats) (each_once (before ++ room ∷ [])))
-  once-least b e h =
-      h ∙ (ap (λ o. least_of o (flat_map (missing_in nodes seats) (once_if b room))) s.least_is
-      ∙ (sym (least-append first (flat_map (missing_in nodes seats) (each_once before)) (flat_map (missing_in nodes seats) (once_if b room)))
-      ∙ ap (least_of first) (sym (flat_map-append (missing_in nodes seats) (each_once before) (once_if b room))
-      ∙ ap (flat_map (missing_in nodes seats)) (ap (λ x. each_once before ++ once_if x room) (sym e) ∙ sym (once-more before room)))))
+or-swap : (a b : Bool) → (a || b) ≡ (b || a)
+or-swap true true = refl
+or-swap true false = refl
+or-swap false true = refl
+or-swap false false = refl
 
-  pub seen-more : (b : Bool) → has_key keys (room_key room.context) ≡ b → ((q : List ℕ) → has_key more q ≡ (is_eq (slice_cmp nat_cmp q (room_key room.context)) || has_key keys q))
-      → later ≡ least_of least (flat_map (missing_in nodes seats) (once_if b room)) → Seen nodes seats first (before ++ room ∷ []) more later
-  seen-more b e keys_are h = record {
-    keys_are = λ context. keys_are (room_key context)
-        ∙ (ap (λ x. x || has_key keys (room_key context)) (key-same context room.context)
-        ∙ (ap (λ x. same_context room.context context || x) (s.keys_are context)
-        ∙ (or-swap (same_context room.context context) (list_any (λ (r : Room). same_context r.context context) before)
-        ∙ sym (list_any-append (λ (r : Room). same_context r.context context) before (room ∷ [])
-        ∙ ap (λ x. list_any (λ (r : Room). same_context r.context context) before || x) (or-end (same_context room.context context))))));
-    least_is = once-least b (sym (s.keys_are room.context) ∙ e) h;
+pub keys-more : (before : List Room) (keys more : List (List ℕ)) (room : Room) → AreKeysOf before keys
+    → ((q : List ℕ) → has_key more q ≡ (is_eq (slice_cmp nat_cmp q (room_key room.context)) || has_key keys q)) → AreKeysOf (before ++ room ∷ []) more
+keys-more before keys more room known keys_are context =
+    keys_are (room_key context)
+    ∙ (ap (λ x. x || has_key keys (room_key context)) (key-same context room.context)
+    ∙ (ap (λ x. same_context room.context context || x) (known context)
+    ∙ (or-swap (same_context room.context context) (list_any (λ (r : Room). same_context r.context context) before)
+    ∙ sym (list_any-append (λ (r : Room). same_context r.context context) before (room ∷ [])
+    ∙ ap (λ x. list_any (λ (r : Room). same_context r.context context) before || x) (or-end (same_context room.context context))))))
+
+module _ (nodes : List Node) (seats : List Seat) (first : List Found → Type 0) (before : List Room) (keys more : List (List ℕ))
+    (was given : List Found → Type 0)
+    (s : Seen nodes seats first before keys was) (context : Context) where
+  abbrev lacks : List Room → List Found
+  lacks rooms = flat_map (lacks_in nodes seats) rooms
+
+  lacks-once : (seat : Option Seated) → lacks (each_once before) ++ lacks (unseen before context seat) ≡ lacks (each_once (before ++ rooms_at context seat))
+  lacks-once None = append-nil (lacks (each_once before)) ∙ ap (λ l. lacks (each_once l)) (sym (append-nil before))
+  lacks-once (Some t) =
+      sym (flat_map-append (lacks_in nodes seats) (each_once before) (unseen before context (Some t)))
+      ∙ ap (flat_map (lacks_in nodes seats)) (sym (once-more before (room_at context t.element)))
+
+  pub seen-more : (seat : Option Seated) → SeesMore nodes seats before context seat more was given
+      → Seen nodes seats first (before ++ rooms_at context seat) more given
+  seen-more seat m = record {
+    keys_are = m.keys_are;
+    puts = puts-same first given _ _ (lacks-once seat) (puts-both first was given (lacks (each_once before))
+        (lacks (unseen before context seat)) s.puts m.puts);
   }
-    where
-      or-swap : (a b : Bool) → (a || b) ≡ (b || a)
-      or-swap true true = refl
-      or-swap true false = refl
-      or-swap false true = refl
-      or-swap false false = refl
 
-pub seen-same : (nodes : List Node) (seats : List Seat) (first : Option Found) (before : List Room) (keys : List (List ℕ)) (least : Option Found) → Seen nodes seats first before keys least
-    → Seen nodes seats first (before ++ []) keys least
-seen-same nodes seats first before keys least s = subst (λ l. Seen nodes seats first l keys least) (sym (append-nil before)) s
-
-pub seen-none : (nodes : List Node) (seats : List Seat) (first : Option Found) (keys : List (List ℕ)) → keys ≡ [] → Seen nodes seats first [] keys first
-seen-none nodes seats first keys e = subst (λ k. Seen nodes seats first [] k first) (sym e) (record { keys_are = λ context. refl; least_is = refl })
+pub seen-none : (nodes : List Node) (seats : List Seat) (first : List Found → Type 0) (keys : List (List ℕ)) → keys ≡ [] → Seen nodes seats first [] keys first
+seen-none nodes seats first keys e = subst (λ k. Seen nodes seats first [] k first) (sym e) (record { keys_are = λ context. refl; puts = puts-none first })
 
 -- ---- the rooms of the picks
 

@@ -1,6 +1,7 @@
 -- The steps of the pass over the picks.
-use Rattle.std.proofs.Common.{◌≡◌, ℕ, zero, suc, ◌+◌, ◌<◌, ◌≤◌, List, [], ◌∷◌, ◌++◌, length, get_or, take, map, flat_map, All, Option, Some, None, option_map, Result, Ok, Err, IfOk, refl, sym, ap, ◌∙◌, subst, append_assoc, arith}
-use Rattle.std.specs.Str.{chars}
+use Rattle.std.proofs.Common.{◌≡◌, ℕ, zero, suc, ◌+◌, ◌<◌, ◌≤◌, List, [], ◌∷◌, ◌++◌, length, get_or, take, map, All, Option, Some, None, option_map, Result, refl, sym, ap, ◌∙◌, subst, append_assoc, arith}
+use Rattle.std.specs.Result.{OnOk}
+use Rattle.std.proofs.lemmas.Result.{on_ok_weaker}
 use Rattle.std.proofs.lemmas.Option.{same_Some}
 use Rattle.std.proofs.lemmas.List.{length-map, get_or-map, take_more}
 use Rattle.std.proofs.lemmas.List.Elements.{All-nil, All-cons, All-head, All-tail, All-get_or}
@@ -26,10 +27,10 @@ use Rattle.bind_terms.specs.declared.said.Said.{Said as Kept}
 use Rattle.bind_terms.specs.Sayings.{said_of, FitsIts, AllFit}
 use Rattle.bind_terms.specs.Kinds.{kind_of}
 use Rattle.bind_terms.specs.declared.firsts.First.{First}
-use Rattle.bind_terms.specs.Faults.{least_of}
+use Rattle.bind_terms.specs.Faults.{Puts}
 use Rattle.bind_terms.specs.Telling.{first_of, context_in, Entries, kept_at, Holds}
 use Rattle.bind_terms.specs.Steps.{row_numbered, IsOfRow, told_at, put_entry, kept_behind, faults_at, Tells, TellsPick, TellsOf, TellsAll}
-use Rattle.bind_terms.proofs.Tolds.{append-nil}
+use Rattle.bind_terms.proofs.Tolds.{append-nil, puts-same}
 use Rattle.bind_terms.proofs.Holding.{holds-none, holds-more}
 
 -- ---- one value
@@ -44,11 +45,12 @@ kept-said None = refl
 kept-said (Some f) = refl
 
 pub tells-one : (nodes : List Node) (lists : Lists) (invoice : Option (List ℕ)) (row : Row) (pick : SeatedPick) (one : Kept) (context : Context) (place : List ℕ) (kind : Option BindKind) (first : Option Kept)
-    (old new : Entries) (least later : Option Found) → context ≡ context_in pick → Some place ≡ place_of one.term context → first ≡ option_map (λ (f : First). f.said) (kept_at place old)
+    (old new : Entries) (was is : List Found → Type 0) → context ≡ context_in pick → Some place ≡ place_of one.term context
+    → first ≡ option_map (λ (f : First). f.said) (kept_at place old)
     → kind ≡ kind_of nodes lists invoice row pick.picked.node context (option_map said_of first) (said_of one)
     → new ≡ put_entry old place (record { context = context; said = one }) → ((q : List ℕ) → kept_at q new ≡ kept_behind q old place (record { context = context; said = one }))
-    → later ≡ least_of least (faults_at kind pick.picked one.term) → Tells nodes lists invoice pick row (said_of one ∷ []) old least new later
-tells-one nodes lists invoice row pick one context place kind first old new least later in_pick at firsts cause put looked fault before p c same_invoice same_pick same_row fits h =
+    → Puts was is (faults_at kind pick.picked one.term) → Tells nodes lists invoice pick row (said_of one ∷ []) old was new is
+tells-one nodes lists invoice row pick one context place kind first old new was is in_pick at firsts cause put looked fault before p c same_invoice same_pick same_row fits h =
     let s : Said = said_of one in
     let t : Told = told_at p s in
     let here : context_of p ≡ context = ap context_in same_pick ∙ sym in_pick in
@@ -63,88 +65,92 @@ tells-one nodes lists invoice row pick one context place kind first old new leas
     ∙ (ap (λ x. kind_of nodes lists c.invoice p.pick.row p.pick.node x (option_map said_of first) s) (sym here)
     ∙ (ap (λ x. kind_of nodes lists c.invoice p.pick.row p.pick.node (context_of p) x s) first_is
     ∙ causes-are nodes lists c p s (first_before before t)))))) in
-    let fault_is : later ≡ least_of least (fault_of nodes lists c (first_before before t) t) =
-    fault ∙ (ap (λ (x : SeatedPick). least_of least (faults_at kind x.picked one.term)) (sym same_pick) ∙ ap (λ x. least_of least (faults_at x (kept p.pick) one.term)) kind_is) in
-    holds-more nodes lists c before old least h t place at_it (All-head FitsIts s [] fits) new later fault_is (put ∙ ap (put_entry old place) kept_first)
+    let fault_is : faults_at kind pick.picked one.term ≡ fault_of nodes lists c (first_before before t) t =
+    ap (λ (x : SeatedPick). faults_at kind x.picked one.term) (sym same_pick) ∙ ap (λ x. faults_at x (kept p.pick) one.term) kind_is in
+    holds-more nodes lists c before old was h t place at_it (All-head FitsIts s [] fits) new is (puts-same was is _ _ fault_is fault)
+    (put ∙ ap (put_entry old place) kept_first)
     (λ q. looked q ∙ ap (kept_behind q old place) kept_first)
 
 -- ---- all of a pick
 
-pub tells-two : (nodes : List Node) (lists : Lists) (invoice : Option (List ℕ)) (pick : SeatedPick) (row : Row) (a b : Said) (old middle new : Entries) (least between later : Option Found)
-    → Tells nodes lists invoice pick row (a ∷ []) old least middle between → Tells nodes lists invoice pick row (b ∷ []) middle between new later
-    → Tells nodes lists invoice pick row (a ∷ (b ∷ [])) old least new later
-tells-two nodes lists invoice pick row a b old middle new least between later first second before p c same_invoice same_pick same_row fits h =
+pub tells-two : (nodes : List Node) (lists : Lists) (invoice : Option (List ℕ)) (pick : SeatedPick) (row : Row) (a b : Said) (old middle new : Entries)
+    (was middling is : List Found → Type 0)
+    → Tells nodes lists invoice pick row (a ∷ []) old was middle middling → Tells nodes lists invoice pick row (b ∷ []) middle middling new is
+    → Tells nodes lists invoice pick row (a ∷ (b ∷ [])) old was new is
+tells-two nodes lists invoice pick row a b old middle new was middling is first second before p c same_invoice same_pick same_row fits h =
     let one = first before p c same_invoice same_pick same_row (All-cons FitsIts a [] (All-head FitsIts a (b ∷ []) fits) (All-nil FitsIts)) h in
     let two = second (before ++ told_at p a ∷ []) p c same_invoice same_pick same_row (All-tail FitsIts a (b ∷ []) fits) one in
-    subst (λ l. Holds nodes lists c l new later) (append_assoc before (told_at p a ∷ []) (told_at p b ∷ [])) two
+    subst (λ l. Holds nodes lists c l new is) (append_assoc before (told_at p a ∷ []) (told_at p b ∷ [])) two
 
 said-by-row : (nodes : List Node) (p : Placed) (content : Content) (term : Term) → content ≡ contents.Term term
     → (elim (term_in content) [ None ↦ [] | Some t ↦ said p.pick.row.form t (string_at nodes p.pick.node) ]) ≡ said p.pick.row.form term (string_at nodes p.pick.node)
 said-by-row nodes p content term e = ap (λ x. elim (term_in x) [ None ↦ [] | Some t ↦ said p.pick.row.form t (string_at nodes p.pick.node) ]) e
 
-pub tells-row : (nodes : List Node) (lists : Lists) (invoice : Option (List ℕ)) (pick : SeatedPick) (row : Row) (term : Term) (all : List Said) (string : List ℕ) (old new : Entries) (least later : Option Found)
+pub tells-row : (nodes : List Node) (lists : Lists) (invoice : Option (List ℕ)) (pick : SeatedPick) (row : Row) (term : Term) (all : List Said)
+    (string : List ℕ) (old new : Entries) (was is : List Found → Type 0)
     → row.content ≡ contents.Term term → all ≡ said row.form term string → string ≡ string_at nodes pick.picked.node → AllFit (said row.form term string)
-    → Tells nodes lists invoice pick row all old least new later → TellsPick nodes lists invoice pick row old least new later
-tells-row nodes lists invoice pick row term all string old new least later content sayings string_is fits step before p c same_invoice same_pick same_row h =
+    → Tells nodes lists invoice pick row all old was new is → TellsPick nodes lists invoice pick row old was new is
+tells-row nodes lists invoice pick row term all string old new was is content sayings string_is fits step before p c same_invoice same_pick same_row h =
     let all_is : all ≡ said_by nodes p =
     sayings ∙ (ap (λ (x : Row). said x.form term string) (sym same_row) ∙ (ap (said p.pick.row.form term) (string_is ∙ ap (λ (x : SeatedPick). string_at nodes x.picked.node) (sym same_pick))
     ∙ sym (said-by-row nodes p p.pick.row.content term (ap (λ (x : Row). x.content) same_row ∙ content)))) in
-    subst (λ l. Holds nodes lists c (before ++ map (told_at p) l) new later) all_is (step before p c same_invoice same_pick same_row (subst (All FitsIts) (sym sayings) fits) h)
+    subst (λ l. Holds nodes lists c (before ++ map (told_at p) l) new is) all_is
+    (step before p c same_invoice same_pick same_row (subst (All FitsIts) (sym sayings) fits) h)
 
 no-term : (nodes : List Node) (p : Placed) (content : Content) (text : List ℕ) → content ≡ contents.Constant text
     → ◌≡◌ {A = List Said} (elim (term_in content) [ None ↦ [] | Some t ↦ said p.pick.row.form t (string_at nodes p.pick.node) ]) []
 no-term nodes p content text e = ap (λ x. elim (term_in x) [ None ↦ [] | Some t ↦ said p.pick.row.form t (string_at nodes p.pick.node) ]) e
 
-pub tells-nothing : (nodes : List Node) (lists : Lists) (invoice : Option (List ℕ)) (pick : SeatedPick) (row : Row) (text : List ℕ) (entries : Entries) (least : Option Found)
-    → row.content ≡ contents.Constant text → TellsPick nodes lists invoice pick row entries least entries least
-tells-nothing nodes lists invoice pick row text entries least content before p c same_invoice same_pick same_row h =
-    subst (λ l. Holds nodes lists c l entries least)
+pub tells-nothing : (nodes : List Node) (lists : Lists) (invoice : Option (List ℕ)) (pick : SeatedPick) (row : Row) (text : List ℕ) (entries : Entries)
+    (was : List Found → Type 0)
+    → row.content ≡ contents.Constant text → TellsPick nodes lists invoice pick row entries was entries was
+tells-nothing nodes lists invoice pick row text entries was content before p c same_invoice same_pick same_row h =
+    subst (λ l. Holds nodes lists c l entries was)
     (sym (ap (λ l. before ++ map (told_at p) l) (no-term nodes p p.pick.row.content text (ap (λ (x : Row). x.content) same_row ∙ content)) ∙ append-nil before)) h
 
-pub tells-of : (nodes : List Node) (lists : Lists) (invoice : Option (List ℕ)) (pick : SeatedPick) (rows : List Row) (row : Row) (old new : Entries) (least later : Option Found)
-    → Some row ≡ row_numbered rows pick.picked.row → TellsPick nodes lists invoice pick row old least new later → TellsOf nodes lists invoice pick rows old least new later
-tells-of nodes lists invoice pick rows row old new least later at step before p c same_invoice same_pick of_row h =
+pub tells-of : (nodes : List Node) (lists : Lists) (invoice : Option (List ℕ)) (pick : SeatedPick) (rows : List Row) (row : Row) (old new : Entries)
+    (was is : List Found → Type 0)
+    → Some row ≡ row_numbered rows pick.picked.row → TellsPick nodes lists invoice pick row old was new is
+    → TellsOf nodes lists invoice pick rows old was new is
+tells-of nodes lists invoice pick rows row old new was is at step before p c same_invoice same_pick of_row h =
     step before p c same_invoice same_pick (same_Some _ _ (sym of_row ∙ (ap (λ (x : SeatedPick). row_numbered rows x.picked.row) same_pick ∙ sym at))) h
 
-pub if-ok : {X E : Type 0} (r : Result X E) (P Q : X → Type 0) → ((x : X) → P x → Q x) → IfOk r P → IfOk r Q
-if-ok (Ok x) P Q f h = f x h
-if-ok (Err e) P Q f h = tt
+-- the same of a call's result
+module _ {X E : Type 0} (r : Result X E) (nodes : List Node) (lists : Lists) (invoice : Option (List ℕ)) (pick : SeatedPick) (row : Row) where
+  pub tells-same : (told all : List Said) (old new : Entries) (was is : List Found → Type 0) → told ≡ all
+      → OnOk r (Tells nodes lists invoice pick row told old was new is)
+      → OnOk r (Tells nodes lists invoice pick row all old was new is)
+  tells-same told all old new was is e h = subst (λ l. OnOk r (Tells nodes lists invoice pick row l old was new is)) e h
 
-module _ {X E : Type 0} (r : Result X E) (later : X → Option Found) (nodes : List Node) (lists : Lists) (invoice : Option (List ℕ)) (pick : SeatedPick) (row : Row) where
-  pub tells-same : (told all : List Said) (old new : Entries) (least : Option Found) → told ≡ all → IfOk r (λ x. Tells nodes lists invoice pick row told old least new (later x))
-      → IfOk r (λ x. Tells nodes lists invoice pick row all old least new (later x))
-  tells-same told all old new least e h = subst (λ l. IfOk r (λ x. Tells nodes lists invoice pick row l old least new (later x))) e h
+  pub tells-both : (a b : Said) (all : List Said) (old middle new : Entries) (was middling is : List Found → Type 0) → (a ∷ (b ∷ [])) ≡ all
+      → Tells nodes lists invoice pick row (a ∷ []) old was middle middling
+      → OnOk r (Tells nodes lists invoice pick row (b ∷ []) middle middling new is) → OnOk r (Tells nodes lists invoice pick row all old was new is)
+  tells-both a b all old middle new was middling is e first h =
+      tells-same (a ∷ (b ∷ [])) all old new was is e (on_ok_weaker r (λ k. tells-two nodes lists invoice pick row a b old middle new was middling is first k) h)
 
-  pub tells-both : (a b : Said) (all : List Said) (old middle new : Entries) (least between : Option Found) → (a ∷ (b ∷ [])) ≡ all → Tells nodes lists invoice pick row (a ∷ []) old least middle between
-      → IfOk r (λ x. Tells nodes lists invoice pick row (b ∷ []) middle between new (later x)) → IfOk r (λ x. Tells nodes lists invoice pick row all old least new (later x))
-  tells-both a b all old middle new least between e first h =
-      tells-same (a ∷ (b ∷ [])) all old new least e (if-ok r (λ x. Tells nodes lists invoice pick row (b ∷ []) middle between new (later x))
-      (λ x. Tells nodes lists invoice pick row (a ∷ (b ∷ [])) old least new (later x))
-      (λ x k. tells-two nodes lists invoice pick row a b old middle new least between (later x) first k) h)
+  pub tells-by-row : (term : Term) (all : List Said) (string : List ℕ) (old new : Entries) (was is : List Found → Type 0) → row.content ≡ contents.Term term
+      → all ≡ said row.form term string → string ≡ string_at nodes pick.picked.node → AllFit (said row.form term string)
+      → OnOk r (Tells nodes lists invoice pick row all old was new is) → OnOk r (TellsPick nodes lists invoice pick row old was new is)
+  tells-by-row term all string old new was is content sayings string_is fits h =
+      on_ok_weaker r (λ k. tells-row nodes lists invoice pick row term all string old new was is content sayings string_is fits k) h
 
-  pub tells-by-row : (term : Term) (all : List Said) (string : List ℕ) (old new : Entries) (least : Option Found) → row.content ≡ contents.Term term → all ≡ said row.form term string
-      → string ≡ string_at nodes pick.picked.node → AllFit (said row.form term string) → IfOk r (λ x. Tells nodes lists invoice pick row all old least new (later x))
-      → IfOk r (λ x. TellsPick nodes lists invoice pick row old least new (later x))
-  tells-by-row term all string old new least content sayings string_is fits h =
-      if-ok r (λ x. Tells nodes lists invoice pick row all old least new (later x)) (λ x. TellsPick nodes lists invoice pick row old least new (later x))
-      (λ x k. tells-row nodes lists invoice pick row term all string old new least (later x) content sayings string_is fits k) h
-
-  pub tells-by-table : (rows : List Row) (old new : Entries) (least : Option Found) → Some row ≡ row_numbered rows pick.picked.row
-      → IfOk r (λ x. TellsPick nodes lists invoice pick row old least new (later x)) → IfOk r (λ x. TellsOf nodes lists invoice pick rows old least new (later x))
-  tells-by-table rows old new least at h =
-      if-ok r (λ x. TellsPick nodes lists invoice pick row old least new (later x)) (λ x. TellsOf nodes lists invoice pick rows old least new (later x))
-      (λ x k. tells-of nodes lists invoice pick rows row old new least (later x) at k) h
+  pub tells-by-table : (rows : List Row) (old new : Entries) (was is : List Found → Type 0) → Some row ≡ row_numbered rows pick.picked.row
+      → OnOk r (TellsPick nodes lists invoice pick row old was new is) → OnOk r (TellsOf nodes lists invoice pick rows old was new is)
+  tells-by-table rows old new was is at h = on_ok_weaker r (λ k. tells-of nodes lists invoice pick rows row old new was is at k) h
 
 -- ---- all picks
 
 -- the picks up to one were told
-pub record Passed (nodes : List Node) (lists : Lists) (invoice : Option (List ℕ)) (picks : List SeatedPick) (rows : List Row) (count : ℕ) (entries : Entries) (least : Option Found) : Type 0 where
-  pub holds : (ps : List Placed) (c : Currencies) → c.invoice ≡ invoice → picks ≡ all_kept_seats ps → All (IsOfRow rows) ps → Holds nodes lists c (told nodes (take count ps)) entries least
+pub record Passed (nodes : List Node) (lists : Lists) (invoice : Option (List ℕ)) (picks : List SeatedPick) (rows : List Row) (count : ℕ) (entries : Entries)
+    (was : List Found → Type 0) : Type 0 where
+  pub holds : (ps : List Placed) (c : Currencies) → c.invoice ≡ invoice → picks ≡ all_kept_seats ps → All (IsOfRow rows) ps
+      → Holds nodes lists c (told nodes (take count ps)) entries was
 
-pub passed-none : (nodes : List Node) (lists : Lists) (invoice : Option (List ℕ)) (picks : List SeatedPick) (rows : List Row) (entries : Entries) → entries ≡ []
-    → Passed nodes lists invoice picks rows 0 entries None
-passed-none nodes lists invoice picks rows entries e = record {
-  holds = λ ps c a b d. subst (λ x. Holds nodes lists c [] x None) (sym e) (holds-none nodes lists c);
+pub passed-none : (nodes : List Node) (lists : Lists) (invoice : Option (List ℕ)) (picks : List SeatedPick) (rows : List Row) (entries : Entries)
+    (given : List Found → Type 0)
+    → entries ≡ [] → given [] → Passed nodes lists invoice picks rows 0 entries given
+passed-none nodes lists invoice picks rows entries given e fresh = record {
+  holds = λ ps c a b d. subst (λ x. Holds nodes lists c [] x given) (sym e) (holds-none nodes lists c given fresh);
 }
 
 flat_map-append : (nodes : List Node) (xs ys : List Placed) → told nodes (xs ++ ys) ≡ told nodes xs ++ told nodes ys
@@ -158,19 +164,22 @@ first-of : (ps : List Placed) (count : ℕ) → count < length ps → Placed
 first-of [] count h = absurd (omega arith)
 first-of (p ∷ ps) count h = p
 
-pub passed-more : (nodes : List Node) (lists : Lists) (invoice : Option (List ℕ)) (picks : List SeatedPick) (rows : List Row) (count : ℕ) (old new : Entries) (least later : Option Found) (pick : SeatedPick)
-    → count < length picks → pick ≡ get_or picks count pick → Passed nodes lists invoice picks rows count old least → TellsOf nodes lists invoice pick rows old least new later
-    → Passed nodes lists invoice picks rows (count + 1) new later
-passed-more nodes lists invoice picks rows count old new least later pick below at before step = record {
+pub passed-more : (nodes : List Node) (lists : Lists) (invoice : Option (List ℕ)) (picks : List SeatedPick) (rows : List Row) (count : ℕ) (old new : Entries)
+    (was is : List Found → Type 0) (pick : SeatedPick)
+    → count < length picks → pick ≡ get_or picks count pick → Passed nodes lists invoice picks rows count old was
+    → TellsOf nodes lists invoice pick rows old was new is
+    → Passed nodes lists invoice picks rows (count + 1) new is
+passed-more nodes lists invoice picks rows count old new was is pick below at before step = record {
   holds = λ ps c same_invoice same_picks of_rows.
       let long : count < length ps = omega (arith, below, ap length same_picks, length-map ps kept_seat) in
       let d : Placed = first-of ps count long in
       let p : Placed = get_or ps count d in
       let pick_is : kept_seat p ≡ pick = sym (get_or-map kept_seat ps count d pick long) ∙ (ap (λ l. get_or l count pick) (sym same_picks) ∙ sym at) in
-      let was = before.holds ps c same_invoice same_picks of_rows in
-      let is = step (told nodes (take count ps)) p c same_invoice pick_is (All-get_or (IsOfRow rows) ps count d long of_rows) was in
-      subst (λ l. Holds nodes lists c l new later)
-      (sym (ap (told nodes) (take-next ps count d long) ∙ (flat_map-append nodes (take count ps) (p ∷ []) ∙ ap (λ l. told nodes (take count ps) ++ l) (append-nil (told_by nodes p))))) is;
+      let one = before.holds ps c same_invoice same_picks of_rows in
+      let other = step (told nodes (take count ps)) p c same_invoice pick_is (All-get_or (IsOfRow rows) ps count d long of_rows) one in
+      subst (λ l. Holds nodes lists c l new is)
+      (sym (ap (told nodes) (take-next ps count d long) ∙ (flat_map-append nodes (take count ps) (p ∷ [])
+      ∙ ap (λ l. told nodes (take count ps) ++ l) (append-nil (told_by nodes p))))) other;
 }
 
 take-all : (ps : List Placed) (count : ℕ) → length ps ≤ count → take count ps ≡ ps
@@ -179,7 +188,9 @@ take-all [] (suc count) h = refl
 take-all (p ∷ ps) zero h = absurd (omega arith)
 take-all (p ∷ ps) (suc count) h = ap (λ l. p ∷ l) (take-all ps count (omega arith))
 
-pub passed-all : (nodes : List Node) (lists : Lists) (invoice : Option (List ℕ)) (picks : List SeatedPick) (rows : List Row) (count : ℕ) (entries : Entries) (least : Option Found)
-    → length picks ≤ count → Passed nodes lists invoice picks rows count entries least → TellsAll nodes lists invoice picks rows entries least
-passed-all nodes lists invoice picks rows count entries least past h ps c same_invoice same_picks of_rows =
-    subst (λ l. Holds nodes lists c (told nodes l) entries least) (take-all ps count (omega (arith, past, ap length same_picks, length-map ps kept_seat))) (h.holds ps c same_invoice same_picks of_rows)
+pub passed-all : (nodes : List Node) (lists : Lists) (invoice : Option (List ℕ)) (picks : List SeatedPick) (rows : List Row) (count : ℕ) (entries : Entries)
+    (was : List Found → Type 0)
+    → length picks ≤ count → Passed nodes lists invoice picks rows count entries was → TellsAll nodes lists invoice picks rows entries was
+passed-all nodes lists invoice picks rows count entries was past h ps c same_invoice same_picks of_rows =
+    subst (λ l. Holds nodes lists c (told nodes l) entries was) (take-all ps count (omega (arith, past, ap length same_picks, length-map ps kept_seat)))
+    (h.holds ps c same_invoice same_picks of_rows)

@@ -1,12 +1,12 @@
 -- One context after another: what is missing in it, and which were seen.
-use Rattle.std.proofs.Common.{◌≡◌, ℕ, zero, suc, ◌+◌, ◌-◌, ◌<◌, ◌≤◌, Bool, true, false, not, ◌||◌, List, [], ◌∷◌, ◌++◌, length, get_or, take, map, filter, flat_map, All, Option, Some, None, is_some, option_map, ◌⊎◌, inl, inr, refl, sym, ap, ◌∙◌, subst, append_assoc, arith, Ordering}
-use Rattle.std.specs.Prelude.{is_none}
+use Rattle.std.proofs.Common.{◌≡◌, ℕ, zero, suc, ◌+◌, ◌<◌, ◌≤◌, Bool, true, false, not, ◌||◌, List, [], ◌∷◌, ◌++◌, length, get_or, take, map, filter, flat_map, Option, Some, None, is_some, refl, sym, ap, ◌∙◌, subst, append_assoc, arith, Ordering}
+use Rattle.std.specs.Prelude.{◌==◌, is_none}
 use Rattle.std.specs.List.{list_any}
 use Rattle.std.specs.Ordering.{nat_cmp, is_eq, match_ordering}
 use Rattle.std.specs.declared.cmp.Ordering.TheVariants.{Less, Equal, Greater}
 use Rattle.std.specs.Cmp.Lexicographic.{slice_cmp}
 use Rattle.std.specs.BTreeSet.{insert_key}
-use Rattle.std.proofs.lemmas.Bool.{false≢true}
+use Rattle.std.proofs.lemmas.Bool.{false≢true, eqb-true}
 use Rattle.std.proofs.lemmas.List.{take_more}
 use Rattle.inv_base.specs.Tree.{Node}
 use Rattle.term_table.specs.declared.contexts.Slot.{Slot}
@@ -16,45 +16,83 @@ use Rattle.term_table.specs.Contexts.{is_inside, outer_context}
 use Rattle.term_table.specs.Runs.{IsNested}
 use Rattle.node_arena.specs.Moves.{last_inside}
 use Rattle.inv_terms.specs.declared.lacks.Lack.{Lack}
-use Rattle.inv_terms.specs.Lacking.{first_missing}
-use Rattle.bind_meaning.specs.declared.fault.BindKind.TheVariants as kinds
+use Rattle.inv_terms.specs.Lacking.{all_missing}
 use Rattle.bind_meaning.specs.declared.picked.Seated.{Seated}
 use Rattle.bind_meaning.specs.declared.picked.SeatedPick.{SeatedPick}
 use Rattle.bind_meaning.specs.Kept.{all_kept_seats}
 use Rattle.bind_meaning.specs.Seats.{Placed, Room, whole, slot_of, each_once, rooms}
-use Rattle.bind_meaning.specs.Judging.{Found, found, missing_in, missing_place, name_of}
+use Rattle.bind_meaning.specs.Judging.{Found}
+use Rattle.bind_meaning.specs.Faults.{lacks_in}
 use Rattle.bind_terms.specs.declared.firsts.First.{First}
-use Rattle.bind_terms.specs.Faults.{with_found, least_of}
+use Rattle.bind_terms.specs.Faults.{Puts}
 use Rattle.bind_terms.specs.Telling.{seat_of_first, context_in}
-use Rattle.bind_terms.specs.Rooms.{room_at, room_key, rooms_at, has_key, missing_found, Seen}
-use Rattle.bind_terms.proofs.Tolds.{bool_cases, append-nil, least-append}
+use Rattle.bind_terms.specs.Rooms.{room_at, room_key, rooms_at, has_key, missing_found, AreKeysOf, once_if, SeesMore, Seen}
+use Rattle.bind_terms.proofs.Tolds.{append-nil, puts-both, puts-none, puts-same}
 use Rattle.bind_terms.proofs.Holding.{place-is}
 use Rattle.bind_terms.proofs.Missing.{map-filter}
-use Rattle.bind_terms.proofs.Once.{once_if, seen-more, seen-same, pick_rooms, all-rooms}
+use Rattle.bind_terms.proofs.Once.{keys-more, seen-more, pick_rooms, all-rooms}
 
 -- ---- one context
 
-abbrev lacks_of : List Node → Context → ℕ → Option Lack → List Found
-lacks_of nodes context element o = elim o [ None ↦ [] | Some lack ↦ found (missing_place nodes (room_at context element) lack.place) kinds.Missing (name_of lack.fault) element ∷ [] ]
+module _ (nodes : List Node) (firsts run : List First) (context : Context) (element : ℕ) (lacks : List Lack)
+    (run_is : run ≡ filter (λ item. is_inside context (seat_of_first item).context) firsts)
+    (lacks_are : lacks ≡ all_missing (map seat_of_first run) context) where
+  in-room : lacks ≡ all_missing (filter (λ (seat : Seat). is_inside context seat.context) (map seat_of_first firsts)) context
+  in-room = lacks_are ∙ ap (λ l. all_missing l context) (ap (map seat_of_first) run_is
+      ∙ map-filter seat_of_first (λ (seat : Seat). is_inside context seat.context) firsts)
 
-missing-by : (nodes : List Node) (context : Context) (element : ℕ) (o q : Option Lack) → q ≡ o → lacks_of nodes context element q ≡ lacks_of nodes context element o
-missing-by nodes context element o q e = ap (lacks_of nodes context element) e
+  found-in : map (missing_found context element (last_inside nodes element)) lacks ≡ lacks_in nodes (map seat_of_first firsts) (room_at context element)
+  found-in = ap (map (missing_found context element (last_inside nodes element))) in-room
 
-in-room : (firsts run : List First) (context : Context) (o : Option Lack) → run ≡ filter (λ item. is_inside context (seat_of_first item).context) firsts → o ≡ first_missing (map seat_of_first run) context
-    → first_missing (filter (λ (seat : Seat). is_inside context seat.context) (map seat_of_first firsts)) context ≡ o
-in-room firsts run context o run_is e =
-    sym (e ∙ ap (λ l. first_missing l context) (ap (map seat_of_first) run_is ∙ map-filter seat_of_first (λ (seat : Seat). is_inside context seat.context) firsts))
+  pub lack-none : (given : List Found → Type 0) → lacks ≡ [] → Puts given given (lacks_in nodes (map seat_of_first firsts) (room_at context element))
+  lack-none given none = puts-same given given _ _ (ap (map (missing_found context element (last_inside nodes element))) (sym none) ∙ found-in)
+      (puts-none given)
 
-pub lack-none : (nodes : List Node) (firsts run : List First) (context : Context) (element : ℕ) (least : Option Found) → run ≡ filter (λ item. is_inside context (seat_of_first item).context) firsts
-    → None ≡ first_missing (map seat_of_first run) context → least ≡ least_of least (missing_in nodes (map seat_of_first firsts) (room_at context element))
-lack-none nodes firsts run context element least run_is e = ap (least_of least) (sym (missing-by nodes context element None _ (in-room firsts run context None run_is e)))
+  pub lack-some : (was given : List Found → Type 0) (last : ℕ) → last ≡ last_inside nodes element
+      → Puts was given (map (missing_found context element last) lacks)
+      → Puts was given (lacks_in nodes (map seat_of_first firsts) (room_at context element))
+  lack-some was given last last_is put = puts-same was given _ _ (ap (λ n. map (missing_found context element n) lacks) last_is ∙ found-in) put
 
-pub lack-some : (nodes : List Node) (firsts run : List First) (context : Context) (element last : ℕ) (lack : Lack) (least : Option Found) (result one : Found)
-    → run ≡ filter (λ item. is_inside context (seat_of_first item).context) firsts → Some lack ≡ first_missing (map seat_of_first run) context → last ≡ last_inside nodes element
-    → Some result ≡ with_found least one → one ≡ missing_found lack context element last → Some result ≡ least_of least (missing_in nodes (map seat_of_first firsts) (room_at context element))
-lack-some nodes firsts run context element last lack least result one run_is e last_is kept one_is =
-    kept ∙ (ap (with_found least) (one_is ∙ ap (missing_found lack context element) last_is)
-    ∙ ap (least_of least) (sym (missing-by nodes context element (Some lack) _ (in-room firsts run context (Some lack) run_is e))))
+pub none-left : (lacks : List Lack) → (length lacks == 0) ≡ true → lacks ≡ []
+none-left [] e = refl
+none-left (lack ∷ lacks) e = let h = eqb-true (length (lack ∷ lacks)) 0 e in absurd (omega arith)
+
+-- the lacks up to one were given
+pub record Lacked (context : Context) (element last : ℕ) (lacks : List Lack) (first : List Found → Type 0) (count : ℕ)
+    (given : List Found → Type 0) : Type 0 where
+  pub puts : Puts first given (map (missing_found context element last) (take count lacks))
+
+pub lacked-none : (context : Context) (element last : ℕ) (lacks : List Lack) (first : List Found → Type 0) → Lacked context element last lacks first 0 first
+lacked-none context element last lacks first = record { puts = puts-none first }
+
+map-append : (f : Lack → Found) (xs ys : List Lack) → map f (xs ++ ys) ≡ map f xs ++ map f ys
+map-append f [] ys = refl
+map-append f (x ∷ xs) ys = ap (λ l. f x ∷ l) (map-append f xs ys)
+
+pub lacked-more : (context : Context) (element last : ℕ) (lacks : List Lack) (first : List Found → Type 0) (count : ℕ) (was given : List Found → Type 0)
+    (lack : Lack) (one : Found)
+    → count < length lacks → lack ≡ get_or lacks count lack → one ≡ missing_found context element last lack → Lacked context element last lacks first count was
+    → Puts was given (one ∷ [])
+    → Lacked context element last lacks first (count + 1) given
+lacked-more context element last lacks first count was given lack one below at one_is before put = record {
+  puts = puts-same first given _ _
+      (sym (ap (map (missing_found context element last)) (take_more lacks count lack below ∙ ap (λ x. take count lacks ++ x ∷ []) (sym at))
+      ∙ (map-append (missing_found context element last) (take count lacks) (lack ∷ [])
+      ∙ ap (λ x. map (missing_found context element last) (take count lacks) ++ x ∷ []) (sym one_is))))
+      (puts-both first was given (map (missing_found context element last) (take count lacks)) (one ∷ []) before.puts put);
+}
+
+all-lacks : (xs : List Lack) (n : ℕ) → length xs ≤ n → take n xs ≡ xs
+all-lacks [] zero h = refl
+all-lacks [] (suc n) h = refl
+all-lacks (x ∷ xs) zero h = absurd (omega arith)
+all-lacks (x ∷ xs) (suc n) h = ap (λ l. x ∷ l) (all-lacks xs n (omega arith))
+
+pub lacked-all : (context : Context) (element last : ℕ) (lacks : List Lack) (first : List Found → Type 0) (count : ℕ) (given : List Found → Type 0)
+    → length lacks ≤ count
+    → Lacked context element last lacks first count given → Puts first given (map (missing_found context element last) lacks)
+lacked-all context element last lacks first count given past h =
+    puts-same first given _ _ (ap (map (missing_found context element last)) (all-lacks lacks count past)) h.puts
 
 -- ---- nested contexts
 
@@ -118,27 +156,36 @@ not-true : (a b : Bool) → a ≡ not b → a ≡ false → b ≡ true
 not-true a true e h = refl
 not-true a false e h = absurd (false≢true (sym h ∙ e))
 
-module _ (nodes : List Node) (seats : List Seat) (context : Context) (seat : Option Seated) (s : Seated) (is : seat ≡ Some s) (keys more : List (List ℕ)) (least later : Option Found) (added : Bool)
+module _ (nodes : List Node) (seats : List Seat) (context : Context) (seat : Option Seated) (s : Seated) (is : seat ≡ Some s) (keys more : List (List ℕ))
+    (added : Bool)
     (told : added ≡ not (has_key keys (room_key context))) where
-  pub room-new : added ≡ true → more ≡ insert_key (slice_cmp nat_cmp) keys (room_key context) → later ≡ least_of least (missing_in nodes seats (room_at context s.element))
-      → (before : List Room) (first : Option Found) → Seen nodes seats first before keys least → Seen nodes seats first (before ++ rooms_at context seat) more later
-  room-new is_added keys_are fault before first seen =
+  pub room-new : (was given : List Found → Type 0) → added ≡ true → more ≡ insert_key (slice_cmp nat_cmp) keys (room_key context)
+      → Puts was given (lacks_in nodes seats (room_at context s.element)) → (before : List Room) → AreKeysOf before keys
+      → SeesMore nodes seats before context seat more was given
+  room-new was given is_added keys_are fault before known =
       let fresh = not-false added (has_key keys (room_key context)) told is_added in
-      subst (λ x. Seen nodes seats first (before ++ rooms_at context x) more later) (sym is)
-      (seen-more nodes seats first before keys more least later seen (room_at context s.element) false fresh (key-added keys more (room_key context) fresh keys_are)
-      (fault ∙ ap (least_of least) (sym (append-nil (missing_in nodes seats (room_at context s.element))))))
+      subst (λ x. SeesMore nodes seats before context x more was given) (sym is) (record {
+        keys_are = keys-more before keys more (room_at context s.element) known (key-added keys more (room_key context) fresh keys_are);
+        puts = puts-same was given _ _ (sym (append-nil (lacks_in nodes seats (room_at context s.element)))
+            ∙ ap (λ b. flat_map (lacks_in nodes seats) (once_if b (room_at context s.element))) (sym fresh ∙ known context)) fault;
+      })
 
-  pub room-old : added ≡ false → more ≡ keys → later ≡ least
-      → (before : List Room) (first : Option Found) → Seen nodes seats first before keys least → Seen nodes seats first (before ++ rooms_at context seat) more later
-  room-old not_added keys_are fault before first seen =
+  pub room-old : (was : List Found → Type 0) → added ≡ false → more ≡ keys → (before : List Room) → AreKeysOf before keys
+      → SeesMore nodes seats before context seat more was was
+  room-old was not_added keys_are before known =
       let there = not-true added (has_key keys (room_key context)) told not_added in
-      subst (λ x. Seen nodes seats first (before ++ rooms_at context x) more later) (sym is)
-      (seen-more nodes seats first before keys more least later seen (room_at context s.element) true there (key-there keys more (room_key context) there keys_are) fault)
+      subst (λ x. SeesMore nodes seats before context x more was was) (sym is) (record {
+        keys_are = keys-more before keys more (room_at context s.element) known (key-there keys more (room_key context) there keys_are);
+        puts = puts-same was was _ _ (ap (λ b. flat_map (lacks_in nodes seats) (once_if b (room_at context s.element))) (sym there ∙ known context))
+            (puts-none was);
+      })
 
-pub room-none : (nodes : List Node) (seats : List Seat) (context : Context) (seat : Option Seated) (keys : List (List ℕ)) (least : Option Found) → seat ≡ None
-    → (before : List Room) (first : Option Found) → Seen nodes seats first before keys least → Seen nodes seats first (before ++ rooms_at context seat) keys least
-room-none nodes seats context seat keys least is before first seen =
-    subst (λ x. Seen nodes seats first (before ++ rooms_at context x) keys least) (sym is) (seen-same nodes seats first before keys least seen)
+pub room-none : (nodes : List Node) (seats : List Seat) (context : Context) (seat : Option Seated) (keys : List (List ℕ)) (given : List Found → Type 0)
+    → seat ≡ None
+    → (before : List Room) → AreKeysOf before keys → SeesMore nodes seats before context seat keys given given
+room-none nodes seats context seat keys given is before known =
+    subst (λ x. SeesMore nodes seats before context x keys given given) (sym is)
+    (record { keys_are = subst (λ l. AreKeysOf l keys) (sym (append-nil before)) known; puts = puts-none given })
 
 -- ---- all picks
 
@@ -146,14 +193,17 @@ append-rooms : (xs ys : List SeatedPick) → flat_map pick_rooms (xs ++ ys) ≡ 
 append-rooms [] ys = refl
 append-rooms (x ∷ xs) ys = ap (λ l. pick_rooms x ++ l) (append-rooms xs ys) ∙ sym (append_assoc (pick_rooms x) (flat_map pick_rooms xs) (flat_map pick_rooms ys))
 
-pub seen-pick : (nodes : List Node) (seats : List Seat) (first : Option Found) (picks : List SeatedPick) (count : ℕ) (pick : SeatedPick) (context outer : Context) (a b c : List (List ℕ)) (x y z : Option Found)
+pub seen-pick : (nodes : List Node) (seats : List Seat) (first : List Found → Type 0) (picks : List SeatedPick) (count : ℕ) (pick : SeatedPick)
+    (context outer : Context) (a b c : List (List ℕ)) (x y z : List Found → Type 0)
     → count < length picks → pick ≡ get_or picks count pick → context ≡ context_in pick → outer ≡ outer_context context
-    → ((before : List Room) (f : Option Found) → Seen nodes seats f before a x → Seen nodes seats f (before ++ rooms_at outer pick.outer) b y)
-    → ((before : List Room) (f : Option Found) → Seen nodes seats f before b y → Seen nodes seats f (before ++ rooms_at context pick.inner) c z)
+    → ((before : List Room) → AreKeysOf before a → SeesMore nodes seats before outer pick.outer b x y)
+    → ((before : List Room) → AreKeysOf before b → SeesMore nodes seats before context pick.inner c y z)
     → Seen nodes seats first (flat_map pick_rooms (take count picks)) a x → Seen nodes seats first (flat_map pick_rooms (take (count + 1) picks)) c z
 seen-pick nodes seats first picks count pick context outer a b c x y z below at context_is outer_is one two seen =
     let before = flat_map pick_rooms (take count picks) in
-    let both = two (before ++ rooms_at outer pick.outer) first (one before first seen) in
+    let middle = seen-more nodes seats first before a b x y seen outer pick.outer (one before seen.keys_are) in
+    let both = seen-more nodes seats first (before ++ rooms_at outer pick.outer) b c y z middle context pick.inner
+    (two (before ++ rooms_at outer pick.outer) middle.keys_are) in
     let here : (before ++ rooms_at outer pick.outer) ++ rooms_at context pick.inner ≡ flat_map pick_rooms (take (count + 1) picks) =
     append_assoc before (rooms_at outer pick.outer) (rooms_at context pick.inner)
     ∙ (ap (λ k. before ++ (rooms_at k pick.outer ++ rooms_at context pick.inner)) (outer_is ∙ ap outer_context context_is)
@@ -168,10 +218,11 @@ all [] (suc n) h = refl
 all (x ∷ xs) zero h = absurd (omega arith)
 all (x ∷ xs) (suc n) h = ap (λ l. x ∷ l) (all xs n (omega arith))
 
-pub seen-all : (nodes : List Node) (seats : List Seat) (least : Option Found) (picks : List SeatedPick) (count : ℕ) (keys : List (List ℕ)) (later : Option Found) → length picks ≤ count
-    → Seen nodes seats (least_of least (missing_in nodes seats whole)) (flat_map pick_rooms (take count picks)) keys later
-    → (ps : List Placed) → picks ≡ all_kept_seats ps → later ≡ least_of least (flat_map (missing_in nodes seats) (rooms ps))
-seen-all nodes seats least picks count keys later past seen ps e =
-    seen.least_is
-    ∙ (ap (λ l. least_of (least_of least (missing_in nodes seats whole)) (flat_map (missing_in nodes seats) (each_once l))) (ap (flat_map pick_rooms) (all picks count past ∙ e) ∙ sym (all-rooms ps))
-    ∙ sym (least-append least (missing_in nodes seats whole) _))
+pub seen-all : (nodes : List Node) (seats : List Seat) (was first : List Found → Type 0) (picks : List SeatedPick) (count : ℕ) (keys : List (List ℕ))
+    (given : List Found → Type 0)
+    → length picks ≤ count → Puts was first (lacks_in nodes seats whole) → Seen nodes seats first (flat_map pick_rooms (take count picks)) keys given
+    → (ps : List Placed) → picks ≡ all_kept_seats ps → Puts was given (flat_map (lacks_in nodes seats) (rooms ps))
+seen-all nodes seats was first picks count keys given past whole_puts seen ps e =
+    puts-both was first given (lacks_in nodes seats whole) _ whole_puts
+    (puts-same first given _ _ (ap (λ l. flat_map (lacks_in nodes seats) (each_once l))
+    (ap (flat_map pick_rooms) (all picks count past ∙ e) ∙ sym (all-rooms ps))) seen.puts)

@@ -1,5 +1,5 @@
 -- What the rows of a table pick are nodes of the document, and each pick has the number of its row.
-use Rattle.std.proofs.Common.{◌≡◌, ℕ, zero, suc, ◌+◌, ◌<◌, ◌≤◌, Bool, true, false, not, List, [], ◌∷◌, ◌++◌, length, get_or, map, filter, flat_map, All, Option, Some, None, is_some, option_map, ◌⊎◌, inl, inr, refl, sym, ap, ◌∙◌, subst, arith}
+use Rattle.std.proofs.Common.{◌≡◌, ℕ, suc, ◌+◌, ◌<◌, Bool, true, false, not, List, [], ◌∷◌, length, map, filter, flat_map, All, Option, Some, None, is_some, option_map, refl, sym, ap, ◌∙◌, subst, arith}
 use Rattle.std.specs.Prelude.{◌||◌, ◌==◌, is_none, slice_get, option_and_then}
 use Rattle.std.specs.Option.{ForSome}
 use Rattle.std.proofs.lemmas.Option.{same_Some}
@@ -7,9 +7,8 @@ use Rattle.std.proofs.lemmas.List.Elements.{All-nil, All-cons, All-head, All-tai
 use Rattle.inv_base.specs.declared.tree.Kind.TheVariants as kinds
 use Rattle.inv_base.specs.Tree.{Node}
 use Rattle.term_table.specs.declared.groups.Group.{Group}
-use Rattle.node_arena.specs.Moves.{tree_node, is_child, is_attribute_of}
+use Rattle.node_arena.specs.Moves.{is_child, is_attribute_of}
 use Rattle.node_arena.proofs.FoundLemmas.{AreInOrder}
-use Rattle.bind_rows.specs.declared.names.ElementName.{ElementName}
 use Rattle.bind_rows.specs.declared.names.Leaf.{Leaf}
 use Rattle.bind_rows.specs.declared.names.Leaf.TheVariants as leaves
 use Rattle.bind_rows.specs.declared.rows.Step.{Step}
@@ -17,15 +16,14 @@ use Rattle.bind_rows.specs.declared.rows.Row.{Row}
 use Rattle.bind_rows.specs.Same.{same_or_none}
 use Rattle.bind_meaning.specs.declared.picked.Picked.{Picked}
 use Rattle.bind_meaning.specs.declared.picked.Seated.{Seated}
-use Rattle.bind_meaning.specs.declared.picked.SeatedPick.{SeatedPick}
 use Rattle.bind_meaning.specs.Names.{has_element_name, has_plain_name}
 use Rattle.bind_meaning.specs.Elements.{number, both, children_named, attributes_named, is_blank_at, are_met, met}
 use Rattle.bind_meaning.specs.Picks.{Pick, ways, last_of, filled, leaves_of, picks_of_way, nodes_picked, Numbered, numbered, rows_where, all_picked, without_fillers, is_filler, carrier, carrier_in, has_any_term}
 use Rattle.bind_meaning.specs.Currencies.{Currencies, is_in_its_currency, in_their_currencies}
 use Rattle.bind_meaning.specs.Kept.{kept, kept_seat, all_kept, all_kept_seats}
-use Rattle.bind_meaning.specs.Seats.{Placed, placed, outer_seat, inner_seat, outer_at, inner_at, inner_within}
+use Rattle.bind_meaning.specs.Seats.{placed, outer_at, inner_at, inner_within}
 use Rattle.bind_meaning.specs.Terms.{in_order, term_picks, place_all}
-use Rattle.bind_terms.specs.Steps.{row_numbered, IsOfRow, IsPickOfRow, IsSeatWithin, IsWithin}
+use Rattle.bind_terms.specs.Steps.{row_numbered, IsOfRow, IsPickOfRow, IsWithin}
 
 -- ---- lists joined
 

@@ -1,5 +1,5 @@
 -- What was told first of each term in each context, and the faults at nodes, with one more behind the others.
-use Rattle.std.proofs.Common.{◌≡◌, ℕ, Bool, true, false, ◌&&◌, ◌||◌, List, [], ◌∷◌, ◌++◌, Option, Some, None, option_map, ◌⊎◌, inl, inr, refl, sym, ap, ◌∙◌, subst, append_assoc, arith}
+use Rattle.std.proofs.Common.{◌≡◌, Bool, true, false, ◌||◌, List, [], ◌∷◌, ◌++◌, Option, Some, None, ◌⊎◌, inl, inr, refl, sym, ap, ◌∙◌, subst, append_assoc, arith}
 use Rattle.std.specs.List.{list_any}
 use Rattle.std.proofs.lemmas.Bool.{false≢true}
 use Rattle.std.proofs.lemmas.Option.{same_Some}
@@ -10,15 +10,14 @@ use Rattle.term_table.specs.declared.terms.Term.{Term}
 use Rattle.term_table.specs.declared.contexts.Seat.{Seat}
 use Rattle.term_table.specs.declared.contexts.Context.{Context}
 use Rattle.term_table.specs.SemanticModel.{same_term}
-use Rattle.term_table.specs.Contexts.{same_slot, same_context}
+use Rattle.term_table.specs.Contexts.{same_context}
 use Rattle.term_table.proofs.SeatLemmas.{same_term_is}
 use Rattle.inv_terms.proofs.PushLemmas.{same_slot_itself}
 use Rattle.inv_terms.proofs.ContextLemmas.{context_is}
 use Rattle.bind_meaning.specs.Currencies.{Currencies}
-use Rattle.bind_meaning.specs.Seats.{context_of}
 use Rattle.bind_meaning.specs.Judging.{Found, Told, is_of_seat, first_before, fault_of, faults_behind, seat_of}
 use Rattle.bind_meaning.specs.Terms.{firsts_behind}
-use Rattle.bind_terms.specs.Faults.{with_found, least_of}
+use Rattle.bind_terms.specs.Faults.{with_found, least_of, Puts}
 
 pub bool_cases : (b : Bool) → (b ≡ true) ⊎ (b ≡ false)
 bool_cases true = inl refl
@@ -148,6 +147,17 @@ faults-more nodes lists c pre (x ∷ xs) t =
 pub least-append : (o : Option Found) (xs ys : List Found) → least_of o (xs ++ ys) ≡ least_of (least_of o xs) ys
 least-append o [] ys = refl
 least-append o (x ∷ xs) ys = least-append (with_found o x) xs ys
+
+-- ---- faults given one after another
+
+pub puts-both : (a b c : List Found → Type 0) (xs ys : List Found) → Puts a b xs → Puts b c ys → Puts a c (xs ++ ys)
+puts-both a b c xs ys first second before h = subst c (append_assoc before xs ys) (second (before ++ xs) (first before h))
+
+pub puts-none : (a : List Found → Type 0) → Puts a a []
+puts-none a before h = subst a (sym (append-nil before)) h
+
+pub puts-same : (a b : List Found → Type 0) (xs ys : List Found) → xs ≡ ys → Puts a b xs → Puts a b ys
+puts-same a b xs ys e h = subst (Puts a b) e h
 
 -- ---- what holds of some seat told so far
 

@@ -1,28 +1,47 @@
 -- What the passes over the picks and the indicators of a document leave, and what it is by that. No public clause cites it.
-use Rattle.std.specs.Prelude.{◌≡◌, All, List, flat_map, Option, Some, None}
+use Rattle.std.specs.Prelude.{◌≡◌, All, List, [], ◌++◌, map, flat_map, Option, Some, None}
 use Rattle.inv_base.specs.Tree.{Node}
 use Rattle.code_lists.specs.CodeFiles.{Lists}
 use Rattle.bind_rows.specs.declared.rows.Row.{Row}
-use Rattle.bind_meaning.specs.declared.picked.Picked.{Picked}
 use Rattle.bind_meaning.specs.Currencies.{currencies}
-use Rattle.bind_meaning.specs.Judging.{Found, wrong_word}
-use Rattle.bind_meaning.specs.Kept.{all_kept}
-use Rattle.bind_meaning.specs.Picks.{Pick}
-use Rattle.bind_meaning.specs.Terms.{told}
+use Rattle.bind_meaning.specs.Seats.{rooms}
+use Rattle.bind_meaning.specs.Judging.{Found, Told, wrong_word, faults_behind, seat_of}
+use Rattle.bind_meaning.specs.Faults.{lacks_in}
+use Rattle.bind_meaning.specs.Terms.{in_order, told, entries}
 use Rattle.bind_terms.specs.declared.firsts.First.{First}
 use Rattle.bind_terms.specs.declared.judging.Verdict.{Verdict}
 use Rattle.bind_terms.specs.declared.judging.Verdict.TheVariants as verdicts
-use Rattle.bind_terms.specs.Entries.{entries_of}
-use Rattle.bind_terms.specs.Faults.{least_of}
-use Rattle.bind_terms.specs.Reading.{term_places}
-use Rattle.bind_terms.specs.Steps.{IsPickOfRow}
+use Rattle.bind_terms.specs.Entries.{FitsFirst, entries_of}
+use Rattle.bind_terms.specs.Reading.{indicator_picks, term_places}
 use Rattle.bind_terms.specs.Telling.{Entries, Holds}
 
--- The entries are what the picks say, and the fault is the first of theirs and of the indicators'.
-pub record HasTold (nodes : List Node) (lists : Lists) (rows : List Row) (indicators : List Picked) (entries : Entries) (least : Option Found) : Type 0 where
-  pub at_picks : Option Found
-  pub holds : Holds nodes lists (currencies nodes rows) (told nodes (term_places nodes rows)) entries at_picks
-  pub words : (qs : List Pick) → indicators ≡ all_kept qs → All (IsPickOfRow rows) qs → least ≡ least_of at_picks (flat_map (wrong_word nodes) qs)
+-- all that is told of a document
+abbrev pub all_told : List Node → List Row → List Told
+all_told nodes rows = told nodes (term_places nodes rows)
+
+-- the faults of indicators, in document order
+abbrev pub words_found : List Node → List Row → List Found
+words_found nodes rows = flat_map (wrong_word nodes) (in_order nodes (indicator_picks nodes rows))
+
+abbrev pub lacks_found : List Node → List Row → List Found
+lacks_found nodes rows = flat_map (lacks_in nodes (map seat_of (all_told nodes rows))) (rooms (term_places nodes rows))
+
+abbrev pub found_at_picks : List Node → Lists → List Row → List Found
+found_at_picks nodes lists rows = faults_behind nodes lists (currencies nodes rows) [] (all_told nodes rows)
+
+-- all faults, as they are found one after another
+abbrev pub all_found : List Node → Lists → List Row → List Found
+all_found nodes lists rows = (found_at_picks nodes lists rows ++ words_found nodes rows) ++ lacks_found nodes rows
+
+-- The entries are what the picks say, and their faults and those of the indicators were given.
+abbrev pub HasTold : List Node → Lists → List Row → Entries → (List Found → Type 0) → Type 0
+HasTold nodes lists rows es given = Holds nodes lists (currencies nodes rows) (all_told nodes rows) es (λ fs. given (fs ++ words_found nodes rows))
+
+-- All faults were given, and these were told first.
+pub record HasFound (nodes : List Node) (lists : Lists) (rows : List Row) (firsts : List First) (given : List Found → Type 0) : Type 0 where
+  pub is_given : given (all_found nodes lists rows)
+  pub fit : All FitsFirst firsts
+  pub entries_are : found_at_picks nodes lists rows ≡ [] → flat_map entries_of firsts ≡ entries (all_told nodes rows)
 
 -- The fault if there is one, or else the invoice of what was told first.
 abbrev pub IsVerdict : List First → Option Found → Verdict → Type 0

@@ -1,5 +1,5 @@
 -- The contexts of a document, one after another.
-use Rattle.std.specs.Prelude.{◌≡◌, ℕ, ◌-◌, Bool, List, [], ◌∷◌, ◌++◌, map, flat_map, Option, Some, None}
+use Rattle.std.specs.Prelude.{◌≡◌, ℕ, ◌-◌, Bool, true, false, List, [], ◌∷◌, ◌++◌, flat_map, Option, Some, None}
 use Rattle.std.specs.List.{list_any}
 use Rattle.std.specs.Ordering.{nat_cmp, is_eq}
 use Rattle.std.specs.Cmp.Lexicographic.{slice_cmp}
@@ -12,14 +12,15 @@ use Rattle.inv_terms.specs.declared.lacks.Lack.{Lack}
 use Rattle.bind_meaning.specs.declared.fault.BindKind.TheVariants as kinds
 use Rattle.bind_meaning.specs.declared.picked.Seated.{Seated}
 use Rattle.bind_meaning.specs.Seats.{Room, each_once}
-use Rattle.bind_meaning.specs.Judging.{Found, found, depth, name_of, missing_in}
-use Rattle.bind_terms.specs.Faults.{least_of}
+use Rattle.bind_meaning.specs.Judging.{Found, found, depth, name_of}
+use Rattle.bind_meaning.specs.Faults.{lacks_in}
+use Rattle.bind_terms.specs.Faults.{Puts}
 
 abbrev pub room_at : Context → ℕ → Room
 room_at context element = record { context = context; element = element }
 
-abbrev pub missing_found : Lack → Context → ℕ → ℕ → Found
-missing_found lack context element last = found (last ∷ (1 ∷ ((2 - depth context) ∷ lack.place))) kinds.Missing (name_of lack.fault) element
+abbrev pub missing_found : Context → ℕ → ℕ → Lack → Found
+missing_found context element last lack = found (last ∷ (1 ∷ ((2 - depth context) ∷ lack.place))) kinds.Missing (name_of lack.fault) element
 
 -- a place of the context among contexts
 abbrev pub room_key : Context → List ℕ
@@ -32,7 +33,30 @@ rooms_at context seat = elim seat [ None ↦ [] | Some s ↦ room_at context s.e
 abbrev pub has_key : List (List ℕ) → List ℕ → Bool
 has_key keys key = list_any (λ other. is_eq (slice_cmp nat_cmp key other)) keys
 
--- The keys are those of the rooms so far, and the fault is the first of those before and of what is missing in each room once.
-pub record Seen (nodes : List Node) (seats : List Seat) (first : Option Found) (before : List Room) (keys : List (List ℕ)) (least : Option Found) : Type 0 where
-  pub keys_are : (context : Context) → has_key keys (room_key context) ≡ list_any (λ (room : Room). same_context room.context context) before
-  pub least_is : least ≡ least_of first (flat_map (missing_in nodes seats) (each_once before))
+-- The keys are those of the contexts of the rooms.
+abbrev pub AreKeysOf : List Room → List (List ℕ) → Type 0
+AreKeysOf before keys = (context : Context) → has_key keys (room_key context) ≡ list_any (λ (room : Room). same_context room.context context) before
+
+-- a room, unless it was seen
+abbrev pub once_if : Bool → Room → List Room
+once_if true room = []
+once_if false room = room ∷ []
+
+-- the room of a seat, unless its context is one of those before
+abbrev pub unseen : List Room → Context → Option Seated → List Room
+unseen before context seat = elim seat [
+  | None ↦ []
+  | Some s ↦ once_if (list_any (λ (room : Room). same_context room.context context) before) (room_at context s.element)
+]
+
+-- Behind the rooms before, the keys are those of one more, and what is missing in it was given, unless it was seen.
+pub record SeesMore (nodes : List Node) (seats : List Seat) (before : List Room) (context : Context) (seat : Option Seated) (keys : List (List ℕ))
+    (was given : List Found → Type 0) : Type 0 where
+  pub keys_are : AreKeysOf (before ++ rooms_at context seat) keys
+  pub puts : Puts was given (flat_map (lacks_in nodes seats) (unseen before context seat))
+
+-- The keys are those of the rooms so far, and what receives faults was given what is missing in each room once, behind those before.
+pub record Seen (nodes : List Node) (seats : List Seat) (first : List Found → Type 0) (before : List Room) (keys : List (List ℕ))
+    (given : List Found → Type 0) : Type 0 where
+  pub keys_are : AreKeysOf before keys
+  pub puts : Puts first given (flat_map (lacks_in nodes seats) (each_once before))

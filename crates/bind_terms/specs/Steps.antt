@@ -1,5 +1,5 @@
 -- What the steps of the pass over the picks do.
-use Rattle.std.specs.Prelude.{◌≡◌, ◌<◌, ℕ, zero, suc, Bool, true, ◌||◌, List, [], ◌∷◌, Option, Some, None, is_some, is_none, slice_get, cond, ◌++◌, map, All}
+use Rattle.std.specs.Prelude.{◌≡◌, ◌<◌, ℕ, zero, suc, true, ◌||◌, List, [], ◌∷◌, Option, Some, None, is_some, is_none, slice_get, cond, ◌++◌, map, All}
 use Rattle.std.specs.Option.{ForSome}
 use Rattle.std.specs.Ordering.{nat_cmp, is_eq}
 use Rattle.std.specs.Cmp.Lexicographic.{slice_cmp}
@@ -74,24 +74,26 @@ faults_at kind picked term = elim kind [ None ↦ [] | Some k ↦ fault_at k pic
 -- ---- what each step of the pass leaves, behind whatever was told before
 
 -- the step tells these values of the pick
-abbrev pub Tells : List Node → Lists → Option (List ℕ) → SeatedPick → Row → List Said → Entries → Option Found → Entries → Option Found → Type 0
-Tells nodes lists invoice pick row said old least new later =
+abbrev pub Tells : List Node → Lists → Option (List ℕ) → SeatedPick → Row → List Said → Entries → (List Found → Type 0) → Entries → (List Found → Type 0)
+    → Type 0
+Tells nodes lists invoice pick row said old was new is =
     (before : List Told) (p : Placed) (c : Currencies) → c.invoice ≡ invoice → kept_seat p ≡ pick → p.pick.row ≡ row → All FitsIts said
-    → Holds nodes lists c before old least → Holds nodes lists c (before ++ map (told_at p) said) new later
+    → Holds nodes lists c before old was → Holds nodes lists c (before ++ map (told_at p) said) new is
 
 -- the step tells what the pick says, by its row
-abbrev pub TellsPick : List Node → Lists → Option (List ℕ) → SeatedPick → Row → Entries → Option Found → Entries → Option Found → Type 0
-TellsPick nodes lists invoice pick row old least new later =
+abbrev pub TellsPick : List Node → Lists → Option (List ℕ) → SeatedPick → Row → Entries → (List Found → Type 0) → Entries → (List Found → Type 0) → Type 0
+TellsPick nodes lists invoice pick row old was new is =
     (before : List Told) (p : Placed) (c : Currencies) → c.invoice ≡ invoice → kept_seat p ≡ pick → p.pick.row ≡ row
-    → Holds nodes lists c before old least → Holds nodes lists c (before ++ told_by nodes p) new later
+    → Holds nodes lists c before old was → Holds nodes lists c (before ++ told_by nodes p) new is
 
 -- the same by its table
-abbrev pub TellsOf : List Node → Lists → Option (List ℕ) → SeatedPick → List Row → Entries → Option Found → Entries → Option Found → Type 0
-TellsOf nodes lists invoice pick rows old least new later =
+abbrev pub TellsOf : List Node → Lists → Option (List ℕ) → SeatedPick → List Row → Entries → (List Found → Type 0) → Entries → (List Found → Type 0) → Type 0
+TellsOf nodes lists invoice pick rows old was new is =
     (before : List Told) (p : Placed) (c : Currencies) → c.invoice ≡ invoice → kept_seat p ≡ pick → IsOfRow rows p
-    → Holds nodes lists c before old least → Holds nodes lists c (before ++ told_by nodes p) new later
+    → Holds nodes lists c before old was → Holds nodes lists c (before ++ told_by nodes p) new is
 
 -- the pass tells what all picks say
-abbrev pub TellsAll : List Node → Lists → Option (List ℕ) → List SeatedPick → List Row → Entries → Option Found → Type 0
-TellsAll nodes lists invoice picks rows entries least =
-    (ps : List Placed) (c : Currencies) → c.invoice ≡ invoice → picks ≡ all_kept_seats ps → All (IsOfRow rows) ps → Holds nodes lists c (told nodes ps) entries least
+abbrev pub TellsAll : List Node → Lists → Option (List ℕ) → List SeatedPick → List Row → Entries → (List Found → Type 0) → Type 0
+TellsAll nodes lists invoice picks rows entries given =
+    (ps : List Placed) (c : Currencies) → c.invoice ≡ invoice → picks ≡ all_kept_seats ps → All (IsOfRow rows) ps
+    → Holds nodes lists c (told nodes ps) entries given

@@ -1,6 +1,6 @@
 -- What was told so far, as the code keeps it: what the first pick of each term in each context said, by its place in
 -- listing order.
-use Rattle.std.specs.Prelude.{◌≡◌, ℕ, Bool, true, List, [], ◌∷◌, ◌++◌, map, All, Option, Some, None, is_some, option_map, unwrap_or}
+use Rattle.std.specs.Prelude.{◌≡◌, ℕ, Bool, true, List, [], ◌∷◌, All, Option, Some, is_some, option_map, unwrap_or}
 use Rattle.std.specs.List.{list_any}
 use Rattle.std.specs.Ordering.{nat_cmp, is_eq}
 use Rattle.std.specs.Cmp.Lexicographic.{slice_cmp}
@@ -13,12 +13,11 @@ use Rattle.term_table.specs.declared.contexts.Context.{Context}
 use Rattle.term_table.specs.Places.{seat_place}
 use Rattle.bind_meaning.specs.declared.picked.SeatedPick.{SeatedPick}
 use Rattle.bind_meaning.specs.Currencies.{Currencies}
-use Rattle.bind_meaning.specs.Seats.{Placed, context_of, slot_of}
+use Rattle.bind_meaning.specs.Seats.{context_of, slot_of}
 use Rattle.bind_meaning.specs.Judging.{Found, Told, seat_of, first_before, faults_behind}
 use Rattle.bind_meaning.specs.Terms.{firsts_behind}
 use Rattle.bind_terms.specs.Sayings.{FitsIts}
 use Rattle.bind_terms.specs.declared.firsts.First.{First}
-use Rattle.bind_terms.specs.Faults.{least_of}
 
 abbrev pub seat_of_first : First → Seat
 seat_of_first f = record { term = f.said.term; context = f.context }
@@ -53,12 +52,12 @@ is_placed t = is_some (seat_place (seat_of t))
 abbrev pub IsAtItsPlace : List ℕ × First → Type 0
 IsAtItsPlace entry = seat_place (seat_of_first entry.1) ≡ Some entry.0
 
--- Behind what was told before, these are the entries and the first fault.
-pub record Holds (nodes : List Node) (lists : Lists) (c : Currencies) (before : List Told) (entries : Entries) (least : Option Found) : Type 0 where
+-- Behind what was told before, these are the entries, and the faults were given to what receives them.
+pub record Holds (nodes : List Node) (lists : Lists) (c : Currencies) (before : List Told) (entries : Entries) (given : List Found → Type 0) : Type 0 where
   pub look_up : (t : Told) (place : List ℕ) → seat_place (seat_of t) ≡ Some place → kept_at place entries ≡ option_map first_of (first_before before t)
   pub entries_are : entries ≡ arranged [] (firsts_behind [] before)
   pub at_places : All IsAtItsPlace entries
   pub same_seats : (p : Seat → Bool) → list_any (λ (e : List ℕ × First). p (seat_of_first e.1)) entries ≡ list_any (λ t. p (seat_of t)) before
-  pub least_is : least ≡ least_of None (faults_behind nodes lists c [] before)
+  pub is_given : given (faults_behind nodes lists c [] before)
   pub fit : All (λ (t : Told). FitsIts t.said) before
   pub placed : All (λ t. is_placed t ≡ true) before

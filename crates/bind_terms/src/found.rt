@@ -1,37 +1,42 @@
-//! Faults in their order, and the first of them.
-ghost use Rattle.std.specs.Prelude.{◌≡◌, [], ◌∷◌, Some, option_map};
+//! Faults in their order.
+ghost use Rattle.std.specs.Prelude.{◌≡◌, List, ℕ, Some, option_map};
 ghost use Rattle.std.specs.Ordering.{nat_cmp, is_lt};
 ghost use Rattle.std.specs.Cmp.Lexicographic.{slice_cmp};
 ghost use Rattle.bind_meaning.specs.Judging as spec;
-ghost use Rattle.bind_terms.specs.Faults.{found_of, place_of, with_found};
+ghost use Rattle.bind_terms.specs.Faults.{found_of, place_of, spot_of, with_found};
 
 use bind_meaning::{BindFault, BindKind};
 use std::cmp::Ordering;
 use term_table::ListingPlace;
 
-/// Where a fault stands among others.
-#[derive(Clone, Copy)]
-pub(crate) enum FaultPlace {
-    /// At the node of that number, by the row, then by the kind.
-    At {
-        node: u32,
-        row: u32,
-        kind: BindKind,
-    },
-    /// What is missing, behind the last node inside the element of its context: first in a context inside another
-    /// (`around` is 2 less the number of its slots), then in listing order.
-    Behind {
-        last: u32,
-        around: u32,
-        place: ListingPlace,
-    },
+/// Where a fault stands among others, but for its kind.
+#[derive(Clone, Copy, PartialEq, Eq, PartialOrd, Ord)]
+pub(crate) struct Spot {
+    pub(crate) node: u32,
+    pub(crate) side: Side,
 }
 
+/// At a node, or behind it.
+#[derive(Clone, Copy, PartialEq, Eq, PartialOrd, Ord)]
+pub(crate) enum Side {
+    /// At the node, by the row.
+    At { row: u32 },
+    /// What is missing, behind the last node inside the element of its context: first in a context inside another
+    /// (`around` is 2 less the number of its slots), then in listing order.
+    Behind { around: u32, place: ListingPlace },
+}
+
+/// A fault with its spot. At a node it is ordered by the spot, then by the kind.
 #[derive(Clone, Copy)]
 pub(crate) struct Found {
-    pub(crate) place: FaultPlace,
+    pub(crate) spot: Spot,
     pub(crate) fault: BindFault,
 }
+
+/// Law: spots are in the order of their numbers. The call does nothing.
+pub(crate) fn spots_are_ordered()
+    ensures { (a b : Spot) → ⟦<Spot as Ord>⟧.cmp a b ≡ slice_cmp nat_cmp (spot_of a) (spot_of b) }
+{}
 
 /// The first of a fault so far, if there is one, and another.
 pub(crate) fn earlier(least: Option<Found>, other: Found) -> Found
@@ -39,7 +44,7 @@ pub(crate) fn earlier(least: Option<Found>, other: Found) -> Found
 {
     match least {
         Some(first) => {
-            if precedes(other.place, first.place) {
+            if precedes(&other, &first) {
                 other
             } else {
                 first
@@ -49,16 +54,27 @@ pub(crate) fn earlier(least: Option<Found>, other: Found) -> Found
     }
 }
 
-fn precedes(a: FaultPlace, b: FaultPlace) -> bool
-    ensures { result ≡ is_lt (slice_cmp nat_cmp (place_of a) (place_of b)) }
+fn precedes(a: &Found, b: &Found) -> bool
+    ensures { result ≡ is_lt (slice_cmp nat_cmp (found_of a.now).place (found_of b.now).place) }
 {
-    match a {
-        FaultPlace::At { node, row, kind } => node_precedes(node, row, kind, b),
-        FaultPlace::Behind {
-            last,
-            around,
-            place,
-        } => lack_precedes(last, around, place, b),
+    spots_are_ordered();
+    match a.spot.cmp(&b.spot) {
+        Ordering::Less => true,
+        Ordering::Equal => has_earlier_kind(&a.spot, a.fault.kind, b.fault.kind),
+        Ordering::Greater => false,
+    }
+}
+
+/// Whether a kind of fault comes before another at one spot.
+pub(crate) fn has_earlier_kind(spot: &Spot, kind: BindKind, other: BindKind) -> bool
+    ensures { result ≡ is_lt (slice_cmp nat_cmp (place_of spot.now kind) (place_of spot.now other)) }
+{
+    match spot.side {
+        Side::At { row: _ } => rank(kind) < rank(other),
+        Side::Behind {
+            around: _,
+            place: _,
+        } => false,
     }
 }
 
@@ -77,52 +93,4 @@ fn rank(kind: BindKind) -> u32
         BindKind::Missing => 7,
         BindKind::Memory => 8,
     }
-}
-
-fn node_precedes(node: u32, row: u32, kind: BindKind, b: FaultPlace) -> bool
-    ensures { result ≡ is_lt (slice_cmp nat_cmp (node ∷ (0 ∷ (row ∷ (spec.rank kind ∷ [])))) (place_of b)) }
-{
-    match b {
-        FaultPlace::At {
-            node: other,
-            row: k,
-            kind: later,
-        } => is_less(&[node, 0, row, rank(kind)], &[other, 0, k, rank(later)]),
-        FaultPlace::Behind {
-            last,
-            around: _,
-            place: _,
-        } => is_less(&[node, 0], &[last, 1]),
-    }
-}
-
-fn lack_precedes(last: u32, around: u32, place: ListingPlace, b: FaultPlace) -> bool
-    ensures { result ≡ is_lt (slice_cmp nat_cmp (last ∷ (1 ∷ (around ∷ place))) (place_of b)) }
-{
-    match b {
-        FaultPlace::At {
-            node,
-            row: _,
-            kind: _,
-        } => is_less(&[last, 1], &[node, 0]),
-        FaultPlace::Behind {
-            last: other,
-            around: k,
-            place: behind,
-        } => {
-            if last != other {
-                return last < other;
-            }
-            if around != k {
-                return around < k;
-            }
-            place.precedes(behind)
-        }
-    }
-}
-
-fn is_less(a: &[u32], b: &[u32]) -> bool
-    ensures { result ≡ is_lt (slice_cmp nat_cmp a.now b.now) }
-{
-    a.cmp(b) == Ordering::Less
 }

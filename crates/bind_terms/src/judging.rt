@@ -1,21 +1,24 @@
-//! The invoice that a document is, or its first fault.
-ghost use Rattle.std.specs.Prelude.{◌≡◌, ◌≢◌, [], All, chars, option_map, IfOk, IfErr, Ok, Err, map};
+//! The invoice that a document is, or its first fault; and all its faults.
+ghost use Rattle.std.specs.Prelude.{◌≡◌, ◌≢◌, ◌<◌, [], All, chars, length, option_map, IfOk, IfErr, OnOk, Ok, Err, map};
 ghost use Rattle.node_arena.specs.Moves.{tree_nodes};
 ghost use Rattle.bind_table.specs.WellFormed.{first_fault};
+ghost use Rattle.inv_terms.specs.declared.lacks.Name.TheVariants as names;
 ghost use Rattle.bind_meaning.specs.declared.fault.BindKind.TheVariants as kinds;
 ghost use Rattle.bind_meaning.specs.Currencies.{currencies};
+ghost use Rattle.bind_meaning.specs.Faults.{faults_in};
 ghost use Rattle.bind_meaning.specs.Kept.{all_kept, all_kept_seats};
 ghost use Rattle.bind_meaning.specs.Terms.{in_order, passed_over};
 ghost use Rattle.bind_terms.specs.Entries.{FitsFirst};
 ghost use Rattle.bind_terms.specs.Faults.{found_of};
-ghost use Rattle.bind_terms.specs.Passes.{HasTold, IsVerdict};
+ghost use Rattle.bind_terms.specs.Passes.{HasTold, HasFound, IsVerdict};
 ghost use Rattle.bind_terms.specs.Reading.{indicator_picks, term_places, reading, Answers, AreSorted};
 
 use crate::entries::invoice_of;
 use crate::firsts::First;
 use crate::found::Found;
-use crate::indicators::with_wrong_words;
-use crate::lacks::with_lacks;
+use crate::indicators::put_wrong_words;
+use crate::keeping::{InOrder, Keeper, Least};
+use crate::lacks::put_lacks;
 use crate::telling::{Firsts, tell_picks};
 use bind_meaning::{BindFault, BindKind, Picked, SeatedPick};
 use bind_table::Binding;
@@ -29,7 +32,7 @@ use std::sync::ledger::Ledger;
 
 /// The invoice that the picks of a table say, or the first fault of the document. `picks` is what the rows with a term
 /// pick, with its contexts, and `indicators` what the rows pick that check an indicator, both in document order.
-/// Without memory the fault is of kind Memory, at the document's own node.
+/// Without memory the fault is of kind Memory, at the document's own node, and names nothing; no other fault is of that kind.
 pub fn judge<L: Ledger>(
     alloc: Global,
     doc: &Doc<'_>,
@@ -47,7 +50,9 @@ pub fn judge<L: Ledger>(
     ensures ok { IfOk result (λ invoice. reading (tree_nodes doc.now) lists.now table.now
         ≡ Ok (record { entries = invoice; passed_over = passed_over (tree_nodes doc.now) table.now })) }
     ensures err { IfErr result (λ fault. fault.kind ≢ kinds.Memory → reading (tree_nodes doc.now) lists.now table.now ≡ Err fault) }
+    ensures memory { IfErr result (λ fault. fault.kind ≡ kinds.Memory → fault ≡ record { kind = kinds.Memory; name = names.Nothing; node = 0 }) }
 {
+    doc.is_of_a_tree();
     match judged(
         alloc,
         doc,
@@ -66,6 +71,42 @@ pub fn judge<L: Ledger>(
             node: doc.document(),
         }),
     }
+}
+
+/// All faults of the document as an invoice of the table, in their order: at one node and row the first kind alone. `picks`
+/// and `indicators` are those of `judge`.
+pub fn faults<L: Ledger>(
+    alloc: Global,
+    doc: &Doc<'_>,
+    table: &Binding,
+    lists: &CodeLists,
+    invoice_currency: Option<&str>,
+    picks: &[SeatedPick],
+    indicators: &[Picked],
+    steps: &mut Steps<L>,
+) -> Result<Vec<BindFault>, AllocError>
+    requires formed { first_fault table.now ≡ Ok tt }
+    requires currency { option_map (λ text. chars text.now) invoice_currency ≡ (currencies (tree_nodes doc.now) table.now).invoice }
+    requires picks { picks.now ≡ all_kept_seats (term_places (tree_nodes doc.now) table.now) }
+    requires indicators { indicators.now ≡ all_kept (in_order (tree_nodes doc.now) (indicator_picks (tree_nodes doc.now) table.now)) }
+    ensures faults { IfOk result (λ faults. faults.items ≡ faults_in (tree_nodes doc.now) table.now lists.now) }
+    ensures within { IfOk result (λ faults. All (λ fault. fault.node < length doc.now.nodes) faults.items) }
+{
+    doc.is_of_a_tree();
+    let mut kept = InOrder::new(alloc);
+    let firsts = find_faults(
+        alloc,
+        doc,
+        table,
+        lists,
+        invoice_currency,
+        picks,
+        indicators,
+        &mut kept,
+        steps,
+    )?;
+    drop(firsts);
+    kept.into_faults(alloc)
 }
 
 /// What a document is by a table.
@@ -91,8 +132,43 @@ fn judged<L: Ledger>(
     ensures { IfOk result (Answers (tree_nodes doc.now) lists.now table.now) }
 {
     doc.is_of_a_tree();
+    let mut least = Least { found: None };
+    let firsts = find_faults(
+        alloc,
+        doc,
+        table,
+        lists,
+        invoice_currency,
+        picks,
+        indicators,
+        &mut least,
+        steps,
+    )?;
+    verdict_of(alloc, firsts, least.found)
+}
+
+// Every fault is given to the keeper, which was given none before. What was told first of each term in each context is
+// answered in listing order.
+fn find_faults<L: Ledger, K: Keeper>(
+    alloc: Global,
+    doc: &Doc<'_>,
+    table: &Binding,
+    lists: &CodeLists,
+    invoice_currency: Option<&str>,
+    picks: &[SeatedPick],
+    indicators: &[Picked],
+    keeper: &mut K,
+    steps: &mut Steps<L>,
+) -> Result<Vec<First>, AllocError>
+    requires currency { option_map (λ text. chars text.now) invoice_currency ≡ (currencies (tree_nodes doc.now) table.now).invoice }
+    requires picks { picks.now ≡ all_kept_seats (term_places (tree_nodes doc.now) table.now) }
+    requires indicators { indicators.now ≡ all_kept (in_order (tree_nodes doc.now) (indicator_picks (tree_nodes doc.now) table.now)) }
+    requires none { K.given keeper.old [] }
+    ensures { IfOk result (λ firsts. HasFound (tree_nodes doc.now) lists.now table.now firsts.items (K.given keeper.new)) }
+{
+    doc.is_of_a_tree();
     let mut told = BTreeMap::new(alloc);
-    let least = first_at_nodes(
+    find_at_nodes(
         alloc,
         doc,
         table,
@@ -101,15 +177,16 @@ fn judged<L: Ledger>(
         picks,
         indicators,
         &mut told,
+        keeper,
         steps,
     )?;
     let firsts = in_listing_order(alloc, told)?;
-    let fault = with_lacks(alloc, doc, &firsts, picks, least, steps)?;
-    verdict_of(alloc, firsts, fault)
+    put_lacks(alloc, doc, &firsts, picks, keeper, steps)?;
+    Ok(firsts)
 }
 
-// What the picks say is put by, and the first fault at a node is answered: of what they say, and of the indicators.
-fn first_at_nodes<L: Ledger>(
+// What the picks say is put by, and the faults at nodes are given to the keeper: of what they say, and of the indicators.
+fn find_at_nodes<L: Ledger, K: Keeper>(
     alloc: Global,
     doc: &Doc<'_>,
     table: &Binding,
@@ -118,16 +195,18 @@ fn first_at_nodes<L: Ledger>(
     picks: &[SeatedPick],
     indicators: &[Picked],
     told: &mut Firsts,
+    keeper: &mut K,
     steps: &mut Steps<L>,
-) -> Result<Option<Found>, AllocError>
+) -> Result<(), AllocError>
     requires currency { option_map (λ text. chars text.now) invoice_currency ≡ (currencies (tree_nodes doc.now) table.now).invoice }
     requires picks { picks.now ≡ all_kept_seats (term_places (tree_nodes doc.now) table.now) }
     requires indicators { indicators.now ≡ all_kept (in_order (tree_nodes doc.now) (indicator_picks (tree_nodes doc.now) table.now)) }
-    requires none { told.old.entries ≡ [] }
-    ensures { IfOk result (λ least. HasTold (tree_nodes doc.now) lists.now table.now indicators.now told.new.entries (option_map found_of least)) }
+    requires empty { told.old.entries ≡ [] }
+    requires none { K.given keeper.old [] }
+    ensures { OnOk result (HasTold (tree_nodes doc.now) lists.now table.now told.new.entries (K.given keeper.new)) }
 {
     doc.is_of_a_tree();
-    let at_picks = tell_picks(
+    tell_picks(
         alloc,
         doc,
         table,
@@ -135,9 +214,10 @@ fn first_at_nodes<L: Ledger>(
         invoice_currency,
         picks,
         told,
+        keeper,
         steps,
     )?;
-    with_wrong_words(alloc, doc, table, indicators, at_picks, steps)
+    put_wrong_words(alloc, doc, table, indicators, keeper, steps)
 }
 
 // The fault if there is one, or else the invoice of what was told first.

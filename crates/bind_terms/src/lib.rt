@@ -1,4 +1,4 @@
-//! From the picks of a binding table, each with its context, to the invoice that a document is, or its first fault: what
+//! From the picks of a binding table, each with its context, to the invoice that a document is, or its faults: what
 //! strings say as values of business terms, what is wrong at one node, and all of them judged together.
 #![tactic(auto)]
 
@@ -12,6 +12,7 @@ mod found;
 mod indicators;
 mod insides;
 mod judging;
+mod keeping;
 mod lacks;
 mod laws;
 mod notes;
@@ -22,7 +23,7 @@ mod words;
 
 pub use causes::first_cause;
 pub use insides::has_element_inside;
-pub use judging::judge;
-pub use laws::said_values_fit_their_terms;
+pub use judging::{faults, judge};
+pub use laws::{first_faults_are_first_of_all, said_values_fit_their_terms};
 pub use said::{Said, Sayings, what_is_said};
 pub use words::is_word;

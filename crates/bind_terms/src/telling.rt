@@ -1,5 +1,5 @@
-//! One pass over the picks: what each says, the first of each term in each context, and the first fault at a node.
-ghost use Rattle.std.specs.Prelude.{◌≡◌, ◌<◌, ◌++◌, [], ◌∷◌, List, ℕ, All, Some, length, map, chars, OnOk, IfOk, option_map, option_copied};
+//! One pass over the picks: what each says, the first of each term in each context, and all faults at nodes.
+ghost use Rattle.std.specs.Prelude.{◌≡◌, ◌<◌, ◌++◌, [], ◌∷◌, List, ℕ, All, Some, length, map, chars, OnOk, IfOk, option_map, option_copied, is_none};
 ghost use Rattle.node_arena.specs.Moves.{tree_nodes};
 ghost use Rattle.bind_meaning.specs.Currencies.{Currencies};
 ghost use Rattle.bind_meaning.specs.Kept.{kept_seat, all_kept_seats};
@@ -8,12 +8,13 @@ ghost use Rattle.bind_meaning.specs.Seats.{Placed};
 ghost use Rattle.bind_meaning.specs.Judging.{Told, told_by};
 ghost use Rattle.bind_meaning.specs.Terms.{told};
 ghost use Rattle.bind_terms.specs.Sayings.{said_of, all_said, FitsIts};
-ghost use Rattle.bind_terms.specs.Faults.{found_of, least_of};
+ghost use Rattle.bind_terms.specs.Faults.{found_of, Puts};
 ghost use Rattle.bind_terms.specs.Telling.{Holds, context_in, kept_at};
 ghost use Rattle.bind_terms.specs.Steps.{IsWithin, Tells, TellsPick, TellsOf, TellsAll, HasRow, row_numbered, put_entry, kept_behind, faults_at, fault_at};
 
 use crate::firsts::First;
-use crate::found::{FaultPlace, Found, earlier};
+use crate::found::{Found, Side, Spot};
+use crate::keeping::Keeper;
 use crate::{Said, Sayings, first_cause, said_values_fit_their_terms, what_is_said};
 use bind_meaning::{BindFault, BindKind, Picked, Seated, SeatedPick};
 use bind_rows::{Content, Row};
@@ -58,8 +59,8 @@ pub(crate) fn row_at(table: &Binding, number: u32) -> Option<&Row>
     }
 }
 
-/// What all picks say, in document order: the first of each is put by, and the first fault at a node is answered.
-pub(crate) fn tell_picks<L: Ledger>(
+/// What all picks say, in document order: the first of each is put by, and each fault is given to the keeper.
+pub(crate) fn tell_picks<L: Ledger, K: Keeper>(
     alloc: Global,
     doc: &Doc<'_>,
     table: &Binding,
@@ -67,16 +68,17 @@ pub(crate) fn tell_picks<L: Ledger>(
     invoice_currency: Option<&str>,
     picks: &[SeatedPick],
     firsts: &mut Firsts,
+    keeper: &mut K,
     steps: &mut Steps<L>,
-) -> Result<Option<Found>, AllocError>
+) -> Result<(), AllocError>
     requires within { All (IsWithin (length doc.now.nodes)) picks.now }
     requires rows { All (λ pick. HasRow table.now pick.picked.row) picks.now }
-    requires none { firsts.old.entries ≡ [] }
-    ensures { IfOk result (λ least. TellsAll (tree_nodes doc.now) lists.now (option_map (λ text. chars text.now) invoice_currency.entry) picks.now table.now firsts.new.entries (option_map found_of least)) }
+    requires empty { firsts.old.entries ≡ [] }
+    requires none { K.given keeper.old [] }
+    ensures { OnOk result (TellsAll (tree_nodes doc.now) lists.now (option_map (λ text. chars text.now) invoice_currency.entry) picks.now table.now firsts.new.entries (K.given keeper.new)) }
 {
-    let mut least = None;
     'picks: for pick in picks {
-        least = tell_pick(
+        tell_pick(
             alloc,
             doc,
             table,
@@ -84,15 +86,15 @@ pub(crate) fn tell_picks<L: Ledger>(
             invoice_currency,
             pick,
             firsts,
-            least,
+            keeper,
             steps,
         )?;
     }
-    Ok(least)
+    Ok(())
 }
 
 // What one pick says, behind those before it.
-fn tell_pick<L: Ledger>(
+fn tell_pick<L: Ledger, K: Keeper>(
     alloc: Global,
     doc: &Doc<'_>,
     table: &Binding,
@@ -100,12 +102,12 @@ fn tell_pick<L: Ledger>(
     invoice_currency: Option<&str>,
     pick: &SeatedPick,
     firsts: &mut Firsts,
-    least: Option<Found>,
+    keeper: &mut K,
     steps: &mut Steps<L>,
-) -> Result<Option<Found>, AllocError>
+) -> Result<(), AllocError>
     requires within { IsWithin (length doc.now.nodes) pick.now }
     requires row { HasRow table.now pick.now.picked.row }
-    ensures { IfOk result (λ new. TellsOf (tree_nodes doc.now) lists.now (option_map (λ text. chars text.now) invoice_currency.entry) pick.now table.now firsts.old.entries (option_map found_of least) firsts.new.entries (option_map found_of new)) }
+    ensures { OnOk result (TellsOf (tree_nodes doc.now) lists.now (option_map (λ text. chars text.now) invoice_currency.entry) pick.now table.now firsts.old.entries (K.given keeper.old) firsts.new.entries (K.given keeper.new)) }
 {
     match row_at(table, pick.picked.row) {
         Some(row) => tell_row(
@@ -116,7 +118,7 @@ fn tell_pick<L: Ledger>(
             row,
             pick,
             firsts,
-            least,
+            keeper,
             steps,
         ),
         None => unreachable!(),
@@ -124,7 +126,7 @@ fn tell_pick<L: Ledger>(
 }
 
 // The same by its row.
-fn tell_row<L: Ledger>(
+fn tell_row<L: Ledger, K: Keeper>(
     alloc: Global,
     doc: &Doc<'_>,
     lists: &CodeLists,
@@ -132,11 +134,11 @@ fn tell_row<L: Ledger>(
     row: &Row,
     pick: &SeatedPick,
     firsts: &mut Firsts,
-    least: Option<Found>,
+    keeper: &mut K,
     steps: &mut Steps<L>,
-) -> Result<Option<Found>, AllocError>
+) -> Result<(), AllocError>
     requires { IsWithin (length doc.now.nodes) pick.now }
-    ensures { IfOk result (λ new. TellsPick (tree_nodes doc.now) lists.now (option_map (λ text. chars text.now) invoice_currency.entry) pick.now row.now firsts.old.entries (option_map found_of least) firsts.new.entries (option_map found_of new)) }
+    ensures { OnOk result (TellsPick (tree_nodes doc.now) lists.now (option_map (λ text. chars text.now) invoice_currency.entry) pick.now row.now firsts.old.entries (K.given keeper.old) firsts.new.entries (K.given keeper.new)) }
 {
     match row.content {
         Content::Term(term) => {
@@ -152,16 +154,16 @@ fn tell_row<L: Ledger>(
                 pick,
                 sayings,
                 firsts,
-                least,
+                keeper,
                 steps,
             )
         }
-        Content::Constant(_) => Ok(least),
+        Content::Constant(_) => Ok(()),
     }
 }
 
 // All that a pick says.
-fn tell_all<L: Ledger>(
+fn tell_all<L: Ledger, K: Keeper>(
     alloc: Global,
     doc: &Doc<'_>,
     lists: &CodeLists,
@@ -170,11 +172,11 @@ fn tell_all<L: Ledger>(
     pick: &SeatedPick,
     sayings: Sayings,
     firsts: &mut Firsts,
-    least: Option<Found>,
+    keeper: &mut K,
     steps: &mut Steps<L>,
-) -> Result<Option<Found>, AllocError>
+) -> Result<(), AllocError>
     requires { IsWithin (length doc.now.nodes) pick.now }
-    ensures { IfOk result (λ new. Tells (tree_nodes doc.now) lists.now (option_map (λ text. chars text.now) invoice_currency.entry) pick.now row.now (all_said sayings) firsts.old.entries (option_map found_of least) firsts.new.entries (option_map found_of new)) }
+    ensures { OnOk result (Tells (tree_nodes doc.now) lists.now (option_map (λ text. chars text.now) invoice_currency.entry) pick.now row.now (all_said sayings) firsts.old.entries (K.given keeper.old) firsts.new.entries (K.given keeper.new)) }
 {
     match sayings {
         Sayings::One(one) => tell(
@@ -186,11 +188,11 @@ fn tell_all<L: Ledger>(
             pick,
             one,
             firsts,
-            least,
+            keeper,
             steps,
         ),
         Sayings::Two(one, other) => {
-            let first = tell(
+            tell(
                 alloc,
                 doc,
                 lists,
@@ -199,7 +201,7 @@ fn tell_all<L: Ledger>(
                 pick,
                 one,
                 firsts,
-                least,
+                keeper,
                 steps,
             )?;
             tell(
@@ -211,7 +213,7 @@ fn tell_all<L: Ledger>(
                 pick,
                 other,
                 firsts,
-                first,
+                keeper,
                 steps,
             )
         }
@@ -219,7 +221,7 @@ fn tell_all<L: Ledger>(
 }
 
 // One value that a pick says.
-fn tell<L: Ledger>(
+fn tell<L: Ledger, K: Keeper>(
     alloc: Global,
     doc: &Doc<'_>,
     lists: &CodeLists,
@@ -228,36 +230,34 @@ fn tell<L: Ledger>(
     pick: &SeatedPick,
     said: Said,
     firsts: &mut Firsts,
-    least: Option<Found>,
+    keeper: &mut K,
     steps: &mut Steps<L>,
-) -> Result<Option<Found>, AllocError>
+) -> Result<(), AllocError>
     requires { IsWithin (length doc.now.nodes) pick.now }
-    ensures { IfOk result (λ new. Tells (tree_nodes doc.now) lists.now (option_map (λ text. chars text.now) invoice_currency.entry) pick.now row.now (said_of said ∷ []) firsts.old.entries (option_map found_of least) firsts.new.entries (option_map found_of new)) }
+    ensures { OnOk result (Tells (tree_nodes doc.now) lists.now (option_map (λ text. chars text.now) invoice_currency.entry) pick.now row.now (said_of said ∷ []) firsts.old.entries (K.given keeper.old) firsts.new.entries (K.given keeper.new)) }
 {
     let term = said.term;
     let context = context_of(pick);
-    match place_of(term, context) {
-        Some(place) => {
-            let kind = first_cause(
-                alloc,
-                doc,
-                lists,
-                invoice_currency,
-                row,
-                pick.picked.node,
-                context,
-                said_before(firsts, place),
-                &said,
-                steps,
-            )?;
-            put_first(firsts, place, First { context, said })?;
-            Ok(with_cause(least, kind, pick, term))
-        }
-        None => {
-            drop(said);
-            Err(AllocError)
-        }
-    }
+    let Some(place) = place_of(term, context) else {
+        drop(said);
+        return Err(AllocError);
+    };
+    let first = said_before(firsts, place);
+    let is_first = first.is_none();
+    let kind = first_cause(
+        alloc,
+        doc,
+        lists,
+        invoice_currency,
+        row,
+        pick.picked.node,
+        context,
+        first,
+        &said,
+        steps,
+    )?;
+    put_first(firsts, place, First { context, said }, is_first)?;
+    put_cause(keeper, kind, pick.picked, term)
 }
 
 // What the first of the place said.
@@ -271,30 +271,36 @@ fn said_before(firsts: &Firsts, place: ListingPlace) -> Option<&Said>
 }
 
 // Puts it by where none of its place is yet.
-fn put_first(firsts: &mut Firsts, place: ListingPlace, first: First) -> Result<(), AllocError>
+fn put_first(
+    firsts: &mut Firsts,
+    place: ListingPlace,
+    first: First,
+    is_first: bool,
+) -> Result<(), AllocError>
+    requires { is_first ≡ is_none (kept_at place firsts.old.entries) }
     ensures entries { OnOk result (firsts.new.entries ≡ put_entry firsts.old.entries place first) }
     ensures look_up { OnOk result ((q : List ℕ) → kept_at q firsts.new.entries ≡ kept_behind q firsts.old.entries place first) }
 {
-    if firsts.contains_key(&place) {
+    if is_first {
+        drop(firsts.insert(place, first)?);
+    } else {
         drop(first);
-        return Ok(());
     }
-    drop(firsts.insert(place, first)?);
     Ok(())
 }
 
-// The first of the faults so far and of a cause at the pick's node.
-fn with_cause(
-    least: Option<Found>,
+// The fault of a cause at the pick's node, where there is one.
+fn put_cause<K: Keeper>(
+    keeper: &mut K,
     kind: Option<BindKind>,
-    pick: &SeatedPick,
+    picked: Picked,
     term: Term,
-) -> Option<Found>
-    ensures { option_map found_of result ≡ least_of (option_map found_of least) (faults_at kind pick.now.picked term) }
+) -> Result<(), AllocError>
+    ensures { OnOk result (Puts (K.given keeper.old) (K.given keeper.new) (faults_at kind picked term)) }
 {
     match kind {
-        Some(kind) => Some(earlier(least, fault_at(kind, pick.picked, term))),
-        None => least,
+        Some(kind) => keeper.put(fault_at(kind, picked, term)),
+        None => Ok(()),
     }
 }
 
@@ -302,10 +308,9 @@ pub(crate) fn fault_at(kind: BindKind, picked: Picked, term: Term) -> Found
     ensures { found_of result ≡ fault_at kind picked term }
 {
     Found {
-        place: FaultPlace::At {
+        spot: Spot {
             node: picked.node.number(),
-            row: picked.row,
-            kind,
+            side: Side::At { row: picked.row },
         },
         fault: BindFault {
             kind,

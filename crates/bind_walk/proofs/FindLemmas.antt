@@ -1,7 +1,6 @@
 -- What was found for one reason, sorted, is what the rows of that sort pick in document order.
 use Rattle.std.proofs.Common.{◌≡◌, ℕ, suc, ◌+◌, ◌<◌, Bool, List, [], ◌∷◌, length, map, get_or, refl, ap, sym, ◌∙◌, subst, arith}
 use Rattle.std.specs.Prelude.{is_some, All}
-use Rattle.std.specs.List.Sorted.{IsPermutation}
 use Rattle.std.specs.List.{flat_map, sum_by}
 use Rattle.std.proofs.lemmas.List.{length-map}
 use Rattle.std.proofs.lemmas.List.Sorted.{sum_by-IsPermutation}
@@ -28,9 +27,10 @@ use Rattle.bind_walk.specs.Finding.{Finds, RowsAreWalked, SortsPicks}
 use Rattle.bind_walk.specs.Lines.{wanted, wanted_by, lined}
 use Rattle.bind_walk.specs.Picks.{is_indicator, indicator_in}
 use Rattle.bind_walk.specs.Sorting.{order, Sorts}
-use Rattle.bind_walk.specs.Walks.{sight, picked_for}
+use Rattle.bind_walk.specs.Walks.{sight, picked_for, strolled, LeadsAlike}
 use Rattle.bind_walk.proofs.SortLemmas.{Every, up-sorted, up-map, unique, sum-flat_map, sum-map}
 use Rattle.bind_walk.proofs.LinkLemmas.{none}
+use Rattle.bind_walk.proofs.StrollLemmas.{strolled-sum}
 use Rattle.bind_walk.proofs.PathLemmas.{is_for, rows-pick}
 use Rattle.bind_walk.proofs.OrderLemmas.{IsNested, From, NotAbove, order-exact, order-total, all-before, all-inside, rows-up, in_order-up, in_order-counts}
 
@@ -41,10 +41,13 @@ from-places n (node ∷ nodes) h = (
   from-places (n + 1) nodes (λ k l. h (suc k) (omega (arith, l)) ∙ (let e : n + suc k ≡ n + 1 + k = omega arith in e)),
 )
 
-pub finds-of : (d : Document) (rows : List Row) (lines held : List FoundLine) (finds seen : List Find) → RowsAreWalked → All HasSteps rows → held ≡ lines → lines ≡ lined d (plan_of rows)
-    → ((plan : Plan) → held ≡ lined d plan → finds ≡ walked (sight d) plan [] 0) → seen ≡ finds → Finds d rows seen
-finds-of d rows lines held finds seen walking long held_is lines_is found seen_is =
-    record { moved = subst (IsPermutation (picked_from (sight d) 0 rows [] 0)) (sym (seen_is ∙ found (plan_of rows) (held_is ∙ lines_is))) (walking.moved d rows long) }
+pub finds-of : (d : Document) (rows : List Row) (lines held : List FoundLine) (finds seen : List Find) → RowsAreWalked → LeadsAlike d → All HasSteps rows → held ≡ lines → lines ≡ lined d (plan_of rows)
+    → ((plan : Plan) → held ≡ lined d plan → finds ≡ strolled d plan [] 0) → seen ≡ finds → Finds d rows seen
+finds-of d rows lines held finds seen walking alike long held_is lines_is found seen_is = record {
+  moved = λ f.
+      sym (sum_by-IsPermutation f (picked_from (sight d) 0 rows [] 0) (walked (sight d) (plan_of rows) [] 0) (walking.moved d rows long))
+      ∙ (sym (strolled-sum f d alike (plan_of rows) [] 0) ∙ ap (sum_by f) (sym (seen_is ∙ found (plan_of rows) (held_is ∙ lines_is))));
+}
 
 term-agrees : (d : Document) (content : Content) (check : Check) → is_some (term_in content) ≡ is_for d wants.Term (wanted_by content check)
 term-agrees d (contents.Term term) check = refl
@@ -76,7 +79,7 @@ module _ (d : Document) (nested : IsNested d) (some : 0 < length d.nodes) where
         ∙ (sym (sum-map f kept ps)
         ∙ (ap (sum_by f) (sym (rows-pick d w test agree 0 rows))
         ∙ (sum-flat_map f (picked_for w) raw
-        ∙ (sym (sum_by-IsPermutation (λ x. sum_by f (picked_for w x)) raw finds found.moved)
+        ∙ (found.moved (λ x. sum_by f (picked_for w x))
         ∙ (sym (sum-flat_map f (picked_for w) finds) ∙ sym (sum_by-IsPermutation f (flat_map (picked_for w) finds) picks sorts.moved)))))))
 
     pub sorted-picks : picks ≡ all_kept (in_order (tree_nodes d) (all_picked (tree_nodes d) (rows_where test rows)))

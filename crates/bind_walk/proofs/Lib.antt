@@ -1,5 +1,7 @@
 pub mod SortLemmas
+pub mod NumberLemmas
 pub mod WalkLemmas
+pub mod StrollLemmas
 pub mod LinkLemmas
 pub mod PathLemmas
 pub mod OrderLemmas

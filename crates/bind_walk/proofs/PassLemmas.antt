@@ -1,12 +1,12 @@
 -- Where names lead along the lines of a table is where they lead along its rows.
-use Rattle.std.proofs.Common.{◌≡◌, ℕ, ◌+◌, ◌<◌, ◌≤◌, Bool, true, false, cond, List, [], ◌∷◌, ◌++◌, length, take, drop, get_or, Some, None, refl, ap, sym, ◌∙◌, subst, arith, append_assoc, length-append, ⊎_elim}
-use Rattle.std.specs.Prelude.{filter, not, ◌&&◌, ◌||◌, nat_lt}
-use Rattle.std.specs.List.{list_any}
-use Rattle.std.proofs.lemmas.List.{append-nil, drop_more, take_more, take_all, get_or-map, get_or_default, get_or_append_left, get_or_at, length_push, length-map}
-use Rattle.std.proofs.lemmas.List.Elements.{filter-append, filter_agree}
-use Rattle.std.proofs.lemmas.Bool.{cases_lt}
+use Rattle.std.proofs.Common.{◌≡◌, ℕ, zero, suc, ◌+◌, ◌<◌, ◌≤◌, Bool, true, false, cond, List, [], ◌∷◌, ◌++◌, length, take, drop, get_or, Some, None, refl, ap, sym, ◌∙◌, subst, arith, append_assoc, length-append, length-drop, ⊎_elim}
+use Rattle.std.specs.Prelude.{filter, map, not, ◌&&◌, ◌||◌, nat_lt}
+use Rattle.std.specs.List.{All, list_any}
+use Rattle.std.proofs.lemmas.List.{append-nil, map-append, drop_more, drop_all, take_more, take_all, take-append-le, get_or-map, get_or-take, get_or_append_left, get_or_at, length_push, length-map, length-take, length-take-le}
+use Rattle.std.proofs.lemmas.List.Elements.{All-append, All-cons, All-nil, filter-append, filter_agree}
+use Rattle.std.proofs.lemmas.Bool.{cases_lt, lt-ltb, le-ltb}
 use Rattle.std.proofs.lemmas.List.Folds.{list_any-append}
-use Rattle.std.proofs.Math.Seq.{get_or-append_seam}
+use Rattle.std.proofs.Math.Seq.{get_or-append_seam, drop-append_seam}
 use Rattle.inv_base.specs.Tree.{Node}
 use Rattle.inv_base.specs.declared.tree.Kind.{Kind}
 use Rattle.inv_base.specs.declared.tree.Kind.TheVariants as kinds
@@ -18,13 +18,16 @@ use Rattle.bind_rows.specs.Same.{same_step, choose}
 use Rattle.bind_table.specs.Lines.{Cell, Plan, nothing, a_line, into, own_cells, add, grown, plan_of}
 use Rattle.bind_meaning.specs.Names.{has_element_name}
 use Rattle.bind_meaning.specs.Elements.{is_element}
-use Rattle.bind_meaning.specs.Terms.{names_row, is_on_a_way, is_passed_over, passed_over, turned, without_first, way_to}
+use Rattle.bind_meaning.specs.Faults.{passed_nodes}
+use Rattle.bind_meaning.specs.Terms.{names_row, is_on_a_way, is_passed_over, turned, without_first, way_to}
+use Rattle.bind_walk.specs.Chains.{number}
 use Rattle.bind_walk.specs.declared.lines.FoundLine.{FoundLine}
 use Rattle.bind_walk.specs.declared.passed.Span.{Span}
-use Rattle.bind_walk.specs.declared.passed.Visit.{Visit}
 use Rattle.bind_walk.specs.Lines.{lined}
+use Rattle.bind_walk.specs.Found.{found_element, is_same_number}
 use Rattle.bind_walk.specs.Walks.{line_of}
-use Rattle.bind_walk.specs.Passing.{inside_named, insides, led, some_plan, path_of, state, is_passed, roots_of, IsSpan, IsSomeSpan, SpansOf, AreSpans, AddsNamed, Begins, no_span, is_left, Reaches, Visits, LeadsThrough, one_if, is_element_kind}
+use Rattle.bind_walk.proofs.NumberLemmas.{number-says, none-found}
+use Rattle.bind_walk.specs.Passing.{inside_named, insides, led, some_plan, path_of, state, is_passed, roots_of, IsSpan, IsSomeSpan, SpansOf, AreSpans, AddsNamed, part, LeadsInside, IsPart, no_part, Reaches, AreReached, IsReached, some_of, is_left, Begins, one_if, LeadsThrough, is_element_kind}
 
 -- ---- tests
 
@@ -189,11 +192,6 @@ module _ (d : Document) where
 
   -- ---- spans
 
-  pub begins-spans : (rows : List Row) (lines : List FoundLine) (spans : List Span) → lines ≡ lined d (plan_of rows) → Begins rows lines spans → SpansOf d lines spans (roots_of rows)
-  begins-spans [] lines spans is begins = subst (λ ss. SpansOf d lines ss []) (sym begins) tt
-  begins-spans (row ∷ rows) lines spans is begins = subst (λ ss. SpansOf d lines ss (plan_of (row ∷ rows) ∷ [])) (sym begins)
-      (record { front = []; back = []; is = is ∙ sym (append-nil (lined d (plan_of (row ∷ rows)))); begins = refl; ends = (let e = ap length is in omega arith) }, tt)
-
   -- the line that stands at a place
   pub record LineAt (lines : List FoundLine) (at to : ℕ) (line : FoundLine) (plan : Plan) : Type 0 where
     pub step : Step
@@ -309,10 +307,10 @@ module _ (d : Document) where
             );
       }
 
-  pub named-says : (line : FoundLine) (m : ℕ) (named : Bool) → LeadsThrough d → m < length d.nodes → named ≡ has_found line.name (node_at d.nodes m)
+  pub named-says : (line : FoundLine) (m name : ℕ) (named : Bool) → LeadsThrough d → m < length d.nodes → (node_at d.nodes m).name ≡ Some name → named ≡ is_same_number line.name name
       → (s : Step) (cells : List Cell) (inside : Plan) → line ≡ line_of d s cells inside → has_element_name s.name (tree_node (tree_nodes d) m) ≡ named
-  named-says line m named through within is s cells inside line_is =
-      sym (is ∙ (ap (λ (l : FoundLine). has_found l.name (node_at d.nodes m)) line_is ∙ through.named s.name m within))
+  named-says line m name named through within name_is is s cells inside line_is =
+      sym (is ∙ (sym (number-says d line.name name m name_is) ∙ (ap (λ (l : FoundLine). has_found l.name (node_at d.nodes m)) line_is ∙ through.named s.name m within)))
 
   pub adding_end : (lines : List FoundLine) (from to m : ℕ) (old : List Span) (at : ℕ) (new : List Span) → Adding lines from to m old at new → to ≤ at → AddsNamed d lines from to m old new
   adding_end lines from to m old at new a past plan plans span of =
@@ -326,49 +324,122 @@ module _ (d : Document) where
 
   -- ---- several spans
 
-  pub record Naming (lines : List FoundLine) (m : ℕ) (around left new : List Span) : Type 0 where
-    pub all : (plans : List Plan) → SpansOf d lines around plans
-        → (rest : List Plan) × (dones : List Plan) × SpansOf d lines left rest × SpansOf d lines new dones × ((dones ++ insides d m rest) ≡ insides d m plans)
+  pub spans-long : (lines : List FoundLine) (spans : List Span) (plans : List Plan) → SpansOf d lines spans plans → length spans ≡ length plans
+  spans-long lines [] [] h = refl
+  spans-long lines [] (p ∷ plans) h = absurd h
+  spans-long lines (s ∷ spans) [] h = absurd h
+  spans-long lines (s ∷ spans) (p ∷ plans) h = let e = spans-long lines spans plans h.1 in omega (arith, e)
 
-  pub naming_begin : (lines : List FoundLine) (m : ℕ) (around new : List Span) → new ≡ [] → Naming lines m around around new
-  naming_begin lines m around new is = record { all = λ plans of. (plans, [], of, subst (λ ss. SpansOf d lines ss []) (sym is) tt, refl) }
+  pub span-at : (lines : List FoundLine) (spans : List Span) (plans : List Plan) (k : ℕ) (x : Span) → SpansOf d lines spans plans → k < length spans
+      → IsSpan d lines (get_or spans k x).from (get_or spans k x).to (get_or plans k nothing)
+  span-at lines [] plans k x h below = absurd (omega (arith, below))
+  span-at lines (s ∷ spans) [] k x h below = absurd h
+  span-at lines (s ∷ spans) (p ∷ plans) zero x h below = h.0
+  span-at lines (s ∷ spans) (p ∷ plans) (suc k) x h below = span-at lines spans plans k x h.1 (omega (arith, below))
 
-  pub naming_more : (lines : List FoundLine) (m : ℕ) (around : List Span) (span : Span) (left new after : List Span) → Naming lines m around (span ∷ left) new → AddsNamed d lines span.from span.to m new after → Naming lines m around left after
-  naming_more lines m around span left new after n adds = record { all = λ plans of. at (n.all plans of).0 (n.all plans of).1 (insides d m plans) (n.all plans of).2 (n.all plans of).3 (n.all plans of).4 }
-    where
-      at : (rest dones whole : List Plan) → SpansOf d lines (span ∷ left) rest → SpansOf d lines new dones → (dones ++ insides d m rest) ≡ whole
-          → (rest : List Plan) × (dones : List Plan) × SpansOf d lines left rest × SpansOf d lines after dones × ((dones ++ insides d m rest) ≡ whole)
-      at [] dones whole h k e = absurd h
-      at (plan ∷ rest) dones whole h k e = (rest, dones ++ inside_named d m plan, h.1, adds plan dones h.0 k, append_assoc dones (inside_named d m plan) (insides d m rest) ∙ e)
+  -- Of the spans of a part those from a place on are left.
+  pub record Naming (lines : List FoundLine) (around : Span) (m : ℕ) (old : List Span) (at : ℕ) (new : List Span) : Type 0 where
+    pub some : AreSpans d lines new
+    pub longer : length old ≤ length new
+    pub all : (plans : List Plan) → SpansOf d lines old plans
+        → (dones : List Plan) × SpansOf d lines new (plans ++ dones) × ((dones ++ insides d m (drop at (take around.to plans))) ≡ insides d m (part plans around))
 
-  pub naming_end : (lines : List FoundLine) (m : ℕ) (around new : List Span) → Naming lines m around [] new → (plans : List Plan) → SpansOf d lines around plans → SpansOf d lines new (insides d m plans)
-  naming_end lines m around new n plans of = at (n.all plans of).0 (n.all plans of).1 (n.all plans of).2 (n.all plans of).3 (n.all plans of).4
-    where
-      at : (rest dones : List Plan) → SpansOf d lines [] rest → SpansOf d lines new dones → (dones ++ insides d m rest) ≡ insides d m plans → SpansOf d lines new (insides d m plans)
-      at [] dones h k e = subst (SpansOf d lines new) (sym (append-nil dones) ∙ e) k
-      at (plan ∷ rest) dones h k e = absurd h
+  pub naming_begin : (lines : List FoundLine) (around : Span) (m : ℕ) (old : List Span) → AreSpans d lines old → Naming lines around m old around.from old
+  naming_begin lines around m old some = record {
+    some = some;
+    longer = omega arith;
+    all = λ plans of. ([], subst (SpansOf d lines old) (sym (append-nil plans)) of, refl);
+  }
 
-  rest-spans : (lines : List FoundLine) (span : Span) (left : List Span) (plans : List Plan) → SpansOf d lines (span ∷ left) plans → AreSpans d lines left
-  rest-spans lines span left [] h = absurd h
-  rest-spans lines span left (plan ∷ plans) h = record { plans = plans; are = h.1 }
+  module _ (lines : List FoundLine) (around : Span) (m : ℕ) (old : List Span) (at : ℕ) (new : List Span) (n : Naming lines around m old at new) where
+    pub naming_fits : at < around.to → around.to ≤ length old → at < length new
+    naming_fits below within = omega (arith, n.longer, below, within)
 
-  pub spans_step : (lines : List FoundLine) (around : List Span) (index : ℕ) (x : Span) → index < length around → AreSpans d lines (drop index around) → AreSpans d lines (drop (index + 1) around)
-  spans_step lines around index x within a = rest-spans lines (get_or around index x) (drop (index + 1) around) a.plans (subst (λ ss. SpansOf d lines ss a.plans) (drop_more around index x within) a.are)
+    pub naming_some : (span : Span) → at < around.to → around.to ≤ length old → span ≡ get_or new at no_part → IsSomeSpan d lines span.from span.to
+    naming_some span below within read = record {
+      plan = get_or n.some.plans at nothing;
+      span = subst (λ (s : Span). IsSpan d lines s.from s.to (get_or n.some.plans at nothing)) (sym read)
+          (span-at lines new n.some.plans at no_part n.some.are (naming_fits below within));
+    }
 
-  pub naming_step : (lines : List FoundLine) (m : ℕ) (around : List Span) (index : ℕ) (x : Span) (new after : List Span) → index < length around → Naming lines m around (drop index around) new
-      → AddsNamed d lines (get_or around index x).from (get_or around index x).to m new after → Naming lines m around (drop (index + 1) around) after
-  naming_step lines m around index x new after within n adds =
-      naming_more lines m around (get_or around index x) (drop (index + 1) around) new after (subst (λ ss. Naming lines m around ss new) (drop_more around index x within) n) adds
+    pub naming_more : (span : Span) (after : List Span) → at < around.to → around.to ≤ length old → span ≡ get_or new at no_part → AddsNamed d lines span.from span.to m new after
+        → Naming lines around m old (at + 1) after
+    naming_more span after below within read adds =
+        let fits : at < length new = naming_fits below within in
+        let first : Plan = get_or n.some.plans at nothing in
+        let placed : (plans : List Plan) → SpansOf d lines new plans → IsSpan d lines span.from span.to (get_or plans at nothing) =
+        λ plans of. subst (λ (s : Span). IsSpan d lines s.from s.to (get_or plans at nothing)) (sym read) (span-at lines new plans at no_part of fits) in
+        let others = adds first n.some.plans (placed n.some.plans n.some.are) n.some.are in
+        let before = spans-long lines new n.some.plans n.some.are in
+        let behind = spans-long lines after (n.some.plans ++ inside_named d m first) others in
+        let both = length-append n.some.plans (inside_named d m first) in
+        record {
+          some = record { plans = n.some.plans ++ inside_named d m first; are = others };
+          longer = omega (arith, n.longer, before, behind, both);
+          all = λ plans of.
+              let w = n.all plans of in
+              let long : length old ≡ length plans = spans-long lines old plans of in
+              let plan : Plan = get_or plans at nothing in
+              let here : get_or (plans ++ w.0) at nothing ≡ plan = get_or_append_left plans w.0 nothing at (omega (arith, below, within, long)) in
+              let spanned : IsSpan d lines span.from span.to plan = subst (IsSpan d lines span.from span.to) here (placed (plans ++ w.0) w.1) in
+              let taken : length (take around.to plans) ≡ around.to = length-take-le around.to plans (omega (arith, within, long)) in
+              let next : drop at (take around.to plans) ≡ plan ∷ drop (at + 1) (take around.to plans) =
+              drop_more (take around.to plans) at nothing (omega (arith, below, taken)) ∙ ap (λ p. p ∷ drop (at + 1) (take around.to plans)) (get_or-take around.to plans at nothing below) in (
+                w.0 ++ inside_named d m plan,
+                subst (SpansOf d lines after) (append_assoc plans w.0 (inside_named d m plan)) (adds plan (plans ++ w.0) spanned w.1),
+                append_assoc w.0 (inside_named d m plan) (insides d m (drop (at + 1) (take around.to plans))) ∙ (ap (λ ps. w.0 ++ insides d m ps) (sym next) ∙ w.2),
+              );
+        }
 
-  pub span-first : (lines : List FoundLine) (span : Span) (spans : List Span) (plans : List Plan) → SpansOf d lines (span ∷ spans) plans → IsSomeSpan d lines span.from span.to
-  span-first lines span spans [] h = absurd h
-  span-first lines span spans (plan ∷ plans) h = record { plan = plan; span = h.0 }
+    pub naming_end : around.to ≤ at → LeadsInside d lines around m old new
+    naming_end past plans of =
+        let w = n.all plans of in
+        let short = length-take around.to plans in
+        let none : drop at (take around.to plans) ≡ [] = drop_all at (take around.to plans) (omega (arith, past, short)) in
+        subst (λ xs. SpansOf d lines new (plans ++ xs)) (sym (append-nil w.0) ∙ (ap (λ ps. w.0 ++ insides d m ps) (sym none) ∙ w.2)) w.1
 
-  pub none-is : (lines : List FoundLine) (spans : List Span) (plans : List Plan) → SpansOf d lines spans plans → no_span spans ≡ not (some_plan plans)
-  none-is lines [] [] h = refl
-  none-is lines [] (p ∷ plans) h = absurd h
-  none-is lines (s ∷ spans) [] h = absurd h
-  none-is lines (s ∷ spans) (p ∷ plans) h = refl
+  -- ---- a node that has no name
+
+  nameless : LeadsThrough d → (m : ℕ) → m < length d.nodes → (node_at d.nodes m).name ≡ None → (plan : Plan) → inside_named d m plan ≡ []
+  nameless through m within none nothing = refl
+  nameless through m within none (a_line s cells inside rest) =
+      ap (λ b. (elim b as (λ _. List Plan) [ true ↦ inside ∷ [] | false ↦ [] ]) ++ inside_named d m rest) (sym (through.named s.name m within) ∙ none-found d (found_element d s.name) m none)
+      ∙ nameless through m within none rest
+
+  all-nameless : LeadsThrough d → (m : ℕ) → m < length d.nodes → (node_at d.nodes m).name ≡ None → (plans : List Plan) → insides d m plans ≡ []
+  all-nameless through m within none [] = refl
+  all-nameless through m within none (plan ∷ plans) = ap (λ xs. xs ++ insides d m plans) (nameless through m within none plan) ∙ all-nameless through m within none plans
+
+  pub leads_nowhere : LeadsThrough d → (lines : List FoundLine) (around : Span) (m : ℕ) (spans : List Span) → m < length d.nodes → None ≡ (node_at d.nodes m).name → LeadsInside d lines around m spans spans
+  leads_nowhere through lines around m spans within none plans of =
+      subst (SpansOf d lines spans) (sym (append-nil plans) ∙ ap (λ xs. plans ++ xs) (sym (all-nameless through m within (sym none) (part plans around)))) of
+
+-- ---- parts
+
+pub part-more : (plans more : List Plan) (p : Span) (own : List Plan) → IsPart plans p own → IsPart (plans ++ more) p own
+part-more plans more p own s = record {
+  ordered = s.ordered;
+  within = let e = length-append plans more in omega (arith, s.within, e);
+  is = ap (drop p.from) (take-append-le p.to plans more s.within) ∙ s.is;
+}
+
+pub part-new : (plans more : List Plan) (p : Span) → p.from ≡ length plans → p.to ≡ length (plans ++ more) → IsPart (plans ++ more) p more
+part-new plans more p from_is to_is = record {
+  ordered = let e = length-append plans more in omega (arith, from_is, to_is, e);
+  within = omega (arith, to_is);
+  is = ap (drop p.from) (take_all p.to (plans ++ more) (omega (arith, to_is))) ∙ (ap (λ k. drop k (plans ++ more)) from_is ∙ drop-append_seam plans more);
+}
+
+pub some-part : (plans : List Plan) (p : Span) (own : List Plan) → IsPart plans p own → some_of p ≡ some_plan own
+some-part plans p own s =
+    let taken = length-take-le p.to plans s.within in
+    let dropped = length-drop p.from (take p.to plans) in
+    let whole = ap length s.is in
+    at own (omega (arith, taken, dropped, whole, s.ordered))
+  where
+    at : (ps : List Plan) → p.from + length ps ≡ p.to → some_of p ≡ some_plan ps
+    at [] e = le-ltb p.from p.to (omega (arith, e))
+    at (plan ∷ ps) e = lt-ltb p.from p.to (omega (arith, e))
 
 -- ---- the nodes so far
 
@@ -382,48 +453,89 @@ pub kinds-are : (d : Document) (n : ℕ) → n < length d.nodes → is_element (
 kinds-are d n within = ap is_element (get_or-map (node_of d.names) d.nodes n document_node _ within) ∙ kind-is (node_at d.nodes n).kind
 
 module _ (d : Document) (lines : List FoundLine) where
-  pub reached_at : (roots : List Plan) (reached : List (List Span)) (m p : ℕ) (around : List Span) → Reaches d lines roots reached m → p < m → around ≡ get_or reached p around → SpansOf d lines around (state d roots p)
-  reached_at roots reached m p around r below read =
-      let h = r.each p below in
-      let within : p < length reached = omega (arith, r.long, below) in
-      subst (λ ss. SpansOf d lines ss (state d roots p)) (get_or_default reached p [] around within ∙ sym read) h
+  not-not : (b : Bool) → not (not b) ≡ b
+  not-not true = refl
+  not-not false = refl
 
-  pub read_around : (a r : List Span) (reached : List (List Span)) (k p : ℕ) → a ≡ r → r ≡ get_or reached k r → k ≡ p → a ≡ get_or reached p a
-  read_around a r reached k p is read at = is ∙ (read ∙ (ap (λ j. get_or reached j r) at ∙ ap (get_or reached p) (sym is)))
+  pub around-part : (roots : List Plan) (spans parts : List Span) (m k p : ℕ) (around : Span) (r : Reaches d lines roots spans parts m) → p < m → k ≡ p → around ≡ get_or parts k no_part
+      → IsPart r.plans around (state d roots p)
+  around-part roots spans parts m k p around r below place read =
+      let is : around ≡ get_or parts p no_part = read ∙ ap (λ j. get_or parts j no_part) place in
+      subst (λ a. IsPart r.plans a (state d roots p)) (sym is) (r.each p below)
 
-  pub visits : LeadsThrough d → (roots : List Plan) (reached : List (List Span)) (m p : ℕ) (around : List Span) (visit : Visit) → m < length d.nodes → Reaches d lines roots reached m
-      → parent (tree_nodes d) m ≡ Some p → p < m → around ≡ get_or reached p around
-      → ((plans : List Plan) → SpansOf d lines around plans → SpansOf d lines visit.inside (insides d m plans))
-      → visit.passed ≡ (is_element_kind (node_at d.nodes m).kind && is_left around visit.inside)
-      → Visits d lines roots m visit
-  visits through roots reached m p around visit within r parent_is below read named passed =
+  pub around_fits : (spans parts : List Span) (m k p : ℕ) (around : Span) → AreReached d lines spans parts m → p < m → k ≡ p → around ≡ get_or parts k no_part → around.to ≤ length spans
+  around_fits spans parts m k p around a below place read =
+      let own = around-part a.roots spans parts m k p around a.reaches below place read in
+      let long = spans-long d lines spans a.reaches.plans a.reaches.are in
+      omega (arith, own.within, long)
+
+  pub are_spans : (spans parts : List Span) (m : ℕ) → AreReached d lines spans parts m → AreSpans d lines spans
+  are_spans spans parts m a = record { plans = a.reaches.plans; are = a.reaches.are }
+
+  pub reached_more : LeadsThrough d → (roots : List Plan) (spans parts : List Span) (m p k : ℕ) (around inside : Span) (more_spans more_parts : List Span) (passed : Bool)
+      → m < length d.nodes → Reaches d lines roots spans parts m → parent (tree_nodes d) m ≡ Some p → p < m → k ≡ p → around ≡ get_or parts k no_part
+      → inside.from ≡ length spans → inside.to ≡ length more_spans → LeadsInside d lines around m spans more_spans → more_parts ≡ parts ++ inside ∷ []
+      → passed ≡ (is_element_kind (node_at d.nodes m).kind && is_left around inside) → IsReached d lines roots more_spans more_parts m passed
+  reached_more through roots spans parts m p k around inside more_spans more_parts passed within r parent_is below place read from_is to_is leads more_is passed_is =
       let above = through.inside_one m p within parent_is in
-      let spans = reached_at roots reached m p around r below read in
+      let own = around-part roots spans parts m k p around r below place read in
       let next : state d roots m ≡ insides d m (state d roots p) = state-more d roots m p above in
-      let inside : SpansOf d lines visit.inside (state d roots m) = subst (SpansOf d lines visit.inside) (sym next) (named (state d roots p) spans) in
+      let more : List Plan = insides d m (part r.plans around) in
+      let are : SpansOf d lines more_spans (r.plans ++ more) = leads r.plans r.are in
+      let is : more ≡ state d roots m = ap (insides d m) own.is ∙ sym next in
+      let here : IsPart (r.plans ++ more) inside (state d roots m) =
+      subst (IsPart (r.plans ++ more) inside) is
+      (part-new r.plans more inside (from_is ∙ spans-long d lines spans r.plans r.are) (to_is ∙ spans-long d lines more_spans (r.plans ++ more) are)) in
       let node = tree_node (tree_nodes d) m in
-      let on_around : not (no_span around) ≡ some_plan (led d roots (way_to node.above)) =
-      ap not (none-is d lines around (state d roots p) spans) ∙ (not-not (some_plan (state d roots p)) ∙ ap (λ a. some_plan (led d roots (way_to a))) (sym above)) in
-      let on_here : no_span visit.inside ≡ not (some_plan (led d roots (way_to (node.number ∷ node.above)))) =
-      none-is d lines visit.inside (state d roots m) inside ∙ ap (λ n. not (some_plan (led d roots (way_to (n ∷ node.above))))) (sym (through.numbers m within)) in
+      let on_around : some_of around ≡ some_plan (led d roots (way_to node.above)) =
+      some-part r.plans around (state d roots p) own ∙ ap (λ a. some_plan (led d roots (way_to a))) (sym above) in
+      let on_here : some_of inside ≡ some_plan (led d roots (way_to (node.number ∷ node.above))) =
+      some-part (r.plans ++ more) inside (state d roots m) here ∙ ap (λ n. some_plan (led d roots (way_to (n ∷ node.above)))) (sym (through.numbers m within)) in
       record {
-        inside = inside;
-        passed = passed
-            ∙ (ap (λ b. b && is_left around visit.inside) (sym (through.kinds_are m within))
-            ∙ (ap (λ b. is_element node && (b && no_span visit.inside)) on_around
-            ∙ (ap (λ b. is_element node && (some_plan (led d roots (way_to node.above)) && b)) on_here
+        reaches = record {
+          plans = r.plans ++ more;
+          are = are;
+          long = ap length more_is ∙ (length_push parts inside ∙ ap (λ n. n + 1) r.long);
+          each = λ j h. ⊎_elim
+              (λ (before : j < m). subst (λ q. IsPart (r.plans ++ more) q (state d roots j))
+              (sym (ap (λ ps. get_or ps j no_part) more_is ∙ get_or_append_left parts (inside ∷ []) no_part j (omega (arith, before, r.long))))
+              (part-more r.plans more (get_or parts j no_part) (state d roots j) (r.each j before)))
+              (λ (behind : m ≤ j). let e : m ≡ j = omega (arith, behind, h) in
+              subst (λ i. IsPart (r.plans ++ more) (get_or more_parts i no_part) (state d roots i)) e
+              (subst (λ q. IsPart (r.plans ++ more) q (state d roots m)) (sym (ap (λ ps. get_or ps m no_part) more_is ∙ get_or_at parts inside [] no_part m r.long)) here))
+              (cases_lt j m);
+        };
+        is = passed_is
+            ∙ (ap (λ b. b && is_left around inside) (sym (through.kinds_are m within))
+            ∙ (ap (λ b. is_element node && (b && not (some_of inside))) on_around
+            ∙ (ap (λ b. is_element node && (some_plan (led d roots (way_to node.above)) && not b)) on_here
             ∙ and-elim (is_element node) (some_plan (led d roots (way_to node.above)) && not (some_plan (led d roots (way_to (node.number ∷ node.above))))))));
       }
-    where
-      not-not : (b : Bool) → not (not b) ≡ b
-      not-not true = refl
-      not-not false = refl
 
-  pub record Counting (rows : List Row) (reached : List (List Span)) (n passed : ℕ) : Type 0 where
+  one-reached : (roots : List Plan) (spans parts : List Span) (p : Span) → SpansOf d lines spans roots → IsPart roots p (state d roots 0) → parts ≡ p ∷ [] → Reaches d lines roots spans parts 1
+  one-reached roots spans parts p are own is = record {
+    plans = roots;
+    are = are;
+    long = ap length is;
+    each = λ k h. (let z : 0 ≡ k = omega (arith, h) in subst (λ j. IsPart roots (get_or parts j no_part) (state d roots j)) z (subst (λ ps. IsPart roots (get_or ps 0 no_part) (state d roots 0)) (sym is) own));
+  }
+
+  pub reaches-begin : LeadsThrough d → (rows : List Row) (spans parts : List Span) → lines ≡ lined d (plan_of rows) → Begins rows lines spans parts → Reaches d lines (roots_of rows) spans parts 1
+  reaches-begin through [] spans parts is begins =
+      one-reached [] spans parts no_part (subst (λ ss. SpansOf d lines ss []) (sym begins.0) tt)
+      (record { ordered = omega arith; within = omega arith; is = sym (state-begin d [] through.outermost) }) begins.1
+  reaches-begin through (row ∷ rows) spans parts is begins =
+      let roots : List Plan = plan_of (row ∷ rows) ∷ [] in
+      let whole : IsSpan d lines 0 (length lines) (plan_of (row ∷ rows)) =
+      record { front = []; back = []; is = is ∙ sym (append-nil (lined d (plan_of (row ∷ rows)))); begins = refl; ends = (let e = ap length is in omega arith) } in
+      one-reached roots spans parts (record { from = 0; to = 1 }) (subst (λ ss. SpansOf d lines ss roots) (sym begins.0) (whole, tt))
+      (record { ordered = omega arith; within = omega arith; is = sym (state-begin d roots through.outermost) }) begins.1
+
+  pub record Noting (rows : List Row) (spans parts : List Span) (n : ℕ) (passed : List ℕ) : Type 0 where
     pub within : n < length d.nodes
-    pub reaches : Reaches d lines (roots_of rows) reached (n + 1)
-    pub counted : passed ≡ length (filter (is_passed d (roots_of rows)) (take (n + 1) (tree_nodes d)))
-    pub small : passed ≤ n
+    pub reaches : Reaches d lines (roots_of rows) spans parts (n + 1)
+    pub noted : passed ≡ map number (filter (is_passed d (roots_of rows)) (take (n + 1) (tree_nodes d)))
+    pub inside : All (λ m. m < length d.nodes) passed
 
   abbrev dark : Node
   dark = record { number = 0; kind = kinds.Document; name = None; above = []; text = [] }
@@ -432,59 +544,58 @@ module _ (d : Document) (lines : List FoundLine) where
   long = length-map d.nodes (node_of d.names)
 
   one-more : (rows : List Row) (n : ℕ) → n < length d.nodes
-      → length (filter (is_passed d (roots_of rows)) (take (n + 1) (tree_nodes d)))
-      ≡ length (filter (is_passed d (roots_of rows)) (take n (tree_nodes d))) + one_if (is_passed d (roots_of rows) (tree_node (tree_nodes d) n))
+      → map number (filter (is_passed d (roots_of rows)) (take (n + 1) (tree_nodes d)))
+      ≡ map number (filter (is_passed d (roots_of rows)) (take n (tree_nodes d)))
+      ++ one_if (is_passed d (roots_of rows) (tree_node (tree_nodes d) n)) (tree_node (tree_nodes d) n).number
   one-more rows n within =
       let test = is_passed d (roots_of rows) in
       let node = tree_node (tree_nodes d) n in
-      ap (λ xs. length (filter test xs)) (take_more (tree_nodes d) n dark (omega (arith, within, long)))
-      ∙ (ap length (filter-append test (take n (tree_nodes d)) (node ∷ []))
-      ∙ (length-append (filter test (take n (tree_nodes d))) (filter test (node ∷ [])) ∙ ap (λ k. length (filter test (take n (tree_nodes d))) + k) (at (test node))))
+      ap (λ xs. map number (filter test xs)) (take_more (tree_nodes d) n dark (omega (arith, within, long)))
+      ∙ (ap (map number) (filter-append test (take n (tree_nodes d)) (node ∷ []))
+      ∙ (map-append number (filter test (take n (tree_nodes d))) (filter test (node ∷ [])) ∙ ap (λ xs. map number (filter test (take n (tree_nodes d))) ++ xs) (at (test node))))
     where
-      at : (b : Bool) → length (cond b (tree_node (tree_nodes d) n ∷ []) []) ≡ one_if b
+      at : (b : Bool) → map number (cond b (tree_node (tree_nodes d) n ∷ []) []) ≡ one_if b (tree_node (tree_nodes d) n).number
       at true = refl
       at false = refl
 
-  pub counting_begin : LeadsThrough d → (rows : List Row) (spans : List Span) (reached : List (List Span)) (n : ℕ) → 1 < length d.nodes → lines ≡ lined d (plan_of rows) → Begins rows lines spans → reached ≡ spans ∷ [] → n ≡ 0 → Counting rows reached n 0
-  counting_begin through rows spans reached n some is begins reached_is zero_is =
-      let own : SpansOf d lines spans (state d (roots_of rows) 0) = subst (SpansOf d lines spans) (sym (state-begin d (roots_of rows) through.outermost)) (begins-spans d rows lines spans is begins) in
+  one-inside : (b : Bool) (m : ℕ) → m < length d.nodes → All (λ k. k < length d.nodes) (one_if b m)
+  one-inside true m within = All-cons (λ k. k < length d.nodes) m [] within (All-nil (λ k. k < length d.nodes))
+  one-inside false m within = All-nil (λ k. k < length d.nodes)
+
+  pub noting_begin : LeadsThrough d → (rows : List Row) (spans parts : List Span) (n : ℕ) (passed : List ℕ) → lines ≡ lined d (plan_of rows) → Begins rows lines spans parts
+      → n ≡ 0 → passed ≡ [] → Noting rows spans parts n passed
+  noting_begin through rows spans parts n passed is begins zero_is none =
+      let some : 0 < length d.nodes = let r = through.rooted in omega (arith, r) in
       let first : is_passed d (roots_of rows) (tree_node (tree_nodes d) 0) ≡ false =
       ap (λ b. elim b as (λ _. Bool) [ true ↦ some_plan (led d (roots_of rows) (way_to (tree_node (tree_nodes d) 0).above)) && not (some_plan (led d (roots_of rows) (way_to ((tree_node (tree_nodes d) 0).number ∷ (tree_node (tree_nodes d) 0).above)))) | false ↦ false ]) through.no_element in
-      let at_zero : Counting rows (spans ∷ []) 0 0 = record {
-        within = omega (arith, some);
-        reaches = record { long = refl; each = λ k h. (let z : 0 ≡ k = omega (arith, h) in subst (λ j. SpansOf d lines (get_or (spans ∷ []) j []) (state d (roots_of rows) j)) z own) };
-        counted = (let e : one_if (is_passed d (roots_of rows) (tree_node (tree_nodes d) 0)) ≡ 0 = ap one_if first in let o = one-more rows 0 (omega (arith, some)) in omega (arith, e, o));
-        small = omega arith;
+      let at_zero : Noting rows spans parts 0 [] = record {
+        within = some;
+        reaches = reaches-begin through rows spans parts is begins;
+        noted = sym (one-more rows 0 some ∙ ap (λ b. one_if b (tree_node (tree_nodes d) 0).number) first);
+        inside = All-nil (λ m. m < length d.nodes);
       } in
-      subst (λ rs. Counting rows rs n 0) (sym reached_is) (subst (λ k. Counting rows (spans ∷ []) k 0) (sym zero_is) at_zero)
+      subst (λ ps. Noting rows spans parts n ps) (sym none) (subst (λ k. Noting rows spans parts k []) (sym zero_is) at_zero)
 
-  pub counting_more : (rows : List Row) (reached : List (List Span)) (n passed m : ℕ) (visit : Visit) (after : List (List Span)) (more : ℕ) → Counting rows reached n passed → n + 1 < length d.nodes → m ≡ n + 1
-      → Visits d lines (roots_of rows) m visit → after ≡ reached ++ visit.inside ∷ [] → more ≡ passed + one_if visit.passed → Counting rows after m more
-  counting_more rows reached n passed m visit after more c within m_is v after_is more_is =
+  pub noting_more : LeadsThrough d → (rows : List Row) (spans parts : List Span) (n : ℕ) (passed : List ℕ) (m : ℕ) (more_spans more_parts : List Span) (is_passed_now : Bool) (more : List ℕ)
+      → Noting rows spans parts n passed → n + 1 < length d.nodes → m ≡ n + 1
+      → IsReached d lines (roots_of rows) more_spans more_parts m is_passed_now → more ≡ passed ++ one_if is_passed_now m → Noting rows more_spans more_parts m more
+  noting_more through rows spans parts n passed m more_spans more_parts is_passed_now more c within m_is v more_is =
       let here : m < length d.nodes = omega (arith, within, m_is) in
-      let reaches : Reaches d lines (roots_of rows) (reached ++ visit.inside ∷ []) (m + 1) = record {
-        long = length_push reached visit.inside ∙ ap (λ k. k + 1) (c.reaches.long ∙ sym m_is);
-        each = λ k h. ⊎_elim
-            (λ (below : k < m). subst (λ ss. SpansOf d lines ss (state d (roots_of rows) k)) (sym (get_or_append_left reached (visit.inside ∷ []) [] k (omega (arith, below, m_is, c.reaches.long)))) (c.reaches.each k (omega (arith, below, m_is))))
-            (λ (above : m ≤ k). let e : m ≡ k = omega (arith, above, h) in
-            subst (λ j. SpansOf d lines (get_or (reached ++ visit.inside ∷ []) j []) (state d (roots_of rows) j)) e
-            (subst (λ ss. SpansOf d lines ss (state d (roots_of rows) m)) (sym (get_or_at reached visit.inside [] [] m (c.reaches.long ∙ sym m_is))) v.inside))
-            (cases_lt k m);
-      } in
       record {
         within = here;
-        reaches = subst (λ rs. Reaches d lines (roots_of rows) rs (m + 1)) (sym after_is) reaches;
-        counted =
-            more_is ∙ (ap (λ b. passed + one_if b) v.passed
-            ∙ (ap (λ k. k + one_if (is_passed d (roots_of rows) (tree_node (tree_nodes d) m))) (c.counted ∙ ap (λ k. length (filter (is_passed d (roots_of rows)) (take k (tree_nodes d)))) (sym m_is)) ∙ sym (one-more rows m here)));
-        small = omega (arith, more_is, c.small, m_is, one_small visit.passed);
+        reaches = v.reaches;
+        noted =
+            more_is ∙ (ap (λ b. passed ++ one_if b m) v.is
+            ∙ (ap (λ k. passed ++ one_if (is_passed d (roots_of rows) (tree_node (tree_nodes d) m)) k) (sym (through.numbers m here))
+            ∙ (ap (λ ps. ps ++ one_if (is_passed d (roots_of rows) (tree_node (tree_nodes d) m)) (tree_node (tree_nodes d) m).number)
+            (c.noted ∙ ap (λ k. map number (filter (is_passed d (roots_of rows)) (take k (tree_nodes d)))) (sym m_is)) ∙ sym (one-more rows m here))));
+        inside = subst (All (λ k. k < length d.nodes)) (sym more_is)
+            (All-append (λ k. k < length d.nodes) passed (one_if is_passed_now m) c.inside (one-inside is_passed_now m here));
       }
-    where
-      one_small : (b : Bool) → one_if b ≤ 1
-      one_small true = omega arith
-      one_small false = omega arith
 
-  pub counting_end : LeadsThrough d → (rows : List Row) (reached : List (List Span)) (n passed : ℕ) → Counting rows reached n passed → (n + 1 < length d.nodes → ⊥) → passed ≡ passed_over (tree_nodes d) rows
-  counting_end through rows reached n passed c end =
-      c.counted ∙ (ap (λ xs. length (filter (is_passed d (roots_of rows)) xs)) (take_all (n + 1) (tree_nodes d) (omega (arith, end, long)))
-      ∙ ap length (filter_agree (is_passed d (roots_of rows)) (is_passed_over (tree_nodes d) rows) (through.passed_over rows) (tree_nodes d)))
+  pub noting_end : LeadsThrough d → (rows : List Row) (spans parts : List Span) (n : ℕ) (passed : List ℕ) → Noting rows spans parts n passed → (n + 1 < length d.nodes → ⊥)
+      → passed ≡ passed_nodes (tree_nodes d) rows
+  unfolding passed_nodes
+  noting_end through rows spans parts n passed c end =
+      c.noted ∙ (ap (λ xs. map number (filter (is_passed d (roots_of rows)) xs)) (take_all (n + 1) (tree_nodes d) (omega (arith, end, long)))
+      ∙ ap (map number) (filter_agree (is_passed d (roots_of rows)) (is_passed_over (tree_nodes d) rows) (through.passed_over rows) (tree_nodes d)))

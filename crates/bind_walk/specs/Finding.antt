@@ -1,6 +1,6 @@
 -- How what is found by lines is what rows pick. No public clause cites it.
-use Rattle.std.specs.Prelude.{◌≡◌, All, List, [], map}
-use Rattle.std.specs.List.{flat_map}
+use Rattle.std.specs.Prelude.{◌≡◌, ℕ, All, List, [], map}
+use Rattle.std.specs.List.{flat_map, sum_by}
 use Rattle.std.specs.List.Sorted.{IsPermutation}
 use Rattle.node_arena.specs.Document.{Document}
 use Rattle.node_arena.specs.Moves.{tree_nodes}
@@ -19,9 +19,9 @@ use Rattle.bind_walk.specs.Picks.{is_indicator}
 use Rattle.bind_walk.specs.Sorting.{Sorts}
 use Rattle.bind_walk.specs.Walks.{sight, picked_for}
 
--- What was found is what the rows pick, in another order.
+-- What was found is what the rows pick, in another order: every sum over both is the same.
 pub record Finds (d : Document) (rows : List Row) (finds : List Find) : Type 0 where
-  pub moved : IsPermutation (picked_from (sight d) 0 rows [] 0) finds
+  pub moved : (f : Find → ℕ) → sum_by f (picked_from (sight d) 0 rows [] 0) ≡ sum_by f finds
 
 pub record RowsAreWalked : Type 0 where
   pub moved : (d : Document) (rows : List Row) → All HasSteps rows → IsPermutation (picked_from (sight d) 0 rows [] 0) (walked (sight d) (plan_of rows) [] 0)

@@ -33,6 +33,11 @@ abbrev pub is_number : ℕ → Option ℕ → Bool
 is_number name None = false
 is_number name (Some k) = k == name
 
+-- The number that was found, if any, is this one.
+abbrev pub is_same_number : Option ℕ → ℕ → Bool
+is_same_number None name = false
+is_same_number (Some own) name = name == own
+
 -- ---- guards
 
 abbrev pub found_guard : Document → Guard → FoundGuard

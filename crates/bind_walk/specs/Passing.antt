@@ -1,5 +1,5 @@
 -- Where names lead along the lines of a table, guards aside. No public clause cites it.
-use Rattle.std.specs.Prelude.{◌≡◌, ℕ, ◌+◌, ◌^◌, ◌<◌, Bool, true, false, not, ◌&&◌, List, [], ◌∷◌, ◌++◌, length, get_or, Some}
+use Rattle.std.specs.Prelude.{◌≡◌, ℕ, ◌+◌, ◌^◌, ◌<◌, ◌≤◌, nat_lt, Bool, true, false, not, ◌&&◌, List, [], ◌∷◌, ◌++◌, length, get_or, take, drop, Some}
 use Rattle.std.specs.List.{flat_map}
 use Rattle.inv_base.specs.declared.tree.Kind.{Kind}
 use Rattle.inv_base.specs.declared.tree.Kind.TheVariants as kinds
@@ -15,7 +15,6 @@ use Rattle.bind_meaning.specs.Elements.{is_element}
 use Rattle.bind_meaning.specs.Terms.{is_passed_over, way_to}
 use Rattle.bind_walk.specs.declared.lines.FoundLine.{FoundLine}
 use Rattle.bind_walk.specs.declared.passed.Span.{Span}
-use Rattle.bind_walk.specs.declared.passed.Visit.{Visit}
 use Rattle.bind_walk.specs.Lines.{lined}
 
 abbrev pub is_element_kind : Kind → Bool
@@ -87,44 +86,53 @@ pub record AreSpans (d : Document) (lines : List FoundLine) (spans : List Span) 
 abbrev pub AddsNamed : Document → List FoundLine → ℕ → ℕ → ℕ → List Span → List Span → Type 0
 AddsNamed d lines from to m old new = (plan : Plan) (plans : List Plan) → IsSpan d lines from to plan → SpansOf d lines old plans → SpansOf d lines new (plans ++ inside_named d m plan)
 
+-- the things of a list from one place on, before another
+abbrev pub part : {X : Type 0} → List X → Span → List X
+part xs p = drop p.from (take p.to xs)
+
+-- Where a node's name leads from a part of some spans is put behind them.
+abbrev pub LeadsInside : Document → List FoundLine → Span → ℕ → List Span → List Span → Type 0
+LeadsInside d lines around m old new = (plans : List Plan) → SpansOf d lines old plans → SpansOf d lines new (plans ++ insides d m (part plans around))
+
 -- ---- the nodes so far
 
--- Of each node before this one it is known where its names lead.
-pub record Reaches (d : Document) (lines : List FoundLine) (roots : List Plan) (reached : List (List Span)) (m : ℕ) : Type 0 where
-  pub long : length reached ≡ m
-  pub each : (k : ℕ) → k < m → SpansOf d lines (get_or reached k []) (state d roots k)
+pub record IsPart (plans : List Plan) (p : Span) (own : List Plan) : Type 0 where
+  pub ordered : p.from ≤ p.to
+  pub within : p.to ≤ length plans
+  pub is : part plans p ≡ own
 
-pub record AreReached (d : Document) (lines : List FoundLine) (reached : List (List Span)) (m : ℕ) : Type 0 where
+abbrev pub no_part : Span
+no_part = record { from = 0; to = 0 }
+
+-- Of each node before this one it is known where its names lead: to a part of the spans.
+pub record Reaches (d : Document) (lines : List FoundLine) (roots : List Plan) (spans parts : List Span) (m : ℕ) : Type 0 where
+  pub plans : List Plan
+  pub are : SpansOf d lines spans plans
+  pub long : length parts ≡ m
+  pub each : (k : ℕ) → k < m → IsPart plans (get_or parts k no_part) (state d roots k)
+
+pub record AreReached (d : Document) (lines : List FoundLine) (spans parts : List Span) (m : ℕ) : Type 0 where
   pub roots : List Plan
-  pub reaches : Reaches d lines roots reached m
+  pub reaches : Reaches d lines roots spans parts m
 
-pub record Visits (d : Document) (lines : List FoundLine) (roots : List Plan) (m : ℕ) (visit : Visit) : Type 0 where
-  pub inside : SpansOf d lines visit.inside (state d roots m)
-  pub passed : visit.passed ≡ is_passed d roots (tree_node (tree_nodes d) m)
+-- It is known of this node too where its names lead, and whether it is passed over.
+pub record IsReached (d : Document) (lines : List FoundLine) (roots : List Plan) (spans parts : List Span) (m : ℕ) (passed : Bool) : Type 0 where
+  pub reaches : Reaches d lines roots spans parts (m + 1)
+  pub is : passed ≡ is_passed d roots (tree_node (tree_nodes d) m)
 
--- It is known of one node more where its names lead, and whether it is passed over.
-pub record IsVisited (d : Document) (lines : List FoundLine) (roots : List Plan) (m : ℕ) (passed : Bool) (before after : List (List Span)) : Type 0 where
-  pub inside : List Span
-  pub visits : Visits d lines roots m (record { inside = inside; passed = passed })
-  pub more : after ≡ before ++ inside ∷ []
+abbrev pub some_of : Span → Bool
+some_of p = nat_lt p.from p.to
 
-abbrev pub no_span : List Span → Bool
-no_span [] = true
-no_span (span ∷ spans) = false
+abbrev pub is_left : Span → Span → Bool
+is_left around inside = some_of around && not (some_of inside)
 
-abbrev pub is_left : List Span → List Span → Bool
-is_left around inside = not (no_span around) && no_span inside
+abbrev pub Begins : List Row → List FoundLine → List Span → List Span → Type 0
+Begins [] lines spans parts = (spans ≡ []) × (parts ≡ no_part ∷ [])
+Begins (row ∷ rows) lines spans parts = (spans ≡ record { from = 0; to = length lines } ∷ []) × (parts ≡ record { from = 0; to = 1 } ∷ [])
 
-abbrev pub all_lines : List FoundLine → List Span
-all_lines lines = record { from = 0; to = length lines } ∷ []
-
-abbrev pub Begins : List Row → List FoundLine → List Span → Type 0
-Begins [] lines spans = spans ≡ []
-Begins (row ∷ rows) lines spans = spans ≡ all_lines lines
-
-abbrev pub one_if : Bool → ℕ
-one_if true = 1
-one_if false = 0
+abbrev pub one_if : Bool → ℕ → List ℕ
+one_if true n = n ∷ []
+one_if false n = []
 
 -- ---- what holds of a document
 

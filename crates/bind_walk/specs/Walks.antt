@@ -8,7 +8,7 @@ use Rattle.node_arena.specs.Moves.{tree_nodes, has_found}
 use Rattle.bind_rows.specs.declared.rows.Row.{Row}
 use Rattle.bind_rows.specs.declared.rows.Step.{Step}
 use Rattle.bind_rows.specs.Same.{same_or_none}
-use Rattle.bind_table.specs.Lines.{Cell, Plan}
+use Rattle.bind_table.specs.Lines.{Cell, Plan, nothing, a_line}
 use Rattle.bind_table.specs.Picks.{Sight, walked, through, here}
 use Rattle.bind_walk.specs.Chains.{attributes, children}
 use Rattle.bind_walk.specs.Found.{is_met, string_at}
@@ -91,39 +91,12 @@ sight d = record {
   told = told d;
 }
 
--- ---- the walk
+-- ---- lines
 
 -- The lines are those of a tree.
 pub record AreLined (d : Document) (lines : List FoundLine) : Type 0 where
   pub plan : Plan
   pub is : lines ≡ lined d plan
-
-abbrev pub Walks : Document → List FoundLine → ℕ → List Carried → List Find → List Find → Type 0
-Walks d lines n around old new = (plan : Plan) → lines ≡ lined d plan → new ≡ old ++ walked (sight d) plan around n
-
-abbrev pub found_in : Document → FoundLine → Plan → List Carried → ℕ → List Find
-found_in d line inside around n = found_here d around n line.rows ++ walked (sight d) inside around n
-
-abbrev pub PicksIn : Document → FoundLine → List FoundLine → ℕ → List Carried → List Find → List Find → Type 0
-PicksIn d line lines n around old new = (inside : Plan) → lines ≡ lined d inside → new ≡ old ++ found_in d line inside around n
-
-abbrev pub around_in : Option Group → ℕ → List Carried → List Carried
-around_in None n around = around
-around_in (Some group) n around = around ++ record { group = group; element = n } ∷ []
-
-abbrev pub is_of : Document → FoundLine → ℕ → Bool
-is_of d line n = has_found line.name (node_at d.nodes n) && list_all (is_met d n) line.guards
-
-abbrev pub entered_in : Document → FoundLine → Plan → List Carried → ℕ → List Find
-entered_in d line inside around n = elim (is_of d line n) [ true ↦ found_in d line inside (around_in line.group n around) n | false ↦ [] ]
-
-abbrev pub Enters : Document → FoundLine → List FoundLine → ℕ → List Carried → List Find → List Find → Type 0
-Enters d line lines n around old new = (inside : Plan) → lines ≡ lined d inside → new ≡ old ++ entered_in d line inside around n
-
-abbrev pub Follows : Document → FoundLine → List FoundLine → ℕ → List Carried → List Find → List Find → Type 0
-Follows d line lines n around old new = (inside : Plan) → lines ≡ lined d inside → new ≡ old ++ flat_map (entered_in d line inside around) (children d n)
-
--- ---- lines beside steps
 
 -- the line of a step with these cells, and so many lines inside it
 abbrev pub line_of : Document → Step → List Cell → Plan → FoundLine
@@ -134,6 +107,53 @@ line_of d s cells inside = record {
   rows = flat_map (found_cell d) cells;
   size = length (lined d inside);
 }
+
+abbrev pub around_in : Option Group → ℕ → List Carried → List Carried
+around_in None n around = around
+around_in (Some group) n around = around ++ record { group = group; element = n } ∷ []
+
+abbrev pub is_of : Document → FoundLine → ℕ → Bool
+is_of d line n = has_found line.name (node_at d.nodes n) && list_all (is_met d n) line.guards
+
+-- ---- the walk: over the children of an element, and in each over the lines
+
+-- what is found at an element of a line, with what is found deeper
+abbrev pub found_by : Document → FoundLine → (List Carried → ℕ → List Find) → List Carried → ℕ → List Find
+found_by d line deeper around n = found_here d around n line.rows ++ deeper around n
+
+abbrev pub entered_by : Document → FoundLine → (List Carried → ℕ → List Find) → List Carried → ℕ → List Find
+entered_by d line deeper around n = elim (is_of d line n) [ true ↦ found_by d line deeper (around_in line.group n around) n | false ↦ [] ]
+
+-- what is found in a child by lines that stand beside one another
+abbrev pub met_by : Document → Plan → List Carried → ℕ → List Find
+met_by d nothing around n = []
+met_by d (a_line s cells inside rest) around n =
+    entered_by d (line_of d s cells inside) (λ c m. flat_map (met_by d inside c) (children d m)) around n ++ met_by d rest around n
+
+-- what is found in all children
+abbrev pub strolled : Document → Plan → List Carried → ℕ → List Find
+strolled d plan around n = flat_map (met_by d plan around) (children d n)
+
+abbrev pub Walks : Document → List FoundLine → ℕ → List Carried → List Find → List Find → Type 0
+Walks d lines n around old new = (plan : Plan) → lines ≡ lined d plan → new ≡ old ++ strolled d plan around n
+
+abbrev pub Meets : Document → List FoundLine → ℕ → List Carried → List Find → List Find → Type 0
+Meets d lines n around old new = (plan : Plan) → lines ≡ lined d plan → new ≡ old ++ met_by d plan around n
+
+abbrev pub Enters : Document → FoundLine → List FoundLine → ℕ → List Carried → List Find → List Find → Type 0
+Enters d line lines n around old new = (inside : Plan) → lines ≡ lined d inside → new ≡ old ++ entered_by d line (strolled d inside) around n
+
+abbrev pub PicksIn : Document → FoundLine → List FoundLine → ℕ → List Carried → List Find → List Find → Type 0
+PicksIn d line lines n around old new = (inside : Plan) → lines ≡ lined d inside → new ≡ old ++ found_by d line (strolled d inside) around n
+
+-- ---- lines beside steps
+
+-- what a line leads to by the walk of its table
+abbrev pub found_in : Document → FoundLine → Plan → List Carried → ℕ → List Find
+found_in d line inside around n = found_by d line (walked (sight d) inside) around n
+
+abbrev pub entered_in : Document → FoundLine → Plan → List Carried → ℕ → List Find
+entered_in d line inside around n = entered_by d line (walked (sight d) inside) around n
 
 -- What is found in the children of an element by a line is what its step leads to.
 abbrev pub LeadsAlike : Document → Type 0

@@ -72,3 +72,13 @@ fn is_name(found: Option<u32>, name: u32) -> bool
         Some(other) => other == name,
     }
 }
+
+/// Whether the name that was found, if any, has the number.
+pub(crate) fn is_number(found: Option<u32>, name: u32) -> bool
+    ensures { result ≡ spec.is_same_number found name }
+{
+    match found {
+        Some(own) => name == own,
+        None => false,
+    }
+}

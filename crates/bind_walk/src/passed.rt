@@ -1,78 +1,97 @@
 //! The elements that a table passes over: by names alone, guards aside.
 
-ghost use Rattle.std.specs.Prelude.{◌≡◌, ◌+◌, ◌^◌, ◌<◌, ◌&&◌, List, length, OnOk, IfOk};
-ghost use Rattle.node_arena.specs.Moves.{tree_nodes, tree_node};
+ghost use Rattle.std.specs.Prelude.{◌≡◌, ◌++◌, ◌<◌, ◌≤◌, ◌&&◌, All, List, length, get_or, Some, OnOk, IfOk};
+ghost use Rattle.node_arena.specs.Document.{node_at};
+ghost use Rattle.node_arena.specs.Moves.{tree_nodes};
 ghost use Rattle.bind_table.specs.Lines.{Plan, plan_of};
-ghost use Rattle.bind_meaning.specs.Terms.{passed_over};
+ghost use Rattle.bind_meaning.specs.Faults.{passed_nodes};
 ghost use Rattle.bind_walk.specs.Lines.{lined};
 ghost use Rattle.bind_walk.specs.Passing as spec;
 
+use crate::chains_lead_on;
 use crate::lines::FoundLine;
-use crate::{chains_lead_on, has_name};
-use bind_rows::{Many, Row};
+use crate::names::is_number;
+use bind_rows::Row;
 use bind_table::laws::same_steps_are_equal;
 use inv_base::{Kind, Steps};
 use node_arena::{Doc, NodeId, moves_lead_on, names_are_found_by_number};
 use std::alloc::{AllocError, Global};
 use std::sync::ledger::Ledger;
 
-/// Lines that stand beside one another, with what is inside them: those from one place on, before another.
+/// Things of a list: those from one place on, before another.
 #[derive(Clone, Copy)]
 pub(crate) struct Span {
     pub(crate) from: usize,
     pub(crate) to: usize,
 }
 
-/// Where the names of a node and of those around it lead: the insides of the lines that have them.
-#[derive(Drop)]
-pub(crate) struct Visit {
-    pub(crate) inside: Many<Span>,
-    pub(crate) passed: bool,
+/// Where the names of the nodes so far, and of those around them, lead: the insides of the lines that have them.
+pub(crate) struct Reached {
+    /// Lines that stand beside one another, with what is inside them; those of one node behind those of another.
+    pub(crate) spans: Vec<Span>,
+    /// Which of them are a node's, in the order of the nodes.
+    pub(crate) parts: Vec<Span>,
 }
 
-/// How many elements have names that lead no further along any row, right inside one whose names do.
-pub(crate) fn count_passed<L: Ledger>(
+impl Drop for Reached {
+    fn drop(self) {
+        let Reached { spans, parts } = self;
+        drop(spans);
+        drop(parts);
+    }
+}
+
+/// The elements whose names lead no further along any row, right inside one whose names do, in document order.
+pub(crate) fn passed_of<L: Ledger>(
     alloc: Global,
     doc: &Doc<'_>,
     rows: &[Row],
     lines: &[FoundLine],
     steps: &mut Steps<L>,
-) -> Result<u32, AllocError>
+) -> Result<Vec<NodeId>, AllocError>
     requires { lines.now ≡ lined doc.now (plan_of rows.now) }
-    ensures { IfOk result (λ passed. passed ≡ passed_over (tree_nodes doc.now) rows.now) }
+    ensures passed { IfOk result (λ passed. passed.items ≡ passed_nodes (tree_nodes doc.now) rows.now) }
+    ensures within { IfOk result (λ passed. All (λ m. m < length doc.now.nodes) passed.items) }
 {
     names_lead_through(doc);
-    let mut reached = Vec::new(alloc);
-    reached.push(beginning(alloc, rows, lines)?)?;
-    let mut passed = 0;
+    let mut reached = beginning(alloc, rows, lines)?;
+    let mut passed = Vec::new(alloc);
     let mut n = doc.document();
     'nodes: while let Some(m) = doc.next_node(n, steps) {
-        let is_passed = reach(alloc, doc, lines, &mut reached, m, steps)?;
-        passed = counted(passed, is_passed);
+        let is_passed = reach(doc, lines, &mut reached, m, steps)?;
+        note(m, is_passed, &mut passed)?;
         n = m;
     }
+    drop(reached);
     Ok(passed)
 }
 
-fn counted(passed: u32, more: bool) -> u32
-    requires { passed + 1 < 2 ^ 32 }
-    ensures { result ≡ passed + spec.one_if more }
+/// Puts a node behind the others, if it is passed over.
+fn note(m: NodeId, is_passed: bool, passed: &mut Vec<NodeId>) -> Result<(), AllocError>
+    ensures { OnOk result (passed.new.items ≡ passed.old.items ++ spec.one_if is_passed m) }
 {
-    if more { passed + 1 } else { passed }
+    if is_passed {
+        passed.push(m)?;
+    }
+    Ok(())
 }
 
 /// All lines, for the document's own node; none where the table has no row.
-fn beginning(alloc: Global, rows: &[Row], lines: &[FoundLine]) -> Result<Many<Span>, AllocError>
-    ensures { IfOk result (λ spans. spec.Begins rows.now lines.now spans) }
+fn beginning(alloc: Global, rows: &[Row], lines: &[FoundLine]) -> Result<Reached, AllocError>
+    ensures { IfOk result (λ reached. spec.Begins rows.now lines.now reached.spans.items reached.parts.items) }
 {
-    let mut spans = Many::new(alloc);
-    if !rows.is_empty() {
+    let mut spans = Vec::new(alloc);
+    let mut parts = Vec::new(alloc);
+    if rows.is_empty() {
+        parts.push(Span { from: 0, to: 0 })?;
+    } else {
         spans.push(Span {
             from: 0,
             to: lines.len(),
         })?;
+        parts.push(Span { from: 0, to: 1 })?;
     }
-    Ok(spans)
+    Ok(Reached { spans, parts })
 }
 
 /// Names lead through a document as they do through the lines of a table. It has no code.
@@ -88,53 +107,40 @@ fn names_lead_through(doc: &Doc<'_>)
 
 /// Notes where the names of a node lead, and answers whether it is passed over.
 fn reach<L: Ledger>(
-    alloc: Global,
     doc: &Doc<'_>,
     lines: &[FoundLine],
-    reached: &mut Vec<Many<Span>>,
+    reached: &mut Reached,
     m: NodeId,
     steps: &mut Steps<L>,
 ) -> Result<bool, AllocError>
     requires within { m < length doc.now.nodes }
     requires behind { 0 < m }
-    requires reached { spec.AreReached doc.now lines.now reached.old.items m }
-    ensures { IfOk result (λ passed. (roots : List Plan) → spec.Reaches doc.now lines.now roots reached.old.items m
-        → spec.IsVisited doc.now lines.now roots m passed reached.old.items reached.new.items) }
-{
-    let visit = visit_node(alloc, doc, lines, reached.as_slice(), m, steps)?;
-    reached.push(visit.inside)?;
-    Ok(visit.passed)
-}
-
-/// Where the names of a node lead, once it is known where those of the nodes before it do.
-fn visit_node<L: Ledger>(
-    alloc: Global,
-    doc: &Doc<'_>,
-    lines: &[FoundLine],
-    reached: &[Many<Span>],
-    m: NodeId,
-    steps: &mut Steps<L>,
-) -> Result<Visit, AllocError>
-    requires within { m < length doc.now.nodes }
-    requires behind { 0 < m }
-    requires reached { spec.AreReached doc.now lines.now reached.now m }
-    ensures { IfOk result (λ visit. (roots : List Plan) → spec.Reaches doc.now lines.now roots reached.now m → spec.Visits doc.now lines.now roots m visit) }
+    requires reached { spec.AreReached doc.now lines.now reached.old.spans.items reached.old.parts.items m }
+    ensures { IfOk result (λ passed. (roots : List Plan) → spec.Reaches doc.now lines.now roots reached.old.spans.items reached.old.parts.items m
+        → spec.IsReached doc.now lines.now roots reached.new.spans.items reached.new.parts.items m passed) }
 {
     names_lead_through(doc);
     match doc.parent(m, steps) {
         Some(p) => {
-            let around = reached[p.number() as usize].as_slice();
-            let inside = named_in(alloc, doc, lines, around, m)?;
-            let passed = is_left_at(doc.kind(m), around, inside.as_slice());
-            Ok(Visit { inside, passed })
+            let around = span_at(reached.parts.as_slice(), p.number() as usize);
+            let inside = reach_inside(doc, lines, &mut reached.spans, around, m)?;
+            reached.parts.push(inside)?;
+            Ok(is_left_at(doc.kind(m), around, inside))
         }
         None => unreachable!(),
     }
 }
 
+fn span_at(spans: &[Span], at: usize) -> Span
+    requires { at < length spans.now }
+    ensures { result ≡ get_or spans.now at spec.no_part }
+{
+    spans[at]
+}
+
 /// Whether a node is an element to which names don't lead, right inside one to which they do.
-fn is_left_at(kind: Kind, around: &[Span], inside: &[Span]) -> bool
-    ensures { result ≡ (spec.is_element_kind kind && spec.is_left around.now inside.now) }
+fn is_left_at(kind: Kind, around: Span, inside: Span) -> bool
+    ensures { result ≡ (spec.is_element_kind kind && spec.is_left around inside) }
 {
     is_element(kind) && is_left(around, inside)
 }
@@ -149,50 +155,99 @@ fn is_element(kind: Kind) -> bool
 }
 
 /// Whether names lead to the node around and no further.
-fn is_left(around: &[Span], inside: &[Span]) -> bool
-    ensures { result ≡ spec.is_left around.now inside.now }
+fn is_left(around: Span, inside: Span) -> bool
+    ensures { result ≡ spec.is_left around inside }
 {
-    !around.is_empty() && inside.is_empty()
+    around.from < around.to && !(inside.from < inside.to)
 }
 
-/// The insides of the lines of these spans that have a node's name.
-fn named_in(
-    alloc: Global,
+/// Puts the insides of the lines of a part of these spans that have a node's name behind the others, and answers where they are.
+fn reach_inside(
     doc: &Doc<'_>,
     lines: &[FoundLine],
-    around: &[Span],
+    spans: &mut Vec<Span>,
+    around: Span,
     m: NodeId,
-) -> Result<Many<Span>, AllocError>
+) -> Result<Span, AllocError>
     requires within { m < length doc.now.nodes }
-    requires spans { spec.AreSpans doc.now lines.now around.now }
-    ensures { IfOk result (λ inside. (plans : List Plan) → spec.SpansOf doc.now lines.now around.now plans → spec.SpansOf doc.now lines.now inside (spec.insides doc.now m plans)) }
+    requires part { around.to ≤ length spans.old.items }
+    requires spans { spec.AreSpans doc.now lines.now spans.old.items }
+    ensures place { IfOk result (λ inside. (inside.from ≡ length spans.old.items) × (inside.to ≡ length spans.new.items)) }
+    ensures spans { OnOk result (spec.LeadsInside doc.now lines.now around m spans.old.items spans.new.items) }
 {
-    let mut inside = Many::new(alloc);
-    'spans: for span in around {
-        add_named(doc, lines, span.from, span.to, m, &mut inside)?;
-    }
-    Ok(inside)
+    let from = spans.len();
+    add_insides(doc, lines, spans, around, m)?;
+    Ok(Span {
+        from,
+        to: spans.len(),
+    })
 }
 
-/// Puts the insides of the lines from one place to another that have a node's name behind the others.
+/// Puts the insides of the lines of a part of these spans that have a node's name behind the others.
+fn add_insides(
+    doc: &Doc<'_>,
+    lines: &[FoundLine],
+    spans: &mut Vec<Span>,
+    around: Span,
+    m: NodeId,
+) -> Result<(), AllocError>
+    requires within { m < length doc.now.nodes }
+    requires part { around.to ≤ length spans.old.items }
+    requires spans { spec.AreSpans doc.now lines.now spans.old.items }
+    ensures { OnOk result (spec.LeadsInside doc.now lines.now around m spans.old.items spans.new.items) }
+{
+    names_lead_through(doc);
+    match doc.name(m) {
+        Some(name) => add_part(doc, lines, spans, around, m, name.number()),
+        None => Ok(()),
+    }
+}
+
+/// The same where the node's name has this number.
+fn add_part(
+    doc: &Doc<'_>,
+    lines: &[FoundLine],
+    spans: &mut Vec<Span>,
+    around: Span,
+    m: NodeId,
+    name: u32,
+) -> Result<(), AllocError>
+    requires within { m < length doc.now.nodes }
+    requires named { (node_at doc.now.nodes m).name ≡ Some name }
+    requires part { around.to ≤ length spans.old.items }
+    requires spans { spec.AreSpans doc.now lines.now spans.old.items }
+    ensures { OnOk result (spec.LeadsInside doc.now lines.now around m spans.old.items spans.new.items) }
+{
+    let mut at = around.from;
+    'spans: while at < around.to {
+        let span = span_at(spans.as_slice(), at);
+        add_named(doc, lines, span.from, span.to, m, name, spans)?;
+        at = at + 1;
+    }
+    Ok(())
+}
+
+/// Puts the insides of the lines from one place to another that have a node's name, which has this number, behind the others.
 fn add_named(
     doc: &Doc<'_>,
     lines: &[FoundLine],
     from: usize,
     to: usize,
     m: NodeId,
-    inside: &mut Many<Span>,
+    name: u32,
+    inside: &mut Vec<Span>,
 ) -> Result<(), AllocError>
     requires within { m < length doc.now.nodes }
+    requires named { (node_at doc.now.nodes m).name ≡ Some name }
     requires span { spec.IsSomeSpan doc.now lines.now from to }
-    ensures { OnOk result (spec.AddsNamed doc.now lines.now from to m inside.old inside.new) }
+    ensures { OnOk result (spec.AddsNamed doc.now lines.now from to m inside.old.items inside.new.items) }
 {
     names_lead_through(doc);
     let mut at = from;
     'lines: while at < to {
         let line = &lines[at];
         let behind = at + (1 + line.size);
-        if has_name(doc, m, line.name) {
+        if is_number(line.name, name) {
             inside.push(Span {
                 from: at + 1,
                 to: behind,

@@ -1,26 +1,26 @@
 //! What the rows of a table pick in a document.
 
-ghost use Rattle.std.specs.Prelude.{◌≡◌, [], All, IfOk};
+ghost use Rattle.std.specs.Prelude.{◌≡◌, ◌<◌, [], length, All, IfOk};
 ghost use Rattle.std.specs.List.{flat_map};
 ghost use Rattle.node_arena.specs.Moves.{tree_nodes};
 ghost use Rattle.bind_table.specs.Limits.{HasSteps};
-ghost use Rattle.bind_table.specs.Picks.{walked};
 ghost use Rattle.bind_table.specs.Lines.{Plan, plan_of};
 ghost use Rattle.bind_meaning.specs.Kept.{all_kept};
 ghost use Rattle.bind_meaning.specs.Picks.{has_any_term, rows_where, all_picked};
-ghost use Rattle.bind_meaning.specs.Terms.{in_order, passed_over};
+ghost use Rattle.bind_meaning.specs.Faults.{passed_nodes};
+ghost use Rattle.bind_meaning.specs.Terms.{in_order};
 ghost use Rattle.bind_walk.specs.Lines.{lined};
 ghost use Rattle.bind_walk.specs.Picks.{is_indicator};
 ghost use Rattle.bind_walk.specs.Sorting.{Sorts};
-ghost use Rattle.bind_walk.specs.Walks.{sight, AreLined, picked_for};
+ghost use Rattle.bind_walk.specs.Walks.{strolled, AreLined, picked_for};
 ghost use Rattle.bind_walk.specs.declared.lines.Wanted.TheVariants as wants;
 ghost use Rattle.bind_walk.specs.Finding as spec;
 
 use crate::chains_lead_on;
 use crate::lines::{FoundLine, Wanted, find_lines};
-use crate::passed::count_passed;
+use crate::passed::passed_of;
 use crate::sorting::sorted;
-use crate::walk::{Carried, Find, walk};
+use crate::walk::{Carried, Find, lines_lead_as_steps_do, walk};
 use bind_meaning::Picked;
 use bind_rows::Many;
 use bind_table::Binding;
@@ -36,9 +36,9 @@ pub struct Picks {
     pub terms: Vec<Picked>,
     /// What rows without a term pick, whose word is checked.
     pub indicators: Vec<Picked>,
-    /// How many elements the table passes over: those whose names lead no further along any row, right inside one whose names do,
-    /// guards aside.
-    pub passed_over: u32,
+    /// The elements that the table passes over, in document order: those whose names lead no further along any row, right inside one
+    /// whose names do, guards aside.
+    pub passed_over: Vec<NodeId>,
 }
 
 impl Drop for Picks {
@@ -46,10 +46,11 @@ impl Drop for Picks {
         let Picks {
             terms,
             indicators,
-            passed_over: _,
+            passed_over,
         } = self;
         drop(terms);
         drop(indicators);
+        drop(passed_over);
     }
 }
 
@@ -64,7 +65,8 @@ pub fn pick_all<L: Ledger>(
     requires { All HasSteps table.now }
     ensures terms { IfOk result (λ picks. picks.terms.items ≡ all_kept (in_order (tree_nodes doc.now) (all_picked (tree_nodes doc.now) (rows_where has_any_term table.now)))) }
     ensures indicators { IfOk result (λ picks. picks.indicators.items ≡ all_kept (in_order (tree_nodes doc.now) (all_picked (tree_nodes doc.now) (rows_where is_indicator table.now)))) }
-    ensures passed_over { IfOk result (λ picks. picks.passed_over ≡ passed_over (tree_nodes doc.now) table.now) }
+    ensures passed_over { IfOk result (λ picks. picks.passed_over.items ≡ passed_nodes (tree_nodes doc.now) table.now) }
+    ensures passed_within { IfOk result (λ picks. All (λ m. m < length doc.now.nodes) picks.passed_over.items) }
 {
     let lines = lines_of(alloc, doc, table)?;
     let picks = picks_by(alloc, doc, table, &lines, steps);
@@ -84,20 +86,26 @@ fn picks_by<L: Ledger>(
     requires lines { lines.now ≡ lined doc.now (plan_of table.now) }
     ensures terms { IfOk result (λ picks. picks.terms.items ≡ all_kept (in_order (tree_nodes doc.now) (all_picked (tree_nodes doc.now) (rows_where has_any_term table.now)))) }
     ensures indicators { IfOk result (λ picks. picks.indicators.items ≡ all_kept (in_order (tree_nodes doc.now) (all_picked (tree_nodes doc.now) (rows_where is_indicator table.now)))) }
-    ensures passed_over { IfOk result (λ picks. picks.passed_over ≡ passed_over (tree_nodes doc.now) table.now) }
+    ensures passed_over { IfOk result (λ picks. picks.passed_over.items ≡ passed_nodes (tree_nodes doc.now) table.now) }
+    ensures passed_within { IfOk result (λ picks. All (λ m. m < length doc.now.nodes) picks.passed_over.items) }
 {
     rows_are_walked();
+    lines_lead_as_steps_do(doc);
     picks_are_sorted_finds(doc);
+    let passed_over = passed_of(alloc, doc, table.rows(), lines, steps)?;
     let finds = find_all(alloc, doc, lines, steps)?;
-    let passed_over = count_passed(alloc, doc, table.rows(), lines, steps)?;
     sorted_picks(alloc, &finds, passed_over)
 }
 
 /// What was found, sorted by nodes and then by rows.
-fn sorted_picks(alloc: Global, finds: &[Find], passed_over: u32) -> Result<Picks, AllocError>
+fn sorted_picks(
+    alloc: Global,
+    finds: &[Find],
+    passed_over: Vec<NodeId>,
+) -> Result<Picks, AllocError>
     ensures terms { IfOk result (λ picks. Sorts (flat_map (picked_for wants.Term) finds.now) picks.terms.items) }
     ensures indicators { IfOk result (λ picks. Sorts (flat_map (picked_for wants.Indicator) finds.now) picks.indicators.items) }
-    ensures passed_over { IfOk result (λ picks. picks.passed_over ≡ passed_over) }
+    ensures passed_over { IfOk result (λ picks. picks.passed_over.items ≡ passed_over.items) }
 {
     let terms = sorted(alloc, finds, Wanted::Term)?;
     let indicators = sorted(alloc, finds, Wanted::Indicator)?;
@@ -126,7 +134,7 @@ fn find_all<L: Ledger>(
     steps: &mut Steps<L>,
 ) -> Result<Vec<Find>, AllocError>
     requires { AreLined doc.now lines.now }
-    ensures { IfOk result (λ finds. (plan : Plan) → lines.now ≡ lined doc.now plan → finds.items ≡ walked (sight doc.now) plan [] 0) }
+    ensures { IfOk result (λ finds. (plan : Plan) → lines.now ≡ lined doc.now plan → finds.items ≡ strolled doc.now plan [] 0) }
 {
     let mut finds = Vec::new(alloc);
     walk(alloc, doc, lines, doc.document(), &[], &mut finds, steps)?;

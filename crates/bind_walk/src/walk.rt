@@ -1,13 +1,14 @@
 //! The walk over the lines of a table and the elements of a document.
 
-ghost use Rattle.std.specs.Prelude.{◌≡◌, ◌<◌, ◌++◌, ◌∷◌, [], ◌&&◌, length, OnOk, IfOk};
-ghost use Rattle.std.specs.List.{flat_map, list_all};
+ghost use Rattle.std.specs.Prelude.{◌≡◌, ◌<◌, ◌++◌, ◌∷◌, [], ◌&&◌, length, Some, OnOk, IfOk};
+ghost use Rattle.std.specs.List.{list_all};
 ghost use Rattle.node_arena.specs.Document.{node_at};
 ghost use Rattle.node_arena.specs.Moves.{has_found};
 ghost use Rattle.bind_walk.specs.Found.{is_met};
 ghost use Rattle.bind_walk.specs.Walks as spec;
 
 use crate::lines::{End, FoundLine, FoundRow, Wanted};
+use crate::names::is_number;
 use crate::{are_met, chains_lead_on, has_name, is_blank_at};
 use bind_meaning::Picked;
 use bind_rows::is_same_or_none;
@@ -32,7 +33,7 @@ pub(crate) struct Find {
 }
 
 /// A line leads where its step does, and what is found at it is what its rows pick. It has no code.
-fn lines_lead_as_steps_do(doc: &Doc<'_>)
+pub(crate) fn lines_lead_as_steps_do(doc: &Doc<'_>)
     ensures { spec.LeadsAlike doc.now }
 {
     doc.is_of_a_tree();
@@ -55,42 +56,68 @@ pub(crate) fn walk<L: Ledger>(
     requires lined { spec.AreLined doc.now lines.now }
     ensures { OnOk result (spec.Walks doc.now lines.now n around.now finds.old.items finds.new.items) }
 {
-    lines_lead_as_steps_do(doc);
-    let mut left = lines;
-    'lines: while let Some((line, behind)) = left.split_first() {
-        let (inside, rest) = behind.split_at(line.size);
-        follow(alloc, doc, line, inside, n, around, finds, steps)?;
-        left = rest;
+    if lines.is_empty() {
+        return Ok(());
+    }
+    chains_lead_on(doc);
+    let mut at = doc.first_child(n, steps);
+    'children: while let Some(m) = at {
+        meet(alloc, doc, lines, m, around, finds, steps)?;
+        at = doc.next_sibling(m, steps);
     }
     Ok(())
 }
 
-/// Records what the rows at a line and inside it pick in the children of an element.
+/// Records what the rows at these lines and inside them pick in one child.
 #[cycle(walking)]
-fn follow<L: Ledger>(
+fn meet<L: Ledger>(
     alloc: Global,
     doc: &Doc<'_>,
-    line: &FoundLine,
-    inside: &[FoundLine],
+    lines: &[FoundLine],
     n: NodeId,
     around: &[Carried],
     finds: &mut Vec<Find>,
     steps: &mut Steps<L>,
 ) -> Result<(), AllocError>
     requires within { n < length doc.now.nodes }
-    requires lined { spec.AreLined doc.now inside.now }
-    ensures { OnOk result (spec.Follows doc.now line.now inside.now n around.now finds.old.items finds.new.items) }
+    requires lined { spec.AreLined doc.now lines.now }
+    ensures { OnOk result (spec.Meets doc.now lines.now n around.now finds.old.items finds.new.items) }
 {
-    chains_lead_on(doc);
-    let mut at = doc.first_child(n, steps);
-    'children: while let Some(m) = at {
-        enter(alloc, doc, line, inside, m, around, finds, steps)?;
-        at = doc.next_sibling(m, steps);
+    match doc.name(n) {
+        Some(name) => follow(alloc, doc, lines, n, name.number(), around, finds, steps),
+        None => Ok(()),
+    }
+}
+
+/// The same where the child's name has this number: by the lines that have it too.
+#[cycle(walking)]
+fn follow<L: Ledger>(
+    alloc: Global,
+    doc: &Doc<'_>,
+    lines: &[FoundLine],
+    n: NodeId,
+    name: u32,
+    around: &[Carried],
+    finds: &mut Vec<Find>,
+    steps: &mut Steps<L>,
+) -> Result<(), AllocError>
+    requires within { n < length doc.now.nodes }
+    requires named { (node_at doc.now.nodes n).name ≡ Some name }
+    requires lined { spec.AreLined doc.now lines.now }
+    ensures { OnOk result (spec.Meets doc.now lines.now n around.now finds.old.items finds.new.items) }
+{
+    let mut left = lines;
+    'lines: while let Some((line, behind)) = left.split_first() {
+        let (inside, rest) = behind.split_at(line.size);
+        if is_number(line.name, name) {
+            enter(alloc, doc, line, inside, n, around, finds, steps)?;
+        }
+        left = rest;
     }
     Ok(())
 }
 
-/// The same in one child, where it is an element of the line.
+/// Records what the rows at a line and inside it pick in a child, where it is an element of the line.
 #[cycle(walking)]
 fn enter<L: Ledger>(
     alloc: Global,

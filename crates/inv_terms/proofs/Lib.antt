@@ -13,3 +13,4 @@ mod LackRows
 pub mod ContextLemmas
 pub mod FirstLemmas
 pub mod ValidLemmas
+pub mod AllLemmas

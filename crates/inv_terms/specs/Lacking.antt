@@ -117,3 +117,17 @@ missing_from seats context k (row ∷ rows) = elim (missing_at seats context k r
 -- the first lack of a context, whose seats and those inside it are given; in a context the rows are in listing order
 abbrev pub first_missing : List Seat → Context → Option Lack
 first_missing seats context = missing_from seats context 0 terms
+
+-- ---- all that is missing in a context
+
+-- what is missing at the k-th row and those behind it, in their order
+abbrev pub all_missing_from : List Seat → Context → ℕ → List TermRow → List Lack
+all_missing_from seats context k [] = []
+all_missing_from seats context k (row ∷ rows) = elim (missing_at seats context k row) [
+  | Some name ↦ record { place = place k context; fault = faults.Missing name } ∷ all_missing_from seats context (k + 1) rows
+  | None ↦ all_missing_from seats context (k + 1) rows
+]
+
+-- all that a context lacks, whose seats and those inside it are given
+abbrev pub all_missing : List Seat → Context → List Lack
+all_missing seats context = all_missing_from seats context 0 terms

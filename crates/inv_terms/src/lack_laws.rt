@@ -1,11 +1,13 @@
 //! Laws of what an invoice lacks. Each call does nothing: what it ensures is the law.
 
-ghost use Rattle.std.specs.Prelude.{◌≡◌, ◌↔◌, List, Some, None, false, Contains};
+ghost use Rattle.std.specs.Prelude.{◌≡◌, ◌↔◌, List, Some, None, false, true, Contains, AllPairs, slice_get};
 ghost use Rattle.code_lists.specs.CodeFiles.{Lists};
 ghost use Rattle.term_table.specs.declared.contexts.Context.{Context};
+ghost use Rattle.term_table.specs.declared.contexts.Seat.{Seat};
 ghost use Rattle.term_table.specs.Places.{precedes};
 ghost use Rattle.inv_terms.specs.declared.entries.Entry.{Entry};
 ghost use Rattle.inv_terms.specs.declared.lacks.Lack.{Lack};
+ghost use Rattle.inv_terms.specs.Lacking.{first_missing, all_missing};
 ghost use Rattle.inv_terms.specs.Validity.{contexts, first_lack};
 ghost use Rattle.inv_terms.specs.Whole.{IsContextOf, IsLack, IsValid};
 
@@ -25,4 +27,11 @@ pub fn first_lacks_are_first()
 /// group that has to stand at least once does, and each code is in its list.
 pub fn valid_invoices_lack_nothing()
     ensures { (es : List Entry) (lists : Lists) → ((first_lack es lists ≡ None) ↔ IsValid es lists) }
+{}
+
+/// What is missing first in a context is the first of all that is missing in it, and each of these comes before those
+/// behind it.
+pub fn first_missing_is_first_of_all()
+    ensures first { (seats : List Seat) (c : Context) → first_missing seats c ≡ slice_get (all_missing seats c) 0 }
+    ensures order { (seats : List Seat) (c : Context) → AllPairs (λ (a b : Lack). precedes a.place b.place ≡ true) (all_missing seats c) }
 {}

@@ -19,7 +19,8 @@ pub use attachments::{AttachFault, attachment};
 pub use entries::Entry;
 pub use invoice::{Invoice, PushFault};
 pub use lack_laws::{
-    contexts_are_those_of_the_entries, first_lacks_are_first, valid_invoices_lack_nothing,
+    contexts_are_those_of_the_entries, first_lacks_are_first, first_missing_is_first_of_all,
+    valid_invoices_lack_nothing,
 };
 pub use lacks::{Lack, Name, TermFault};
 pub use laws::{
@@ -27,7 +28,7 @@ pub use laws::{
     push_refuses_what_makes_no_invoice, spelled_values_are_read_back,
 };
 pub use looking::value_in;
-pub use missing::first_missing;
+pub use missing::{all_missing, first_missing};
 pub use spaces::{is_blank, trimmed};
 pub use validity::{check, is_unlisted};
 pub use values::Value;

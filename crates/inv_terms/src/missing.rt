@@ -1,9 +1,10 @@
-ghost use Rattle.std.specs.Prelude.{◌≡◌, ◌&&◌, ◌||◌, not, map};
+ghost use Rattle.std.specs.Prelude.{◌≡◌, ◌&&◌, ◌||◌, not, map, IfOk};
 ghost use Rattle.std.specs.List.{list_any};
 ghost use Rattle.term_table.specs.SemanticModel.{same_term};
 ghost use Rattle.inv_terms.specs.Lacking as spec;
 
 use crate::lacks::{Lack, Name, TermFault};
+use std::alloc::{AllocError, Global};
 use term_table::{
     Context, Group, Mark, Occurrence, Seat, Seated, Slot, Term, TermRow, first_row, has_context,
     place_at, term_rows,
@@ -197,4 +198,36 @@ pub fn first_missing<T: Seated>(seats: &[T], context: Context) -> Option<Lack>
     ensures { result ≡ spec.first_missing (map T.seat_of seats.now) context }
 {
     missing_among(term_rows(), seats, context)
+}
+
+fn all_missing_among<T: Seated>(
+    alloc: Global,
+    rows: &[TermRow],
+    seats: &[T],
+    context: Context,
+) -> Result<Vec<Lack>, AllocError>
+    ensures { IfOk result (λ lacks. lacks.items ≡ spec.all_missing_from (map T.seat_of seats.now) context 0 rows.now) }
+{
+    let mut lacks = Vec::new(alloc);
+    'rows: for (k, row) in rows.iter().enumerate() {
+        if let Some(name) = missing_at(seats, context, k, row) {
+            lacks.push(Lack {
+                place: place_at(k, context),
+                fault: TermFault::Missing(name),
+            })?;
+        }
+    }
+    Ok(lacks)
+}
+
+/// All terms and groups that are missing in a context, in listing order, of which the seats are given that stand in it and
+/// inside it. It goes over them once for each term that may stand in the context.
+pub fn all_missing<T: Seated>(
+    alloc: Global,
+    seats: &[T],
+    context: Context,
+) -> Result<Vec<Lack>, AllocError>
+    ensures { IfOk result (λ lacks. lacks.items ≡ spec.all_missing (map T.seat_of seats.now) context) }
+{
+    all_missing_among(alloc, term_rows(), seats, context)
 }

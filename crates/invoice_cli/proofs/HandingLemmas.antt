@@ -9,9 +9,9 @@ use Rattle.held_output.specs.Origins.{HandedOver}
 use Rattle.held_output.proofs.HoldingLemmas.{unchanged}
 use Rattle.held_output.proofs.Courses.{failed_all, front_kept, run_handed, pieces_handed}
 use Rattle.trial_run.specs.Trials.{trial_of, trial_text}
-use Rattle.invoice_cli.specs.declared.usage.TheConstants.{HELP, VERSION}
-use Rattle.invoice_cli.specs.Job.{Job, outline, show, totals, convert, check, extract, query, trial, help, version, bad_word}
-use Rattle.invoice_cli.specs.Answer.{course_of}
+use Rattle.invoice_cli.specs.declared.usage.TheConstants.{HELP}
+use Rattle.invoice_cli.specs.Job.{Job, outline, show, totals, convert, check, validate, extract, query, trial, help, version, bad_word}
+use Rattle.invoice_cli.specs.Answer.{version_text, course_of}
 use Rattle.invoice_cli.specs.Answers.{Says, Tries, Answers}
 use Rattle.invoice_cli.specs.Endings.{LeavesOthers, Ends}
 use Rattle.invoice_cli.proofs.AnswersLemmas.{answers_said, answers_tried, answers_bad_word, answers_of_run, answers_of_pieces}
@@ -60,12 +60,13 @@ module _ (start shown now : SinkView) (status status' : Status) where
     ends_handed steps (totals sources file) ends = (tt, runs steps (totals sources file) ends.1)
     ends_handed steps (convert syntax sources file) ends = (tt, runs steps (convert syntax sources file) ends.1)
     ends_handed steps (check svrl phase rules file) ends = (tt, runs steps (check svrl phase rules file) ends.1)
+    ends_handed steps (validate svrl sources file) ends = (tt, runs steps (validate svrl sources file) ends.1)
     ends_handed steps (extract number file) ends = (tt, runs steps (extract number file) ends.1)
     ends_handed steps (query expression file) ends =
         pieces_handed (course_of steps (query expression file)) shelf shelf' start shown now err err' status status' handed ends
     ends_handed steps (trial lines) ends = (others ends.0, tries_handed (trial_text (trial_of lines steps)) handed ends.1)
     ends_handed steps help ends = (others ends.0, says_handed HELP.now handed ends.1)
-    ends_handed steps version ends = (others ends.0, says_handed VERSION.now handed ends.1)
+    ends_handed steps version ends = (others ends.0, says_handed version_text handed ends.1)
     ends_handed steps (bad_word number) ends = let told = word_handed handed ends.0 ends.2 in (told.0, ends.1, told.1, ends.3)
 
 -- what is left where neither the shelf nor the error output is touched
@@ -79,6 +80,7 @@ answers_of_ends steps (show sources file) before after status ends = answers_of_
 answers_of_ends steps (totals sources file) before after status ends = answers_of_run steps (totals sources file) tt before after status (λ name is. cc) ends.1
 answers_of_ends steps (convert syntax sources file) before after status ends = answers_of_run steps (convert syntax sources file) tt before after status (λ name is. cc) ends.1
 answers_of_ends steps (check svrl phase rules file) before after status ends = answers_of_run steps (check svrl phase rules file) tt before after status (λ name is. cc) ends.1
+answers_of_ends steps (validate svrl sources file) before after status ends = answers_of_run steps (validate svrl sources file) tt before after status (λ name is. cc) ends.1
 answers_of_ends steps (extract number file) before after status ends = answers_of_run steps (extract number file) tt before after status (λ name is. cc) ends.1
 answers_of_ends steps (query expression file) before after status ends = answers_of_pieces steps (query expression file) tt before after tt status (λ name is. cc) ends
 answers_of_ends steps (trial lines) before after status ends =
@@ -89,7 +91,7 @@ answers_of_ends steps help before after status ends =
     (answers_said steps help HELP.now status before.shelf before.out after.out before.err refl (λ number e. cc) (λ file e. cc) ends.1)
 answers_of_ends steps version before after status ends =
     still (λ s e. Answers steps version before (record { shelf = s; out = after.out; err = e }) status) before.shelf after.shelf before.err after.err ends.0.shelf ends.0.err
-    (answers_said steps version VERSION.now status before.shelf before.out after.out before.err refl (λ number e. cc) (λ file e. cc) ends.1)
+    (answers_said steps version version_text status before.shelf before.out after.out before.err refl (λ number e. cc) (λ file e. cc) ends.1)
 answers_of_ends steps (bad_word number) before after status ends =
     subst (λ s. Answers steps (bad_word number) before after s) (sym ends.0)
     (subst (λ s. Answers steps (bad_word number) before (record { shelf = s; out = after.out; err = after.err }) statuses.BadWords) (sym ends.1)

@@ -6,7 +6,7 @@ use Rattle.bind_meaning.specs.declared.tables.Syntax.{Syntax}
 use Rattle.invoice_cli.specs.declared.options.Optioned.{Optioned}
 use Rattle.invoice_cli.specs.declared.options.Optioned.TheVariants as commands
 use Rattle.invoice_cli.specs.declared.options.Switch.{Switch}
-use Rattle.invoice_cli.specs.Job.{Job, outline, show, totals, convert, check, extract, query, trial, help, version, bad_word, Options, none_given, is_option, with_no_more, last_operand, offered, takes_value, with_svrl, with_value, or_bad, last_word, optioned, sources, show_of, totals_of, convert_of, check_of, is_digit, digits_value, at_most, number_up_to, by_number, extract_of, most_lines, try_of, query_of, job}
+use Rattle.invoice_cli.specs.Job.{Job, outline, show, totals, convert, check, validate, extract, query, trial, help, version, bad_word, Options, none_given, is_option, with_no_more, last_operand, offered, takes_value, with_svrl, with_value, or_bad, last_word, optioned, sources, show_of, totals_of, convert_of, check_of, validate_of, is_digit, digits_value, at_most, number_up_to, by_number, extract_of, most_lines, try_of, query_of, job}
 
 -- ---- numbers
 
@@ -110,6 +110,9 @@ few-check given number words = by_rules given.rules where
   by_rules [] = tt
   by_rules (file ∷ files) = few-operand (check given.svrl given.phase (file ∷ files)) number words (λ word. tt)
 
+few-validate : (given : Options) (number : ℕ) (words : List (List ℕ)) → HasFew (validate_of given number words)
+few-validate given number words = few-operand (validate given.svrl (sources given)) number words (λ word. tt)
+
 few-extract : (words : List (List ℕ)) → HasFew (extract_of words)
 few-extract [] = tt
 few-extract (word ∷ words) =
@@ -142,11 +145,12 @@ few-job (command ∷ words) =
     (few-if (bytes_eq command (codes "totals")) _ _ (few-optioned commands.Totals totals_of (λ given number ws. few-operand (totals (sources given)) number ws (λ word. tt)) none_given 2 words)
     (few-if (bytes_eq command (codes "convert")) _ _ (few-optioned commands.Convert convert_of few-convert none_given 2 words)
     (few-if (bytes_eq command (codes "check")) _ _ (few-optioned commands.Check check_of few-check none_given 2 words)
+    (few-if (bytes_eq command (codes "validate")) _ _ (few-optioned commands.Validate validate_of few-validate none_given 2 words)
     (few-if (bytes_eq command (codes "extract")) _ _ (few-extract words)
     (few-if (bytes_eq command (codes "query")) _ _ (few-query words)
     (few-if (bytes_eq command (codes "try")) _ _ (few-try words)
     (few-if (bytes_eq command (codes "--help")) _ _ (few-no_more 2 help words tt)
-    (few-if (bytes_eq command (codes "--version")) _ _ (few-no_more 2 version words tt) tt)))))))))
+    (few-if (bytes_eq command (codes "--version")) _ _ (few-no_more 2 version words tt) tt))))))))))
 
 -- A trial that the words ask for has at most so many lines.
 pub lines_are_few : (words : List (List ℕ)) (lines : ℕ) → job words ≡ trial lines → lines ≤ most_lines

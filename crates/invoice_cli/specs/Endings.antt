@@ -7,9 +7,9 @@ use Rattle.job_course.specs.Lines.{bad_word_line}
 use Rattle.job_course.specs.Outside.{Outside, TakesOrFails}
 use Rattle.job_course.specs.Runs.{Runs, RunsInPieces}
 use Rattle.trial_run.specs.Trials.{trial_of, trial_text}
-use Rattle.invoice_cli.specs.declared.usage.TheConstants.{HELP, VERSION}
+use Rattle.invoice_cli.specs.declared.usage.TheConstants.{HELP}
 use Rattle.invoice_cli.specs.Job.{Job, outline, query, trial, help, version, bad_word}
-use Rattle.invoice_cli.specs.Answer.{course_of}
+use Rattle.invoice_cli.specs.Answer.{version_text, course_of}
 use Rattle.invoice_cli.specs.Answers.{Says, Tries}
 
 -- Nothing but the output is touched.
@@ -26,7 +26,7 @@ Opens _ before after = Unit {0}
 abbrev pub Ends : ℕ → Job → Outside → Outside → Status → Type 0
 Ends steps (trial lines) before after status = LeavesOthers before after × Tries status (trial_text (trial_of lines steps)) before.out after.out
 Ends steps help before after status = LeavesOthers before after × Says status HELP.now before.out after.out
-Ends steps version before after status = LeavesOthers before after × Says status VERSION.now before.out after.out
+Ends steps version before after status = LeavesOthers before after × Says status version_text before.out after.out
 Ends steps (bad_word number) before after status =
     (status ≡ statuses.BadWords) × (after.shelf ≡ before.shelf) × (after.out ≡ before.out) × TakesOrFails (bad_word_line number) before.err after.err
 Ends steps (query expression file) before after status = RunsInPieces (course_of steps (query expression file)) before after status

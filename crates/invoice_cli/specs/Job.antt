@@ -11,16 +11,18 @@ use Rattle.invoice_cli.specs.declared.options.Switch.{Switch}
 use Rattle.invoice_cli.specs.declared.options.Switch.TheVariants as switches
 
 -- The outline of a file; the terms of an invoice, by the code lists of a file or the built-in ones and by the terms that
--- another file adds or none; where its totals differ, likewise; the invoice in a syntax, likewise; what rule files find in a document, in SVRL or plain, by the patterns of a phase or those that each
--- file has by default; an invoice's attached document of that number; the value of an expression at a document; a trial
--- of the whole tool on a generated invoice of so many lines; the help; the version; or the number of the first word that
--- fits no command, counted from 1, where a missing word counts as one behind the last.
+-- another file adds or none; where its totals differ, likewise; the invoice in a syntax, likewise; what rule files find in
+-- a document, in SVRL or plain, by the patterns of a phase or those that each file has by default; all that is wrong with
+-- an invoice, in SVRL or plain, by such files beside it; an invoice's attached document of that number; the value of an
+-- expression at a document; a trial of the whole tool on a generated invoice of so many lines; the help; the version; or
+-- the number of the first word that fits no command, counted from 1, where a missing word counts as one behind the last.
 pub data Job : Type 0 where
   outline : List ℕ → Job
   show : Sources → List ℕ → Job
   totals : Sources → List ℕ → Job
   convert : Syntax → Sources → List ℕ → Job
   check : Bool → Option (List ℕ) → List (List ℕ) → List ℕ → Job
+  validate : Bool → Sources → List ℕ → Job
   extract : ℕ → List ℕ → Job
   query : List ℕ → List ℕ → Job
   trial : ℕ → Job
@@ -82,6 +84,10 @@ has commands.Check switches.Svrl = true
 has commands.Check switches.Phase = true
 has commands.Check switches.RuleFile = true
 has commands.Check _ = false
+has commands.Validate switches.CodeLists = true
+has commands.Validate switches.Extension = true
+has commands.Validate switches.Svrl = true
+has commands.Validate _ = false
 
 -- An option may be given once, that of a rule file sixteen times.
 abbrev pub may_follow : Options → Switch → Bool
@@ -169,6 +175,9 @@ convert_of given number words = elim given.target [ None ↦ bad_word number | (
 abbrev pub check_of : Options → ℕ → List (List ℕ) → Job
 check_of given number words = elim given.rules [ [] ↦ bad_word number | (file ∷ files) ↦ last_operand (check given.svrl given.phase (file ∷ files)) number words ]
 
+abbrev pub validate_of : Options → ℕ → List (List ℕ) → Job
+validate_of given number words = last_operand (validate given.svrl (sources given)) number words
+
 abbrev pub is_digit : ℕ → Bool
 is_digit c = nat_le 48 c && nat_le c 57
 
@@ -215,12 +224,13 @@ job (command ∷ words) =
     else (if bytes_eq command (codes "totals") then optioned commands.Totals totals_of none_given 2 words
     else (if bytes_eq command (codes "convert") then optioned commands.Convert convert_of none_given 2 words
     else (if bytes_eq command (codes "check") then optioned commands.Check check_of none_given 2 words
+    else (if bytes_eq command (codes "validate") then optioned commands.Validate validate_of none_given 2 words
     else (if bytes_eq command (codes "extract") then extract_of words
     else (if bytes_eq command (codes "query") then query_of words
     else (if bytes_eq command (codes "try") then try_of words
     else (if bytes_eq command (codes "--help") then with_no_more 2 help words
     else (if bytes_eq command (codes "--version") then with_no_more 2 version words
-    else bad_word 1)))))))))
+    else bad_word 1))))))))))
 
 abbrev pub words_of : List (String Global) → List (List ℕ)
 words_of words = map string_bytes words

@@ -7,6 +7,7 @@ mod options;
 mod program;
 mod trials;
 mod usage;
+mod version;
 mod words;
 
 pub use adapters::{FileShelf, OutputSink};

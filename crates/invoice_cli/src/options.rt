@@ -99,6 +99,7 @@ pub(crate) enum Optioned {
     Totals,
     Convert,
     Check,
+    Validate,
 }
 
 /// An option.
@@ -148,6 +149,10 @@ fn has(command: Optioned, switch: Switch) -> bool
         },
         Optioned::Check => match switch {
             Switch::Svrl | Switch::Phase | Switch::RuleFile => true,
+            _ => false,
+        },
+        Optioned::Validate => match switch {
+            Switch::CodeLists | Switch::Extension | Switch::Svrl => true,
             _ => false,
         },
     }

@@ -6,7 +6,8 @@ ghost use Rattle.invoice_cli.specs.Conversions.{ConversionsReturn};
 
 use crate::conversions::conversions_return;
 use crate::trials::trial;
-use crate::usage::{HELP, VERSION};
+use crate::usage::HELP;
+use crate::version::say_version;
 use crate::words::{Command, command_of};
 use document_jobs::{Checking, check, outline, query};
 use held_output::{HeldOutput, Lent, Origin, hand_over};
@@ -15,6 +16,7 @@ use invoice_jobs::{convert, extract, show, totals};
 use job_course::{Status, tell_bad_word};
 use std::alloc::Global;
 use std::marker::Brand;
+use validation_jobs::validate;
 
 /// Answers the words behind the program's name: reads the files that they name from the shelf, and writes
 /// the answer to `out`, or to `err` the one line that says why there is none.
@@ -99,11 +101,14 @@ fn answer<S: Shelf, O: Sink, E: Sink>(
             };
             check(alloc, &checking, shelf, out, err)
         }
+        Command::Validate(svrl, sources, file) => {
+            validate(alloc, svrl, &sources, file, shelf, out, err)
+        }
         Command::Extract(number, file) => extract(alloc, number, file, shelf, out, err),
         Command::Query(expression, file) => query(alloc, expression, file, shelf, out, err),
         Command::Trial(lines) => trial(alloc, lines, out),
         Command::Help => say(HELP, out),
-        Command::Version => say(VERSION, out),
+        Command::Version => say_version(out),
         Command::BadWord(number) => {
             tell_bad_word(number, err);
             Status::BadWords

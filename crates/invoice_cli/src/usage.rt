@@ -1,11 +1,13 @@
 /// What `--help` prints.
 pub const HELP: &[u8] = b"usage: einv COMMAND [OPTION ..] FILE
 
-Lists, checks, converts and queries e-invoices (EN 16931) in UBL 2.1 and CII.
+Checks, lists, converts and queries e-invoices (EN 16931) in UBL 2.1 and CII.
 
-look at any XML document
-  einv outline FILE
-      prints a line for each element, attribute and text
+see whether an invoice is right, and what is wrong with it
+  einv validate [--svrl] [--codes LISTS] [--extension TERMS] FILE
+      tells all faults of its terms, elements that hold no term, and rules of
+      EN 16931 that it breaks, with line and column; the rules are built in
+      --svrl          the report in SVRL, the XML of Schematron reports
 
 read an invoice
   einv show [--codes LISTS] [--extension TERMS] FILE
@@ -13,12 +15,12 @@ read an invoice
   einv totals [--codes LISTS] [--extension TERMS] FILE
       lists each total that isn't what the other values make of it
 
-check a document, before it goes out or when it comes in
+check any XML document by rules of your own
   einv check [--svrl] [--phase PHASE] --rules RULES [--rules RULES ..] FILE
       reports what Schematron rule files find, a line each, and counts it
       --rules RULES   a rule file; up to 16 may be named
       --phase PHASE   a phase that each rule file has, or #ALL or #DEFAULT
-      --svrl          the report in SVRL, the XML of Schematron reports
+      --svrl          the report in SVRL
 
 change the syntax of an invoice
   einv convert --to ubl [--codes LISTS] [--extension TERMS] FILE
@@ -29,9 +31,11 @@ take out what is attached
   einv extract K FILE
       writes the K-th attached document, from 1
 
-ask something else of any XML document
+look at any XML document
   einv query EXPR FILE
       prints the value of an XPath expression, a line for each item
+  einv outline FILE
+      prints a line for each element, attribute and text
 
 try the whole tool on this machine
   einv try N
@@ -39,15 +43,16 @@ try the whole tool on this machine
       in CII, compares what was read, checks it, and prints what came of it
 
 --codes LISTS is a TOML file of code lists. A list that isn't in it, and isn't
-built in, allows every code. --extension TERMS is a TOML file of further terms,
-EXT-1 to EXT-99, with the places of their elements. Options stand before FILE,
-in any order. A word that begins with -- is never a file; ./--name is one.
+built in, allows every code. Without it validate goes by currencies, countries
+and media types that are built in. --extension TERMS is a TOML file of further
+terms, EXT-1 to EXT-99, with the places of their elements. Options stand before
+FILE, in any order. A word that begins with -- is never a file; ./--name is one.
 
-einv --help prints this page, einv --version the version.
+einv --help prints this page, einv --version the version and that of the rules.
 
 status
   0  done
-  1  check found something fatal, or totals a difference
+  1  validate or check found something fatal, or totals a difference
   2  the words fit no command
   3  the document is refused
   4  a rule file, code lists, further terms, a phase or an expression is refused
@@ -58,5 +63,5 @@ status
 With 2 to 6 one line on standard error says why, and nothing else is written.
 ";
 
-/// What `--version` prints.
+/// What `--version` prints, before it says which rules are built in.
 pub const VERSION: &[u8] = b"einv 0.1.0\n";

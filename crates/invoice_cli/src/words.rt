@@ -23,6 +23,8 @@ pub(crate) enum Command<'w> {
     Convert(Syntax, Sources<'w>, &'w str),
     /// Whether the report is to be SVRL, the phase, if one is named, and the document. The rule files are named beside.
     Check(bool, Option<&'w str>, &'w str),
+    /// Whether the report is to be SVRL, the files beside the document, and the document.
+    Validate(bool, Sources<'w>, &'w str),
     /// With the number of the attached document, from 1.
     Extract(u32, &'w str),
     /// An expression, and the document at which it is evaluated.
@@ -54,6 +56,7 @@ pub(crate) fn command_of(words: &[String]) -> Asked<'_>
             "totals" => without_rules(totals_of(rest)),
             "convert" => without_rules(convert_of(rest)),
             "check" => check_of(rest),
+            "validate" => without_rules(validate_of(rest)),
             "extract" => without_rules(extract_of(rest)),
             "query" => without_rules(query_of(rest)),
             "try" => without_rules(try_of(rest)),
@@ -209,6 +212,28 @@ fn check_with<'w>(given: &Given<'w>, number: u64, words: &'w [String]) -> Asked<
             rules: given.rules,
         },
         Err(number) => without_rules(Command::BadWord(number)),
+    }
+}
+
+/// The validation that the words behind `validate` ask for.
+fn validate_of(words: &[String]) -> Command<'_>
+    requires { 2 + length words.now < 2 ^ 64 }
+    ensures { asked_by [] result ≡ spec.optioned commands.Validate spec.validate_of spec.none_given 2 (words_of words.now) }
+{
+    let found = scan(Optioned::Validate, &NONE_GIVEN, 2, words);
+    match found.bad {
+        Some(number) => Command::BadWord(number),
+        None => validate_with(&found.given, found.number, found.words),
+    }
+}
+
+fn validate_with<'w>(given: &Given<'w>, number: u64, words: &'w [String]) -> Command<'w>
+    requires { number + length words.now < 2 ^ 64 }
+    ensures { asked_by [] result ≡ spec.validate_of (given_options given.now) number (words_of words.now) }
+{
+    match last_operand(number, words) {
+        Ok(file) => Command::Validate(given.svrl, given.sources, file),
+        Err(number) => Command::BadWord(number),
     }
 }
 

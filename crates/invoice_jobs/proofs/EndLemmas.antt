@@ -1,5 +1,5 @@
 -- Where a course ends in Done, what it read was accepted; and the answer to files is one with which it ends.
-use Rattle.std.proofs.Common.{◌≡◌, ℕ, suc, List, length, Option, Some, Result, Ok, Err, Bool, true, false, refl, ap, sym, ◌∙◌}
+use Rattle.std.proofs.Common.{◌≡◌, ℕ, suc, List, Option, Some, Result, Ok, Err, Bool, true, false, refl, ap, sym, ◌∙◌}
 use Rattle.inv_base.specs.Files.{Files, bytes_under}
 use Rattle.code_lists.specs.CodeFiles.{Lists, file_lists}
 use Rattle.code_lists.specs.declared.fault.ListFault.{ListFault}
@@ -120,15 +120,15 @@ content_told files name other is = let same : files ≡ other = cc in ap (bytes_
 pub answer_ends : (files : Files) (course : Course) → EndsIn (Some files) course (readings course files) (answer_of course files)
 answer_ends files (ends answer) = at_end
 answer_ends files (loads limits name refused next) = go (document limits (bytes_under name files))
-    (λ found. answer_ends files (next (length (bytes_under name files)) found)) refl
+    (λ found. answer_ends files (next (bytes_under name files) found)) refl
   where
     go : (r : Result profile.Document XmlFault)
-        → ((found : profile.Document) → EndsIn (Some files) (next (length (bytes_under name files)) found)
-        (readings (next (length (bytes_under name files)) found) files) (answer_of (next (length (bytes_under name files)) found) files))
+        → ((found : profile.Document) → EndsIn (Some files) (next (bytes_under name files) found)
+        (readings (next (bytes_under name files) found) files) (answer_of (next (bytes_under name files) found) files))
         → document limits (bytes_under name files) ≡ r
         → EndsIn (Some files) (loads limits name refused next)
-        (suc (by_result (λ fault. 0) (λ found. readings (next (length (bytes_under name files)) found) files) r))
-        (by_result refused (λ found. answer_of (next (length (bytes_under name files)) found) files) r)
+        (suc (by_result (λ fault. 0) (λ found. readings (next (bytes_under name files) found) files) r))
+        (by_result refused (λ found. answer_of (next (bytes_under name files) found) files) r)
     go (Ok found) further is = loaded (content_told files name) is (further found)
     go (Err fault) further is = refused_at (content_told files name) is
 answer_ends files (takes limit name too_long next) = go (is_within limit (bytes_under name files)) (answer_ends files (next (bytes_under name files))) refl

@@ -1,5 +1,5 @@
 -- How a job goes on, or ends, by the files beside its document.
-use Rattle.std.proofs.Common.{◌≡◌, ◌≢◌, ℕ, List, [], Some, None, Result, Ok, Err, inl, inr, refl, ap, sym, subst, ◌∙◌, arith}
+use Rattle.std.proofs.Common.{◌≡◌, ◌≢◌, ℕ, List, [], Option, Some, None, Result, Ok, Err, inl, inr, refl, ap, sym, subst, ◌∙◌, arith}
 use Rattle.std.specs.Prelude.{IfOk, IfErr, OnOk}
 use Rattle.inv_base.specs.Outside.{ShelfView, SinkView}
 use Rattle.code_lists.specs.CodeFiles.{Lists}
@@ -24,7 +24,7 @@ use Rattle.job_course.specs.Runs.{AreListed, Runs, Continues, Fails}
 use Rattle.job_course.proofs.Ends.{behind_lists, memory_here}
 use Rattle.job_course.proofs.FileLemmas.{memory_in, refused_here}
 use Rattle.invoice_jobs.specs.declared.sources.Extended.{Extended}
-use Rattle.invoice_jobs.specs.Sources.{Sources, listed_course, extension_line, bad_row_line, by_good, by_terms, terms_course, extended_course, basis_course, IsExtensionRefusal, IsRowRefusal, IsRefusedBy}
+use Rattle.invoice_jobs.specs.Sources.{listed_course, extension_line, bad_row_line, by_good, by_terms, terms_course, extended_course, with_terms, IsExtensionRefusal, IsRowRefusal, IsRefusedBy}
 
 -- ---- the lists
 
@@ -166,22 +166,21 @@ no_tables (Err status) shelf err is = λ next out. rw is (memory_here (next []) 
 
 -- ---- both
 
-module _ (sources : Sources) (lists : Lists) (shelf mid shelf' : ShelfView) (err mid_err err' : SinkView)
-    (listed : Continues (listed_course sources.codes_file) lists shelf mid err mid_err) where
-  pub basis_goes_on : (terms : List ExtTerm) → Continues (extended_course sources.extension_file) terms mid shelf' mid_err err'
-      → Continues (basis_course sources) (record { lists = lists; terms = terms }) shelf shelf' err err'
-  basis_goes_on terms extended = λ next shelf'' out out' err'' status further.
-      listed (λ l. extended_course sources.extension_file (λ t. next (record { lists = l; terms = t }))) shelf'' out out' err'' status
-      (extended (λ t. next (record { lists = lists; terms = t })) shelf'' out out' err'' status further)
+-- Lists by whatever course, and the terms behind them.
+module _ (listed : (Lists → Course) → Course) (file : Option (List ℕ)) where
+  module _ (lists : Lists) (shelf mid shelf' : ShelfView) (err mid_err err' : SinkView) (goes_on : Continues listed lists shelf mid err mid_err) where
+    pub basis_goes_on : (terms : List ExtTerm) → Continues (extended_course file) terms mid shelf' mid_err err'
+        → Continues (with_terms listed file) (record { lists = lists; terms = terms }) shelf shelf' err err'
+    basis_goes_on terms extended = λ next shelf'' out out' err'' status further.
+        goes_on (λ l. extended_course file (λ t. next (record { lists = l; terms = t }))) shelf'' out out' err'' status
+        (extended (λ t. next (record { lists = lists; terms = t })) shelf'' out out' err'' status further)
 
-  pub basis_fails : (status : Status) → Fails (extended_course sources.extension_file) status mid shelf' mid_err err'
-      → Fails (basis_course sources) status shelf shelf' err err'
-  basis_fails status extended = λ next out.
-      listed (λ l. extended_course sources.extension_file (λ t. next (record { lists = l; terms = t }))) shelf' out out err' status
-      (extended (λ t. next (record { lists = lists; terms = t })) out)
+    pub basis_fails : (status : Status) → Fails (extended_course file) status mid shelf' mid_err err'
+        → Fails (with_terms listed file) status shelf shelf' err err'
+    basis_fails status extended = λ next out.
+        goes_on (λ l. extended_course file (λ t. next (record { lists = l; terms = t }))) shelf' out out err' status
+        (extended (λ t. next (record { lists = lists; terms = t })) out)
 
-pub no_lists : (sources : Sources) (status : Status) (shelf shelf' : ShelfView) (err err' : SinkView)
-    → Fails (listed_course sources.codes_file) status shelf shelf' err err'
-    → Fails (basis_course sources) status shelf shelf' err err'
-no_lists sources status shelf shelf' err err' fails = λ next out. fails
-    (λ l. extended_course sources.extension_file (λ t. next (record { lists = l; terms = t }))) out
+  pub no_lists : (status : Status) (shelf shelf' : ShelfView) (err err' : SinkView) → Fails listed status shelf shelf' err err'
+      → Fails (with_terms listed file) status shelf shelf' err err'
+  no_lists status shelf shelf' err err' fails = λ next out. fails (λ l. extended_course file (λ t. next (record { lists = l; terms = t }))) out

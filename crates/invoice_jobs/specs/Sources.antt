@@ -87,9 +87,12 @@ extended_course (Some file) next = terms_course file next
 
 -- ---- both
 
+-- the lists that a course gives, and the terms of the file that is named
+abbrev pub with_terms : ((Lists → Course) → Course) → Option (List ℕ) → (Basis → Course) → Course
+with_terms listed extension_file next = listed (λ lists. extended_course extension_file (λ terms. next (record { lists = lists; terms = terms })))
+
 abbrev pub basis_course : Sources → (Basis → Course) → Course
-basis_course sources next =
-    listed_course sources.codes_file (λ lists. extended_course sources.extension_file (λ terms. next (record { lists = lists; terms = terms })))
+basis_course sources next = with_terms (listed_course sources.codes_file) sources.extension_file next
 
 -- ---- what the code has
 

@@ -47,7 +47,7 @@ fn load_invoice<S: Shelf, E: Sink>(
 }
 
 /// The status with which a job ends whose document isn't an invoice; its line is told.
-fn refuse_invoice<E: Sink>(doc: &Doc<'_>, file: &str, fault: &BindFault, err: &mut E) -> Status
+pub fn refuse_invoice<E: Sink>(doc: &Doc<'_>, file: &str, fault: &BindFault, err: &mut E) -> Status
     requires { fault.now.kind ≢ kinds.Memory → fault.now.node < length doc.now.nodes }
     ensures { IsInvoiceRefusal doc.now file.now fault.now result (E.view err.old) (E.view err.new) }
 {

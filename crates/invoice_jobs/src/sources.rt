@@ -33,10 +33,10 @@ pub const NO_SOURCES: Sources<'static> = Sources {
 };
 
 /// What an invoice is read and written by: the code lists, the terms that a user adds, and the three tables with them.
-pub(crate) struct Basis {
-    pub(crate) lists: CodeLists,
-    pub(crate) extension: Extension,
-    pub(crate) tables: Tables,
+pub struct Basis {
+    pub lists: CodeLists,
+    pub extension: Extension,
+    pub tables: Tables,
 }
 
 impl Drop for Basis {
@@ -53,9 +53,9 @@ impl Drop for Basis {
 }
 
 /// The terms of a user, and the three tables with them.
-struct Extended {
-    extension: Extension,
-    tables: Tables,
+pub struct Extended {
+    pub extension: Extension,
+    pub tables: Tables,
 }
 
 /// The code lists of a file, or the built-in ones where none is named; or the status with which the job ends.
@@ -180,7 +180,7 @@ fn refuse_tables<E: Sink>(file: &str, fault: ExtendFault, err: &mut E) -> Status
 }
 
 /// The three tables with the terms of a file, or as they are where none is named; or the status with which the job ends.
-fn load_extended<S: Shelf, E: Sink>(
+pub fn load_extended<S: Shelf, E: Sink>(
     alloc: Global,
     extension_file: Option<&str>,
     shelf: &mut S,

@@ -1,5 +1,5 @@
 -- How a run ends where nothing more is read, and what is known of a course where the files are told.
-use Rattle.std.proofs.Common.{◌≡◌, ℕ, ◌≤◌, suc, List, [], length, Some, inl, inr, refl, ap, sym, subst, ◌∙◌, arith, option_map, ◌⊎◌}
+use Rattle.std.proofs.Common.{◌≡◌, ℕ, ◌≤◌, suc, List, [], Some, inl, inr, refl, ap, sym, subst, ◌∙◌, arith, option_map, ◌⊎◌}
 use Rattle.inv_base.specs.Files.{Files, bytes_under}
 use Rattle.inv_base.specs.Outside.{ShelfView, SinkView}
 use Rattle.inv_base.specs.Writing.{WritesAll, WritesFront}
@@ -10,7 +10,7 @@ use Rattle.xml_profile.specs.Profile as profile
 use Rattle.xml_document.specs.Loading.{IsLoaded}
 use Rattle.job_course.specs.declared.status.Status.{Status}
 use Rattle.job_course.specs.declared.status.Status.TheVariants as statuses
-use Rattle.job_course.specs.Course.{Answer, Course, ends, loads, takes, refusal, by_result, by_test, by_lists, is_within, document_limits, list_limit, document_course, lists_course, answer_of, readings}
+use Rattle.job_course.specs.Course.{Answer, Course, ends, loads, takes, refusal, by_result, by_test, by_lists, is_within, document_limits, list_limit, document_course, told_course, lists_course, answer_of, readings}
 use Rattle.job_course.specs.Lines.{document_line, too_long_line}
 use Rattle.job_course.specs.Outside.{HasRead, IsAccepted}
 use Rattle.job_course.specs.Runs.{AreListed, EndsIn, at_end, refused_at, loaded, too_long_at, taken, ReadsAt, a_load, a_taking, behind_load, behind_taking, Runs, RunsInPieces}
@@ -45,25 +45,36 @@ memory_here course shelf out err = inr (inr (inl (record {
 
 module _ (name : List ℕ) (shelf mid shelf' : ShelfView) (out out' err mid_err err' : SinkView) (status : Status) (read : HasRead 1 shelf mid) (quiet : mid_err ≡ err) where
   -- a document that was loaded
-  module _ (next : profile.Document → Course) (doc : Document) (found : IsLoaded document_limits (option_map (bytes_under name) shelf.held) doc) where
-    behind_it : Behind shelf.held (document_course name next) (next found.found)
-    behind_it = behind_a_load shelf.held document_limits name (λ fault. refusal statuses.DocumentRefused (document_line name fault)) (λ bytes f. next f) found.content found.found
-        (λ files is. found.whole (bytes_under name files) (ap (option_map (bytes_under name)) is)) found.is
+  module _ (next : List ℕ → profile.Document → Course) (doc : Document) (found : IsLoaded document_limits (option_map (bytes_under name) shelf.held) doc) where
+    behind_it : Behind shelf.held (told_course name next) (next found.content found.found)
+    behind_it = behind_a_load shelf.held document_limits name (λ fault. refusal statuses.DocumentRefused (document_line name fault)) next
+        found.content found.found (λ files is. found.whole (bytes_under name files) (ap (option_map (bytes_under name)) is)) found.is
+
+    -- what follows behind it, by the bytes of its file too
+    pub behind_told : Runs (next found.content found.found) (record { shelf = mid; out = out; err = mid_err })
+        (record { shelf = shelf'; out = out'; err = err' }) status
+        → Runs (told_course name next) (record { shelf = shelf; out = out; err = err }) (record { shelf = shelf'; out = out'; err = err' }) status
+    behind_told further =
+        run_behind (told_course name next) (next found.content found.found) shelf mid shelf' out out' err mid_err err' status behind_it read quiet further
+
+    -- the same of a job that wants memory while it writes
+    pub pieces_behind_told : RunsInPieces (next found.content found.found) (record { shelf = mid; out = out; err = mid_err })
+        (record { shelf = shelf'; out = out'; err = err' }) status
+        → RunsInPieces (told_course name next) (record { shelf = shelf; out = out; err = err }) (record { shelf = shelf'; out = out'; err = err' }) status
+    pieces_behind_told further =
+        pieces_behind (told_course name next) (next found.content found.found) shelf mid shelf' out out' err mid_err err' status behind_it read quiet further
 
   -- what follows behind a document
   pub behind_document : (next : profile.Document → Course) (doc : Document) (found : IsLoaded document_limits (option_map (bytes_under name) shelf.held) doc)
       → Runs (next found.found) (record { shelf = mid; out = out; err = mid_err }) (record { shelf = shelf'; out = out'; err = err' }) status
       → Runs (document_course name next) (record { shelf = shelf; out = out; err = err }) (record { shelf = shelf'; out = out'; err = err' }) status
-  behind_document next doc found further =
-      run_behind (document_course name next) (next found.found) shelf mid shelf' out out' err mid_err err' status (behind_it next doc found) read quiet further
+  behind_document next doc found further = behind_told (λ bytes f. next f) doc found further
 
   -- the same of a job that wants memory while it writes
   pub pieces_behind_document : (next : profile.Document → Course) (doc : Document) (found : IsLoaded document_limits (option_map (bytes_under name) shelf.held) doc)
       → RunsInPieces (next found.found) (record { shelf = mid; out = out; err = mid_err }) (record { shelf = shelf'; out = out'; err = err' }) status
       → RunsInPieces (document_course name next) (record { shelf = shelf; out = out; err = err }) (record { shelf = shelf'; out = out'; err = err' }) status
-  pieces_behind_document next doc found further =
-      pieces_behind (document_course name next) (next found.found) shelf mid shelf' out out' err mid_err err' status
-      (behind_it next doc found) read quiet further
+  pieces_behind_document next doc found further = pieces_behind_told (λ bytes f. next f) doc found further
 
   -- what follows behind the lists of a file
   pub behind_lists : (next : Lists → Course) (lists : Lists) (found : AreListed shelf.held name lists)
@@ -82,11 +93,11 @@ module _ (name : List ℕ) (shelf mid shelf' : ShelfView) (out out' err mid_err 
 pub ends_as_answered : (files : Files) (course : Course) (n : ℕ) (a : Answer) → EndsIn (Some files) course n a → a ≡ answer_of course files
 ends_as_answered files (ends answer) n a at_end = refl
 ends_as_answered files (loads limits name refused next) n a (refused_at is fails) =
-    sym (ap (by_result refused (λ found. answer_of (next (length (bytes_under name files)) found) files)) (ap (document limits) (sym (is files refl)) ∙ fails))
+    sym (ap (by_result refused (λ found. answer_of (next (bytes_under name files) found) files)) (ap (document limits) (sym (is files refl)) ∙ fails))
 ends_as_answered files (loads limits name refused next) n a (loaded {content} {found} is fits further) =
-    ends_as_answered files (next (length content) found) _ a further
-    ∙ sym (subst (λ bytes. by_result refused (λ f. answer_of (next (length bytes) f) files) (document limits bytes) ≡ answer_of (next (length content) found) files) (is files refl)
-    (ap (by_result refused (λ f. answer_of (next (length content) f) files)) fits))
+    ends_as_answered files (next content found) _ a further
+    ∙ sym (subst (λ bytes. by_result refused (λ f. answer_of (next bytes f) files) (document limits bytes) ≡ answer_of (next content found) files) (is files refl)
+    (ap (by_result refused (λ f. answer_of (next content f) files)) fits))
 ends_as_answered files (takes limit name too_long next) n a (too_long_at {content} is long) =
     sym (subst (λ bytes. by_test too_long (answer_of (next bytes) files) (is_within limit bytes) ≡ too_long) (is files refl)
     (ap (by_test too_long (answer_of (next content) files)) long))
@@ -98,11 +109,11 @@ ends_as_answered files (takes limit name too_long next) n a (taken {content} is 
 pub ends_behind_readings : (files : Files) (course : Course) (n : ℕ) (a : Answer) → EndsIn (Some files) course n a → n ≡ readings course files
 ends_behind_readings files (ends answer) n a at_end = refl
 ends_behind_readings files (loads limits name refused next) n a (refused_at is fails) =
-    sym (ap (λ r. suc (by_result (λ fault. 0) (λ found. readings (next (length (bytes_under name files)) found) files) r)) (ap (document limits) (sym (is files refl)) ∙ fails))
+    sym (ap (λ r. suc (by_result (λ fault. 0) (λ found. readings (next (bytes_under name files) found) files) r)) (ap (document limits) (sym (is files refl)) ∙ fails))
 ends_behind_readings files (loads limits name refused next) n a (loaded {content} {found} is fits further) =
-    ap suc (ends_behind_readings files (next (length content) found) _ a further)
-    ∙ sym (subst (λ bytes. suc (by_result (λ fault. 0) (λ f. readings (next (length bytes) f) files) (document limits bytes)) ≡ suc (readings (next (length content) found) files))
-    (is files refl) (ap (λ r. suc (by_result (λ fault. 0) (λ f. readings (next (length content) f) files) r)) fits))
+    ap suc (ends_behind_readings files (next content found) _ a further)
+    ∙ sym (subst (λ bytes. suc (by_result (λ fault. 0) (λ f. readings (next bytes f) files) (document limits bytes)) ≡ suc (readings (next content found) files))
+    (is files refl) (ap (λ r. suc (by_result (λ fault. 0) (λ f. readings (next content f) files) r)) fits))
 ends_behind_readings files (takes limit name too_long next) n a (too_long_at {content} is long) =
     sym (subst (λ bytes. suc (by_test 0 (readings (next bytes) files) (is_within limit bytes)) ≡ 1) (is files refl)
     (ap (λ b. suc (by_test 0 (readings (next content) files) b)) long))
@@ -115,9 +126,9 @@ pub reads_within : (files : Files) (course : Course) (n : ℕ) (file : List ℕ)
 reads_within files (ends answer) n file x = elim x [ ]
 reads_within files (loads limits name refused next) n file a_load = omega arith
 reads_within files (loads limits name refused next) n file (behind_load {content} {found} {n = m} is fits further) =
-    let within = reads_within files (next (length content) found) m file further in
-    subst (λ bytes. suc m ≤ suc (by_result (λ fault. 0) (λ f. readings (next (length bytes) f) files) (document limits bytes))) (is files refl)
-    (subst (λ r. suc m ≤ suc (by_result (λ fault. 0) (λ f. readings (next (length content) f) files) r)) (sym fits) (omega (arith, within)))
+    let within = reads_within files (next content found) m file further in
+    subst (λ bytes. suc m ≤ suc (by_result (λ fault. 0) (λ f. readings (next bytes f) files) (document limits bytes))) (is files refl)
+    (subst (λ r. suc m ≤ suc (by_result (λ fault. 0) (λ f. readings (next content f) files) r)) (sym fits) (omega (arith, within)))
 reads_within files (takes limit name too_long next) n file a_taking = omega arith
 reads_within files (takes limit name too_long next) n file (behind_taking {content} {n = m} is is_in further) =
     let within = reads_within files (next content) m file further in

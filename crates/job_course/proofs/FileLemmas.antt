@@ -14,7 +14,7 @@ use Rattle.xml_state.specs.declared.fault.XmlFault.{XmlFault}
 use Rattle.xml_profile.specs.Profile.{document, first_fault, names_of}
 use Rattle.xml_profile.specs.Profile as profile
 use Rattle.xml_profile.specs.TokenByToken.{read_whole}
-use Rattle.node_arena.specs.Document.{Document}
+use Rattle.xml_document.specs.declared.loading.LoadFault.{LoadFault}
 use Rattle.xml_document.specs.declared.loading.LoadFault.TheVariants as load_faults
 use Rattle.xml_document.specs.declared.whole.WholeFault.TheVariants as whole_faults
 use Rattle.xml_document.specs.Loading.{ReadsFrom, StopsInTime}
@@ -22,7 +22,8 @@ use Rattle.xml_document.specs.Loading as documents
 use Rattle.xml_document.specs.Whole.{IsReadWhole, IsTooLong}
 use Rattle.job_course.specs.declared.status.Status.{Status}
 use Rattle.job_course.specs.declared.status.Status.TheVariants as statuses
-use Rattle.job_course.specs.Course.{Answer, Course, ends, loads, Stop, at_fault, past_limit, refusal, by_result, by_test, by_lists, is_within, document_limits, list_limit, document_course, taken_course, lists_course, readings, stopped_at}
+use Rattle.job_course.specs.Course.{Answer, Course, ends, loads, Stop, at_fault, past_limit, refusal, by_result, by_test, by_lists, is_within, document_limits, list_limit, told_course, taken_course, lists_course, readings, stopped_at}
+use Rattle.job_course.specs.Documents.{IsDocumentRefusal}
 use Rattle.job_course.specs.Lines.{read_fault_line, document_line, list_line, too_long_line}
 use Rattle.job_course.specs.Outside.{Outside, HasRead, HasOpened, TakesOrFails, IsRefusedAnswer}
 use Rattle.job_course.specs.Runs.{IsContentOf, AreListed, at_end, refused_at, too_long_at, a_load, a_taking, StopsThere, Runs, Continues, IsListRefusal}
@@ -54,7 +55,7 @@ module _ (name : List ℕ) (shelf shelf' : ShelfView) (out err err' : SinkView) 
   after = record { shelf = shelf'; out = out; err = err' }
 
   -- The file of a reading can't be read.
-  pub unread_load : (limits : Limits) (refused : XmlFault → Answer) (next : ℕ → profile.Document → Course) → HasOpened 1 shelf shelf' → Rose shelf.faults shelf'.faults
+  pub unread_load : (limits : Limits) (refused : XmlFault → Answer) (next : List ℕ → profile.Document → Course) → HasOpened 1 shelf shelf' → Rose shelf.faults shelf'.faults
       → TakesOrFails (read_fault_line name) err err' → Runs (loads limits name refused next) before after statuses.ReadFault
   unread_load limits refused next opened rose takes = inr (inl (record {
     count = 1;
@@ -69,13 +70,7 @@ module _ (name : List ℕ) (shelf shelf' : ShelfView) (out err err' : SinkView) 
     line = takes;
   }))
 
-  pub unread_document : (next : profile.Document → Course) → ReadsFrom {T = Document} (Err load_faults.Read) load_faults.Read shelf shelf'
-      → TakesOrFails (read_fault_line name) err err' → Runs (document_course name next) before after statuses.ReadFault
-  unread_document next reads takes =
-      unread_load document_limits (λ fault. refusal statuses.DocumentRefused (document_line name fault)) (λ bytes found. next found)
-      (record { held = reads.held; opens = reads.opens; rises = reads.rises }) (reads.rose refl) takes
-
-  module _ (limits : Limits) (refusing : Status) (next : ℕ → profile.Document → Course) (fault : XmlFault)
+  module _ (limits : Limits) (refusing : Status) (next : List ℕ → profile.Document → Course) (fault : XmlFault)
       (refused : documents.IsRefused limits (option_map (bytes_under name) shelf.held) fault)
       (stops : StopsInTime limits (option_map (bytes_under name) shelf.held) shelf'.left) where
     of_this_file : IsContentOf shelf.held name refused.content
@@ -103,7 +98,7 @@ module _ (name : List ℕ) (shelf shelf' : ShelfView) (out err err' : SinkView) 
       nothing = refl;
       line = takes;
       stops = λ files is stop found. stops_at files stop is (sym (ap (by_result (λ fault. Some (at_fault limits name))
-          (λ f. stopped_at (next (length (bytes_under name files)) f) files)) (no_document files is)) ∙ found);
+          (λ f. stopped_at (next (bytes_under name files) f) files)) (no_document files is)) ∙ found);
     })
 
   -- Memory ran out in the first reading, which may have failed.
@@ -119,6 +114,22 @@ module _ (name : List ℕ) (shelf shelf' : ShelfView) (out err err' : SinkView) 
 
   pub memory_in : (course : Course) → ((files : Files) → 1 ≤ readings course files) → HasRead 1 shelf shelf' → err' ≡ err → Runs course before after statuses.Memory
   memory_in course some read quiet = memory_inside course some (record { held = read.held; opens = read.opens; rises = omega (arith, read.faults) }) quiet
+
+  module _ (next : List ℕ → profile.Document → Course) where
+    -- A document can't be had, whatever was to follow.
+    pub document_failed : {T : Type 0} (fault : LoadFault) (status : Status) → ReadsFrom {T = T} (Err fault) load_faults.Read shelf shelf'
+        → ((f : XmlFault) → fault ≡ load_faults.Refused f → documents.IsRefused document_limits (option_map (bytes_under name) shelf.held) f)
+        → ((f : XmlFault) → fault ≡ load_faults.Refused f → StopsInTime document_limits (option_map (bytes_under name) shelf.held) shelf'.left)
+        → IsDocumentRefusal fault name status err err' → Runs (told_course name next) before after status
+    document_failed load_faults.Read status reads refused stops said =
+        rw said.0 (unread_load document_limits (λ f. refusal statuses.DocumentRefused (document_line name f)) next
+        (record { held = reads.held; opens = reads.opens; rises = reads.rises }) (reads.rose refl) said.1)
+    document_failed (load_faults.Refused fault) status reads refused stops said =
+        rw said.0 (refused_load document_limits statuses.DocumentRefused next fault (refused fault refl) (stops fault refl) tt
+        (record { held = reads.held; opens = reads.opens; faults = reads.quiet (λ e. cc) }) said.1)
+    document_failed load_faults.Memory status reads refused stops said =
+        rw said.0 (memory_in (told_course name next) (λ files. omega arith)
+        (record { held = reads.held; opens = reads.opens; faults = reads.quiet (λ e. cc) }) said.1)
 
   pub unread_file : {T : Type 0} → ReadsFrom {T = T} (Err whole_faults.Read) whole_faults.Read shelf shelf'
       → TakesOrFails (read_fault_line name) err err' → (next : List ℕ → Course) → Runs (taken_course name next) before after statuses.ReadFault

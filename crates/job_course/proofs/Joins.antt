@@ -1,5 +1,5 @@
 -- A run of what follows behind readings is a run of the whole.
-use Rattle.std.proofs.Common.{◌≡◌, ℕ, ◌≤◌, suc, zero, List, length, Option, Some, Ok, true, inl, inr, refl, ap, sym, subst, ◌∙◌, arith}
+use Rattle.std.proofs.Common.{◌≡◌, ℕ, ◌≤◌, suc, zero, List, Option, Some, Ok, true, inl, inr, refl, ap, sym, subst, ◌∙◌, arith}
 use Rattle.inv_base.specs.Counts.{Rose, next_count}
 use Rattle.inv_base.specs.Files.{Files}
 use Rattle.inv_base.specs.Outside.{ShelfView, SinkView, WhereTold, appended}
@@ -38,19 +38,19 @@ pub record BehindAll (held : Option Files) (k : ℕ) (whole next : Course) : Typ
 abbrev pub Behind : Option Files → Course → Course → Type 0
 Behind held whole next = BehindAll held 1 whole next
 
-pub behind_a_load : (held : Option Files) (limits : Limits) (name : List ℕ) (refused : XmlFault → Answer) (next : ℕ → profile.Document → Course) (content : List ℕ)
-    (found : profile.Document) → IsContentOf held name content → document limits content ≡ Ok found → Behind held (loads limits name refused next) (next (length content) found)
+pub behind_a_load : (held : Option Files) (limits : Limits) (name : List ℕ) (refused : XmlFault → Answer) (next : List ℕ → profile.Document → Course) (content : List ℕ)
+    (found : profile.Document) → IsContentOf held name content → document limits content ≡ Ok found → Behind held (loads limits name refused next) (next content found)
 behind_a_load held limits name refused next content found of_file is =
     record {
       ends_in = λ n answer further. loaded of_file is further;
       reads_at = λ n file further. behind_load of_file is further;
-      answers = λ files told. subst (λ bytes. by_result refused (λ f. answer_of (next (length bytes) f) files) (document limits bytes) ≡ answer_of (next (length content) found) files)
-          (of_file files told) (ap (by_result refused (λ f. answer_of (next (length content) f) files)) is);
-      reads = λ files told. subst (λ bytes. suc (by_result (λ fault. 0) (λ f. readings (next (length bytes) f) files) (document limits bytes)) ≡ suc (readings (next (length content) found) files))
-          (of_file files told) (ap (λ r. suc (by_result (λ fault. 0) (λ f. readings (next (length content) f) files) r)) is);
-      stops = λ files told. subst (λ bytes. by_result (λ fault. Some (at_fault limits name)) (λ f. stopped_at (next (length bytes) f) files) (document limits bytes)
-          ≡ stopped_at (next (length content) found) files)
-          (of_file files told) (ap (by_result (λ fault. Some (at_fault limits name)) (λ f. stopped_at (next (length content) f) files)) is);
+      answers = λ files told. subst (λ bytes. by_result refused (λ f. answer_of (next bytes f) files) (document limits bytes) ≡ answer_of (next content found) files)
+          (of_file files told) (ap (by_result refused (λ f. answer_of (next content f) files)) is);
+      reads = λ files told. subst (λ bytes. suc (by_result (λ fault. 0) (λ f. readings (next bytes f) files) (document limits bytes)) ≡ suc (readings (next content found) files))
+          (of_file files told) (ap (λ r. suc (by_result (λ fault. 0) (λ f. readings (next content f) files) r)) is);
+      stops = λ files told. subst (λ bytes. by_result (λ fault. Some (at_fault limits name)) (λ f. stopped_at (next bytes f) files) (document limits bytes)
+          ≡ stopped_at (next content found) files)
+          (of_file files told) (ap (by_result (λ fault. Some (at_fault limits name)) (λ f. stopped_at (next content f) files)) is);
     }
 
 pub behind_a_taking : (held : Option Files) (limit : ℕ) (name : List ℕ) (too_long : Answer) (next : List ℕ → Course) (content : List ℕ)

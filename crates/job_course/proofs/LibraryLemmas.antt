@@ -51,7 +51,7 @@ leads_behind : (held : Option Files) (a b : Readings) (n : ℕ) (next : Result S
 leads_behind held a b n next here = behind_nothing held (library_by a next)
 leads_behind held (reads name more) b n next (read {content} {found} {n = m} whole is further) =
     behind_more held m (library_by (reads name more) next) (library_by (more (length content) found) next) (library_by b next)
-    (behind_a_load held rule_limits name (λ fault. refusal statuses.RulesRefused (document_line name fault)) (λ bytes f. library_by (more bytes f) next)
+    (behind_a_load held rule_limits name (λ fault. refusal statuses.RulesRefused (document_line name fault)) (λ bytes f. library_by (more (length bytes) f) next)
     content found (told_of held name content whole) is)
     (leads_behind held (more (length content) found) b m next further)
 
@@ -138,7 +138,7 @@ module _ (first : Readings) (fault : LoadFault) (shelf shelf' : ShelfView) (out 
       let line = refused_as fault (unread stops.name) status err err' tells said in
       behind_last first shelf shelf' out err err' status next stops
       (rw line.0 (unread_load stops.name (before_last stops.count shelf) shelf' out err err' rule_limits
-      (λ f. refusal statuses.RulesRefused (document_line stops.name f)) (λ bytes found. library_by (stops.next bytes found) next)
+      (λ f. refusal statuses.RulesRefused (document_line stops.name f)) (λ bytes found. library_by (stops.next (length bytes) found) next)
       (opened_last first shelf shelf' out err err' status next stops) rose line.1))
 
   malformed_ends : (wrong : XmlFault) (is : IsMalformed first wrong shelf shelf') → Tells fault (malformed is.stops.name wrong)
@@ -150,7 +150,7 @@ module _ (first : Readings) (fault : LoadFault) (shelf shelf' : ShelfView) (out 
       let last = opened_last first shelf shelf' out err err' status next stops in
       behind_last first shelf shelf' out err err' status next stops
       (rw line.0 (refused_load stops.name (before_last stops.count shelf) shelf' out err err' rule_limits statuses.RulesRefused
-      (λ bytes found. library_by (stops.next bytes found) next) wrong is.refused is.in_time tt
+      (λ bytes found. library_by (stops.next (length bytes) found) next) wrong is.refused is.in_time tt
       (record { held = last.held; opens = last.opens; faults = is.quiet }) line.1))
 
   full_inside_ends : (stops : Stops first shelf shelf') → fault ≡ want_of_memory → IsLoadRefusal fault.file fault status err err' → Ends

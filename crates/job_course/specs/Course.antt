@@ -28,9 +28,9 @@ refusal status line = record { status = status; out = []; err = line }
 pub data Course : Type 0 where
   -- what is answered
   ends : Answer → Course
-  -- a document, under limits: what is answered where it is refused, and what follows by how many bytes its file has and
-  -- what it is
-  loads : Limits → List ℕ → (XmlFault → Answer) → (ℕ → profile.Document → Course) → Course
+  -- a document, under limits: what is answered where it is refused, and what follows by the bytes of its file and what it
+  -- is
+  loads : Limits → List ℕ → (XmlFault → Answer) → (List ℕ → profile.Document → Course) → Course
   -- a file that is taken whole, of at most so many bytes: what is answered where it is longer, and what follows by its
   -- bytes
   takes : ℕ → List ℕ → Answer → (List ℕ → Course) → Course
@@ -50,7 +50,7 @@ is_within limit bytes = nat_le (length bytes) limit
 abbrev pub answer_of : Course → Files → Answer
 answer_of (ends answer) files = answer
 answer_of (loads limits name refused next) files =
-    by_result refused (λ found. answer_of (next (length (bytes_under name files)) found) files) (document limits (bytes_under name files))
+    by_result refused (λ found. answer_of (next (bytes_under name files) found) files) (document limits (bytes_under name files))
 answer_of (takes limit name too_long next) files =
     by_test too_long (answer_of (next (bytes_under name files)) files) (is_within limit (bytes_under name files))
 
@@ -58,7 +58,7 @@ answer_of (takes limit name too_long next) files =
 abbrev pub readings : Course → Files → ℕ
 readings (ends answer) files = 0
 readings (loads limits name refused next) files =
-    suc (by_result (λ fault. 0) (λ found. readings (next (length (bytes_under name files)) found) files) (document limits (bytes_under name files)))
+    suc (by_result (λ fault. 0) (λ found. readings (next (bytes_under name files) found) files) (document limits (bytes_under name files)))
 readings (takes limit name too_long next) files = suc (by_test 0 (readings (next (bytes_under name files)) files) (is_within limit (bytes_under name files)))
 
 -- a file at which the job stops: a document that is refused, or a file that is longer than it may be
@@ -69,7 +69,7 @@ pub data Stop : Type 0 where
 abbrev pub stopped_at : Course → Files → Option Stop
 stopped_at (ends answer) files = None
 stopped_at (loads limits name refused next) files =
-    by_result (λ fault. Some (at_fault limits name)) (λ found. stopped_at (next (length (bytes_under name files)) found) files) (document limits (bytes_under name files))
+    by_result (λ fault. Some (at_fault limits name)) (λ found. stopped_at (next (bytes_under name files) found) files) (document limits (bytes_under name files))
 stopped_at (takes limit name too_long next) files =
     by_test (Some (past_limit limit name)) (stopped_at (next (bytes_under name files)) files) (is_within limit (bytes_under name files))
 
@@ -83,9 +83,14 @@ document_limits = sizes.document_limits
 abbrev pub list_limit : ℕ
 list_limit = 4194304
 
+-- a document by its name, and what follows by the bytes of its file and what it is: so what is answered may tell a place
+-- in the file by its line
+abbrev pub told_course : List ℕ → (List ℕ → profile.Document → Course) → Course
+told_course name next = loads document_limits name (λ fault. refusal statuses.DocumentRefused (document_line name fault)) next
+
 -- a document by its name, and what follows by what it is
 abbrev pub document_course : List ℕ → (profile.Document → Course) → Course
-document_course name next = loads document_limits name (λ fault. refusal statuses.DocumentRefused (document_line name fault)) (λ bytes found. next found)
+document_course name next = told_course name (λ bytes found. next found)
 
 -- a file by its name that is taken whole, as large as a file of code lists may be, and what follows by its bytes
 abbrev pub taken_course : List ℕ → (List ℕ → Course) → Course

@@ -4,3 +4,4 @@ pub mod Outside
 pub mod Runs
 pub mod Libraries
 pub mod Views
+pub mod Documents

@@ -1,5 +1,5 @@
 -- A rule file with the parts that it takes of other files, as a course of readings.
-use Rattle.std.specs.Prelude.{◌≡◌, ℕ, Bool, true, false, List, encode_utf8_all, Option, Some, None, Result}
+use Rattle.std.specs.Prelude.{◌≡◌, ℕ, Bool, true, false, List, length, encode_utf8_all, Option, Some, None, Result}
 use Rattle.inv_base.specs.Outside.{SinkView}
 use Rattle.inv_base.specs.declared.place.Place.{Place}
 use Rattle.xml_state.specs.Sizes.{rule_limits}
@@ -19,7 +19,7 @@ use Rattle.job_course.specs.Outside.{TakesOrFails}
 abbrev pub library_by : Readings → (Result State Fault → Course) → Course
 library_by (gives result) next = next result
 library_by (reads name more) next =
-    loads rule_limits name (λ fault. refusal statuses.RulesRefused (document_line name fault)) (λ bytes found. library_by (more bytes found) next)
+    loads rule_limits name (λ fault. refusal statuses.RulesRefused (document_line name fault)) (λ content found. library_by (more (length content) found) next)
 
 -- what follows by what is joined, or the refusal of what can't be
 abbrev pub by_joined : (Held → Course) → Result State Fault → Course

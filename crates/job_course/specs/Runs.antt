@@ -1,5 +1,5 @@
 -- How a job is run by its course: each way in which it may end, with what it leaves.
-use Rattle.std.specs.Prelude.{◌≡◌, ℕ, ◌≤◌, suc, true, false, List, [], length, Option, Some, Ok, Err}
+use Rattle.std.specs.Prelude.{◌≡◌, ℕ, ◌≤◌, suc, true, false, List, [], Option, Some, Ok, Err}
 use Rattle.std.proofs.Common.{◌⊎◌}
 use Rattle.inv_base.specs.Counts.{Rose}
 use Rattle.inv_base.specs.Files.{Files, bytes_under}
@@ -39,11 +39,11 @@ IsListRefusal fault name status before after = (status ≡ statuses.RulesRefused
 -- Behind so many readings the course ends with the answer, each file having some content, which is its own where the files are told.
 pub data EndsIn (held : Option Files) : Course → ℕ → Answer → Type 0 where
   at_end : {answer : Answer} → EndsIn held (ends answer) 0 answer
-  refused_at : {limits : Limits} {name : List ℕ} {refused : XmlFault → Answer} {next : ℕ → profile.Document → Course} {content : List ℕ} {fault : XmlFault}
+  refused_at : {limits : Limits} {name : List ℕ} {refused : XmlFault → Answer} {next : List ℕ → profile.Document → Course} {content : List ℕ} {fault : XmlFault}
       → IsContentOf held name content → document limits content ≡ Err fault → EndsIn held (loads limits name refused next) 1 (refused fault)
-  loaded : {limits : Limits} {name : List ℕ} {refused : XmlFault → Answer} {next : ℕ → profile.Document → Course} {content : List ℕ} {found : profile.Document}
+  loaded : {limits : Limits} {name : List ℕ} {refused : XmlFault → Answer} {next : List ℕ → profile.Document → Course} {content : List ℕ} {found : profile.Document}
       {n : ℕ} {answer : Answer}
-      → IsContentOf held name content → document limits content ≡ Ok found → EndsIn held (next (length content) found) n answer
+      → IsContentOf held name content → document limits content ≡ Ok found → EndsIn held (next content found) n answer
       → EndsIn held (loads limits name refused next) (suc n) answer
   too_long_at : {limit : ℕ} {name : List ℕ} {too_long : Answer} {next : List ℕ → Course} {content : List ℕ}
       → IsContentOf held name content → is_within limit content ≡ false → EndsIn held (takes limit name too_long next) 1 too_long
@@ -53,12 +53,12 @@ pub data EndsIn (held : Option Files) : Course → ℕ → Answer → Type 0 whe
 
 -- The file of this name is the one that is read then, counted from 1, where each file before it has some content, as above.
 pub data ReadsAt (held : Option Files) : Course → ℕ → List ℕ → Type 0 where
-  a_load : {limits : Limits} {name : List ℕ} {refused : XmlFault → Answer} {next : ℕ → profile.Document → Course}
+  a_load : {limits : Limits} {name : List ℕ} {refused : XmlFault → Answer} {next : List ℕ → profile.Document → Course}
       → ReadsAt held (loads limits name refused next) 1 name
   a_taking : {limit : ℕ} {name : List ℕ} {too_long : Answer} {next : List ℕ → Course} → ReadsAt held (takes limit name too_long next) 1 name
-  behind_load : {limits : Limits} {name : List ℕ} {refused : XmlFault → Answer} {next : ℕ → profile.Document → Course} {content : List ℕ}
+  behind_load : {limits : Limits} {name : List ℕ} {refused : XmlFault → Answer} {next : List ℕ → profile.Document → Course} {content : List ℕ}
       {found : profile.Document} {n : ℕ} {file : List ℕ}
-      → IsContentOf held name content → document limits content ≡ Ok found → ReadsAt held (next (length content) found) n file
+      → IsContentOf held name content → document limits content ≡ Ok found → ReadsAt held (next content found) n file
       → ReadsAt held (loads limits name refused next) (suc n) file
   behind_taking : {limit : ℕ} {name : List ℕ} {too_long : Answer} {next : List ℕ → Course} {content : List ℕ} {n : ℕ} {file : List ℕ}
       → IsContentOf held name content → is_within limit content ≡ true → ReadsAt held (next content) n file

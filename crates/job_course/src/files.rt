@@ -1,61 +1,26 @@
-//! The files of a job: a document, or a file of code lists. Where one can't be had, its line is told and the status
-//! answered.
+//! The files of a job that are taken whole: files of code lists, and others as large. Where one can't be had, its line is
+//! told and the status answered.
 ghost use Rattle.std.specs.Prelude.{◌≡◌, option_map, IfOk, IfErr, OnOk, Ok};
 ghost use Rattle.inv_base.specs.Counts.{next_count};
 ghost use Rattle.inv_base.specs.Files.{bytes_under};
 ghost use Rattle.inv_base.specs.Outside.{SinkView};
 ghost use Rattle.code_lists.specs.CodeFiles.{Lists};
-ghost use Rattle.xml_profile.specs.Profile as profile;
-ghost use Rattle.xml_document.specs.Loading.{IsLoaded};
 ghost use Rattle.xml_document.specs.Whole.{IsReadWhole};
-ghost use Rattle.job_course.specs.Course.{Course, document_limits, list_limit, document_course, taken_course, lists_course};
+ghost use Rattle.job_course.specs.Course.{Course, list_limit, taken_course, lists_course};
 ghost use Rattle.job_course.specs.Lines.{list_line};
 ghost use Rattle.job_course.specs.Outside.{HasRead, TakesOrFails};
 ghost use Rattle.job_course.specs.declared.status.Status.TheVariants as statuses;
 ghost use Rattle.job_course.specs.Runs.{Runs, Continues, Fails, AreListed, IsListRefusal};
 
 use crate::status::Status;
-use crate::telling::{tell_document_fault, tell_list_fault, tell_read_fault, tell_too_long};
-use bumpalo::Bump;
+use crate::telling::{tell_list_fault, tell_read_fault, tell_too_long};
 use code_lists::{CodeLists, ListFault};
 use inv_base::{Shelf, Sink};
-use node_arena::Doc;
 use std::alloc::Global;
-use xml_document::{LoadFault, WholeFault, load, read_whole};
-use xml_state::DOCUMENT_LIMITS;
+use xml_document::{WholeFault, read_whole};
 
 /// How many bytes a file of code lists may have.
 const LIST_LIMIT: usize = 4_194_304;
-
-/// The file of that name as a document under the limits of documents, or the status with which the job ends.
-pub fn load_document<'a, S: Shelf, E: Sink>(
-    alloc: Global,
-    bump: &'a Bump,
-    shelf: &mut S,
-    name: &str,
-    err: &mut E,
-) -> Result<Doc<'a>, Status>
-    ensures loaded { IfOk result (λ doc. IsLoaded document_limits (option_map (bytes_under name.now) (S.view shelf.old).held) doc) }
-    ensures opens { (S.view shelf.new).opens ≡ next_count (S.view shelf.old).opens }
-    ensures read { OnOk result (HasRead 1 (S.view shelf.old) (S.view shelf.new)) }
-    ensures quiet { OnOk result (E.view err.new ≡ E.view err.old) }
-    ensures failed { IfErr result (λ status. (next : profile.Document → Course) (out : SinkView) → Runs (document_course name.now next)
-        (record { shelf = S.view shelf.old; out = out; err = E.view err.old })
-        (record { shelf = S.view shelf.new; out = out; err = E.view err.new }) status) }
-{
-    match load(alloc, bump, shelf, name, DOCUMENT_LIMITS) {
-        Ok(doc) => Ok(doc),
-        Err(LoadFault::Read) => {
-            tell_read_fault(name, err);
-            Err(Status::ReadFault)
-        }
-        Err(LoadFault::Refused(fault)) => {
-            tell_document_fault(name, &fault, err);
-            Err(Status::DocumentRefused)
-        }
-        Err(LoadFault::Memory) => Err(Status::Memory),
-    }
-}
 
 /// The bytes of the file of that name, as large as a file of code lists may be, or the status with which the job ends.
 pub fn take_file<S: Shelf, E: Sink>(

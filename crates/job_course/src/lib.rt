@@ -2,12 +2,14 @@
 //! statuses.
 #![tactic(auto)]
 
+mod documents;
 mod files;
 mod libraries;
 mod status;
 mod telling;
 
-pub use files::{load_document, take_file, take_lists};
+pub use documents::{Placed, load_document, load_placed};
+pub use files::{take_file, take_lists};
 pub use libraries::load_library;
 pub use status::Status;
 pub use telling::{tell_bad_word, tell_document_fault, tell_read_fault};

@@ -59,7 +59,7 @@ fn each_call_of_the_shelf_may_fail(rt: HostRuntime) -> Result<(), Fail> {
 
 /// Whether a write failed where the one of this number fails. Then the output has a front; else the job is done.
 /// Nothing is told where it is otherwise.
-fn fail_write(
+pub(crate) fn fail_write(
     alloc: Global,
     job: &Case<'_>,
     number: &str,

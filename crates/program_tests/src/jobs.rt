@@ -24,15 +24,19 @@ shew f|2|bad word 1
 frob|2|bad word 1
 convert --to pdf f|2|bad word 3
 check f|2|bad word 2
+validate f f|2|bad word 3
 try 10001|2|bad word 2
 outline ill|3|ill: Mismatched at 3
 show first|3|first: UnknownRoot at 0
 totals first|3|first: UnknownRoot at 0
+validate first|3|first: UnknownRoot at 0
+validate --svrl ill|3|ill: Mismatched at 3
 convert --to cii first|3|first: UnknownRoot at 0
 extract 1 first|3|first: UnknownRoot at 0
 check --rules taxes ill|3|ill: Mismatched at 3
 query 1 ill|3|ill: Mismatched at 3
 show --codes taxes f|4|taxes: NotToml
+validate --codes taxes f|4|taxes: NotToml
 check --rules first f|4|first: NotSchematron at 0 -
 check --rules ill f|4|ill: Mismatched at 3
 check --rules taxes --phase none f|4|taxes: NoPhase none
@@ -40,6 +44,7 @@ query 1# f|4|expression: Lexical 1
 extract 2 f|5|attachment 2: NoSuch
 show none|6|none: read fault
 totals none|6|none: read fault
+validate none|6|none: read fault
 outline none|6|none: read fault
 check --rules none f|6|none: read fault";
 

@@ -32,3 +32,5 @@ mod totals_cases;
 mod trial_cases;
 #[cfg(test)]
 mod trial_invoice_cases;
+#[cfg(test)]
+mod validation_cases;

@@ -8,6 +8,7 @@ use crate::failing_cases::fails_writes;
 use crate::jobs::{REFUSALS, job_of};
 use crate::texts::{columns, repeated};
 use invoice_cli::Status;
+use rule_texts::RULES_VERSION;
 use std::alloc::{AllocError, Global};
 use std::test::Fail;
 use test_rows::{Holds, expect, expect_rows};
@@ -28,6 +29,11 @@ f,outline>1
 outline>2
 outline,--help>2
 outline,--,f>2
+validate>2
+validate,--rules,r,f>2
+validate,--phase,#ALL,f>2
+validate,--to,ubl,f>2
+validate,--help>2
 try>2
 try,0>2
 try,01>2
@@ -38,9 +44,14 @@ try,18446744073709551617>2
 --help,f>2
 --version,--help>2
 outline,f,--help>3
+validate,--svrl>3
+validate,--codes>3
+validate,f,--svrl>3
+validate,--svrl,--svrl,f>3
 try,1,2>3
 try,10000,--svrl>3
-outline,absent.xml,second.xml>3";
+outline,absent.xml,second.xml>3
+validate,--svrl,--codes,c,--svrl,f>5";
 
 struct BadWords;
 
@@ -177,8 +188,13 @@ fn fills_output(alloc: Global, job: &Case<'_>, length: usize) -> Result<bool, Al
 
 #[test]
 fn a_full_output_has_a_front(rt: HostRuntime) -> Result<(), Fail> {
-    let version = printing(case_of("--version", FIRST), "einv 0.1.0\n");
-    expect(fills_output(rt.alloc(), &version, 11)?, "--version")?;
+    let version = Case {
+        out: ["einv 0.1.0\n", RULES_VERSION, "\n"],
+        ..case_of("--version", FIRST)
+    };
+    let length = RULES_VERSION.len().saturating_add(12);
+    let filled = fills_output(rt.alloc(), &version, length)?;
+    expect(filled, "--version")?;
     let length = FIRST_OUTLINE.len();
     let filled = fills_output(rt.alloc(), &first_outline(), length)?;
     expect(filled, "outline f")

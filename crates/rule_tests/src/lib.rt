@@ -1,5 +1,5 @@
-//! The tests of rule files that take parts of others, of rules that put other rules, of texts of rule files and of
-//! reports.
+//! The tests of rule files that take parts of others, of rules that put other rules, of texts of rule files, of reports,
+//! and of reports of validations.
 #![tactic(auto)]
 
 #[cfg(test)]
@@ -12,3 +12,5 @@ mod library_cases;
 mod report_cases;
 #[cfg(test)]
 mod text_cases;
+#[cfg(test)]
+mod validation_cases;

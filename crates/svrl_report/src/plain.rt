@@ -71,20 +71,26 @@ fn print_finding<K: Sink>(finding: &Finding, printer: &mut Printer, out: &mut K)
 }
 
 /// Prints a text as it stands.
-fn print_text<K: Sink>(text: &Txt, printer: &mut Printer, out: &mut K)
+pub fn print_text<K: Sink>(text: &Txt, printer: &mut Printer, out: &mut K)
     ensures { Prints (encode_utf8_all text.now) printer.old.failed printer.new.failed (K.view out.old) (K.view out.new) }
 {
     printer.put(out, text.as_str().as_bytes());
 }
 
-fn print_message<K: Sink>(message: &Txt, printer: &mut Printer, out: &mut K)
+/// Prints a message between quotes.
+pub fn print_message<K: Sink>(message: &Txt, printer: &mut Printer, out: &mut K)
     ensures { Prints (encode_utf8_all (quoted message.now)) printer.old.failed printer.new.failed (K.view out.old) (K.view out.new) }
 {
     printer.put_quoted(out, message.as_str());
 }
 
-/// Prints what an assertion came to.
-fn print_outcome<K: Sink>(outcome: FindingKind, level: Level, printer: &mut Printer, out: &mut K)
+/// Prints what an assertion came to, in the word with which its line begins.
+pub fn print_outcome<K: Sink>(
+    outcome: FindingKind,
+    level: Level,
+    printer: &mut Printer,
+    out: &mut K,
+)
     ensures { Prints (spec.outcome_text outcome level) printer.old.failed printer.new.failed (K.view out.old) (K.view out.new) }
 {
     match outcome {
@@ -107,7 +113,8 @@ fn failed_word(level: Level) -> &'static str
     }
 }
 
-fn print_id<K: Sink>(id: &Option<Txt>, printer: &mut Printer, out: &mut K)
+/// Prints an id, or `-` where there is none.
+pub fn print_id<K: Sink>(id: &Option<Txt>, printer: &mut Printer, out: &mut K)
     ensures { Prints (spec.id_text id.now) printer.old.failed printer.new.failed (K.view out.old) (K.view out.new) }
 {
     match id {
@@ -131,7 +138,8 @@ pub fn print_counts<K: Sink>(tally: Tally, printer: &mut Printer, out: &mut K)
     printer.put(out, b"\n");
 }
 
-fn print_number<K: Sink>(number: u64, printer: &mut Printer, out: &mut K)
+/// Prints a number in decimal.
+pub fn print_number<K: Sink>(number: u64, printer: &mut Printer, out: &mut K)
     ensures { Prints (spec.number_text number) printer.old.failed printer.new.failed (K.view out.old) (K.view out.new) }
 {
     let mut digits = Buffer::new();

@@ -1,3 +1,2 @@
 mod MemoryLemmas
-mod RuleLemmas
 mod TrialLemmas

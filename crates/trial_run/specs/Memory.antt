@@ -1,12 +1,7 @@
 -- Documents that are held in memory: what their bytes say. Bytes that are no document, or none of an invoice, say nothing.
 use Rattle.std.specs.Prelude.{◌≡◌, ℕ, List, [], Option, Some, None, Result, Ok, Err, encode_utf8_all}
 use Rattle.inv_base.specs.Tree.{Node}
-use Rattle.xml_state.specs.declared.limits.Limits.{Limits}
-use Rattle.xml_state.specs.Sizes.{document_limits}
-use Rattle.xml_state.specs.declared.fault.XmlFault.{XmlFault}
-use Rattle.xml_profile.specs.Profile as profile
-use Rattle.node_arena.specs.Document.{Document, built}
-use Rattle.node_arena.specs.Moves.{tree_nodes}
+use Rattle.held_rules.specs.Texts.{nodes_in}
 use Rattle.code_lists.specs.CodeFiles.{built_in_lists}
 use Rattle.inv_terms.specs.declared.entries.Entry.{Entry}
 use Rattle.bind_meaning.specs.declared.fault.BindFault.{BindFault}
@@ -17,24 +12,6 @@ use Rattle.bind_write.specs.Documents.{document_text}
 use Rattle.bind_carrying.specs.Tables.{target}
 use Rattle.bind_run.specs.Reading.{AreTables, AreFormed, invoice_of}
 use Rattle.trial_run.specs.declared.reading.Means.{Means}
-
--- ---- documents
-
--- how large a document may be: what every document may be that the program reads
-abbrev pub limits : Limits
-limits = document_limits
-
--- the nodes of a document with their places, and its names
-abbrev pub document_read : profile.Document → Document
-document_read found = record { nodes = (built found.events).nodes; names = found.names }
-
-abbrev pub unless_refused : Result profile.Document XmlFault → Option (List Node)
-unless_refused (Err fault) = None
-unless_refused (Ok found) = Some (tree_nodes (document_read found))
-
--- the nodes of the document that the bytes are, if they are one
-unfoldable pub nodes_in : List ℕ → Option (List Node)
-nodes_in bytes = unless_refused (profile.document limits bytes)
 
 -- ---- an invoice written, and read again
 

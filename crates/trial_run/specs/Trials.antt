@@ -1,6 +1,6 @@
 -- What a trial of so many lines comes to: the generated invoice is written as UBL, read, written as CII and read, and the UBL document is
 -- judged by a built-in rule file.
-use Rattle.std.specs.Prelude.{ℕ, Bool, true, false, ◌&&◌, List, [], ◌∷◌, ◌++◌, length, codes, decimal, encode_utf8_all, Option, Some, None, option_map, Result, Ok, Err}
+use Rattle.std.specs.Prelude.{ℕ, Bool, true, false, ◌&&◌, List, [], ◌∷◌, ◌++◌, length, codes, decimal, encode_utf8_all, Option, Some, None, option_map}
 use Rattle.inv_base.specs.Tree.{Node}
 use Rattle.term_table.specs.declared.terms.Term.{Term}
 use Rattle.term_table.specs.Contexts.{root_context}
@@ -8,15 +8,13 @@ use Rattle.inv_terms.specs.declared.entries.Entry.{Entry}
 use Rattle.inv_terms.specs.Values.{spelled}
 use Rattle.inv_terms.specs.Listing.{value_in}
 use Rattle.bind_meaning.specs.declared.tables.Syntax.TheVariants as syntaxes
-use Rattle.schematron_meaning.specs.declared.fault.Fault.{Fault}
-use Rattle.schematron_meaning.specs.Rules.{Rules, rules_of}
-use Rattle.schematron_meaning.specs.Phases.{Active, active_of, the_default}
 use Rattle.schematron_findings.specs.declared.finding.Line.{Line}
-use Rattle.schematron_run.specs.Judging.{findings}
 use Rattle.svrl_report.specs.Plain.{tally_of, counts_line}
 use Rattle.trial_invoice.specs.Generated.{trial_entries}
 use Rattle.trial_run.specs.Comparing.{same_entries}
-use Rattle.trial_run.specs.Memory.{nodes_in, written, terms_read}
+use Rattle.held_rules.specs.Texts.{Ready, nodes_in, ready_in}
+use Rattle.held_rules.specs.Texts as held
+use Rattle.trial_run.specs.Memory.{written, terms_read}
 use Rattle.trial_run.specs.declared.trial.Trial.{Trial}
 
 -- ---- the built-in rule file
@@ -32,30 +30,17 @@ rule_text =
     ++ (codes "<report test=\"cbc:ID = count(//cac:InvoiceLine)\">This is the last line.</report>\n"
     ++ (codes "</rule></pattern></schema>\n")))))))
 
--- what a rule file says, nothing where it is refused
-abbrev pub unless_faulty : Result Rules Fault → Option Rules
-unless_faulty (Ok rules) = Some rules
-unless_faulty (Err fault) = None
-
-abbrev pub rules_in : Option (List Node) → Option Rules
-rules_in None = None
-rules_in (Some nodes) = unless_faulty (rules_of nodes)
-
-unfoldable pub trial_rules : Option Rules
-trial_rules = rules_in (nodes_in rule_text)
+-- what it says, with what is active of it
+unfoldable pub trial_rules : Option Ready
+trial_rules = ready_in rule_text
 
 -- ---- what is found in a document
 
-abbrev pub found_by_active : Rules → List Node → Option Active → List Line
-found_by_active rules nodes None = []
-found_by_active rules nodes (Some active) = findings rules active nodes
-
--- by what is active where no phase is asked for
-abbrev pub found_by : Option Rules → List Node → List Line
+abbrev pub found_by : Option Ready → List Node → List Line
 found_by None nodes = []
-found_by (Some rules) nodes = found_by_active rules nodes (active_of rules the_default)
+found_by (Some ready) nodes = held.found_by ready nodes
 
-abbrev pub found_in : Option Rules → Option (List Node) → List Line
+abbrev pub found_in : Option Ready → Option (List Node) → List Line
 found_in rules None = []
 found_in rules (Some nodes) = found_by rules nodes
 

@@ -1,66 +1,28 @@
 //! The judging of the trial.
-ghost use Rattle.std.specs.Prelude.{◌≡◌, false, IfOk, OnOk, option_map, Some, None};
+ghost use Rattle.std.specs.Prelude.{◌≡◌, IfOk, option_map};
 ghost use Rattle.node_arena.specs.Moves.{tree_nodes};
-ghost use Rattle.schematron_compile.specs.Answers.{is_memory};
-ghost use Rattle.schematron_rules.specs.Seen.{seen_rules};
 ghost use Rattle.svrl_report.specs.Plain.{tally_of};
+ghost use Rattle.held_rules.specs.Texts.{seen_ready, AreReady};
 ghost use Rattle.trial_run.specs.Memory.{AreBuiltIn, terms_in, terms_read};
 ghost use Rattle.trial_run.specs.Trials as spec;
 
-use crate::reading::{Means, document_in, terms_in};
+use crate::reading::{Means, terms_in};
 use crate::rule_file::rule_file;
 use bumpalo::Bump;
+use held_rules::{Ready, document_in, ready_rules};
 use inv_base::Steps;
 use inv_terms::Invoice;
 use node_arena::Doc;
-use schematron_compile::{PhaseFault, RuleFault, Rules, compile};
-use schematron_run::judge;
 use std::alloc::{AllocError, Global};
 use std::sync::ledger::Ledger;
 use svrl_report::Tally;
 
-/// The name under which a rule file says what is active by default.
-const DEFAULT_PHASE: &str = "#DEFAULT";
-
 /// What the built-in rule file says; nothing where it is refused.
-pub(crate) fn trial_rules(alloc: Global) -> Result<Option<Rules>, AllocError>
-    ensures { IfOk result (λ rules. option_map seen_rules rules ≡ spec.trial_rules) }
+pub(crate) fn trial_rules(alloc: Global) -> Result<Option<Ready>, AllocError>
+    ensures rules { IfOk result (λ rules. option_map seen_ready rules ≡ spec.trial_rules) }
+    ensures ready { IfOk result (λ rules. AreReady rules) }
 {
-    let bump = Bump::new(alloc);
-    let doc = document_in(alloc, &bump, rule_file().as_bytes())?;
-    let rules = rules_in(alloc, &doc);
-    drop(doc);
-    rules
-}
-
-/// What the rule file of a document says; nothing where it is refused.
-fn rules_in(alloc: Global, doc: &Option<Doc<'_>>) -> Result<Option<Rules>, AllocError>
-    ensures { IfOk result (λ rules. option_map seen_rules rules ≡ spec.rules_in (option_map tree_nodes doc.now)) }
-{
-    match doc {
-        Some(doc) => rules_of(alloc, doc),
-        None => Ok(None),
-    }
-}
-
-fn rules_of(alloc: Global, doc: &Doc<'_>) -> Result<Option<Rules>, AllocError>
-    ensures { IfOk result (λ rules. option_map seen_rules rules ≡ spec.rules_in (Some (tree_nodes doc.now))) }
-{
-    match compile(alloc, doc) {
-        Ok(rules) => Ok(Some(rules)),
-        Err(fault) => no_rules(&fault),
-    }
-}
-
-/// Nothing, where a rule file is refused.
-fn no_rules(fault: &RuleFault) -> Result<Option<Rules>, AllocError>
-    ensures so { IfOk result (λ rules. option_map seen_rules rules ≡ None) }
-    ensures refused { OnOk result (is_memory fault.now.kind ≡ false) }
-{
-    if fault.is_memory() {
-        return Err(AllocError);
-    }
-    Ok(None)
+    ready_rules(alloc, rule_file().as_bytes())
 }
 
 /// What bytes say as an invoice, and how many findings of each sort the built-in rule file has in them.
@@ -81,11 +43,12 @@ pub(crate) fn see<L: Ledger>(
     alloc: Global,
     bytes: &[u8],
     means: &Means,
-    rules: &Option<Rules>,
+    rules: &Option<Ready>,
     steps: &mut Steps<L>,
 ) -> Result<Seen, AllocError>
     requires means { AreBuiltIn means.now }
-    requires rules { option_map seen_rules rules.now ≡ spec.trial_rules }
+    requires rules { option_map seen_ready rules.now ≡ spec.trial_rules }
+    requires ready { AreReady rules.now }
     ensures invoice { IfOk result (λ seen. seen.invoice ≡ terms_read bytes.now) }
     ensures tally { IfOk result (λ seen. seen.tally ≡ tally_of (spec.trial_findings bytes.now)) }
 {
@@ -101,11 +64,12 @@ fn seen_in<L: Ledger>(
     alloc: Global,
     doc: &Option<Doc<'_>>,
     means: &Means,
-    rules: &Option<Rules>,
+    rules: &Option<Ready>,
     steps: &mut Steps<L>,
 ) -> Result<Seen, AllocError>
     requires means { AreBuiltIn means.now }
-    requires rules { option_map seen_rules rules.now ≡ spec.trial_rules }
+    requires rules { option_map seen_ready rules.now ≡ spec.trial_rules }
+    requires ready { AreReady rules.now }
     ensures invoice { IfOk result (λ seen. seen.invoice ≡ terms_in (option_map tree_nodes doc.now)) }
     ensures tally { IfOk result (λ seen. seen.tally ≡ tally_of (spec.found_in spec.trial_rules (option_map tree_nodes doc.now))) }
 {
@@ -118,10 +82,11 @@ fn seen_in<L: Ledger>(
 fn found_in<L: Ledger>(
     alloc: Global,
     doc: &Option<Doc<'_>>,
-    rules: &Option<Rules>,
+    rules: &Option<Ready>,
     steps: &mut Steps<L>,
 ) -> Result<Tally, AllocError>
-    requires { option_map seen_rules rules.now ≡ spec.trial_rules }
+    requires rules { option_map seen_ready rules.now ≡ spec.trial_rules }
+    requires ready { AreReady rules.now }
     ensures { IfOk result (λ tally. tally ≡ tally_of (spec.found_in spec.trial_rules (option_map tree_nodes doc.now))) }
 {
     match doc {
@@ -134,33 +99,18 @@ fn found_in<L: Ledger>(
 fn found_by<L: Ledger>(
     alloc: Global,
     doc: &Doc<'_>,
-    rules: &Option<Rules>,
+    rules: &Option<Ready>,
     steps: &mut Steps<L>,
 ) -> Result<Tally, AllocError>
-    requires { option_map seen_rules rules.now ≡ spec.trial_rules }
+    requires rules { option_map seen_ready rules.now ≡ spec.trial_rules }
+    requires ready { AreReady rules.now }
     ensures { IfOk result (λ tally. tally ≡ tally_of (spec.found_by spec.trial_rules (tree_nodes doc.now))) }
 {
     match rules {
-        Some(rules) => found_by_default(alloc, doc, rules, steps),
-        None => Ok(Tally::new()),
-    }
-}
-
-/// How many findings of each sort there are in a document by what is active by default.
-fn found_by_default<L: Ledger>(
-    alloc: Global,
-    doc: &Doc<'_>,
-    rules: &Rules,
-    steps: &mut Steps<L>,
-) -> Result<Tally, AllocError>
-    ensures { IfOk result (λ tally. tally ≡ tally_of (spec.found_by (Some (seen_rules rules.now)) (tree_nodes doc.now))) }
-{
-    match rules.phase(alloc, DEFAULT_PHASE) {
-        Ok(active) => {
-            let found = judge(alloc, rules, &active, doc, steps)?;
+        Some(rules) => {
+            let found = rules.find(alloc, doc, steps)?;
             Ok(Tally::of(found.lines()))
         }
-        Err(PhaseFault::NoPhase) => Ok(Tally::new()),
-        Err(PhaseFault::Memory) => Err(AllocError),
+        None => Ok(Tally::new()),
     }
 }

@@ -1,5 +1,5 @@
 //! Invoices written to memory, and read from it.
-ghost use Rattle.std.specs.Prelude.{◌≡◌, ◌∷◌, [], IfOk, Some, option_map};
+ghost use Rattle.std.specs.Prelude.{◌≡◌, IfOk, Some, option_map};
 ghost use Rattle.node_arena.specs.Moves.{tree_nodes};
 ghost use Rattle.trial_run.specs.Memory as spec;
 
@@ -7,15 +7,11 @@ use bind_run::{BindKind, Syntax, Tables, read_document, tables_are_laid, target,
 use bind_write::measure;
 use bumpalo::Bump;
 use code_lists::CodeLists;
-use inv_base::{MemShelf, MemSink};
+use held_rules::document_in;
+use inv_base::MemSink;
 use inv_terms::Invoice;
 use node_arena::Doc;
 use std::alloc::{AllocError, Global};
-use xml_document::{LoadFault, load};
-use xml_state::DOCUMENT_LIMITS;
-
-/// The name under which a document is held in memory.
-const HELD: &str = "held";
 
 /// What it takes to read invoices and to write them.
 pub(crate) struct Means {
@@ -59,31 +55,6 @@ pub(crate) fn written(
     match write(invoice, table, &mut text) {
         Ok(()) => Ok(text),
         Err(_) => Err(AllocError),
-    }
-}
-
-/// Bytes as a file in memory.
-fn held(alloc: Global, bytes: &[u8]) -> Result<MemShelf, AllocError>
-    ensures { IfOk result (λ shelf. shelf.files ≡ (HELD.now, bytes.now) ∷ []) }
-{
-    let mut shelf = MemShelf::new(alloc);
-    shelf.add(HELD, bytes)?;
-    Ok(shelf)
-}
-
-/// The document that bytes are, if they are one.
-pub(crate) fn document_in<'a>(
-    alloc: Global,
-    bump: &'a Bump,
-    bytes: &[u8],
-) -> Result<Option<Doc<'a>>, AllocError>
-    ensures { IfOk result (λ doc. option_map tree_nodes doc ≡ spec.nodes_in bytes.now) }
-{
-    let mut shelf = held(alloc, bytes)?;
-    match load(alloc, bump, &mut shelf, HELD, DOCUMENT_LIMITS) {
-        Ok(doc) => Ok(Some(doc)),
-        Err(LoadFault::Refused(_)) => Ok(None),
-        Err(LoadFault::Read) | Err(LoadFault::Memory) => Err(AllocError),
     }
 }
 

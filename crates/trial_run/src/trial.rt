@@ -1,7 +1,7 @@
 ghost use Rattle.std.specs.Prelude.{◌≡◌, ◌≤◌, min, length, option_map, IfOk};
 ghost use Rattle.inv_base.specs.Counts.{last_count};
 ghost use Rattle.bind_meaning.specs.declared.tables.Syntax.TheVariants as syntaxes;
-ghost use Rattle.schematron_rules.specs.Seen.{seen_rules};
+ghost use Rattle.held_rules.specs.Texts.{seen_ready, AreReady};
 ghost use Rattle.trial_run.specs.Memory.{AreBuiltIn, written, terms_read};
 ghost use Rattle.trial_run.specs.Trials as spec;
 
@@ -9,9 +9,9 @@ use crate::comparing::are_same_entries;
 use crate::judging::{see, trial_rules};
 use crate::reading::{Means, terms_read, written};
 use bind_run::Syntax;
+use held_rules::Ready;
 use inv_base::{Steps, Txt};
 use inv_terms::Invoice;
-use schematron_rules::Rules;
 use std::alloc::{AllocError, Global};
 use std::sync::ledger::Ledger;
 use svrl_report::Tally;
@@ -111,12 +111,13 @@ fn try_by<L: Ledger>(
     alloc: Global,
     lines: u32,
     means: &Means,
-    rules: &Option<Rules>,
+    rules: &Option<Ready>,
     steps: &mut Steps<L>,
 ) -> Result<Trial, AllocError>
     requires lines { lines ≤ MOST_LINES }
     requires means { AreBuiltIn means.now }
-    requires rules { option_map seen_rules rules.now ≡ spec.trial_rules }
+    requires rules { option_map seen_ready rules.now ≡ spec.trial_rules }
+    requires ready { AreReady rules.now }
     ensures { IfOk result (λ trial. trial ≡ spec.trial_of lines (min steps.new last_count)) }
 {
     let invoice = trial_invoice(alloc, lines)?;

@@ -20,7 +20,7 @@ use Rattle.xml_profile.proofs.KeptLemmas.{fault-kept, taken-kept}
 use Rattle.node_arena.specs.Document.{Built, Document, built}
 use Rattle.node_arena.specs.Document as arena
 use Rattle.node_arena.specs.Moves.{HasNodesOf, IsWhole}
-use Rattle.xml_document.specs.Loading.{HasFed, IsRefused, StopsInTime, IsLoaded, IsLoadedOf, IsBuilt}
+use Rattle.xml_document.specs.Loading.{HasFed, IsRefused, StopsInTime, IsLoaded, IsLoadedAndGiven, IsBuilt}
 use Rattle.xml_document.proofs.LengthLemmas.{IsShort, short_front}
 use Rattle.xml_document.proofs.ReadingLemmas.{ahead_of-nil, ahead_of-append, read_all}
 
@@ -83,26 +83,31 @@ feeding_more begun now after limits old new piece before mid behind so_far held 
       events = λ first taken. moves first (so_far.events first taken);
     }
 
--- The same, and how many bytes were fed.
-pub record Counting (count : ℕ) (begun now : ShelfView) (limits : Limits) (reader : Progress) (before after : List Event → Type 0) : Type 0 where
+-- The same, how many bytes were fed, and a receiver of bytes has taken them.
+pub record Counting (count : ℕ) (begun now : ShelfView) (limits : Limits) (reader : Progress) (before after : List Event → Type 0) (bytes_before bytes_after : List ℕ → Type 0) : Type 0 where
   pub feeding : Feeding begun now limits reader before after
   pub counted : count ≡ length feeding.fed
+  pub given : bytes_before [] → bytes_after feeding.fed
 
-pub counting_nothing : (begun : ShelfView) (reader : Progress) (before : List Event → Type 0) → HasRead reader [] → Counting 0 begun begun reader.limits reader before before
+pub counting_nothing : (begun : ShelfView) (reader : Progress) (before : List Event → Type 0) (bytes_before : List ℕ → Type 0) → HasRead reader []
+    → Counting 0 begun begun reader.limits reader before before bytes_before bytes_before
 unfolding feeding_nothing
-counting_nothing begun reader before read = record { feeding = feeding_nothing begun reader before read; counted = refl }
+counting_nothing begun reader before bytes_before read = record { feeding = feeding_nothing begun reader before read; counted = refl; given = λ taken. taken }
 
 pub counting_more : (count new_count : ℕ) (begun now after : ShelfView) (limits : Limits) (old new : Progress) (piece : List ℕ) (before mid behind : List Event → Type 0)
-    → (so_far : Counting count begun now limits old before mid) → new_count ≡ count + length piece
+    (bytes_before bytes_mid bytes_behind : List ℕ → Type 0)
+    → (so_far : Counting count begun now limits old before mid bytes_before bytes_mid) → new_count ≡ count + length piece
     → after.held ≡ now.held → after.opens ≡ now.opens → after.faults ≡ now.faults → now.left ≡ ahead_of piece after.left
     → new.limits ≡ old.limits → fault_of_reader new ≡ None
     → (HasMemory new → (fed : List ℕ) → HasRead old fed → HasRead new (fed ++ piece))
     → ((fed : List ℕ) → HasRead old fed → Tells new fed (fed ++ piece) mid behind)
-    → Counting new_count begun after limits new before behind
+    → ((fed : List ℕ) → bytes_mid fed → bytes_behind (fed ++ piece))
+    → Counting new_count begun after limits new before behind bytes_before bytes_behind
 unfolding feeding_more
-counting_more count new_count begun now after limits old new piece before mid behind so_far more held opens faults left kept none read told = record {
+counting_more count new_count begun now after limits old new piece before mid behind bytes_before bytes_mid bytes_behind so_far more held opens faults left kept none read told given = record {
   feeding = feeding_more begun now after limits old new piece before mid behind so_far.feeding held opens faults left kept none read told;
   counted = more ∙ (ap (λ n. n + length piece) so_far.counted ∙ sym (length-append so_far.feeding.fed piece));
+  given = λ taken. given so_far.feeding.fed (so_far.given taken);
 }
 
 -- What is kept tells how many bytes were read.
@@ -128,10 +133,11 @@ feeding_falls limits old new fed piece kept read going same more goes some =
 
 -- At the end of the input all was fed.
 pub fed_whole : (count : ℕ) (begun now after : ShelfView) (limits : Limits) (reader : Progress) (front : List ℕ) (before behind : List Event → Type 0)
-    → (all : Counting count begun now limits reader before behind) → now.left ≡ ahead_of front after.left → front ≡ [] → WhereTold after.left (λ rest. length rest ≡ 0)
-    → HasFed count begun.left after.left reader before behind
+    (bytes_before bytes_behind : List ℕ → Type 0)
+    → (all : Counting count begun now limits reader before behind bytes_before bytes_behind) → now.left ≡ ahead_of front after.left → front ≡ [] → WhereTold after.left (λ rest. length rest ≡ 0)
+    → HasFed count begun.left after.left reader before behind bytes_before bytes_behind
 unfolding settled_fault
-fed_whole count begun now after limits reader front before behind all left none end = let so_far = all.feeding in record {
+fed_whole count begun now after limits reader front before behind bytes_before bytes_behind all left none end = let so_far = all.feeding in record {
   fed = so_far.fed;
   counted = all.counted;
   read = so_far.read;
@@ -139,6 +145,7 @@ fed_whole count begun now after limits reader front before behind all left none 
   whole = read_all begun.left now.left after.left so_far.fed front so_far.content left none end;
   content = ahead_of-append so_far.fed front so_far.fed begun.left now.left after.left so_far.content left (sym (ap (λ x. so_far.fed ++ x) none ∙ append-nil so_far.fed));
   going = sym (ap fault_of_kept so_far.read.stands ∙ fault-kept (read_front reader.limits so_far.fed).stands) ∙ so_far.going;
+  given = all.given;
 }
 
 -- A fault that is settled stays settled.
@@ -185,9 +192,9 @@ stops_with_piece begun now after limits reader piece before behind stays so_far 
     (ahead_of-append so_far.fed piece (so_far.fed ++ piece) begun.left now.left after.left so_far.content left refl)
 
 -- .. or at the end.
-pub stops_at_end : (count : ℕ) (limits : Limits) (told left : Option (List ℕ)) (reader : Progress) (before behind : List Event → Type 0) → Stays → reader.limits ≡ limits
-    → HasFed count told left reader before behind → StopsInTime limits told left
-stops_at_end count limits told left reader before behind stays kept fed =
+pub stops_at_end : (count : ℕ) (limits : Limits) (told left : Option (List ℕ)) (reader : Progress) (before behind : List Event → Type 0) (bytes_before bytes_behind : List ℕ → Type 0)
+    → Stays → reader.limits ≡ limits → HasFed count told left reader before behind bytes_before bytes_behind → StopsInTime limits told left
+stops_at_end count limits told left reader before behind bytes_before bytes_behind stays kept fed =
     stops_in_time limits stays fed.fed [] (ap (λ l. settled_fault l fed.fed) (sym kept) ∙ fed.going) (omega arith) told left
     (fed.content ∙ ap (λ bytes. ahead_of bytes left) (sym (append-nil fed.fed)))
 
@@ -228,8 +235,8 @@ by_fault limits bytes f = elim f [
 abbrev pub told_whole : Limits → List ℕ → profile.Document
 told_whole limits bytes = record { events = with_events [] (read_whole limits bytes).events; names = names_of (read_whole limits bytes).stands }
 
--- The events of a whole document were taken, and have built it.
-pub record Wholly (count : ℕ) (limits : Limits) (told : Option (List ℕ)) (names : List Name) (b : Built) : Type 0 where
+-- The events of a whole document were taken, and have built it; and its bytes were.
+pub record Wholly (count : ℕ) (limits : Limits) (told : Option (List ℕ)) (names : List Name) (b : Built) (bytes_before bytes_after : List ℕ → Type 0) : Type 0 where
   pub fed : List ℕ
   pub counted : count ≡ length fed
   pub whole : WhereTold told (λ content. fed ≡ content)
@@ -237,14 +244,15 @@ pub record Wholly (count : ℕ) (limits : Limits) (told : Option (List ℕ)) (na
   pub named : names ≡ (told_whole limits fed).names
   pub events : b ≡ built (told_whole limits fed).events
   pub made : IsBuilt (told_whole limits fed) (built (told_whole limits fed).events)
+  pub given : bytes_before [] → bytes_after fed
 
-pub read_wholly : (count : ℕ) (limits : Limits) (told left : Option (List ℕ)) (reader : Progress) (first mid last : Built) (names : List Name) → reader.limits ≡ limits → first ≡ arena.begun
-    → (all : HasFed count told left reader (λ events. first ≡ built events) (λ events. mid ≡ built events))
+pub read_wholly : (count : ℕ) (limits : Limits) (told left : Option (List ℕ)) (reader : Progress) (first mid last : Built) (names : List Name) (bytes_before bytes_after : List ℕ → Type 0) → reader.limits ≡ limits → first ≡ arena.begun
+    → (all : HasFed count told left reader (λ events. first ≡ built events) (λ events. mid ≡ built events) bytes_before bytes_after)
     → Finishes reader.limits all.fed names (λ events. mid ≡ built events) (λ events. last ≡ built events)
     → ((found : profile.Document) → document limits all.fed ≡ Ok found → IsBuilt found (built found.events))
-    → Wholly count limits told names last
+    → Wholly count limits told names last bytes_before bytes_after
 unfolding built document
-read_wholly count limits told left reader first mid last names kept is all ends law =
+read_wholly count limits told left reader first mid last names bytes_before bytes_after kept is all ends law =
     let none : first_fault limits all.fed ≡ None = ap (λ l. first_fault l all.fed) (sym kept) ∙ ends.document in
     let document_is : document limits all.fed ≡ Ok (told_whole limits all.fed) = ap (by_fault limits all.fed) none in
     let behind : last ≡ built (told_whole reader.limits all.fed).events = ends.told [] (all.events [] is) in
@@ -256,15 +264,16 @@ read_wholly count limits told left reader first mid last names kept is all ends 
       named = ends.named ∙ ap (λ l. (told_whole l all.fed).names) kept;
       events = behind ∙ ap (λ l. built (told_whole l all.fed).events) kept;
       made = law (told_whole limits all.fed) document_is;
+      given = all.given;
     }
 
-pub wholly_built : (count : ℕ) (limits : Limits) (told : Option (List ℕ)) (names : List Name) (b : Built) → Wholly count limits told names b → IsWhole names b
-wholly_built count limits told names b wholly =
+pub wholly_built : (count : ℕ) (limits : Limits) (told : Option (List ℕ)) (names : List Name) (b : Built) (bytes_before bytes_after : List ℕ → Type 0) → Wholly count limits told names b bytes_before bytes_after → IsWhole names b
+wholly_built count limits told names b bytes_before bytes_after wholly =
     subst (λ all. IsWhole all b) (sym wholly.named) (subst (IsWhole (told_whole limits wholly.fed).names) (sym wholly.events) wholly.made.whole)
 
-wholly_loaded : (count : ℕ) (limits : Limits) (told : Option (List ℕ)) (names : List Name) (b : Built) (doc : Document) → Wholly count limits told names b → doc ≡ record { nodes = b.nodes; names = names }
-    → IsLoaded limits told doc
-wholly_loaded count limits told names b doc wholly is =
+wholly_loaded : (count : ℕ) (limits : Limits) (told : Option (List ℕ)) (names : List Name) (b : Built) (doc : Document) (bytes_before bytes_after : List ℕ → Type 0)
+    → Wholly count limits told names b bytes_before bytes_after → doc ≡ record { nodes = b.nodes; names = names } → IsLoaded limits told doc
+wholly_loaded count limits told names b doc bytes_before bytes_after wholly is =
     let found = told_whole limits wholly.fed in
     let as_built : Built → List Name → Document = λ c all. record { nodes = c.nodes; names = all } in
     let made : doc ≡ as_built (built found.events) found.names = is ∙ (ap (as_built b) wholly.named ∙ ap (λ c. as_built c found.names) wholly.events) in
@@ -277,10 +286,14 @@ wholly_loaded count limits told names b doc wholly is =
       whole = wholly.whole;
     }
 
-pub wholly_sized : (count : ℕ) (limits : Limits) (told : Option (List ℕ)) (names : List Name) (b : Built) (doc : Document) → Wholly count limits told names b
-    → doc ≡ record { nodes = b.nodes; names = names } → IsLoadedOf limits told count doc
+pub wholly_given : (count : ℕ) (limits : Limits) (told : Option (List ℕ)) (names : List Name) (b : Built) (doc : Document) (bytes_before bytes_after : List ℕ → Type 0)
+    → Wholly count limits told names b bytes_before bytes_after → doc ≡ record { nodes = b.nodes; names = names }
+    → IsLoadedAndGiven limits told count doc bytes_before bytes_after
 unfolding wholly_loaded
-wholly_sized count limits told names b doc wholly is = record { loaded = wholly_loaded count limits told names b doc wholly is; counted = wholly.counted }
+wholly_given count limits told names b doc bytes_before bytes_after wholly is = record {
+  sized = record { loaded = wholly_loaded count limits told names b doc bytes_before bytes_after wholly is; counted = wholly.counted };
+  given = wholly.given;
+}
 
 -- A reader that was given nothing has read nothing.
 pub read_nothing : (limits : Limits) (reader : Progress) → reader ≡ unread limits → HasRead reader []

@@ -30,8 +30,8 @@ pub record ReadsOn {T E : Type 0} (result : Result T E) (fault : E) (before afte
   pub quiet : result ≢ Err fault → after.faults ≡ before.faults
 
 -- A reader was given a whole content of so many bytes, which is this one where it is told, and a receiver has taken what
--- it tells so far. No fault is settled, and nothing is left.
-pub record HasFed (count : ℕ) (told left : Option (List ℕ)) (reader : Progress) (before after : List Event → Type 0) : Type 0 where
+-- it tells so far, another one the bytes. No fault is settled, and nothing is left.
+pub record HasFed (count : ℕ) (told left : Option (List ℕ)) (reader : Progress) (before after : List Event → Type 0) (bytes_before bytes_after : List ℕ → Type 0) : Type 0 where
   pub fed : List ℕ
   pub counted : count ≡ length fed
   pub read : HasRead reader fed
@@ -39,6 +39,7 @@ pub record HasFed (count : ℕ) (told left : Option (List ℕ)) (reader : Progre
   pub whole : WhereTold told (λ content. fed ≡ content)
   pub content : told ≡ ahead_of fed left
   pub going : settled_fault reader.limits fed ≡ None
+  pub given : bytes_before [] → bytes_after fed
 
 -- The fault is the first of some content, which is this one where it is told.
 pub record IsRefused (limits : Limits) (told : Option (List ℕ)) (fault : XmlFault) : Type 0 where
@@ -70,6 +71,11 @@ pub record IsLoaded (limits : Limits) (told : Option (List ℕ)) (doc : Document
 pub record IsLoadedOf (limits : Limits) (told : Option (List ℕ)) (count : ℕ) (doc : Document) : Type 0 where
   pub loaded : IsLoaded limits told doc
   pub counted : count ≡ length loaded.content
+
+-- The same, and a receiver of bytes that had taken none has taken that content.
+pub record IsLoadedAndGiven (limits : Limits) (told : Option (List ℕ)) (count : ℕ) (doc : Document) (bytes_before bytes_after : List ℕ → Type 0) : Type 0 where
+  pub sized : IsLoadedOf limits told count doc
+  pub given : bytes_before [] → bytes_after sized.loaded.content
 
 -- What was built is a whole document, whose nodes are those of the tree of what was read.
 pub record IsBuilt (found : profile.Document) (b : Built) : Type 0 where

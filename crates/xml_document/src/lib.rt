@@ -5,6 +5,6 @@ mod loading;
 mod walk;
 mod whole;
 
-pub use loading::{LoadFault, Loaded, load, load_sized};
+pub use loading::{LoadFault, Loaded, load, load_giving, load_sized};
 pub use walk::Walk;
 pub use whole::{WholeFault, read_whole};

@@ -8,11 +8,12 @@ ghost use Rattle.xml_profile.specs.Profile.{document, tree_of};
 ghost use Rattle.xml_profile.specs.Readers.{HasRead};
 ghost use Rattle.xml_state.specs.declared.limits.Limits.{Limits};
 ghost use Rattle.xml_tokens.specs.declared.kind.XmlKind.TheVariants as kinds;
-ghost use Rattle.xml_document.specs.Loading.{HasFed, IsBuilt, IsLoaded, IsLoadedOf, IsRefused, StopsInTime, ReadsFrom, ReadsOn};
+ghost use Rattle.xml_document.specs.Loading.{HasFed, IsBuilt, IsLoaded, IsLoadedOf, IsLoadedAndGiven, IsRefused, StopsInTime, ReadsFrom, ReadsOn};
 ghost use Rattle.xml_document.specs.declared.loading.LoadFault.TheVariants as faults;
 
 use bumpalo::Bump;
 use inv_base::Shelf;
+use line_places::{ByteReceiver, Unheeded};
 use node_arena::{
     Builder, Doc, events_build_a_whole_document, events_build_the_nodes_of_their_tree,
 };
@@ -98,26 +99,48 @@ pub fn load_sized<'a, S: Shelf>(
     ensures stops { (fault : _) → result ≡ Err (faults.Refused fault)
         → StopsInTime limits (option_map (bytes_under name.now) (S.view shelf.old).held) (S.view shelf.new).left }
 {
+    let mut unheeded = Unheeded;
+    load_giving(alloc, bump, shelf, name, limits, &mut unheeded)
+}
+
+/// The same, and the bytes of the file are given to a receiver as they are read.
+pub fn load_giving<'a, S: Shelf, B: ByteReceiver>(
+    alloc: Global,
+    bump: &'a Bump,
+    shelf: &mut S,
+    name: &str,
+    limits: Limits,
+    bytes: &mut B,
+) -> Result<Loaded<'a>, LoadFault>
+    ensures reads { ReadsFrom result faults.Read (S.view shelf.old) (S.view shelf.new) }
+    ensures loaded { IfOk result (λ loaded. IsLoadedAndGiven limits (option_map (bytes_under name.now) (S.view shelf.old).held) loaded.length loaded.doc
+        (B.taken bytes.old) (B.taken bytes.new)) }
+    ensures refused { (fault : _) → result ≡ Err (faults.Refused fault)
+        → IsRefused limits (option_map (bytes_under name.now) (S.view shelf.old).held) fault }
+    ensures stops { (fault : _) → result ≡ Err (faults.Refused fault)
+        → StopsInTime limits (option_map (bytes_under name.now) (S.view shelf.old).held) (S.view shelf.new).left }
+{
     match shelf.open(name) {
         Ok(()) => {}
         Err(_) => return Err(LoadFault::Read),
     }
     let mut piece = vec![in alloc; 0u8; PIECE]?;
-    read_open(alloc, bump, &mut piece, shelf, limits)
+    read_open(alloc, bump, &mut piece, shelf, limits, bytes)
 }
 
 /// The document that is left of the open input, read by pieces of some length.
-fn read_open<'a, S: Shelf>(
+fn read_open<'a, S: Shelf, B: ByteReceiver>(
     alloc: Global,
     bump: &'a Bump,
     piece: &mut [u8],
     shelf: &mut S,
     limits: Limits,
+    bytes: &mut B,
 ) -> Result<Loaded<'a>, LoadFault>
     requires some { 0 < length piece.old }
     requires few { length piece.old < 65537 }
     ensures reads { ReadsOn result faults.Read (S.view shelf.old) (S.view shelf.new) }
-    ensures loaded { IfOk result (λ loaded. IsLoadedOf limits (S.view shelf.old).left loaded.length loaded.doc) }
+    ensures loaded { IfOk result (λ loaded. IsLoadedAndGiven limits (S.view shelf.old).left loaded.length loaded.doc (B.taken bytes.old) (B.taken bytes.new)) }
     ensures refused { (fault : _) → result ≡ Err (faults.Refused fault) → IsRefused limits (S.view shelf.old).left fault }
     ensures stops { (fault : _) → result ≡ Err (faults.Refused fault) → StopsInTime limits (S.view shelf.old).left (S.view shelf.new).left }
 {
@@ -126,7 +149,7 @@ fn read_open<'a, S: Shelf>(
     settled_stays();
     let mut reader = Reader::new(alloc, limits)?;
     let mut builder = Builder::new(alloc, bump)?;
-    let length = match feed_all(&mut reader, &mut builder, piece, shelf) {
+    let length = match feed_all(&mut reader, &mut builder, piece, shelf, bytes) {
         Ok(length) => length,
         Err(fault) => {
             drop(builder);
@@ -146,18 +169,20 @@ fn read_open<'a, S: Shelf>(
 }
 
 /// Gives the reader what is left of the open input, by pieces of some length, up to the first fault that is settled:
-/// then the rest of the input isn't read. The answer is how many bytes there were.
-fn feed_all<S: Shelf, E: Events>(
+/// then the rest of the input isn't read. The receiver of bytes is given them too. The answer is how many there were.
+fn feed_all<S: Shelf, E: Events, B: ByteReceiver>(
     reader: &mut Reader,
     events: &mut E,
     piece: &mut [u8],
     shelf: &mut S,
+    bytes: &mut B,
 ) -> Result<u64, LoadFault>
     requires some { 0 < length piece.old }
     requires few { length piece.old < 65537 }
     requires unread { HasRead reader.old [] }
     ensures reads { ReadsOn result faults.Read (S.view shelf.old) (S.view shelf.new) }
-    ensures fed { IfOk result (λ count. HasFed count (S.view shelf.old).left (S.view shelf.new).left reader.new (E.taken events.old) (E.taken events.new)) }
+    ensures fed { IfOk result (λ count. HasFed count (S.view shelf.old).left (S.view shelf.new).left reader.new (E.taken events.old) (E.taken events.new)
+        (B.taken bytes.old) (B.taken bytes.new)) }
     ensures refused { (fault : _) → result ≡ Err (faults.Refused fault) → IsRefused reader.old.limits (S.view shelf.old).left fault }
     ensures stops { (fault : _) → result ≡ Err (faults.Refused fault) → StopsInTime reader.old.limits (S.view shelf.old).left (S.view shelf.new).left }
     ensures limits { reader.new.limits ≡ reader.old.limits }
@@ -174,10 +199,12 @@ fn feed_all<S: Shelf, E: Events>(
         if count == 0 {
             return Ok(length);
         }
-        match reader.feed(piece.split_at(count).0, events) {
+        let (front, _) = piece.split_at(count);
+        match reader.feed(front, events) {
             Ok(()) => {}
             Err(fault) => return Err(fault_of_reader(fault)),
         }
+        bytes.take(front)?;
         length = counted(length, count)?;
     }
 }

@@ -1,21 +1,22 @@
-use Rattle.std.proofs.Common.{Ok, Err, ap, sym, ◌∙◌}
+use Rattle.std.proofs.Common.{Ok, length, ap, sym, ◌∙◌, arith}
+use Rattle.node_arena.specs.Moves.{tree_nodes}
 use Rattle.bind_meaning.specs.Terms.{terms_of}
-use Rattle.bind_run.proofs.StepLemmas.{rows-have-steps}
-use Rattle.bind_run.proofs.IndicatorLemmas.{same-indicators}
+use Rattle.bind_run.proofs.PassedLemmas.{passed-count, passed-few}
 use Rattle.bind_run.proofs.reading.read.Goals as goal
 
-pub pick_all-requires : goal.pick_all-requires
-pick_all-requires g c = rows-have-steps c.args.table.now c.requires
+pub overflow_cast-passed_over : goal.overflow_cast-passed_over
+overflow_cast-passed_over g c =
+    let few = passed-few c.args.doc.now c.args.table.now c.as_slice-3.result.now (c.as_slice-3.ensures.value ∙ c.in-Ok.ensures.passed_over)
+    c.is_of_a_tree.ensures.few in
+    omega (arith, few)
 
-pub judge-requires-clause-indicators : goal.judge-requires-clause-indicators
-judge-requires-clause-indicators g c = c.as_slice-3.ensures.value ∙ (c.in-Ok.ensures.indicators ∙ same-indicators _ c.args.table.now)
-
-pub returns-in-Ok-judge-clause-reads : goal.returns-in-Ok-judge-clause-reads
+pub returns-in-Ok-judged-clause-reads : goal.returns-in-Ok-judged-clause-reads
 unfolding terms_of
-returns-in-Ok-judge-clause-reads g c = c.in-Ok-judge.ensures.ok ∙ ap (λ n. Ok (record { entries = c.in-Ok-judge.invoice; passed_over = n })) (sym c.in-Ok.ensures.passed_over)
+returns-in-Ok-judged-clause-reads g c =
+    let passed = c.as_slice-3.ensures.value ∙ c.in-Ok.ensures.passed_over in
+    let count = sym (passed-count (tree_nodes c.args.doc.now) c.args.table.now) ∙ ap length (sym passed) in
+    c.in-Ok-judged.ensures.ok ∙ ap (λ n. Ok (record { entries = c.in-Ok-judged.invoice; passed_over = n })) count
 
-pub returns-clause-reads : goal.returns-clause-reads
+pub returns-in-Err-judged-clause-reads : goal.returns-in-Err-judged-clause-reads
 unfolding terms_of
-returns-clause-reads g c = λ other.
-    let same = c.whole_if_memory.ensures.others other in
-    c.in-Err-judge.ensures.err same.0 ∙ ap Err (sym same.1)
+returns-in-Err-judged-clause-reads g c = λ other. c.in-Err-judged.ensures.err other

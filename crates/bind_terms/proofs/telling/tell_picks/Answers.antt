@@ -1,10 +1,15 @@
 use Rattle.std.proofs.Common.{arith}
-use Rattle.bind_terms.proofs.Pass.{passed-more, passed-all}
+use Rattle.bind_terms.proofs.Pass.{passed-none, passed-more, passed-all}
 use Rattle.bind_terms.proofs.telling.tell_picks.Goals as goal
+
+pub picks-init : goal.picks-init
+picks-init g c = passed-none _ _ _ _ _ _ (g.K.Keeper.given c.args.keeper.now) c.requires.empty c.requires.none
 
 pub picks-preserved : goal.picks-preserved
 picks-preserved g c =
-    passed-more _ _ _ _ _ c.picks.pick-index _ _ _ _ c.pick-item.result (omega arith) c.pick-item.is c.picks.invariant c.in_ok-least.ensures
+    passed-more _ _ _ _ _ c.picks.pick-index _ _ (g.K.Keeper.given c.picks.keeper) (g.K.Keeper.given c.tell_pick.new.keeper) c.pick-item.result
+    (omega arith) c.pick-item.is c.picks.invariant
+    c.in_ok-tell_pick.ensures
 
 pub returns : goal.returns
-returns g c = passed-all _ _ _ _ _ c.picks.pick-index _ _ (omega arith) c.picks.invariant
+returns g c = passed-all _ _ _ _ _ c.picks.pick-index _ (g.K.Keeper.given c.picks.keeper) (omega arith) c.picks.invariant

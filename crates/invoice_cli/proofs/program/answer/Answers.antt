@@ -29,6 +29,9 @@ returns-in-Check g c =
     let runs = subst (λ names. Runs (check_course c.in-Check.svrl phase names c.in-Check.file.now) before after c.check.result) c.as_slice.ensures c.check.ensures in
     (0, rw (← asked_is c.command_of-asked.result c.command_of-asked.ensures c.in-Check.is) (tt, runs))
 
+pub returns-in-Validate : goal.returns-in-Validate
+returns-in-Validate g c = (0, rw (← asked_is c.command_of-asked.result c.command_of-asked.ensures c.in-Validate.is) (tt, c.validate.ensures))
+
 pub returns-in-Extract : goal.returns-in-Extract
 returns-in-Extract g c = (0, rw (← asked_is c.command_of-asked.result c.command_of-asked.ensures c.in-Extract.is) (tt, c.extract.ensures))
 
@@ -50,7 +53,7 @@ returns-in-Help g c =
 
 pub returns-in-Version : goal.returns-in-Version
 returns-in-Version g c =
-    (0, rw (← asked_is c.command_of-asked.result c.command_of-asked.ensures c.in-Version.is) (record { shelf = refl; err = refl }, c.say-in-Version.ensures))
+    (0, rw (← asked_is c.command_of-asked.result c.command_of-asked.ensures c.in-Version.is) (record { shelf = refl; err = refl }, c.say_version.ensures))
 
 pub returns-in-BadWord : goal.returns-in-BadWord
 returns-in-BadWord g c =

@@ -7,7 +7,7 @@ use Rattle.xml_document.proofs.LoadLemmas.{going_reader, stopped_reader, countin
 use Rattle.xml_document.proofs.loading.feed_all.Goals as goal
 
 pub pieces-init : goal.pieces-init
-pieces-init g c = counting_nothing (g.S.Shelf.view c.args.shelf.now) c.args.reader.now (g.E.Events.taken c.args.events.now) c.requires.unread
+pieces-init g c = counting_nothing (g.S.Shelf.view c.args.shelf.now) c.args.reader.now (g.E.Events.taken c.args.events.now) (g.B.ByteReceiver.taken c.args.bytes.now) c.requires.unread
 
 pub pieces-preserved : goal.pieces-preserved
 pieces-preserved g c =
@@ -17,7 +17,8 @@ pieces-preserved g c =
     let long = length-take c.in-Ok.count c.read.new.buf in
     counting_more _ _ (g.S.Shelf.view c.args.shelf.now) (g.S.Shelf.view c.pieces.shelf) (g.S.Shelf.view c.read.new.self) c.args.reader.now.limits c.pieces.reader c.feed.new.self _
     (g.E.Events.taken c.args.events.now) (g.E.Events.taken c.pieces.events) (g.E.Events.taken c.feed.new.events)
-    so_far (omega (arith, long, c.in_ok-length.ensures, read.bound)) read.held read.opens read.faults (read.left ∙ ap (λ x. ahead_of x (g.S.Shelf.view c.read.new.self).left) (sym c.split_at.ensures.front)) fed.limits fed.answer fed.read fed.told
+    (g.B.ByteReceiver.taken c.args.bytes.now) (g.B.ByteReceiver.taken c.pieces.bytes) (g.B.ByteReceiver.taken c.take.new.self)
+    so_far (omega (arith, long, c.in_ok-length.ensures, read.bound)) read.held read.opens read.faults (read.left ∙ ap (λ x. ahead_of x (g.S.Shelf.view c.read.new.self).left) (sym c.split_at.ensures.front)) fed.limits fed.answer fed.read fed.told c.in_ok-take.ensures
 
 pub pieces-smaller : goal.pieces-smaller
 pieces-smaller g c =
@@ -30,7 +31,8 @@ pub returns-then-count-eq0-clause-fed : goal.returns-then-count-eq0-clause-fed
 returns-then-count-eq0-clause-fed g c =
     let read = c.in-Ok.ensures in
     fed_whole _ (g.S.Shelf.view c.args.shelf.now) (g.S.Shelf.view c.pieces.shelf) (g.S.Shelf.view c.read.new.self) c.args.reader.now.limits c.pieces.reader _
-    (g.E.Events.taken c.args.events.now) (g.E.Events.taken c.pieces.events) c.pieces.invariant read.left (none_taken _ _ c.if-count-eq0.true) (read.end c.if-count-eq0.true (omega arith))
+    (g.E.Events.taken c.args.events.now) (g.E.Events.taken c.pieces.events)
+    (g.B.ByteReceiver.taken c.args.bytes.now) (g.B.ByteReceiver.taken c.pieces.bytes) c.pieces.invariant read.left (none_taken _ _ c.if-count-eq0.true) (read.end c.if-count-eq0.true (omega arith))
 
 pub returns-in-Err-feed-clause-refused : goal.returns-in-Err-feed-clause-refused
 returns-in-Err-feed-clause-refused g c = λ told is.

@@ -1,22 +1,5 @@
-use Rattle.std.proofs.Common.{refl, subst}
-use Rattle.std.specs.Prelude.{IfOk}
-use Rattle.xml_document.specs.Loading.{IsLoadedOf, IsRefused, StopsInTime}
-use Rattle.xml_document.proofs.ReadingLemmas.{failed_from, opened_from}
+use Rattle.std.proofs.lemmas.Result.{IfOk-weaker}
 use Rattle.xml_document.proofs.loading.load_sized.Goals as goal
 
-pub returns-in-Err-clause-reads : goal.returns-in-Err-clause-reads
-returns-in-Err-clause-reads g c =
-    let opened = c.in-Err.ensures in
-    failed_from _ _ (g.S.Shelf.view c.args.shelf.now) (g.S.Shelf.view c.open.new.self) refl opened.held opened.opens opened.faults.0 opened.faults.1
-
-pub returns : goal.returns
-returns g c =
-    let limits = c.args.limits in
-    let opened = c.in-Ok.ensures in
-    let read = c.read_open.ensures in
-    record {
-      reads = opened_from _ _ (g.S.Shelf.view c.args.shelf.now) (g.S.Shelf.view c.open.new.self) (g.S.Shelf.view c.read_open.new.shelf) opened.held opened.opens opened.faults read.reads;
-      loaded = subst (λ told. IfOk c.read_open.result (λ loaded. IsLoadedOf limits told loaded.length loaded.doc)) opened.left read.loaded;
-      refused = λ fault is. subst (λ told. IsRefused limits told fault) opened.left (read.refused fault is);
-      stops = λ fault is. subst (λ told. StopsInTime limits told (g.S.Shelf.view c.read_open.new.shelf).left) opened.left (read.stops fault is);
-    }
+pub returns-clause-loaded : goal.returns-clause-loaded
+returns-clause-loaded g c = IfOk-weaker c.load_giving.result _ _ (λ loaded all. all.sized) c.load_giving.ensures.loaded

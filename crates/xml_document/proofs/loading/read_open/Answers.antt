@@ -1,6 +1,6 @@
 use Rattle.std.proofs.Common.{◌≡◌, ap, ◌∙◌, arith}
 use Rattle.xml_profile.specs.Readers.{Progress}
-use Rattle.xml_document.proofs.LoadLemmas.{read_nothing, read_wholly, refused_at_end, stops_at_end, wholly_built, wholly_sized}
+use Rattle.xml_document.proofs.LoadLemmas.{read_nothing, read_wholly, refused_at_end, stops_at_end, wholly_built, wholly_given}
 use Rattle.xml_document.proofs.loading.read_open.Goals as goal
 
 pub feed_all-requires-clause-unread : goal.feed_all-requires-clause-unread
@@ -11,8 +11,9 @@ finish-requires-in-Ok-finish g c =
     let limits = c.args.limits in
     let fed = c.in-Ok.ensures.fed in
     let kept : c.feed_all.new.reader.limits ≡ limits = c.feed_all.ensures.limits ∙ ap (λ (p : Progress). p.limits) c.in_ok-reader.ensures in
-    wholly_built _ limits (g.S.Shelf.view c.args.shelf.now).left c.in-Ok-finish.names c.finish.new.events
-    (read_wholly _ limits (g.S.Shelf.view c.args.shelf.now).left _ c.feed_all.new.reader c.in_ok-builder.builder c.feed_all.new.events c.finish.new.events c.in-Ok-finish.names kept c.in_ok-builder.ensures fed
+    wholly_built _ limits (g.S.Shelf.view c.args.shelf.now).left c.in-Ok-finish.names c.finish.new.events (g.B.ByteReceiver.taken c.args.bytes.now) (g.B.ByteReceiver.taken c.feed_all.new.bytes)
+    (read_wholly _ limits (g.S.Shelf.view c.args.shelf.now).left _ c.feed_all.new.reader c.in_ok-builder.builder c.feed_all.new.events c.finish.new.events c.in-Ok-finish.names
+    (g.B.ByteReceiver.taken c.args.bytes.now) (g.B.ByteReceiver.taken c.feed_all.new.bytes) kept c.in_ok-builder.ensures fed
     (c.in-Ok-finish.ensures.ended fed.fed fed.read) (λ found is. c.read_builds_its_tree.ensures limits fed.fed found (omega arith) is))
 
 pub returns-in_ok-doc-in-Ok-finish-clause-loaded : goal.returns-in_ok-doc-in-Ok-finish-clause-loaded
@@ -20,8 +21,10 @@ returns-in_ok-doc-in-Ok-finish-clause-loaded g c =
     let limits = c.args.limits in
     let fed = c.in-Ok.ensures.fed in
     let kept : c.feed_all.new.reader.limits ≡ limits = c.feed_all.ensures.limits ∙ ap (λ (p : Progress). p.limits) c.in_ok-reader.ensures in
-    wholly_sized _ limits (g.S.Shelf.view c.args.shelf.now).left c.in-Ok-finish.names c.finish.new.events c.in_ok-doc-in-Ok-finish.doc
-    (read_wholly _ limits (g.S.Shelf.view c.args.shelf.now).left _ c.feed_all.new.reader c.in_ok-builder.builder c.feed_all.new.events c.finish.new.events c.in-Ok-finish.names kept c.in_ok-builder.ensures fed
+    wholly_given _ limits (g.S.Shelf.view c.args.shelf.now).left c.in-Ok-finish.names c.finish.new.events c.in_ok-doc-in-Ok-finish.doc
+    (g.B.ByteReceiver.taken c.args.bytes.now) (g.B.ByteReceiver.taken c.feed_all.new.bytes)
+    (read_wholly _ limits (g.S.Shelf.view c.args.shelf.now).left _ c.feed_all.new.reader c.in_ok-builder.builder c.feed_all.new.events c.finish.new.events c.in-Ok-finish.names
+    (g.B.ByteReceiver.taken c.args.bytes.now) (g.B.ByteReceiver.taken c.feed_all.new.bytes) kept c.in_ok-builder.ensures fed
     (c.in-Ok-finish.ensures.ended fed.fed fed.read) (λ found is. c.read_builds_its_tree.ensures limits fed.fed found (omega arith) is))
     c.in_ok-doc-in-Ok-finish.ensures
 
@@ -38,7 +41,7 @@ pub returns-in-Err-finish-clause-stops : goal.returns-in-Err-finish-clause-stops
 returns-in-Err-finish-clause-stops g c = λ told is.
     let limits = c.args.limits in
     let kept : c.feed_all.new.reader.limits ≡ limits = c.feed_all.ensures.limits ∙ ap (λ (p : Progress). p.limits) c.in_ok-reader.ensures in
-    stops_at_end _ limits (g.S.Shelf.view c.args.shelf.now).left _ c.feed_all.new.reader _ _ c.settled_stays.ensures kept c.in-Ok.ensures.fed
+    stops_at_end _ limits (g.S.Shelf.view c.args.shelf.now).left _ c.feed_all.new.reader _ _ _ _ c.settled_stays.ensures kept c.in-Ok.ensures.fed
 
 pub returns-in_ok-doc-in-Ok-finish-clause-reads : goal.returns-in_ok-doc-in-Ok-finish-clause-reads
 returns-in_ok-doc-in-Ok-finish-clause-reads g c =

@@ -1,0 +1,131 @@
+//! All faults of a document as an invoice.
+ghost use Rattle.std.specs.Prelude.{◌≡◌, ◌≢◌, ◌<◌, All, IfOk, IfErr, Ok, length};
+ghost use Rattle.node_arena.specs.Moves.{tree_nodes};
+ghost use Rattle.bind_table.specs.WellFormed.{first_fault};
+ghost use Rattle.bind_meaning.specs.Faults.{faults_in, passed_nodes};
+ghost use Rattle.bind_run.specs.Reading.{AreFormed, FindsFaults, IsWholeIfMemory, IsWithin, faults_by, rows_in};
+
+use crate::gathering::gather;
+use crate::reading::out_of_memory;
+use crate::roots::binding_of;
+use crate::tables::Tables;
+use bind_meaning::{BindFault, Which};
+use bind_table::Binding;
+use bind_terms::faults;
+use code_lists::CodeLists;
+use inv_base::{Steps, Txt};
+use node_arena::{Doc, NodeId};
+use std::alloc::{AllocError, Global};
+use std::marker::Brand;
+use std::mem::replace;
+use std::sync::ledger::{Blank, Ledger};
+
+/// The faults of a document as an invoice, in their order, and the elements that its table passes over, in document order: those right
+/// inside an element of the table whose names lead no further, each with all that it holds.
+pub struct Faulted {
+    /// The table by which it was read.
+    pub which: Which,
+    pub faults: Vec<BindFault>,
+    pub passed_over: Vec<NodeId>,
+}
+
+impl Drop for Faulted {
+    fn drop(self) {
+        let Faulted {
+            which: _,
+            faults,
+            passed_over,
+        } = self;
+        drop(faults);
+        drop(passed_over);
+    }
+}
+
+/// All faults of a document as an invoice by the one of three tables that its root element selects, each at a node of the document.
+/// Where no table is selected that is the one fault, and want of memory is told as a fault of the whole document.
+pub fn faults_of_document(
+    alloc: Global,
+    doc: &Doc<'_>,
+    tables: &Tables,
+    lists: &CodeLists,
+) -> Result<Faulted, BindFault>
+    requires { AreFormed tables.now }
+    ensures finds { FindsFaults (faults_by (rows_in tables.now) (tree_nodes doc.now) lists.now) result }
+    ensures within { IfOk result (IsWithin (length doc.now.nodes)) }
+    ensures fault_within { IfErr result (λ fault. fault.node < length doc.now.nodes) }
+    ensures memory { IfErr result IsWholeIfMemory }
+{
+    doc.is_of_a_tree();
+    match binding_of(doc) {
+        Ok(which) => {
+            match faults_counted::<Brand>(alloc, doc, tables, which, lists, Blank::new(1)) {
+                Ok(found) => Ok(found),
+                Err(_) => Err(out_of_memory(doc)),
+            }
+        }
+        Err(fault) => Err(fault),
+    }
+}
+
+/// The same by one of the tables, with steps that nobody asks for.
+fn faults_counted<L: Ledger>(
+    alloc: Global,
+    doc: &Doc<'_>,
+    tables: &Tables,
+    which: Which,
+    lists: &CodeLists,
+    ledger: Blank,
+) -> Result<Faulted, AllocError>
+    requires tables { AreFormed tables.now }
+    requires name { ledger.name ≡ L.name }
+    requires parts { ledger.parts ≡ L.parts }
+    requires some { 0 < ledger.parts }
+    ensures which { IfOk result (λ found. found.which ≡ which) }
+    ensures faults { IfOk result (λ found. found.faults.items ≡ faults_in (tree_nodes doc.now) (rows_in tables.now which) lists.now) }
+    ensures passed_over { IfOk result (λ found. found.passed_over.items ≡ passed_nodes (tree_nodes doc.now) (rows_in tables.now which)) }
+    ensures within { IfOk result (IsWithin (length doc.now.nodes)) }
+{
+    let mut steps = Steps::<L>::new(ledger);
+    faults_by_table(alloc, doc, tables.table(which), which, lists, &mut steps)
+}
+
+fn faults_by_table<L: Ledger>(
+    alloc: Global,
+    doc: &Doc<'_>,
+    table: &Binding,
+    which: Which,
+    lists: &CodeLists,
+    steps: &mut Steps<L>,
+) -> Result<Faulted, AllocError>
+    requires { first_fault table.now ≡ Ok tt }
+    ensures which { IfOk result (λ found. found.which ≡ which) }
+    ensures faults { IfOk result (λ found. found.faults.items ≡ faults_in (tree_nodes doc.now) table.now lists.now) }
+    ensures passed_over { IfOk result (λ found. found.passed_over.items ≡ passed_nodes (tree_nodes doc.now) table.now) }
+    ensures within { IfOk result (IsWithin (length doc.now.nodes)) }
+{
+    let mut gathered = gather(alloc, doc, table, steps)?;
+    let currency = gathered.seating.invoice_currency.as_ref().map(Txt::as_str);
+    let judged = faults(
+        alloc,
+        doc,
+        table,
+        lists,
+        currency,
+        gathered.seating.picks.as_slice(),
+        gathered.others.indicators.as_slice(),
+        steps,
+    );
+    let passed_over = replace(&mut gathered.others.passed_over, Vec::new(alloc));
+    drop(gathered);
+    match judged {
+        Ok(faults) => Ok(Faulted {
+            which,
+            faults,
+            passed_over,
+        }),
+        Err(error) => {
+            drop(passed_over);
+            Err(error)
+        }
+    }
+}

@@ -1,0 +1,81 @@
+//! What judging needs of a document: what the rows of a table pick, with the occurrences of groups in which it stands.
+ghost use Rattle.std.specs.Prelude.{◌≡◌, ◌<◌, All, IfOk, Ok, length};
+ghost use Rattle.node_arena.specs.Moves.{tree_nodes};
+ghost use Rattle.bind_table.specs.WellFormed.{first_fault};
+ghost use Rattle.bind_meaning.specs.Currencies.{currencies};
+ghost use Rattle.bind_meaning.specs.Faults.{passed_nodes};
+ghost use Rattle.bind_meaning.specs.Kept.{all_kept, all_kept_seats};
+ghost use Rattle.bind_meaning.specs.Picks.{all_picked, rows_where, has_any_term};
+ghost use Rattle.bind_meaning.specs.Terms.{in_order, term_picks, place_all};
+ghost use Rattle.bind_terms.specs.Reading.{indicator_picks, term_places};
+
+use bind_meaning::Picked;
+use bind_seats::{Seating, seat};
+use bind_table::Binding;
+use bind_walk::{Picks, pick_all};
+use inv_base::{Steps, Txt};
+use node_arena::Doc;
+use std::alloc::{AllocError, Global};
+use std::mem::replace;
+use std::sync::ledger::Ledger;
+
+/// What the rows of a table pick in a document.
+pub(crate) struct Gathered {
+    /// What is picked of indicators, and the elements that the table passes over.
+    pub(crate) others: Picks,
+    /// What rows with a term pick, with its seats.
+    pub(crate) seating: Seating,
+}
+
+impl Drop for Gathered {
+    fn drop(self) {
+        let Gathered { others, seating } = self;
+        drop(others);
+        drop(seating);
+    }
+}
+
+/// It goes over the document and the lines of the table once. Picks without their seats are let go as soon as these are known.
+pub(crate) fn gather<L: Ledger>(
+    alloc: Global,
+    doc: &Doc<'_>,
+    table: &Binding,
+    steps: &mut Steps<L>,
+) -> Result<Gathered, AllocError>
+    requires { first_fault table.now ≡ Ok tt }
+    ensures picks { IfOk result (λ gathered. gathered.seating.picks.items ≡ all_kept_seats (term_places (tree_nodes doc.now) table.now)) }
+    ensures currency { IfOk result (λ gathered. gathered.seating.invoice_currency ≡ (currencies (tree_nodes doc.now) table.now).invoice) }
+    ensures indicators { IfOk result (λ gathered. gathered.others.indicators.items
+        ≡ all_kept (in_order (tree_nodes doc.now) (indicator_picks (tree_nodes doc.now) table.now))) }
+    ensures passed_over { IfOk result (λ gathered. gathered.others.passed_over.items ≡ passed_nodes (tree_nodes doc.now) table.now) }
+    ensures passed_within { IfOk result (λ gathered. All (λ n. n < length doc.now.nodes) gathered.others.passed_over.items) }
+{
+    let mut others = pick_all(alloc, doc, table, steps)?;
+    let terms = replace(&mut others.terms, Vec::new(alloc));
+    match seat_all(alloc, doc, table, terms, steps) {
+        Ok(seating) => Ok(Gathered { others, seating }),
+        Err(error) => {
+            drop(others);
+            Err(error)
+        }
+    }
+}
+
+fn seat_all<L: Ledger>(
+    alloc: Global,
+    doc: &Doc<'_>,
+    table: &Binding,
+    terms: Vec<Picked>,
+    steps: &mut Steps<L>,
+) -> Result<Seating, AllocError>
+    requires formed { first_fault table.now ≡ Ok tt }
+    requires picks { terms.items
+        ≡ all_kept (in_order (tree_nodes doc.now) (all_picked (tree_nodes doc.now) (rows_where has_any_term table.now))) }
+    ensures picks { IfOk result (λ s. s.picks.items ≡ all_kept_seats (place_all (tree_nodes doc.now)
+        (term_picks (tree_nodes doc.now) (currencies (tree_nodes doc.now) table.now) table.now))) }
+    ensures currency { IfOk result (λ s. s.invoice_currency ≡ (currencies (tree_nodes doc.now) table.now).invoice) }
+{
+    let seating = seat(alloc, doc, table, terms.as_slice(), steps);
+    drop(terms);
+    seating
+}

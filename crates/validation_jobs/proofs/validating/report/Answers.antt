@@ -1,0 +1,22 @@
+use Rattle.std.proofs.Common.{◌≡◌, ◌∙◌}
+use Rattle.held_rules.specs.Texts.{seen_ready}
+use Rattle.job_course.specs.Course.{ends}
+use Rattle.job_course.proofs.Ends.{memory_here}
+use Rattle.validation_report.specs.Validating.{report_of}
+use Rattle.validation_jobs.specs.Validation.{validated, reported, faulted_of}
+use Rattle.validation_jobs.proofs.ValidationLemmas.{report_is_written}
+use Rattle.validation_jobs.proofs.validating.report.Goals as goal
+
+pub returns-in-Err : goal.returns-in-Err
+returns-in-Err g c = λ content lines shelf err.
+    memory_here (ends (reported c.args.svrl (validated content c.args.placed.now.doc (faulted_of c.args.faulted.now) (seen_ready c.args.ready.now)))) shelf
+    (g.O.Sink.view c.args.out.now) err
+
+pub returns-in-Ok-made : goal.returns-in-Ok-made
+returns-in-Ok-made g c = λ content lines shelf err.
+    let doc = c.args.placed.now.doc in
+    let v = validated content doc (faulted_of c.args.faulted.now) (seen_ready c.args.ready.now) in
+    let same : report_of (record { content = content; document = doc; faults = c.deref.result.now; passed = c.deref-2.result.now; lines = c.in-Ok.found }) ≡ report_of v =
+    λ i. report_of (record { content = content; document = doc; faults = c.deref.ensures.value i; passed = c.deref-2.ensures.value i; lines = c.in-Ok.ensures i }) in
+    report_is_written c.args.svrl v c.in-Ok-made.validation c.write_report-status.result shelf (g.O.Sink.view c.args.out.now) (g.O.Sink.view c.write_report-status.new.out) err
+    (c.in-Ok-made.ensures content lines ∙ same) (c.write_report-status.ensures shelf err)

@@ -1,0 +1,248 @@
+//! The job that validates an invoice.
+ghost use Rattle.std.specs.Prelude.{◌≡◌, ◌<◌, ℕ, List, length};
+ghost use Rattle.inv_base.specs.Outside.{ShelfView, SinkView};
+ghost use Rattle.bind_run.specs.Extensions.{AreGood};
+ghost use Rattle.bind_run.specs.Reading.{AreTablesFor, IsWithin};
+ghost use Rattle.held_rules.specs.Texts.{seen_ready, IsReady};
+ghost use Rattle.line_places.specs.Places.{AreLinesOf};
+ghost use Rattle.inv_base.specs.Writing.{Writes};
+ghost use Rattle.job_course.specs.Runs.{Runs};
+ghost use Rattle.invoice_jobs.specs.Sources.{basis_of, sources_of};
+ghost use Rattle.job_course.specs.Course.{ends, told_course};
+ghost use Rattle.validation_jobs.specs.Validation.{status_by, text_in, told_by, reported, validated, judged_next, document_next, found_next, validate_course, faulted_of};
+
+use crate::built_in::{built_in_rules, load_given, tell_not_built_in};
+use bind_run::{Faulted, faults_of_document};
+use bumpalo::Bump;
+use held_rules::Ready;
+use inv_base::{Shelf, Sink, Steps};
+use invoice_jobs::{Basis, Sources, refuse_invoice};
+use job_course::{Placed, Status, load_placed};
+use std::alloc::Global;
+use std::marker::Brand;
+use std::sync::ledger::{Blank, Ledger};
+use validation_report::Validation;
+use xml_write::WriteFault;
+
+/// What is asked of an invoice.
+#[derive(Clone, Copy)]
+struct Asked<'w> {
+    /// Whether the report is to be SVRL.
+    svrl: bool,
+    /// The files beside the document.
+    sources: Sources<'w>,
+    /// The document.
+    file: &'w str,
+}
+
+/// Reports all that is wrong with an invoice. All refusals are settled, and all is found, before the first byte of the report.
+pub fn validate<'w, S: Shelf, O: Sink, E: Sink>(
+    alloc: Global,
+    svrl: bool,
+    sources: &Sources<'w>,
+    file: &'w str,
+    shelf: &mut S,
+    out: &mut O,
+    err: &mut E,
+) -> Status
+    ensures { Runs (validate_course svrl (sources_of sources.now) file.now)
+        (record { shelf = S.view shelf.old; out = O.view out.old; err = E.view err.old })
+        (record { shelf = S.view shelf.new; out = O.view out.new; err = E.view err.new }) result }
+{
+    let asked = Asked {
+        svrl,
+        sources: *sources,
+        file,
+    };
+    validate_by::<Brand, S, O, E>(alloc, &asked, Blank::new(1), shelf, out, err)
+}
+
+/// The same by steps that nobody asks for.
+fn validate_by<L: Ledger, S: Shelf, O: Sink, E: Sink>(
+    alloc: Global,
+    asked: &Asked<'_>,
+    ledger: Blank,
+    shelf: &mut S,
+    out: &mut O,
+    err: &mut E,
+) -> Status
+    requires name { ledger.name ≡ L.name }
+    requires parts { ledger.parts ≡ L.parts }
+    requires some { 0 < ledger.parts }
+    ensures { Runs (validate_course asked.now.svrl (sources_of asked.now.sources) asked.now.file.now)
+        (record { shelf = S.view shelf.old; out = O.view out.old; err = E.view err.old })
+        (record { shelf = S.view shelf.new; out = O.view out.new; err = E.view err.new }) result }
+{
+    let mut steps = Steps::<L>::new(ledger);
+    match load_given(alloc, &asked.sources, shelf, err) {
+        Ok(basis) => {
+            let status = validate_file(
+                alloc, asked.svrl, &basis, asked.file, shelf, out, err, &mut steps,
+            );
+            drop(basis);
+            status
+        }
+        Err(status) => status,
+    }
+}
+
+/// The same of a file, by what it is validated by.
+fn validate_file<L: Ledger, S: Shelf, O: Sink, E: Sink>(
+    alloc: Global,
+    svrl: bool,
+    basis: &Basis,
+    file: &str,
+    shelf: &mut S,
+    out: &mut O,
+    err: &mut E,
+    steps: &mut Steps<L>,
+) -> Status
+    requires tables { AreTablesFor basis.now.extension basis.now.tables }
+    requires good { AreGood basis.now.extension }
+    ensures { Runs (told_course file.now (found_next svrl file.now (basis_of basis.now)))
+        (record { shelf = S.view shelf.old; out = O.view out.old; err = E.view err.old })
+        (record { shelf = S.view shelf.new; out = O.view out.new; err = E.view err.new }) result }
+{
+    let bump = Bump::new(alloc);
+    match load_placed(alloc, &bump, shelf, file, err) {
+        Ok(placed) => {
+            let status = validate_document(alloc, svrl, basis, file, &placed, out, err, steps);
+            drop(placed);
+            status
+        }
+        Err(status) => status,
+    }
+}
+
+/// The same of a document that is loaded.
+fn validate_document<L: Ledger, O: Sink, E: Sink>(
+    alloc: Global,
+    svrl: bool,
+    basis: &Basis,
+    file: &str,
+    placed: &Placed<'_>,
+    out: &mut O,
+    err: &mut E,
+    steps: &mut Steps<L>,
+) -> Status
+    requires tables { AreTablesFor basis.now.extension basis.now.tables }
+    requires good { AreGood basis.now.extension }
+    ensures { (content : List ℕ) → AreLinesOf placed.now.lines content
+        → (shelf : ShelfView) → Runs (document_next svrl file.now (basis_of basis.now) content placed.now.doc)
+        (record { shelf = shelf; out = O.view out.old; err = E.view err.old })
+        (record { shelf = shelf; out = O.view out.new; err = E.view err.new }) result }
+{
+    match faults_of_document(alloc, &placed.doc, &basis.tables, &basis.lists) {
+        Ok(faulted) => {
+            let status = judge_document(alloc, svrl, placed, &faulted, out, err, steps);
+            drop(faulted);
+            status
+        }
+        Err(fault) => refuse_invoice(&placed.doc, file, &fault, err),
+    }
+}
+
+/// The same once it is known what is wrong with the document as an invoice.
+fn judge_document<L: Ledger, O: Sink, E: Sink>(
+    alloc: Global,
+    svrl: bool,
+    placed: &Placed<'_>,
+    faulted: &Faulted,
+    out: &mut O,
+    err: &mut E,
+    steps: &mut Steps<L>,
+) -> Status
+    requires within { IsWithin (length placed.now.doc.nodes) faulted.now }
+    ensures { (content : List ℕ) → AreLinesOf placed.now.lines content
+        → (shelf : ShelfView) → Runs (judged_next svrl content placed.now.doc (faulted_of faulted.now))
+        (record { shelf = shelf; out = O.view out.old; err = E.view err.old })
+        (record { shelf = shelf; out = O.view out.new; err = E.view err.new }) result }
+{
+    match built_in_rules(alloc, faulted.which) {
+        Ok(Some(ready)) => {
+            let status = report(alloc, svrl, placed, faulted, &ready, out, steps);
+            drop(ready);
+            status
+        }
+        Ok(None) => {
+            tell_not_built_in(err);
+            Status::RulesRefused
+        }
+        Err(_) => Status::Memory,
+    }
+}
+
+/// What the rules find besides, and the report of all. All is found before the first byte is written.
+fn report<L: Ledger, O: Sink>(
+    alloc: Global,
+    svrl: bool,
+    placed: &Placed<'_>,
+    faulted: &Faulted,
+    ready: &Ready,
+    out: &mut O,
+    steps: &mut Steps<L>,
+) -> Status
+    requires within { IsWithin (length placed.now.doc.nodes) faulted.now }
+    requires ready { IsReady ready.now }
+    ensures { (content : List ℕ) → AreLinesOf placed.now.lines content
+        → (shelf : ShelfView) (err : SinkView) → Runs (ends (reported svrl (validated content placed.now.doc (faulted_of faulted.now) (seen_ready ready.now))))
+        (record { shelf = shelf; out = O.view out.old; err = err })
+        (record { shelf = shelf; out = O.view out.new; err = err }) result }
+{
+    let Placed { doc, lines } = placed;
+    doc.is_of_a_tree();
+    let found = match ready.find(alloc, doc, steps) {
+        Ok(found) => found,
+        Err(_) => return Status::Memory,
+    };
+    let made = Validation::new(
+        alloc,
+        doc,
+        lines,
+        &faulted.faults,
+        &faulted.passed_over,
+        found,
+    );
+    match made {
+        Ok(validation) => {
+            let status = write_report(svrl, &validation, out);
+            drop(validation);
+            status
+        }
+        Err(_) => Status::Memory,
+    }
+}
+
+/// Writes a report; it takes no memory.
+fn write_report<O: Sink>(svrl: bool, validation: &Validation, out: &mut O) -> Status
+    ensures { (shelf : ShelfView) (err : SinkView) → Runs (ends (told_by svrl validation.now))
+        (record { shelf = shelf; out = O.view out.old; err = err })
+        (record { shelf = shelf; out = O.view out.new; err = err }) result }
+{
+    match write_text(svrl, validation, out) {
+        Ok(()) => status_of(validation),
+        Err(_) => Status::WriteFault,
+    }
+}
+
+/// Writes the report in SVRL, or the plain one.
+fn write_text<O: Sink>(svrl: bool, validation: &Validation, out: &mut O) -> Result<(), WriteFault>
+    ensures { Writes result (text_in svrl validation.now) (O.view out.old) (O.view out.new) }
+{
+    if svrl {
+        validation.write_svrl(out)
+    } else {
+        validation.write_plain(out)
+    }
+}
+
+/// The status of a report that was written.
+fn status_of(validation: &Validation) -> Status
+    ensures { result ≡ status_by validation.now.findings }
+{
+    if validation.has_findings() {
+        Status::Findings
+    } else {
+        Status::Done
+    }
+}

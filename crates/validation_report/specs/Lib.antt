@@ -1,0 +1,3 @@
+pub mod Told
+pub mod Validating
+pub mod Held

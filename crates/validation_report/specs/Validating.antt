@@ -1,0 +1,98 @@
+-- The report of a validation: as lines for a person, and in the Schematron Validation Report Language. Texts are bytes of
+-- UTF-8.
+use Rattle.std.specs.Prelude.{ℕ, nat_lt, Bool, true, false, ◌||◌, List, [], ◌∷◌, ◌++◌, length, flat_map, codes, decimal, encode_utf8_all}
+use Rattle.inv_base.specs.Text.{quoted}
+use Rattle.line_places.specs.declared.place.LinePlace.{LinePlace}
+use Rattle.line_places.specs.Places.{place_in}
+use Rattle.node_arena.specs.Document.{Document, node_at}
+use Rattle.node_arena.specs.Moves.{tree_nodes}
+use Rattle.node_locations.specs.Locations.{location}
+use Rattle.bind_meaning.specs.declared.fault.BindFault.{BindFault}
+use Rattle.schematron_findings.specs.declared.finding.Finding.{Finding}
+use Rattle.schematron_findings.specs.declared.finding.Line.{Line}
+use Rattle.svrl_report.specs.declared.tally.Tally.{Tally}
+use Rattle.svrl_report.specs.Plain.{outcome_text, id_text, tally_of, counts_line}
+use Rattle.svrl_report.specs.Svrl.{svrl_report}
+use Rattle.validation_report.specs.Told.{kind_text, fault_finding, reading_lines, Told, told_in}
+
+-- what a validation comes to: the file's bytes and the document that they are, the faults of reading and the elements
+-- that were passed over, both in document order, and what rules find
+pub record Validated : Type 0 where
+  pub content : List ℕ
+  pub document : Document
+  pub faults : List BindFault
+  pub passed : List ℕ
+  pub lines : List Line
+
+-- ---- the lines
+
+-- where the node of that number stands in the file
+abbrev pub place_of : Validated → ℕ → LinePlace
+place_of v node = place_in v.content (node_at v.document.nodes node).place
+
+-- ` at 8:3`
+abbrev pub at_text : LinePlace → List ℕ
+at_text place = codes " at " ++ (decimal place.line ++ (0x3A ∷ decimal place.column))
+
+-- a finding behind a word: the id or `-`, where its node stands, and the quoted message
+abbrev pub finding_text : List ℕ → Finding → LinePlace → List ℕ
+finding_text word finding place =
+    word ++ (0x20 ∷ (id_text finding.id ++ (0x20 ∷ (encode_utf8_all finding.location
+    ++ (at_text place ++ (0x20 ∷ (encode_utf8_all (quoted finding.message) ++ 0xA ∷ [])))))))
+
+-- a fault of reading, by its kind
+abbrev pub fault_text : Validated → BindFault → List ℕ
+fault_text v fault = finding_text (codes "fault " ++ kind_text fault.kind) (fault_finding v.document fault) (place_of v fault.node)
+
+-- an element that was passed over
+abbrev pub passed_text : List ℕ → LinePlace → List ℕ
+passed_text text place = codes "passed over " ++ (encode_utf8_all text ++ (at_text place ++ 0xA ∷ []))
+
+abbrev pub passed_at : Validated → ℕ → List ℕ
+passed_at v node = passed_text (location (tree_nodes v.document) node) (place_of v node)
+
+-- a finding of a rule, by what it came to
+abbrev pub told_text : Validated → Told → List ℕ
+told_text v told = finding_text (outcome_text told.finding.outcome told.finding.level) told.finding (place_of v told.node)
+
+-- how many faults and elements there are, and how many findings of each sort
+abbrev pub count_text : ℕ → ℕ → Tally → List ℕ
+count_text faults passed tally =
+    codes "faults " ++ (decimal faults ++ (codes ", passed over " ++ (decimal passed ++ (codes ", " ++ counts_line tally))))
+
+-- ---- the reports
+
+-- faults, elements that were passed over, and findings, each in document order, and one line of counts
+unfoldable pub plain_validation : Validated → List ℕ
+plain_validation v =
+    flat_map (fault_text v) v.faults
+    ++ (flat_map (passed_at v) v.passed
+    ++ (flat_map (told_text v) (told_in v.lines)
+    ++ count_text (length v.faults) (length v.passed) (tally_of v.lines)))
+
+-- the reading as one rule file, and the findings of rules behind it
+unfoldable pub svrl_validation : Validated → List ℕ
+svrl_validation v = encode_utf8_all (svrl_report (reading_lines v.document v.faults ∷ v.lines ∷ []))
+
+-- ---- the answer
+
+-- There is a fault, or a fatal assertion failed, or one is in error.
+abbrev pub counts_against : ℕ → Tally → Bool
+counts_against faults tally = nat_lt 0 faults || (nat_lt 0 tally.failed || nat_lt 0 tally.errors)
+
+unfoldable pub has_findings : Validated → Bool
+has_findings v = counts_against (length v.faults) (tally_of v.lines)
+
+-- what is told of a validation
+pub record Report : Type 0 where
+  pub plain : List ℕ
+  pub svrl : List ℕ
+  pub findings : Bool
+
+abbrev pub report_of : Validated → Report
+report_of v = record { plain = plain_validation v; svrl = svrl_validation v; findings = has_findings v }
+
+-- the report in SVRL, or the plain one
+abbrev pub validation_text : Bool → Validated → List ℕ
+validation_text true v = svrl_validation v
+validation_text false v = plain_validation v

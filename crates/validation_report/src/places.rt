@@ -1,0 +1,196 @@
+//! Where findings and elements stand: the place of each one's node, and the order of findings.
+ghost use Rattle.std.specs.Prelude.{◌≡◌, ◌++◌, ◌∷◌, [], ◌+◌, ◌<◌, ℕ, List, length, map, IfOk, OnOk};
+ghost use Rattle.std.specs.List.{All};
+ghost use Rattle.line_places.specs.Places.{AreLinesOf, place_in};
+ghost use Rattle.node_arena.specs.Document.{node_at};
+ghost use Rattle.node_arena.specs.Moves.{tree_nodes};
+ghost use Rattle.node_locations.specs.Locations.{AreOrdinals};
+ghost use Rattle.bind_meaning.specs.declared.fault.BindFault.{BindFault};
+ghost use Rattle.schematron_findings.specs.declared.finding.Line.{Line};
+ghost use Rattle.validation_report.specs.Held.{fault_spots, spots_of, spots_from, node_behind, spots_at, passed_of, ordered};
+
+use crate::texts::location_of;
+use bind_meaning::BindFault;
+use inv_base::Txt;
+use line_places::{LinePlace, LineStarts};
+use node_arena::{Doc, NodeId};
+use node_locations::Ordinals;
+use schematron_findings::Line;
+use std::alloc::{AllocError, Global};
+
+/// Of a finding its node with the place of that, and the number of its line among those of its report.
+#[derive(Clone, Copy)]
+pub(crate) struct Spot {
+    pub(crate) node: NodeId,
+    pub(crate) line: usize,
+    pub(crate) place: LinePlace,
+}
+
+/// An element that was passed over: where it stands in the document, and in the file.
+pub(crate) struct Passed {
+    pub(crate) location: Txt,
+    pub(crate) place: LinePlace,
+}
+
+impl Drop for Passed {
+    fn drop(self) {
+        let Passed { location, place: _ } = self;
+        drop(location);
+    }
+}
+
+/// The place of a node in the file.
+fn place_at(doc: &Doc<'_>, lines: &LineStarts, n: NodeId) -> LinePlace
+    requires { n < length doc.now.nodes }
+    ensures { (content : List ℕ) → AreLinesOf lines.now content → result ≡ place_in content (node_at doc.now.nodes n).place }
+{
+    lines.place(doc.place(n).byte)
+}
+
+/// The place of a node that lines tell as judged. Those of a document's findings are its nodes; any other stands where the
+/// document does.
+fn place_judged(doc: &Doc<'_>, ordinals: &Ordinals, lines: &LineStarts, n: NodeId) -> LinePlace
+    requires { AreOrdinals doc.now ordinals.now }
+    ensures { (content : List ℕ) → AreLinesOf lines.now content → result ≡ place_in content (node_at doc.now.nodes n).place }
+{
+    if (n.number() as usize) < ordinals.len() {
+        place_at(doc, lines, n)
+    } else {
+        lines.place(0)
+    }
+}
+
+/// The spots of the faults, whose lines begin behind two others.
+pub(crate) fn push_fault_spots(
+    doc: &Doc<'_>,
+    lines: &LineStarts,
+    faults: &[BindFault],
+    spots: &mut Vec<Spot>,
+) -> Result<(), AllocError>
+    requires within { All (λ (fault : BindFault). fault.node < length doc.now.nodes) faults.now }
+    ensures { OnOk result ((content : List ℕ) → AreLinesOf lines.now content
+        → spots.new.items ≡ spots.old.items ++ fault_spots doc.now content 2 faults.now) }
+{
+    'faults: for (k, fault) in faults.iter().enumerate() {
+        let place = place_at(doc, lines, fault.node);
+        spots.push(Spot {
+            node: fault.node,
+            line: k + 2,
+            place,
+        })?;
+    }
+    Ok(())
+}
+
+/// The spots of the findings, in document order.
+pub(crate) fn push_ordered(
+    doc: &Doc<'_>,
+    ordinals: &Ordinals,
+    lines: &LineStarts,
+    found: &[Line],
+    spots: &mut Vec<Spot>,
+) -> Result<(), AllocError>
+    requires ordinals { AreOrdinals doc.now ordinals.now }
+    requires first { spots.old.items ≡ [] }
+    ensures { OnOk result ((content : List ℕ) → AreLinesOf lines.now content
+        → spots.new.items ≡ ordered (spots_of doc.now content found.now)) }
+{
+    push_spots(doc, ordinals, lines, found, spots)?;
+    sort_by_node(spots)
+}
+
+/// Puts spots in document order of their nodes; those of one node stay in their order.
+fn sort_by_node(spots: &mut Vec<Spot>) -> Result<(), AllocError>
+    ensures { OnOk result (spots.new.items ≡ ordered spots.old.items) }
+{
+    spots.sort_by_key(|spot| spot.node.number())
+}
+
+/// The spots of the findings, in the order of their lines.
+fn push_spots(
+    doc: &Doc<'_>,
+    ordinals: &Ordinals,
+    lines: &LineStarts,
+    found: &[Line],
+    spots: &mut Vec<Spot>,
+) -> Result<(), AllocError>
+    requires { AreOrdinals doc.now ordinals.now }
+    ensures { OnOk result ((content : List ℕ) → AreLinesOf lines.now content
+        → spots.new.items ≡ spots.old.items ++ spots_of doc.now content found.now) }
+{
+    let mut node = doc.document();
+    'lines: for (k, line) in found.iter().enumerate() {
+        node = node_behind(node, line);
+        push_spot(doc, ordinals, lines, line, node, k, spots)?;
+    }
+    Ok(())
+}
+
+/// The node that is judged behind a line, where this one was judged before.
+fn node_behind(node: NodeId, line: &Line) -> NodeId
+    ensures { result ≡ node_behind node line.now }
+{
+    match line {
+        Line::Fired {
+            node: judged,
+            rule: _,
+            context: _,
+        } => *judged,
+        Line::Pattern { id: _ } | Line::Found(_) => node,
+    }
+}
+
+/// The spot of a line that tells a finding.
+fn push_spot(
+    doc: &Doc<'_>,
+    ordinals: &Ordinals,
+    lines: &LineStarts,
+    line: &Line,
+    node: NodeId,
+    number: usize,
+    spots: &mut Vec<Spot>,
+) -> Result<(), AllocError>
+    requires { AreOrdinals doc.now ordinals.now }
+    ensures { OnOk result ((content : List ℕ) → AreLinesOf lines.now content
+        → spots.new.items ≡ spots.old.items ++ spots_at doc.now content number node line.now) }
+{
+    match line {
+        Line::Found(_) => {
+            let place = place_judged(doc, ordinals, lines, node);
+            spots.push(Spot {
+                node,
+                line: number,
+                place,
+            })?;
+            Ok(())
+        }
+        Line::Pattern { id: _ }
+        | Line::Fired {
+            node: _,
+            rule: _,
+            context: _,
+        } => Ok(()),
+    }
+}
+
+/// The elements that were passed over.
+pub(crate) fn push_passed(
+    alloc: Global,
+    doc: &Doc<'_>,
+    ordinals: &Ordinals,
+    lines: &LineStarts,
+    nodes: &[NodeId],
+    passed: &mut Vec<Passed>,
+) -> Result<(), AllocError>
+    requires within { All (λ (n : ℕ). n < length doc.now.nodes) nodes.now }
+    requires ordinals { AreOrdinals doc.now ordinals.now }
+    ensures { OnOk result ((content : List ℕ) → AreLinesOf lines.now content
+        → passed.new.items ≡ passed.old.items ++ map (passed_of doc.now content) nodes.now) }
+{
+    'nodes: for n in nodes {
+        let location = location_of(alloc, doc, ordinals, *n)?;
+        let place = place_at(doc, lines, *n);
+        passed.push(Passed { location, place })?;
+    }
+    Ok(())
+}

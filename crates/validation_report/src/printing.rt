@@ -1,0 +1,146 @@
+//! The report for a person.
+ghost use Rattle.std.specs.Prelude.{◌≡◌, ◌++◌, flat_map, length, List, ℕ};
+ghost use Rattle.inv_base.specs.Printing.{Prints};
+ghost use Rattle.schematron_findings.specs.declared.finding.Finding.{Finding};
+ghost use Rattle.svrl_report.specs.Plain.{tally_of};
+ghost use Rattle.validation_report.specs.Validating.{at_text, finding_text, passed_text, count_text};
+ghost use Rattle.validation_report.specs.Held.{line_text, spot_text, fault_word, outcome_word, held_passed};
+
+use crate::places::{Passed, Spot};
+use inv_base::{Printer, Sink};
+use line_places::LinePlace;
+use schematron_findings::{Finding, Line};
+use svrl_report::{
+    Tally, print_counts, print_id, print_message, print_number, print_outcome, print_text,
+};
+
+/// The word with which the line of a finding begins.
+pub(crate) trait Word {
+    /// The word of a finding.
+    ghost word: { Finding → List ℕ };
+
+    /// Prints it.
+    fn print<K: Sink>(finding: &Finding, printer: &mut Printer, out: &mut K)
+        ensures { Prints (word finding.now) printer.old.failed printer.new.failed (K.view out.old) (K.view out.new) };
+}
+
+/// The word of a fault of reading.
+pub(crate) struct FaultWord;
+
+impl Word for FaultWord {
+    ghost word = { fault_word };
+
+    fn print<K: Sink>(finding: &Finding, printer: &mut Printer, out: &mut K) {
+        printer.put(out, b"fault ");
+        print_text(&finding.test, printer, out);
+    }
+}
+
+/// The word of a finding of a rule.
+pub(crate) struct OutcomeWord;
+
+impl Word for OutcomeWord {
+    ghost word = { outcome_word };
+
+    fn print<K: Sink>(finding: &Finding, printer: &mut Printer, out: &mut K) {
+        print_outcome(finding.outcome, finding.level, printer, out);
+    }
+}
+
+/// Prints the findings at these spots, each of a line of these.
+pub(crate) fn print_spots<W: Word, K: Sink>(
+    lines: &[Line],
+    spots: &[Spot],
+    printer: &mut Printer,
+    out: &mut K,
+)
+    ensures { Prints (flat_map (spot_text W.word lines.now) spots.now) printer.old.failed printer.new.failed (K.view out.old) (K.view out.new) }
+{
+    'spots: for spot in spots {
+        print_spot::<W, K>(lines, *spot, printer, out);
+    }
+}
+
+fn print_spot<W: Word, K: Sink>(lines: &[Line], spot: Spot, printer: &mut Printer, out: &mut K)
+    ensures { Prints (spot_text W.word lines.now spot) printer.old.failed printer.new.failed (K.view out.old) (K.view out.new) }
+{
+    match lines.get(spot.line) {
+        Some(line) => print_line::<W, K>(line, spot.place, printer, out),
+        None => {}
+    }
+}
+
+fn print_line<W: Word, K: Sink>(line: &Line, place: LinePlace, printer: &mut Printer, out: &mut K)
+    ensures { Prints (line_text W.word place line.now) printer.old.failed printer.new.failed (K.view out.old) (K.view out.new) }
+{
+    match line {
+        Line::Found(finding) => print_finding::<W, K>(finding, place, printer, out),
+        _ => {}
+    }
+}
+
+/// Prints the line of a finding.
+fn print_finding<W: Word, K: Sink>(
+    finding: &Finding,
+    place: LinePlace,
+    printer: &mut Printer,
+    out: &mut K,
+)
+    ensures { Prints (finding_text (W.word finding.now) finding.now place) printer.old.failed printer.new.failed (K.view out.old) (K.view out.new) }
+{
+    W::print(finding, printer, out);
+    printer.put(out, b" ");
+    print_id(&finding.id, printer, out);
+    printer.put(out, b" ");
+    print_text(&finding.location, printer, out);
+    print_place(place, printer, out);
+    printer.put(out, b" ");
+    print_message(&finding.message, printer, out);
+    printer.put(out, b"\n");
+}
+
+/// Prints a line and a column behind ` at `.
+fn print_place<K: Sink>(place: LinePlace, printer: &mut Printer, out: &mut K)
+    ensures { Prints (at_text place) printer.old.failed printer.new.failed (K.view out.old) (K.view out.new) }
+{
+    printer.put(out, b" at ");
+    print_number(place.line, printer, out);
+    printer.put(out, b":");
+    print_number(place.column, printer, out);
+}
+
+/// Prints the elements that were passed over.
+pub(crate) fn print_all_passed<K: Sink>(passed: &[Passed], printer: &mut Printer, out: &mut K)
+    ensures { Prints (flat_map held_passed passed.now) printer.old.failed printer.new.failed (K.view out.old) (K.view out.new) }
+{
+    'passed: for one in passed {
+        print_passed(one, printer, out);
+    }
+}
+
+fn print_passed<K: Sink>(passed: &Passed, printer: &mut Printer, out: &mut K)
+    ensures { Prints (passed_text passed.now.location passed.now.place) printer.old.failed printer.new.failed (K.view out.old) (K.view out.new) }
+{
+    printer.put(out, b"passed over ");
+    print_text(&passed.location, printer, out);
+    print_place(passed.place, printer, out);
+    printer.put(out, b"\n");
+}
+
+/// Prints how many faults and elements there are, and how many findings of each sort.
+pub(crate) fn print_all_counts<K: Sink>(
+    faults: &[Spot],
+    passed: &[Passed],
+    tally: Tally,
+    printer: &mut Printer,
+    out: &mut K,
+)
+    ensures { Prints (count_text (length faults.now) (length passed.now) tally) printer.old.failed printer.new.failed (K.view out.old) (K.view out.new) }
+{
+    printer.put(out, b"faults ");
+    print_number(faults.len() as u64, printer, out);
+    printer.put(out, b", passed over ");
+    print_number(passed.len() as u64, printer, out);
+    printer.put(out, b", ");
+    print_counts(tally, printer, out);
+}

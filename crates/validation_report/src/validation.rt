@@ -1,0 +1,315 @@
+//! A report, made whole before its first byte is written.
+ghost use Rattle.std.specs.Prelude.{◌≡◌, ◌<◌, ◌∷◌, [], ℕ, List, length, encode_utf8_all, IfOk, OnOk};
+ghost use Rattle.std.specs.List.{All};
+ghost use Rattle.inv_base.specs.Printing.{Printed, Prints};
+ghost use Rattle.inv_base.specs.Writing.{Writes};
+ghost use Rattle.line_places.specs.Places.{AreLinesOf};
+ghost use Rattle.node_locations.specs.Locations.{AreOrdinals};
+ghost use Rattle.bind_meaning.specs.declared.fault.BindFault.{BindFault};
+ghost use Rattle.svrl_report.specs.Plain.{tally_of};
+ghost use Rattle.svrl_report.specs.Svrl.{svrl_report};
+ghost use Rattle.validation_report.specs.Told.{reading_lines};
+ghost use Rattle.validation_report.specs.Held.{ArePlaced, held, held_plain, reading_in, rules_in};
+ghost use Rattle.validation_report.specs.Validating.{report_of, counts_against};
+
+use crate::places::{Passed, Spot, push_fault_spots, push_ordered, push_passed};
+use crate::printing::{FaultWord, OutcomeWord, print_all_counts, print_all_passed, print_spots};
+use crate::reading::reading_of;
+use bind_meaning::BindFault;
+use inv_base::{Printer, Sink};
+use line_places::LineStarts;
+use node_arena::{Doc, NodeId};
+use node_locations::Ordinals;
+use schematron_findings::{Findings, Line};
+use std::alloc::{AllocError, Global};
+use std::marker::Model;
+use svrl_report::{Tally, write_svrl};
+use xml_write::WriteFault;
+
+/// Where stands what is told.
+pub(crate) struct Spots {
+    faults: Vec<Spot>,
+    passed: Vec<Passed>,
+    // In document order.
+    findings: Vec<Spot>,
+}
+
+impl Drop for Spots {
+    fn drop(self) {
+        let Spots {
+            faults,
+            passed,
+            findings,
+        } = self;
+        drop(faults);
+        drop(passed);
+        drop(findings);
+    }
+}
+
+/// The report of a validation: all that takes memory is made, and nothing is written yet. Contracts see what it tells.
+pub struct Validation {
+    // What the reading finds, and behind it what rules find.
+    found: [Findings; 2],
+    spots: Spots,
+}
+
+impl Drop for Validation {
+    fn drop(self) {
+        let Validation { found, spots } = self;
+        drop(found);
+        drop(spots);
+    }
+}
+
+impl Model for Validation {
+    ghost use Rattle.validation_report.specs.Validating.{Report};
+    ghost use Rattle.validation_report.specs.Held.{held};
+
+    ghost Value = { Report };
+
+    ghost view = { λ v. held v.found v.spots.faults.items v.spots.passed.items v.spots.findings.items };
+}
+
+impl Validation {
+    /// The report on a document whose bytes gave these starts of lines, with the faults of reading it, the elements that
+    /// were passed over, and what rules find in it.
+    pub fn new(
+        alloc: Global,
+        doc: &Doc<'_>,
+        lines: &LineStarts,
+        faults: &[BindFault],
+        passed: &[NodeId],
+        findings: Findings,
+    ) -> Result<Validation, AllocError>
+        requires faults { All (λ (fault : BindFault). fault.node < length doc.now.nodes) faults.now }
+        requires passed { All (λ (n : ℕ). n < length doc.now.nodes) passed.now }
+        ensures { IfOk result (λ report. (content : List ℕ) → AreLinesOf lines.now content
+            → report ≡ report_of (record { content = content; document = doc.now; faults = faults.now; passed = passed.now; lines = findings })) }
+    {
+        match prepared(alloc, doc, lines, faults, passed, findings.lines()) {
+            Ok(ready) => Ok(ready.with(findings)),
+            Err(fault) => {
+                drop(findings);
+                Err(fault)
+            }
+        }
+    }
+
+    /// Whether there is a fault, or a fatal assertion failed, or one is in error.
+    pub fn has_findings(&self) -> bool
+        ensures { result ≡ self.now.findings }
+    {
+        counts_against(&self.found, &self.spots)
+    }
+
+    /// Writes the report for a person. Behind a fault the sink has taken a front of it.
+    pub fn write_plain<K: Sink>(&self, out: &mut K) -> Result<(), WriteFault>
+        ensures { Writes result self.now.plain (K.view out.old) (K.view out.new) }
+    {
+        write_report(&self.found, &self.spots, out)
+    }
+
+    /// Writes the report in the Schematron Validation Report Language. Behind a fault the sink has taken a front of it.
+    pub fn write_svrl<K: Sink>(&self, out: &mut K) -> Result<(), WriteFault>
+        ensures { Writes result self.now.svrl (K.view out.old) (K.view out.new) }
+    {
+        write_svrl(&self.found, out)
+    }
+}
+
+/// What a report is made of, but for what rules find.
+struct Ready {
+    reading: Findings,
+    spots: Spots,
+}
+
+impl Drop for Ready {
+    fn drop(self) {
+        let Ready { reading, spots } = self;
+        drop(reading);
+        drop(spots);
+    }
+}
+
+impl Ready {
+    /// With what rules find.
+    fn with(self, findings: Findings) -> Validation
+        ensures { result ≡ held (self.reading ∷ findings ∷ []) self.spots.faults.items self.spots.passed.items self.spots.findings.items }
+    {
+        let Ready { reading, spots } = self;
+        Validation {
+            found: [reading, findings],
+            spots,
+        }
+    }
+}
+
+/// All but what rules find.
+fn prepared(
+    alloc: Global,
+    doc: &Doc<'_>,
+    lines: &LineStarts,
+    faults: &[BindFault],
+    passed: &[NodeId],
+    found: &[Line],
+) -> Result<Ready, AllocError>
+    requires faults { All (λ (fault : BindFault). fault.node < length doc.now.nodes) faults.now }
+    requires passed { All (λ (n : ℕ). n < length doc.now.nodes) passed.now }
+    ensures reading { IfOk result (λ ready. ready.reading ≡ reading_lines doc.now faults.now) }
+    ensures placed { IfOk result (λ ready. (content : List ℕ) → AreLinesOf lines.now content
+        → ArePlaced doc.now content faults.now passed.now found.now ready.spots.faults.items ready.spots.passed.items ready.spots.findings.items) }
+{
+    let ordinals = Ordinals::new(alloc, doc)?;
+    let ready = prepared_by(alloc, doc, &ordinals, lines, faults, passed, found);
+    drop(ordinals);
+    ready
+}
+
+/// The same by the ordinals of the document's nodes.
+fn prepared_by(
+    alloc: Global,
+    doc: &Doc<'_>,
+    ordinals: &Ordinals,
+    lines: &LineStarts,
+    faults: &[BindFault],
+    passed: &[NodeId],
+    found: &[Line],
+) -> Result<Ready, AllocError>
+    requires faults { All (λ (fault : BindFault). fault.node < length doc.now.nodes) faults.now }
+    requires passed { All (λ (n : ℕ). n < length doc.now.nodes) passed.now }
+    requires ordinals { AreOrdinals doc.now ordinals.now }
+    ensures reading { IfOk result (λ ready. ready.reading ≡ reading_lines doc.now faults.now) }
+    ensures placed { IfOk result (λ ready. (content : List ℕ) → AreLinesOf lines.now content
+        → ArePlaced doc.now content faults.now passed.now found.now ready.spots.faults.items ready.spots.passed.items ready.spots.findings.items) }
+{
+    let reading = reading_of(alloc, doc, ordinals, faults)?;
+    match spots_of(alloc, doc, ordinals, lines, faults, passed, found) {
+        Ok(spots) => Ok(Ready { reading, spots }),
+        Err(fault) => {
+            drop(reading);
+            Err(fault)
+        }
+    }
+}
+
+/// Where stands what is told.
+fn spots_of(
+    alloc: Global,
+    doc: &Doc<'_>,
+    ordinals: &Ordinals,
+    lines: &LineStarts,
+    faults: &[BindFault],
+    passed: &[NodeId],
+    found: &[Line],
+) -> Result<Spots, AllocError>
+    requires faults { All (λ (fault : BindFault). fault.node < length doc.now.nodes) faults.now }
+    requires passed { All (λ (n : ℕ). n < length doc.now.nodes) passed.now }
+    requires ordinals { AreOrdinals doc.now ordinals.now }
+    ensures { IfOk result (λ spots. (content : List ℕ) → AreLinesOf lines.now content
+        → ArePlaced doc.now content faults.now passed.now found.now spots.faults.items spots.passed.items spots.findings.items) }
+{
+    let mut spots = Spots {
+        faults: Vec::new(alloc),
+        passed: Vec::new(alloc),
+        findings: Vec::new(alloc),
+    };
+    match place_all(
+        alloc, doc, ordinals, lines, faults, passed, found, &mut spots,
+    ) {
+        Ok(()) => Ok(spots),
+        Err(fault) => {
+            drop(spots);
+            Err(fault)
+        }
+    }
+}
+
+/// Keeps where all stands that is told.
+fn place_all(
+    alloc: Global,
+    doc: &Doc<'_>,
+    ordinals: &Ordinals,
+    lines: &LineStarts,
+    faults: &[BindFault],
+    passed: &[NodeId],
+    found: &[Line],
+    spots: &mut Spots,
+) -> Result<(), AllocError>
+    requires faults { All (λ (fault : BindFault). fault.node < length doc.now.nodes) faults.now }
+    requires passed { All (λ (n : ℕ). n < length doc.now.nodes) passed.now }
+    requires ordinals { AreOrdinals doc.now ordinals.now }
+    requires no_faults { spots.old.faults.items ≡ [] }
+    requires no_passed { spots.old.passed.items ≡ [] }
+    requires no_findings { spots.old.findings.items ≡ [] }
+    ensures { OnOk result ((content : List ℕ) → AreLinesOf lines.now content
+        → ArePlaced doc.now content faults.now passed.now found.now spots.new.faults.items spots.new.passed.items spots.new.findings.items) }
+{
+    push_fault_spots(doc, lines, faults, &mut spots.faults)?;
+    push_passed(alloc, doc, ordinals, lines, passed, &mut spots.passed)?;
+    push_ordered(doc, ordinals, lines, found, &mut spots.findings)
+}
+
+/// Whether the reading or the rules found something that counts against the document.
+fn counts_against(found: &[Findings; 2], spots: &Spots) -> bool
+    ensures { result ≡ counts_against (length spots.now.faults.items) (tally_of (rules_in found.now)) }
+{
+    let tally = Tally::of(rules_in(found));
+    !spots.faults.is_empty() || tally.failed > 0 || tally.errors > 0
+}
+
+/// Writes the report for a person.
+fn write_report<K: Sink>(
+    found: &[Findings; 2],
+    spots: &Spots,
+    out: &mut K,
+) -> Result<(), WriteFault>
+    ensures { Writes result (held_plain (reading_in found.now) (rules_in found.now) spots.now.faults.items spots.now.passed.items spots.now.findings.items)
+        (K.view out.old) (K.view out.new) }
+{
+    if print_report(found, spots, out) {
+        return Err(WriteFault);
+    }
+    Ok(())
+}
+
+/// Prints the report; answers whether a write failed.
+fn print_report<K: Sink>(found: &[Findings; 2], spots: &Spots, out: &mut K) -> bool
+    ensures { Printed result (held_plain (reading_in found.now) (rules_in found.now) spots.now.faults.items spots.now.passed.items spots.now.findings.items)
+        (K.view out.old) (K.view out.new) }
+{
+    let mut printer = Printer::new();
+    print_held(reading_in(found), rules_in(found), spots, &mut printer, out);
+    printer.failed
+}
+
+/// What the reading finds.
+fn reading_in(found: &[Findings; 2]) -> &[Line]
+    ensures { result.now ≡ reading_in found.now }
+{
+    found[0].lines()
+}
+
+/// What rules find.
+fn rules_in(found: &[Findings; 2]) -> &[Line]
+    ensures { result.now ≡ rules_in found.now }
+{
+    found[1].lines()
+}
+
+/// Prints what is told of these lines.
+fn print_held<K: Sink>(
+    reading: &[Line],
+    rules: &[Line],
+    spots: &Spots,
+    printer: &mut Printer,
+    out: &mut K,
+)
+    ensures { Prints (held_plain reading.now rules.now spots.now.faults.items spots.now.passed.items spots.now.findings.items)
+        printer.old.failed printer.new.failed (K.view out.old) (K.view out.new) }
+{
+    print_spots::<FaultWord, K>(reading, &spots.faults, printer, out);
+    print_all_passed(&spots.passed, printer, out);
+    print_spots::<OutcomeWord, K>(rules, &spots.findings, printer, out);
+    print_all_counts(&spots.faults, &spots.passed, Tally::of(rules), printer, out);
+}

@@ -3,7 +3,7 @@
 use crate::cases::{
     Answer, Case, Written, answer_to, answers_number, case_of, in_pieces, output_of, printing,
 };
-use crate::failing_cases::{fail_write, fails_reads, fails_writes};
+use crate::failing_cases::{fails_reads, fails_writes};
 use crate::texts::columns;
 use code_lists::{CodeLists, List};
 use held_rules::ready_rules;
@@ -141,12 +141,9 @@ enum Way {
     Pieces,
     /// Its text is but the front of the output.
     Front,
-    /// With writes that fail, some among the first, and the output that it has where none does.
+    /// With each write failing in turn, and the output that it has where none does.
     Writes,
 }
-
-/// Behind so many writes of these jobs none comes.
-const MANY: u64 = 10_000;
 
 fn answers_in_pieces(alloc: Global, case: &Case<'_>, number: &str) -> Result<bool, AllocError> {
     let one = answers_number(alloc, &in_pieces(case, 1), number)?;
@@ -162,17 +159,9 @@ fn answers_front(alloc: Global, case: &Case<'_>) -> Result<bool, AllocError> {
     Ok(answer_to(alloc, case)? == wanted)
 }
 
-fn fails_some(alloc: Global, case: &Case<'_>, number: &str) -> Result<bool, AllocError> {
-    let mut held = true;
-    for call in [1, 2, 3, 8, 21, 55] {
-        held &= fail_write(alloc, case, number, call)? == Some(true);
-    }
-    Ok(held & (fail_write(alloc, case, number, MANY)? == Some(false)))
-}
-
-fn fails_some_writes(alloc: Global, case: &Case<'_>, number: &str) -> Result<bool, AllocError> {
+fn fails_each_write(alloc: Global, case: &Case<'_>, number: &str) -> Result<bool, AllocError> {
     let out = output_of(alloc, case)?;
-    fails_some(alloc, &printing(*case, out.as_str()), number)
+    fails_writes(alloc, &printing(*case, out.as_str()), number)
 }
 
 fn holds_so(alloc: Global, way: Way, case: &Case<'_>, number: &str) -> Result<bool, AllocError> {
@@ -180,7 +169,7 @@ fn holds_so(alloc: Global, way: Way, case: &Case<'_>, number: &str) -> Result<bo
         Way::Whole => answers_number(alloc, case, number),
         Way::Pieces => answers_in_pieces(alloc, case, number),
         Way::Front => answers_front(alloc, case),
-        Way::Writes => fails_some_writes(alloc, case, number),
+        Way::Writes => fails_each_write(alloc, case, number),
     }
 }
 

@@ -34,7 +34,7 @@ use xpath_grammar::operators::Binder;
 use xpath_items::{DynError, Fault, Focus, Item, Outcome, Seq};
 use xpath_operators::{outcome, truth};
 use xpath_plan::work::{Kind, Link, Work};
-use xpath_steps::{all_nodes, document_ordered, keeps, of_turns, root_of, steps_over};
+use xpath_steps::{all_nodes, keeps, of_turns, root_of, settled, steps_over};
 use xpath_walks::Step;
 
 /// The value of a work at a focus, inside the variables that are bound around it.
@@ -96,7 +96,7 @@ fn by_kind<'a, L: Ledger>(
         Kind::Conditional => choose(ground, parts, focus, bound, slots, steps),
         Kind::FilteredStep | Kind::FreeStep => {
             let items = filter(ground, true, parts, focus, bound, slots, steps)?;
-            document_ordered(ground.alloc, ground.doc, items.as_slice())
+            settled(ground.alloc, ground.doc, items)
         }
         Kind::Filtered => filter(ground, false, parts, focus, bound, slots, steps),
         Kind::Once(slot, height) => once(ground, *slot, *height, parts, focus, bound, slots, steps),

@@ -12,6 +12,7 @@ ghost use Rattle.xpath_run.specs.Parts as spec;
 ghost use Rattle.xpath_meaning.specs.Steps as steps;
 
 use std::alloc::AllocError;
+use std::mem;
 use xpath_grammar::step::Axis;
 use xpath_items::{Focus, Item, Seq};
 use xpath_plan::work::{Kind, Link, Simple, StepTest, Work};
@@ -162,7 +163,7 @@ pub(crate) fn is_node(item: &Item<'_>) -> bool
     }
 }
 
-/// Puts what was found at the focus behind the others.
+/// Puts what was found at the focus behind the others. Where it is the first, it is taken as it is.
 pub(crate) fn append_found<'a>(
     out: &mut Seq<'a>,
     found: Seq<'a>,
@@ -171,6 +172,10 @@ pub(crate) fn append_found<'a>(
     ensures { OnOk result (out.new ≡ out.old ++ found.entry) }
 {
     drop(focus);
+    if out.len() == 0 {
+        drop(mem::replace(out, found));
+        return Ok(());
+    }
     out.append(found)
 }
 

@@ -6,3 +6,5 @@ pub mod SetLemmas
 pub mod ValueLemmas
 pub mod VariableLemmas
 pub mod CoverLemmas
+pub mod RiseLemmas
+pub mod ChildLemmas

@@ -1,5 +1,5 @@
 -- The numbers of the nodes among items, and a number alone.
-use Rattle.std.specs.Prelude.{ℕ, List, [], ◌∷◌, Option, Some, None, ℤ}
+use Rattle.std.specs.Prelude.{ℕ, Bool, true, false, nat_lt, if◌then◌else◌, List, [], ◌∷◌, Option, Some, None, ℤ}
 use Rattle.std.specs.List.{flat_map}
 use Rattle.xpath_items.specs.declared.item.Item.{Item}
 use Rattle.xpath_items.specs.declared.item.Item.TheVariants as i
@@ -23,3 +23,23 @@ number_in _ = None
 abbrev pub one_number : List Item → Option ℤ
 one_number (item ∷ []) = number_in item
 one_number _ = None
+
+-- the number of an item that is a node behind the one with this number
+abbrev pub node_behind : ℕ → Item → Option ℕ
+node_behind n (i.Node m) = if nat_lt n m then Some m else None
+node_behind n _ = None
+
+-- The items are nodes behind the first, each before the next in document order.
+abbrev pub rise_behind : ℕ → List Item → Bool
+rise_behind n [] = true
+rise_behind n (item ∷ items) = elim (node_behind n item) [ Some m ↦ rise_behind m items | None ↦ false ]
+
+-- the number of an item that is a node
+abbrev pub number_of : Item → Option ℕ
+number_of (i.Node n) = Some n
+number_of _ = None
+
+-- The items are nodes, each before the next in document order.
+abbrev pub rise : List Item → Bool
+rise [] = true
+rise (item ∷ items) = elim (number_of item) [ Some n ↦ rise_behind n items | None ↦ false ]

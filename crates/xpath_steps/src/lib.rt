@@ -3,6 +3,7 @@
 #![tactic(auto)]
 
 mod bindings;
+mod children;
 mod insides;
 mod keeping;
 mod nodes;
@@ -16,7 +17,7 @@ pub use bindings::bound_at;
 pub use keeping::keeps;
 pub use nodes::{all_nodes, any_node};
 pub use operating::operated;
-pub use ordering::{document_ordered, of_turns};
+pub use ordering::{document_ordered, of_turns, settled};
 pub use sets::set_of;
 pub use stepping::{inside_named, inside_over, root_of, step_from, stepped_from, steps_over};
 pub use variables::Env;

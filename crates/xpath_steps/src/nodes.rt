@@ -4,13 +4,14 @@ ghost use Rattle.std.specs.List.{list_all, list_any};
 ghost use Rattle.node_arena.specs.Moves.{tree_nodes};
 ghost use Rattle.xpath_meaning.specs.Steps as meaning;
 ghost use Rattle.xpath_operators.specs.Nodes.{AreWithin};
+ghost use Rattle.xpath_steps.specs.Numbers as spec;
 ghost use Rattle.xpath_steps.specs.Numbers.{numbers_among};
 ghost use Rattle.xpath_walks.specs.Order.{node_items};
 
 use node_arena::{Doc, NodeId};
 use std::alloc::{AllocError, Global};
 use xpath_items::{Item, Seq};
-use xpath_walks::{documents_are_walkable, in_order};
+use xpath_walks::{documents_are_walkable, in_order, rising_nodes_are_in_order};
 
 fn is_node(item: &Item<'_>) -> bool
     ensures { result ≡ meaning.is_node item.now }
@@ -33,6 +34,53 @@ pub fn any_node(items: &[Item<'_>]) -> bool
     ensures { result ≡ list_any meaning.is_node items.now }
 {
     items.iter().any(|item| is_node(item))
+}
+
+/// Whether an item is a node behind the one with the number in document order, and its number.
+fn node_behind(last: NodeId, item: &Item<'_>) -> Option<NodeId>
+    ensures { result ≡ spec.node_behind last item.now }
+{
+    match item {
+        Item::Node(n) if last.number() < n.number() => Some(*n),
+        _ => None,
+    }
+}
+
+/// Whether the items are nodes behind the first one, each before the next in document order.
+fn rise_behind(first: NodeId, items: &[Item<'_>]) -> bool
+    ensures { result ≡ spec.rise_behind first items.now }
+{
+    let mut last = first;
+    'items: for item in items {
+        match node_behind(last, item) {
+            Some(n) => last = n,
+            None => return false,
+        }
+    }
+    true
+}
+
+/// The number of an item that is a node.
+fn number_of(item: &Item<'_>) -> Option<NodeId>
+    ensures { result ≡ spec.number_of item.now }
+{
+    match item {
+        Item::Node(n) => Some(*n),
+        _ => None,
+    }
+}
+
+/// Whether the items are nodes, each before the next in document order.
+fn are_rising(items: &[Item<'_>]) -> bool
+    ensures { result ≡ spec.rise items.now }
+{
+    let Some((first, others)) = items.split_first() else {
+        return true;
+    };
+    match number_of(first) {
+        Some(n) => rise_behind(n, others),
+        None => false,
+    }
 }
 
 /// The nodes among the items, as they stand.
@@ -77,4 +125,32 @@ pub(crate) fn ordered<'a>(
 {
     documents_are_walkable(doc);
     of_nodes(alloc, &in_order(nodes))
+}
+
+/// The nodes among the items in document order, each once.
+fn reordered<'a>(alloc: Global, doc: &Doc<'_>, items: &[Item<'_>]) -> Result<Seq<'a>, AllocError>
+    ensures { AreWithin (length doc.now.nodes) items.now
+        → IfOk result (λ found. found ≡ meaning.in_document_order (tree_nodes doc.now) items.now) }
+{
+    let nodes = nodes_among(alloc, items)?;
+    ordered(alloc, doc, nodes)
+}
+
+/// The same of items that are handed over, which are given back as they are where they are in that order already.
+pub(crate) fn put_in_order<'a>(
+    alloc: Global,
+    doc: &Doc<'_>,
+    items: Seq<'a>,
+) -> Result<Seq<'a>, AllocError>
+    ensures { AreWithin (length doc.now.nodes) items.entry
+        → IfOk result (λ found. found ≡ meaning.in_document_order (tree_nodes doc.now) items.entry) }
+{
+    documents_are_walkable(doc);
+    rising_nodes_are_in_order();
+    if are_rising(items.as_slice()) {
+        return Ok(items);
+    }
+    let found = reordered(alloc, doc, items.as_slice());
+    drop(items);
+    found
 }

@@ -8,6 +8,7 @@ ghost use Rattle.xpath_meaning.specs.Meaning as meaning;
 ghost use Rattle.xpath_meaning.specs.Numbers as numbers;
 ghost use Rattle.xpath_operators.specs.Nodes.{AreWithin};
 
+use crate::nodes::any_node;
 use crate::sets::set_of;
 use node_arena::Doc;
 use std::alloc::Global;
@@ -34,7 +35,7 @@ fn is_range_operator(operator: Operator) -> bool
     }
 }
 
-/// A comparison of two values.
+/// A comparison of two values. One without nodes is looked at where it lies, since its items are their own atoms.
 fn comparing<'a>(
     alloc: Global,
     doc: &Doc<'a>,
@@ -47,9 +48,35 @@ fn comparing<'a>(
     ensures value { Gives result (comparing.compared op (atomised (tree_nodes doc.now) xs.now) (atomised (tree_nodes doc.now) ys.now)) }
     ensures within { IfOk result (λ found. AreWithin (length doc.now.nodes) found) }
 {
-    let xs = atoms(alloc, doc, xs)?;
-    let ys = atoms(alloc, doc, ys)?;
-    compared(alloc, op, &xs, &ys)
+    if any_node(xs) {
+        let atoms = atoms(alloc, doc, xs)?;
+        let found = comparing_with(alloc, doc, op, &atoms, ys);
+        drop(atoms);
+        found
+    } else {
+        comparing_with(alloc, doc, op, xs, ys)
+    }
+}
+
+/// The same, where the left value is atomised.
+fn comparing_with<'a>(
+    alloc: Global,
+    doc: &Doc<'a>,
+    op: Op,
+    xs: &[Item<'a>],
+    ys: &[Item<'a>],
+) -> Result<Seq<'a>, Fault>
+    requires ys { AreWithin (length doc.now.nodes) ys.now }
+    ensures { Gives result (comparing.compared op xs.now (atomised (tree_nodes doc.now) ys.now)) }
+{
+    if any_node(ys) {
+        let atoms = atoms(alloc, doc, ys)?;
+        let found = compared(alloc, op, xs, &atoms);
+        drop(atoms);
+        found
+    } else {
+        compared(alloc, op, xs, ys)
+    }
 }
 
 /// The range from one value to another.

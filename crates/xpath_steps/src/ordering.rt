@@ -5,7 +5,7 @@ ghost use Rattle.xpath_items.specs.Faults.{Gives};
 ghost use Rattle.xpath_meaning.specs.Steps as meaning;
 ghost use Rattle.xpath_operators.specs.Nodes.{AreWithin};
 
-use crate::nodes::{all_nodes, any_node, nodes_among, ordered};
+use crate::nodes::{all_nodes, any_node, nodes_among, ordered, put_in_order};
 use node_arena::Doc;
 use std::alloc::Global;
 use xpath_items::{DynError, Fault, Item, Seq};
@@ -26,6 +26,16 @@ pub fn document_ordered<'a>(
     Ok(ordered(alloc, doc, nodes)?)
 }
 
+/// The same of items that are handed over, which are given back as they are where they are in that order already.
+pub fn settled<'a>(alloc: Global, doc: &Doc<'_>, items: Seq<'a>) -> Result<Seq<'a>, Fault>
+    requires { AreWithin (length doc.now.nodes) items }
+    ensures value { Gives result (Ok (meaning.in_document_order (tree_nodes doc.now) items.entry)) }
+    ensures within { IfOk result (λ found. AreWithin (length doc.now.nodes) found) }
+{
+    documents_are_walkable(doc);
+    Ok(put_in_order(alloc, doc, items)?)
+}
+
 /// What the turns of a path come to: nodes in document order, each once, or other items as they come. A mixture is XPTY0018.
 pub fn of_turns<'a>(alloc: Global, doc: &Doc<'_>, items: Seq<'a>) -> Result<Seq<'a>, Fault>
     requires { AreWithin (length doc.now.nodes) items }
@@ -33,7 +43,7 @@ pub fn of_turns<'a>(alloc: Global, doc: &Doc<'_>, items: Seq<'a>) -> Result<Seq<
     ensures within { IfOk result (λ found. AreWithin (length doc.now.nodes) found) }
 {
     if all_nodes(items.as_slice()) {
-        return document_ordered(alloc, doc, items.as_slice());
+        return settled(alloc, doc, items);
     }
     if any_node(items.as_slice()) {
         Err(Fault::Error(DynError::XPTY0018))

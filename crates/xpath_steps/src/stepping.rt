@@ -11,11 +11,13 @@ ghost use Rattle.xpath_plan.specs.Plans.{test_seen};
 ghost use Rattle.xpath_steps.specs.Numbers.{at_number};
 ghost use Rattle.xpath_steps.specs.Steps as spec;
 ghost use Rattle.xpath_steps.specs.Steps.{GivesOf, GivesWithin, step_seen, stepped_seen, path_seen, stepped_path_seen, inside_seen, numbers_over};
+ghost use Rattle.xpath_walks.specs.Order.{node_items};
 ghost use Rattle.xpath_walks.specs.Tests.{numbers_of};
 ghost use Rattle.xpath_walks.specs.Walks.{Adds, Bounds, axis_numbers, chain_of};
 
+use crate::children::{child_name, children_over, named_children};
 use crate::insides::nodes_inside;
-use crate::nodes::{all_nodes, nodes_among, of_nodes, ordered};
+use crate::nodes::{all_nodes, nodes_among, of_nodes, ordered, put_in_order};
 use inv_base::Steps;
 use node_arena::{Doc, NodeId};
 use std::alloc::{AllocError, Global};
@@ -77,6 +79,53 @@ fn nodes_from<L: Ledger>(
     Ok(nodes)
 }
 
+/// The same as items.
+fn items_from<'a, L: Ledger>(
+    alloc: Global,
+    doc: &Doc<'_>,
+    step: &Step<'_>,
+    from: NodeId,
+    steps: &mut Steps<L>,
+) -> Result<Seq<'a>, AllocError>
+    requires { from < length doc.now.nodes }
+    ensures { (names : List Name) → step.now.numbers.now ≡ numbers_of doc.now.names names
+        → IfOk result (λ items. items ≡ node_items (axis_numbers (tree_nodes doc.now) step.now.axis from (test_seen names step.now.test.now))) }
+{
+    match child_name(step) {
+        Some(k) => named_children(alloc, doc, step, k, from, steps),
+        None => {
+            let nodes = nodes_from(alloc, doc, step, from, steps)?;
+            of_nodes(alloc, &nodes)
+        }
+    }
+}
+
+/// The same in document order.
+fn ordered_from<'a, L: Ledger>(
+    alloc: Global,
+    doc: &Doc<'_>,
+    step: &Step<'_>,
+    from: NodeId,
+    steps: &mut Steps<L>,
+) -> Result<Seq<'a>, AllocError>
+    requires { from < length doc.now.nodes }
+    ensures { (names : List Name) → step.now.numbers.now ≡ numbers_of doc.now.names names
+        → IfOk result (λ items. items ≡ meaning.in_document_order (tree_nodes doc.now)
+        (node_items (axis_numbers (tree_nodes doc.now) step.now.axis from (test_seen names step.now.test.now)))) }
+{
+    documents_are_walkable(doc);
+    match child_name(step) {
+        Some(k) => {
+            let items = named_children(alloc, doc, step, k, from, steps)?;
+            put_in_order(alloc, doc, items)
+        }
+        None => {
+            let nodes = nodes_from(alloc, doc, step, from, steps)?;
+            ordered(alloc, doc, nodes)
+        }
+    }
+}
+
 /// A step without predicates' nodes, in the order of its axis. At an item that is no node it is XPTY0020, and a step whose name the
 /// plan doesn't have is empty. Each move along the axis takes a step.
 pub fn step_from<'a, L: Ledger>(
@@ -93,8 +142,8 @@ pub fn step_from<'a, L: Ledger>(
     documents_are_walkable(doc);
     match item {
         Item::Node(from) => {
-            let nodes = nodes_from(alloc, doc, step, *from, steps)?;
-            Ok(of_nodes(alloc, &nodes)?)
+            let items = items_from(alloc, doc, step, *from, steps)?;
+            Ok(items)
         }
         _ => off_nodes(alloc, step),
     }
@@ -115,8 +164,8 @@ pub fn stepped_from<'a, L: Ledger>(
     documents_are_walkable(doc);
     match item {
         Item::Node(from) => {
-            let nodes = nodes_from(alloc, doc, step, *from, steps)?;
-            Ok(ordered(alloc, doc, nodes)?)
+            let items = ordered_from(alloc, doc, step, *from, steps)?;
+            Ok(items)
         }
         _ => off_nodes(alloc, step),
     }
@@ -159,6 +208,32 @@ fn nodes_over<L: Ledger>(
     Ok(nodes)
 }
 
+/// The same in document order, each once, as items.
+fn ordered_over<'a, L: Ledger>(
+    alloc: Global,
+    doc: &Doc<'_>,
+    step: &Step<'_>,
+    items: &[Item<'_>],
+    steps: &mut Steps<L>,
+) -> Result<Seq<'a>, AllocError>
+    requires { AreWithin (length doc.now.nodes) items.now }
+    ensures { (names : List Name) → step.now.numbers.now ≡ numbers_of doc.now.names names
+        → IfOk result (λ found. found ≡ meaning.in_document_order (tree_nodes doc.now)
+        (node_items (numbers_over (tree_nodes doc.now) step.now.axis (test_seen names step.now.test.now) items.now))) }
+{
+    documents_are_walkable(doc);
+    match child_name(step) {
+        Some(k) => {
+            let found = children_over(alloc, doc, step, k, items, steps)?;
+            put_in_order(alloc, doc, found)
+        }
+        None => {
+            let nodes = nodes_over(alloc, doc, step, items, steps)?;
+            ordered(alloc, doc, nodes)
+        }
+    }
+}
+
 /// A step without predicates behind `/`, taken at each item: the nodes in document order, each once. Where an item is no node it
 /// is XPTY0019.
 pub fn steps_over<'a, L: Ledger>(
@@ -177,8 +252,8 @@ pub fn steps_over<'a, L: Ledger>(
     if !all_nodes(items) {
         return Err(Fault::Error(DynError::XPTY0019));
     }
-    let nodes = nodes_over(alloc, doc, step, items, steps)?;
-    Ok(ordered(alloc, doc, nodes)?)
+    let found = ordered_over(alloc, doc, step, items, steps)?;
+    Ok(found)
 }
 
 /// `//` and a step without predicates on the child axis, taken at each of several nodes.

@@ -17,9 +17,9 @@ ghost use Rattle.xpath_syntax.specs.Answers as spec;
 
 use spelled::{expression, pattern};
 use std::alloc::Global;
-use xpath_grammar::expr::Expr;
-use xpath_grammar::pattern::Pattern;
-use xpath_tokens::token::SyntaxFault;
+pub use xpath_grammar::expr::{Expr, Form, Label, Leaf};
+pub use xpath_grammar::pattern::{Pattern, PatternKind};
+pub use xpath_tokens::token::SyntaxFault;
 use xpath_tokens::tokens;
 
 /// The expression that a text of the stated subset of XPath 2.0 spells, or the first refusal in the

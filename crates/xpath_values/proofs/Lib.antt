@@ -5,3 +5,4 @@ pub mod PieceLemmas
 pub mod PlaceLemmas
 pub mod TotalLemmas
 pub mod PatternLemmas
+pub mod SpaceLemmas

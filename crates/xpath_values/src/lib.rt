@@ -22,3 +22,5 @@ mod translating;
 
 pub use calling::call;
 pub use patterns::found;
+pub use xpath_items::{DynError, Fault, Focus, Item, Outcome, Seq, Str};
+pub use xpath_operators::{atomise, compare, compared, truth};

@@ -1,12 +1,15 @@
 //! Runs of white space (Functions and Operators, section 7.4.5).
 ghost use Rattle.std.specs.Prelude.{◌≡◌, false, chars, string_bytes, IfOk};
+ghost use Rattle.std.specs.List.{list_any};
 ghost use Rattle.std.specs.Option.{option_to_list};
+ghost use Rattle.inv_base.specs.Characters as characters;
 ghost use Rattle.xpath_meaning.specs.Texts as meaning;
 ghost use Rattle.xpath_values.specs.Spacing as spec;
 
 use crate::pushing::push_some;
 use inv_base::is_white_space;
 use std::alloc::{AllocError, Global};
+use xpath_items::Str;
 use xpath_operators::trimmed;
 
 /// What a character adds where a run of white space is one space: nothing inside a run.
@@ -37,4 +40,22 @@ pub(crate) fn normalised(alloc: Global, text: &str) -> Result<String, AllocError
     ensures { IfOk result (λ s. chars (string_bytes s) ≡ meaning.normalised (chars text.now)) }
 {
     single_spaced(alloc, trimmed(text))
+}
+
+fn has_white_space(text: &str) -> bool
+    ensures { result ≡ list_any characters.is_white_space (chars text.now) }
+{
+    text.chars().any(|c| is_white_space(c))
+}
+
+/// The same of a text that is handed over, which is given back as it is where it has no white space.
+pub(crate) fn normal<'a>(alloc: Global, text: Str<'a>) -> Result<Str<'a>, AllocError>
+    ensures { IfOk result (λ t. t ≡ meaning.normalised text.entry) }
+{
+    if !has_white_space(text.as_str()) {
+        return Ok(text);
+    }
+    let made = normalised(alloc, text.as_str());
+    drop(text);
+    Ok(Str::made(made?))
 }

@@ -66,7 +66,7 @@ pub(crate) fn normalize_space<'a>(
     ensures { Gives result (meaning.of_text (tree_nodes doc.now) (λ s. meaning.text (spec.normalised s)) x.now) }
 {
     let s = text_argument(alloc, doc, x)?;
-    text(alloc, spacing::normalised(alloc, s.as_str())?)
+    one(alloc, Item::String(spacing::normal(alloc, s)?))
 }
 
 /// `normalize-space` of the item of the focus.
@@ -79,7 +79,7 @@ pub(crate) fn normalize_space_of<'a>(
     ensures { Gives result (meaning.of_string (tree_nodes doc.now) (λ s. meaning.text (spec.normalised s)) item.now) }
 {
     let s = text_of(alloc, doc, item)?;
-    text(alloc, spacing::normalised(alloc, s.as_str())?)
+    one(alloc, Item::String(spacing::normal(alloc, s)?))
 }
 
 /// `string-length`

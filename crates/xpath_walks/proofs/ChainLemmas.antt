@@ -19,7 +19,7 @@ use Rattle.xpath_plan.specs.Plans.{test_seen}
 use Rattle.xpath_walks.specs.declared.walk.Way.TheVariants as w
 use Rattle.xpath_walks.specs.Tests.{numbers_of, is_passed}
 use Rattle.xpath_walks.specs.Walks.{IsWalkable, node_numbers, is_taken, if_so, found_on, has_wanted, taken_from, chain_of, chain_from}
-use Rattle.xpath_walks.proofs.FilterLemmas.{right_none, alike, from_first, none_first}
+use Rattle.xpath_walks.proofs.FilterLemmas.{AreCounted, right_none, alike, from_first, none_first}
 use Rattle.xpath_walks.proofs.WalkLemmas.{one_step}
 use Rattle.xpath_walks.proofs.TestLemmas.{at-node}
 
@@ -164,3 +164,12 @@ pub chain_more : (nodes : List Node) (s : IsWalkable nodes) (test : Option NodeT
 chain_more nodes s test n next within is e =
     ap length (one_step (has_wanted test) (has_wanted test) nodes n next s.counted within (λ node h. h) e
     ∙ ap (λ b. if_so b n ++ chain_from nodes next test) is) ∙ (omega arith)
+
+-- ---- children
+
+-- Where the document has nothing of a test's name, no node has children that pass.
+pub none_found : (nodes : List Node) (principal : Axis) (n : ℕ) (test : Option NodeTest) → AreCounted nodes → IsOfName principal test
+    → None ≡ first_that (has_wanted test) nodes → found_on a.Child principal nodes n test ≡ []
+none_found nodes principal n test counted only e =
+    ap node_numbers (from_first (λ node. is_on a.Child (tree_node nodes n) node && is_passed principal test node) (has_wanted test) 0 nodes None counted
+    (λ node h. ap (λ b. is_on a.Child (tree_node nodes n) node && b) (only node h) ∙ right_none (is_on a.Child (tree_node nodes n) node)) e)

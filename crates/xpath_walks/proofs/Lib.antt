@@ -8,3 +8,4 @@ pub mod OrderLemmas
 pub mod BehindLemmas
 pub mod InsideLemmas
 pub mod AroundLemmas
+pub mod ChildLemmas

@@ -56,3 +56,14 @@ at-node document n within = get_or-map (node_of document.names) document.nodes n
 pub kind-at : (document : Document) (n : ℕ) (kind : Kind) → n < length document.nodes → kind ≡ (node_at document.nodes n).kind
     → kind ≡ (tree_node (tree_nodes document) n).kind
 kind-at document n kind within is = is ∙ ap (λ (node : Node). node.kind) (sym (at-node document n within))
+
+pub numbered-passes : (names table : List Name) (k : ℕ) (axis : Axis) (node : Node) (b p : Bool) (number : Option ℕ)
+    → number ≡ get_or (numbers_of table names) k None
+    → ((name : Name) → number ≡ find_name name table → b ≡ has_name name node)
+    → (number ≡ None → b ≡ false)
+    → is_principal axis node.kind ≡ p
+    → (b && p) ≡ is_passed axis (test_seen names (t.Named k)) node
+numbered-passes names table k axis node true true number e f n p = named-passes names table k axis node true number e f n p
+numbered-passes names table k axis node false true number e f n p = named-passes names table k axis node false number e f n p
+numbered-passes names table k axis node true false number e f n p = named-not names k axis node p
+numbered-passes names table k axis node false false number e f n p = named-not names k axis node p

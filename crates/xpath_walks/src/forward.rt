@@ -5,6 +5,7 @@ ghost use Rattle.xpath_walks.specs.Walks.{Adds, found_on};
 
 use crate::behind::named_inside;
 use crate::chain::all_named;
+use crate::children::named_children;
 use crate::law::documents_are_walkable;
 use crate::step::Step;
 use crate::walk::{Way, take_passing, walk};
@@ -16,6 +17,23 @@ use xpath_grammar::step::Axis;
 use xpath_plan::work::StepTest;
 
 pub(crate) fn child<L: Ledger>(
+    doc: &Doc<'_>,
+    step: &Step<'_>,
+    from: NodeId,
+    out: &mut Vec<NodeId>,
+    steps: &mut Steps<L>,
+) -> Result<(), AllocError>
+    requires { from < length doc.now.nodes }
+    ensures { Adds doc.now step.now result out.old.items out.new.items (found_on Axis.Child step.now.axis (tree_nodes doc.now) from) }
+{
+    match wanted_name(step) {
+        Some(k) => named_children(doc, step, k, from, out, steps),
+        None => children(doc, step, from, out, steps),
+    }
+}
+
+/// Children by a walk over all of them.
+fn children<L: Ledger>(
     doc: &Doc<'_>,
     step: &Step<'_>,
     from: NodeId,

@@ -4,6 +4,7 @@
 mod axes;
 mod behind;
 mod chain;
+mod children;
 mod forward;
 mod law;
 mod order;
@@ -13,8 +14,9 @@ mod test;
 mod walk;
 
 pub use axes::{axis_nodes, named_nodes};
+pub use children::child_items;
 pub use law::documents_are_walkable;
-pub use order::in_order;
+pub use order::{in_order, rising_nodes_are_in_order};
 pub use step::Step;
 pub use test::{is_passing, numbers_in};
 pub use walk::is_around;

@@ -7,6 +7,12 @@ ghost use Rattle.xpath_walks.specs.Walks.{node_numbers};
 
 use node_arena::NodeId;
 
+/// Nodes whose numbers rise are in document order, each once. It has no code.
+pub fn rising_nodes_are_in_order()
+    ensures { (all : List Node) (ns : List ℕ) → AreNumbers all ns → rises ns ≡ true
+        → node_items ns ≡ in_document_order all (node_items ns) }
+{}
+
 /// The nodes in document order, each once: the document's nodes that are among them. Where they rise already, as the
 /// nodes of most axes do, nothing is sorted.
 pub fn in_order(nodes: Vec<NodeId>) -> Vec<NodeId>

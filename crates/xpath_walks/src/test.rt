@@ -1,5 +1,5 @@
 //! Tests of nodes: a name is looked up once in a document's table, so that a test at a node compares two numbers.
-ghost use Rattle.std.specs.Prelude.{◌≡◌, ◌<◌, List, length, get_or, chars, IfOk, None, false};
+ghost use Rattle.std.specs.Prelude.{◌≡◌, ◌<◌, List, length, get_or, chars, IfOk, Some, None, false};
 ghost use Rattle.inv_base.specs.Tree.{Name};
 ghost use Rattle.std.specs.Str.{bytes_eq};
 ghost use Rattle.node_arena.specs.Moves.{tree_nodes, tree_node, has_name};
@@ -82,6 +82,23 @@ fn is_named(doc: &Doc<'_>, numbers: &[Option<NameId>], axis: Axis, k: usize, n: 
         → result ≡ is_passed axis (test_seen names (StepTest.Named k)) (tree_node (tree_nodes doc.now) n) }
 {
     is_principal(axis, doc.kind(n)) && has_number(doc, number_at(numbers, k), n)
+}
+
+/// The same where the name has this number in the document.
+pub(crate) fn is_numbered(
+    doc: &Doc<'_>,
+    numbers: &[Option<NameId>],
+    axis: Axis,
+    k: usize,
+    number: NameId,
+    n: NodeId,
+) -> bool
+    requires number { Some number ≡ get_or numbers.now k None }
+    requires within { n < length doc.now.nodes }
+    ensures { (names : List Name) → numbers.now ≡ numbers_of doc.now.names names
+        → result ≡ is_passed axis (test_seen names (StepTest.Named k)) (tree_node (tree_nodes doc.now) n) }
+{
+    has_number(doc, Some(number), n) && is_principal(axis, doc.kind(n))
 }
 
 /// The number of the k-th name.

@@ -123,17 +123,16 @@ bind-returns-clause-value g t c =
 
 pub by_kind-returns-in_ok-items-in-FilteredStep-clause-value : goal.by_kind-returns-in_ok-items-in-FilteredStep-clause-value
 by_kind-returns-in_ok-items-in-FilteredStep-clause-value g t c =
-    gives-along c.document_ordered.result _ _
-    (ap (λ items. Ok (steps.in_document_order (tree_nodes c.args.ground.now.doc.now) items)) c.as_slice.ensures
-    ∙ (sym (known.filtered_step-ordered (tree_nodes c.args.ground.now.doc.now) (operands_of c.args.ground.now.names.now c.args.parts.now)
+    gives-along c.settled.result _ _
+    (sym (known.filtered_step-ordered (tree_nodes c.args.ground.now.doc.now) (operands_of c.args.ground.now.names.now c.args.parts.now)
     (context c.args.ground.now c.args.focus.now c.args.bound.now.items) c.in_ok-items-in-FilteredStep.items c.in_ok-items-in-FilteredStep.ensures.value)
     ∙ ⊎_elim
     (λ (is : c.args.kind.now ≡ m.FilteredStep). ap (λ kind. value_in c.args.ground.now
     (made kind (operands_of c.args.ground.now.names.now c.args.parts.now)) c.args.focus.now c.args.bound.now.items) (sym is))
     (λ (is : c.args.kind.now ≡ m.FreeStep). ap (λ kind. value_in c.args.ground.now
     (made kind (operands_of c.args.ground.now.names.now c.args.parts.now)) c.args.focus.now c.args.bound.now.items) (sym is))
-    c.in-FilteredStep.is))
-    c.document_ordered.ensures.value
+    c.in-FilteredStep.is)
+    c.settled.ensures.value
 
 pub along_axis-returns-then-is_filtered_step-clause-value : goal.along_axis-returns-then-is_filtered_step-clause-value
 along_axis-returns-then-is_filtered_step-clause-value g t c = known.value-along c.filter.result c.args.ground.now c.args.focus.now c.args.bound.now.items _ _

@@ -5,7 +5,7 @@ use Rattle.xpath_walks.specs.declared.walk.Way.TheVariants as w
 use Rattle.xpath_walks.specs.Walks.{walked, found_on}
 use Rattle.xpath_walks.proofs.ForwardLemmas.{adds_same, most, child_is}
 use Rattle.xpath_walks.proofs.WalkLemmas.{first_is_on}
-use Rattle.xpath_walks.proofs.forward.child.Goals as goal
+use Rattle.xpath_walks.proofs.forward.children.Goals as goal
 
 pub walk-requires-clause-on : goal.walk-requires-clause-on
 walk-requires-clause-on g c =

@@ -1,0 +1,9 @@
+mod Placing
+mod Labels
+mod Focus
+mod Holding
+mod Alike
+mod SameTurns
+mod SameForms
+mod Replacing
+mod Rows

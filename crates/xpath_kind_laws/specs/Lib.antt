@@ -1,0 +1,3 @@
+pub mod Arising
+pub mod KindsHold
+pub mod Replacing

@@ -11,6 +11,8 @@ mod inv_decimal_cases;
 #[cfg(test)]
 mod line_cases;
 #[cfg(test)]
+mod map_cases;
+#[cfg(test)]
 mod pattern_cases;
 #[cfg(test)]
 mod texts;

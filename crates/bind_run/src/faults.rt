@@ -104,6 +104,7 @@ fn faults_by_table<L: Ledger>(
     ensures within { IfOk result (IsWithin (length doc.now.nodes)) }
 {
     let mut gathered = gather(alloc, doc, table, steps)?;
+    let picks = replace(&mut gathered.seating.picks, Vec::new(alloc));
     let currency = gathered.seating.invoice_currency.as_ref().map(Txt::as_str);
     let judged = faults(
         alloc,
@@ -111,7 +112,7 @@ fn faults_by_table<L: Ledger>(
         table,
         lists,
         currency,
-        gathered.seating.picks.as_slice(),
+        picks,
         gathered.others.indicators.as_slice(),
         steps,
     );

@@ -5,6 +5,7 @@
 mod extensions;
 mod faults;
 mod gathering;
+mod laws;
 mod reading;
 mod roots;
 mod tables;
@@ -14,6 +15,7 @@ pub use bind_meaning::{BindFault, BindKind, Syntax, Which};
 pub use bind_write::write;
 pub use extensions::{BadRow, ExtendFault};
 pub use faults::{Faulted, faults_of_document};
+pub use laws::invoices_of_documents_are_valid;
 pub use reading::{ReadInvoice, read, read_document};
 pub use roots::binding_of;
 pub use tables::{Tables, tables_are_laid};

@@ -17,6 +17,7 @@ use inv_terms::{Invoice, Name};
 use node_arena::Doc;
 use std::alloc::Global;
 use std::marker::Brand;
+use std::mem::replace;
 use std::sync::ledger::{Blank, Ledger};
 
 /// An invoice that was read, and how many elements of its document its table passes over: those right inside an element of the table
@@ -41,10 +42,11 @@ pub fn read<L: Ledger>(
     ensures memory { IfErr result IsWholeIfMemory }
 {
     doc.is_of_a_tree();
-    let gathered = match gather(alloc, doc, table, steps) {
+    let mut gathered = match gather(alloc, doc, table, steps) {
         Ok(gathered) => gathered,
         Err(_) => return Err(out_of_memory(doc)),
     };
+    let picks = replace(&mut gathered.seating.picks, Vec::new(alloc));
     let currency = gathered.seating.invoice_currency.as_ref().map(Txt::as_str);
     let judged = judge(
         alloc,
@@ -52,7 +54,7 @@ pub fn read<L: Ledger>(
         table,
         lists,
         currency,
-        gathered.seating.picks.as_slice(),
+        picks,
         gathered.others.indicators.as_slice(),
         steps,
     );

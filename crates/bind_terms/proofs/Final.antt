@@ -1,12 +1,11 @@
 -- What the passes leave is the invoice that the document is, or its first fault.
-use Rattle.std.proofs.Common.{◌≡◌, ℕ, zero, suc, ◌<◌, Bool, true, false, ◌||◌, List, [], ◌∷◌, ◌++◌, length, map, flat_map, All, Option, Some, None, is_some, Ok, Err, refl, sym, ap, ◌∙◌, subst, append_assoc, arith, Ordering}
+use Rattle.std.proofs.Common.{◌≡◌, ℕ, zero, suc, ◌<◌, Bool, true, false, ◌||◌, List, [], ◌∷◌, ◌++◌, length, map, flat_map, All, Option, Some, None, is_some, Ok, Err, refl, sym, ap, ◌∙◌, subst, append_assoc, arith}
 use Rattle.std.specs.Prelude.{is_none}
 use Rattle.std.specs.List.{list_any, AllPairs, AllByRecursion}
 use Rattle.std.specs.List.Sorted.{IsStrictlySortedBy}
-use Rattle.std.specs.Ordering.{nat_cmp, is_lt, match_ordering}
-use Rattle.std.specs.declared.cmp.Ordering.TheVariants.{Less, Equal, Greater}
+use Rattle.std.specs.Ordering.{nat_cmp, is_lt}
+use Rattle.std.specs.declared.cmp.Ordering.TheVariants.{Less}
 use Rattle.std.specs.Cmp.Lexicographic.{slice_cmp}
-use Rattle.std.specs.BTreeMap.{insert_entry}
 use Rattle.std.proofs.lemmas.Bool.{false≢true}
 use Rattle.std.proofs.lemmas.List.Elements.{All-nil, All-cons, All-head, All-tail, All-map, All-weaker}
 use Rattle.inv_base.specs.Tree.{Node}
@@ -30,26 +29,26 @@ use Rattle.bind_meaning.specs.Faults.{lacks_in, every_fault, put_faults, in_faul
 use Rattle.bind_meaning.specs.Seats.{Placed, rooms}
 use Rattle.bind_meaning.specs.Judging.{Found, Told, seat_of, first_before, Cause, first_cause, causes, fault_of, faults_behind, wrong_word, least, least_from, is_bad, is_excess, is_not_listed, is_foreign, is_disagreeing, breaks}
 use Rattle.bind_meaning.specs.Elements.{has_element_inside}
-use Rattle.bind_meaning.specs.Terms.{in_order, constant_picks, term_picks, all_faults, entries, passed_over, firsts_behind}
+use Rattle.bind_meaning.specs.Terms.{in_order, constant_picks, term_picks, all_faults, entries, passed_over}
 use Rattle.node_arena.proofs.FoundLemmas.{AreInOrder}
-use Rattle.bind_terms.specs.Sayings.{FitsIts}
 use Rattle.bind_terms.specs.declared.firsts.First.{First}
 use Rattle.bind_terms.specs.declared.judging.Verdict.{Verdict}
 use Rattle.bind_terms.specs.declared.judging.Verdict.TheVariants as verdicts
-use Rattle.bind_terms.specs.Entries.{FitsFirst, entries_of}
+use Rattle.bind_terms.specs.Entries.{entries_of}
 use Rattle.bind_terms.specs.Passes.{all_told, words_found, lacks_found, found_at_picks, all_found, HasTold, HasFound, IsVerdict}
 use Rattle.bind_terms.specs.declared.found.Spot.{Spot}
 use Rattle.bind_terms.specs.Faults.{found_in, least_of, Puts}
 use Rattle.bind_terms.specs.Reading.{indicator_picks, term_places, reading, Answers, AreSorted}
-use Rattle.bind_terms.specs.Telling.{seat_of_first, first_of, Entries, told_place, arranged, is_placed, IsAtItsPlace, Holds}
-use Rattle.bind_terms.specs.Steps.{HasRow, IsOfRow, IsPickOfRow, IsWithin, TellsAll}
+use Rattle.bind_terms.specs.Telling.{seat_of_first, Entries, is_placed, IsAtItsPlace, Holds}
+use Rattle.bind_terms.specs.Steps.{HasRow, IsOfRow, IsPickOfRow, IsWithin, SaysPlaced, TellsAll}
 use Rattle.bind_terms.proofs.Tolds.{least-append, puts-same}
-use Rattle.bind_terms.proofs.Listing.{Each, each-first, IsWhole, arranged-listed}
-use Rattle.bind_terms.proofs.Missing.{rooms-same}
+use Rattle.bind_terms.proofs.Listing.{Each, IsWhole, arranged-listed}
+use Rattle.reading_laws.proofs.MissingLemmas.{rooms-same}
 use Rattle.bind_terms.proofs.Indicating.{words-same, words-leave, words-enter, words-are-one, rows-words}
 use Rattle.bind_terms.proofs.FaultOrder.{puts-rising, puts-append, in-any-order}
 use Rattle.bind_terms.proofs.FirstFault.{every-least}
 use Rattle.bind_terms.proofs.Gathering.{entries-fault}
+use Rattle.bind_terms.proofs.Placing.{picks-say-placed}
 use Rattle.bind_terms.proofs.Sound.{terms-sound, rows-sound, seated-within, seated-rows, kept-within, kept-rows}
 use Rattle.bind_terms.specs.Reading.{has_indicator}
 
@@ -153,35 +152,6 @@ in-order es firsts e all sorted = subst (λ l. IsInOrder (map seat_of_first l)) 
   order = pairs-follow es all sorted;
 })
 
-fits-step : (o : Ordering) (new e same : List ℕ × First) (es later : Entries) → FitsFirst new.1 → FitsFirst e.1 → FitsFirst same.1 → Each (λ (x : List ℕ × First). FitsFirst x.1) es
-    → Each (λ (x : List ℕ × First). FitsFirst x.1) later → Each (λ (x : List ℕ × First). FitsFirst x.1) (match_ordering o (new ∷ (e ∷ es)) (same ∷ es) (e ∷ later))
-fits-step Less new e same es later n h s k m = (n, (h, k))
-fits-step Equal new e same es later n h s k m = (s, k)
-fits-step Greater new e same es later n h s k m = (h, m)
-
-fits-insert : (es : Entries) (place : List ℕ) (f : First) → Each (λ (x : List ℕ × First). FitsFirst x.1) es → FitsFirst f → Each (λ (x : List ℕ × First). FitsFirst x.1) (insert_entry (slice_cmp nat_cmp) es place f)
-fits-insert [] place f h fits = (fits, tt)
-fits-insert (e ∷ es) place f h fits =
-    fits-step (slice_cmp nat_cmp place e.0) (place, f) e (e.0, f) es (insert_entry (slice_cmp nat_cmp) es place f) fits h.0 fits h.1 (fits-insert es place f h.1 fits)
-
-fits-arranged : (es : Entries) (ts : List Told) → Each (λ (x : List ℕ × First). FitsFirst x.1) es → Each (λ (t : Told). FitsIts t.said) ts → Each (λ (x : List ℕ × First). FitsFirst x.1) (arranged es ts)
-fits-arranged es [] h fits = h
-fits-arranged es (t ∷ ts) h fits = fits-arranged (insert_entry (slice_cmp nat_cmp) es (told_place t) (first_of t)) ts (fits-insert es (told_place t) (first_of t) h fits.0) fits.1
-
-each-of : {X : Type 0} (P : X → Type 0) (xs : List X) → All P xs → Each P xs
-each-of P [] h = tt
-each-of P (x ∷ xs) h = (All-head P x xs h, each-of P xs (All-tail P x xs h))
-
-all-of : (es : Entries) → Each (λ (x : List ℕ × First). FitsFirst x.1) es → All FitsFirst (kept_firsts es)
-all-of [] h = All-nil FitsFirst
-all-of (e ∷ es) h = All-cons FitsFirst e.1 (kept_firsts es) h.0 (all-of es h.1)
-
-pub firsts-fit : (nodes : List Node) (lists : Lists) (c : Currencies) (before : List Told) (es : Entries) (given : List Found → Type 0) (firsts : List First)
-    → Holds nodes lists c before es given → firsts ≡ map (λ (e : List ℕ × First). e.1) es → All FitsFirst firsts
-firsts-fit nodes lists c before es given firsts h e =
-    subst (All FitsFirst) (sym (e ∙ ap kept_firsts h.entries_are))
-    (all-of (arranged [] (firsts_behind [] before)) (fits-arranged [] (firsts_behind [] before) tt (each-first (λ (t : Told). FitsIts t.said) [] before (each-of (λ (t : Told). FitsIts t.said) before h.fit))))
-
 -- ---- the answer
 
 module _ (nodes : List Node) (order : AreInOrder nodes) (some : 0 < length nodes) (lists : Lists) (rows : List Row) where
@@ -201,6 +171,14 @@ module _ (nodes : List Node) (order : AreInOrder nodes) (some : 0 < length nodes
       (All-map (λ (p : SeatedPick). HasRow rows p.picked.row) kept_seat (term_places nodes rows)
       (All-weaker (IsOfRow rows) (λ p. HasRow rows (kept_seat p).picked.row) (λ p h. ap is_some h) (term_places nodes rows)
       (seated-rows nodes order some rows (term_picks nodes (currencies nodes rows) rows) (terms-sound nodes order some rows (currencies nodes rows)))))
+
+  -- all that is told has a place, so all that each pick says
+  pub picks-placed : (picks : List SeatedPick) → picks ≡ all_kept_seats (term_places nodes rows) → All (λ t. is_placed t ≡ true) (all_told nodes rows)
+      → All (SaysPlaced nodes rows) picks
+  picks-placed picks e placed =
+      subst (All (SaysPlaced nodes rows)) (sym e)
+      (picks-say-placed nodes rows (term_places nodes rows)
+      (seated-rows nodes order some rows (term_picks nodes (currencies nodes rows) rows) (terms-sound nodes order some rows (currencies nodes rows))) placed)
 
   pub indicators-rowed : (indicators : List Picked) → indicators ≡ all_kept (in_order nodes (indicator_picks nodes rows)) → All (λ (p : Picked). HasRow rows p.row) indicators
   indicators-rowed indicators e =
@@ -233,7 +211,6 @@ module _ (nodes : List Node) (order : AreInOrder nodes) (some : 0 < length nodes
         at_places = h.at_places;
         same_seats = h.same_seats;
         is_given = put (found_at_picks nodes lists rows) h.is_given;
-        fit = h.fit;
         placed = h.placed;
       }
 
@@ -258,7 +235,6 @@ module _ (nodes : List Node) (order : AreInOrder nodes) (some : 0 < length nodes
     pub has-found : HasFound nodes lists rows firsts given
     has-found = record {
       is_given = lacks-put (found_at_picks nodes lists rows ++ words_found nodes rows) h.is_given;
-      fit = firsts-fit nodes lists (currencies nodes rows) (all_told nodes rows) es (λ fs. was (fs ++ words_found nodes rows)) firsts h firsts_are;
       entries_are = invoice-is;
     }
 
@@ -321,6 +297,10 @@ module _ (nodes : List Node) (order : AreInOrder nodes) (some : 0 < length nodes
           | None ↦ Ok (record { entries = entries (all_told nodes rows); passed_over = passed_over nodes rows })
         ]) none
         ∙ (λ i. Ok (record { entries = (sym entries_are) i; passed_over = passed_over nodes rows }))
+
+    -- Where no fault was found, what was told first is what is read.
+    pub told-entries : last ≡ None → reading nodes lists rows ≡ Ok (record { entries = flat_map entries_of firsts; passed_over = passed_over nodes rows })
+    told-entries e = told-invoice (flat_map entries_of firsts) e refl
 
     pub told-verdict : (v : Verdict) → IsVerdict firsts last v → Answers nodes lists rows v
     told-verdict v is = by last refl v is

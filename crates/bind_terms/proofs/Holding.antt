@@ -20,12 +20,12 @@ use Rattle.term_table.proofs.SeatLemmas.{one_seat}
 use Rattle.bind_meaning.specs.Currencies.{Currencies}
 use Rattle.bind_meaning.specs.Judging.{Found, Told, is_of_seat, first_before, fault_of, faults_behind, seat_of}
 use Rattle.bind_meaning.specs.Terms.{firsts_behind}
-use Rattle.bind_terms.specs.Sayings.{FitsIts}
 use Rattle.bind_terms.specs.declared.firsts.First.{First}
 use Rattle.bind_terms.specs.Faults.{Puts}
 use Rattle.bind_terms.specs.Telling.{seat_of_first, first_of, Entries, kept_at, told_place, arranged, is_placed, IsAtItsPlace, Holds}
 use Rattle.bind_terms.specs.Steps.{put_entry, kept_behind}
-use Rattle.bind_terms.proofs.Tolds.{bool_cases, told-seat, seat-told, or_else, first-append, first-same, one-true, other-more, known-more, append-nil, kept_if, firsts-more, faults-more, any-first}
+use Rattle.reading_laws.proofs.SeatLemmas.{told-seat, seat-told}
+use Rattle.bind_terms.proofs.Tolds.{bool_cases, or_else, first-append, first-same, one-true, other-more, known-more, append-nil, kept_if, firsts-more, faults-more, any-first}
 
 abbrev order : List ℕ → List ℕ → Ordering
 order = slice_cmp nat_cmp
@@ -107,7 +107,6 @@ holds-none nodes lists c given fresh = record {
   at_places = All-nil IsAtItsPlace;
   same_seats = λ p. refl;
   is_given = fresh;
-  fit = All-nil (λ (t : Told). FitsIts t.said);
   placed = All-nil (λ t. is_placed t ≡ true);
 }
 
@@ -123,7 +122,7 @@ some-first (Some f) x h = (f, refl)
 
 module _ (nodes : List Node) (lists : Lists) (c : Currencies) (before : List Told) (entries : Entries) (was : List Found → Type 0)
     (h : Holds nodes lists c before entries was)
-    (t : Told) (place : List ℕ) (at : seat_place (seat_of t) ≡ Some place) (fits : FitsIts t.said)
+    (t : Told) (place : List ℕ) (at : seat_place (seat_of t) ≡ Some place)
     (more : Entries) (is : List Found → Type 0) (fault : Puts was is (fault_of nodes lists c (first_before before t) t)) where
   place-told : told_place t ≡ place
   place-told = ap (λ o. unwrap_or o []) at
@@ -149,7 +148,6 @@ module _ (nodes : List Node) (lists : Lists) (c : Currencies) (before : List Tol
       at_places = h.at_places;
       same_seats = λ p. h.same_seats p ∙ sym (seats-more p ∙ absorbed p (p (seat_of t)) refl);
       is_given = given-more;
-      fit = All-push (λ (u : Told). FitsIts u.said) before t h.fit fits;
       placed = All-push (λ u. is_placed u ≡ true) before t h.placed placed-told;
     })
 
@@ -181,7 +179,6 @@ module _ (nodes : List Node) (lists : Lists) (c : Currencies) (before : List Tol
           ∙ (any-insert (λ (e : List ℕ × First). p (seat_of_first e.1)) entries place (first_of t) absent
           ∙ (or-comm (p (seat_of t)) _ ∙ (ap (λ b. b || p (seat_of t)) (h.same_seats p) ∙ sym (seats-more p))));
       is_given = given-more;
-      fit = All-push (λ (u : Told). FitsIts u.said) before t h.fit fits;
       placed = All-push (λ u. is_placed u ≡ true) before t h.placed placed-told;
     }
 

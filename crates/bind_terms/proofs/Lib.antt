@@ -2,15 +2,15 @@ pub mod Final
 pub mod Holding
 pub mod Indicating
 pub mod Listing
-pub mod Missing
 pub mod Once
 pub mod Order
 pub mod Pass
+pub mod Placing
 pub mod Rooms
+pub mod LastPick
 pub mod Sound
 pub mod Tolds
 pub mod WordLemmas
-pub mod FitLemmas
 pub mod Fronts
 pub mod Images
 pub mod NodeLists

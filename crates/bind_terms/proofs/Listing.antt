@@ -19,7 +19,8 @@ use Rattle.bind_meaning.specs.Terms.{firsts_behind, entry_of, seat_of_entry, put
 use Rattle.bind_terms.specs.declared.firsts.First.{First}
 use Rattle.bind_terms.specs.Telling.{seat_of_first, first_of, Entries, kept_at, told_place, arranged}
 use Rattle.bind_terms.specs.Entries.{entries_of}
-use Rattle.bind_terms.proofs.Tolds.{bool_cases, seat-told, or_else, first-append}
+use Rattle.reading_laws.proofs.SeatLemmas.{seat-told}
+use Rattle.bind_terms.proofs.Tolds.{bool_cases, or_else, first-append}
 use Rattle.bind_terms.proofs.Holding.{place-is, any-insert}
 
 abbrev pub Each : {X : Type 0} → (X → Type 0) → List X → Type 0
@@ -144,7 +145,7 @@ kept-step : (o : Option Told) (P : Told → Type 0) (pre ts : List Told) (t : To
 kept-step None P pre ts t p more same = (p, more)
 kept-step (Some f) P pre ts t p more same = same
 
-pub each-first : (P : Told → Type 0) (pre ts : List Told) → Each P ts → Each P (firsts_behind pre ts)
+each-first : (P : Told → Type 0) (pre ts : List Told) → Each P ts → Each P (firsts_behind pre ts)
 each-first P pre [] h = tt
 each-first P pre (t ∷ ts) h = kept-step (first_before pre t) P pre ts t h.0 (each-first P (pre ++ t ∷ []) ts h.1) (each-first P pre ts h.1)
 

@@ -19,13 +19,11 @@ use Rattle.term_table.specs.Places.{first_row, slot_place}
 use Rattle.inv_terms.proofs.PushLemmas.{same_slot_itself}
 use Rattle.inv_terms.proofs.ContextLemmas.{context_is}
 use Rattle.bind_meaning.specs.declared.picked.Seated.{Seated}
-use Rattle.bind_meaning.specs.declared.picked.SeatedPick.{SeatedPick}
 use Rattle.bind_meaning.specs.Kept.{all_kept_seats}
 use Rattle.bind_meaning.specs.Seats.{Placed, Room, context_of, outer_room, inner_room, each_once, rooms}
 use Rattle.bind_meaning.specs.Judging.{Found}
 use Rattle.bind_meaning.specs.Faults.{lacks_in}
-use Rattle.bind_terms.specs.Telling.{context_in}
-use Rattle.bind_terms.specs.Rooms.{room_at, room_key, rooms_at, has_key, AreKeysOf, once_if, unseen, SeesMore, Seen}
+use Rattle.bind_terms.specs.Rooms.{room_at, room_key, rooms_at, pick_rooms, has_key, AreKeysOf, once_if, unseen, SeesMore, Seen}
 use Rattle.bind_terms.proofs.Tolds.{bool_cases, append-nil, puts-both, puts-none, puts-same}
 use Rattle.bind_terms.proofs.Holding.{place-is, place-itself}
 
@@ -131,7 +129,7 @@ key-told a b e =
     let inner = slot-told a.inner b.inner (sym (back-is a) ∙ (ap back e ∙ back-is b)) in
     λ i. record { outer = outer i; inner = inner i }
 
-context-itself : (a : Context) → same_context a a ≡ true
+pub context-itself : (a : Context) → same_context a a ≡ true
 context-itself a = rw (same_slot_itself a.outer, same_slot_itself a.inner) refl
 
 key-same : (a b : Context) → is_eq (slice_cmp nat_cmp (room_key a) (room_key b)) ≡ same_context b a
@@ -225,9 +223,6 @@ pub seen-none : (nodes : List Node) (seats : List Seat) (first : List Found → 
 seen-none nodes seats first keys e = subst (λ k. Seen nodes seats first [] k first) (sym e) (record { keys_are = λ context. refl; puts = puts-none first })
 
 -- ---- the rooms of the picks
-
-abbrev pub pick_rooms : SeatedPick → List Room
-pick_rooms pick = rooms_at (outer_context (context_in pick)) pick.outer ++ rooms_at (context_in pick) pick.inner
 
 outer-is : (p : Placed) → outer_room p ≡ rooms_at (outer_context (context_of p)) p.outer
 outer-is p = refl

@@ -1,15 +1,17 @@
 -- The steps of the pass over the picks.
-use Rattle.std.proofs.Common.{◌≡◌, ℕ, zero, suc, ◌+◌, ◌<◌, ◌≤◌, List, [], ◌∷◌, ◌++◌, length, get_or, take, map, All, Option, Some, None, option_map, Result, refl, sym, ap, ◌∙◌, subst, append_assoc, arith}
+use Rattle.std.proofs.Common.{◌≡◌, ℕ, zero, suc, ◌+◌, ◌<◌, ◌≤◌, List, [], ◌∷◌, ◌++◌, length, get_or, take, map, All, Option, Some, None, is_some, true, option_map, Result, refl, sym, ap, ◌∙◌, subst, append_assoc, arith}
+use Rattle.std.specs.Prelude.{unwrap_or}
 use Rattle.std.specs.Result.{OnOk}
 use Rattle.std.proofs.lemmas.Result.{on_ok_weaker}
 use Rattle.std.proofs.lemmas.Option.{same_Some}
 use Rattle.std.proofs.lemmas.List.{length-map, get_or-map, take_more}
-use Rattle.std.proofs.lemmas.List.Elements.{All-nil, All-cons, All-head, All-tail, All-get_or}
+use Rattle.std.proofs.lemmas.List.Elements.{All-head, All-tail, All-get_or}
 use Rattle.inv_base.specs.Tree.{Node}
 use Rattle.code_lists.specs.CodeFiles.{Lists}
 use Rattle.term_table.specs.declared.terms.Term.{Term}
 use Rattle.term_table.specs.declared.contexts.Context.{Context}
-use Rattle.term_table.specs.Places.{place_of, seat_place}
+use Rattle.term_table.specs.Rows.{row_of}
+use Rattle.term_table.specs.Places.{place as row_place, place_of, seat_place}
 use Rattle.bind_rows.specs.declared.rows.Row.{Row}
 use Rattle.bind_rows.specs.declared.rows.Content.{Content}
 use Rattle.bind_rows.specs.declared.rows.Content.TheVariants as contents
@@ -24,12 +26,14 @@ use Rattle.bind_meaning.specs.Values.{Said, said}
 use Rattle.bind_meaning.specs.Judging.{Found, Told, told_by, said_by, first_before, first_cause, causes, fault_of, seat_of}
 use Rattle.bind_meaning.specs.Terms.{told}
 use Rattle.bind_terms.specs.declared.said.Said.{Said as Kept}
-use Rattle.bind_terms.specs.Sayings.{said_of, FitsIts, AllFit}
+use Rattle.bind_terms.specs.declared.said.Sayings.{Sayings}
+use Rattle.bind_terms.specs.declared.said.Sayings.TheVariants as all
+use Rattle.bind_terms.specs.Sayings.{said_of, all_said}
 use Rattle.bind_terms.specs.Kinds.{kind_of}
 use Rattle.bind_terms.specs.declared.firsts.First.{First}
 use Rattle.bind_terms.specs.Faults.{Puts}
 use Rattle.bind_terms.specs.Telling.{first_of, context_in, Entries, kept_at, Holds}
-use Rattle.bind_terms.specs.Steps.{row_numbered, IsOfRow, told_at, put_entry, kept_behind, faults_at, Tells, TellsPick, TellsOf, TellsAll}
+use Rattle.bind_terms.specs.Steps.{row_numbered, IsOfRow, ArePlaced, said_by_row, told_at, put_entry, kept_behind, faults_at, Tells, TellsPick, TellsOf, TellsAll}
 use Rattle.bind_terms.proofs.Tolds.{append-nil, puts-same}
 use Rattle.bind_terms.proofs.Holding.{holds-none, holds-more}
 
@@ -44,18 +48,22 @@ kept-said : (o : Option Told) → option_map said_of (option_map (λ (f : First)
 kept-said None = refl
 kept-said (Some f) = refl
 
-pub tells-one : (nodes : List Node) (lists : Lists) (invoice : Option (List ℕ)) (row : Row) (pick : SeatedPick) (one : Kept) (context : Context) (place : List ℕ) (kind : Option BindKind) (first : Option Kept)
-    (old new : Entries) (was is : List Found → Type 0) → context ≡ context_in pick → Some place ≡ place_of one.term context
-    → first ≡ option_map (λ (f : First). f.said) (kept_at place old)
+pub tells-one : (nodes : List Node) (lists : Lists) (invoice : Option (List ℕ)) (row : Row) (pick : SeatedPick) (one : Kept) (context : Context) (listed : ℕ) (kind : Option BindKind) (first : Option Kept)
+    (old new : Entries) (was is : List Found → Type 0) → context ≡ context_in pick → Some listed ≡ row_of one.term context
+    → first ≡ option_map (λ (f : First). f.said) (kept_at (row_place listed context) old)
     → kind ≡ kind_of nodes lists invoice row pick.picked.node context (option_map said_of first) (said_of one)
-    → new ≡ put_entry old place (record { context = context; said = one }) → ((q : List ℕ) → kept_at q new ≡ kept_behind q old place (record { context = context; said = one }))
+    → new ≡ put_entry old (row_place listed context) (record { row = listed; context = context; said = one })
+    → ((q : List ℕ) → kept_at q new ≡ kept_behind q old (row_place listed context) (record { row = listed; context = context; said = one }))
     → Puts was is (faults_at kind pick.picked one.term) → Tells nodes lists invoice pick row (said_of one ∷ []) old was new is
-tells-one nodes lists invoice row pick one context place kind first old new was is in_pick at firsts cause put looked fault before p c same_invoice same_pick same_row fits h =
+tells-one nodes lists invoice row pick one context listed kind first old new was is in_pick in_row firsts cause put looked fault before p c same_invoice same_pick same_row h =
     let s : Said = said_of one in
     let t : Told = told_at p s in
     let here : context_of p ≡ context = ap context_in same_pick ∙ sym in_pick in
+    let place : List ℕ = row_place listed context in
+    let at : Some place ≡ place_of one.term context = ap (option_map (λ r. row_place r context)) in_row in
     let at_it : seat_place (seat_of t) ≡ Some place = ap (place_of one.term) here ∙ sym at in
-    let kept_first : ◌≡◌ {A = First} (record { context = context; said = one }) (first_of t) = λ i. record { context = (sym here) i; said = one } in
+    let row_is : listed ≡ unwrap_or (row_of one.term (context_of p)) 0 = ap (λ o. unwrap_or o 0) in_row ∙ ap (λ x. unwrap_or (row_of one.term x) 0) (sym here) in
+    let kept_first : ◌≡◌ {A = First} (record { row = listed; context = context; said = one }) (first_of t) = λ i. record { row = row_is i; context = (sym here) i; said = one } in
     let first_is : option_map said_of first ≡ option_map (λ (f : Told). f.said) (first_before before t) =
     ap (option_map said_of) (firsts ∙ ap (option_map (λ (f : First). f.said)) (h.look_up t place at_it)) ∙ kept-said (first_before before t) in
     let kind_is : kind ≡ first_cause (causes nodes lists c (first_before before t) t) =
@@ -67,7 +75,7 @@ tells-one nodes lists invoice row pick one context place kind first old new was 
     ∙ causes-are nodes lists c p s (first_before before t)))))) in
     let fault_is : faults_at kind pick.picked one.term ≡ fault_of nodes lists c (first_before before t) t =
     ap (λ (x : SeatedPick). faults_at kind x.picked one.term) (sym same_pick) ∙ ap (λ x. faults_at x (kept p.pick) one.term) kind_is in
-    holds-more nodes lists c before old was h t place at_it (All-head FitsIts s [] fits) new is (puts-same was is _ _ fault_is fault)
+    holds-more nodes lists c before old was h t place at_it new is (puts-same was is _ _ fault_is fault)
     (put ∙ ap (put_entry old place) kept_first)
     (λ q. looked q ∙ ap (kept_behind q old place) kept_first)
 
@@ -77,9 +85,9 @@ pub tells-two : (nodes : List Node) (lists : Lists) (invoice : Option (List ℕ)
     (was middling is : List Found → Type 0)
     → Tells nodes lists invoice pick row (a ∷ []) old was middle middling → Tells nodes lists invoice pick row (b ∷ []) middle middling new is
     → Tells nodes lists invoice pick row (a ∷ (b ∷ [])) old was new is
-tells-two nodes lists invoice pick row a b old middle new was middling is first second before p c same_invoice same_pick same_row fits h =
-    let one = first before p c same_invoice same_pick same_row (All-cons FitsIts a [] (All-head FitsIts a (b ∷ []) fits) (All-nil FitsIts)) h in
-    let two = second (before ++ told_at p a ∷ []) p c same_invoice same_pick same_row (All-tail FitsIts a (b ∷ []) fits) one in
+tells-two nodes lists invoice pick row a b old middle new was middling is first second before p c same_invoice same_pick same_row h =
+    let one = first before p c same_invoice same_pick same_row h in
+    let two = second (before ++ told_at p a ∷ []) p c same_invoice same_pick same_row one in
     subst (λ l. Holds nodes lists c l new is) (append_assoc before (told_at p a ∷ []) (told_at p b ∷ [])) two
 
 said-by-row : (nodes : List Node) (p : Placed) (content : Content) (term : Term) → content ≡ contents.Term term
@@ -88,14 +96,14 @@ said-by-row nodes p content term e = ap (λ x. elim (term_in x) [ None ↦ [] | 
 
 pub tells-row : (nodes : List Node) (lists : Lists) (invoice : Option (List ℕ)) (pick : SeatedPick) (row : Row) (term : Term) (all : List Said)
     (string : List ℕ) (old new : Entries) (was is : List Found → Type 0)
-    → row.content ≡ contents.Term term → all ≡ said row.form term string → string ≡ string_at nodes pick.picked.node → AllFit (said row.form term string)
+    → row.content ≡ contents.Term term → all ≡ said row.form term string → string ≡ string_at nodes pick.picked.node
     → Tells nodes lists invoice pick row all old was new is → TellsPick nodes lists invoice pick row old was new is
-tells-row nodes lists invoice pick row term all string old new was is content sayings string_is fits step before p c same_invoice same_pick same_row h =
+tells-row nodes lists invoice pick row term all string old new was is content sayings string_is step before p c same_invoice same_pick same_row h =
     let all_is : all ≡ said_by nodes p =
     sayings ∙ (ap (λ (x : Row). said x.form term string) (sym same_row) ∙ (ap (said p.pick.row.form term) (string_is ∙ ap (λ (x : SeatedPick). string_at nodes x.picked.node) (sym same_pick))
     ∙ sym (said-by-row nodes p p.pick.row.content term (ap (λ (x : Row). x.content) same_row ∙ content)))) in
     subst (λ l. Holds nodes lists c (before ++ map (told_at p) l) new is) all_is
-    (step before p c same_invoice same_pick same_row (subst (All FitsIts) (sym sayings) fits) h)
+    (step before p c same_invoice same_pick same_row h)
 
 no-term : (nodes : List Node) (p : Placed) (content : Content) (text : List ℕ) → content ≡ contents.Constant text
     → ◌≡◌ {A = List Said} (elim (term_in content) [ None ↦ [] | Some t ↦ said p.pick.row.form t (string_at nodes p.pick.node) ]) []
@@ -115,6 +123,32 @@ pub tells-of : (nodes : List Node) (lists : Lists) (invoice : Option (List ℕ))
 tells-of nodes lists invoice pick rows row old new was is at step before p c same_invoice same_pick of_row h =
     step before p c same_invoice same_pick (same_Some _ _ (sym of_row ∙ (ap (λ (x : SeatedPick). row_numbered rows x.picked.row) same_pick ∙ sym at))) h
 
+-- what a string says of the row's term is what the pick says
+pub sayings-placed : (nodes : List Node) (pick : SeatedPick) (row : Row) (term : Term) (all : List Said) (string : List ℕ)
+    → row.content ≡ contents.Term term → all ≡ said row.form term string → string ≡ string_at nodes pick.picked.node
+    → ArePlaced (context_in pick) (said_by_row nodes pick row) → ArePlaced (context_in pick) all
+sayings-placed nodes pick row term all string content sayings string_is placed =
+    let same : said_by_row nodes pick row ≡ all =
+    ap (λ x. elim (term_in x) [ None ↦ [] | Some t ↦ said row.form t (string_at nodes pick.picked.node) ]) content
+    ∙ sym (sayings ∙ ap (said row.form term) string_is) in
+    subst (ArePlaced (context_in pick)) same placed
+
+one-placed : (context : Context) (all : List Said) (a : Said) (others : List Said) → ArePlaced context all → all ≡ a ∷ others → is_some (place_of a.term context) ≡ true
+one-placed context all a others h e =
+    All-head (λ (s : Said). is_some (place_of s.term context) ≡ true) a others (subst (ArePlaced context) e h)
+
+module _ (context : Context) (sayings : Sayings) (placed : ArePlaced context (all_said sayings)) where
+  pub alone-placed : (one : Kept) → sayings ≡ all.One one → is_some (place_of one.term context) ≡ true
+  alone-placed one e = one-placed context (all_said sayings) (said_of one) [] placed (ap all_said e)
+
+  pub first-placed : (one other : Kept) → sayings ≡ all.Two one other → is_some (place_of one.term context) ≡ true
+  first-placed one other e = one-placed context (all_said sayings) (said_of one) (said_of other ∷ []) placed (ap all_said e)
+
+  pub second-placed : (one other : Kept) → sayings ≡ all.Two one other → is_some (place_of other.term context) ≡ true
+  second-placed one other e =
+      one-placed context (said_of other ∷ []) (said_of other) []
+      (All-tail (λ (s : Said). is_some (place_of s.term context) ≡ true) (said_of one) (said_of other ∷ []) (subst (ArePlaced context) (ap all_said e) placed)) refl
+
 -- the same of a call's result
 module _ {X E : Type 0} (r : Result X E) (nodes : List Node) (lists : Lists) (invoice : Option (List ℕ)) (pick : SeatedPick) (row : Row) where
   pub tells-same : (told all : List Said) (old new : Entries) (was is : List Found → Type 0) → told ≡ all
@@ -129,10 +163,10 @@ module _ {X E : Type 0} (r : Result X E) (nodes : List Node) (lists : Lists) (in
       tells-same (a ∷ (b ∷ [])) all old new was is e (on_ok_weaker r (λ k. tells-two nodes lists invoice pick row a b old middle new was middling is first k) h)
 
   pub tells-by-row : (term : Term) (all : List Said) (string : List ℕ) (old new : Entries) (was is : List Found → Type 0) → row.content ≡ contents.Term term
-      → all ≡ said row.form term string → string ≡ string_at nodes pick.picked.node → AllFit (said row.form term string)
+      → all ≡ said row.form term string → string ≡ string_at nodes pick.picked.node
       → OnOk r (Tells nodes lists invoice pick row all old was new is) → OnOk r (TellsPick nodes lists invoice pick row old was new is)
-  tells-by-row term all string old new was is content sayings string_is fits h =
-      on_ok_weaker r (λ k. tells-row nodes lists invoice pick row term all string old new was is content sayings string_is fits k) h
+  tells-by-row term all string old new was is content sayings string_is h =
+      on_ok_weaker r (λ k. tells-row nodes lists invoice pick row term all string old new was is content sayings string_is k) h
 
   pub tells-by-table : (rows : List Row) (old new : Entries) (was is : List Found → Type 0) → Some row ≡ row_numbered rows pick.picked.row
       → OnOk r (TellsPick nodes lists invoice pick row old was new is) → OnOk r (TellsOf nodes lists invoice pick rows old was new is)

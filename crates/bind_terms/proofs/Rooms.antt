@@ -26,11 +26,11 @@ use Rattle.bind_meaning.specs.Faults.{lacks_in}
 use Rattle.bind_terms.specs.declared.firsts.First.{First}
 use Rattle.bind_terms.specs.Faults.{Puts}
 use Rattle.bind_terms.specs.Telling.{seat_of_first, context_in}
-use Rattle.bind_terms.specs.Rooms.{room_at, room_key, rooms_at, has_key, missing_found, AreKeysOf, once_if, SeesMore, Seen}
+use Rattle.bind_terms.specs.Rooms.{room_at, room_key, pick_rooms, has_key, missing_found, AreKeysOf, once_if, SeesMore, Seen}
 use Rattle.bind_terms.proofs.Tolds.{append-nil, puts-both, puts-none, puts-same}
 use Rattle.bind_terms.proofs.Holding.{place-is}
-use Rattle.bind_terms.proofs.Missing.{map-filter}
-use Rattle.bind_terms.proofs.Once.{keys-more, seen-more, pick_rooms, all-rooms}
+use Rattle.reading_laws.proofs.MissingLemmas.{map-filter}
+use Rattle.bind_terms.proofs.Once.{keys-more, all-rooms}
 
 -- ---- one context
 
@@ -193,24 +193,11 @@ append-rooms : (xs ys : List SeatedPick) → flat_map pick_rooms (xs ++ ys) ≡ 
 append-rooms [] ys = refl
 append-rooms (x ∷ xs) ys = ap (λ l. pick_rooms x ++ l) (append-rooms xs ys) ∙ sym (append_assoc (pick_rooms x) (flat_map pick_rooms xs) (flat_map pick_rooms ys))
 
-pub seen-pick : (nodes : List Node) (seats : List Seat) (first : List Found → Type 0) (picks : List SeatedPick) (count : ℕ) (pick : SeatedPick)
-    (context outer : Context) (a b c : List (List ℕ)) (x y z : List Found → Type 0)
-    → count < length picks → pick ≡ get_or picks count pick → context ≡ context_in pick → outer ≡ outer_context context
-    → ((before : List Room) → AreKeysOf before a → SeesMore nodes seats before outer pick.outer b x y)
-    → ((before : List Room) → AreKeysOf before b → SeesMore nodes seats before context pick.inner c y z)
-    → Seen nodes seats first (flat_map pick_rooms (take count picks)) a x → Seen nodes seats first (flat_map pick_rooms (take (count + 1) picks)) c z
-seen-pick nodes seats first picks count pick context outer a b c x y z below at context_is outer_is one two seen =
-    let before = flat_map pick_rooms (take count picks) in
-    let middle = seen-more nodes seats first before a b x y seen outer pick.outer (one before seen.keys_are) in
-    let both = seen-more nodes seats first (before ++ rooms_at outer pick.outer) b c y z middle context pick.inner
-    (two (before ++ rooms_at outer pick.outer) middle.keys_are) in
-    let here : (before ++ rooms_at outer pick.outer) ++ rooms_at context pick.inner ≡ flat_map pick_rooms (take (count + 1) picks) =
-    append_assoc before (rooms_at outer pick.outer) (rooms_at context pick.inner)
-    ∙ (ap (λ k. before ++ (rooms_at k pick.outer ++ rooms_at context pick.inner)) (outer_is ∙ ap outer_context context_is)
-    ∙ (ap (λ k. before ++ (rooms_at (outer_context (context_in pick)) pick.outer ++ rooms_at k pick.inner)) context_is
-    ∙ sym (ap (flat_map pick_rooms) (take_more picks count pick below ∙ ap (λ k. take count picks ++ k ∷ []) (sym at))
-    ∙ (append-rooms (take count picks) (pick ∷ []) ∙ ap (λ l. before ++ l) (append-nil (pick_rooms pick)))))) in
-    subst (λ l. Seen nodes seats first l c z) here both
+pub rooms-more : (picks : List SeatedPick) (count : ℕ) (pick : SeatedPick) → count < length picks → pick ≡ get_or picks count pick
+    → flat_map pick_rooms (take count picks) ++ pick_rooms pick ≡ flat_map pick_rooms (take (count + 1) picks)
+rooms-more picks count pick below at =
+    sym (ap (flat_map pick_rooms) (take_more picks count pick below ∙ ap (λ k. take count picks ++ k ∷ []) (sym at))
+    ∙ (append-rooms (take count picks) (pick ∷ []) ∙ ap (λ l. flat_map pick_rooms (take count picks) ++ l) (append-nil (pick_rooms pick))))
 
 all : (xs : List SeatedPick) (n : ℕ) → length xs ≤ n → take n xs ≡ xs
 all [] zero h = refl

@@ -3,6 +3,7 @@ pub mod Faults
 pub mod Passes
 pub mod Reading
 pub mod Rooms
+pub mod Scenes
 pub mod Steps
 pub mod Telling
 pub mod Notes

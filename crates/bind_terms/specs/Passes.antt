@@ -1,5 +1,5 @@
 -- What the passes over the picks and the indicators of a document leave, and what it is by that. No public clause cites it.
-use Rattle.std.specs.Prelude.{◌≡◌, All, List, [], ◌++◌, map, flat_map, Option, Some, None}
+use Rattle.std.specs.Prelude.{◌≡◌, List, [], ◌++◌, map, flat_map, Option, Some, None}
 use Rattle.inv_base.specs.Tree.{Node}
 use Rattle.code_lists.specs.CodeFiles.{Lists}
 use Rattle.bind_rows.specs.declared.rows.Row.{Row}
@@ -11,7 +11,7 @@ use Rattle.bind_meaning.specs.Terms.{in_order, told, entries}
 use Rattle.bind_terms.specs.declared.firsts.First.{First}
 use Rattle.bind_terms.specs.declared.judging.Verdict.{Verdict}
 use Rattle.bind_terms.specs.declared.judging.Verdict.TheVariants as verdicts
-use Rattle.bind_terms.specs.Entries.{FitsFirst, entries_of}
+use Rattle.bind_terms.specs.Entries.{entries_of}
 use Rattle.bind_terms.specs.Reading.{indicator_picks, term_places}
 use Rattle.bind_terms.specs.Telling.{Entries, Holds}
 
@@ -40,7 +40,6 @@ HasTold nodes lists rows es given = Holds nodes lists (currencies nodes rows) (a
 -- All faults were given, and these were told first.
 pub record HasFound (nodes : List Node) (lists : Lists) (rows : List Row) (firsts : List First) (given : List Found → Type 0) : Type 0 where
   pub is_given : given (all_found nodes lists rows)
-  pub fit : All FitsFirst firsts
   pub entries_are : found_at_picks nodes lists rows ≡ [] → flat_map entries_of firsts ≡ entries (all_told nodes rows)
 
 -- The fault if there is one, or else the invoice of what was told first.

@@ -5,24 +5,26 @@ use Rattle.std.specs.Ordering.{nat_cmp, is_eq}
 use Rattle.std.specs.Cmp.Lexicographic.{slice_cmp}
 use Rattle.std.specs.BTreeMap.{insert_entry}
 use Rattle.term_table.specs.declared.terms.Term.{Term}
+use Rattle.term_table.specs.declared.contexts.Context.{Context}
+use Rattle.term_table.specs.Places.{place_of}
 use Rattle.inv_terms.specs.declared.lacks.Name.TheVariants as names
 use Rattle.bind_rows.specs.declared.rows.Row.{Row}
 use Rattle.bind_meaning.specs.declared.fault.BindKind.{BindKind}
 use Rattle.bind_meaning.specs.declared.picked.Picked.{Picked}
 use Rattle.bind_meaning.specs.declared.picked.Seated.{Seated}
 use Rattle.bind_meaning.specs.declared.picked.SeatedPick.{SeatedPick}
-use Rattle.bind_meaning.specs.Picks.{Pick}
+use Rattle.bind_meaning.specs.Elements.{string_at}
+use Rattle.bind_meaning.specs.Picks.{Pick, term_in}
 use Rattle.bind_meaning.specs.Seats.{Placed}
-use Rattle.bind_meaning.specs.Values.{Said}
+use Rattle.bind_meaning.specs.Values.{Said, said}
 use Rattle.bind_meaning.specs.Currencies.{Currencies}
 use Rattle.bind_meaning.specs.Kept.{kept_seat, all_kept_seats}
 use Rattle.bind_meaning.specs.Judging.{Found, found, rank, Told, told_by}
 use Rattle.bind_meaning.specs.Terms.{told}
 use Rattle.inv_base.specs.Tree.{Node}
 use Rattle.code_lists.specs.CodeFiles.{Lists}
-use Rattle.bind_terms.specs.Sayings.{FitsIts}
 use Rattle.bind_terms.specs.declared.firsts.First.{First}
-use Rattle.bind_terms.specs.Telling.{Entries, kept_at, Holds}
+use Rattle.bind_terms.specs.Telling.{context_in, Entries, kept_at, Holds}
 
 -- the row of a number, from 1
 abbrev pub row_numbered : List Row → ℕ → Option Row
@@ -51,6 +53,18 @@ pub record IsWithin (count : ℕ) (pick : SeatedPick) : Type 0 where
   pub inner : IsSeatWithin count pick.inner
   pub nested : (is_some pick.outer || is_none pick.inner) ≡ true
 
+-- Each value that is said has a term with a place in the context.
+abbrev pub ArePlaced : Context → List Said → Type 0
+ArePlaced context all = All (λ (s : Said). is_some (place_of s.term context) ≡ true) all
+
+-- what a pick says by its row
+abbrev pub said_by_row : List Node → SeatedPick → Row → List Said
+said_by_row nodes pick row = elim (term_in row.content) [ None ↦ [] | Some term ↦ said row.form term (string_at nodes pick.picked.node) ]
+
+-- the same by its table
+abbrev pub SaysPlaced : List Node → List Row → SeatedPick → Type 0
+SaysPlaced nodes rows pick = (row : Row) → row_numbered rows pick.picked.row ≡ Some row → ArePlaced (context_in pick) (said_by_row nodes pick row)
+
 abbrev pub told_at : Placed → Said → Told
 told_at p said = record { placed = p; said = said }
 
@@ -77,7 +91,7 @@ faults_at kind picked term = elim kind [ None ↦ [] | Some k ↦ fault_at k pic
 abbrev pub Tells : List Node → Lists → Option (List ℕ) → SeatedPick → Row → List Said → Entries → (List Found → Type 0) → Entries → (List Found → Type 0)
     → Type 0
 Tells nodes lists invoice pick row said old was new is =
-    (before : List Told) (p : Placed) (c : Currencies) → c.invoice ≡ invoice → kept_seat p ≡ pick → p.pick.row ≡ row → All FitsIts said
+    (before : List Told) (p : Placed) (c : Currencies) → c.invoice ≡ invoice → kept_seat p ≡ pick → p.pick.row ≡ row
     → Holds nodes lists c before old was → Holds nodes lists c (before ++ map (told_at p) said) new is
 
 -- the step tells what the pick says, by its row

@@ -10,21 +10,25 @@ use Rattle.inv_base.specs.Tree.{Node}
 use Rattle.code_lists.specs.CodeFiles.{Lists}
 use Rattle.term_table.specs.declared.contexts.Seat.{Seat}
 use Rattle.term_table.specs.declared.contexts.Context.{Context}
-use Rattle.term_table.specs.Places.{seat_place}
+use Rattle.term_table.specs.Rows.{row_of}
+use Rattle.term_table.specs.Places.{place, seat_place}
 use Rattle.bind_meaning.specs.declared.picked.SeatedPick.{SeatedPick}
 use Rattle.bind_meaning.specs.Currencies.{Currencies}
 use Rattle.bind_meaning.specs.Seats.{context_of, slot_of}
 use Rattle.bind_meaning.specs.Judging.{Found, Told, seat_of, first_before, faults_behind}
 use Rattle.bind_meaning.specs.Terms.{firsts_behind}
-use Rattle.bind_terms.specs.Sayings.{FitsIts}
 use Rattle.bind_terms.specs.declared.firsts.First.{First}
 
 abbrev pub seat_of_first : First → Seat
 seat_of_first f = record { term = f.said.term; context = f.context }
 
+-- the place of its row in its context
+abbrev pub place_of_first : First → List ℕ
+place_of_first f = place f.row f.context
+
 -- what was told, as it is kept
 abbrev pub first_of : Told → First
-first_of t = record { context = context_of t.placed; said = record { term = t.said.term; value = t.said.value } }
+first_of t = record { row = unwrap_or (row_of t.said.term (context_of t.placed)) 0; context = context_of t.placed; said = record { term = t.said.term; value = t.said.value } }
 
 abbrev pub Entries : Type 0
 Entries = List (List ℕ × First)
@@ -59,5 +63,4 @@ pub record Holds (nodes : List Node) (lists : Lists) (c : Currencies) (before : 
   pub at_places : All IsAtItsPlace entries
   pub same_seats : (p : Seat → Bool) → list_any (λ (e : List ℕ × First). p (seat_of_first e.1)) entries ≡ list_any (λ t. p (seat_of t)) before
   pub is_given : given (faults_behind nodes lists c [] before)
-  pub fit : All (λ (t : Told). FitsIts t.said) before
   pub placed : All (λ t. is_placed t ≡ true) before

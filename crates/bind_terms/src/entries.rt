@@ -1,53 +1,48 @@
 //! The entries of an invoice.
-ghost use Rattle.std.specs.Prelude.{◌≡◌, ◌++◌, [], ◌∷◌, List, All, flat_map, IfOk, OnOk};
-ghost use Rattle.inv_terms.specs.Listing.{Fits};
-ghost use Rattle.bind_terms.specs.Entries.{FitsFirst, entries_of};
+ghost use Rattle.std.specs.Prelude.{◌≡◌, ◌++◌, flat_map, IfOk, OnOk};
+ghost use Rattle.inv_terms.specs.Listing.{IsInvoice};
+ghost use Rattle.bind_terms.specs.Entries.{entries_of};
 
 use crate::Said;
 use crate::firsts::First;
 use inv_terms::{Entry, Invoice};
 use std::alloc::{AllocError, Global};
 
-/// The invoice of what was told first of each term in each context, in listing order.
+/// The invoice of what was told first of each term in each context, in listing order, where that is one.
 pub(crate) fn invoice_of(alloc: Global, firsts: Vec<First>) -> Result<Invoice, AllocError>
-    requires { All FitsFirst firsts.items }
+    requires { IsInvoice (flat_map entries_of firsts.items) }
     ensures { IfOk result (λ invoice. invoice ≡ flat_map entries_of firsts.items) }
 {
-    let mut invoice = Invoice::new(alloc)?;
-    'firsts: for first in firsts {
-        push_first(&mut invoice, first)?;
-    }
-    Ok(invoice)
+    let entries = entries_of(alloc, firsts)?;
+    Ok(Invoice::from_entries(entries))
 }
 
-fn push_first(invoice: &mut Invoice, first: First) -> Result<(), AllocError>
-    requires { FitsFirst first }
-    ensures { OnOk result (invoice.new ≡ invoice.old ++ entries_of first) }
+fn entries_of(alloc: Global, firsts: Vec<First>) -> Result<Vec<Entry>, AllocError>
+    ensures { IfOk result (λ entries. entries.items ≡ flat_map entries_of firsts.items) }
 {
-    let First { context, said } = first;
+    let mut entries = Vec::with_capacity(alloc, firsts.len())?;
+    'firsts: for first in firsts {
+        push_first(&mut entries, first)?;
+    }
+    Ok(entries)
+}
+
+fn push_first(entries: &mut Vec<Entry>, first: First) -> Result<(), AllocError>
+    ensures { OnOk result (entries.new.items ≡ entries.old.items ++ entries_of first) }
+{
+    let First {
+        row: _,
+        context,
+        said,
+    } = first;
     let Said { term, value } = said;
     match value {
-        Some(value) => push_entry(
-            invoice,
-            Entry {
-                context,
-                term,
-                value,
-            },
-        ),
-        None => Ok(()),
+        Some(value) => entries.push(Entry {
+            context,
+            term,
+            value,
+        })?,
+        None => {}
     }
-}
-
-fn push_entry(invoice: &mut Invoice, entry: Entry) -> Result<(), AllocError>
-    requires { Fits entry.term entry.value }
-    ensures { OnOk result (invoice.new ≡ invoice.old ++ entry ∷ []) }
-{
-    match invoice.push(entry) {
-        Ok(()) => Ok(()),
-        Err(fault) => {
-            drop(fault);
-            Err(AllocError)
-        }
-    }
+    Ok(())
 }

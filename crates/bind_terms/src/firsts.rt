@@ -1,13 +1,19 @@
 //! What the first pick of each term in each context said.
 use crate::Said;
-use term_table::{Context, Seat, Seated};
+use ordered_map::{Keyed, OrderedMap};
+use term_table::{Context, ListingPlace, Seat, Seated, place_at};
 
-/// What a pick said, in its context.
+/// What a pick said, in its context, with the row that the term has there in the semantic model.
 #[derive(Drop)]
 pub(crate) struct First {
+    pub(crate) row: usize,
     pub(crate) context: Context,
     pub(crate) said: Said,
 }
+
+/// What the first pick of each term in each context said, by the place of the term there in listing order. Documents mostly
+/// tell terms in that order.
+pub(crate) type Firsts = OrderedMap<ListingPlace, First>;
 
 impl Seated for First {
     ghost use Rattle.bind_terms.specs.Telling.{seat_of_first};
@@ -19,5 +25,15 @@ impl Seated for First {
             term: self.said.term,
             context: self.context,
         }
+    }
+}
+
+impl Keyed<ListingPlace> for First {
+    ghost use Rattle.bind_terms.specs.Telling.{place_of_first};
+
+    ghost key_of = { place_of_first };
+
+    fn key(&self) -> ListingPlace {
+        place_at(self.row, self.context)
     }
 }

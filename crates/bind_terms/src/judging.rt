@@ -1,33 +1,37 @@
 //! The invoice that a document is, or its first fault; and all its faults.
-ghost use Rattle.std.specs.Prelude.{◌≡◌, ◌≢◌, ◌<◌, [], All, chars, length, option_map, IfOk, IfErr, OnOk, Ok, Err, map};
+ghost use Rattle.std.specs.Prelude.{◌≡◌, ◌≢◌, ◌<◌, [], All, None, chars, length, option_map, IfOk, IfErr, OnOk, Ok, Err, map, flat_map};
 ghost use Rattle.node_arena.specs.Moves.{tree_nodes};
 ghost use Rattle.bind_table.specs.WellFormed.{first_fault};
+ghost use Rattle.inv_terms.specs.Listing.{IsInvoice};
 ghost use Rattle.inv_terms.specs.declared.lacks.Name.TheVariants as names;
 ghost use Rattle.bind_meaning.specs.declared.fault.BindKind.TheVariants as kinds;
 ghost use Rattle.bind_meaning.specs.Currencies.{currencies};
 ghost use Rattle.bind_meaning.specs.Faults.{faults_in};
 ghost use Rattle.bind_meaning.specs.Kept.{all_kept, all_kept_seats};
 ghost use Rattle.bind_meaning.specs.Terms.{in_order, passed_over};
-ghost use Rattle.bind_terms.specs.Entries.{FitsFirst};
+ghost use Rattle.bind_terms.specs.Entries.{entries_of};
 ghost use Rattle.bind_terms.specs.Faults.{found_of};
 ghost use Rattle.bind_terms.specs.Passes.{HasTold, HasFound, IsVerdict};
+ghost use Rattle.bind_terms.specs.Scenes.{nodes_of, rows_of, lists_of, IsSet};
 ghost use Rattle.bind_terms.specs.Reading.{indicator_picks, term_places, reading, Answers, AreSorted};
 
 use crate::entries::invoice_of;
-use crate::firsts::First;
+use crate::firsts::{First, Firsts};
 use crate::found::Found;
 use crate::indicators::put_wrong_words;
 use crate::keeping::{InOrder, Keeper, Least};
 use crate::lacks::put_lacks;
-use crate::telling::{Firsts, tell_picks};
+use crate::scene::Scene;
+use crate::telling::tell_picks;
 use bind_meaning::{BindFault, BindKind, Picked, SeatedPick};
 use bind_table::Binding;
 use code_lists::CodeLists;
 use inv_base::Steps;
 use inv_terms::{Invoice, Name};
 use node_arena::Doc;
+use ordered_map::OrderedMap;
+use reading_laws::{nothing_read_is_refused, numbers_of_nodes_rise, read_invoices_are_valid};
 use std::alloc::{AllocError, Global};
-use std::collections::BTreeMap;
 use std::sync::ledger::Ledger;
 
 /// The invoice that the picks of a table say, or the first fault of the document. `picks` is what the rows with a term
@@ -39,13 +43,13 @@ pub fn judge<L: Ledger>(
     table: &Binding,
     lists: &CodeLists,
     invoice_currency: Option<&str>,
-    picks: &[SeatedPick],
+    picks: Vec<SeatedPick>,
     indicators: &[Picked],
     steps: &mut Steps<L>,
 ) -> Result<Invoice, BindFault>
     requires formed { first_fault table.now ≡ Ok tt }
     requires currency { option_map (λ text. chars text.now) invoice_currency ≡ (currencies (tree_nodes doc.now) table.now).invoice }
-    requires picks { picks.now ≡ all_kept_seats (term_places (tree_nodes doc.now) table.now) }
+    requires picks { picks.items ≡ all_kept_seats (term_places (tree_nodes doc.now) table.now) }
     requires indicators { indicators.now ≡ all_kept (in_order (tree_nodes doc.now) (indicator_picks (tree_nodes doc.now) table.now)) }
     ensures ok { IfOk result (λ invoice. reading (tree_nodes doc.now) lists.now table.now
         ≡ Ok (record { entries = invoice; passed_over = passed_over (tree_nodes doc.now) table.now })) }
@@ -53,16 +57,14 @@ pub fn judge<L: Ledger>(
     ensures memory { IfErr result (λ fault. fault.kind ≡ kinds.Memory → fault ≡ record { kind = kinds.Memory; name = names.Nothing; node = 0 }) }
 {
     doc.is_of_a_tree();
-    match judged(
+    let scene = Scene {
         alloc,
         doc,
         table,
         lists,
         invoice_currency,
-        picks,
-        indicators,
-        steps,
-    ) {
+    };
+    match judged(&scene, picks, indicators, steps) {
         Ok(Verdict::Invoice(invoice)) => Ok(invoice),
         Ok(Verdict::Fault(fault)) => Err(fault),
         Err(_) => Err(BindFault {
@@ -81,30 +83,27 @@ pub fn faults<L: Ledger>(
     table: &Binding,
     lists: &CodeLists,
     invoice_currency: Option<&str>,
-    picks: &[SeatedPick],
+    picks: Vec<SeatedPick>,
     indicators: &[Picked],
     steps: &mut Steps<L>,
 ) -> Result<Vec<BindFault>, AllocError>
     requires formed { first_fault table.now ≡ Ok tt }
     requires currency { option_map (λ text. chars text.now) invoice_currency ≡ (currencies (tree_nodes doc.now) table.now).invoice }
-    requires picks { picks.now ≡ all_kept_seats (term_places (tree_nodes doc.now) table.now) }
+    requires picks { picks.items ≡ all_kept_seats (term_places (tree_nodes doc.now) table.now) }
     requires indicators { indicators.now ≡ all_kept (in_order (tree_nodes doc.now) (indicator_picks (tree_nodes doc.now) table.now)) }
     ensures faults { IfOk result (λ faults. faults.items ≡ faults_in (tree_nodes doc.now) table.now lists.now) }
     ensures within { IfOk result (λ faults. All (λ fault. fault.node < length doc.now.nodes) faults.items) }
 {
     doc.is_of_a_tree();
-    let mut kept = InOrder::new(alloc);
-    let firsts = find_faults(
+    let scene = Scene {
         alloc,
         doc,
         table,
         lists,
         invoice_currency,
-        picks,
-        indicators,
-        &mut kept,
-        steps,
-    )?;
+    };
+    let mut kept = InOrder::new(alloc);
+    let firsts = find_faults(&scene, picks, indicators, &mut kept, steps)?;
     drop(firsts);
     kept.into_faults(alloc)
 }
@@ -117,107 +116,86 @@ pub(crate) enum Verdict {
 }
 
 fn judged<L: Ledger>(
-    alloc: Global,
-    doc: &Doc<'_>,
-    table: &Binding,
-    lists: &CodeLists,
-    invoice_currency: Option<&str>,
-    picks: &[SeatedPick],
+    scene: &Scene<'_, '_>,
+    picks: Vec<SeatedPick>,
     indicators: &[Picked],
     steps: &mut Steps<L>,
 ) -> Result<Verdict, AllocError>
-    requires currency { option_map (λ text. chars text.now) invoice_currency ≡ (currencies (tree_nodes doc.now) table.now).invoice }
-    requires picks { picks.now ≡ all_kept_seats (term_places (tree_nodes doc.now) table.now) }
-    requires indicators { indicators.now ≡ all_kept (in_order (tree_nodes doc.now) (indicator_picks (tree_nodes doc.now) table.now)) }
-    ensures { IfOk result (Answers (tree_nodes doc.now) lists.now table.now) }
+    requires set { IsSet scene.now }
+    requires picks { picks.items ≡ all_kept_seats (term_places (nodes_of scene.now) (rows_of scene.now)) }
+    requires indicators { indicators.now ≡ all_kept (in_order (nodes_of scene.now) (indicator_picks (nodes_of scene.now) (rows_of scene.now))) }
+    ensures { IfOk result (Answers (nodes_of scene.now) (lists_of scene.now) (rows_of scene.now)) }
 {
-    doc.is_of_a_tree();
+    scene.doc.is_of_a_tree();
+    numbers_of_nodes_rise();
+    read_invoices_are_valid();
     let mut least = Least { found: None };
-    let firsts = find_faults(
-        alloc,
-        doc,
-        table,
-        lists,
-        invoice_currency,
-        picks,
-        indicators,
-        &mut least,
-        steps,
-    )?;
-    verdict_of(alloc, firsts, least.found)
+    let firsts = find_faults(scene, picks, indicators, &mut least, steps)?;
+    verdict_of(scene.alloc, firsts, least.found)
 }
 
 // Every fault is given to the keeper, which was given none before. What was told first of each term in each context is
-// answered in listing order.
+// answered in listing order. The picks are let go as soon as all is found.
 fn find_faults<L: Ledger, K: Keeper>(
-    alloc: Global,
-    doc: &Doc<'_>,
-    table: &Binding,
-    lists: &CodeLists,
-    invoice_currency: Option<&str>,
+    scene: &Scene<'_, '_>,
+    picks: Vec<SeatedPick>,
+    indicators: &[Picked],
+    keeper: &mut K,
+    steps: &mut Steps<L>,
+) -> Result<Vec<First>, AllocError>
+    requires set { IsSet scene.now }
+    requires picks { picks.items ≡ all_kept_seats (term_places (nodes_of scene.now) (rows_of scene.now)) }
+    requires indicators { indicators.now ≡ all_kept (in_order (nodes_of scene.now) (indicator_picks (nodes_of scene.now) (rows_of scene.now))) }
+    requires none { K.given keeper.old [] }
+    ensures { IfOk result (λ firsts. HasFound (nodes_of scene.now) (lists_of scene.now) (rows_of scene.now) firsts.items (K.given keeper.new)) }
+{
+    let firsts = find_all(scene, picks.as_slice(), indicators, keeper, steps);
+    drop(picks);
+    firsts
+}
+
+// The same of picks that are lent.
+fn find_all<L: Ledger, K: Keeper>(
+    scene: &Scene<'_, '_>,
     picks: &[SeatedPick],
     indicators: &[Picked],
     keeper: &mut K,
     steps: &mut Steps<L>,
 ) -> Result<Vec<First>, AllocError>
-    requires currency { option_map (λ text. chars text.now) invoice_currency ≡ (currencies (tree_nodes doc.now) table.now).invoice }
-    requires picks { picks.now ≡ all_kept_seats (term_places (tree_nodes doc.now) table.now) }
-    requires indicators { indicators.now ≡ all_kept (in_order (tree_nodes doc.now) (indicator_picks (tree_nodes doc.now) table.now)) }
+    requires set { IsSet scene.now }
+    requires picks { picks.now ≡ all_kept_seats (term_places (nodes_of scene.now) (rows_of scene.now)) }
+    requires indicators { indicators.now ≡ all_kept (in_order (nodes_of scene.now) (indicator_picks (nodes_of scene.now) (rows_of scene.now))) }
     requires none { K.given keeper.old [] }
-    ensures { IfOk result (λ firsts. HasFound (tree_nodes doc.now) lists.now table.now firsts.items (K.given keeper.new)) }
+    ensures { IfOk result (λ firsts. HasFound (nodes_of scene.now) (lists_of scene.now) (rows_of scene.now) firsts.items (K.given keeper.new)) }
 {
-    doc.is_of_a_tree();
-    let mut told = BTreeMap::new(alloc);
-    find_at_nodes(
-        alloc,
-        doc,
-        table,
-        lists,
-        invoice_currency,
-        picks,
-        indicators,
-        &mut told,
-        keeper,
-        steps,
-    )?;
-    let firsts = in_listing_order(alloc, told)?;
-    put_lacks(alloc, doc, &firsts, picks, keeper, steps)?;
+    scene.doc.is_of_a_tree();
+    let mut told = OrderedMap::new(scene.alloc);
+    find_at_nodes(scene, picks, indicators, &mut told, keeper, steps)?;
+    let firsts = in_listing_order(scene.alloc, told)?;
+    put_lacks(scene, &firsts, picks, keeper, steps)?;
     Ok(firsts)
 }
 
 // What the picks say is put by, and the faults at nodes are given to the keeper: of what they say, and of the indicators.
 fn find_at_nodes<L: Ledger, K: Keeper>(
-    alloc: Global,
-    doc: &Doc<'_>,
-    table: &Binding,
-    lists: &CodeLists,
-    invoice_currency: Option<&str>,
+    scene: &Scene<'_, '_>,
     picks: &[SeatedPick],
     indicators: &[Picked],
     told: &mut Firsts,
     keeper: &mut K,
     steps: &mut Steps<L>,
 ) -> Result<(), AllocError>
-    requires currency { option_map (λ text. chars text.now) invoice_currency ≡ (currencies (tree_nodes doc.now) table.now).invoice }
-    requires picks { picks.now ≡ all_kept_seats (term_places (tree_nodes doc.now) table.now) }
-    requires indicators { indicators.now ≡ all_kept (in_order (tree_nodes doc.now) (indicator_picks (tree_nodes doc.now) table.now)) }
+    requires set { IsSet scene.now }
+    requires picks { picks.now ≡ all_kept_seats (term_places (nodes_of scene.now) (rows_of scene.now)) }
+    requires indicators { indicators.now ≡ all_kept (in_order (nodes_of scene.now) (indicator_picks (nodes_of scene.now) (rows_of scene.now))) }
     requires empty { told.old.entries ≡ [] }
     requires none { K.given keeper.old [] }
-    ensures { OnOk result (HasTold (tree_nodes doc.now) lists.now table.now told.new.entries (K.given keeper.new)) }
+    ensures { OnOk result (HasTold (nodes_of scene.now) (lists_of scene.now) (rows_of scene.now) told.new.entries (K.given keeper.new)) }
 {
-    doc.is_of_a_tree();
-    tell_picks(
-        alloc,
-        doc,
-        table,
-        lists,
-        invoice_currency,
-        picks,
-        told,
-        keeper,
-        steps,
-    )?;
-    put_wrong_words(alloc, doc, table, indicators, keeper, steps)
+    scene.doc.is_of_a_tree();
+    nothing_read_is_refused();
+    tell_picks(scene, picks, told, keeper, steps)?;
+    put_wrong_words(scene, indicators, keeper, steps)
 }
 
 // The fault if there is one, or else the invoice of what was told first.
@@ -226,7 +204,7 @@ fn verdict_of(
     firsts: Vec<First>,
     fault: Option<Found>,
 ) -> Result<Verdict, AllocError>
-    requires { All FitsFirst firsts.items }
+    requires { option_map found_of fault ≡ None → IsInvoice (flat_map entries_of firsts.items) }
     ensures { IfOk result (IsVerdict firsts.items (option_map found_of fault)) }
 {
     match fault {
@@ -243,6 +221,6 @@ fn in_listing_order(alloc: Global, told: Firsts) -> Result<Vec<First>, AllocErro
     ensures items { IfOk result (λ firsts. firsts.items ≡ map (λ e. e.1) told.entries) }
     ensures order { AreSorted told.entries }
 {
-    let _ = told.len();
-    told.into_values().collect(alloc)
+    told.keys_ascend();
+    told.into_values(alloc)
 }

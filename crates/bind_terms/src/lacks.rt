@@ -1,25 +1,26 @@
 //! What is missing in each context of the document.
-ghost use Rattle.std.specs.Prelude.{◌≡◌, ◌<◌, ◌-◌, List, All, map, flat_map, length, OnOk};
+ghost use Rattle.std.specs.Prelude.{◌≡◌, ◌<◌, ◌-◌, List, All, map, flat_map, OnOk};
 ghost use Rattle.term_table.specs.Runs.{IsInOrder, IsNested};
-ghost use Rattle.node_arena.specs.Moves.{tree_nodes};
 ghost use Rattle.bind_meaning.specs.Judging as spec;
 ghost use Rattle.bind_meaning.specs.Faults.{lacks_in};
 ghost use Rattle.bind_meaning.specs.Kept.{all_kept_seats};
 ghost use Rattle.bind_meaning.specs.Seats.{Placed, Room, rooms};
 ghost use Rattle.bind_terms.specs.Faults.{found_of, Puts};
+ghost use Rattle.bind_terms.specs.Scenes.{nodes_of, count};
 ghost use Rattle.bind_terms.specs.Telling.{seat_of_first};
 ghost use Rattle.bind_terms.specs.Steps.{IsWithin, IsSeatWithin};
-ghost use Rattle.bind_terms.specs.Rooms.{AreKeysOf, SeesMore, room_key, room_at, missing_found};
+ghost use Rattle.bind_terms.specs.Rooms.{AreKeysOf, SeesMore, SeesPick, room_key, room_at, missing_found};
 
 use crate::firsts::First;
 use crate::found::{Found, Side, Spot};
 use crate::keeping::Keeper;
+use crate::scene::Scene;
 use crate::telling::context_of;
 use bind_meaning::{BindFault, BindKind, Seated as SeatAt, SeatedPick};
 use inv_base::Steps;
 use inv_terms::{Lack, Name, TermFault, all_missing};
-use node_arena::{Doc, NodeId};
-use std::alloc::{AllocError, Global};
+use node_arena::NodeId;
+use std::alloc::AllocError;
 use std::collections::BTreeSet;
 use std::sync::ledger::Ledger;
 use term_table::{Context, ListingPlace, ROOT, place_at, run_in};
@@ -27,37 +28,58 @@ use term_table::{Context, ListingPlace, ROOT, place_at, run_in};
 /// Gives the keeper all that is missing: in the invoice itself, and in each occurrence of a group, of which the picks have
 /// the elements. Each context is judged once, over what stands in it and inside it alone.
 pub(crate) fn put_lacks<L: Ledger, K: Keeper>(
-    alloc: Global,
-    doc: &Doc<'_>,
+    scene: &Scene<'_, '_>,
     firsts: &[First],
     picks: &[SeatedPick],
     keeper: &mut K,
     steps: &mut Steps<L>,
 ) -> Result<(), AllocError>
     requires order { IsInOrder (map seat_of_first firsts.now) }
-    requires within { All (IsWithin (length doc.now.nodes)) picks.now }
+    requires within { All (IsWithin (count scene.now)) picks.now }
     ensures { OnOk result ((ps : List Placed) → picks.now ≡ all_kept_seats ps
-        → Puts (K.given keeper.old) (K.given keeper.new) (flat_map (lacks_in (tree_nodes doc.now) (map seat_of_first firsts.now)) (rooms ps))) }
+        → Puts (K.given keeper.old) (K.given keeper.new) (flat_map (lacks_in (nodes_of scene.now) (map seat_of_first firsts.now)) (rooms ps))) }
 {
-    put_lacks_in(alloc, doc, firsts, ROOT, doc.root(), keeper, steps)?;
-    let mut seen = BTreeSet::new(alloc);
+    put_lacks_in(scene, firsts, ROOT, scene.doc.root(), keeper, steps)?;
+    let mut seen = BTreeSet::new(scene.alloc);
+    let mut last = ROOT;
     'picks: for pick in picks {
-        let context = context_of(pick);
-        let around = context.without_inner();
-        put_lacks_at(
-            alloc, doc, firsts, around, pick.outer, &mut seen, keeper, steps,
-        )?;
-        put_lacks_at(
-            alloc, doc, firsts, context, pick.inner, &mut seen, keeper, steps,
-        )?;
+        put_lacks_of(scene, firsts, pick, last, &mut seen, keeper, steps)?;
+        last = context_of(pick);
     }
     Ok(())
 }
 
+// The same in the contexts of a pick. Most picks stand where the one before stands, so those of its contexts are known to
+// have been seen without a look at the others.
+fn put_lacks_of<L: Ledger, K: Keeper>(
+    scene: &Scene<'_, '_>,
+    firsts: &[First],
+    pick: &SeatedPick,
+    last: Context,
+    seen: &mut BTreeSet<ListingPlace>,
+    keeper: &mut K,
+    steps: &mut Steps<L>,
+) -> Result<(), AllocError>
+    requires order { IsInOrder (map seat_of_first firsts.now) }
+    requires within { IsWithin (count scene.now) pick.now }
+    ensures { OnOk result (SeesPick (nodes_of scene.now) (map seat_of_first firsts.now) pick.now last seen.old.keys seen.new.keys
+        (K.given keeper.old) (K.given keeper.new)) }
+{
+    let context = context_of(pick);
+    if context.is_same(last) {
+        return Ok(());
+    }
+    if context.has_same_outer(last) {
+        return put_lacks_at(scene, firsts, context, pick.inner, seen, keeper, steps);
+    }
+    let around = context.without_inner();
+    put_lacks_at(scene, firsts, around, pick.outer, seen, keeper, steps)?;
+    put_lacks_at(scene, firsts, context, pick.inner, seen, keeper, steps)
+}
+
 // The same in a context that has an element, unless it was seen before.
 fn put_lacks_at<L: Ledger, K: Keeper>(
-    alloc: Global,
-    doc: &Doc<'_>,
+    scene: &Scene<'_, '_>,
     firsts: &[First],
     context: Context,
     seat: Option<SeatAt>,
@@ -67,15 +89,15 @@ fn put_lacks_at<L: Ledger, K: Keeper>(
 ) -> Result<(), AllocError>
     requires order { IsInOrder (map seat_of_first firsts.now) }
     requires nested { IsNested context }
-    requires within { IsSeatWithin (length doc.now.nodes) seat }
+    requires within { IsSeatWithin (count scene.now) seat }
     ensures { OnOk result ((before : List Room) → AreKeysOf before seen.old.keys
-        → SeesMore (tree_nodes doc.now) (map seat_of_first firsts.now) before context seat seen.new.keys (K.given keeper.old) (K.given keeper.new)) }
+        → SeesMore (nodes_of scene.now) (map seat_of_first firsts.now) before context seat seen.new.keys (K.given keeper.old) (K.given keeper.new)) }
 {
     match seat {
         Some(seat) => {
             let added = seen.insert(key_of(context))?;
             if added {
-                return put_lacks_in(alloc, doc, firsts, context, seat.element, keeper, steps);
+                return put_lacks_in(scene, firsts, context, seat.element, keeper, steps);
             }
             Ok(())
         }
@@ -92,8 +114,7 @@ fn key_of(context: Context) -> ListingPlace
 
 // The same in one context.
 fn put_lacks_in<L: Ledger, K: Keeper>(
-    alloc: Global,
-    doc: &Doc<'_>,
+    scene: &Scene<'_, '_>,
     firsts: &[First],
     context: Context,
     element: NodeId,
@@ -102,17 +123,17 @@ fn put_lacks_in<L: Ledger, K: Keeper>(
 ) -> Result<(), AllocError>
     requires order { IsInOrder (map seat_of_first firsts.now) }
     requires nested { IsNested context }
-    requires within { element < length doc.now.nodes }
+    requires within { element < count scene.now }
     ensures { OnOk result (Puts (K.given keeper.old) (K.given keeper.new)
-        (lacks_in (tree_nodes doc.now) (map seat_of_first firsts.now) (room_at context element))) }
+        (lacks_in (nodes_of scene.now) (map seat_of_first firsts.now) (room_at context element))) }
 {
-    let lacks = all_missing(alloc, run_in(firsts, context), context)?;
+    let lacks = all_missing(scene.alloc, run_in(firsts, context), context)?;
     let found = lacks.as_slice();
     if found.is_empty() {
         drop(lacks);
         return Ok(());
     }
-    let last = doc.last_inside(element, steps);
+    let last = scene.doc.last_inside(element, steps);
     let put = put_each(found, context, element, last, keeper);
     drop(lacks);
     put

@@ -1,35 +1,27 @@
 //! One pass over the picks: what each says, the first of each term in each context, and all faults at nodes.
-ghost use Rattle.std.specs.Prelude.{◌≡◌, ◌<◌, ◌++◌, [], ◌∷◌, List, ℕ, All, Some, length, map, chars, OnOk, IfOk, option_map, option_copied, is_none};
-ghost use Rattle.node_arena.specs.Moves.{tree_nodes};
-ghost use Rattle.bind_meaning.specs.Currencies.{Currencies};
-ghost use Rattle.bind_meaning.specs.Kept.{kept_seat, all_kept_seats};
+ghost use Rattle.std.specs.Prelude.{◌≡◌, ◌<◌, [], ◌∷◌, List, ℕ, All, Some, OnOk, option_map, option_copied, is_none, is_some, true};
+ghost use Rattle.term_table.specs.Places as places;
+ghost use Rattle.term_table.specs.Rows as rows;
 ghost use Rattle.bind_meaning.specs.Seats as seats;
-ghost use Rattle.bind_meaning.specs.Seats.{Placed};
-ghost use Rattle.bind_meaning.specs.Judging.{Told, told_by};
-ghost use Rattle.bind_meaning.specs.Terms.{told};
-ghost use Rattle.bind_terms.specs.Sayings.{said_of, all_said, FitsIts};
+ghost use Rattle.bind_terms.specs.Sayings.{said_of, all_said};
 ghost use Rattle.bind_terms.specs.Faults.{found_of, Puts};
-ghost use Rattle.bind_terms.specs.Telling.{Holds, context_in, kept_at};
-ghost use Rattle.bind_terms.specs.Steps.{IsWithin, Tells, TellsPick, TellsOf, TellsAll, HasRow, row_numbered, put_entry, kept_behind, faults_at, fault_at};
+ghost use Rattle.bind_terms.specs.Scenes.{nodes_of, count, rows_of, lists_of, currency_of};
+ghost use Rattle.bind_terms.specs.Telling.{context_in, place_of_first, kept_at};
+ghost use Rattle.bind_terms.specs.Steps.{IsWithin, ArePlaced, said_by_row, SaysPlaced, Tells, TellsPick, TellsOf, TellsAll, HasRow, row_numbered, put_entry, kept_behind, faults_at, fault_at};
 
-use crate::firsts::First;
+use crate::firsts::{First, Firsts};
 use crate::found::{Found, Side, Spot};
 use crate::keeping::Keeper;
-use crate::{Said, Sayings, first_cause, said_values_fit_their_terms, what_is_said};
+use crate::scene::Scene;
+use crate::{Said, Sayings, first_cause, what_is_said};
 use bind_meaning::{BindFault, BindKind, Picked, Seated, SeatedPick};
 use bind_rows::{Content, Row};
 use bind_table::Binding;
-use code_lists::CodeLists;
 use inv_base::Steps;
 use inv_terms::Name;
-use node_arena::Doc;
-use std::alloc::{AllocError, Global};
-use std::collections::BTreeMap;
+use std::alloc::AllocError;
 use std::sync::ledger::Ledger;
-use term_table::{Context, ListingPlace, Slot, Term, place_of};
-
-/// What the first pick of each term in each context said, by the place of the term there in listing order.
-pub(crate) type Firsts = BTreeMap<ListingPlace, First>;
+use term_table::{Context, ListingPlace, Slot, Term, place_at, row_of};
 
 fn slot_of(seat: Option<Seated>) -> Option<Slot>
     ensures { result ≡ seats.slot_of seat }
@@ -61,102 +53,65 @@ pub(crate) fn row_at(table: &Binding, number: u32) -> Option<&Row>
 
 /// What all picks say, in document order: the first of each is put by, and each fault is given to the keeper.
 pub(crate) fn tell_picks<L: Ledger, K: Keeper>(
-    alloc: Global,
-    doc: &Doc<'_>,
-    table: &Binding,
-    lists: &CodeLists,
-    invoice_currency: Option<&str>,
+    scene: &Scene<'_, '_>,
     picks: &[SeatedPick],
     firsts: &mut Firsts,
     keeper: &mut K,
     steps: &mut Steps<L>,
 ) -> Result<(), AllocError>
-    requires within { All (IsWithin (length doc.now.nodes)) picks.now }
-    requires rows { All (λ pick. HasRow table.now pick.picked.row) picks.now }
+    requires within { All (IsWithin (count scene.now)) picks.now }
+    requires rows { All (λ pick. HasRow (rows_of scene.now) pick.picked.row) picks.now }
+    requires placed { All (SaysPlaced (nodes_of scene.now) (rows_of scene.now)) picks.now }
     requires empty { firsts.old.entries ≡ [] }
     requires none { K.given keeper.old [] }
-    ensures { OnOk result (TellsAll (tree_nodes doc.now) lists.now (option_map (λ text. chars text.now) invoice_currency.entry) picks.now table.now firsts.new.entries (K.given keeper.new)) }
+    ensures { OnOk result (TellsAll (nodes_of scene.now) (lists_of scene.now) (currency_of scene.now) picks.now (rows_of scene.now)
+        firsts.new.entries (K.given keeper.new)) }
 {
     'picks: for pick in picks {
-        tell_pick(
-            alloc,
-            doc,
-            table,
-            lists,
-            invoice_currency,
-            pick,
-            firsts,
-            keeper,
-            steps,
-        )?;
+        tell_pick(scene, pick, firsts, keeper, steps)?;
     }
     Ok(())
 }
 
 // What one pick says, behind those before it.
 fn tell_pick<L: Ledger, K: Keeper>(
-    alloc: Global,
-    doc: &Doc<'_>,
-    table: &Binding,
-    lists: &CodeLists,
-    invoice_currency: Option<&str>,
+    scene: &Scene<'_, '_>,
     pick: &SeatedPick,
     firsts: &mut Firsts,
     keeper: &mut K,
     steps: &mut Steps<L>,
 ) -> Result<(), AllocError>
-    requires within { IsWithin (length doc.now.nodes) pick.now }
-    requires row { HasRow table.now pick.now.picked.row }
-    ensures { OnOk result (TellsOf (tree_nodes doc.now) lists.now (option_map (λ text. chars text.now) invoice_currency.entry) pick.now table.now firsts.old.entries (K.given keeper.old) firsts.new.entries (K.given keeper.new)) }
+    requires within { IsWithin (count scene.now) pick.now }
+    requires row { HasRow (rows_of scene.now) pick.now.picked.row }
+    requires placed { SaysPlaced (nodes_of scene.now) (rows_of scene.now) pick.now }
+    ensures { OnOk result (TellsOf (nodes_of scene.now) (lists_of scene.now) (currency_of scene.now) pick.now (rows_of scene.now)
+        firsts.old.entries (K.given keeper.old) firsts.new.entries (K.given keeper.new)) }
 {
-    match row_at(table, pick.picked.row) {
-        Some(row) => tell_row(
-            alloc,
-            doc,
-            lists,
-            invoice_currency,
-            row,
-            pick,
-            firsts,
-            keeper,
-            steps,
-        ),
+    match row_at(scene.table, pick.picked.row) {
+        Some(row) => tell_row(scene, row, pick, firsts, keeper, steps),
         None => unreachable!(),
     }
 }
 
 // The same by its row.
 fn tell_row<L: Ledger, K: Keeper>(
-    alloc: Global,
-    doc: &Doc<'_>,
-    lists: &CodeLists,
-    invoice_currency: Option<&str>,
+    scene: &Scene<'_, '_>,
     row: &Row,
     pick: &SeatedPick,
     firsts: &mut Firsts,
     keeper: &mut K,
     steps: &mut Steps<L>,
 ) -> Result<(), AllocError>
-    requires { IsWithin (length doc.now.nodes) pick.now }
-    ensures { OnOk result (TellsPick (tree_nodes doc.now) lists.now (option_map (λ text. chars text.now) invoice_currency.entry) pick.now row.now firsts.old.entries (K.given keeper.old) firsts.new.entries (K.given keeper.new)) }
+    requires within { IsWithin (count scene.now) pick.now }
+    requires placed { ArePlaced (context_in pick.now) (said_by_row (nodes_of scene.now) pick.now row.now) }
+    ensures { OnOk result (TellsPick (nodes_of scene.now) (lists_of scene.now) (currency_of scene.now) pick.now row.now
+        firsts.old.entries (K.given keeper.old) firsts.new.entries (K.given keeper.new)) }
 {
     match row.content {
         Content::Term(term) => {
-            said_values_fit_their_terms();
-            let string = doc.string(alloc, pick.picked.node, steps)?;
-            let sayings = what_is_said(alloc, row.form, term, string.as_str())?;
-            tell_all(
-                alloc,
-                doc,
-                lists,
-                invoice_currency,
-                row,
-                pick,
-                sayings,
-                firsts,
-                keeper,
-                steps,
-            )
+            let string = scene.doc.string(scene.alloc, pick.picked.node, steps)?;
+            let sayings = what_is_said(scene.alloc, row.form, term, string.as_str())?;
+            tell_all(scene, row, pick, sayings, firsts, keeper, steps)
         }
         Content::Constant(_) => Ok(()),
     }
@@ -164,10 +119,7 @@ fn tell_row<L: Ledger, K: Keeper>(
 
 // All that a pick says.
 fn tell_all<L: Ledger, K: Keeper>(
-    alloc: Global,
-    doc: &Doc<'_>,
-    lists: &CodeLists,
-    invoice_currency: Option<&str>,
+    scene: &Scene<'_, '_>,
     row: &Row,
     pick: &SeatedPick,
     sayings: Sayings,
@@ -175,57 +127,23 @@ fn tell_all<L: Ledger, K: Keeper>(
     keeper: &mut K,
     steps: &mut Steps<L>,
 ) -> Result<(), AllocError>
-    requires { IsWithin (length doc.now.nodes) pick.now }
-    ensures { OnOk result (Tells (tree_nodes doc.now) lists.now (option_map (λ text. chars text.now) invoice_currency.entry) pick.now row.now (all_said sayings) firsts.old.entries (K.given keeper.old) firsts.new.entries (K.given keeper.new)) }
+    requires within { IsWithin (count scene.now) pick.now }
+    requires placed { ArePlaced (context_in pick.now) (all_said sayings) }
+    ensures { OnOk result (Tells (nodes_of scene.now) (lists_of scene.now) (currency_of scene.now) pick.now row.now (all_said sayings)
+        firsts.old.entries (K.given keeper.old) firsts.new.entries (K.given keeper.new)) }
 {
     match sayings {
-        Sayings::One(one) => tell(
-            alloc,
-            doc,
-            lists,
-            invoice_currency,
-            row,
-            pick,
-            one,
-            firsts,
-            keeper,
-            steps,
-        ),
+        Sayings::One(one) => tell(scene, row, pick, one, firsts, keeper, steps),
         Sayings::Two(one, other) => {
-            tell(
-                alloc,
-                doc,
-                lists,
-                invoice_currency,
-                row,
-                pick,
-                one,
-                firsts,
-                keeper,
-                steps,
-            )?;
-            tell(
-                alloc,
-                doc,
-                lists,
-                invoice_currency,
-                row,
-                pick,
-                other,
-                firsts,
-                keeper,
-                steps,
-            )
+            tell(scene, row, pick, one, firsts, keeper, steps)?;
+            tell(scene, row, pick, other, firsts, keeper, steps)
         }
     }
 }
 
 // One value that a pick says.
 fn tell<L: Ledger, K: Keeper>(
-    alloc: Global,
-    doc: &Doc<'_>,
-    lists: &CodeLists,
-    invoice_currency: Option<&str>,
+    scene: &Scene<'_, '_>,
     row: &Row,
     pick: &SeatedPick,
     said: Said,
@@ -233,22 +151,22 @@ fn tell<L: Ledger, K: Keeper>(
     keeper: &mut K,
     steps: &mut Steps<L>,
 ) -> Result<(), AllocError>
-    requires { IsWithin (length doc.now.nodes) pick.now }
-    ensures { OnOk result (Tells (tree_nodes doc.now) lists.now (option_map (λ text. chars text.now) invoice_currency.entry) pick.now row.now (said_of said ∷ []) firsts.old.entries (K.given keeper.old) firsts.new.entries (K.given keeper.new)) }
+    requires within { IsWithin (count scene.now) pick.now }
+    requires placed { is_some (places.place_of said.term (context_in pick.now)) ≡ true }
+    ensures { OnOk result (Tells (nodes_of scene.now) (lists_of scene.now) (currency_of scene.now) pick.now row.now (said_of said ∷ [])
+        firsts.old.entries (K.given keeper.old) firsts.new.entries (K.given keeper.new)) }
 {
     let term = said.term;
     let context = context_of(pick);
-    let Some(place) = place_of(term, context) else {
-        drop(said);
-        return Err(AllocError);
-    };
+    let listed = row_in(term, context);
+    let place = place_at(listed, context);
     let first = said_before(firsts, place);
     let is_first = first.is_none();
     let kind = first_cause(
-        alloc,
-        doc,
-        lists,
-        invoice_currency,
+        scene.alloc,
+        scene.doc,
+        scene.lists,
+        scene.invoice_currency,
         row,
         pick.picked.node,
         context,
@@ -256,8 +174,24 @@ fn tell<L: Ledger, K: Keeper>(
         &said,
         steps,
     )?;
-    put_first(firsts, place, First { context, said }, is_first)?;
+    let told = First {
+        row: listed,
+        context,
+        said,
+    };
+    put_first(firsts, told, is_first)?;
     put_cause(keeper, kind, pick.picked, term)
+}
+
+// The row of a term that has one in the context.
+fn row_in(term: Term, context: Context) -> usize
+    requires { is_some (places.place_of term context) ≡ true }
+    ensures { Some result ≡ rows.row_of term context }
+{
+    match row_of(term, context) {
+        Some(row) => row,
+        None => unreachable!(),
+    }
 }
 
 // What the first of the place said.
@@ -271,18 +205,13 @@ fn said_before(firsts: &Firsts, place: ListingPlace) -> Option<&Said>
 }
 
 // Puts it by where none of its place is yet.
-fn put_first(
-    firsts: &mut Firsts,
-    place: ListingPlace,
-    first: First,
-    is_first: bool,
-) -> Result<(), AllocError>
-    requires { is_first ≡ is_none (kept_at place firsts.old.entries) }
-    ensures entries { OnOk result (firsts.new.entries ≡ put_entry firsts.old.entries place first) }
-    ensures look_up { OnOk result ((q : List ℕ) → kept_at q firsts.new.entries ≡ kept_behind q firsts.old.entries place first) }
+fn put_first(firsts: &mut Firsts, first: First, is_first: bool) -> Result<(), AllocError>
+    requires { is_first ≡ is_none (kept_at (place_of_first first) firsts.old.entries) }
+    ensures entries { OnOk result (firsts.new.entries ≡ put_entry firsts.old.entries (place_of_first first) first) }
+    ensures look_up { OnOk result ((q : List ℕ) → kept_at q firsts.new.entries ≡ kept_behind q firsts.old.entries (place_of_first first) first) }
 {
     if is_first {
-        drop(firsts.insert(place, first)?);
+        firsts.insert(first)?;
     } else {
         drop(first);
     }

@@ -79,9 +79,12 @@ impl<'a> Builder<'a> {
         requires { IsWhole names self }
         ensures { IfOk result (λ doc. doc ≡ record { nodes = self.entry.nodes; names = names }) }
     {
+        let mut nodes = self.nodes;
         let mut ends = self.ends;
-        close_all(&self.nodes, &mut ends, self.current);
-        Doc::new(self.alloc, self.nodes, ends, names)
+        nodes.shrink_to_fit();
+        ends.shrink_to_fit();
+        close_all(&nodes, &mut ends, self.current);
+        Doc::new(self.alloc, nodes, ends, names)
     }
 }
 

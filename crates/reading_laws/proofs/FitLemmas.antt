@@ -15,7 +15,7 @@ use Rattle.bind_meaning.specs.Seats.{Placed, context_of}
 use Rattle.bind_meaning.specs.Judging.{Told}
 use Rattle.bind_meaning.specs.Values.{said}
 use Rattle.bind_meaning.specs.Terms.{Read, told, terms_of}
-use Rattle.bind_terms.specs.Sayings.{FitsIts, AllFit}
+use Rattle.reading_laws.specs.Sayings.{FitsIts, AllFit}
 use Rattle.reading_laws.proofs.ListLemmas.{each-weaker, each-any, each-of-all, all-of-each}
 use Rattle.reading_laws.proofs.SayingLemmas.{of-told}
 use Rattle.reading_laws.proofs.EntryLemmas.{OfEntry, of-entries}

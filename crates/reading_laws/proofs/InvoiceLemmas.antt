@@ -1,5 +1,5 @@
 -- What is read of a document by a well formed table is an invoice.
-use Rattle.std.proofs.Common.{◌≡◌, true, List, All, Option, Some, None, Result, Ok, Err, sym, subst}
+use Rattle.std.proofs.Common.{◌≡◌, true, List, All, Ok, sym, subst}
 use Rattle.std.specs.List.{list_all, AllByRecursion}
 use Rattle.inv_base.specs.Tree.{Node}
 use Rattle.code_lists.specs.CodeFiles.{Lists}
@@ -17,9 +17,6 @@ use Rattle.bind_rows.specs.declared.tables.Which.TheVariants as which
 use Rattle.bind_meaning.specs.Tables.{rows_of}
 use Rattle.bind_meaning.specs.Currencies.{currencies}
 use Rattle.bind_meaning.specs.Terms.{Read, told, term_picks, entries, terms_of}
-use Rattle.bind_meaning.specs.declared.fault.BindFault.{BindFault}
-use Rattle.bind_run.specs.Reading.{by_root, invoice_of}
-use Rattle.bind_run.specs.Roots.{which_of, unknown_root}
 use Rattle.reading_laws.specs.Nodes.{Rise}
 use Rattle.reading_laws.proofs.ListLemmas.{each-weaker, all-of-each, tests-hold}
 use Rattle.reading_laws.proofs.EntryLemmas.{HasValue, HasPlace, OfEntry, of-entries}
@@ -89,14 +86,3 @@ module _ (fit : (nodes : List Node) (rows : List Row) (lists : Lists) (read : Re
     pub document-read : (table : Which) (document : Document) (lists : Lists) (read : Read) → IsOfATree document → terms_of (tree_nodes document) (rows_of table) lists ≡ Ok read
         → IsInvoice read.entries × IsValid read.entries lists
     document-read table document lists read tree h = table-read table (tree_nodes document) lists read (document-rises document tree) h
-
--- ---- by the table that the root selects
-
-pub root-read : ((table : Which) (document : Document) (lists : Lists) (read : Read) → IsOfATree document → terms_of (tree_nodes document) (rows_of table) lists ≡ Ok read
-    → IsInvoice read.entries × IsValid read.entries lists)
-    → (document : Document) (lists : Lists) (read : Read) → IsOfATree document → invoice_of (tree_nodes document) lists ≡ Ok read → IsInvoice read.entries × IsValid read.entries lists
-root-read valid document lists read tree h = go (which_of (tree_nodes document)) h
-  where
-    go : (o : Option Which) → by_root rows_of (tree_nodes document) lists o ≡ Ok read → IsInvoice read.entries × IsValid read.entries lists
-    go None k = absurd (let z : ◌≡◌ {A = Result Read BindFault} (Err unknown_root) (Ok read) = k in cc)
-    go (Some table) k = valid table document lists read tree k

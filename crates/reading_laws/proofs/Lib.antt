@@ -2,6 +2,9 @@ pub mod ListLemmas
 pub mod SayingLemmas
 pub mod EntryLemmas
 pub mod FaultLemmas
+pub mod SeatLemmas
+pub mod MissingLemmas
+pub mod StringLemmas
 pub mod FitLemmas
 pub mod WholeLemmas
 pub mod RowLemmas

@@ -13,7 +13,7 @@ use Rattle.inv_terms.specs.Listing as listing
 use Rattle.bind_meaning.specs.Seats.{context_of}
 use Rattle.bind_meaning.specs.Judging.{Told, is_of_seat, first_before, seat_of}
 use Rattle.bind_meaning.specs.Terms.{firsts_behind, entry_of, seat_of_entry, put, listed, entries}
-use Rattle.bind_terms.proofs.Tolds.{seat-told}
+use Rattle.reading_laws.proofs.SeatLemmas.{seat-told}
 use Rattle.reading_laws.proofs.ListLemmas.{and-true, bool-cases, tests-hold, each-flat, each-weaker, each-both}
 use Rattle.reading_laws.proofs.EntryLemmas.{HasPlace, entry_at, OfEntry, each-first, each-put, each-listed, each-entry}
 

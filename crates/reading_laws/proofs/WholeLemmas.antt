@@ -25,7 +25,7 @@ use Rattle.bind_meaning.specs.Seats.{Placed, Room, slot_of, context_of, outer_ro
 use Rattle.bind_meaning.specs.Judging.{Found, found, Told, told_by, said_by, missing_place, name_of, seat_of}
 use Rattle.bind_meaning.specs.Judging as judging
 use Rattle.bind_meaning.specs.Terms.{Read, told, entries, terms_of}
-use Rattle.bind_terms.proofs.Missing.{AreAlike, first-same}
+use Rattle.reading_laws.proofs.MissingLemmas.{AreAlike, first-same}
 use Rattle.reading_laws.proofs.ListLemmas.{none-of-both, or-left, or-right, any-append, any-map, any-here, any-of-flat, each-append, each-map, each-weaker}
 use Rattle.reading_laws.proofs.SayingLemmas.{of-placed}
 use Rattle.reading_laws.proofs.EntryLemmas.{HasValue, OfEntry, of-entries, seats-same}

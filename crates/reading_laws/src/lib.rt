@@ -1,33 +1,44 @@
 //! Laws of reading: what is read of a document is an invoice in listing order, and a valid one.
 #![tactic(auto)]
 
-ghost use Rattle.std.specs.Prelude.{◌≡◌, List, ◌∷◌, ◌++◌, true, None, is_some, Ok, All};
+ghost use Rattle.std.specs.Prelude.{◌≡◌, ℕ, List, ◌∷◌, ◌++◌, true, None, is_some, Ok, All};
 ghost use Rattle.std.specs.List.{list_all};
 ghost use Rattle.code_lists.specs.CodeFiles.{Lists};
 ghost use Rattle.inv_base.specs.Tree.{Node, Forest, document_nodes};
+ghost use Rattle.term_table.specs.declared.terms.Term.{Term};
 ghost use Rattle.term_table.specs.Places.{place_of};
 ghost use Rattle.inv_terms.specs.declared.entries.Entry.{Entry};
 ghost use Rattle.inv_terms.specs.Listing.{Fits, is_placed, is_listed, is_numbered, refusal, IsInvoice};
 ghost use Rattle.inv_terms.specs.Whole.{IsValid};
 ghost use Rattle.node_arena.specs.Document.{Document};
 ghost use Rattle.node_arena.specs.Moves.{tree_nodes, IsOfATree};
+ghost use Rattle.bind_rows.specs.declared.rows.Form.{Form};
 ghost use Rattle.bind_rows.specs.declared.rows.Row.{Row};
 ghost use Rattle.bind_table.specs.WellFormed.{first_fault};
 ghost use Rattle.bind_rows.specs.declared.tables.Which.{Which};
 ghost use Rattle.bind_meaning.specs.Tables.{rows_of};
 ghost use Rattle.bind_meaning.specs.Currencies.{currencies};
 ghost use Rattle.bind_meaning.specs.Seats.{context_of};
+ghost use Rattle.bind_meaning.specs.Values.{said};
 ghost use Rattle.bind_meaning.specs.Judging.{Told};
 ghost use Rattle.bind_meaning.specs.Terms.{Read, told, term_picks, place_all, terms_of};
-ghost use Rattle.bind_run.specs.Reading.{invoice_of};
 ghost use Rattle.reading_laws.specs.Nodes.{Rise};
+ghost use Rattle.reading_laws.specs.Sayings.{AllFit};
 
-use bind_terms::said_values_fit_their_terms;
 use cii_binding::cii_is_well_formed;
+use inv_decimal::laws::{printed_days_are_read, readings_are_in_range};
 use inv_terms::{push_refuses_what_makes_no_invoice, valid_invoices_lack_nothing};
 use ubl_binding::{credit_note_is_well_formed, invoice_is_well_formed};
 
-/// Each value that is read fits its term.
+/// Each value that a string says fits its term.
+pub fn said_values_fit_their_terms()
+    ensures { (form : Form) (term : Term) (string : List ℕ) → AllFit (said form term string) }
+{
+    printed_days_are_read();
+    readings_are_in_range();
+}
+
+/// So each value that is read fits its term.
 pub fn read_values_fit_their_terms()
     ensures { (nodes : List Node) (rows : List Row) (lists : Lists) (read : Read) → terms_of nodes rows lists ≡ Ok read
         → All (λ (e : Entry). Fits e.term e.value) read.entries }
@@ -83,14 +94,6 @@ pub fn read_invoices_are_valid()
     invoice_is_well_formed();
     credit_note_is_well_formed();
     cii_is_well_formed();
-}
-
-/// So the invoice that a document is, by the table that its root element selects, is a valid one.
-pub fn invoices_of_documents_are_valid()
-    ensures { (document : Document) (lists : Lists) (read : Read) → IsOfATree document → invoice_of (tree_nodes document) lists ≡ Ok read
-        → IsInvoice read.entries × IsValid read.entries lists }
-{
-    read_invoices_are_valid();
 }
 
 /// So nothing is refused on the way: by a well formed table all that is told of a document has a place, whatever its

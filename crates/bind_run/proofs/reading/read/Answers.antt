@@ -6,14 +6,14 @@ use Rattle.bind_run.proofs.reading.read.Goals as goal
 
 pub overflow_cast-passed_over : goal.overflow_cast-passed_over
 overflow_cast-passed_over g c =
-    let few = passed-few c.args.doc.now c.args.table.now c.as_slice-3.result.now (c.as_slice-3.ensures.value ∙ c.in-Ok.ensures.passed_over)
+    let few = passed-few c.args.doc.now c.args.table.now c.as_slice-2.result.now (c.as_slice-2.ensures.value ∙ c.in-Ok.ensures.passed_over)
     c.is_of_a_tree.ensures.few in
     omega (arith, few)
 
 pub returns-in-Ok-judged-clause-reads : goal.returns-in-Ok-judged-clause-reads
 unfolding terms_of
 returns-in-Ok-judged-clause-reads g c =
-    let passed = c.as_slice-3.ensures.value ∙ c.in-Ok.ensures.passed_over in
+    let passed = c.as_slice-2.ensures.value ∙ c.in-Ok.ensures.passed_over in
     let count = sym (passed-count (tree_nodes c.args.doc.now) c.args.table.now) ∙ ap length (sym passed) in
     c.in-Ok-judged.ensures.ok ∙ ap (λ n. Ok (record { entries = c.in-Ok-judged.invoice; passed_over = n })) count
 

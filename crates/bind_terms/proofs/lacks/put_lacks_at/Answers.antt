@@ -6,10 +6,10 @@ use Rattle.std.proofs.lemmas.Result.{on_ok_weaker}
 use Rattle.std.specs.Ordering.{nat_cmp}
 use Rattle.std.specs.Cmp.Lexicographic.{slice_cmp}
 use Rattle.std.specs.BTreeSet.{insert_key}
-use Rattle.node_arena.specs.Moves.{tree_nodes}
 use Rattle.bind_terms.specs.Telling.{seat_of_first}
 use Rattle.bind_terms.specs.Rooms.{has_key}
 use Rattle.bind_terms.proofs.Rooms.{room-new, room-old}
+use Rattle.bind_terms.specs.Scenes.{nodes_of}
 use Rattle.bind_terms.proofs.lacks.put_lacks_at.Goals as goal
 
 on-false : (b : Bool) (P : Type 0) → OnFalse b P → b ≡ false → P
@@ -19,7 +19,7 @@ on-false false P h e = h
 pub returns-then-added : goal.returns-then-added
 returns-then-added g c =
     on_ok_weaker c.put_lacks_in.result
-    (λ put. room-new (tree_nodes c.args.doc.now)
+    (λ put. room-new (nodes_of c.args.scene.now)
     (map seat_of_first c.args.firsts.now) c.args.context c.args.seat c.in-Some.seat c.in-Some.is c.args.seen.now.keys c.insert.new.self.keys
     c.in_ok-added-in-Some.added (c.in_ok-added-in-Some.ensures.added ∙ ap (λ key. not (has_key c.args.seen.now.keys key)) c.key_of.ensures)
     (g.K.Keeper.given c.args.keeper.now) (g.K.Keeper.given c.put_lacks_in.new.keeper) c.if-added.true
@@ -27,7 +27,7 @@ returns-then-added g c =
 
 pub returns-else-added : goal.returns-else-added
 returns-else-added g c =
-    room-old (tree_nodes c.args.doc.now)
+    room-old (nodes_of c.args.scene.now)
     (map seat_of_first c.args.firsts.now) c.args.context c.args.seat c.in-Some.seat c.in-Some.is c.args.seen.now.keys c.insert.new.self.keys
     c.in_ok-added-in-Some.added (c.in_ok-added-in-Some.ensures.added ∙ ap (λ key. not (has_key c.args.seen.now.keys key)) c.key_of.ensures)
     (g.K.Keeper.given c.args.keeper.now) c.if-added.false (on-false c.in_ok-added-in-Some.added _ c.in_ok-added-in-Some.ensures.unchanged c.if-added.false)

@@ -1,12 +1,13 @@
-use Rattle.std.proofs.Common.{List, ℕ, option_map}
-use Rattle.std.specs.Str.{chars}
-use Rattle.std.specs.Borrow.{Bor}
-use Rattle.node_arena.specs.Moves.{tree_nodes}
+use Rattle.std.proofs.Common.{sym}
 use Rattle.bind_terms.proofs.Pass.{tells-by-table}
+use Rattle.bind_terms.specs.Scenes.{currency_of, nodes_of}
 use Rattle.bind_terms.proofs.telling.tell_pick.Goals as goal
+
+pub tell_row-requires-clause-placed : goal.tell_row-requires-clause-placed
+tell_row-requires-clause-placed g c = c.requires.placed c.in-Some.row.now (sym c.in-Some.ensures)
 
 pub returns : goal.returns
 returns g c =
-    tells-by-table c.tell_row.result (tree_nodes c.args.doc.now) c.args.lists.now
-    (option_map (λ (text : Bor (List ℕ)). chars text.now) c.args.invoice_currency) c.args.pick.now c.in-Some.row.now
-    c.args.table.now _ _ _ _ c.in-Some.ensures c.tell_row.ensures
+    tells-by-table c.tell_row.result (nodes_of c.args.scene.now) c.args.scene.now.lists.now
+    (currency_of c.args.scene.now) c.args.pick.now c.in-Some.row.now
+    c.args.scene.now.table.now _ _ _ _ c.in-Some.ensures c.tell_row.ensures

@@ -25,7 +25,7 @@ use Rattle.inv_terms.proofs.TrimLemmas.{HasEnds, trimmed-between}
 use Rattle.bind_rows.specs.declared.rows.Form.{Form}
 use Rattle.bind_rows.specs.declared.rows.Form.TheVariants as forms
 use Rattle.bind_meaning.specs.Values.{Said, letter_of, by_type, plain_date, Image, images, image_among, due_date_type, subject_code, note, plain_note, coded, is_subject_character, note_behind, note_of, is_term, is_day, suits, said_in, said}
-use Rattle.bind_terms.specs.Sayings.{FitsIts, AllFit}
+use Rattle.reading_laws.specs.Sayings.{FitsIts, AllFit}
 
 same-number : (a b : ℕ) → (a == b) ≡ true → a ≡ b
 same-number a b h = grind (arith, nat_tests)

@@ -18,6 +18,10 @@ mod listing;
 mod notation;
 mod parting;
 
+pub use bind_rows::{
+    Check, Content, ElementName, Filler, Form, Guard, Leaf, Namespace, Repeats, Row, Step, Test,
+    Written,
+};
 pub use binding::{Binding, well_formed};
 pub use cells::Cell;
 pub use conditions::{Asked, Condition, Tag};

@@ -30,5 +30,6 @@ pub use laws::{
 pub use looking::value_in;
 pub use missing::{all_missing, first_missing};
 pub use spaces::{is_blank, trimmed};
+pub use term_table::{Context, Group, Letter, Mark, Slot, Term, TermRow, term_row};
 pub use validity::{check, is_unlisted};
 pub use values::Value;

@@ -1,0 +1,16 @@
+pub mod Tries
+pub mod Orders
+pub mod Items
+pub mod Turns
+pub mod Narrowing
+pub mod Holding
+pub mod Walks
+pub mod Constants
+pub mod Emitted
+pub mod Levels
+pub mod Elements
+pub mod Tables
+pub mod Ways
+pub mod Rows
+pub mod Documents
+pub mod EntryLeaves

@@ -20,7 +20,7 @@ use Rattle.schematron_expansion.specs.Seen.{first_puts_behind, first_puts}
 use Rattle.schematron_faults.specs.Least.{found_of, least, is_up_to, up_to, soonest}
 use Rattle.schematron_faults.specs.Read.{entry_at, IsOf}
 use Rattle.schematron_faults.specs.Things.{written_put, with_entry}
-use Rattle.schematron_faults.proofs.EachLemmas.{Each}
+use Rattle.schematron_faults.proofs.EachLemmas.{Each, each-append, each-front, each-behind}
 use Rattle.schematron_faults.proofs.FoundLemmas.{sooner-none}
 use Rattle.schematron_faults.proofs.CoverLemmas.{Covers, covers_keeps, covers-sooner, covers_both, covers_behind, soonest-append}
 use Rattle.schematron_faults.proofs.ScopeLemmas.{knows, declared_known, knows_declared, Wider, wider-refl, wider-trans, wider_declared, kept_wider, knows_wider}
@@ -55,7 +55,7 @@ covers_one best w v l right = by (expression_fault w.is_pattern w.text w.scope) 
     by None (Some g) h = let e : Some g ≡ None = h refl in absurd (cc)
     by (Some f) (Some g) h = covers_behind best _ _ l
 
-up_to_before : (last : Option ℕ) (m n : ℕ) → m ≤ n → is_up_to last n ≡ true → is_up_to last m ≡ true
+pub up_to_before : (last : Option ℕ) (m n : ℕ) → m ≤ n → is_up_to last n ≡ true → is_up_to last m ≡ true
 up_to_before None m n l h = refl
 up_to_before (Some k) m n l h = grind (arith, nat_tests)
 
@@ -207,6 +207,34 @@ first_lets_behind es is_put params told scope (put ∷ puts) settled known = by 
 pub first_lets : (es : List Entry) (is_put : Entry → Bool) (params : List Parameter) (scope : Declared) (puts : List Put) → Each (Known es is_put) puts
     → with_lets params scope (lets_among (first_puts puts)) ≡ with_lets params scope (lets_among puts)
 first_lets es is_put params scope puts known = first_lets_behind es is_put params [] scope puts (λ n e t g l. absurd (false≢true t)) known
+
+-- ---- what holds of all copies holds of the first
+
+first_each_behind : (P : Written → Type 0) (es : List Entry) (is_put : Entry → Bool) (params : List Parameter) (all : Declared) (told : List ℕ) (before : Declared) (puts : List Put)
+    → Settled es params told before → Each (Known es is_put) puts → Each P (written_puts es params all before puts) → Each P (written_puts es params all before (first_puts_behind told puts))
+first_each_behind P es is_put params all told before [] settled known h = tt
+first_each_behind P es is_put params all told before (put ∷ puts) settled known h = by (is_told put.entry.number told) refl
+    (λ (scope : Declared) same others. first_each_behind P es is_put params all told before puts settled known.1 (subst (λ (s : Declared). Each P (written_puts es params all s puts)) same others))
+    (first_each_behind P es is_put params all (put.entry.number ∷ told) (with_entry params before put.entry) puts (settled_more es params told before put.entry known.0.0 settled) known.1)
+  where
+    both : Each P (written_put es params all before put ++ written_puts es params all (with_entry params before put.entry) puts)
+    both = subst (Each P) (puts_next es params all before put puts) h
+
+    rest : Each P (written_puts es params all (with_entry params before put.entry) puts)
+    rest = each-behind P (written_put es params all before put) (written_puts es params all (with_entry params before put.entry) puts) both
+
+    by : (test : Bool) → is_told put.entry.number told ≡ test
+        → ((scope : Declared) → scope ≡ before → Each P (written_puts es params all scope puts) → Each P (written_puts es params all before (first_puts_behind told puts)))
+        → (Each P (written_puts es params all (with_entry params before put.entry) puts) → Each P (written_puts es params all (with_entry params before put.entry) (first_puts_behind (put.entry.number ∷ told) puts)))
+        → Each P (written_puts es params all before (elim test as (λ _. List Put) [ true ↦ first_puts_behind told puts | false ↦ put ∷ first_puts_behind (put.entry.number ∷ told) puts ]))
+    by true t same new = same (with_entry params before put.entry) (settled_scope es params told before put.entry known.0.0 settled t) rest
+    by false t same new = subst (Each P) (sym (puts_next es params all before put (first_puts_behind (put.entry.number ∷ told) puts)))
+        (each-append P (written_put es params all before put) (written_puts es params all (with_entry params before put.entry) (first_puts_behind (put.entry.number ∷ told) puts))
+        (each-front P (written_put es params all before put) (written_puts es params all (with_entry params before put.entry) puts) both) (new rest))
+
+pub first_each : (P : Written → Type 0) (es : List Entry) (is_put : Entry → Bool) (params : List Parameter) (all before : Declared) (puts : List Put)
+    → Each (Known es is_put) puts → Each P (written_puts es params all before puts) → Each P (written_puts es params all before (first_puts puts))
+first_each P es is_put params all before puts known h = first_each_behind P es is_put params all [] before puts (λ n e t g l. absurd (false≢true t)) known h
 
 -- ---- and so is the soonest fault
 

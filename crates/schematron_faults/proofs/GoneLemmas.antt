@@ -1,17 +1,16 @@
 -- All expressions of a file are gone over.
-use Rattle.std.proofs.Common.{◌≡◌, ℕ, List, [], ◌++◌, Option, Result, OnOk, ap, ◌∙◌, subst, append_assoc}
+use Rattle.std.proofs.Common.{◌≡◌, false, List, [], ◌++◌, Result, OnOk, ap, ◌∙◌, subst, append_assoc}
 use Rattle.xpath_types.specs.Scopes.{Declared}
 use Rattle.schematron_meaning.specs.Entries.{Entry}
 use Rattle.schematron_meaning.specs.Lookup.{the_schema, is_let, inside}
 use Rattle.schematron_meaning.specs.Expansion.{File}
 use Rattle.schematron_meaning.specs.Written.{prefixes, with_lets, written_lets, written_phases, all_written}
-use Rattle.schematron_expansion.specs.declared.found.Found.{Found}
 use Rattle.schematron_faults.specs.declared.search.Search.{Search}
 use Rattle.schematron_faults.specs.Least.{soonest}
 use Rattle.schematron_faults.specs.Phases.{written_phases_of, written_outside}
 use Rattle.schematron_faults.specs.Searching.{Goes}
 use Rattle.schematron_faults.specs.Things.{written_patterns}
-use Rattle.schematron_faults.proofs.SearchLemmas.{goes-append, on_ok}
+use Rattle.schematron_faults.proofs.SearchLemmas.{none_passed, goes-append, on_ok}
 
 -- lets of the schema, and of phases
 pub goes_outside : {A E : Type 0} (es all : List Entry) (s t u : Search) (scope behind : Declared) (r : Result A E) → scope ≡ prefixes all → all ≡ es → behind ≡ with_lets [] scope (inside is_let es the_schema)
@@ -26,7 +25,7 @@ written_same : (file : File) → written_outside file.entries ++ written_pattern
 unfolding all_written
 written_same file = append_assoc (written_lets (prefixes file.entries) (inside is_let file.entries the_schema)) (written_phases file.entries) (written_patterns file)
 
-pub all_gone : (file : File) (best : Option Found) (last : Option ℕ) (s t u : Search) → s.best ≡ best → s.last ≡ last → Goes s t (written_outside file.entries) → Goes t u (written_patterns file)
-    → u.best ≡ soonest best last (all_written file)
-all_gone file best last s t u b l outside patterns = (goes-append s t u (written_outside file.entries) (written_patterns file) outside patterns).best
-    ∙ (λ i. soonest (b i) (l i) (written_same file i))
+pub all_gone : (file : File) (s t u : Search) → s.again ≡ false → Goes s t (written_outside file.entries) → Goes t u (written_patterns file) → u.best ≡ soonest s.best s.last (all_written file)
+all_gone file s t u a outside patterns =
+    (goes-append s t u (written_outside file.entries) (written_patterns file) outside patterns).best (none_passed s (written_outside file.entries ++ written_patterns file) a)
+    ∙ ap (soonest s.best s.last) (written_same file)

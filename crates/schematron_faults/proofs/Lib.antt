@@ -16,6 +16,9 @@ pub mod FaultLemmas
 pub mod NodeLemmas
 pub mod JudgeLemmas
 pub mod LoopLemmas
+pub mod StayLemmas
+pub mod AgainLemmas
+pub mod TextLemmas
 pub mod SeenLemmas
 pub mod GoneLemmas
 mod ListLemmas

@@ -1,6 +1,8 @@
 -- Loops over lets, rules and phases.
-use Rattle.std.proofs.Common.{◌≡◌, ℕ, Bool, true, false, cond, List, [], ◌∷◌, ◌++◌, Option, None, refl, ap, sym, ◌∙◌, subst, append-nil}
+use Rattle.std.proofs.Common.{◌≡◌, ℕ, zero, suc, ◌+◌, ◌<◌, ◌≤◌, Bool, true, false, cond, List, [], ◌∷◌, ◌++◌, length, take, get_or, map, Option, None, refl, ap, sym, ◌∙◌, subst, arith, append-nil}
 use Rattle.std.specs.Prelude.{flat_map}
+use Rattle.std.proofs.lemmas.Grind.{flat_map-append}
+use Rattle.std.proofs.lemmas.List.{take_more, take_all, map-append}
 use Rattle.xpath_types.specs.Scopes.{Declared}
 use Rattle.schematron_texts.specs.Replacing.{Parameter}
 use Rattle.schematron_meaning.specs.declared.attribute.Attribute.TheVariants as a
@@ -8,6 +10,8 @@ use Rattle.schematron_meaning.specs.Entries.{Entry}
 use Rattle.schematron_meaning.specs.Lookup.{is_let, is_phase, of_role, inside}
 use Rattle.schematron_meaning.specs.Expansion.{File, Put, Instance}
 use Rattle.schematron_meaning.specs.Written.{Written, written, written_let, written_lets, with_let, with_lets, lets_among, written_puts, written_items, written_pattern}
+use Rattle.schematron_expansion.specs.declared.instances.Instance.{Instance as Made}
+use Rattle.schematron_expansion.specs.Seen.{seen_instance}
 use Rattle.schematron_faults.specs.declared.search.Search.{Search}
 use Rattle.schematron_faults.specs.Read.{IsItem, AreItems}
 use Rattle.schematron_faults.specs.Searching.{Goes}
@@ -15,7 +19,8 @@ use Rattle.schematron_faults.specs.Things.{written_put, with_entry, with_entries
 use Rattle.schematron_faults.specs.Phases.{written_phases_of}
 use Rattle.schematron_faults.proofs.CopyLemmas.{puts_next, lets_next}
 use Rattle.schematron_faults.proofs.ThereLemmas.{items_next}
-use Rattle.schematron_faults.proofs.SearchLemmas.{goes_turn}
+use Rattle.schematron_faults.proofs.EachLemmas.{Each}
+use Rattle.schematron_faults.proofs.SearchLemmas.{goes-append, goes_turn}
 
 -- what is still to be declared
 pub scope_turn : (params : List Parameter) (scope new whole : Declared) (e : Entry) (left rest : List Entry) → left ≡ e ∷ rest → new ≡ with_let params scope e → with_lets params scope left ≡ whole → with_lets params new rest ≡ whole
@@ -68,7 +73,32 @@ pub phases_turn : (init s t : Search) (whole : List Written) (all : List Entry) 
 phases_turn init s t whole all scope new e left rest l n g h = goes_turn init s t whole (written_phases_of all scope left) (written_phases_of all scope (e ∷ [])) (written_phases_of all new rest)
     (ap (written_phases_of all scope) l ∙ (phases_cons all scope e rest ∙ ap (λ (d : Declared). written_phases_of all scope (e ∷ []) ++ written_phases_of all d rest) (sym n))) g h
 
-pub patterns_turn : (init s t : Search) (whole : List Written) (file : File) (outer : Declared) (instance : Instance) (left rest : List Instance) → left ≡ instance ∷ rest
-    → Goes s t (written_pattern file outer instance) → ((u : Search) → Goes s u (flat_map (written_pattern file outer) left) → Goes init u whole) → (u : Search) → Goes t u (flat_map (written_pattern file outer) rest) → Goes init u whole
-patterns_turn init s t whole file outer instance left rest l g h = goes_turn init s t whole (flat_map (written_pattern file outer) left) (written_pattern file outer instance) (flat_map (written_pattern file outer) rest)
-    (ap (flat_map (written_pattern file outer)) l) g h
+written_more : (file : File) (outer : Declared) (xs : List Made) (k : ℕ) (x : Made) → k < length xs → x ≡ get_or xs k x
+    → flat_map (written_pattern file outer) (map seen_instance (take (k + 1) xs)) ≡ flat_map (written_pattern file outer) (map seen_instance (take k xs)) ++ written_pattern file outer (seen_instance x)
+written_more file outer xs k x l at = ap (λ (ys : List Made). flat_map (written_pattern file outer) (map seen_instance ys)) (take_more xs k x l ∙ ap (λ (y : Made). take k xs ++ y ∷ []) (sym at))
+    ∙ (ap (flat_map (written_pattern file outer)) (map-append seen_instance (take k xs) (x ∷ []))
+    ∙ (flat_map-append (written_pattern file outer) (map seen_instance (take k xs)) (seen_instance x ∷ [])
+    ∙ ap (λ (ws : List Written). flat_map (written_pattern file outer) (map seen_instance (take k xs)) ++ ws) (append-nil (written_pattern file outer (seen_instance x)))))
+
+pub patterns_more : (file : File) (outer : Declared) (xs : List Made) (k : ℕ) (x : Made) (init s t : Search) → k < length xs → x ≡ get_or xs k x
+    → Goes init s (flat_map (written_pattern file outer) (map seen_instance (take k xs))) → Goes s t (written_pattern file outer (seen_instance x))
+    → Goes init t (flat_map (written_pattern file outer) (map seen_instance (take (k + 1) xs)))
+patterns_more file outer xs k x init s t l at g h = subst (Goes init t) (sym (written_more file outer xs k x l at))
+    (goes-append init s t (flat_map (written_pattern file outer) (map seen_instance (take k xs))) (written_pattern file outer (seen_instance x)) g h)
+
+pub patterns_end : (file : File) (outer : Declared) (xs : List Made) (is : List Instance) (k : ℕ) (init s : Search) → map seen_instance xs ≡ is → length xs ≤ k
+    → Goes init s (flat_map (written_pattern file outer) (map seen_instance (take k xs))) → Goes init s (flat_map (written_pattern file outer) is)
+patterns_end file outer xs is k init s e l g = subst (λ (js : List Instance). Goes init s (flat_map (written_pattern file outer) js)) (ap (map seen_instance) (take_all k xs l) ∙ e) g
+
+-- ---- what holds of each pattern
+
+pub each_taken : {X Y : Type 0} (P : Y → Type 0) (f : X → Y) (xs : List X) (k : ℕ) → Each P (map f xs) → Each P (map f (take k xs))
+each_taken P f [] zero h = tt
+each_taken P f [] (suc k) h = tt
+each_taken P f (x ∷ xs) zero h = tt
+each_taken P f (x ∷ xs) (suc k) h = (h.0, each_taken P f xs k h.1)
+
+pub each_item : {X Y : Type 0} (P : Y → Type 0) (f : X → Y) (xs : List X) (k : ℕ) (x : X) → Each P (map f xs) → k < length xs → P (f (get_or xs k x))
+each_item P f [] k x h l = absurd (omega (arith, l))
+each_item P f (y ∷ xs) zero x h l = h.0
+each_item P f (y ∷ xs) (suc k) x h l = each_item P f xs k x h.1 (omega (arith, l))

@@ -13,12 +13,12 @@ use Rattle.schematron_expansion.specs.Seen.{first_puts}
 use Rattle.schematron_faults.specs.declared.search.Search.{Search}
 use Rattle.schematron_faults.specs.Least.{soonest}
 use Rattle.schematron_faults.specs.Read.{IsOf, IsRead, IsRule, IsItem, AreItems}
-use Rattle.schematron_faults.specs.Searching.{Goes, wants_at}
+use Rattle.schematron_faults.specs.Searching.{IsKnown, Goes, wants_at}
 use Rattle.schematron_faults.specs.Things.{with_entry, with_entries}
 use Rattle.schematron_faults.proofs.EachLemmas.{Each, each-filter}
 use Rattle.schematron_faults.proofs.JoinLemmas.{rising}
 use Rattle.schematron_faults.proofs.ScopeLemmas.{Wider, wider-refl, wider-trans, wider_lets, cut_back}
-use Rattle.schematron_faults.proofs.CopyLemmas.{Keeps, Known, first_lets, first_copies, wider_entry}
+use Rattle.schematron_faults.proofs.CopyLemmas.{Keeps, Known, first_lets, first_each, first_copies, wider_entry}
 use Rattle.schematron_faults.proofs.PutLemmas.{is_put, each_of, puts_known, puts_climb}
 use Rattle.schematron_faults.proofs.StandLemmas.{at_pattern}
 use Rattle.schematron_faults.proofs.SearchLemmas.{goes-append, goes_from, goes_past}
@@ -30,10 +30,13 @@ pub goes_copies : Keeps → (file : File) (stand : Option ℕ) (params : List Pa
 goes_copies keeps file stand params outer rule s t is own g =
     let found : List Put = puts file stand rule.number in
     let known : Each (Known file.entries (is_put file.rules stand)) found = puts_known file stand rule is own in
+    let lets : with_lets params outer (lets_among (first_puts found)) ≡ with_lets params outer (lets_among found) = first_lets file.entries (is_put file.rules stand) params outer found known in
     record {
-      best = g.best ∙ (ap (λ (d : Declared). soonest s.best s.last (written_puts file.entries params d outer (first_puts found))) (first_lets file.entries (is_put file.rules stand) params outer found known)
+      best = λ of_all. g.best (subst (λ (d : Declared). Each (IsKnown s) (written_puts file.entries params d outer (first_puts found))) (sym lets)
+          (first_each (IsKnown s) file.entries (is_put file.rules stand) params (with_lets params outer (lets_among found)) outer found known of_all))
+          ∙ (ap (λ (d : Declared). soonest s.best s.last (written_puts file.entries params d outer (first_puts found))) lets
           ∙ first_copies keeps file.entries (is_put file.rules stand) params (with_lets params outer (lets_among found)) s.best s.last outer found (puts_climb file stand rule.number is) known);
-      last = g.last;
+      keeps = g.keeps;
     }
 
 -- A rule: its lets are declared, then its context is judged and what is put in it.

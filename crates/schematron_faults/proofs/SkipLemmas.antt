@@ -1,5 +1,5 @@
 -- Expressions of which no fault would be told.
-use Rattle.std.proofs.Common.{◌≡◌, ℕ, Bool, true, false, cond, ⊎_elim, List, [], ◌∷◌, Option, Some, None, refl, ap, sym, ◌∙◌, arith}
+use Rattle.std.proofs.Common.{◌≡◌, ℕ, Bool, true, false, cond, ⊎_elim, List, [], ◌∷◌, Option, Some, None, refl, ap, sym, ◌∙◌, subst, arith}
 use Rattle.std.specs.Prelude.{◌&&◌}
 use Rattle.std.proofs.lemmas.Bool.{false≢true, and_cases}
 use Rattle.std.proofs.lemmas.Bool.Decides.{nat_tests}
@@ -37,3 +37,8 @@ covers_unwanted best last n (w ∷ ws) h at = covers_cond best (is_up_to last w.
 -- nothing of what stands at an element is sooner where a fault there wouldn't be told
 pub skipped : (best : Option Found) (last : Option ℕ) (n : ℕ) (ws : List Written) → (is_sooner best n && is_up_to last n) ≡ false → Each (IsAt n) ws → soonest best last ws ≡ best
 skipped best last n ws h at = covers_keeps best (least (up_to last ws)) (covers_unwanted best last n ws h at)
+
+-- and one that is right is none
+pub right_skipped : (best : Option Found) (last : Option ℕ) (w : Written) → expression_fault w.is_pattern w.text w.scope ≡ None → soonest best last (w ∷ []) ≡ best
+right_skipped best last w h = covers_keeps best (least (up_to last (w ∷ [])))
+    (covers_cond best (is_up_to last w.stand) w [] (λ t. subst (Covers best) (sym (ap (λ (x : Option ExpressionFault). first_at w.stand (fault_of_written w x)) h)) tt) tt)

@@ -1,6 +1,9 @@
+pub mod Each
 pub mod Least
 pub mod Read
 pub mod Joining
+pub mod Staying
+pub mod Again
 pub mod Searching
 pub mod Things
 pub mod Phases

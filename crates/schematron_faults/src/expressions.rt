@@ -1,12 +1,14 @@
 //! The soonest of the expressions of a file that are refused.
-ghost use Rattle.std.specs.Prelude.{◌≡◌, IfOk};
+ghost use Rattle.std.specs.Prelude.{◌≡◌, false, IfOk, OnOk};
 ghost use Rattle.schematron_meaning.specs.Written.{all_written};
 ghost use Rattle.schematron_faults.specs.Least.{soonest};
 ghost use Rattle.schematron_faults.specs.Read.{IsRead};
+ghost use Rattle.schematron_faults.specs.Staying.{blanks_of, AreTexts};
 
 use crate::patterns::judge_patterns;
 use crate::phases::judge_outside;
-use crate::search::begin;
+use crate::search::{Search, begin};
+use crate::texts::texts_of;
 use schematron_expansion::{Found, RuleFile};
 use std::alloc::{AllocError, Global};
 
@@ -23,8 +25,23 @@ pub(crate) fn first_expression(
 ) -> Result<Option<Found>, AllocError>
     ensures { IfOk result (λ found. IsRead file.now → found ≡ soonest best last (all_written file.now)) }
 {
-    let mut search = begin(best, last);
-    judge_outside(alloc, &mut search, file)?;
-    judge_patterns(alloc, &mut search, file)?;
-    Ok(search.best)
+    let texts = texts_of(alloc, file.entries())?;
+    let mut search = begin(best, last, texts);
+    let gone = judge_all(alloc, &mut search, file);
+    let best = search.best;
+    drop(search);
+    match gone {
+        Ok(()) => Ok(best),
+        Err(error) => Err(error),
+    }
+}
+
+/// Goes over all expressions of a file.
+fn judge_all(alloc: Global, search: &mut Search, file: &RuleFile<'_, '_>) -> Result<(), AllocError>
+    requires again { search.old.again ≡ false }
+    requires texts { AreTexts (blanks_of file.now.entries) file.now.entries search.old.texts }
+    ensures { OnOk result (IsRead file.now → search.new.best ≡ soonest search.old.best search.old.last (all_written file.now)) }
+{
+    judge_outside(alloc, search, file)?;
+    judge_patterns(alloc, search, file)
 }

@@ -8,7 +8,7 @@ ghost use Rattle.schematron_meaning.specs.Faults.{expression_fault};
 ghost use Rattle.schematron_entries.specs.Seen.{seen_entry};
 ghost use Rattle.schematron_faults.specs.Searching as spec;
 
-use crate::search::{Search, spend, spend_more, take, wants};
+use crate::search::{Search, is_passed, spend, spend_more, take, wants};
 use node_arena::NodeId;
 use schematron_entries::Entry;
 use schematron_expansion::Found;
@@ -77,6 +77,9 @@ fn judge_text(
     ensures { OnOk result (spec.Goes search.old search.new (spec.written_as asked params.now scope.now (chars text.now) ∷ [])) }
 {
     if !wants(search, asked.at) {
+        return Ok(());
+    }
+    if is_passed(search, asked.node.number()) {
         return Ok(());
     }
     spend(search, text.len() as u64)?;

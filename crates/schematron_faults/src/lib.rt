@@ -16,6 +16,7 @@ mod search;
 mod sizes;
 mod sums;
 mod tallies;
+mod texts;
 
 ghost use Rattle.std.specs.Prelude.{◌≡◌, List, IfOk};
 ghost use Rattle.inv_base.specs.Tree.{Node};
@@ -36,10 +37,11 @@ use std::alloc::{AllocError, Global};
 
 /// The first fault of a file that was read of a document, if it has one.
 ///
-/// Takes time in proportion to the entries and to the expressions, each wherever it is put. The bytes of those that are
-/// judged are counted over the whole file, with those of names of lets, and 16 for each thing that is gone over. More
-/// than `MOST_JUDGED_BYTES` of schematron_meaning count as want of memory, and so do more than `MOST_TURNS` of walks over
-/// what stands in elements and what `extends` puts, so that a small file can't cost minutes.
+/// Takes time in proportion to the entries and to the expressions, each wherever it is put; one that no parameter changes
+/// is judged at the first use of its abstract pattern alone. The bytes of those that are judged are counted over the
+/// whole file, with those of names of lets, and 16 for each thing that is gone over. More than `MOST_JUDGED_BYTES` of
+/// schematron_meaning count as want of memory, and so do more than `MOST_TURNS` of walks over what stands in elements and
+/// what `extends` puts, so that a small file can't cost minutes.
 pub fn first_fault(alloc: Global, file: &RuleFile<'_, '_>) -> Result<Option<Fault>, AllocError>
     ensures { IfOk result (λ found. (nodes : List Node) → AreInOrder nodes → file.now ≡ file_of (entries nodes) → found ≡ first_fault nodes) }
 {

@@ -1,11 +1,15 @@
 //! Patterns that are judged, with what they have or use.
-ghost use Rattle.std.specs.Prelude.{◌≡◌, [], IfOk, OnOk};
+ghost use Rattle.std.specs.Prelude.{◌≡◌, [], false, map, IfOk, OnOk};
+ghost use Rattle.std.specs.List.{list_any};
 ghost use Rattle.schematron_meaning.specs.Lookup.{inside};
 ghost use Rattle.schematron_meaning.specs.Written as written;
 ghost use Rattle.schematron_entries.specs.Seen.{seen_entry};
 ghost use Rattle.schematron_expansion.specs.Seen.{seen_instance};
+ghost use Rattle.schematron_faults.specs.declared.search.Search.{Search as Searched};
+ghost use Rattle.schematron_faults.specs.Again as again;
 ghost use Rattle.schematron_faults.specs.Read.{IsRead, IsItem};
 ghost use Rattle.schematron_faults.specs.Searching as spec;
+ghost use Rattle.schematron_faults.specs.Staying.{blanks_of, AreTexts};
 ghost use Rattle.schematron_faults.specs.Things as things;
 
 use crate::lets::{declare_lets, judge_let};
@@ -63,18 +67,83 @@ pub(crate) fn judge_patterns(
     search: &mut Search,
     file: &RuleFile<'_, '_>,
 ) -> Result<(), AllocError>
+    requires again { search.old.again ≡ false }
+    requires texts { AreTexts (blanks_of file.now.entries) file.now.entries search.old.texts }
     ensures { OnOk result (IsRead file.now → spec.Goes search.old search.new (things.written_patterns file.now)) }
 {
     let mut scopes = scopes_of(alloc, file)?;
     let instances = file.instances(alloc)?;
-    'instances: for instance in &instances {
-        judge_instance(alloc, search, file, &mut scopes, instance)?;
+    'instances: for at in 0..instances.len() {
+        let earlier = &instances[..at];
+        judge_instance(alloc, search, file, &mut scopes, earlier, &instances[at])?;
     }
     Ok(())
 }
 
-/// Goes over a pattern, unless nothing of it would be told.
+/// Goes over a pattern behind those before it, unless nothing of it would be told.
 fn judge_instance(
+    alloc: Global,
+    search: &mut Search,
+    file: &RuleFile<'_, '_>,
+    scopes: &mut Scopes,
+    earlier: &[Instance<'_, '_>],
+    instance: &Instance<'_, '_>,
+) -> Result<(), AllocError>
+    requires { spec.AreAll scopes.old (written.outer_scope file.now.entries) }
+    ensures goes { OnOk result ((first : Searched) → IsRead file.now → spec.IsBehind file.now first search.old (map seen_instance earlier.now) (seen_instance instance.now)
+        → spec.Goes search.old search.new (written.written_pattern file.now (written.outer_scope file.now.entries) (seen_instance instance.now))) }
+    ensures scopes { OnOk result (spec.AreAll scopes.new (written.outer_scope file.now.entries)) }
+{
+    if !wants_at(search, instance.stand) {
+        return Ok(());
+    }
+    // A fault here would still be told, so all that stands before is right: of another use what no parameter changes.
+    let again = is_again(earlier, instance);
+    search.again = search.texts.names_stay & again;
+    judge_pattern(alloc, search, file, scopes, instance)?;
+    search.again = false;
+    Ok(())
+}
+
+/// Another pattern before it uses the same abstract one. There are at most as many as may be judged.
+fn is_again(earlier: &[Instance<'_, '_>], instance: &Instance<'_, '_>) -> bool
+    ensures { result ≡ again.is_again (map seen_instance earlier.now) (seen_instance instance.now) }
+{
+    match instance.stand {
+        Some(at) => is_used(earlier, instance.body, at),
+        None => false,
+    }
+}
+
+/// One of these uses the abstract pattern of that number, and isn't behind that element.
+fn is_used(earlier: &[Instance<'_, '_>], body: u32, at: u32) -> bool
+    ensures { result ≡ list_any (again.is_use body at) (map seen_instance earlier.now) }
+{
+    'earlier: for one in earlier {
+        if is_use(one, body, at) {
+            return true;
+        }
+    }
+    false
+}
+
+fn is_use(instance: &Instance<'_, '_>, body: u32, at: u32) -> bool
+    ensures { result ≡ again.is_use body at (seen_instance instance.now) }
+{
+    instance.body == body && stands_up_to(instance.stand, at)
+}
+
+fn stands_up_to(stand: Option<u32>, at: u32) -> bool
+    ensures { result ≡ again.stands_up_to at stand }
+{
+    match stand {
+        Some(stand) => stand <= at,
+        None => false,
+    }
+}
+
+/// Goes over what a pattern has or uses.
+fn judge_pattern(
     alloc: Global,
     search: &mut Search,
     file: &RuleFile<'_, '_>,
@@ -85,9 +154,6 @@ fn judge_instance(
     ensures goes { OnOk result (IsRead file.now → spec.Goes search.old search.new (written.written_pattern file.now (written.outer_scope file.now.entries) (seen_instance instance.now))) }
     ensures scopes { OnOk result (spec.AreAll scopes.new (written.outer_scope file.now.entries)) }
 {
-    if !wants_at(search, instance.stand) {
-        return Ok(());
-    }
     let count = scopes.pattern.count();
     declare_pattern(alloc, search, file, scopes, instance)?;
     judge_items(alloc, search, file, scopes, instance)?;

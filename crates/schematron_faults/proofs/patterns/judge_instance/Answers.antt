@@ -1,26 +1,14 @@
-use Rattle.std.proofs.Common.{length, ap, sym, refl, ◌∙◌}
-use Rattle.xpath_types.specs.Scopes.{Declared}
-use Rattle.schematron_meaning.specs.Lookup.{is_let, inside}
-use Rattle.schematron_meaning.specs.Written.{outer_scope, is_let_or_rule}
+use Rattle.std.proofs.Common.{map, sym, refl, ◌∙◌}
+use Rattle.schematron_meaning.specs.Written.{outer_scope}
 use Rattle.schematron_expansion.specs.Seen.{seen_instance}
-use Rattle.schematron_faults.specs.Things.{with_entries}
-use Rattle.schematron_faults.proofs.RuleLemmas.{goes_past_pattern, cut_lets, cut_entries}
+use Rattle.schematron_faults.proofs.RuleLemmas.{goes_past_pattern}
+use Rattle.schematron_faults.proofs.AgainLemmas.{goes_instance}
 use Rattle.schematron_faults.proofs.patterns.judge_instance.Goals as goal
 
 pub returns-then-not-wants_at-clause-goes : goal.returns-then-not-wants_at-clause-goes
-returns-then-not-wants_at-clause-goes c = λ is. goes_past_pattern c.args.file.now (outer_scope c.args.file.now.entries) (seen_instance c.args.instance.now) c.args.search.now c.args.instance.now.stand refl
+returns-then-not-wants_at-clause-goes c = λ first is behind. goes_past_pattern c.args.file.now (outer_scope c.args.file.now.entries) (seen_instance c.args.instance.now) c.args.search.now c.args.instance.now.stand refl
     (sym c.wants_at.ensures ∙ c.if-not-wants_at.true)
 
-pub returns-clause-scopes : goal.returns-clause-scopes
-returns-clause-scopes c = record {
-  pattern = cut_entries (outer_scope c.args.file.now.entries) c.judge_items.new.scopes.pattern c.truncate.new.self c.count-count.result c.args.instance.now.params (inside is_let_or_rule c.args.file.now.entries c.args.instance.now.body)
-      (c.count-count.ensures ∙ ap (λ (d : Declared). length d.variables) c.requires.pattern)
-      (c.in_ok-judge_items.ensures.pattern ∙ ap (λ (d : Declared). with_entries c.args.instance.now.params d (inside is_let_or_rule c.args.file.now.entries c.args.instance.now.body)) c.in_ok-declare_pattern.ensures.scopes.pattern)
-      c.truncate.ensures;
-  rule = cut_lets (outer_scope c.args.file.now.entries) c.judge_items.new.scopes.rule c.truncate-2.new.self c.count-count.result c.args.instance.now.params (inside is_let c.args.file.now.entries c.args.instance.now.body)
-      (c.count-count.ensures ∙ ap (λ (d : Declared). length d.variables) c.requires.pattern)
-      (c.in_ok-judge_items.ensures.rule ∙ c.in_ok-declare_pattern.ensures.scopes.rule) c.truncate-2.ensures;
-  all = cut_lets (outer_scope c.args.file.now.entries) c.judge_items.new.scopes.all c.truncate-3.new.self c.count-count.result c.args.instance.now.params (inside is_let c.args.file.now.entries c.args.instance.now.body)
-      (c.count-count.ensures ∙ ap (λ (d : Declared). length d.variables) c.requires.pattern)
-      (c.in_ok-judge_items.ensures.all ∙ c.in_ok-declare_pattern.ensures.scopes.all) c.truncate-3.ensures;
-}
+pub returns-clause-goes : goal.returns-clause-goes
+returns-clause-goes c = λ first is behind. goes_instance c.args.file.now (seen_instance c.args.instance.now) (map seen_instance c.args.earlier.now) first c.args.search.now c.judge_pattern.new.search
+    c.is_again-again.result c.is_again-again.ensures (sym c.wants_at.ensures ∙ c.if-not-wants_at.false) behind (c.in_ok-judge_pattern.ensures.goes is)

@@ -152,6 +152,21 @@ pub(crate) const CII_RULES: &str = r#"<?xml version="1.0" encoding="UTF-8"?>
   <let name="categories" value="('S', 'Z', 'E', 'AE', 'K', 'G', 'O', 'L', 'M', 'B')"/>
   <let name="points" value="('5', '29', '72')"/>
 
+  <!-- The VAT categories of lines, each once: a pattern of one of them looks at lines only where there is one of it. -->
+  <let name="line-categories"
+      value="distinct-values(//ram:IncludedSupplyChainTradeLineItem/ram:SpecifiedLineTradeSettlement
+          /ram:ApplicableTradeTax/ram:CategoryCode/normalize-space())"/>
+  <let name="has-S" value="$line-categories = 'S'"/>
+  <let name="has-L" value="$line-categories = 'L'"/>
+  <let name="has-M" value="$line-categories = 'M'"/>
+  <let name="has-Z" value="$line-categories = 'Z'"/>
+  <let name="has-E" value="$line-categories = 'E'"/>
+  <let name="has-AE" value="$line-categories = 'AE'"/>
+  <let name="has-K" value="$line-categories = 'K'"/>
+  <let name="has-G" value="$line-categories = 'G'"/>
+  <let name="has-O" value="$line-categories = 'O'"/>
+  <let name="has-B" value="$line-categories = 'B'"/>
+
   <!-- What has to be there, and of what values -->
 
   <pattern id="integrity">
@@ -704,8 +719,9 @@ pub(crate) const CII_RULES: &str = r#"<?xml version="1.0" encoding="UTF-8"?>
 
   <pattern id="taxed" abstract="true">
     <let name="lines"
-        value="$BG-25[ram:SpecifiedLineTradeSettlement/ram:ApplicableTradeTax/ram:CategoryCode
-            /normalize-space() = '$code']"/>
+        value="if ($has-$code)
+            then $BG-25[ram:SpecifiedLineTradeSettlement/ram:ApplicableTradeTax/ram:CategoryCode
+            /normalize-space() = '$code'] else ()"/>
     <let name="allowances" value="$BG-20[ram:CategoryTradeTax/ram:CategoryCode/normalize-space() = '$code']"/>
     <let name="charges" value="$BG-21[ram:CategoryTradeTax/ram:CategoryCode/normalize-space() = '$code']"/>
     <let name="breakdowns" value="$BG-23[ram:CategoryCode/normalize-space() = '$code']"/>
@@ -729,7 +745,7 @@ pub(crate) const CII_RULES: &str = r#"<?xml version="1.0" encoding="UTF-8"?>
         VAT identifier of the tax representative (BT-63).</assert>
     </rule>
 
-    <rule context="ram:IncludedSupplyChainTradeLineItem
+    <rule context="ram:IncludedSupplyChainTradeLineItem[$has-$code]
                    [ram:SpecifiedLineTradeSettlement/ram:ApplicableTradeTax/ram:CategoryCode
                    /normalize-space() = '$code']">
       <let name="BT-152"
@@ -878,8 +894,9 @@ pub(crate) const CII_RULES: &str = r#"<?xml version="1.0" encoding="UTF-8"?>
 
   <pattern id="untaxed" abstract="true">
     <let name="lines"
-        value="$BG-25[ram:SpecifiedLineTradeSettlement/ram:ApplicableTradeTax/ram:CategoryCode
-            /normalize-space() = '$code']"/>
+        value="if ($has-$code)
+            then $BG-25[ram:SpecifiedLineTradeSettlement/ram:ApplicableTradeTax/ram:CategoryCode
+            /normalize-space() = '$code'] else ()"/>
     <let name="allowances" value="$BG-20[ram:CategoryTradeTax/ram:CategoryCode/normalize-space() = '$code']"/>
     <let name="charges" value="$BG-21[ram:CategoryTradeTax/ram:CategoryCode/normalize-space() = '$code']"/>
     <let name="breakdowns" value="$BG-23[ram:CategoryCode/normalize-space() = '$code']"/>
@@ -905,7 +922,7 @@ pub(crate) const CII_RULES: &str = r#"<?xml version="1.0" encoding="UTF-8"?>
         (BT-102), must have <value-of select="'$identifiers'"/>.</assert>
     </rule>
 
-    <rule context="ram:IncludedSupplyChainTradeLineItem
+    <rule context="ram:IncludedSupplyChainTradeLineItem[$has-$code]
                    [ram:SpecifiedLineTradeSettlement/ram:ApplicableTradeTax/ram:CategoryCode
                    /normalize-space() = '$code']">
       <let name="BT-152"
@@ -1091,8 +1108,9 @@ pub(crate) const CII_RULES: &str = r#"<?xml version="1.0" encoding="UTF-8"?>
   <pattern id="O">
     <title>VAT category O, not subject to VAT: BR-O</title>
     <let name="lines"
-        value="$BG-25[ram:SpecifiedLineTradeSettlement/ram:ApplicableTradeTax/ram:CategoryCode
-            /normalize-space() = 'O']"/>
+        value="if ($has-O)
+            then $BG-25[ram:SpecifiedLineTradeSettlement/ram:ApplicableTradeTax/ram:CategoryCode
+            /normalize-space() = 'O'] else ()"/>
     <let name="allowances" value="$BG-20[ram:CategoryTradeTax/ram:CategoryCode/normalize-space() = 'O']"/>
     <let name="charges" value="$BG-21[ram:CategoryTradeTax/ram:CategoryCode/normalize-space() = 'O']"/>
     <let name="breakdowns" value="$BG-23[ram:CategoryCode/normalize-space() = 'O']"/>
@@ -1129,7 +1147,7 @@ pub(crate) const CII_RULES: &str = r#"<?xml version="1.0" encoding="UTF-8"?>
         document level charge (BG-21) of another category (BT-102).</assert>
     </rule>
 
-    <rule context="ram:IncludedSupplyChainTradeLineItem
+    <rule context="ram:IncludedSupplyChainTradeLineItem[$has-O]
                    [ram:SpecifiedLineTradeSettlement/ram:ApplicableTradeTax/ram:CategoryCode/normalize-space() = 'O']">
       <let name="BT-152"
           value="ram:SpecifiedLineTradeSettlement/ram:ApplicableTradeTax/ram:RateApplicablePercent[normalize-space()]"/>
@@ -1184,10 +1202,16 @@ pub(crate) const CII_RULES: &str = r#"<?xml version="1.0" encoding="UTF-8"?>
 
   <pattern id="B">
     <title>VAT category B, split payment: BR-B</title>
-    <let name="split-lines" value="$BG-25[ram:SpecifiedLineTradeSettlement/ram:ApplicableTradeTax/ram:CategoryCode/normalize-space() = 'B']"/>
+    <let name="split-lines"
+        value="if ($has-B)
+            then $BG-25[ram:SpecifiedLineTradeSettlement/ram:ApplicableTradeTax/ram:CategoryCode
+            /normalize-space() = 'B'] else ()"/>
     <let name="split-allowances" value="$BG-20[ram:CategoryTradeTax/ram:CategoryCode/normalize-space() = 'B']"/>
     <let name="split-charges" value="$BG-21[ram:CategoryTradeTax/ram:CategoryCode/normalize-space() = 'B']"/>
-    <let name="rated-lines" value="$BG-25[ram:SpecifiedLineTradeSettlement/ram:ApplicableTradeTax/ram:CategoryCode/normalize-space() = 'S']"/>
+    <let name="rated-lines"
+        value="if (exists(($split-lines, $split-allowances, $split-charges)))
+            then $BG-25[ram:SpecifiedLineTradeSettlement/ram:ApplicableTradeTax/ram:CategoryCode
+            /normalize-space() = 'S'] else ()"/>
     <let name="rated-allowances" value="$BG-20[ram:CategoryTradeTax/ram:CategoryCode/normalize-space() = 'S']"/>
     <let name="rated-charges" value="$BG-21[ram:CategoryTradeTax/ram:CategoryCode/normalize-space() = 'S']"/>
 

@@ -141,6 +141,20 @@ pub(crate) const UBL_RULES: &str = r#"<?xml version="1.0" encoding="UTF-8"?>
   <let name="categories" value="('S', 'Z', 'E', 'AE', 'K', 'G', 'O', 'L', 'M', 'B')"/>
   <let name="points" value="('3', '35', '432')"/>
 
+  <!-- The VAT categories of lines, each once: a pattern of one of them looks at lines only where there is one of it. -->
+  <let name="line-categories"
+      value="distinct-values($BG-25/cac:Item/cac:ClassifiedTaxCategory/cbc:ID/normalize-space())"/>
+  <let name="has-S" value="$line-categories = 'S'"/>
+  <let name="has-L" value="$line-categories = 'L'"/>
+  <let name="has-M" value="$line-categories = 'M'"/>
+  <let name="has-Z" value="$line-categories = 'Z'"/>
+  <let name="has-E" value="$line-categories = 'E'"/>
+  <let name="has-AE" value="$line-categories = 'AE'"/>
+  <let name="has-K" value="$line-categories = 'K'"/>
+  <let name="has-G" value="$line-categories = 'G'"/>
+  <let name="has-O" value="$line-categories = 'O'"/>
+  <let name="has-B" value="$line-categories = 'B'"/>
+
   <!-- What has to be there, and of what values -->
 
   <pattern id="integrity">
@@ -695,7 +709,9 @@ pub(crate) const UBL_RULES: &str = r#"<?xml version="1.0" encoding="UTF-8"?>
        (M) -->
 
   <pattern id="taxed" abstract="true">
-    <let name="lines" value="$BG-25[cac:Item/cac:ClassifiedTaxCategory/cbc:ID/normalize-space() = '$code']"/>
+    <let name="lines"
+        value="if ($has-$code)
+            then $BG-25[cac:Item/cac:ClassifiedTaxCategory/cbc:ID/normalize-space() = '$code'] else ()"/>
     <let name="allowances" value="$BG-20[cac:TaxCategory/cbc:ID/normalize-space() = '$code']"/>
     <let name="charges" value="$BG-21[cac:TaxCategory/cbc:ID/normalize-space() = '$code']"/>
     <let name="breakdowns" value="$BG-23[cac:TaxCategory/cbc:ID/normalize-space() = '$code']"/>
@@ -719,9 +735,9 @@ pub(crate) const UBL_RULES: &str = r#"<?xml version="1.0" encoding="UTF-8"?>
         VAT identifier of the tax representative (BT-63).</assert>
     </rule>
 
-    <rule context="/ubl:Invoice/cac:InvoiceLine
+    <rule context="/ubl:Invoice/cac:InvoiceLine[$has-$code]
                    [cac:Item/cac:ClassifiedTaxCategory/cbc:ID/normalize-space() = '$code']
-                   | /cn:CreditNote/cac:CreditNoteLine
+                   | /cn:CreditNote/cac:CreditNoteLine[$has-$code]
                      [cac:Item/cac:ClassifiedTaxCategory/cbc:ID/normalize-space() = '$code']">
       <let name="BT-152"
           value="cac:Item/cac:ClassifiedTaxCategory/cbc:Percent[. castable as xs:decimal]/xs:decimal(.)"/>
@@ -862,7 +878,9 @@ pub(crate) const UBL_RULES: &str = r#"<?xml version="1.0" encoding="UTF-8"?>
        and export (G) -->
 
   <pattern id="untaxed" abstract="true">
-    <let name="lines" value="$BG-25[cac:Item/cac:ClassifiedTaxCategory/cbc:ID/normalize-space() = '$code']"/>
+    <let name="lines"
+        value="if ($has-$code)
+            then $BG-25[cac:Item/cac:ClassifiedTaxCategory/cbc:ID/normalize-space() = '$code'] else ()"/>
     <let name="allowances" value="$BG-20[cac:TaxCategory/cbc:ID/normalize-space() = '$code']"/>
     <let name="charges" value="$BG-21[cac:TaxCategory/cbc:ID/normalize-space() = '$code']"/>
     <let name="breakdowns" value="$BG-23[cac:TaxCategory/cbc:ID/normalize-space() = '$code']"/>
@@ -887,9 +905,9 @@ pub(crate) const UBL_RULES: &str = r#"<?xml version="1.0" encoding="UTF-8"?>
         (BT-102), must have <value-of select="'$identifiers'"/>.</assert>
     </rule>
 
-    <rule context="/ubl:Invoice/cac:InvoiceLine
+    <rule context="/ubl:Invoice/cac:InvoiceLine[$has-$code]
                    [cac:Item/cac:ClassifiedTaxCategory/cbc:ID/normalize-space() = '$code']
-                   | /cn:CreditNote/cac:CreditNoteLine
+                   | /cn:CreditNote/cac:CreditNoteLine[$has-$code]
                      [cac:Item/cac:ClassifiedTaxCategory/cbc:ID/normalize-space() = '$code']">
       <let name="BT-152"
           value="cac:Item/cac:ClassifiedTaxCategory/cbc:Percent[. castable as xs:decimal]/xs:decimal(.)"/>
@@ -1070,7 +1088,9 @@ pub(crate) const UBL_RULES: &str = r#"<?xml version="1.0" encoding="UTF-8"?>
 
   <pattern id="O">
     <title>VAT category O, not subject to VAT: BR-O</title>
-    <let name="lines" value="$BG-25[cac:Item/cac:ClassifiedTaxCategory/cbc:ID/normalize-space() = 'O']"/>
+    <let name="lines"
+        value="if ($has-O)
+            then $BG-25[cac:Item/cac:ClassifiedTaxCategory/cbc:ID/normalize-space() = 'O'] else ()"/>
     <let name="allowances" value="$BG-20[cac:TaxCategory/cbc:ID/normalize-space() = 'O']"/>
     <let name="charges" value="$BG-21[cac:TaxCategory/cbc:ID/normalize-space() = 'O']"/>
     <let name="breakdowns" value="$BG-23[cac:TaxCategory/cbc:ID/normalize-space() = 'O']"/>
@@ -1106,8 +1126,9 @@ pub(crate) const UBL_RULES: &str = r#"<?xml version="1.0" encoding="UTF-8"?>
         document level charge (BG-21) of another category (BT-102).</assert>
     </rule>
 
-    <rule context="/ubl:Invoice/cac:InvoiceLine[cac:Item/cac:ClassifiedTaxCategory/cbc:ID/normalize-space() = 'O']
-                   | /cn:CreditNote/cac:CreditNoteLine
+    <rule context="/ubl:Invoice/cac:InvoiceLine[$has-O]
+                   [cac:Item/cac:ClassifiedTaxCategory/cbc:ID/normalize-space() = 'O']
+                   | /cn:CreditNote/cac:CreditNoteLine[$has-O]
                      [cac:Item/cac:ClassifiedTaxCategory/cbc:ID/normalize-space() = 'O']">
       <let name="BT-152" value="cac:Item/cac:ClassifiedTaxCategory/cbc:Percent[normalize-space()]"/>
       <assert id="BR-O-05" flag="fatal" test="empty($BT-152)">
@@ -1160,10 +1181,14 @@ pub(crate) const UBL_RULES: &str = r#"<?xml version="1.0" encoding="UTF-8"?>
 
   <pattern id="B">
     <title>VAT category B, split payment: BR-B</title>
-    <let name="split-lines" value="$BG-25[cac:Item/cac:ClassifiedTaxCategory/cbc:ID/normalize-space() = 'B']"/>
+    <let name="split-lines"
+        value="if ($has-B)
+            then $BG-25[cac:Item/cac:ClassifiedTaxCategory/cbc:ID/normalize-space() = 'B'] else ()"/>
     <let name="split-allowances" value="$BG-20[cac:TaxCategory/cbc:ID/normalize-space() = 'B']"/>
     <let name="split-charges" value="$BG-21[cac:TaxCategory/cbc:ID/normalize-space() = 'B']"/>
-    <let name="rated-lines" value="$BG-25[cac:Item/cac:ClassifiedTaxCategory/cbc:ID/normalize-space() = 'S']"/>
+    <let name="rated-lines"
+        value="if (exists(($split-lines, $split-allowances, $split-charges)))
+            then $BG-25[cac:Item/cac:ClassifiedTaxCategory/cbc:ID/normalize-space() = 'S'] else ()"/>
     <let name="rated-allowances" value="$BG-20[cac:TaxCategory/cbc:ID/normalize-space() = 'S']"/>
     <let name="rated-charges" value="$BG-21[cac:TaxCategory/cbc:ID/normalize-space() = 'S']"/>
 

@@ -40,7 +40,7 @@ fn next(seed: u64) -> u64 {
 fn key_of(coming: Coming, k: u64, seed: u64) -> u64 {
     match coming {
         Coming::Rising => k,
-        Coming::Within(far) => k + seed % far.max(1),
+        Coming::Within(far) => k.wrapping_add(seed % far.max(1)),
         Coming::Anyhow(count) => seed % count.max(1),
         Coming::InRuns(length) => seed % 2_000 + (k / length.max(1) % 2) * 2_000,
     }
@@ -64,9 +64,15 @@ fn put(
 
 /// Whether both maps have the same values, in the same order.
 fn is_same(values: &[Numbered], told: &BTreeMap<u64, u64>) -> bool {
-    values.len() == told.len()
-        && values.iter().zip(told).all(|(item, (key, number))| item.key == *key
-            && item.number == *number)
+    if values.len() != told.len() {
+        return false;
+    }
+    for (item, (key, number)) in values.iter().zip(told) {
+        if item.key != *key || item.number != *number {
+            return false;
+        }
+    }
+    true
 }
 
 fn is_same_way(alloc: Global, coming: Coming) -> Result<bool, AllocError> {

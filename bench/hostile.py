@@ -18,7 +18,8 @@ RULES = str(outline.HOME / "rules" / "en16931-ubl.sch")
 COMMANDS = {
     "outline": ["outline"],
     "show": ["show"],
-    "convert": ["convert", "--to", "cii"],
+    "convert to cii": ["convert", "--to", "cii"],
+    "convert to ubl": ["convert", "--to", "ubl"],
     "check": ["check", "--rules", RULES],
     "query": ["query", "count(//*[@*]) + count(distinct-values(//text()))"],
     "extract": ["extract", "1"],

@@ -60,12 +60,25 @@ CHARGE = (
     "<cac:AllowanceCharge><cbc:ChargeIndicator>true</cbc:ChargeIndicator>"
     '<cbc:Amount currencyID="EUR">1</cbc:Amount></cac:AllowanceCharge>'
 )
+MEANS = "<ram:SpecifiedTradeSettlementPaymentMeans><ram:TypeCode>30</ram:TypeCode></ram:SpecifiedTradeSettlementPaymentMeans>"
+
+
+def many_means(number, remittance):
+    """An invoice in CII with so many payment means and a remittance text of so many bytes, which UBL shows at each of them."""
+    settlement = "<ram:ApplicableHeaderTradeSettlement>"
+    front, back = compact((HOME / "examples" / "invoice-cii.xml").read_text()).split(settlement, 1)
+    currency = re.search(r"<ram:InvoiceCurrencyCode>.*?</ram:InvoiceCurrencyCode>", back)[0]
+    reference = "<ram:PaymentReference>%s</ram:PaymentReference>" % ("remit " * (remittance // 6)).strip()
+    return front + settlement + reference + back.replace(currency, currency + MEANS * number, 1)
+
+
 HOSTILE = {
     "970,000 unknown children of the root": lambda: behind("<cbc:BuyerReference>Office 4</cbc:BuyerReference>", "<u/>" * 970_000),
     "100,000 picks of one term": lambda: behind("<cbc:BuyerReference>Office 4</cbc:BuyerReference>", "<cbc:BuyerReference>x</cbc:BuyerReference>" * 100_000),
     "120,000 charges inside one line": lambda: behind('<cbc:LineExtensionAmount currencyID="EUR">180.00</cbc:LineExtensionAmount>', CHARGE * 120_000),
     "120,000 notes": lambda: behind("<cbc:InvoiceTypeCode>380</cbc:InvoiceTypeCode>", "<cbc:Note>a note</cbc:Note>" * 120_000),
     "a note of 8 MB": lambda: behind("<cbc:Note>", "a note " * 1_150_000),
+    "20,000 payment means beside a remittance text of 500 KB": lambda: many_means(20_000, 500_000),
     "200,000 parties": lambda: behind("</cac:AccountingCustomerParty>", "<cac:AccountingCustomerParty><cac:Party/></cac:AccountingCustomerParty>" * 200_000),
 }
 

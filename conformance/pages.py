@@ -6,7 +6,8 @@
 
 The table of crates in docs/ARCHITECTURE.md has what each root file says first, by the layers of crates.txt;
 docs/DEFINITIONS.md has what each module of each `specs/` says first; the table of business rules in docs/STANDARDS.md has
-where each assertion of rules/ stands.
+where each assertion of rules/ stands. And each crate of crates.txt stands on those alone that its files name: what the
+clauses of a crate below cite is found without it.
 """
 import pathlib
 import re
@@ -108,8 +109,22 @@ def rules():
     return "\n".join(rows) + "\n"
 
 
+def unnamed():
+    """The crates that a crate of crates.txt stands on and none of its files names."""
+    lists = [line.split(":") for line in (ROOT / "crates.txt").read_text(encoding="utf-8").splitlines() if ":" in line and line[0] != "#"]
+    own, found = {name for name, _ in lists}, []
+    for name, below in lists:
+        files = [path for path in (ROOT / "crates" / name).rglob("*") if path.suffix in (".rt", ".antt") and "out" not in path.parts]
+        text = "\n".join(path.read_text(encoding="utf-8") for path in files)
+        found += [(name, it) for it in below.split() if it in own and not re.search(r"\b%s::|\buse %s;|Rattle\.%s\." % (it, it, it), text)]
+    return found
+
+
 def main():
     fine = True
+    for name, below in unnamed():
+        print("crates.txt: no file of %s names %s" % (name, below))
+        fine = False
     pages = {
         "ARCHITECTURE.md": with_table("ARCHITECTURE.md", BEGIN, crates()),
         "DEFINITIONS.md": definitions(),

@@ -1,6 +1,5 @@
 ghost use Rattle.std.specs.Prelude.{◌≡◌, ◌<◌, ℕ, nat_lt, List, true, false};
-ghost use Rattle.inv_base.specs.Counts.{last_count};
-ghost use Rattle.xml_write.specs.Sizes.{stopped};
+ghost use Rattle.xml_write.specs.Sizes.{most_measured, longest_measured, stopped, tag_stopped};
 ghost use Rattle.std.specs.List.{list_all};
 ghost use Rattle.inv_terms.specs.declared.entries.Entry.{Entry};
 ghost use Rattle.bind_rows.specs.declared.rows.Row.{Row};
@@ -83,7 +82,7 @@ fn rest_carried(sizes: &Gauge, unplaced: Option<NotCarried>) -> Result<(), NotCa
         → result ≡ spec.rest_carried (spec.is_too_large rows es) unplaced }
 {
     if passes(sizes.bytes, DOCUMENT_LIMITS.bytes)
-        || passes(sizes.longest_tag, LONGEST_TAG)
+        || tag_passes(sizes.longest_tag, LONGEST_TAG)
         || passes(sizes.nodes, MOST_NODES)
     {
         Err(NotCarried {
@@ -104,10 +103,18 @@ fn all_placed(unplaced: Option<NotCarried>) -> Result<(), NotCarried>
     }
 }
 
-/// Whether a number that stops at the greatest of 64 bits passes a limit.
+/// Whether a number of bytes or of nodes passes a limit that is below where such numbers stop.
 fn passes(number: u64, limit: u64) -> bool
-    requires { limit < last_count }
+    requires { limit < most_measured }
     ensures { (n : ℕ) → number ≡ stopped n → result ≡ nat_lt limit n }
+{
+    limit < number
+}
+
+/// The same of the bytes of a tag.
+fn tag_passes(number: u64, limit: u64) -> bool
+    requires { limit < longest_measured }
+    ensures { (n : ℕ) → number ≡ tag_stopped n → result ≡ nat_lt limit n }
 {
     limit < number
 }

@@ -2,6 +2,7 @@
 use Rattle.std.specs.Prelude.{ℕ, Bool, true, false, not, ◌&&◌, List, [], ◌∷◌, filter, flat_map, map}
 use Rattle.std.specs.List.{list_any}
 use Rattle.std.specs.Str.{bytes_eq}
+use Rattle.inv_base.specs.declared.tree.Kind.{Kind}
 use Rattle.inv_base.specs.declared.tree.Kind.TheVariants as kinds
 use Rattle.inv_base.specs.Tree.{Node, is_among, string_of}
 use Rattle.inv_terms.specs.Values.{is_blank, trimmed}
@@ -19,8 +20,11 @@ use Rattle.bind_meaning.specs.Names.{has_element_name, has_plain_name}
 abbrev pub number : Node → ℕ
 number node = node.number
 
+abbrev pub is_element_kind : Kind → Bool
+is_element_kind kind = elim kind [ kinds.Document ↦ false | kinds.Element ↦ true | kinds.Attribute ↦ false | kinds.Text ↦ false ]
+
 abbrev pub is_element : Node → Bool
-is_element node = elim node.kind [ kinds.Document ↦ false | kinds.Element ↦ true | kinds.Attribute ↦ false | kinds.Text ↦ false ]
+is_element node = is_element_kind node.kind
 
 -- the test holds of the node, tried only where the first one does
 abbrev pub both : (Node → Bool) → (Node → Bool) → Node → Bool

@@ -1,7 +1,7 @@
 -- What the code keeps of picks, beside the picks of the definitions.
 use Rattle.std.specs.Prelude.{List, map, option_and_then}
 use Rattle.bind_meaning.specs.declared.picked.Picked.{Picked}
-use Rattle.bind_meaning.specs.declared.picked.SeatedPick.{SeatedPick}
+use Rattle.bind_meaning.specs.declared.picked.PlacedPick.{PlacedPick}
 use Rattle.bind_meaning.specs.Picks.{Pick, carrier_in}
 use Rattle.bind_meaning.specs.Seats.{Placed}
 
@@ -17,8 +17,8 @@ kept pick = record {
 abbrev pub all_kept : List Pick → List Picked
 all_kept picks = map kept picks
 
-abbrev pub kept_seat : Placed → SeatedPick
-kept_seat p = record { picked = kept p.pick; outer = p.outer; inner = p.inner }
+abbrev pub kept_placed : Placed → PlacedPick
+kept_placed p = record { picked = kept p.pick; outer = p.outer; inner = p.inner }
 
-abbrev pub all_kept_seats : List Placed → List SeatedPick
-all_kept_seats ps = map kept_seat ps
+abbrev pub all_kept_placed : List Placed → List PlacedPick
+all_kept_placed ps = map kept_placed ps

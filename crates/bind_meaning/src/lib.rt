@@ -2,13 +2,15 @@
 //! of faults, and which form a row writes a term in.
 #![tactic(auto)]
 
+mod elements;
 mod fault;
 mod forms;
 mod picked;
 mod tables;
 
 pub use bind_rows::Which;
+pub use elements::{is_blank_at, is_element};
 pub use fault::{BindFault, BindKind};
 pub use forms::{form_for, letter_of, type_of};
-pub use picked::{Picked, Seated, SeatedPick};
+pub use picked::{Picked, PlacedPick, Seated};
 pub use tables::Syntax;

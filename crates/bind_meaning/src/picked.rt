@@ -6,7 +6,8 @@ use term_table::Slot;
 pub struct Picked {
     /// The node.
     pub node: NodeId,
-    /// The number of the row in its table, from 1.
+    /// The number of the row in its table, from 1: so the definitions of picks and the places of faults count rows. The lines of
+    /// a table, and the writing of an invoice, have a row's index, from 0.
     pub row: u32,
     /// The element that is an occurrence of the row's outer group, for a row that has one.
     pub outer: Option<NodeId>,
@@ -23,7 +24,7 @@ pub struct Seated {
 
 /// A pick with the occurrences in which it stands.
 #[derive(Clone, Copy, PartialEq, Eq)]
-pub struct SeatedPick {
+pub struct PlacedPick {
     pub picked: Picked,
     pub outer: Option<Seated>,
     pub inner: Option<Seated>,

@@ -75,7 +75,8 @@ is_root_or_line (Some outer) (Some inner) = false
 abbrev pub is_unmarked : Row → Bool
 is_unmarked row =
     is_element row.leaf
-    && (list_all is_unguarded row.path && (is_once row.repeats && (is_always row.written && (is_unjudged row.check && is_added_type (letter_of_form row.form)))))
+    && (list_all is_unguarded row.path
+    && (is_once row.repeats && (is_always row.written && (is_unjudged row.check && is_added_type (letter_of_form row.form)))))
 
 -- A user added the row.
 abbrev pub is_added : Row → Bool

@@ -1,3 +1,4 @@
 pub mod Same
 pub mod Namespaces
+pub mod Contents
 pub mod Added

@@ -3,6 +3,7 @@ ghost use Rattle.std.specs.Prelude.{◌≡◌, IfOk};
 use crate::guards::{Guard, Place, Test};
 use crate::names::{ElementName, Leaf};
 use crate::rows::{Content, Filler, Row, Step, Written};
+use crate::words::Word;
 use inv_base::{Many, Txt};
 use std::alloc::{AllocError, Global};
 
@@ -25,6 +26,12 @@ impl<T: Copied + Drop> Copied for Many<T> {
 
 impl Copied for Txt {
     fn copied(&self, _alloc: Global) -> Result<Txt, AllocError> {
+        self.try_clone()
+    }
+}
+
+impl Copied for Word {
+    fn copied(&self, _alloc: Global) -> Result<Word, AllocError> {
         self.try_clone()
     }
 }

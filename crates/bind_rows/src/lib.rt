@@ -11,6 +11,7 @@ mod namespaces;
 mod rows;
 mod same;
 mod tables;
+mod words;
 
 pub use added::{is_added, is_typed, letter_of_form};
 pub use copies::Copied;
@@ -21,3 +22,4 @@ pub use namespaces::{declared_by, prefix_of, uri_of};
 pub use rows::{Check, Content, Filler, Form, Repeats, Row, Step, Written};
 pub use same::{Same, are_same, is_same_or_none};
 pub use tables::Which;
+pub use words::Word;

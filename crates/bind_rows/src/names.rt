@@ -1,3 +1,4 @@
+use crate::words::Word;
 use inv_base::Txt;
 
 /// The namespaces in which UBL 2.1 and CII D16B declare their elements.
@@ -24,7 +25,7 @@ pub enum Namespace {
 /// The expanded name of an element.
 pub struct ElementName {
     pub namespace: Namespace,
-    pub local: Txt,
+    pub local: Word,
 }
 
 impl Drop for ElementName {

@@ -1,3 +1,6 @@
+ghost use Rattle.std.specs.Prelude.{◌≡◌};
+ghost use Rattle.bind_rows.specs.Contents.{has_term};
+
 use crate::guards::Guard;
 use crate::names::{ElementName, Leaf};
 use inv_base::{Many, Txt};
@@ -120,6 +123,18 @@ pub struct Row {
     pub repeats: Repeats,
     pub written: Written,
     pub check: Check,
+}
+
+impl Row {
+    /// Whether it has a business term, and no constant.
+    pub fn has_term(&self) -> bool
+        ensures { result ≡ has_term self.now }
+    {
+        match self.content {
+            Content::Term(_) => true,
+            Content::Constant(_) => false,
+        }
+    }
 }
 
 impl Drop for Row {

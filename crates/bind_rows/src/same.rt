@@ -6,6 +6,7 @@ ghost use Rattle.bind_rows.specs.Same as spec;
 use crate::guards::{Guard, Place, Test};
 use crate::names::{ElementName, Leaf, Namespace};
 use crate::rows::Step;
+use crate::words::Word;
 use inv_base::{Txt, is_same_text};
 use term_table::Group;
 
@@ -42,6 +43,14 @@ impl Same for Txt {
     ghost same = { bytes_eq };
 
     fn is_same(&self, other: &Txt) -> bool {
+        is_same_text(self.as_str(), other.as_str())
+    }
+}
+
+impl Same for Word {
+    ghost same = { bytes_eq };
+
+    fn is_same(&self, other: &Word) -> bool {
         is_same_text(self.as_str(), other.as_str())
     }
 }

@@ -1,5 +1,5 @@
 -- What a document is by the table that its root selects.
-use Rattle.std.proofs.Common.{◌≡◌, List, Option, Some, None, Result, Ok, Err}
+use Rattle.std.proofs.Common.{◌≡◌, Option, Some, None, Result, Ok, Err}
 use Rattle.code_lists.specs.CodeFiles.{Lists}
 use Rattle.inv_terms.specs.Listing.{IsInvoice}
 use Rattle.inv_terms.specs.Whole.{IsValid}

@@ -6,12 +6,12 @@ ghost use Rattle.bind_meaning.specs.Faults.{faults_in, passed_nodes};
 ghost use Rattle.bind_run.specs.Reading.{AreFormed, FindsFaults, IsWholeIfMemory, IsWithin, faults_by, rows_in};
 
 use crate::gathering::gather;
+use crate::judging::faults;
 use crate::reading::out_of_memory;
 use crate::roots::binding_of;
 use crate::tables::Tables;
 use bind_meaning::{BindFault, Which};
 use bind_table::Binding;
-use bind_terms::faults;
 use code_lists::CodeLists;
 use inv_base::{Steps, Txt};
 use node_arena::{Doc, NodeId};

@@ -4,7 +4,7 @@ ghost use Rattle.node_arena.specs.Moves.{tree_nodes};
 ghost use Rattle.bind_table.specs.WellFormed.{first_fault};
 ghost use Rattle.bind_meaning.specs.Currencies.{currencies};
 ghost use Rattle.bind_meaning.specs.Faults.{passed_nodes};
-ghost use Rattle.bind_meaning.specs.Kept.{all_kept, all_kept_seats};
+ghost use Rattle.bind_meaning.specs.Kept.{all_kept, all_kept_placed};
 ghost use Rattle.bind_meaning.specs.Picks.{all_picked, rows_where, has_any_term};
 ghost use Rattle.bind_meaning.specs.Terms.{in_order, term_picks, place_all};
 ghost use Rattle.bind_terms.specs.Reading.{indicator_picks, term_places};
@@ -43,7 +43,7 @@ pub(crate) fn gather<L: Ledger>(
     steps: &mut Steps<L>,
 ) -> Result<Gathered, AllocError>
     requires { first_fault table.now ≡ Ok tt }
-    ensures picks { IfOk result (λ gathered. gathered.seating.picks.items ≡ all_kept_seats (term_places (tree_nodes doc.now) table.now)) }
+    ensures picks { IfOk result (λ gathered. gathered.seating.picks.items ≡ all_kept_placed (term_places (tree_nodes doc.now) table.now)) }
     ensures currency { IfOk result (λ gathered. gathered.seating.invoice_currency ≡ (currencies (tree_nodes doc.now) table.now).invoice) }
     ensures indicators { IfOk result (λ gathered. gathered.others.indicators.items
         ≡ all_kept (in_order (tree_nodes doc.now) (indicator_picks (tree_nodes doc.now) table.now))) }
@@ -71,7 +71,7 @@ fn seat_all<L: Ledger>(
     requires formed { first_fault table.now ≡ Ok tt }
     requires picks { terms.items
         ≡ all_kept (in_order (tree_nodes doc.now) (all_picked (tree_nodes doc.now) (rows_where has_any_term table.now))) }
-    ensures picks { IfOk result (λ s. s.picks.items ≡ all_kept_seats (place_all (tree_nodes doc.now)
+    ensures picks { IfOk result (λ s. s.picks.items ≡ all_kept_placed (place_all (tree_nodes doc.now)
         (term_picks (tree_nodes doc.now) (currencies (tree_nodes doc.now) table.now) table.now))) }
     ensures currency { IfOk result (λ s. s.invoice_currency ≡ (currencies (tree_nodes doc.now) table.now).invoice) }
 {

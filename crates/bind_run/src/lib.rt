@@ -5,6 +5,7 @@
 mod extensions;
 mod faults;
 mod gathering;
+mod judging;
 mod laws;
 mod reading;
 mod roots;

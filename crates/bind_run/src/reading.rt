@@ -6,11 +6,11 @@ ghost use Rattle.bind_meaning.specs.Terms.{terms_of};
 ghost use Rattle.bind_run.specs.Reading.{AreFormed, Reads, IsWholeIfMemory, invoice_by, rows_in, want_of_memory};
 
 use crate::gathering::gather;
+use crate::judging::judge;
 use crate::roots::binding_of;
 use crate::tables::Tables;
 use bind_meaning::{BindFault, BindKind, Which};
 use bind_table::Binding;
-use bind_terms::judge;
 use code_lists::CodeLists;
 use inv_base::{Steps, Txt};
 use inv_terms::{Invoice, Name};

@@ -49,12 +49,14 @@ ascii (b ∷ bytes) e =
 pub is-word : (word b : List ℕ) → IsAscii word → IsUtf8 b → bytes_eq b word ≡ bytes_eq word (chars b)
 is-word word b a u =
     same_from_decides _ _ (bytes_eq-Decides b word)
-    (Decides-like _ (λ e. sym (encodes-chars b u) ∙ (ap encodes (sym e) ∙ encodes-IsAscii word a)) (λ e. sym (chars-IsAscii word a) ∙ ap chars (sym e)) (bytes_eq-Decides word (chars b)))
+    (Decides-like _ (λ e. sym (encodes-chars b u) ∙ (ap encodes (sym e) ∙ encodes-IsAscii word a)) (λ e. sym (chars-IsAscii word a) ∙ ap chars (sym e))
+    (bytes_eq-Decides word (chars b)))
 
 pub is-nothing : (b : List ℕ) → IsUtf8 b → (length b == 0) ≡ bytes_eq [] (chars b)
 is-nothing b u =
     same_from_decides _ _ (Decides-eqb (length b) 0)
-    (Decides-like _ (λ e. ap length (sym (encodes-chars b u) ∙ ap encodes (sym e))) (λ e. sym (ap chars (nil_from_length b e) ∙ chars-nil)) (bytes_eq-Decides [] (chars b)))
+    (Decides-like _ (λ e. ap length (sym (encodes-chars b u) ∙ ap encodes (sym e))) (λ e. sym (ap chars (nil_from_length b e) ∙ chars-nil))
+    (bytes_eq-Decides [] (chars b)))
 
 pub spelled-some : (uri local : List ℕ) → IsUtf8 uri → IsUtf8 local → (r : Bool) → r ≡ (length uri == 0) → bytes_eq local currency_id ≡ true
     → r ≡ is_spelled [] currency_id (record { uri = chars uri; local = chars local })
@@ -84,7 +86,8 @@ found-none p t f (node ∷ xs) h = elim (cases_Bool (p node)) [
   | inr e ↦ (let k = rw e at h in rw (f node e) (found-none p t f xs k))
 ]
 
-found-some : (p t : Node → Bool) → ((node : Node) → p node ≡ false → t node ≡ false) → (xs : List Node) (j m : ℕ) → Numbered j xs → first_that p xs ≡ Some m → FoundFrom p t xs j m
+found-some : (p t : Node → Bool) → ((node : Node) → p node ≡ false → t node ≡ false) → (xs : List Node) (j m : ℕ) → Numbered j xs → first_that p xs ≡ Some m
+    → FoundFrom p t xs j m
 found-some p t f [] j m n h = absurd (let bad : None ≡ Some m = h in cc)
 found-some p t f (node ∷ xs) j m n h = elim (cases_Bool (p node)) [
   | inl e ↦ (let k : Some node.number ≡ Some m = rw e at h in
@@ -92,7 +95,13 @@ found-some p t f (node ∷ xs) j m n h = elim (cases_Bool (p node)) [
       record { at = 0; place = (let num = n.0 in omega arith); within = omega arith; is_so = λ d. e; rest = refl })
   | inr e ↦ (let k = rw e at h in
       let found = found-some p t f xs (suc j) m n.1 k in
-      record { at = suc found.at; place = (let place = found.place in omega arith); within = (let within = found.within in omega arith); is_so = found.is_so; rest = rw (f node e) found.rest })
+      record {
+        at = suc found.at;
+        place = (let place = found.place in omega arith);
+        within = (let within = found.within in omega arith);
+        is_so = found.is_so;
+        rest = rw (f node e) found.rest;
+      })
 ]
 
 -- ---- the attributes of an element from one on
@@ -123,7 +132,8 @@ other-currency n node h = ap (λ b. elim b [ true ↦ has_plain_name currency_id
 Numbered-drop : (j k : ℕ) (nodes : List Node) → Numbered j nodes → Numbered (j + k) (drop k nodes)
 Numbered-drop j zero nodes h = subst (λ i. Numbered i nodes) (let z : j ≡ j + 0 = omega arith in z) h
 Numbered-drop j (suc k) [] h = tt
-Numbered-drop j (suc k) (node ∷ nodes) h = subst (λ i. Numbered i (drop k nodes)) (let z : suc j + k ≡ j + suc k = omega arith in z) (Numbered-drop (suc j) k nodes h.1)
+Numbered-drop j (suc k) (node ∷ nodes) h =
+    subst (λ i. Numbered i (drop k nodes)) (let z : suc j + k ≡ j + suc k = omega arith in z) (Numbered-drop (suc j) k nodes h.1)
 
 none-for : (P : ℕ → Type 0) → ForSome None P
 none-for P = λ x e. absurd (let bad : None ≡ Some x = e in cc)
@@ -137,20 +147,23 @@ pub record FirstFrom (nodes : List Node) (n k : ℕ) (next : Option ℕ) : Type 
   pub by : currency_from nodes n next ≡ currency_of_all nodes (filter (is_currency n) (drop k nodes))
   pub behind : ForSome next (λ m. k ≤ m)
 
-pub currency-first : (nodes : List Node) → Numbered 0 nodes → (n k : ℕ) (next : Option ℕ) → next ≡ first_that (is_attribute_of n) (drop k nodes) → FirstFrom nodes n k next
+pub currency-first : (nodes : List Node) → Numbered 0 nodes → (n k : ℕ) (next : Option ℕ) → next ≡ first_that (is_attribute_of n) (drop k nodes)
+    → FirstFrom nodes n k next
 currency-first nodes num n k None e = record {
   at = none-for (λ x. (x < length nodes) × (is_attribute_of n (tree_node nodes x) ≡ true));
   by = sym (ap (currency_of_all nodes) (found-none (is_attribute_of n) (is_currency n) (other-currency n) (drop k nodes) (sym e)));
   behind = none-for (λ x. k ≤ x);
 }
 currency-first nodes num n k (Some m) e =
-    let found = found-some (is_attribute_of n) (is_currency n) (other-currency n) (drop k nodes) k m (subst (λ i. Numbered i (drop k nodes)) (let z : 0 + k ≡ k = omega arith in z) (Numbered-drop 0 k nodes num)) (sym e) in
+    let found = found-some (is_attribute_of n) (is_currency n) (other-currency n) (drop k nodes) k m
+    (subst (λ i. Numbered i (drop k nodes)) (let z : 0 + k ≡ k = omega arith in z) (Numbered-drop 0 k nodes num)) (sym e) in
     let place : m ≡ k + found.at = found.place in
     let within : found.at < length (drop k nodes) = found.within in
     let at : tree_node nodes m ≡ get_or (drop k nodes) found.at _ = ap (tree_node nodes) place ∙ sym (get_or-drop k nodes found.at _) in
     let rest : drop found.at (drop k nodes) ≡ drop m nodes = drop-drop found.at k nodes ∙ ap (λ i. drop i nodes) (sym place) in
     record {
-      at = some-for (λ x. (x < length nodes) × (is_attribute_of n (tree_node nodes x) ≡ true)) m (omega (arith, length-drop k nodes), ap (is_attribute_of n) at ∙ found.is_so _);
+      at = some-for (λ x. (x < length nodes) × (is_attribute_of n (tree_node nodes x) ≡ true)) m
+          (omega (arith, length-drop k nodes), ap (is_attribute_of n) at ∙ found.is_so _);
       by = sym (ap (currency_of_all nodes) (found.rest ∙ ap (filter (is_currency n)) rest));
       behind = some-for (λ x. k ≤ x) m (omega arith);
     }
@@ -160,11 +173,13 @@ currency-first nodes num n k (Some m) e =
 -- What stands at an attribute, and behind it.
 currency-at : (nodes : List Node) (n m : ℕ) → m < length nodes
     → currency_of_all nodes (filter (is_currency n) (drop m nodes))
-    ≡ currency_of_all nodes (cond (is_currency n (tree_node nodes m)) (tree_node nodes m ∷ filter (is_currency n) (drop (m + 1) nodes)) (filter (is_currency n) (drop (m + 1) nodes)))
+    ≡ currency_of_all nodes (cond (is_currency n (tree_node nodes m)) (tree_node nodes m ∷ filter (is_currency n) (drop (m + 1) nodes))
+    (filter (is_currency n) (drop (m + 1) nodes)))
 currency-at nodes n m l = ap (λ xs. currency_of_all nodes (filter (is_currency n) xs)) (drop_more nodes m _ l)
 
 -- the next attribute is the first of the element behind this one
-next-is : (nodes : List Node) (n m : ℕ) → is_attribute_of n (tree_node nodes m) ≡ true → next_attribute nodes m ≡ first_that (is_attribute_of n) (drop (m + 1) nodes)
+next-is : (nodes : List Node) (n m : ℕ) → is_attribute_of n (tree_node nodes m) ≡ true
+    → next_attribute nodes m ≡ first_that (is_attribute_of n) (drop (m + 1) nodes)
 next-is nodes n m h =
     let parts = and_parts (is_nearest n (tree_node nodes m).above) (is_attribute (tree_node nodes m)) h in
     ap (λ b. if b then (elim (parent nodes m) [ None ↦ None | Some p ↦ first_that (is_attribute_of p) (behind m nodes) ]) else None) parts.1
@@ -197,7 +212,8 @@ pub currency-step : (nodes : List Node) → Numbered 0 nodes → (n m : ℕ) →
 currency-step nodes num n m l h own is =
     let rest : List Node = filter (is_currency n) (drop (m + 1) nodes) in
     let self : (tree_node nodes m).number ≡ m = number-at nodes num m l in
-    let test : is_currency n (tree_node nodes m) ≡ has_plain_name currency_id (tree_node nodes m) = ap (λ b. elim b [ true ↦ has_plain_name currency_id (tree_node nodes m) | false ↦ false ]) h in
+    let test : is_currency n (tree_node nodes m) ≡ has_plain_name currency_id (tree_node nodes m) =
+    ap (λ b. elim b [ true ↦ has_plain_name currency_id (tree_node nodes m) | false ↦ false ]) h in
     currency-at nodes n m l ∙ (ap (λ b. currency_of_all nodes (cond b (tree_node nodes m ∷ rest) rest)) test
     ∙ (go (has_plain_name currency_id (tree_node nodes m)) (is_blank (trimmed (string_at nodes m))) refl self rest
     ∙ ap (λ (o : Option (List ℕ)). after_own o (currency_of_all nodes rest)) (sym is)))
@@ -213,7 +229,11 @@ currency-step nodes num n m l h own is =
 
 pub numbered : (names : List Name) (nodes : List Placed) (n : ℕ) → AreNumbered n nodes → Numbered n (map (node_of names) nodes)
 numbered names [] n h = tt
-numbered names (node ∷ nodes) n h = (h.0, subst (λ k. Numbered k (map (node_of names) nodes)) (let z : n + 1 ≡ suc n = omega arith in z) (numbered names nodes (n + 1) h.1))
+numbered names (node ∷ nodes) n h = (
+  h.0,
+  subst (λ k. Numbered k (map (node_of names) nodes)) (let z : n + 1 ≡ suc n = omega arith in z)
+      (numbered names nodes (n + 1) h.1),
+)
 
 pub long : (doc : Document) → length (tree_nodes doc) ≡ length doc.nodes
 long doc = length-map doc.nodes (node_of doc.names)
@@ -221,12 +241,14 @@ long doc = length-map doc.nodes (node_of doc.names)
 -- ---- the loop over attributes, where it stands at one
 
 -- its own text is the answer
-pub loop-found : (nodes : List Node) → Numbered 0 nodes → (n m : ℕ) (own whole : Option (List ℕ)) (at : Option ℕ) (text : List ℕ) → at ≡ Some m → IsAttributeAt nodes n at
+pub loop-found : (nodes : List Node) → Numbered 0 nodes → (n m : ℕ) (own whole : Option (List ℕ)) (at : Option ℕ) (text : List ℕ) → at ≡ Some m
+    → IsAttributeAt nodes n at
     → currency_from nodes n at ≡ whole → own ≡ currency_at nodes m → own ≡ Some text → Some text ≡ whole
 loop-found nodes num n m own whole at text e is by o found =
     let place = is m e in
     let step = currency-step nodes num n m place.0 place.1 own o in
-    sym (ap (λ x. after_own x (currency_of_all nodes (filter (is_currency n) (drop (m + 1) nodes)))) found) ∙ (sym step ∙ (ap (currency_from nodes n) (sym e) ∙ by))
+    sym (ap (λ x. after_own x (currency_of_all nodes (filter (is_currency n) (drop (m + 1) nodes)))) found)
+    ∙ (sym step ∙ (ap (currency_from nodes n) (sym e) ∙ by))
 
 -- it has none, and the answer is that of those behind it
 pub loop-passed : (nodes : List Node) → Numbered 0 nodes → (n m : ℕ) (own whole : Option (List ℕ)) (at next : Option ℕ) → at ≡ Some m → IsAttributeAt nodes n at
@@ -237,7 +259,8 @@ loop-passed nodes num n m own whole at next e is by o none moved =
     let step = currency-step nodes num n m place.0 place.1 own o in
     let first = currency-next nodes num n m next place.1 moved in (
       first.at,
-      first.by ∙ (sym (ap (λ x. after_own x (currency_of_all nodes (filter (is_currency n) (drop (m + 1) nodes)))) none) ∙ (sym step ∙ (ap (currency_from nodes n) (sym e) ∙ by))),
+      first.by ∙ (sym (ap (λ x. after_own x (currency_of_all nodes (filter (is_currency n) (drop (m + 1) nodes)))) none)
+          ∙ (sym step ∙ (ap (currency_from nodes n) (sym e) ∙ by))),
       smaller next first.behind,
     )
   where

@@ -55,7 +55,9 @@ terms-have [] i row filler h w term e = absurd (let bad : None ≡ Some row = h 
 terms-have (x ∷ rows) zero row filler h w term e =
     let same : x ≡ row = cc in
     list_any-append (same_term term) (beside x.written) (terms_beside rows)
-    ∙ or_left (list_any (same_term term) (beside x.written)) _ (ap (λ (r : Row). list_any (same_term term) (beside r.written)) same ∙ (ap (λ v. list_any (same_term term) (beside v)) w ∙ or_left (same_term term filler.beside) false e))
+    ∙ or_left (list_any (same_term term) (beside x.written)) _
+    (ap (λ (r : Row). list_any (same_term term) (beside r.written)) same
+    ∙ (ap (λ v. list_any (same_term term) (beside v)) w ∙ or_left (same_term term filler.beside) false e))
 terms-have (x ∷ rows) (suc i) row filler h w term e =
     list_any-append (same_term term) (beside x.written) (terms_beside rows)
     ∙ or_right (list_any (same_term term) (beside x.written)) _ (terms-have rows i row filler h w term e)
@@ -64,12 +66,14 @@ marks-alike : (h k : ℕ) (a b : Term) → same_mark (term_mark h a) (term_mark 
 marks-alike h k a b = grind (arith, nat_tests)
 
 -- a pick's mark is that of the term in the element exactly where the pick has the term and stands in the element
-mark-point : (nodes : List Node) (terms : List Term) (term : Term) (h : ℕ) → ((other : Term) → same_term other term ≡ true → list_any (same_term other) terms ≡ true)
+mark-point : (nodes : List Node) (terms : List Term) (term : Term) (h : ℕ)
+    → ((other : Term) → same_term other term ≡ true → list_any (same_term other) terms ≡ true)
     → (row : Row) (n : ℕ) → passes (same_mark (term_mark h term)) (mark_beside nodes terms row n) ≡ (has_term term row && (holder nodes row.leaf n == h))
 mark-point nodes terms term h all row n = go (term_in row.content)
   where
     third : (c : Bool) (other : Term) → list_any (same_term other) terms ≡ c
-        → passes (same_mark (term_mark h term)) (elim c [ true ↦ Some (term_mark (holder nodes row.leaf n) other) | false ↦ None ]) ≡ (same_term other term && (holder nodes row.leaf n == h))
+        → passes (same_mark (term_mark h term)) (elim c [ true ↦ Some (term_mark (holder nodes row.leaf n) other) | false ↦ None ])
+        ≡ (same_term other term && (holder nodes row.leaf n == h))
     third true other e = marks-alike h (holder nodes row.leaf n) term other
     third false other e = elim (cases_Bool (same_term other term)) [
       | inl is ↦ absurd (false≢true (sym e ∙ all other is))
@@ -93,12 +97,14 @@ marks-are nodes s rows p is filler all =
     let h : ℕ = holder nodes p.row.leaf p.node in
     let test : Mark → Bool = same_mark (term_mark h filler.beside) in
     let mark : Picked → Option Mark = λ (q : Picked). mark_beside nodes (terms_beside rows) (row_at rows q.row) q.node in
-    let within : All (λ (q : Pick). q.node < length nodes) ps = All-weaker (IsPick nodes rows) (λ (q : Pick). q.node < length nodes) (λ q w. w.placed.node) ps (are-picks nodes s rows) in
+    let within : All (λ (q : Pick). q.node < length nodes) ps =
+    All-weaker (IsPick nodes rows) (λ (q : Pick). q.node < length nodes) (λ q w. w.placed.node) ps (are-picks nodes s rows) in
     any-filter_map test mark (all_kept (in_order nodes ps))
     ∙ (any-map (λ q. passes test (mark q)) kept (in_order nodes ps)
     ∙ (any-in_order (λ q. passes test (mark (kept q))) nodes ps s.numbered within
     ∙ any-alike (λ q. passes test (mark (kept q))) (λ (q : Pick). has_term filler.beside q.row && bytes_eq (around_last q.elements) (around_last p.elements)) ps
-    (All-weaker (IsPick nodes rows) (λ q. passes test (mark (kept q)) ≡ (has_term filler.beside q.row && bytes_eq (around_last q.elements) (around_last p.elements)))
+    (All-weaker (IsPick nodes rows) (λ q. passes test (mark (kept q))
+    ≡ (has_term filler.beside q.row && bytes_eq (around_last q.elements) (around_last p.elements)))
     (λ q w. ap (λ (r : Row). passes test (mark_beside nodes (terms_beside rows) r q.node)) (row-is rows q w.of_row)
     ∙ (mark-point nodes (terms_beside rows) filler.beside h all q.row q.node
     ∙ ap (λ b. has_term filler.beside q.row && b)
@@ -137,7 +143,8 @@ filler-is nodes s rows marks same p is = go p.row.written refl
 
 stays-is : (nodes : List Node) → Sound nodes → (rows : List Row) (c : Currencies) (marks : List Mark)
     → ((m : Mark) → has_mark marks m ≡ has_mark (marks_beside nodes rows (all_kept (in_order nodes (picked_from nodes 1 rows)))) m)
-    → (p : Pick) → IsPick nodes rows p → stays nodes rows c marks (kept p) ≡ (not (is_filler nodes (picked_from nodes 1 rows) p) && is_in_its_currency nodes c p)
+    → (p : Pick) → IsPick nodes rows p → stays nodes rows c marks (kept p)
+    ≡ (not (is_filler nodes (picked_from nodes 1 rows) p) && is_in_its_currency nodes c p)
 stays-is nodes s rows c marks same p is =
     ap (λ (r : Row). not (is_filler_at nodes marks r p.node) && is_in_its_currency nodes c (pick_of r p.node)) (row-is rows p is.of_row)
     ∙ ap (λ b. not b && is_in_its_currency nodes c p) (filler-is nodes s rows marks same p is)
@@ -152,7 +159,8 @@ staying-are nodes s rows c marks same =
     let suits : Pick → Bool = is_in_its_currency nodes c in
     filter-map kept (stays nodes rows c marks) (in_order nodes ps)
     ∙ ap all_kept (filter-alike (λ p. stays nodes rows c marks (kept p)) (λ p. counts p && suits p) (in_order nodes ps)
-    (All-weaker (IsPick nodes rows) (λ p. stays nodes rows c marks (kept p) ≡ (counts p && suits p)) (λ p is. stays-is nodes s rows c marks same p is) (in_order nodes ps)
+    (All-weaker (IsPick nodes rows) (λ p. stays nodes rows c marks (kept p) ≡ (counts p && suits p)) (λ p is. stays-is nodes s rows c marks same p is)
+    (in_order nodes ps)
     (All-in_order (IsPick nodes rows) nodes ps (are-picks nodes s rows)))
     ∙ (sym (filter-twice suits counts (in_order nodes ps))
     ∙ (ap (filter suits) (sym (in_order-filter nodes counts ps)) ∙ sym (in_order-filter nodes suits (filter counts ps)))))

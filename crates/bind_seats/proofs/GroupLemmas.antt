@@ -1,7 +1,7 @@
 -- In a well-formed table inner groups stand in invoice lines alone, and groups are told apart by their numbers.
-use Rattle.std.proofs.Common.{◌≡◌, ℕ, ◌+◌, zero, suc, Bool, true, false, ◌||◌, List, [], ◌∷◌, get_or, Option, Some, None, refl, sym, ap, ◌∙◌, inl, inr}
-use Rattle.std.specs.Prelude.{slice_get, is_none, is_some, Result, Ok, Err}
-use Rattle.std.proofs.lemmas.Bool.{false≢true, cases_Bool, and_parts, and_from}
+use Rattle.std.proofs.Common.{◌≡◌, ℕ, Bool, true, false, List, [], get_or, Option, Some, None, refl, sym, ap, ◌∙◌}
+use Rattle.std.specs.Prelude.{slice_get, is_none, is_some, Ok}
+use Rattle.std.proofs.lemmas.Bool.{false≢true, and_parts, and_from}
 use Rattle.std.proofs.lemmas.List.Quantifiers.{position-Some}
 use Rattle.term_table.specs.declared.groups.Group.{Group}
 use Rattle.term_table.specs.declared.groups.Group.TheVariants as groups
@@ -9,7 +9,7 @@ use Rattle.term_table.specs.declared.terms.Term.{Term}
 use Rattle.term_table.specs.declared.terms.TermRow.{TermRow}
 use Rattle.term_table.specs.declared.terms.Letter.TheVariants as letters
 use Rattle.term_table.specs.declared.terms.Mark.TheVariants as marks
-use Rattle.term_table.specs.SemanticModel.{same_term, is_extension, listing_rows}
+use Rattle.term_table.specs.SemanticModel.{same_term, listing_rows}
 use Rattle.term_table.specs.Groups.{same_group, parent_of, occurrence_of}
 use Rattle.term_table.specs.Contexts.{outer_group, inner_group, same_groups, stands_in}
 use Rattle.term_table.specs.Rows.{row_in, is_row_in}
@@ -22,8 +22,6 @@ use Rattle.bind_rows.specs.Same.{same_step}
 use Rattle.bind_table.specs.Sound.{is_unplaced}
 use Rattle.bind_table.specs.WellFormed.{first_fault}
 use Rattle.bind_table.proofs.SoundLemmas.{sound-at}
-use Rattle.bind_table.specs.declared.judging.TableKind.{TableKind}
-use Rattle.bind_table.specs.declared.judging.TableFault.{TableFault}
 use Rattle.bind_meaning.specs.Picks.{has_any_term, term_in}
 
 -- ---- groups
@@ -108,12 +106,15 @@ some_of : (o : Option ℕ) → is_none o ≡ false → (k : ℕ) × (o ≡ Some 
 some_of None h = absurd (false≢true (sym h))
 some_of (Some k) h = (k, refl)
 
-known-row : StepLaw → (term : Term) (row : Row) (inner : Group) → is_none (row_in term row.outer row.inner) ≡ false → row.inner ≡ Some inner → row.outer ≡ Some groups.InvoiceLine
+known-row : StepLaw → (term : Term) (row : Row) (inner : Group) → is_none (row_in term row.outer row.inner) ≡ false → row.inner ≡ Some inner
+    → row.outer ≡ Some groups.InvoiceLine
 known-row law term row inner h e =
     let found = some_of (row_in term row.outer row.inner) h in
     let at = position-Some (is_row_in term row.outer row.inner) listing_rows found.0 blank found.1 in
-    let stands = and_parts (same_term (get_or listing_rows found.0 blank).term term) (stands_in (get_or listing_rows found.0 blank).group row.outer row.inner) at.1 in
-    outer-is law row.outer inner (get_or listing_rows found.0 blank).group (ap (stands_in (get_or listing_rows found.0 blank).group row.outer) (sym e) ∙ stands.1)
+    let stands = and_parts (same_term (get_or listing_rows found.0 blank).term term)
+    (stands_in (get_or listing_rows found.0 blank).group row.outer row.inner) at.1 in
+    outer-is law row.outer inner (get_or listing_rows found.0 blank).group
+    (ap (stands_in (get_or listing_rows found.0 blank).group row.outer) (sym e) ∙ stands.1)
 
 -- A row with a term and an inner group stands in invoice lines.
 pub nested-row : StepLaw → (rows : List Row) → first_fault rows ≡ Ok tt → (i : ℕ) (row : Row) → slice_get rows i ≡ Some row → has_any_term row ≡ true

@@ -19,7 +19,8 @@ IsBehind node = AllByRecursion (λ a. a < node.number) node.above
 raised : (n m : ℕ) (ns : List ℕ) → n ≤ m → AllByRecursion (λ a. a < n) ns → AllByRecursion (λ a. a < m) ns
 raised n m ns l h = by-weaker (λ a. a < n) (λ a. a < m) (λ a k. omega (arith, k, l)) ns h
 
-attributes-behind : (above : List ℕ) (n : ℕ) (attributes : List Attribute) → AllByRecursion (λ a. a < n) above → All IsBehind (nodes_of_attributes above n attributes)
+attributes-behind : (above : List ℕ) (n : ℕ) (attributes : List Attribute) → AllByRecursion (λ a. a < n) above
+    → All IsBehind (nodes_of_attributes above n attributes)
 attributes-behind above n [] h = All-nil IsBehind
 attributes-behind above n (attribute ∷ attributes) h =
     All-cons IsBehind _ (nodes_of_attributes above (n + 1) attributes) h (attributes-behind above (n + 1) attributes (raised n (n + 1) above (omega arith) h))
@@ -30,7 +31,8 @@ nodes-behind above n (a_text characters rest) h =
     All-cons IsBehind _ (nodes_of above (n + 1) rest) h (nodes-behind above (n + 1) rest (raised n (n + 1) above (omega arith) h))
 nodes-behind above n (an_element name attributes inside rest) h =
     All-cons IsBehind _ _ h
-    (All-append IsBehind (nodes_of_attributes (n ∷ above) (n + 1) attributes) _ (attributes-behind (n ∷ above) (n + 1) attributes (omega arith, raised n (n + 1) above (omega arith) h))
+    (All-append IsBehind (nodes_of_attributes (n ∷ above) (n + 1) attributes) _
+    (attributes-behind (n ∷ above) (n + 1) attributes (omega arith, raised n (n + 1) above (omega arith) h))
     (All-append IsBehind (nodes_of (n ∷ above) (n + (1 + length attributes)) inside) _
     (nodes-behind (n ∷ above) (n + (1 + length attributes)) inside (omega arith, raised n (n + (1 + length attributes)) above (omega arith) h))
     (nodes-behind above (n + (1 + (length attributes + size inside))) rest (raised n (n + (1 + (length attributes + size inside))) above (omega arith) h))))
@@ -43,7 +45,8 @@ first-before n p [] h e = absurd (let bad : None ≡ Some p = e in cc)
 first-before n p (a ∷ ns) h e = let same : a ≡ p = cc in subst (λ k. k < n) same h.0
 
 parent-before : (nodes : List Node) → Numbered 0 nodes → All IsBehind nodes → (n p : ℕ) → n < length nodes → parent nodes n ≡ Some p → p < n
-parent-before nodes num h n p l e = subst (λ k. p < k) (number-at nodes num n l) (first-before (tree_node nodes n).number p (tree_node nodes n).above (h n _ l) e)
+parent-before nodes num h n p l e = subst (λ k. p < k) (number-at nodes num n l)
+    (first-before (tree_node nodes n).number p (tree_node nodes n).above (h n _ l) e)
 
 -- ---- a document
 

@@ -209,18 +209,23 @@ itself n ns = rw (same n) refl
 missing : (n : ℕ) (ns : List ℕ) → is_among n (n ∷ ns) ≡ is_among n [] → ⊥
 missing n ns h = false≢true (sym h ∙ itself n ns)
 
-heads : (n m : ℕ) (ns ms : List ℕ) → AllByRecursion (λ k. n < k) ns → AllByRecursion (λ k. m < k) ms → ((k : ℕ) → is_among k (n ∷ ns) ≡ is_among k (m ∷ ms)) → n ≡ m
+heads : (n m : ℕ) (ns ms : List ℕ) → AllByRecursion (λ k. n < k) ns → AllByRecursion (λ k. m < k) ms → ((k : ℕ) → is_among k (n ∷ ns) ≡ is_among k (m ∷ ms))
+    → n ≡ m
 heads n m ns ms hn hm same = elim (cases_order n m) [
   | inl e ↦ e
-  | inr (inl lt) ↦ absurd (false≢true (sym (none-below n (m ∷ ms) (lt, by-weaker (λ k. m < k) (λ k. n < k) (λ k l. omega (arith, l)) ms hm)) ∙ (sym (same n) ∙ itself n ns)))
-  | inr (inr lt) ↦ absurd (false≢true (sym (none-below m (n ∷ ns) (lt, by-weaker (λ k. n < k) (λ k. m < k) (λ k l. omega (arith, l)) ns hn)) ∙ (same m ∙ itself m ms)))
+  | inr (inl lt) ↦ absurd (false≢true (sym (none-below n (m ∷ ms) (lt, by-weaker (λ k. m < k) (λ k. n < k) (λ k l. omega (arith, l)) ms hm))
+      ∙ (sym (same n) ∙ itself n ns)))
+  | inr (inr lt) ↦ absurd (false≢true (sym (none-below m (n ∷ ns) (lt, by-weaker (λ k. n < k) (λ k. m < k) (λ k l. omega (arith, l)) ns hn))
+      ∙ (same m ∙ itself m ms)))
 ]
 
-tails : (n : ℕ) (ns ms : List ℕ) → AllByRecursion (λ k. n < k) ns → AllByRecursion (λ k. n < k) ms → ((k : ℕ) → is_among k (n ∷ ns) ≡ is_among k (n ∷ ms)) → (k : ℕ) → is_among k ns ≡ is_among k ms
+tails : (n : ℕ) (ns ms : List ℕ) → AllByRecursion (λ k. n < k) ns → AllByRecursion (λ k. n < k) ms → ((k : ℕ) → is_among k (n ∷ ns) ≡ is_among k (n ∷ ms))
+    → (k : ℕ) → is_among k ns ≡ is_among k ms
 tails n ns ms hn hm same k = go (k == n) refl (same k)
   where
     go : (b : Bool) → (k == n) ≡ b → ((k == n) || is_among k ns) ≡ ((k == n) || is_among k ms) → is_among k ns ≡ is_among k ms
-    go true e h = let is : k ≡ n = eqb-true k n e in ap (λ x. is_among x ns) is ∙ (none-below n ns hn ∙ (sym (none-below n ms hm) ∙ sym (ap (λ x. is_among x ms) is)))
+    go true e h = let is : k ≡ n = eqb-true k n e in ap (λ x. is_among x ns) is
+        ∙ (none-below n ns hn ∙ (sym (none-below n ms hm) ∙ sym (ap (λ x. is_among x ms) is)))
     go false e h = rw e at h
 
 -- Numbers that rise and have the same members are the same.

@@ -58,11 +58,13 @@ none-counted : {X : Type 0} (p : X → Bool) (xs : List X) → ((k : ℕ) (d : X
 none-counted p [] h = refl
 none-counted p (x ∷ xs) h = rw (h 0 x (omega arith)) (none-counted p xs (λ k d l. h (suc k) d (omega arith)))
 
-pub counted : {X : Type 0} (p : X → Bool) (xs : List X) (i : ℕ) → i ≤ length xs → IsPartitionPoint (λ x. p x ≡ true) (λ x. p x ≡ false) xs i → i ≡ length (filter p xs)
+pub counted : {X : Type 0} (p : X → Bool) (xs : List X) (i : ℕ) → i ≤ length xs → IsPartitionPoint (λ x. p x ≡ true) (λ x. p x ≡ false) xs i
+    → i ≡ length (filter p xs)
 counted p xs zero le h = sym (none-counted p xs (λ k d l. h.1 k d (omega arith) l))
 counted p [] (suc i) le h = absurd (omega arith)
 counted p (x ∷ xs) (suc i) le h =
-    rw (h.0 0 x (omega arith) (omega arith)) (ap suc (counted p xs i (omega arith) (λ k d lo hi. h.0 (suc k) d (omega arith) (omega arith), λ k d lo hi. h.1 (suc k) d (omega arith) (omega arith))))
+    rw (h.0 0 x (omega arith) (omega arith))
+    (ap suc (counted p xs i (omega arith) (λ k d lo hi. h.0 (suc k) d (omega arith) (omega arith), λ k d lo hi. h.1 (suc k) d (omega arith) (omega arith))))
 
 pub before_is_parted : (ms : List Mark) (m : Mark) → rises ms ≡ true → IsPartitionedBy (λ k. comes_before k m) ms
 before_is_parted ms m r = parted (λ k. comes_before k m) (λ a b. before-later a b m) ms r
@@ -79,11 +81,20 @@ pub counts : (m : Mark) (ms : List Mark)
     → length (filter (λ k. comes_before k m) ms) ≡ length (filter (λ k. comes_before_kind k m) ms) + length (filter (is_lower m) ms)
 counts m [] = refl
 counts m (k ∷ ms) =
-    omega (arith, length-cons (λ x. comes_before x m) k ms, length-cons (λ x. comes_before_kind x m) k ms, length-cons (is_lower m) k ms, before-parts k m, counts m ms)
+    omega (
+      arith,
+      length-cons (λ x. comes_before x m) k ms,
+      length-cons (λ x. comes_before_kind x m) k ms,
+      length-cons
+          (is_lower m) k ms,
+      before-parts k m,
+      counts m ms,
+    )
 
 -- ---- a mark that is looked up
 
-none-same : (k m : Mark) (ms : List Mark) → comes_before k m ≡ false → list_all (comes_before k) ms ≡ true → (length (filter (λ x. comes_before x m) ms) ≡ 0) × (has_mark ms m ≡ false)
+none-same : (k m : Mark) (ms : List Mark) → comes_before k m ≡ false → list_all (comes_before k) ms ≡ true
+    → (length (filter (λ x. comes_before x m) ms) ≡ 0) × (has_mark ms m ≡ false)
 none-same k m [] h a = (refl, refl)
 none-same k m (x ∷ ms) h a =
     let both = and_parts (comes_before k x) (list_all (comes_before k) ms) a in
@@ -102,9 +113,11 @@ abbrev Found : Mark → List Mark → Mark → Type 0
 Found m ms d =
     has_mark ms m ≡ (nat_lt (length (filter (λ x. comes_before x m) ms)) (length ms) && same_mark m (get_or ms (length (filter (λ x. comes_before x m) ms)) d))
 
-found-cons : (m k : Mark) (ms : List Mark) (d : Mark) (b : Bool) → comes_before k m ≡ b → list_all (comes_before k) ms ≡ true → Found m ms d → Found m (k ∷ ms) d
+found-cons : (m k : Mark) (ms : List Mark) (d : Mark) (b : Bool) → comes_before k m ≡ b → list_all (comes_before k) ms ≡ true → Found m ms d
+    → Found m (k ∷ ms) d
 found-cons m k ms d true e all h =
-    rw (e, before-other k m e) (h ∙ ap (λ b. b && same_mark m (get_or ms (length (filter (λ x. comes_before x m) ms)) d)) (sym (lt-suc (length (filter (λ x. comes_before x m) ms)) (length ms))))
+    rw (e, before-other k m e) (h ∙ ap (λ b. b && same_mark m (get_or ms (length (filter (λ x. comes_before x m) ms)) d))
+    (sym (lt-suc (length (filter (λ x. comes_before x m) ms)) (length ms))))
 found-cons m k ms d false e all h = let none = none-same k m ms e all in
     rw (e, none.0, none.1) (or-false (same_mark m k) ∙ ap (λ b. b && same_mark m k) (sym (lt-ltb 0 (suc (length ms)) (omega arith))))
 
@@ -124,7 +137,8 @@ abbrev pub mark_eq : Mark → Mark → Bool
 mark_eq a b = eqb a.around b.around && (eqb a.kind b.kind && eqb a.number b.number)
 
 mark_cmp-total : IsTotalOrder mark_cmp
-mark_cmp-total = then_total (on_total (λ (m : Mark). m.around) nat_cmp_total) (then_total (on_total (λ (m : Mark). m.kind) nat_cmp_total) (on_total (λ (m : Mark). m.number) nat_cmp_total))
+mark_cmp-total = then_total (on_total (λ (m : Mark). m.around) nat_cmp_total)
+    (then_total (on_total (λ (m : Mark). m.kind) nat_cmp_total) (on_total (λ (m : Mark). m.number) nat_cmp_total))
 
 pub mark_eq-same : (a b : Mark) → mark_eq a b ≡ same_mark b a
 mark_eq-same a b = grind (arith, nat_tests)
@@ -206,7 +220,8 @@ few-from m n (k ∷ ms) r a =
     let parts = and_parts (list_all (comes_before k) ms) (rises ms) r in
     let rest = and_parts (at_least m n k) (list_all (at_least m n) ms) a in
     elim (cases_Bool (is_lower m k)) [
-      | inl e ↦ (let more = few-from m (k.number + 1) ms parts.1 (all-follow (comes_before k) (at_least m (k.number + 1)) (λ x. after-least m k x e) ms parts.0) in
+      | inl e ↦ (let more = few-from m (k.number + 1) ms parts.1
+          (all-follow (comes_before k) (at_least m (k.number + 1)) (λ x. after-least m k x e) ms parts.0) in
           let at = one-lower m k n e rest.0 in
           rw e (omega arith))
       | inr e ↦ rw e (few-from m n ms parts.1 rest.1)

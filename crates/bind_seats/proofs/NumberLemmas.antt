@@ -25,7 +25,8 @@ numbers_beside m ms = map number_in (filter (is_beside m) ms)
 higher : (m a b : Mark) → is_beside m a ≡ true → is_beside m b ≡ true → comes_before a b ≡ true → a.number < b.number
 higher m a b h k c = grind (arith, nat_tests)
 
-beside-higher : (m k : Mark) (ms : List Mark) → is_beside m k ≡ true → list_all (comes_before k) ms ≡ true → AllByRecursion (λ n. k.number < n) (numbers_beside m ms)
+beside-higher : (m k : Mark) (ms : List Mark) → is_beside m k ≡ true → list_all (comes_before k) ms ≡ true
+    → AllByRecursion (λ n. k.number < n) (numbers_beside m ms)
 beside-higher m k [] h a = tt
 beside-higher m k (x ∷ ms) h a =
     let parts = and_parts (comes_before k x) (list_all (comes_before k) ms) a in
@@ -69,7 +70,10 @@ nodes-among n elements (node ∷ nodes) = elim (cases_Bool (n == node.number)) [
   | inl e ↦ (let same : n ≡ node.number = eqb-true n node.number e in elim (cases_Bool (is_among node.number elements)) [
     | inl f ↦ rw f (rw e (sym (ap (λ k. is_among k elements) same ∙ f)))
     | inr f ↦ rw f (nodes-among n elements nodes ∙ (let out : is_among n elements ≡ false = ap (λ k. is_among k elements) same ∙ f in
-        ap (λ b. is_among n (map number nodes) && b) out ∙ (both-false (is_among n (map number nodes)) ∙ sym (ap (λ b. ((n == node.number) || is_among n (map number nodes)) && b) out ∙ both-false ((n == node.number) || is_among n (map number nodes))))))
+        ap (λ b. is_among n (map number nodes) && b) out
+        ∙ (both-false (is_among n (map number nodes))
+        ∙ sym (ap (λ b. ((n == node.number) || is_among n (map number nodes)) && b) out
+        ∙ both-false ((n == node.number) || is_among n (map number nodes))))))
   ])
   | inr e ↦ elim (cases_Bool (is_among node.number elements)) [
     | inl f ↦ rw f (rw e (nodes-among n elements nodes))
@@ -116,7 +120,8 @@ lower-are m ms =
     ∙ ap length (sym (filter-map number_in (λ k. nat_lt k m.number) (filter (is_beside m) ms))))
 
 nodes-are : (n : ℕ) (elements : List ℕ) (nodes : List Node)
-    → length (filter (λ (node : Node). nat_lt node.number n && is_among node.number elements) nodes) ≡ length (filter (λ k. nat_lt k n) (nodes_among elements nodes))
+    → length (filter (λ (node : Node). nat_lt node.number n && is_among node.number elements) nodes)
+    ≡ length (filter (λ k. nat_lt k n) (nodes_among elements nodes))
 nodes-are n elements nodes =
     let low : Node → Bool = λ (node : Node). nat_lt node.number n in
     let own : Node → Bool = λ (node : Node). is_among node.number elements in
@@ -124,10 +129,12 @@ nodes-are n elements nodes =
     ∙ (sym (length-map (filter low (filter own nodes)) number) ∙ ap length (sym (filter-map number (λ k. nat_lt k n) (filter own nodes))))
 
 -- Where marks of a node and a kind have the numbers of elements, the place of one is that of its element.
-pub place-is : (nodes : List Node) → Numbered 0 nodes → (m : Mark) (ms : List Mark) → rises ms ≡ true → (elements : List ℕ) → All (λ k. k < length nodes) elements
+pub place-is : (nodes : List Node) → Numbered 0 nodes → (m : Mark) (ms : List Mark) → rises ms ≡ true → (elements : List ℕ)
+    → All (λ k. k < length nodes) elements
     → ((n : ℕ) → has_mark ms (with_number m n) ≡ is_among n elements) → place_of ms m ≡ place_among nodes elements m.number
 place-is nodes h m ms r elements within same =
     let lists : numbers_beside m ms ≡ nodes_among elements nodes =
-    same-rising (numbers_beside m ms) (nodes_among elements nodes) (beside-rise m ms r) (numbers-rise (λ (node : Node). is_among node.number elements) nodes 0 h)
+    same-rising (numbers_beside m ms) (nodes_among elements nodes) (beside-rise m ms r)
+    (numbers-rise (λ (node : Node). is_among node.number elements) nodes 0 h)
     (λ n. beside-among m n ms ∙ (same n ∙ sym (elements-are n elements nodes h within))) in
     ap (λ n. 1 + n) (lower-are m ms ∙ (ap (λ ns. length (filter (λ k. nat_lt k m.number) ns)) lists ∙ sym (nodes-are m.number elements nodes)))

@@ -23,7 +23,8 @@ in_order-filter (node ∷ nodes) test ps =
 
 pub All-in_order : (P : Pick → Type 0) (nodes : List Node) (ps : List Pick) → All P ps → All P (in_order nodes ps)
 All-in_order P [] ps h = All-nil P
-All-in_order P (node ∷ nodes) ps h = All-append P (filter (stands_at node) ps) (in_order nodes ps) (All-filter (stands_at node) P ps h) (All-in_order P nodes ps h)
+All-in_order P (node ∷ nodes) ps h = All-append P (filter (stands_at node) ps) (in_order nodes ps) (All-filter (stands_at node) P ps h)
+    (All-in_order P nodes ps h)
 
 -- a pick's node is one of these
 abbrev stands_in : List Node → Pick → Bool
@@ -83,7 +84,9 @@ first-from j (node ∷ nodes) p ps h lo hi r = elim (cases_Bool (stands_at node 
       let num = h.0 in
       let other : p.node ≡ node.number → ⊥ = eqb-false p.node node.number e in
       let up : suc j ≤ p.node = next num other lo in
-      let none : filter (stands_at node) ps ≡ [] = filter-none (stands_at node) ps (others ps (by-weaker (λ n. p.node < n) (λ n. node.number < n) (λ n l. omega (arith, l)) (map (λ (q : Pick). q.node) ps) r)) in
+      let none : filter (stands_at node) ps ≡ [] =
+      filter-none (stands_at node) ps (others ps
+      (by-weaker (λ n. p.node < n) (λ n. node.number < n) (λ n l. omega (arith, l)) (map (λ (q : Pick). q.node) ps) r)) in
       rw (e, none) (first-from (suc j) nodes p ps h.1 up (omega arith) r))
 ]
   where

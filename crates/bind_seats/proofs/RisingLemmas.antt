@@ -47,10 +47,12 @@ ends-are : (nodes : List Node) (leaf : Leaf) (path : List Step) (n : ℕ)
 ends-are nodes leaf [] n = append-nil (leaves_of nodes leaf n)
 ends-are nodes leaf (step ∷ path) n =
     flat_map-flat_map (λ way. leaves_of nodes leaf (last_from n way)) (λ m. map (λ way. m ∷ way) (ways nodes path m)) (met nodes step n)
-    ∙ flat_map-alike (λ m. flat_map (λ way. leaves_of nodes leaf (last_from n way)) (map (λ way. m ∷ way) (ways nodes path m))) (ends nodes leaf path) (met nodes step n)
+    ∙ flat_map-alike (λ m. flat_map (λ way. leaves_of nodes leaf (last_from n way)) (map (λ way. m ∷ way) (ways nodes path m))) (ends nodes leaf path)
+    (met nodes step n)
     (λ m. flat_map-map (λ way. leaves_of nodes leaf (last_from n way)) (λ way. m ∷ way) (ways nodes path m) ∙ ends-are nodes leaf path m)
 
-nodes-of_way : (nodes : List Node) (k : ℕ) (row : Row) (way : List ℕ) → map (λ (p : Pick). p.node) (picks_of_way nodes k row way) ≡ leaves_of nodes row.leaf (last_from 0 way)
+nodes-of_way : (nodes : List Node) (k : ℕ) (row : Row) (way : List ℕ)
+    → map (λ (p : Pick). p.node) (picks_of_way nodes k row way) ≡ leaves_of nodes row.leaf (last_from 0 way)
 nodes-of_way nodes k row way =
     map-twice (λ (p : Pick). p.node) (λ n. record { place = k; row = row; elements = way; node = n }) (leaves_of nodes row.leaf (last_of way))
     ∙ (map-id (leaves_of nodes row.leaf (last_of way)) ∙ ap (leaves_of nodes row.leaf) (last-from_top way))
@@ -58,7 +60,8 @@ nodes-of_way nodes k row way =
 pub nodes-are_ends : (nodes : List Node) (k : ℕ) (row : Row) → map (λ (p : Pick). p.node) (nodes_picked nodes k row) ≡ ends nodes row.leaf row.path 0
 nodes-are_ends nodes k row =
     map-flat_map (λ (p : Pick). p.node) (picks_of_way nodes k row) (ways nodes row.path 0)
-    ∙ (flat_map-alike (λ way. map (λ (p : Pick). p.node) (picks_of_way nodes k row way)) (λ way. leaves_of nodes row.leaf (last_from 0 way)) (ways nodes row.path 0) (nodes-of_way nodes k row)
+    ∙ (flat_map-alike (λ way. map (λ (p : Pick). p.node) (picks_of_way nodes k row way)) (λ way. leaves_of nodes row.leaf (last_from 0 way))
+    (ways nodes row.path 0) (nodes-of_way nodes k row)
     ∙ ends-are nodes row.leaf row.path 0)
 
 -- ---- inside one another
@@ -97,10 +100,12 @@ inside-through nodes s (suc bound) x n m b lx lm hn hm =
     let p : ℕ = w.0 in
     let up : (tree_node nodes x).above ≡ p ∷ (tree_node nodes p).above = s.around x p lx w.1 in
     elim (or_cases (m == p) (is_among m (tree_node nodes p).above) (sym (ap (is_among m) up) ∙ hm)) [
-      | inl e ↦ ap (is_among n) up ∙ or_right (n == p) (is_among n (tree_node nodes p).above) (subst (λ k. is_inside n (tree_node nodes k) ≡ true) (eqb-true m p e) hn)
+      | inl e ↦ ap (is_among n) up ∙ or_right (n == p) (is_among n (tree_node nodes p).above)
+          (subst (λ k. is_inside n (tree_node nodes k) ≡ true) (eqb-true m p e) hn)
       | inr h ↦ (
           let lp : p < x = s.before x p lx w.1 in
-          ap (is_among n) up ∙ or_right (n == p) (is_among n (tree_node nodes p).above) (inside-through nodes s bound p n m (omega arith) (omega arith) lm hn h))
+          ap (is_among n) up ∙ or_right (n == p) (is_among n (tree_node nodes p).above)
+          (inside-through nodes s bound p n m (omega arith) (omega arith) lm hn h))
     ]
 
 leaf-under : (nodes : List Node) → Sound nodes → (leaf : Leaf) (n m : ℕ) → n < length nodes → IsLeaf nodes leaf n m → Under nodes n m
@@ -117,17 +122,20 @@ under-through nodes s n m x l is h = (
 )
 
 ends-under : (nodes : List Node) → Sound nodes → (leaf : Leaf) (path : List Step) (n : ℕ) → n < length nodes → All (Under nodes n) (ends nodes leaf path n)
-ends-under nodes s leaf [] n l = All-weaker (IsLeaf nodes leaf n) (Under nodes n) (λ m h. leaf-under nodes s leaf n m l h) (leaves_of nodes leaf n) (leaves-are nodes s.numbered leaf n)
+ends-under nodes s leaf [] n l = All-weaker (IsLeaf nodes leaf n) (Under nodes n) (λ m h. leaf-under nodes s leaf n m l h) (leaves_of nodes leaf n)
+    (leaves-are nodes s.numbered leaf n)
 ends-under nodes s leaf (step ∷ path) n l =
     All-flat_map (Under nodes n) (ends nodes leaf path) (met nodes step n)
     (All-weaker (IsIn nodes n) (λ m. All (Under nodes n) (ends nodes leaf path m))
-    (λ m is. All-weaker (Under nodes m) (Under nodes n) (λ x h. under-through nodes s n m x l is h) (ends nodes leaf path m) (ends-under nodes s leaf path m is.0))
+    (λ m is. All-weaker (Under nodes m) (Under nodes n) (λ x h. under-through nodes s n m x l is h) (ends nodes leaf path m)
+    (ends-under nodes s leaf path m is.0))
     (met nodes step n) (met-in nodes s.numbered step n))
 
 -- ---- one behind another
 
 -- of two children of a node the second isn't inside the first
-beside-not_inside : (nodes : List Node) → Sound nodes → (n m k : ℕ) → n < length nodes → IsIn nodes n m → IsIn nodes n k → is_inside m (tree_node nodes k) ≡ false
+beside-not_inside : (nodes : List Node) → Sound nodes → (n m k : ℕ) → n < length nodes → IsIn nodes n m → IsIn nodes n k
+    → is_inside m (tree_node nodes k) ≡ false
 beside-not_inside nodes s n m k l im ik = false_from_ne_true (is_inside m (tree_node nodes k)) (λ h.
     let after : n < m = child-after nodes s n m l im in
     elim (or_cases (m == n) (is_among m (tree_node nodes n).above) (sym (ap (is_among m) (s.around k n ik.0 ik.1)) ∙ h)) [
@@ -141,7 +149,8 @@ last-before m k last h l = grind (arith, nat_tests)
 inside-last : (m x last : ℕ) → is_between m last x ≡ true → x ≤ last
 inside-last m x last h = grind (arith, nat_tests)
 
-in-order : (nodes : List Node) → Sound nodes → (n m k x y : ℕ) → n < length nodes → IsIn nodes n m → IsIn nodes n k → m < k → Under nodes m x → Under nodes k y → x < y
+in-order : (nodes : List Node) → Sound nodes → (n m k x y : ℕ) → n < length nodes → IsIn nodes n m → IsIn nodes n k → m < k → Under nodes m x → Under nodes k y
+    → x < y
 in-order nodes s n m k x y l im ik lt ux uy =
     let out : last_inside nodes m < k = last-before m k (last_inside nodes m) (sym (s.inside m k im.0 ik.0) ∙ beside-not_inside nodes s n m k l im ik) lt in
     let low : x < k = elim ux.1 [
@@ -159,8 +168,11 @@ by-append P (x ∷ xs) ys h k = (h.0, by-append P xs ys h.1 k)
 
 Rises-append : (xs ys : List ℕ) → Rises xs → Rises ys → All (λ x. AllByRecursion (λ y. x < y) ys) xs → Rises (xs ++ ys)
 Rises-append [] ys hx hy h = hy
-Rises-append (x ∷ xs) ys hx hy h =
-    (by-append (λ y. x < y) xs ys hx.0 (All-head (λ z. AllByRecursion (λ y. z < y) ys) x xs h), Rises-append xs ys hx.1 hy (All-tail (λ z. AllByRecursion (λ y. z < y) ys) x xs h))
+Rises-append (x ∷ xs) ys hx hy h = (
+  by-append (λ y. x < y) xs ys hx.0 (All-head (λ z. AllByRecursion (λ y. z < y) ys) x xs h),
+  Rises-append xs ys hx.1 hy
+      (All-tail (λ z. AllByRecursion (λ y. z < y) ys) x xs h),
+)
 
 -- lists behind one another rise, where their numbers do and each is in a place that comes behind
 Rises-places : (P : ℕ → ℕ → Type 0) (Q : ℕ → Type 0) → ((m k x y : ℕ) → Q m → Q k → m < k → P m x → P k y → x < y)
@@ -192,12 +204,17 @@ numbers-from t (x ∷ xs) j h =
 pub numbers-rise : (t : Node → Bool) (nodes : List Node) (j : ℕ) → Numbered j nodes → Rises (map number (filter t nodes))
 numbers-rise t [] j h = tt
 numbers-rise t (x ∷ xs) j h = elim (cases_Bool (t x)) [
-  | inl e ↦ rw e (by-weaker (λ m. suc j ≤ m) (λ m. x.number < m) (λ m l. let n = h.0 in omega (arith, l)) (map number (filter t xs)) (numbers-from t xs (suc j) h.1), numbers-rise t xs (suc j) h.1)
+  | inl e ↦ rw e (
+    by-weaker (λ m. suc j ≤ m) (λ m. x.number < m) (λ m l. let n = h.0 in omega (arith, l)) (map number (filter t xs))
+        (numbers-from t xs (suc j) h.1),
+    numbers-rise t xs (suc j) h.1,
+  )
   | inr e ↦ rw e (numbers-rise t xs (suc j) h.1)
 ]
 
 met-rises : (nodes : List Node) → Numbered 0 nodes → (step : Step) (n : ℕ) → Rises (met nodes step n)
-met-rises nodes h step n = Rises-filter (are_met nodes step.guards) (children_named nodes step.name n) (numbers-rise (both (is_child n) (has_element_name step.name)) nodes 0 h)
+met-rises nodes h step n = Rises-filter (are_met nodes step.guards) (children_named nodes step.name n)
+    (numbers-rise (both (is_child n) (has_element_name step.name)) nodes 0 h)
 
 leaves-rise : (nodes : List Node) → Numbered 0 nodes → (leaf : Leaf) (n : ℕ) → Rises (leaves_of nodes leaf n)
 leaves-rise nodes h leaves.Element n = Rises-filter (λ m. not (is_blank_at nodes m)) (n ∷ []) (tt, tt)
@@ -213,7 +230,8 @@ pub ends-rise : (nodes : List Node) → Sound nodes → (leaf : Leaf) (path : Li
 ends-rise nodes s leaf [] n l = leaves-rise nodes s.numbered leaf n
 ends-rise nodes s leaf (step ∷ path) n l =
     Rises-places (Under nodes) (IsIn nodes n) (λ m k x y im ik lt ux uy. in-order nodes s n m k x y l im ik lt ux uy) (ends nodes leaf path) (met nodes step n)
-    (met-rises nodes s.numbered step n) (met-in nodes s.numbered step n) (λ m is. ends-rise nodes s leaf path m is.0) (λ m is. ends-under nodes s leaf path m is.0)
+    (met-rises nodes s.numbered step n) (met-in nodes s.numbered step n) (λ m is. ends-rise nodes s leaf path m is.0)
+    (λ m is. ends-under nodes s leaf path m is.0)
 
 pub picks-rise : (nodes : List Node) → Sound nodes → (k : ℕ) (row : Row) → Rises (map (λ (p : Pick). p.node) (nodes_picked nodes k row))
 picks-rise nodes s k row = rw (nodes-are_ends nodes k row) (ends-rise nodes s row.leaf row.path 0 s.some)

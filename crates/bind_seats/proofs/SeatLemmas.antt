@@ -16,10 +16,10 @@ use Rattle.bind_rows.specs.Same.{same_or_none}
 use Rattle.bind_table.specs.WellFormed.{first_fault}
 use Rattle.bind_meaning.specs.declared.picked.Picked.{Picked}
 use Rattle.bind_meaning.specs.declared.picked.Seated.{Seated}
-use Rattle.bind_meaning.specs.declared.picked.SeatedPick.{SeatedPick}
+use Rattle.bind_meaning.specs.declared.picked.PlacedPick.{PlacedPick}
 use Rattle.bind_meaning.specs.Picks.{Pick, carrier, carrier_in}
 use Rattle.bind_meaning.specs.Seats.{is_of_outer, is_of_inner, listed, outer_elements, is_inside_of, inner_elements, place_among, outer_at, inner_at, placed}
-use Rattle.bind_meaning.specs.Kept.{kept, all_kept, kept_seat, all_kept_seats}
+use Rattle.bind_meaning.specs.Kept.{kept, all_kept, kept_placed, all_kept_placed}
 use Rattle.bind_meaning.specs.Terms.{place_all}
 use Rattle.bind_seats.specs.declared.marks.Mark.{Mark}
 use Rattle.bind_seats.specs.Marks.{same_mark, has_mark, place_of}
@@ -37,18 +37,21 @@ use Rattle.bind_seats.proofs.GroupLemmas.{StepLaw, same_group-is, nested-row}
 abbrev carrier_by : ℕ → Option ℕ → Bool → Option ℕ
 carrier_by n rest b = elim b [ true ↦ Some n | false ↦ rest ]
 
-carrier-within : (nodes : List Node) (group : Group) (path : List Step) (m : ℕ) (way : List ℕ) (n : ℕ) → IsWay nodes m way → carrier group path way ≡ Some n → n < length nodes
+carrier-within : (nodes : List Node) (group : Group) (path : List Step) (m : ℕ) (way : List ℕ) (n : ℕ) → IsWay nodes m way → carrier group path way ≡ Some n
+    → n < length nodes
 carrier-within nodes group [] m way n w h = absurd (let bad : None ≡ Some n = h in cc)
 carrier-within nodes group (step ∷ path) m [] n w h = absurd (let bad : None ≡ Some n = h in cc)
 carrier-within nodes group (step ∷ path) m (k ∷ way) n w h = elim (cases_Bool (same_or_none step.group (Some group))) [
-  | inl e ↦ (let found : Some k ≡ Some n = sym (ap (carrier_by k (carrier group path way)) e) ∙ h in let same : k ≡ n = cc in subst (λ x. x < length nodes) same w.0.0)
+  | inl e ↦ (let found : Some k ≡ Some n = sym (ap (carrier_by k (carrier group path way)) e) ∙ h in let same : k ≡ n = cc in
+      subst (λ x. x < length nodes) same w.0.0)
   | inr e ↦ carrier-within nodes group path k way n w.1 (sym (ap (carrier_by k (carrier group path way)) e) ∙ h)
 ]
 
 in-within : (nodes : List Node) (rows : List Row) (p : Pick) (group : Group) (n : ℕ) → IsPick nodes rows p → carrier_in p group ≡ Some n → n < length nodes
 in-within nodes rows p group n is h = carrier-within nodes group p.row.path 0 p.elements n is.placed.way h
 
-listed-within : (nodes : List Node) (rows : List Row) (p : Pick) (group : Group) → IsPick nodes rows p → All (λ k. k < length nodes) (listed (carrier_in p group))
+listed-within : (nodes : List Node) (rows : List Row) (p : Pick) (group : Group) → IsPick nodes rows p
+    → All (λ k. k < length nodes) (listed (carrier_in p group))
 listed-within nodes rows p group is = go (carrier_in p group) refl
   where
     go : (o : Option ℕ) → carrier_in p group ≡ o → All (λ k. k < length nodes) (listed o)
@@ -59,12 +62,14 @@ elements-within : (nodes : List Node) (rows : List Row) (ps : List Pick) → All
     → All (λ k. k < length nodes) (flat_map (λ p. listed (carrier_in p group)) (filter test ps))
 elements-within nodes rows ps h test group =
     All-flat_map (λ k. k < length nodes) (λ p. listed (carrier_in p group)) (filter test ps)
-    (All-weaker (IsPick nodes rows) (λ p. All (λ k. k < length nodes) (listed (carrier_in p group))) (λ p is. listed-within nodes rows p group is) (filter test ps)
+    (All-weaker (IsPick nodes rows) (λ p. All (λ k. k < length nodes) (listed (carrier_in p group))) (λ p is. listed-within nodes rows p group is)
+    (filter test ps)
     (All-filter test (IsPick nodes rows) ps h))
 
 -- ---- kept picks are of the table and of nodes with numbers of 32 bits
 
-few-in : (nodes : List Node) (rows : List Row) (p : Pick) → length nodes < 2 ^ 32 → IsPick nodes rows p → (o : Option Group) → ForSome (option_and_then (carrier_in p) o) (λ n. n + 1 < 2 ^ 32)
+few-in : (nodes : List Node) (rows : List Row) (p : Pick) → length nodes < 2 ^ 32 → IsPick nodes rows p → (o : Option Group)
+    → ForSome (option_and_then (carrier_in p) o) (λ n. n + 1 < 2 ^ 32)
 few-in nodes rows p few is None = λ n e. absurd (let bad : None ≡ Some n = e in cc)
 few-in nodes rows p few is (Some group) = λ n e. let l = in-within nodes rows p group n is e in omega arith
 
@@ -119,7 +124,8 @@ outer-among law nodes rows ps h g n =
     ∙ (any-alike (λ p. passes test (mark (kept p))) (λ p. is_of_outer g p && is_among n (listed (carrier_in p g))) ps
     (All-weaker (IsPick nodes rows) (λ p. passes test (mark (kept p)) ≡ (is_of_outer g p && is_among n (listed (carrier_in p g))))
     (λ p is. ap (λ (r : Row). passes test (outer_mark r (kept p))) (row-is rows p is.of_row) ∙ outer-point law p g n p.row.outer) ps h)
-    ∙ (sym (any-filter (λ p. is_among n (listed (carrier_in p g))) (is_of_outer g) ps) ∙ sym (among-flat_map n (λ p. listed (carrier_in p g)) (filter (is_of_outer g) ps)))))
+    ∙ (sym (any-filter (λ p. is_among n (listed (carrier_in p g))) (is_of_outer g) ps)
+    ∙ sym (among-flat_map n (λ p. listed (carrier_in p g)) (filter (is_of_outer g) ps)))))
 
 -- ---- marks of inner groups
 
@@ -141,19 +147,23 @@ and-false true = refl
 and-false false = refl
 
 inner-point : StepLaw → (p : Pick) (g : Group) (n m : ℕ) (o i : Option Group) → ((h : Group) → i ≡ Some h → o ≡ Some groups.InvoiceLine)
-    → passes (same_mark (group_mark n g m)) (option_and_then (λ h. option_and_then (λ k. option_map (group_mark k h) (option_and_then (carrier_in p) i)) (option_and_then (carrier_in p) o)) i)
+    → passes (same_mark (group_mark n g m)) (option_and_then
+    (λ h. option_and_then (λ k. option_map (group_mark k h) (option_and_then (carrier_in p) i)) (option_and_then (carrier_in p) o)) i)
     ≡ ((same_or_none i (Some g) && is_among n (listed (carrier_in p groups.InvoiceLine))) && is_among m (listed (carrier_in p g)))
 inner-point law p g n m o None nest = refl
 inner-point law p g n m o (Some h) nest =
-    ap (λ (x : Option Group). passes (same_mark (group_mark n g m)) (option_and_then (λ k. option_map (group_mark k h) (carrier_in p h)) (option_and_then (carrier_in p) x))) (nest h refl)
+    ap (λ (x : Option Group). passes (same_mark (group_mark n g m))
+    (option_and_then (λ k. option_map (group_mark k h) (carrier_in p h)) (option_and_then (carrier_in p) x))) (nest h refl)
     ∙ elim (cases_Bool (same_group h g)) [
       | inl e ↦ (let same : h ≡ g = same_group-is law h g e in
-          rw e (ap (λ (x : Group). passes (same_mark (group_mark n g m)) (option_and_then (λ k. option_map (group_mark k x) (carrier_in p x)) (carrier_in p groups.InvoiceLine))) same
+          rw e (ap (λ (x : Group). passes (same_mark (group_mark n g m))
+          (option_and_then (λ k. option_map (group_mark k x) (carrier_in p x)) (carrier_in p groups.InvoiceLine))) same
           ∙ own (carrier_in p groups.InvoiceLine) (carrier_in p g)))
       | inr e ↦ rw e (other e (carrier_in p groups.InvoiceLine) (carrier_in p h))
     ]
   where
-    own : (c d : Option ℕ) → passes (same_mark (group_mark n g m)) (option_and_then (λ k. option_map (group_mark k g) d) c) ≡ (is_among n (listed c) && is_among m (listed d))
+    own : (c d : Option ℕ) → passes (same_mark (group_mark n g m)) (option_and_then (λ k. option_map (group_mark k g) d) c)
+        ≡ (is_among n (listed c) && is_among m (listed d))
     own None d = refl
     own (Some k) None = and-false ((n == k) || false)
     own (Some k) (Some j) = same-inner g n m k j ∙ and-ors (n == k) (m == j)
@@ -163,7 +173,8 @@ inner-point law p g n m o (Some h) nest =
     other e (Some k) None = refl
     other e (Some k) (Some j) = other-kind g h n k m j e
 
-inner-among : StepLaw → (nodes : List Node) (rows : List Row) (ps : List Pick) → All (IsPick nodes rows) ps → ((p : Pick) → IsPick nodes rows p → IsNested p) → (g : Group) (n m : ℕ)
+inner-among : StepLaw → (nodes : List Node) (rows : List Row) (ps : List Pick) → All (IsPick nodes rows) ps → ((p : Pick) → IsPick nodes rows p → IsNested p)
+    → (g : Group) (n m : ℕ)
     → has_mark (inner_marks rows (all_kept ps)) (group_mark n g m) ≡ is_among m (inner_elements ps groups.InvoiceLine n g)
 inner-among law nodes rows ps h nest g n m =
     let test : Mark → Bool = same_mark (group_mark n g m) in
@@ -173,7 +184,8 @@ inner-among law nodes rows ps h nest g n m =
     ∙ (any-map (λ q. passes test (mark q)) kept ps
     ∙ (any-alike (λ p. passes test (mark (kept p))) (λ p. stands p && is_among m (listed (carrier_in p g))) ps
     (All-weaker (IsPick nodes rows) (λ p. passes test (mark (kept p)) ≡ (stands p && is_among m (listed (carrier_in p g))))
-    (λ p is. ap (λ (r : Row). passes test (inner_mark r (kept p))) (row-is rows p is.of_row) ∙ inner-point law p g n m p.row.outer p.row.inner (nest p is)) ps h)
+    (λ p is. ap (λ (r : Row). passes test (inner_mark r (kept p))) (row-is rows p is.of_row)
+    ∙ inner-point law p g n m p.row.outer p.row.inner (nest p is)) ps h)
     ∙ (sym (any-filter (λ p. is_among m (listed (carrier_in p g))) stands ps) ∙ sym (among-flat_map m (λ p. listed (carrier_in p g)) (filter stands ps)))))
 
 -- ---- seats
@@ -186,17 +198,22 @@ seat-alike : (g : Group) (n a b : ℕ) → a ≡ b
     → ◌≡◌ {A = Seated} (record { slot = record { group = g; index = a }; element = n }) (record { slot = record { group = g; index = b }; element = n })
 seat-alike g n a b e = λ i. record { slot = record { group = g; index = e i }; element = n }
 
-outer-seats : (nodes : List Node) (ps : List Pick) (marks : List Mark) → ((g : Group) (n : ℕ) → place_of marks (group_mark 0 g n) ≡ place_among nodes (outer_elements ps g) n)
+outer-seats : (nodes : List Node) (ps : List Pick) (marks : List Mark)
+    → ((g : Group) (n : ℕ) → place_of marks (group_mark 0 g n) ≡ place_among nodes (outer_elements ps g) n)
     → (p : Pick) (o : Option Group)
-    → option_and_then (λ g. option_map (seat_at marks 0 g) (option_and_then (carrier_in p) o)) o ≡ option_and_then (λ g. option_map (outer_at nodes ps g) (carrier_in p g)) o
+    → option_and_then (λ g. option_map (seat_at marks 0 g) (option_and_then (carrier_in p) o)) o
+    ≡ option_and_then (λ g. option_map (outer_at nodes ps g) (carrier_in p g)) o
 outer-seats nodes ps marks h p None = refl
-outer-seats nodes ps marks h p (Some g) = option-alike (seat_at marks 0 g) (outer_at nodes ps g) (carrier_in p g) (λ n. seat-alike g n (place_of marks (group_mark 0 g n)) (place_among nodes (outer_elements ps g) n) (h g n))
+outer-seats nodes ps marks h p (Some g) =
+    option-alike (seat_at marks 0 g) (outer_at nodes ps g) (carrier_in p g)
+    (λ n. seat-alike g n (place_of marks (group_mark 0 g n)) (place_among nodes (outer_elements ps g) n) (h g n))
 
 inner-seats : (nodes : List Node) (ps : List Pick) (marks : List Mark)
     → ((g : Group) (n m : ℕ) → place_of marks (group_mark n g m) ≡ place_among nodes (inner_elements ps groups.InvoiceLine n g) m)
     → (p : Pick) (o i : Option Group) → ((g : Group) → i ≡ Some g → o ≡ Some groups.InvoiceLine)
     → option_and_then (λ g. option_and_then (λ n. option_map (seat_at marks n g) (option_and_then (carrier_in p) i)) (option_and_then (carrier_in p) o)) i
-    ≡ option_and_then (λ outer. option_and_then (λ n. option_and_then (λ g. option_map (inner_at nodes ps outer n g) (carrier_in p g)) i) (carrier_in p outer)) o
+    ≡ option_and_then (λ outer. option_and_then (λ n. option_and_then (λ g. option_map (inner_at nodes ps outer n g) (carrier_in p g)) i) (carrier_in p outer))
+    o
 inner-seats nodes ps marks h p None None nest = refl
 inner-seats nodes ps marks h p (Some outer) None nest = go (carrier_in p outer)
   where
@@ -209,14 +226,16 @@ inner-seats nodes ps marks h p (Some outer) (Some g) nest =
     let is : outer ≡ groups.InvoiceLine = cc in
     go (carrier_in p outer) ∙ ap (λ (x : Group). option_and_then (λ n. option_map (inner_at nodes ps x n g) (carrier_in p g)) (carrier_in p outer)) (sym is)
   where
-    go : (c : Option ℕ) → option_and_then (λ n. option_map (seat_at marks n g) (carrier_in p g)) c ≡ option_and_then (λ n. option_map (inner_at nodes ps groups.InvoiceLine n g) (carrier_in p g)) c
+    go : (c : Option ℕ) → option_and_then (λ n. option_map (seat_at marks n g) (carrier_in p g)) c
+        ≡ option_and_then (λ n. option_map (inner_at nodes ps groups.InvoiceLine n g) (carrier_in p g)) c
     go None = refl
     go (Some n) = option-alike (seat_at marks n g) (inner_at nodes ps groups.InvoiceLine n g) (carrier_in p g)
         (λ m. seat-alike g m (place_of marks (group_mark n g m)) (place_among nodes (inner_elements ps groups.InvoiceLine n g) m) (h g n m))
 
 -- What is seated by the marks of picks is seated as the definition says.
-pub seated-are : StepLaw → (nodes : List Node) → Sound nodes → (rows : List Row) → first_fault rows ≡ Ok tt → (ps : List Pick) → All (IsPick nodes rows) ps → (seats : List SeatedPick)
-    → IsSeated rows (all_kept ps) seats → seats ≡ all_kept_seats (place_all nodes ps)
+pub seated-are : StepLaw → (nodes : List Node) → Sound nodes → (rows : List Row) → first_fault rows ≡ Ok tt → (ps : List Pick) → All (IsPick nodes rows) ps
+    → (seats : List PlacedPick)
+    → IsSeated rows (all_kept ps) seats → seats ≡ all_kept_placed (place_all nodes ps)
 seated-are law nodes s rows formed ps h seats is =
     let nest : (p : Pick) → IsPick nodes rows p → IsNested p = λ p w. nested-row law rows formed w.of_row.at p.row w.of_row.row w.of_row.term in
     let outer_places : (g : Group) (n : ℕ) → place_of is.outers (group_mark 0 g n) ≡ place_among nodes (outer_elements ps g) n =
@@ -228,12 +247,13 @@ seated-are law nodes s rows formed ps h seats is =
     (λ x. is.inner_same (group_mark n g x) ∙ inner-among law nodes rows ps h nest g n x) in
     is.seats_are
     ∙ (map-twice (seated rows is.outers is.inners) kept ps
-    ∙ (map-alike (λ p. seated rows is.outers is.inners (kept p)) (λ p. kept_seat (placed nodes ps p)) ps
-    (All-weaker (IsPick nodes rows) (λ p. seated rows is.outers is.inners (kept p) ≡ kept_seat (placed nodes ps p))
-    (λ p w. ap (λ (r : Row). record { picked = kept p; outer = outer_seat_of is.outers r (kept p); inner = inner_seat_of is.inners r (kept p) }) (row-is rows p w.of_row)
+    ∙ (map-alike (λ p. seated rows is.outers is.inners (kept p)) (λ p. kept_placed (placed nodes ps p)) ps
+    (All-weaker (IsPick nodes rows) (λ p. seated rows is.outers is.inners (kept p) ≡ kept_placed (placed nodes ps p))
+    (λ p w. ap (λ (r : Row). record { picked = kept p; outer = outer_seat_of is.outers r (kept p); inner = inner_seat_of is.inners r (kept p) })
+    (row-is rows p w.of_row)
     ∙ (λ i. record {
       picked = kept p;
       outer = outer-seats nodes ps is.outers outer_places p p.row.outer i;
       inner = inner-seats nodes ps is.inners inner_places p p.row.outer p.row.inner (nest p w) i;
     })) ps h)
-    ∙ sym (map-twice kept_seat (placed nodes ps) ps)))
+    ∙ sym (map-twice kept_placed (placed nodes ps) ps)))

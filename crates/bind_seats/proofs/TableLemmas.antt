@@ -53,7 +53,8 @@ here k row rows p t h = record { at = 0; place = (let e = h.0 in omega arith); r
 
 own-of_row : (nodes : List Node) (k : ℕ) (row : Row) (rows : List Row) → All (IsOfRow k (row ∷ rows)) (own nodes k row)
 own-of_row nodes k row rows = elim (cases_Bool (has_any_term row)) [
-  | inl e ↦ rw e (All-weaker (λ (p : Pick). (p.place ≡ k) × (p.row ≡ row)) (IsOfRow k (row ∷ rows)) (λ p h. here k row rows p e h) (nodes_picked nodes k row) (picks-of_row nodes k row))
+  | inl e ↦ rw e (All-weaker (λ (p : Pick). (p.place ≡ k) × (p.row ≡ row)) (IsOfRow k (row ∷ rows)) (λ p h. here k row rows p e h) (nodes_picked nodes k row)
+      (picks-of_row nodes k row))
   | inr e ↦ rw e (All-nil (IsOfRow k (row ∷ rows)))
 ]
 
@@ -61,7 +62,8 @@ pub picked-of_rows : (nodes : List Node) (k : ℕ) (rows : List Row) → All (Is
 picked-of_rows nodes k [] = All-nil (IsOfRow k [])
 picked-of_rows nodes k (row ∷ rows) =
     rw (picked-cons nodes k row rows) (All-append (IsOfRow k (row ∷ rows)) (own nodes k row) (picked_from nodes (k + 1) rows) (own-of_row nodes k row rows)
-    (All-weaker (IsOfRow (k + 1) rows) (IsOfRow k (row ∷ rows)) (λ p h. later k row rows p h) (picked_from nodes (k + 1) rows) (picked-of_rows nodes (k + 1) rows)))
+    (All-weaker (IsOfRow (k + 1) rows) (IsOfRow k (row ∷ rows)) (λ p h. later k row rows p h) (picked_from nodes (k + 1) rows)
+    (picked-of_rows nodes (k + 1) rows)))
 
 own-placed : (nodes : List Node) → Sound nodes → (k : ℕ) (row : Row) → All (IsPlaced nodes) (own nodes k row)
 own-placed nodes s k row = elim (cases_Bool (has_any_term row)) [
@@ -72,7 +74,8 @@ own-placed nodes s k row = elim (cases_Bool (has_any_term row)) [
 pub picked-placed : (nodes : List Node) → Sound nodes → (k : ℕ) (rows : List Row) → All (IsPlaced nodes) (picked_from nodes k rows)
 picked-placed nodes s k [] = All-nil (IsPlaced nodes)
 picked-placed nodes s k (row ∷ rows) =
-    rw (picked-cons nodes k row rows) (All-append (IsPlaced nodes) (own nodes k row) (picked_from nodes (k + 1) rows) (own-placed nodes s k row) (picked-placed nodes s (k + 1) rows))
+    rw (picked-cons nodes k row rows) (All-append (IsPlaced nodes) (own nodes k row) (picked_from nodes (k + 1) rows) (own-placed nodes s k row)
+    (picked-placed nodes s (k + 1) rows))
 
 -- ---- the picks of one row
 
@@ -82,22 +85,26 @@ is_of k p = p.place == k
 own-all : (nodes : List Node) (k : ℕ) (row : Row) → filter (is_of k) (own nodes k row) ≡ own nodes k row
 own-all nodes k row = elim (cases_Bool (has_any_term row)) [
   | inl e ↦ rw e (filter-all (is_of k) (nodes_picked nodes k row)
-      (All-weaker (λ (p : Pick). (p.place ≡ k) × (p.row ≡ row)) (λ p. is_of k p ≡ true) (λ p h. eq-eqb p.place k h.0) (nodes_picked nodes k row) (picks-of_row nodes k row)))
+      (All-weaker (λ (p : Pick). (p.place ≡ k) × (p.row ≡ row)) (λ p. is_of k p ≡ true) (λ p h. eq-eqb p.place k h.0) (nodes_picked nodes k row)
+      (picks-of_row nodes k row)))
   | inr e ↦ rw e refl
 ]
 
 own-none : (nodes : List Node) (k j : ℕ) (row : Row) → (k ≡ j → ⊥) → filter (is_of j) (own nodes k row) ≡ []
 own-none nodes k j row other = elim (cases_Bool (has_any_term row)) [
   | inl e ↦ rw e (filter-none (is_of j) (nodes_picked nodes k row)
-      (All-weaker (λ (p : Pick). (p.place ≡ k) × (p.row ≡ row)) (λ p. is_of j p ≡ false) (λ p h. ne_eqb p.place j (λ e. other (sym h.0 ∙ e))) (nodes_picked nodes k row) (picks-of_row nodes k row)))
+      (All-weaker (λ (p : Pick). (p.place ≡ k) × (p.row ≡ row)) (λ p. is_of j p ≡ false) (λ p h. ne_eqb p.place j (λ e. other (sym h.0 ∙ e)))
+      (nodes_picked nodes k row) (picks-of_row nodes k row)))
   | inr e ↦ rw e refl
 ]
 
 later-none : (nodes : List Node) (k j : ℕ) (rows : List Row) → j < k → filter (is_of j) (picked_from nodes k rows) ≡ []
 later-none nodes k j rows l = filter-none (is_of j) (picked_from nodes k rows)
-    (All-weaker (IsOfRow k rows) (λ p. is_of j p ≡ false) (λ p h. ne_eqb p.place j (λ e. let place = h.place in omega arith)) (picked_from nodes k rows) (picked-of_rows nodes k rows))
+    (All-weaker (IsOfRow k rows) (λ p. is_of j p ≡ false) (λ p h. ne_eqb p.place j (λ e. let place = h.place in omega arith)) (picked_from nodes k rows)
+    (picked-of_rows nodes k rows))
 
-pub picked-at : (nodes : List Node) (k i : ℕ) (rows : List Row) (row : Row) → slice_get rows i ≡ Some row → filter (is_of (k + i)) (picked_from nodes k rows) ≡ own nodes (k + i) row
+pub picked-at : (nodes : List Node) (k i : ℕ) (rows : List Row) (row : Row) → slice_get rows i ≡ Some row
+    → filter (is_of (k + i)) (picked_from nodes k rows) ≡ own nodes (k + i) row
 picked-at nodes k i [] row h = absurd (let bad : None ≡ Some row = h in cc)
 picked-at nodes k zero (first_row ∷ rows) row h =
     let same : first_row ≡ row = cc in
@@ -125,10 +132,13 @@ node-of_row nodes s rows i row h t =
     let k : ℕ = 1 + i in
     let ps : List Pick = in_order nodes (picked_from nodes 1 rows) in
     let mine : filter (is_of k) ps ≡ in_order nodes (nodes_picked nodes k row) =
-    sym (in_order-filter nodes (is_of k) (picked_from nodes 1 rows)) ∙ ap (in_order nodes) (picked-at nodes 1 i rows row h ∙ ap (λ b. cond b (nodes_picked nodes k row) []) t) in
+    sym (in_order-filter nodes (is_of k) (picked_from nodes 1 rows))
+    ∙ ap (in_order nodes) (picked-at nodes 1 i rows row h ∙ ap (λ b. cond b (nodes_picked nodes k row) []) t) in
     let within : All (λ (p : Pick). p.node < length nodes) (nodes_picked nodes k row) =
     All-weaker (IsPlaced nodes) (λ (p : Pick). p.node < length nodes) (λ p w. w.node) (nodes_picked nodes k row) (picks-placed nodes s k row) in
-    ap (option_map (λ (q : Picked). q.node)) (find-first (λ (q : Picked). q.row == k) (all_kept ps) ∙ (ap first (filter-map kept (λ (q : Picked). q.row == k) ps) ∙ first-map kept (filter (is_of k) ps)))
+    ap (option_map (λ (q : Picked). q.node))
+    (find-first (λ (q : Picked). q.row == k) (all_kept ps)
+    ∙ (ap first (filter-map kept (λ (q : Picked). q.row == k) ps) ∙ first-map kept (filter (is_of k) ps)))
     ∙ (kept-node (first (filter (is_of k) ps))
     ∙ ap node_in (ap first mine ∙ first-in_order nodes (nodes_picked nodes k row) s.numbered within (picks-rise nodes s k row)))
   where
@@ -173,12 +183,17 @@ currency-from nodes term qs k (row ∷ rows) h =
     ]
   where
     behind : {b : Bool} → has_term term row ≡ b
-        → first_string nodes (all_picked nodes (cond b (record { place = k; row = row } ∷ filter (λ (r : NumberedRow). has_term term r.row) (numbered (k + 1) rows)) (filter (λ (r : NumberedRow). has_term term r.row) (numbered (k + 1) rows))))
+        → first_string nodes (all_picked nodes (cond b
+        (record { place = k; row = row } ∷ filter (λ (r : NumberedRow). has_term term r.row) (numbered (k + 1) rows))
+        (filter (λ (r : NumberedRow). has_term term r.row) (numbered (k + 1) rows))))
         ≡ first_string nodes (all_picked nodes (filter (λ (r : NumberedRow). has_term term r.row) (numbered k (row ∷ rows))))
-    behind e = ap (λ b. first_string nodes (all_picked nodes (cond b (record { place = k; row = row } ∷ filter (λ (r : NumberedRow). has_term term r.row) (numbered (k + 1) rows)) (filter (λ (r : NumberedRow). has_term term r.row) (numbered (k + 1) rows))))) (sym e)
+    behind e = ap (λ b. first_string nodes (all_picked nodes
+        (cond b (record { place = k; row = row } ∷ filter (λ (r : NumberedRow). has_term term r.row) (numbered (k + 1) rows))
+        (filter (λ (r : NumberedRow). has_term term r.row) (numbered (k + 1) rows))))) (sym e)
 
     go : (o : Option ℕ) → o ≡ node_in (first (nodes_picked nodes k row))
-        → text_of nodes (first_node term (k + 1) rows qs) ≡ first_string nodes (all_picked nodes (filter (λ (r : NumberedRow). has_term term r.row) (numbered (k + 1) rows)))
+        → text_of nodes (first_node term (k + 1) rows qs)
+        ≡ first_string nodes (all_picked nodes (filter (λ (r : NumberedRow). has_term term r.row) (numbered (k + 1) rows)))
         → text_of nodes (elim o [ None ↦ first_node term (k + 1) rows qs | Some n ↦ Some n ])
         ≡ first_string nodes (nodes_picked nodes k row ++ all_picked nodes (filter (λ (r : NumberedRow). has_term term r.row) (numbered (k + 1) rows)))
     go None e rest = rest ∙ sym (first_string-append nodes (nodes_picked nodes k row) _ None (sym e))
@@ -186,7 +201,8 @@ currency-from nodes term qs k (row ∷ rows) h =
 
 named-is : (nodes : List Node) → Sound nodes → (rows : List Row) (term : Term)
     → named_currency nodes rows (all_kept (in_order nodes (picked_from nodes 1 rows))) term ≡ currency_of nodes rows term
-named-is nodes s rows term = currency-from nodes term (all_kept (in_order nodes (picked_from nodes 1 rows))) 1 rows (λ i row h t. node-of_row nodes s rows i row h t)
+named-is nodes s rows term = currency-from nodes term (all_kept (in_order nodes (picked_from nodes 1 rows))) 1 rows
+    (λ i row h t. node-of_row nodes s rows i row h t)
 
 -- The currencies by the picks are those of the document.
 pub currencies-are : (nodes : List Node) → Sound nodes → (rows : List Row)
@@ -199,7 +215,8 @@ currencies-are nodes s rows =
 node-within : (bound k : ℕ) (qs : List Picked) (n : ℕ) → All (λ (q : Picked). q.node < bound) qs → node_of_row k qs ≡ Some n → n < bound
 node-within bound k [] n h e = absurd (let bad : None ≡ Some n = e in cc)
 node-within bound k (q ∷ qs) n h e = elim (cases_Bool (q.row == k)) [
-  | inl f ↦ (let found : Some q.node ≡ Some n = rw f at e in let same : q.node ≡ n = cc in subst (λ m. m < bound) same (All-head (λ (x : Picked). x.node < bound) q qs h))
+  | inl f ↦ (let found : Some q.node ≡ Some n = rw f at e in let same : q.node ≡ n = cc in
+      subst (λ m. m < bound) same (All-head (λ (x : Picked). x.node < bound) q qs h))
   | inr f ↦ node-within bound k qs n (All-tail (λ (x : Picked). x.node < bound) q qs h) (rw f at e)
 ]
 
@@ -207,7 +224,8 @@ pub first_node-within : (bound : ℕ) (term : Term) (k : ℕ) (rows : List Row) 
     → first_node term k rows qs ≡ Some n → n < bound
 first_node-within bound term k [] qs n h e = absurd (let bad : None ≡ Some n = e in cc)
 first_node-within bound term k (row ∷ rows) qs n h e = elim (cases_Bool (has_term term row)) [
-  | inl f ↦ go (node_of_row k qs) refl (first_node-within bound term (k + 1) rows qs n h) (sym (ap (first_by (node_of_row k qs) (first_node term (k + 1) rows qs)) f) ∙ e)
+  | inl f ↦ go (node_of_row k qs) refl (first_node-within bound term (k + 1) rows qs n h)
+      (sym (ap (first_by (node_of_row k qs) (first_node term (k + 1) rows qs)) f) ∙ e)
   | inr f ↦ first_node-within bound term (k + 1) rows qs n h (sym (ap (first_by (node_of_row k qs) (first_node term (k + 1) rows qs)) f) ∙ e)
 ]
   where

@@ -35,7 +35,8 @@ at-from whole [] j h l e k d lt = absurd (omega arith)
 at-from whole (node ∷ nodes) j h l e zero d lt =
     (let n = h.0 in omega arith, ap (tree_node whole) (h.0 ∙ (let z : j ≡ j + 0 = omega arith in z)) ∙ e 0 (omega arith))
 at-from whole (node ∷ nodes) j h l e (suc k) d lt =
-    at-from whole nodes (suc j) h.1 (omega arith) (λ i less. ap (tree_node whole) (let z : suc j + i ≡ j + suc i = omega arith in z) ∙ e (suc i) (omega arith)) k d (omega arith)
+    at-from whole nodes (suc j) h.1 (omega arith)
+    (λ i less. ap (tree_node whole) (let z : suc j + i ≡ j + suc i = omega arith in z) ∙ e (suc i) (omega arith)) k d (omega arith)
 
 pub all_at : (nodes : List Node) → Numbered 0 nodes → All (IsAt nodes) nodes
 all_at nodes h = at-from nodes nodes 0 h (omega arith) (λ k l. ap (tree_node nodes) (let z : 0 + k ≡ k = omega arith in z))
@@ -72,16 +73,20 @@ children-in nodes h name n =
     let test : Node → Bool = both (is_child n) (has_element_name name) in
     All-map (IsIn nodes n) number (filter test nodes)
     (All-weaker (λ node. IsAt nodes node × (test node ≡ true)) (λ node. IsIn nodes n node.number)
-    (λ node w. in-by_number nodes n node w.0 (and_parts (is_nearest n node.above) (not (is_attribute node)) (both-first (is_child n) (has_element_name name) node w.1)).0)
-    (filter test nodes) (All-both (IsAt nodes) (λ node. test node ≡ true) (filter test nodes) (All-filter test (IsAt nodes) nodes (all_at nodes h)) (filter_passes test nodes)))
+    (λ node w. in-by_number nodes n node w.0
+    (and_parts (is_nearest n node.above) (not (is_attribute node)) (both-first (is_child n) (has_element_name name) node w.1)).0)
+    (filter test nodes) (All-both (IsAt nodes) (λ node. test node ≡ true) (filter test nodes) (All-filter test (IsAt nodes) nodes (all_at nodes h))
+    (filter_passes test nodes)))
 
 pub attributes-in : (nodes : List Node) → Numbered 0 nodes → (local : List ℕ) (n : ℕ) → All (IsIn nodes n) (attributes_named nodes local n)
 attributes-in nodes h local n =
     let test : Node → Bool = both (is_attribute_of n) (has_plain_name local) in
     All-map (IsIn nodes n) number (filter test nodes)
     (All-weaker (λ node. IsAt nodes node × (test node ≡ true)) (λ node. IsIn nodes n node.number)
-    (λ node w. in-by_number nodes n node w.0 (and_parts (is_nearest n node.above) (is_attribute node) (both-first (is_attribute_of n) (has_plain_name local) node w.1)).0)
-    (filter test nodes) (All-both (IsAt nodes) (λ node. test node ≡ true) (filter test nodes) (All-filter test (IsAt nodes) nodes (all_at nodes h)) (filter_passes test nodes)))
+    (λ node w. in-by_number nodes n node w.0
+    (and_parts (is_nearest n node.above) (is_attribute node) (both-first (is_attribute_of n) (has_plain_name local) node w.1)).0)
+    (filter test nodes) (All-both (IsAt nodes) (λ node. test node ≡ true) (filter test nodes) (All-filter test (IsAt nodes) nodes (all_at nodes h))
+    (filter_passes test nodes)))
 
 pub met-in : (nodes : List Node) → Numbered 0 nodes → (step : Step) (n : ℕ) → All (IsIn nodes n) (met nodes step n)
 met-in nodes h step n = All-filter (are_met nodes step.guards) (IsIn nodes n) (children_named nodes step.name n) (children-in nodes h step.name n)
@@ -122,7 +127,8 @@ chain-way nodes s n m [] h = ap (chain_of nodes) (above-is nodes n m h.0.1)
 chain-way nodes s n m (k ∷ way) h =
     chain-way nodes s m k way h.1 ∙ ap (λ c. turned (m ∷ c) (around_last (k ∷ way))) (s.around m n h.0.0 h.0.1)
 
-pub chain-is : (nodes : List Node) → Sound nodes → (way : List ℕ) → IsWay nodes 0 way → chain_of nodes (above nodes (last_of way)) ≡ turned (0 ∷ []) (around_last way)
+pub chain-is : (nodes : List Node) → Sound nodes → (way : List ℕ) → IsWay nodes 0 way
+    → chain_of nodes (above nodes (last_of way)) ≡ turned (0 ∷ []) (around_last way)
 chain-is nodes s [] h = rw s.top (rw s.top refl)
 chain-is nodes s (m ∷ way) h = chain-way nodes s 0 m way h ∙ ap (λ c. turned (0 ∷ c) (around_last (m ∷ way))) s.top
 
@@ -196,14 +202,19 @@ picks-placed nodes s k row =
     (All-weaker (IsWay nodes 0) (λ way. All (IsPlaced nodes) (picks_of_way nodes k row way))
     (λ way w. All-map (IsPlaced nodes) (λ n. record { place = k; row = row; elements = way; node = n }) (leaves_of nodes row.leaf (last_of way))
     (All-weaker (IsLeaf nodes row.leaf (last_of way)) (λ n. IsPlaced nodes (record { place = k; row = row; elements = way; node = n }))
-    (λ n l. record { way = w; node = leaf-within nodes row.leaf (last_of way) n (last-within nodes 0 way s.some w) l; last = leaf-last nodes row.leaf (last_of way) n l })
+    (λ n l. record {
+      way = w;
+      node = leaf-within nodes row.leaf (last_of way) n (last-within nodes 0 way s.some w) l;
+      last = leaf-last nodes row.leaf (last_of way) n l;
+    })
     (leaves_of nodes row.leaf (last_of way)) (leaves-are nodes s.numbered row.leaf (last_of way))))
     (ways nodes row.path 0) (ways-lead nodes s.numbered row.path 0))
 
 pub picks-of_row : (nodes : List Node) (k : ℕ) (row : Row) → All (λ (p : Pick). (p.place ≡ k) × (p.row ≡ row)) (nodes_picked nodes k row)
 picks-of_row nodes k row =
     All-flat_map (λ (p : Pick). (p.place ≡ k) × (p.row ≡ row)) (picks_of_way nodes k row) (ways nodes row.path 0)
-    (λ i d l. All-map (λ (p : Pick). (p.place ≡ k) × (p.row ≡ row)) (λ n. record { place = k; row = row; elements = get_or (ways nodes row.path 0) i d; node = n })
+    (λ i d l. All-map (λ (p : Pick). (p.place ≡ k) × (p.row ≡ row))
+    (λ n. record { place = k; row = row; elements = get_or (ways nodes row.path 0) i d; node = n })
     (leaves_of nodes row.leaf (last_of (get_or (ways nodes row.path 0) i d))) (λ j e m. (refl, refl)))
 
 -- The element around a pick's last one is the holder of its node.

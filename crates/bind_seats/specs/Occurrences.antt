@@ -5,7 +5,7 @@ use Rattle.term_table.specs.Groups.{number_of, same_group}
 use Rattle.bind_rows.specs.declared.rows.Row.{Row}
 use Rattle.bind_meaning.specs.declared.picked.Picked.{Picked}
 use Rattle.bind_meaning.specs.declared.picked.Seated.{Seated}
-use Rattle.bind_meaning.specs.declared.picked.SeatedPick.{SeatedPick}
+use Rattle.bind_meaning.specs.declared.picked.PlacedPick.{PlacedPick}
 use Rattle.bind_seats.specs.declared.marks.Mark.{Mark}
 use Rattle.bind_seats.specs.Marks.{rises, has_mark, place_of}
 use Rattle.bind_seats.specs.Rowed.{row_at}
@@ -46,15 +46,15 @@ abbrev pub inner_seat_of : List Mark → Row → Picked → Option Seated
 inner_seat_of marks row q = option_and_then (λ group. option_and_then (λ n. option_map (seat_at marks n group) q.inner) q.outer) row.inner
 
 -- a pick in its occurrences, by the marks of outer ones and of inner ones
-abbrev pub seated : List Row → List Mark → List Mark → Picked → SeatedPick
+abbrev pub seated : List Row → List Mark → List Mark → Picked → PlacedPick
 seated rows outers inners q =
     record { picked = q; outer = outer_seat_of outers (row_at rows q.row) q; inner = inner_seat_of inners (row_at rows q.row) q }
 
-abbrev pub all_seated : List Row → List Mark → List Mark → List Picked → List SeatedPick
+abbrev pub all_seated : List Row → List Mark → List Mark → List Picked → List PlacedPick
 all_seated rows outers inners qs = map (seated rows outers inners) qs
 
 -- Picks are seated by some marks in their order that are those of the picks.
-pub record IsSeated (rows : List Row) (qs : List Picked) (seats : List SeatedPick) : Type 0 where
+pub record IsSeated (rows : List Row) (qs : List Picked) (seats : List PlacedPick) : Type 0 where
   pub outers : List Mark
   pub inners : List Mark
   pub outer_order : rises outers ≡ true

@@ -9,6 +9,7 @@ ghost use Rattle.bind_seats.specs.Rowed.{AreWithin, pick_of};
 
 use crate::known::nodes_are_sound;
 use crate::rowed::has_term;
+use crate::scene::Scene;
 use crate::texts::trimmed_string;
 use bind_meaning::Picked;
 use bind_rows::{Row, Same, Written};
@@ -60,39 +61,36 @@ fn first_node(rows: &[Row], picks: &[Picked], term: Term) -> Option<NodeId>
 }
 
 fn named_currency<L: Ledger>(
-    alloc: Global,
-    doc: &Doc<'_>,
-    rows: &[Row],
+    scene: &Scene<'_, '_>,
     picks: &[Picked],
     term: Term,
     steps: &mut Steps<L>,
 ) -> Result<Option<Txt>, AllocError>
-    requires { AreWithin (length doc.now.nodes) picks.now }
-    ensures { IfOk result (λ text. text ≡ own.named_currency (tree_nodes doc.now) rows.now picks.now term) }
+    requires { AreWithin (length scene.now.doc.now.nodes) picks.now }
+    ensures { IfOk result (λ text. text ≡ own.named_currency (tree_nodes scene.now.doc.now) scene.now.rows.now picks.now term) }
 {
-    match first_node(rows, picks, term) {
+    match first_node(scene.rows, picks, term) {
         None => Ok(None),
-        Some(n) => Ok(Some(trimmed_string(alloc, doc, n, steps)?)),
+        Some(n) => Ok(Some(trimmed_string(scene.alloc, scene.doc, n, steps)?)),
     }
 }
 
 impl Currencies {
     /// The trimmed strings of the first nodes that the rows of BT-5 and BT-6 pick.
     pub(crate) fn named<L: Ledger>(
-        alloc: Global,
-        doc: &Doc<'_>,
-        rows: &[Row],
+        scene: &Scene<'_, '_>,
         picks: &[Picked],
         steps: &mut Steps<L>,
     ) -> Result<Currencies, AllocError>
-        requires { AreWithin (length doc.now.nodes) picks.now }
-        ensures invoice { IfOk result (λ c. c.invoice ≡ (own.named_currencies (tree_nodes doc.now) rows.now picks.now).invoice) }
+        requires { AreWithin (length scene.now.doc.now.nodes) picks.now }
+        ensures invoice { IfOk result (λ c. c.invoice
+            ≡ (own.named_currencies (tree_nodes scene.now.doc.now) scene.now.rows.now picks.now).invoice) }
         ensures accounting { IfOk result (λ c. c.accounting
-            ≡ (own.named_currencies (tree_nodes doc.now) rows.now picks.now).accounting) }
+            ≡ (own.named_currencies (tree_nodes scene.now.doc.now) scene.now.rows.now picks.now).accounting) }
     {
         Ok(Currencies {
-            invoice: named_currency(alloc, doc, rows, picks, INVOICE_CURRENCY, steps)?,
-            accounting: named_currency(alloc, doc, rows, picks, ACCOUNTING_CURRENCY, steps)?,
+            invoice: named_currency(scene, picks, INVOICE_CURRENCY, steps)?,
+            accounting: named_currency(scene, picks, ACCOUNTING_CURRENCY, steps)?,
         })
     }
 

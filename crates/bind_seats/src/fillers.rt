@@ -12,6 +12,7 @@ ghost use Rattle.bind_seats.specs.Fillers as spec;
 use crate::currencies::Currencies;
 use crate::marks::{Mark, in_order, is_in};
 use crate::rowed::{holder, row_of, term_in};
+use crate::scene::Scene;
 use crate::texts::has_string;
 use bind_meaning::Picked;
 use bind_rows::{Row, Written};
@@ -75,20 +76,18 @@ fn mark_beside<L: Ledger>(
 
 /// The elements around those picks whose term is one of these.
 fn picked_in<L: Ledger>(
-    alloc: Global,
-    doc: &Doc<'_>,
-    rows: &[Row],
+    scene: &Scene<'_, '_>,
     terms: &[Term],
     picks: &[Picked],
     steps: &mut Steps<L>,
 ) -> Result<Vec<Mark>, AllocError>
-    requires within { AreWithin (length doc.now.nodes) picks.now }
-    requires rowed { AreRowed (length rows.now) picks.now }
-    ensures { IfOk result (λ marks. marks.items ≡ spec.marks_of (tree_nodes doc.now) rows.now terms.now picks.now) }
+    requires within { AreWithin (length scene.now.doc.now.nodes) picks.now }
+    requires rowed { AreRowed (length scene.now.rows.now) picks.now }
+    ensures { IfOk result (λ marks. marks.items ≡ spec.marks_of (tree_nodes scene.now.doc.now) scene.now.rows.now terms.now picks.now) }
 {
-    let mut marks = Vec::new(alloc);
+    let mut marks = Vec::new(scene.alloc);
     'picks: for pick in picks {
-        match mark_beside(doc, terms, row_of(rows, pick), pick.node, steps) {
+        match mark_beside(scene.doc, terms, row_of(scene.rows, pick), pick.node, steps) {
             Some(mark) => marks.push(mark)?,
             None => {}
         }
@@ -98,40 +97,40 @@ fn picked_in<L: Ledger>(
 
 /// The terms picked in elements that may hold a filler beside them, with these elements.
 pub(crate) fn marks_beside<L: Ledger>(
-    alloc: Global,
-    doc: &Doc<'_>,
-    rows: &[Row],
+    scene: &Scene<'_, '_>,
     picks: &[Picked],
     steps: &mut Steps<L>,
 ) -> Result<Vec<Mark>, AllocError>
-    requires within { AreWithin (length doc.now.nodes) picks.now }
-    requires rowed { AreRowed (length rows.now) picks.now }
+    requires within { AreWithin (length scene.now.doc.now.nodes) picks.now }
+    requires rowed { AreRowed (length scene.now.rows.now) picks.now }
     ensures order { IfOk result (λ marks. rises marks.items ≡ true) }
     ensures same { IfOk result (λ marks. (m : Mark)
-        → has_mark marks.items m ≡ has_mark (spec.marks_beside (tree_nodes doc.now) rows.now picks.now) m) }
+        → has_mark marks.items m ≡ has_mark (spec.marks_beside (tree_nodes scene.now.doc.now) scene.now.rows.now picks.now) m) }
 {
-    let terms = terms_beside(alloc, rows)?;
-    let marks = picked_in(alloc, doc, rows, terms.as_slice(), picks, steps)?;
+    let terms = terms_beside(scene.alloc, scene.rows)?;
+    let marks = picked_in(scene, terms.as_slice(), picks, steps)?;
     Ok(in_order(marks))
 }
 
 /// Whether what a row picks is a filler.
 fn is_filler<L: Ledger>(
-    alloc: Global,
-    doc: &Doc<'_>,
+    scene: &Scene<'_, '_>,
     marks: &[Mark],
     row: &Row,
     n: NodeId,
     steps: &mut Steps<L>,
 ) -> Result<bool, AllocError>
-    requires node { n < length doc.now.nodes }
+    requires node { n < length scene.now.doc.now.nodes }
     requires order { rises marks.now ≡ true }
-    ensures { IfOk result (λ is. is ≡ spec.is_filler_at (tree_nodes doc.now) marks.now row.now n) }
+    ensures { IfOk result (λ is. is ≡ spec.is_filler_at (tree_nodes scene.now.doc.now) marks.now row.now n) }
 {
     match &row.written {
         Written::OrFiller(filler) => {
-            if has_string(alloc, doc, n, &filler.text, steps)? {
-                Ok(is_in(marks, term_mark(holder(doc, row, n, steps), filler.beside)))
+            if has_string(scene.alloc, scene.doc, n, &filler.text, steps)? {
+                Ok(is_in(
+                    marks,
+                    term_mark(holder(scene.doc, row, n, steps), filler.beside),
+                ))
             } else {
                 Ok(false)
             }
@@ -142,46 +141,42 @@ fn is_filler<L: Ledger>(
 
 /// Whether a pick counts.
 fn stays<L: Ledger>(
-    alloc: Global,
-    doc: &Doc<'_>,
-    rows: &[Row],
+    scene: &Scene<'_, '_>,
     currencies: &Currencies,
     marks: &[Mark],
     pick: &Picked,
     steps: &mut Steps<L>,
 ) -> Result<bool, AllocError>
-    requires within { pick.now.node < length doc.now.nodes }
-    requires rowed { IsRowed (length rows.now) pick.now }
+    requires within { pick.now.node < length scene.now.doc.now.nodes }
+    requires rowed { IsRowed (length scene.now.rows.now) pick.now }
     requires order { rises marks.now ≡ true }
-    ensures { IfOk result (λ is. is ≡ spec.stays (tree_nodes doc.now) rows.now
+    ensures { IfOk result (λ is. is ≡ spec.stays (tree_nodes scene.now.doc.now) scene.now.rows.now
         (record { invoice = currencies.now.invoice; accounting = currencies.now.accounting }) marks.now pick.now) }
 {
-    let row = row_of(rows, pick);
-    if is_filler(alloc, doc, marks, row, pick.node, steps)? {
+    let row = row_of(scene.rows, pick);
+    if is_filler(scene, marks, row, pick.node, steps)? {
         return Ok(false);
     }
-    currencies.suit(alloc, doc, row, pick.node, steps)
+    currencies.suit(scene.alloc, scene.doc, row, pick.node, steps)
 }
 
 /// The picks that count, in their order.
 pub(crate) fn staying<L: Ledger>(
-    alloc: Global,
-    doc: &Doc<'_>,
-    rows: &[Row],
+    scene: &Scene<'_, '_>,
     currencies: &Currencies,
     marks: &[Mark],
     picks: &[Picked],
     steps: &mut Steps<L>,
 ) -> Result<Vec<Picked>, AllocError>
-    requires within { AreWithin (length doc.now.nodes) picks.now }
-    requires rowed { AreRowed (length rows.now) picks.now }
+    requires within { AreWithin (length scene.now.doc.now.nodes) picks.now }
+    requires rowed { AreRowed (length scene.now.rows.now) picks.now }
     requires order { rises marks.now ≡ true }
-    ensures { IfOk result (λ kept. kept.items ≡ filter (spec.stays (tree_nodes doc.now) rows.now
+    ensures { IfOk result (λ kept. kept.items ≡ filter (spec.stays (tree_nodes scene.now.doc.now) scene.now.rows.now
         (record { invoice = currencies.now.invoice; accounting = currencies.now.accounting }) marks.now) picks.now) }
 {
-    let mut kept = Vec::new(alloc);
+    let mut kept = Vec::new(scene.alloc);
     'picks: for pick in picks {
-        if stays(alloc, doc, rows, currencies, marks, pick, steps)? {
+        if stays(scene, currencies, marks, pick, steps)? {
             kept.push(*pick)?;
         }
     }

@@ -7,6 +7,7 @@ mod known;
 mod marks;
 mod occurrences;
 mod rowed;
+mod scene;
 mod seating;
 mod texts;
 

@@ -11,7 +11,7 @@ ghost use Rattle.bind_seats.specs.Occurrences.{IsSeated};
 
 use crate::marks::{Mark, in_order, place_in};
 use crate::rowed::row_of;
-use bind_meaning::{Picked, Seated, SeatedPick};
+use bind_meaning::{Picked, PlacedPick, Seated};
 use bind_rows::Row;
 use node_arena::NodeId;
 use std::alloc::{AllocError, Global};
@@ -219,7 +219,7 @@ fn seated(
     inners: &[Mark],
     pick: &Picked,
     last: Option<Seated>,
-) -> SeatedPick
+) -> PlacedPick
     requires row { IsRowed (length rows.now) pick.now }
     requires outers { rises outers.now ≡ true }
     requires inners { rises inners.now ≡ true }
@@ -228,14 +228,14 @@ fn seated(
     ensures last { spec.IsOuterSeat outers.now result.outer }
 {
     let row = row_of(rows, pick);
-    SeatedPick {
+    PlacedPick {
         picked: *pick,
         outer: outer_seat(outers, row, pick, last),
         inner: inner_seat(inners, row, pick),
     }
 }
 
-fn outer_of(seat: &SeatedPick) -> Option<Seated>
+fn outer_of(seat: &PlacedPick) -> Option<Seated>
     ensures { result ≡ seat.now.outer }
 {
     seat.outer
@@ -248,7 +248,7 @@ fn add_seat(
     inners: &[Mark],
     pick: &Picked,
     last: Option<Seated>,
-    seats: &mut Vec<SeatedPick>,
+    seats: &mut Vec<PlacedPick>,
 ) -> Result<Option<Seated>, AllocError>
     requires row { IsRowed (length rows.now) pick.now }
     requires outers { rises outers.now ≡ true }
@@ -268,7 +268,7 @@ pub(crate) fn all_seated(
     alloc: Global,
     rows: &[Row],
     picks: &[Picked],
-) -> Result<Vec<SeatedPick>, AllocError>
+) -> Result<Vec<PlacedPick>, AllocError>
     requires { AreRowed (length rows.now) picks.now }
     ensures { IfOk result (λ seats. IsSeated rows.now picks.now seats.items) }
 {

@@ -2,7 +2,7 @@ ghost use Rattle.std.specs.Prelude.{◌≡◌, IfOk, Ok};
 ghost use Rattle.node_arena.specs.Moves.{tree_nodes};
 ghost use Rattle.bind_table.specs.WellFormed.{first_fault};
 ghost use Rattle.bind_meaning.specs.Picks.{all_picked, rows_where, has_any_term};
-ghost use Rattle.bind_meaning.specs.Kept.{all_kept, all_kept_seats};
+ghost use Rattle.bind_meaning.specs.Kept.{all_kept, all_kept_placed};
 ghost use Rattle.bind_meaning.specs.Currencies.{currencies};
 ghost use Rattle.bind_meaning.specs.Terms.{in_order, term_picks, place_all};
 
@@ -10,7 +10,8 @@ use crate::currencies::Currencies;
 use crate::fillers::{marks_beside, staying};
 use crate::known::nodes_are_sound;
 use crate::occurrences::all_seated;
-use bind_meaning::{Picked, SeatedPick};
+use crate::scene::Scene;
+use bind_meaning::{Picked, PlacedPick};
 use bind_table::Binding;
 use bind_table::laws::same_steps_are_equal;
 use inv_base::{Steps, Txt};
@@ -21,7 +22,7 @@ use std::sync::ledger::Ledger;
 /// The picks of a document's terms with the occurrences of groups in which they stand.
 pub struct Seating {
     /// In document order, at one node by their rows.
-    pub picks: Vec<SeatedPick>,
+    pub picks: Vec<PlacedPick>,
     /// The currency of the invoice, as its document names it (BT-5).
     pub invoice_currency: Option<Txt>,
 }
@@ -50,12 +51,14 @@ pub fn seat<L: Ledger>(
     requires formed { first_fault table.now ≡ Ok tt }
     requires picks { picks.now
         ≡ all_kept (in_order (tree_nodes doc.now) (all_picked (tree_nodes doc.now) (rows_where has_any_term table.now))) }
-    ensures picks { IfOk result (λ s. s.picks.items ≡ all_kept_seats (place_all (tree_nodes doc.now)
+    ensures picks { IfOk result (λ s. s.picks.items ≡ all_kept_placed (place_all (tree_nodes doc.now)
         (term_picks (tree_nodes doc.now) (currencies (tree_nodes doc.now) table.now) table.now))) }
     ensures currency { IfOk result (λ s. s.invoice_currency ≡ (currencies (tree_nodes doc.now) table.now).invoice) }
 {
     nodes_are_sound(doc);
-    let named = Currencies::named(alloc, doc, table.rows(), picks, steps)?;
+    let rows = table.rows();
+    let scene = Scene { alloc, doc, rows };
+    let named = Currencies::named(&scene, picks, steps)?;
     match seats_of(alloc, doc, table, &named, picks, steps) {
         Ok(picks) => {
             let Currencies {
@@ -83,13 +86,13 @@ fn seats_of<L: Ledger>(
     named: &Currencies,
     picks: &[Picked],
     steps: &mut Steps<L>,
-) -> Result<Vec<SeatedPick>, AllocError>
+) -> Result<Vec<PlacedPick>, AllocError>
     requires formed { first_fault table.now ≡ Ok tt }
     requires picks { picks.now
         ≡ all_kept (in_order (tree_nodes doc.now) (all_picked (tree_nodes doc.now) (rows_where has_any_term table.now))) }
     requires named { record { invoice = named.now.invoice; accounting = named.now.accounting }
         ≡ currencies (tree_nodes doc.now) table.now }
-    ensures { IfOk result (λ seats. seats.items ≡ all_kept_seats (place_all (tree_nodes doc.now)
+    ensures { IfOk result (λ seats. seats.items ≡ all_kept_placed (place_all (tree_nodes doc.now)
         (term_picks (tree_nodes doc.now) (currencies (tree_nodes doc.now) table.now) table.now))) }
 {
     nodes_are_sound(doc);
@@ -116,6 +119,7 @@ fn kept_picks<L: Ledger>(
 {
     nodes_are_sound(doc);
     let rows = table.rows();
-    let marks = marks_beside(alloc, doc, rows, picks, steps)?;
-    staying(alloc, doc, rows, named, marks.as_slice(), picks, steps)
+    let scene = Scene { alloc, doc, rows };
+    let marks = marks_beside(&scene, picks, steps)?;
+    staying(&scene, named, marks.as_slice(), picks, steps)
 }

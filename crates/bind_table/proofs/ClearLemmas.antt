@@ -31,14 +31,17 @@ front-stays (s ∷ p) (t ∷ q) h = by (same_name s.name t.name) refl h (front-s
     inside true k = k
     inside false k = refl
 
-    by : (b : Bool) → same_name s.name t.name ≡ b → choose b (λ _. is_front p q) (λ _. false) ≡ true → (is_front p q ≡ true → part_by_name q p ≡ false) → part_by_name (t ∷ q) (s ∷ p) ≡ false
+    by : (b : Bool) → same_name s.name t.name ≡ b → choose b (λ _. is_front p q) (λ _. false) ≡ true → (is_front p q ≡ true → part_by_name q p ≡ false)
+        → part_by_name (t ∷ q) (s ∷ p) ≡ false
     by true e h f =
-        ap (λ b. choose b (λ _. choose (same_step t s) (λ _. part_by_name q p) (λ _. false)) (λ _. true)) (name-back s.name t.name e) ∙ inside (same_step t s) (f h)
+        ap (λ b. choose b (λ _. choose (same_step t s) (λ _. part_by_name q p) (λ _. false)) (λ _. true)) (name-back s.name t.name e)
+        ∙ inside (same_step t s) (f h)
     by false e h f = absurd (false≢true h)
 
 -- ---- one row beside another
 
-clear-at : (row : Row) (k : ℕ) (others : List Row) (n j : ℕ) (other : Row) → parts_from others n k row ≡ true → slice_get others j ≡ Some other → (n + j ≡ k → ⊥) → stands_clear row other ≡ true
+clear-at : (row : Row) (k : ℕ) (others : List Row) (n j : ℕ) (other : Row) → parts_from others n k row ≡ true → slice_get others j ≡ Some other
+    → (n + j ≡ k → ⊥) → stands_clear row other ≡ true
 clear-at row k [] n j other h at differ = cc
 clear-at row k (r ∷ others) n zero other h at differ = by (n == k) refl (both ((n == k) || stands_clear row r) (parts_from others (n + 1) k row) h).0
   where
@@ -60,20 +63,24 @@ or-cases : (a b : Bool) → (a || b) ≡ true → (a ≡ false → b ≡ true)
 or-cases true b h e = absurd (false≢true (sym e))
 or-cases false b h e = h
 
-pub added-parts-from : (rows : List Row) (j k : ℕ) (row other : Row) → first_fault rows ≡ Ok tt → slice_get rows j ≡ Some row → slice_get rows k ≡ Some other → (j ≡ k → ⊥) → is_added row ≡ true
+pub added-parts-from : (rows : List Row) (j k : ℕ) (row other : Row) → first_fault rows ≡ Ok tt → slice_get rows j ≡ Some row → slice_get rows k ≡ Some other
+    → (j ≡ k → ⊥) → is_added row ≡ true
     → part_by_name row.path other.path ≡ true
 added-parts-from rows j k row other fine at_j at_k differ added = by (part_by_name row.path other.path) refl
   where
     clear : (i l : ℕ) (a b : Row) → slice_get rows i ≡ Some a → slice_get rows l ≡ Some b → (i ≡ l → ⊥) → is_added a ≡ true → stands_clear a b ≡ true
-    clear i l a b at_i at_l differ own = clear-at a i rows 0 l b (parts-true rows (built rows) i a (added-at rows i a fine at_i own)) at_l (λ e. differ (omega (arith, e)))
+    clear i l a b at_i at_l differ own = clear-at a i rows 0 l b (parts-true rows (built rows) i a (added-at rows i a fine at_i own)) at_l
+        (λ e. differ (omega (arith, e)))
 
     by : (b : Bool) → part_by_name row.path other.path ≡ b → b ≡ true
     by true e = refl
     by false e =
-        let behind = both (is_added other) (is_proper_front row.path other.path) (or-cases (part_by_name row.path other.path) _ (clear j k row other at_j at_k differ added) e) in
+        let behind = both (is_added other) (is_proper_front row.path other.path)
+        (or-cases (part_by_name row.path other.path) _ (clear j k row other at_j at_k differ added) e) in
         let front = both (is_front row.path other.path) (nat_lt (length row.path) (length other.path)) behind.1 in
         let apart = front-stays row.path other.path front.0 in
-        let back = both (is_added row) (is_proper_front other.path row.path) (or-cases (part_by_name other.path row.path) _ (clear k j other row at_k at_j (λ e. differ (sym e)) behind.0) apart) in
+        let back = both (is_added row) (is_proper_front other.path row.path)
+        (or-cases (part_by_name other.path row.path) _ (clear k j other row at_k at_j (λ e. differ (sym e)) behind.0) apart) in
         let further = (both (is_front other.path row.path) (nat_lt (length other.path) (length row.path)) back.1).1 in
         let less = ltb-true (length row.path) (length other.path) front.1 in
         let more = ltb-true (length other.path) (length row.path) further in

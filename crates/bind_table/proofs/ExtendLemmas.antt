@@ -27,13 +27,15 @@ grows-rows m (row ∷ rows) =
     let h = grows-rows (greatest_on m row) rows in
     omega (arith, g, h)
 
-at-small : (names : List ElementName) (path : List Step) (s : Step) (m : ℕ) → at_names names path ≡ Some s → s.number ≤ fold max m (map (λ (t : Step). t.number) path)
+at-small : (names : List ElementName) (path : List Step) (s : Step) (m : ℕ) → at_names names path ≡ Some s
+    → s.number ≤ fold max m (map (λ (t : Step). t.number) path)
 at-small [] path s m e = cc
 at-small (n ∷ names) [] s m e = cc
 at-small (n ∷ names) (t ∷ path) s m e = by (same_name n t.name) (length names == 0) e (at-small names path s (max m t.number))
   where
     by : (a b : Bool) → choose a (λ _. choose b (λ _. Some t) (λ _. at_names names path)) (λ _. None) ≡ Some s
-        → (at_names names path ≡ Some s → s.number ≤ fold max (max m t.number) (map (λ (t : Step). t.number) path)) → s.number ≤ fold max (max m t.number) (map (λ (t : Step). t.number) path)
+        → (at_names names path ≡ Some s → s.number ≤ fold max (max m t.number) (map (λ (t : Step). t.number) path))
+        → s.number ≤ fold max (max m t.number) (map (λ (t : Step). t.number) path)
     by true true e f =
         let h = grows (max m t.number) path in
         let n = ap (λ (r : Step). r.number) (same_Some _ _ e) in
@@ -64,16 +66,21 @@ behind-low : (o : Option Step) (top : ℕ) → top_behind o top ≤ top + 1
 behind-low None top = omega arith
 behind-low (Some s) top = omega arith
 
-small-step : (rows : List Row) (o : Option Step) (n : ElementName) (top : ℕ) → ((s : Step) → o ≡ Some s → s.number ≤ greatest rows) → greatest rows < 2 ^ 31 → top + 1 < 2 ^ 31 → (step_for o n top).number < 2 ^ 31
+small-step : (rows : List Row) (o : Option Step) (n : ElementName) (top : ℕ) → ((s : Step) → o ≡ Some s → s.number ≤ greatest rows) → greatest rows < 2 ^ 31
+    → top + 1 < 2 ^ 31 → (step_for o n top).number < 2 ^ 31
 small-step rows None n top f few room = room
 small-step rows (Some s) n top f few room = let h = f s refl in omega (arith, h, few)
 
-small-path : (rows : List Row) (top : ℕ) (before names : List ElementName) → greatest rows < 2 ^ 31 → top + length names < 2 ^ 31 → AllByRecursion (λ (s : Step). s.number < 2 ^ 31) (path_of rows top before names)
+small-path : (rows : List Row) (top : ℕ) (before names : List ElementName) → greatest rows < 2 ^ 31 → top + length names < 2 ^ 31
+    → AllByRecursion (λ (s : Step). s.number < 2 ^ 31) (path_of rows top before names)
 small-path rows top before [] few room = tt
 small-path rows top before (n ∷ names) few room =
     let o = first_at (before ++ n ∷ []) rows in
-    let low = behind-low o top in
-    (small-step rows o n top (λ s e. first-small (before ++ n ∷ []) rows s 0 e) few (omega (arith, room)), small-path rows (top_behind o top) (before ++ n ∷ []) names few (omega (arith, room, low)))
+    let low = behind-low o top in (
+      small-step rows o n top (λ s e. first-small (before ++ n ∷ []) rows s 0 e) few (omega (arith, room)),
+      small-path rows (top_behind o top)
+          (before ++ n ∷ []) names few (omega (arith, room, low)),
+    )
 
 pub added-steps : (table : Which) (rows : List Row) (a : AddedTerm) → HasRoom rows a → HasSteps (added_row table rows a)
 added-steps table rows a room =

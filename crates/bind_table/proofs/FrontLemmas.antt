@@ -22,10 +22,12 @@ use Rattle.bind_table.specs.Sound.{IsSoundRow}
 use Rattle.bind_table.proofs.SameLemmas.{pointwise-sound, step-sound}
 use Rattle.bind_table.proofs.SoundLemmas.{both, are, front-is, Found, sound-at}
 
-placed-at : (rows : List Row) (row : Row) (group : Group) (slot : Option Group) → slot ≡ Some group → is_placed rows row slot ≡ true → (is_carried group row ≡ true) × (is_carried_once group rows ≡ true)
+placed-at : (rows : List Row) (row : Row) (group : Group) (slot : Option Group) → slot ≡ Some group → is_placed rows row slot ≡ true
+    → (is_carried group row ≡ true) × (is_carried_once group rows ≡ true)
 placed-at rows row group slot e h = both (is_carried group row) (is_carried_once group rows) (ap (is_placed rows row) (sym e) ∙ h)
 
-has-placed : (rows : List Row) (row : Row) (group : Group) → IsSoundRow rows row → HasGroup group row → (is_carried group row ≡ true) × (is_carried_once group rows ≡ true)
+has-placed : (rows : List Row) (row : Row) (group : Group) → IsSoundRow rows row → HasGroup group row
+    → (is_carried group row ≡ true) × (is_carried_once group rows ≡ true)
 has-placed rows row group s (inl e) = placed-at rows row group row.outer e s.outer
 has-placed rows row group s (inr e) = placed-at rows row group row.inner e s.inner
 
@@ -38,18 +40,25 @@ found : (group : Group) (rows : List Row) (j : ℕ) (row : Row) → slice_get ro
 found group [] j row at h = cc
 found group (r ∷ rows) zero row at h =
     let P : Row → Type 0 = λ r. is_carried group r ≡ true in
-    record { front = _; is = ap (λ b. choose b (λ _. Some (take (depth_of group r.path + 1) r.path)) (λ _. first_carrier group rows)) (subst P (sym (same_Some _ _ at)) h) }
+    record {
+      front = _;
+      is = ap (λ b. choose b (λ _. Some (take (depth_of group r.path + 1) r.path)) (λ _. first_carrier group rows))
+          (subst P (sym (same_Some _ _ at)) h);
+    }
 found group (r ∷ rows) (suc j) row at h = let f = by (is_carried group r) (found group rows j row at h) in record { front = f.0; is = f.1 }
   where
-    by : (b : Bool) → Found group rows → (front : List Step) × (choose b (λ _. Some (take (depth_of group r.path + 1) r.path)) (λ _. first_carrier group rows) ≡ Some front)
+    by : (b : Bool) → Found group rows → (front : List Step)
+        × (choose b (λ _. Some (take (depth_of group r.path + 1) r.path)) (λ _. first_carrier group rows) ≡ Some front)
     by true f = (_, refl)
     by false f = (f.front, f.is)
 
-front-at : (group : Group) (rows : List Row) (front : List Step) (j : ℕ) (row : Row) → list_all (are front group) rows ≡ true → slice_get rows j ≡ Some row → is_carried group row ≡ true
+front-at : (group : Group) (rows : List Row) (front : List Step) (j : ℕ) (row : Row) → list_all (are front group) rows ≡ true → slice_get rows j ≡ Some row
+    → is_carried group row ≡ true
     → front ≡ front_of group row
 front-at group rows front j row all at h = front-is group front row (list_all-at (are front group) rows j row all at) h
 
-pub one-element : (rows : List Row) (group : Group) (i j : ℕ) (row other : Row) → first_fault rows ≡ Ok tt → slice_get rows i ≡ Some row → slice_get rows j ≡ Some other → HasGroup group row
+pub one-element : (rows : List Row) (group : Group) (i j : ℕ) (row other : Row) → first_fault rows ≡ Ok tt → slice_get rows i ≡ Some row
+    → slice_get rows j ≡ Some other → HasGroup group row
     → is_carried group other ≡ true → (is_carried group row ≡ true) × (front_of group row ≡ front_of group other)
 one-element rows group i j row other fine at_i at_j has carried =
     let p = has-placed rows row group (sound-at rows i row fine at_i) has in
@@ -64,7 +73,8 @@ first-false true b e = cc
 first-false false b e = refl
 
 -- A row of a well-formed table that nobody added has a term of the semantic model, if it has one.
-pub modelled-row : (rows : List Row) (j : ℕ) (row : Row) (term : Term) → first_fault rows ≡ Ok tt → slice_get rows j ≡ Some row → is_added row ≡ false → row.content ≡ contents.Term term
+pub modelled-row : (rows : List Row) (j : ℕ) (row : Row) (term : Term) → first_fault rows ≡ Ok tt → slice_get rows j ≡ Some row → is_added row ≡ false
+    → row.content ≡ contents.Term term
     → is_extension term ≡ false
 modelled-row rows j row term fine at own content =
     let known = (sound-at rows j row fine at).modelled own in

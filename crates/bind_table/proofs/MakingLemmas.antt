@@ -77,22 +77,31 @@ made_by_all-append (x ∷ xs) ys made = made_by_all-append xs ys (made_by x made
 
 -- ---- item by item, and section by section
 
-pub items-behind : (listed : List TableItem) (i : ℕ) (d : TableItem) (made : Made) → i < length listed → CanMake (drop i listed) made → CanMake (drop (i + 1) listed) (made_by (get_or listed i d) made)
+pub items-behind : (listed : List TableItem) (i : ℕ) (d : TableItem) (made : Made) → i < length listed → CanMake (drop i listed) made
+    → CanMake (drop (i + 1) listed) (made_by (get_or listed i d) made)
 items-behind listed i d made h can = rw add-one (CanMake-step (get_or listed i d) (drop (suc i) listed) made (rw (drop-cons listed i d h) at can))
 
-pub made-behind : (listed : List TableItem) (i : ℕ) (d : TableItem) (made all : Made) → i < length listed → made_by_all (drop i listed) made ≡ all → made_by_all (drop (i + 1) listed) (made_by (get_or listed i d) made) ≡ all
+pub made-behind : (listed : List TableItem) (i : ℕ) (d : TableItem) (made all : Made) → i < length listed → made_by_all (drop i listed) made ≡ all
+    → made_by_all (drop (i + 1) listed) (made_by (get_or listed i d) made) ≡ all
 made-behind listed i d made all h same = rw add-one (rw (drop-cons listed i d h) at same)
 
-joined-rest : (sections : List (Bor (List TableItem))) (i : ℕ) (d : Bor (List TableItem)) → i < length sections → joined (drop i sections) ≡ (get_or sections i d).now ++ joined (drop (i + 1) sections)
+joined-rest : (sections : List (Bor (List TableItem))) (i : ℕ) (d : Bor (List TableItem)) → i < length sections
+    → joined (drop i sections) ≡ (get_or sections i d).now ++ joined (drop (i + 1) sections)
 joined-rest sections i d h = ap joined (drop-cons sections i d h) ∙ ap (λ n. (get_or sections i d).now ++ joined (drop n sections)) (sym (add-one i))
 
-pub section-front : (sections : List (Bor (List TableItem))) (i : ℕ) (d : Bor (List TableItem)) (made : Made) → i < length sections → CanMake (joined (drop i sections)) made → CanMake (get_or sections i d).now made
-section-front sections i d made h can = CanMake-front (get_or sections i d).now (joined (drop (i + 1) sections)) made (subst (λ xs. CanMake xs made) (joined-rest sections i d h) can)
+pub section-front : (sections : List (Bor (List TableItem))) (i : ℕ) (d : Bor (List TableItem)) (made : Made) → i < length sections
+    → CanMake (joined (drop i sections)) made → CanMake (get_or sections i d).now made
+section-front sections i d made h can = CanMake-front (get_or sections i d).now (joined (drop (i + 1) sections)) made
+    (subst (λ xs. CanMake xs made) (joined-rest sections i d h) can)
 
-pub section-behind : (sections : List (Bor (List TableItem))) (i : ℕ) (d : Bor (List TableItem)) (made : Made) → i < length sections → CanMake (joined (drop i sections)) made → CanMake (joined (drop (i + 1) sections)) (made_by_all (get_or sections i d).now made)
-section-behind sections i d made h can = CanMake-behind (get_or sections i d).now (joined (drop (i + 1) sections)) made (subst (λ xs. CanMake xs made) (joined-rest sections i d h) can)
+pub section-behind : (sections : List (Bor (List TableItem))) (i : ℕ) (d : Bor (List TableItem)) (made : Made) → i < length sections
+    → CanMake (joined (drop i sections)) made → CanMake (joined (drop (i + 1) sections)) (made_by_all (get_or sections i d).now made)
+section-behind sections i d made h can = CanMake-behind (get_or sections i d).now (joined (drop (i + 1) sections)) made
+    (subst (λ xs. CanMake xs made) (joined-rest sections i d h) can)
 
-pub section-made : (sections : List (Bor (List TableItem))) (i : ℕ) (d : Bor (List TableItem)) (made all : Made) → i < length sections → made_by_all (joined (drop i sections)) made ≡ all
+pub section-made : (sections : List (Bor (List TableItem))) (i : ℕ) (d : Bor (List TableItem)) (made all : Made) → i < length sections
+    → made_by_all (joined (drop i sections)) made ≡ all
     → made_by_all (joined (drop (i + 1) sections)) (made_by_all (get_or sections i d).now made) ≡ all
 section-made sections i d made all h same =
-    sym (made_by_all-append (get_or sections i d).now (joined (drop (i + 1) sections)) made) ∙ (ap (λ xs. made_by_all xs made) (sym (joined-rest sections i d h)) ∙ same)
+    sym (made_by_all-append (get_or sections i d).now (joined (drop (i + 1) sections)) made)
+    ∙ (ap (λ xs. made_by_all xs made) (sym (joined-rest sections i d h)) ∙ same)

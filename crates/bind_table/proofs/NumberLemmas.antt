@@ -58,23 +58,30 @@ module _ (is_so : ℕ → Bool) where
       by (is_so n) z rest
     where
       by : (t : Bool) → k + (1 + how_many_before is_so (m ∷ all) n) ≡ k + one_if b + (1 + how_many_before is_so all n)
-          → map (λ n. k + (1 + how_many_before is_so (m ∷ all) n)) (filter is_so ns) ≡ map (λ n. k + one_if b + (1 + how_many_before is_so all n)) (filter is_so ns)
-          → map (λ n. k + (1 + how_many_before is_so (m ∷ all) n)) (cond t (n ∷ filter is_so ns) (filter is_so ns)) ≡ map (λ n. k + one_if b + (1 + how_many_before is_so all n)) (cond t (n ∷ filter is_so ns) (filter is_so ns))
-      by true z rest = ap (λ x. x ∷ map (λ n. k + (1 + how_many_before is_so (m ∷ all) n)) (filter is_so ns)) z ∙ ap (λ xs. (k + one_if b + (1 + how_many_before is_so all n)) ∷ xs) rest
+          → map (λ n. k + (1 + how_many_before is_so (m ∷ all) n)) (filter is_so ns) ≡ map (λ n. k + one_if b + (1 + how_many_before is_so all n))
+          (filter is_so ns)
+          → map (λ n. k + (1 + how_many_before is_so (m ∷ all) n)) (cond t (n ∷ filter is_so ns) (filter is_so ns)) ≡ map
+          (λ n. k + one_if b + (1 + how_many_before is_so all n)) (cond t (n ∷ filter is_so ns) (filter is_so ns))
+      by true z rest = ap (λ x. x ∷ map (λ n. k + (1 + how_many_before is_so (m ∷ all) n)) (filter is_so ns)) z
+          ∙ ap (λ xs. (k + one_if b + (1 + how_many_before is_so all n)) ∷ xs) rest
       by false z rest = rest
 
-  places-from : (k : ℕ) (ns : List ℕ) → rises ns ≡ true → map (λ n. k + (1 + how_many_before is_so ns n)) (filter is_so ns) ≡ range_with_len (k + 1) (length (filter is_so ns))
+  places-from : (k : ℕ) (ns : List ℕ) → rises ns ≡ true → map (λ n. k + (1 + how_many_before is_so ns n)) (filter is_so ns) ≡ range_with_len (k + 1)
+      (length (filter is_so ns))
   places-from k [] up = refl
   places-from k (m ∷ ns) up =
       let h = both (list_all (nat_lt m) ns) (rises ns) up in
       by (is_so m) (λ b e. shifted b m k ns ns e h.0) (itself-before m ns h.0) (λ b. places-from (k + one_if b) ns h.1) refl
     where
       by : (b : Bool)
-          → ((c : Bool) → is_so m ≡ c → map (λ n. k + (1 + how_many_before is_so (m ∷ ns) n)) (filter is_so ns) ≡ map (λ n. k + one_if c + (1 + how_many_before is_so ns n)) (filter is_so ns))
+          → ((c : Bool) → is_so m ≡ c → map (λ n. k + (1 + how_many_before is_so (m ∷ ns) n)) (filter is_so ns) ≡ map
+          (λ n. k + one_if c + (1 + how_many_before is_so ns n)) (filter is_so ns))
           → how_many_before is_so (m ∷ ns) m ≡ 0
-          → ((c : Bool) → map (λ n. k + one_if c + (1 + how_many_before is_so ns n)) (filter is_so ns) ≡ range_with_len (k + one_if c + 1) (length (filter is_so ns)))
+          → ((c : Bool) → map (λ n. k + one_if c + (1 + how_many_before is_so ns n)) (filter is_so ns) ≡ range_with_len (k + one_if c + 1)
+          (length (filter is_so ns)))
           → is_so m ≡ b
-          → map (λ n. k + (1 + how_many_before is_so (m ∷ ns) n)) (cond b (m ∷ filter is_so ns) (filter is_so ns)) ≡ range_with_len (k + 1) (length (cond b (m ∷ filter is_so ns) (filter is_so ns)))
+          → map (λ n. k + (1 + how_many_before is_so (m ∷ ns) n)) (cond b (m ∷ filter is_so ns) (filter is_so ns)) ≡ range_with_len (k + 1)
+          (length (cond b (m ∷ filter is_so ns) (filter is_so ns)))
       by true others none deeper e =
           let z : k + (1 + how_many_before is_so (m ∷ ns) m) ≡ k + 1 = omega (arith, none) in
           ap (λ x. x ∷ map (λ n. k + (1 + how_many_before is_so (m ∷ ns) n)) (filter is_so ns)) z ∙ ap (λ xs. (k + 1) ∷ xs) (others true e ∙ deeper true)

@@ -78,22 +78,29 @@ other : (s t : Step) → same_step s t ≡ false → t ≡ s → ⊥
 other s t e same = false≢true (sym e ∙ (ap (same_step s) same ∙ step-itself s))
 
 module _ (s : Step) (own : List Cell → List Cell) (deeper : Plan → Plan) (keeps : (plan : Plan) → Apart plan → Apart (deeper plan)) where
-  past-by : (r t : Step) (cells : List Cell) (inside rest : Plan) (a b : Bool) → r.number ≤ s.number → (r ≡ s → ⊥) → Past r (a_line t cells inside rest) → Past r (into s own deeper rest)
-      → Past r (choose a (λ _. a_line t (own cells) (deeper inside) rest) (λ _. choose b (λ _. a_line s (own []) (deeper nothing) (a_line t cells inside rest)) (λ _. a_line t cells inside (into s own deeper rest))))
+  past-by : (r t : Step) (cells : List Cell) (inside rest : Plan) (a b : Bool) → r.number ≤ s.number → (r ≡ s → ⊥) → Past r (a_line t cells inside rest)
+      → Past r (into s own deeper rest)
+      → Past r (choose a (λ _. a_line t (own cells) (deeper inside) rest)
+      (λ _. choose b (λ _. a_line s (own []) (deeper nothing) (a_line t cells inside rest)) (λ _. a_line t cells inside (into s own deeper rest))))
   past-by r t cells inside rest true b low ne p later = p
   past-by r t cells inside rest false true low ne p later = (low, (ne, p))
   past-by r t cells inside rest false false low ne p later = (p.0, (p.1.0, later))
 
   past-into : (r : Step) → r.number ≤ s.number → (r ≡ s → ⊥) → (plan : Plan) → Past r plan → Past r (into s own deeper plan)
   past-into r low ne nothing p = (low, (ne, tt))
-  past-into r low ne (a_line t cells inside rest) p = past-by r t cells inside rest (same_step s t) (nat_lt s.number t.number) low ne p (past-into r low ne rest p.1.1)
+  past-into r low ne (a_line t cells inside rest) p = past-by r t cells inside rest (same_step s t) (nat_lt s.number t.number) low ne p
+      (past-into r low ne rest p.1.1)
 
-  apart-by : (t : Step) (cells : List Cell) (inside rest : Plan) (a b : Bool) → same_step s t ≡ a → nat_lt s.number t.number ≡ b → Apart (a_line t cells inside rest) → Apart (into s own deeper rest)
-      → Apart (choose a (λ _. a_line t (own cells) (deeper inside) rest) (λ _. choose b (λ _. a_line s (own []) (deeper nothing) (a_line t cells inside rest)) (λ _. a_line t cells inside (into s own deeper rest))))
+  apart-by : (t : Step) (cells : List Cell) (inside rest : Plan) (a b : Bool) → same_step s t ≡ a → nat_lt s.number t.number ≡ b
+      → Apart (a_line t cells inside rest) → Apart (into s own deeper rest)
+      → Apart (choose a (λ _. a_line t (own cells) (deeper inside) rest)
+      (λ _. choose b (λ _. a_line s (own []) (deeper nothing) (a_line t cells inside rest)) (λ _. a_line t cells inside (into s own deeper rest))))
   apart-by t cells inside rest true b same less p later = (p.0, (keeps inside p.1.0, p.1.1))
   apart-by t cells inside rest false true same less p later =
-      let below = ltb-true s.number t.number less in
-      ((omega (arith, below), ((λ e. (let n = ap (λ (r : Step). r.number) e in omega (arith, below, n))), past-below s t below rest p.0)), (keeps nothing tt, p))
+      let below = ltb-true s.number t.number less in (
+        (omega (arith, below), ((λ e. (let n = ap (λ (r : Step). r.number) e in omega (arith, below, n))), past-below s t below rest p.0)),
+        (keeps nothing tt, p),
+      )
   apart-by t cells inside rest false false same less p later = (past-into t (ltb-false s.number t.number less) (other s t same) rest p.0, (p.1.0, later))
 
   apart-into : (plan : Plan) → Apart plan → Apart (into s own deeper plan)
@@ -106,7 +113,8 @@ apart-add cell (s ∷ steps) plan p = apart-into s (own_cells steps cell) (add s
 
 apart-grown : (plan : Plan) (n : ℕ) (rows : List Row) → Apart plan → Apart (grown plan n rows)
 apart-grown plan n [] p = p
-apart-grown plan n (row ∷ rows) p = let cell : Cell = record { number = n; row = row } in apart-grown (add row.path cell plan) (n + 1) rows (apart-add cell row.path plan p)
+apart-grown plan n (row ∷ rows) p = let cell : Cell = record { number = n; row = row } in apart-grown (add row.path cell plan) (n + 1) rows
+    (apart-add cell row.path plan p)
 
 -- ---- paths of lines differ
 
@@ -141,7 +149,12 @@ below above nothing = tt
 below above (a_line s cells inside rest) = (
   record { next = s; more = []; is = refl },
   every-append (GoesOn above) (line_paths (above ++ s ∷ []) inside) (line_paths above rest)
-      (every-weaker (GoesOn (above ++ s ∷ [])) (GoesOn above) (λ x g. record { next = s; more = g.next ∷ g.more; is = g.is ∙ append_assoc above (s ∷ []) (g.next ∷ g.more) }) (line_paths (above ++ s ∷ []) inside) (below (above ++ s ∷ []) inside))
+      (every-weaker (GoesOn (above ++ s ∷ [])) (GoesOn above) (λ x g. record {
+        next = s;
+        more = g.next ∷ g.more;
+        is = g.is
+            ∙ append_assoc above (s ∷ []) (g.next ∷ g.more);
+      }) (line_paths (above ++ s ∷ []) inside) (below (above ++ s ∷ []) inside))
       (below above rest),
 )
 
@@ -196,5 +209,6 @@ once (y ∷ xs) zero (suc j) x h e f = absurd (every-got (λ z. y ≡ z → ⊥)
 once (y ∷ xs) (suc i) zero x h e f = absurd (every-got (λ z. y ≡ z → ⊥) xs i x h.0 e (let k : y ≡ x = cc in k))
 once (y ∷ xs) (suc i) (suc j) x h e f = ap suc (once xs i j x h.1 e f)
 
-pub one-path : (rows : List Row) (i j : ℕ) (path : List Step) → slice_get (line_paths [] (plan_of rows)) i ≡ Some path → slice_get (line_paths [] (plan_of rows)) j ≡ Some path → i ≡ j
+pub one-path : (rows : List Row) (i j : ℕ) (path : List Step) → slice_get (line_paths [] (plan_of rows)) i ≡ Some path
+    → slice_get (line_paths [] (plan_of rows)) j ≡ Some path → i ≡ j
 one-path rows i j path e f = once (line_paths [] (plan_of rows)) i j path (differ [] (plan_of rows) (apart-grown nothing 0 rows tt)) e f

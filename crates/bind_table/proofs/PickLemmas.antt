@@ -41,7 +41,8 @@ module _ {X C P : Type 0} (see : Sight X C P) where
 
   through-perm : (f g : C → X → List P) → ((c : C) (y : X) → IsPermutation (f c y) (g c y)) → (group : Option Group) (c : C) (xs : List X)
       → IsPermutation (through see f group c xs) (through see g group c xs)
-  through-perm f g h group c xs = flat_map-perm (λ x. f (entered see.enter group x c) x) (λ x. g (entered see.enter group x c) x) (λ x. h (entered see.enter group x c) x) xs
+  through-perm f g h group c xs = flat_map-perm (λ x. f (entered see.enter group x c) x) (λ x. g (entered see.enter group x c) x)
+      (λ x. h (entered see.enter group x c) x) xs
 
   through-both : (f g : C → X → List P) (group : Option Group) (c : C) (xs : List X)
       → IsPermutation (through see (λ c y. f c y ++ g c y) group c xs) (through see f group c xs ++ through see g group c xs)
@@ -61,7 +62,8 @@ module _ {X C P : Type 0} (see : Sight X C P) where
     line-more cells inside group c xs =
         IsPermutation-trans _ _ _
         (through-perm _ (λ c y. all_more c y ++ (here see cells c y ++ walked see inside c y))
-        (λ c y. IsPermutation-trans _ _ _ (IsPermutation-append _ _ _ _ (own-more cells c y) (deeper-more inside c y)) (crossed (more c y) (here see cells c y) (within c y) (walked see inside c y)))
+        (λ c y. IsPermutation-trans _ _ _ (IsPermutation-append _ _ _ _ (own-more cells c y) (deeper-more inside c y))
+        (crossed (more c y) (here see cells c y) (within c y) (walked see inside c y)))
         group c xs)
         (through-both all_more (λ c y. here see cells c y ++ walked see inside c y) group c xs)
 
@@ -74,10 +76,12 @@ module _ {X C P : Type 0} (see : Sight X C P) where
         group c xs
 
     same_line : (s t : Step) (cells : List Cell) (inside rest : Plan) (c : C) (x : X) → s ≡ t
-        → IsPermutation (walked see (a_line t (own cells) (deeper inside) rest) c x) (through see all_more s.group c (see.met s x) ++ walked see (a_line t cells inside rest) c x)
+        → IsPermutation (walked see (a_line t (own cells) (deeper inside) rest) c x)
+        (through see all_more s.group c (see.met s x) ++ walked see (a_line t cells inside rest) c x)
     same_line s t cells inside rest c x e =
         let line = through see (λ c y. here see cells c y ++ walked see inside c y) t.group c (see.met t x) in
-        let P : Step → Type 0 = λ r. IsPermutation (walked see (a_line t (own cells) (deeper inside) rest) c x) (through see all_more r.group c (see.met r x) ++ (line ++ walked see rest c x)) in
+        let P : Step → Type 0 = λ r. IsPermutation (walked see (a_line t (own cells) (deeper inside) rest) c x)
+        (through see all_more r.group c (see.met r x) ++ (line ++ walked see rest c x)) in
         subst P (sym e)
         (IsPermutation-trans _ _ _ (IsPermutation-append_left (walked see rest c x) _ _ (line-more cells inside t.group c (see.met t x)))
         (same-perm _ _ (append_assoc (through see all_more t.group c (see.met t x)) line (walked see rest c x))))
@@ -87,14 +91,18 @@ module _ {X C P : Type 0} (see : Sight X C P) where
         → IsPermutation (walked see (choose a (λ _. a_line t (own cells) (deeper inside) rest) (λ _. choose b (λ _. a_line s (own []) (deeper nothing) (a_line t cells inside rest)) (λ _. a_line t cells inside (into s own deeper rest)))) c x)
         (through see all_more s.group c (see.met s x) ++ walked see (a_line t cells inside rest) c x)
     by s t cells inside rest c x true b sound others = same_line s t cells inside rest c x (sound refl)
-    by s t cells inside rest c x false true sound others = IsPermutation-append_left (walked see (a_line t cells inside rest) c x) _ _ (line-new s.group c (see.met s x))
+    by s t cells inside rest c x false true sound others = IsPermutation-append_left (walked see (a_line t cells inside rest) c x) _ _
+        (line-new s.group c (see.met s x))
     by s t cells inside rest c x false false sound others =
         let line = through see (λ c y. here see cells c y ++ walked see inside c y) t.group c (see.met t x) in
-        IsPermutation-trans _ _ _ (IsPermutation-append_right line _ _ others) (between line (through see all_more s.group c (see.met s x)) (walked see rest c x))
+        IsPermutation-trans _ _ _ (IsPermutation-append_right line _ _ others)
+        (between line (through see all_more s.group c (see.met s x)) (walked see rest c x))
 
-    into-more : (s : Step) (plan : Plan) (c : C) (x : X) → IsPermutation (walked see (into s own deeper plan) c x) (through see all_more s.group c (see.met s x) ++ walked see plan c x)
+    into-more : (s : Step) (plan : Plan) (c : C) (x : X) → IsPermutation (walked see (into s own deeper plan) c x)
+        (through see all_more s.group c (see.met s x) ++ walked see plan c x)
     into-more s nothing c x = IsPermutation-append_left [] _ _ (line-new s.group c (see.met s x))
-    into-more s (a_line t cells inside rest) c x = by s t cells inside rest c x (same_step s t) (nat_lt s.number t.number) (step-sound s t) (into-more s rest c x)
+    into-more s (a_line t cells inside rest) c x = by s t cells inside rest c x (same_step s t) (nat_lt s.number t.number) (step-sound s t)
+        (into-more s rest c x)
 
   -- ---- a row is added
 
@@ -110,22 +118,26 @@ module _ {X C P : Type 0} (see : Sight X C P) where
   more-is cell [] c y = append-nil _
   more-is cell (s ∷ steps) c y = refl
 
-  own-is : (cell : Cell) (steps : List Step) (cells : List Cell) (c : C) (y : X) → IsPermutation (here see (own_cells steps cell cells) c y) (more_here cell steps c y ++ here see cells c y)
+  own-is : (cell : Cell) (steps : List Step) (cells : List Cell) (c : C) (y : X)
+      → IsPermutation (here see (own_cells steps cell cells) c y) (more_here cell steps c y ++ here see cells c y)
   own-is cell [] cells c y =
       IsPermutation-trans _ _ _ (same-perm _ _ (flat_map-append (λ k. see.told k c y) cells (cell ∷ [])))
       (IsPermutation-trans _ _ _ (IsPermutation-append_comm (here see cells c y) (see.told cell c y ++ []))
       (same-perm _ _ (ap (λ zs. zs ++ here see cells c y) (append-nil (see.told cell c y)))))
   own-is cell (s ∷ steps) cells c y = IsPermutation-refl _
 
-  add-more : (cell : Cell) (steps : List Step) (plan : Plan) (c : C) (x : X) → IsPermutation (walked see (add steps cell plan) c x) (more_within cell steps c x ++ walked see plan c x)
+  add-more : (cell : Cell) (steps : List Step) (plan : Plan) (c : C) (x : X)
+      → IsPermutation (walked see (add steps cell plan) c x) (more_within cell steps c x ++ walked see plan c x)
   add-more cell [] plan c x = IsPermutation-refl _
   add-more cell (s ∷ steps) plan c x =
       IsPermutation-trans _ _ _
       (into-more (own_cells steps cell) (add steps cell) (more_here cell steps) (more_within cell steps) (own-is cell steps) (add-more cell steps) s plan c x)
       (IsPermutation-append_left (walked see plan c x) _ _
-      (through-perm (λ c y. more_here cell steps c y ++ more_within cell steps c y) (picked see cell steps) (λ c y. same-perm _ _ (more-is cell steps c y)) s.group c (see.met s x)))
+      (through-perm (λ c y. more_here cell steps c y ++ more_within cell steps c y) (picked see cell steps)
+      (λ c y. same-perm _ _ (more-is cell steps c y)) s.group c (see.met s x)))
 
-  path-more : (cell : Cell) (path : List Step) (plan : Plan) (c : C) (x : X) → 0 < length path → IsPermutation (walked see (add path cell plan) c x) (picked see cell path c x ++ walked see plan c x)
+  path-more : (cell : Cell) (path : List Step) (plan : Plan) (c : C) (x : X) → 0 < length path
+      → IsPermutation (walked see (add path cell plan) c x) (picked see cell path c x ++ walked see plan c x)
   path-more cell [] plan c x h = absurd (omega arith)
   path-more cell (s ∷ path) plan c x h = add-more cell (s ∷ path) plan c x
 
@@ -142,5 +154,6 @@ module _ {X C P : Type 0} (see : Sight X C P) where
       (IsPermutation-append_right others _ _ (IsPermutation-sym _ _ (path-more cell row.path plan c x (All-head (λ (r : Row). 0 < length r.path) row rows long))))
       (grown-more (add row.path cell plan) (n + 1) rows c x (All-tail (λ (r : Row). 0 < length r.path) row rows long))))
 
-  pub rows-and-lines : (rows : List Row) (c : C) (x : X) → All (λ (r : Row). 0 < length r.path) rows → IsPermutation (picked_from see 0 rows c x) (walked see (plan_of rows) c x)
+  pub rows-and-lines : (rows : List Row) (c : C) (x : X) → All (λ (r : Row). 0 < length r.path) rows
+      → IsPermutation (picked_from see 0 rows c x) (walked see (plan_of rows) c x)
   rows-and-lines rows c x long = IsPermutation-trans _ _ _ (same-perm _ _ (sym (append-nil (picked_from see 0 rows c x)))) (grown-more nothing 0 rows c x long)

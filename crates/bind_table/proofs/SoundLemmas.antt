@@ -44,7 +44,8 @@ told-ok k None others e = (refl, e)
 told-ok k (Some kind) others e = cc
 
 -- The rows that are left have no fault, so neither has one of them.
-none-at : (rows own : List Row) (k : ℕ) (left : List Row) (j : ℕ) (row : Row) → first_fault_from rows own k left ≡ Ok tt → slice_get left j ≡ Some row → fault_of rows own (k + j) row ≡ None
+none-at : (rows own : List Row) (k : ℕ) (left : List Row) (j : ℕ) (row : Row) → first_fault_from rows own k left ≡ Ok tt → slice_get left j ≡ Some row
+    → fault_of rows own (k + j) row ≡ None
 none-at rows own k [] j row fine at = cc
 none-at rows own k (r ∷ left) zero row fine at =
     let P : Row → Type 0 = λ r. fault_of rows own k r ≡ None in
@@ -73,7 +74,8 @@ chosen-true : (b : Bool) (rest : Option TableKind) (kind : TableKind) → choose
 chosen-true true rest kind e = refl
 chosen-true false rest kind e = cc
 
-none-chosen : {A : Type 0} (a b c : Bool) (x y z : A) → choose a (λ _. Some x) (λ _. choose b (λ _. Some y) (λ _. choose c (λ _. Some z) (λ _. None))) ≡ None → (b ≡ false) × (c ≡ false)
+none-chosen : {A : Type 0} (a b c : Bool) (x y z : A) → choose a (λ _. Some x) (λ _. choose b (λ _. Some y) (λ _. choose c (λ _. Some z) (λ _. None))) ≡ None
+    → (b ≡ false) × (c ≡ false)
 none-chosen true b c x y z e = cc
 none-chosen false true c x y z e = cc
 none-chosen false false true x y z e = cc
@@ -85,7 +87,8 @@ fine-row rows own k row h = go (is_added row) refl h
     go : (b : Bool) → is_added row ≡ b → choose b (λ _. added_fault rows own k row) (λ _. own_fault rows own k row) ≡ None → IsFine own row
     go true e n = inr (record { added = e; there = chosen-true (is_in_context own row) _ kinds.OutsideContext n })
     go false e n =
-        let w = none-chosen (is_ambiguous rows k row) (is_unknown row row.content) (is_outside own row) kinds.Ambiguous kinds.UnknownTerm kinds.OutsideContext n in
+        let w = none-chosen (is_ambiguous rows k row) (is_unknown row row.content)
+        (is_outside own row) kinds.Ambiguous kinds.UnknownTerm kinds.OutsideContext n in
         inl (record { built_in = e; known = w.0; inside = w.1 })
 
 all-fine : (rows own : List Row) (k : ℕ) (left : List Row) → first_fault_from rows own k left ≡ Ok tt → AllByRecursion (IsFine own) left
@@ -102,7 +105,8 @@ record IsPlacedRow (own : List Row) (row : Row) : Type 0 where
 
 placed-own : (own : List Row) (row : Row) → IsFineOwn own row → IsPlacedRow own row
 placed-own own row w =
-    let a = both (is_rooted own row) (is_placed own row row.outer && (is_placed own row row.inner && is_nested row row.outer row.inner)) (not-false _ w.inside) in
+    let a = both (is_rooted own row) (is_placed own row row.outer
+    && (is_placed own row row.inner && is_nested row row.outer row.inner)) (not-false _ w.inside) in
     let b = both (is_placed own row row.outer) (is_placed own row row.inner && is_nested row row.outer row.inner) a.1 in
     let d = both (is_placed own row row.inner) (is_nested row row.outer row.inner) b.1 in
     record { rooted = a.0; outer = b.0; inner = d.0; nested = d.1 }
@@ -113,9 +117,11 @@ carries-none : (group : Group) (above path : List Step) → groups_of path ≡ [
 carries-none group above [] e = refl
 carries-none group above (s ∷ path) e = by s.group refl e (carries-none group (above ++ s ∷ []) path)
   where
-    by : (o : Option Group) → s.group ≡ o → listed o ++ groups_of path ≡ [] → (groups_of path ≡ [] → carriers group (above ++ s ∷ []) path ≡ []) → carriers group above (s ∷ path) ≡ []
+    by : (o : Option Group) → s.group ≡ o → listed o ++ groups_of path ≡ [] → (groups_of path ≡ [] → carriers group (above ++ s ∷ []) path ≡ [])
+        → carriers group above (s ∷ path) ≡ []
     by None o f deeper =
-        ap (λ (g : Option Group). choose (same_or_none g (Some group)) (λ _. (above ++ s ∷ []) ∷ carriers group (above ++ s ∷ []) path) (λ _. carriers group (above ++ s ∷ []) path)) o ∙ deeper f
+        ap (λ (g : Option Group). choose (same_or_none g (Some group)) (λ _. (above ++ s ∷ []) ∷ carriers group (above ++ s ∷ []) path)
+        (λ _. carriers group (above ++ s ∷ []) path)) o ∙ deeper f
     by (Some g) o f deeper = cc
 
 head-of : {A : Type 0} (x y : A) (xs ys : List A) → x ∷ xs ≡ y ∷ ys → x ≡ y
@@ -125,22 +131,28 @@ tail-of : {A : Type 0} (x y : A) (xs ys : List A) → x ∷ xs ≡ y ∷ ys → 
 tail-of x y xs ys e = cc
 
 -- of a path that carries the one group: for this one its fronts are one, and for others none
-other-group : (group carried : Group) (above path : List Step) → same_group carried group ≡ false → groups_of path ≡ carried ∷ [] → carriers group above path ≡ []
+other-group : (group carried : Group) (above path : List Step) → same_group carried group ≡ false → groups_of path ≡ carried ∷ []
+    → carriers group above path ≡ []
 other-group group carried above [] differ e = cc
 other-group group carried above (s ∷ path) differ e = by s.group refl e (other-group group carried (above ++ s ∷ []) path differ)
   where
-    by : (o : Option Group) → s.group ≡ o → listed o ++ groups_of path ≡ carried ∷ [] → (groups_of path ≡ carried ∷ [] → carriers group (above ++ s ∷ []) path ≡ []) → carriers group above (s ∷ path) ≡ []
+    by : (o : Option Group) → s.group ≡ o → listed o ++ groups_of path ≡ carried ∷ []
+        → (groups_of path ≡ carried ∷ [] → carriers group (above ++ s ∷ []) path ≡ []) → carriers group above (s ∷ path) ≡ []
     by None o f deeper =
-        ap (λ (g : Option Group). choose (same_or_none g (Some group)) (λ _. (above ++ s ∷ []) ∷ carriers group (above ++ s ∷ []) path) (λ _. carriers group (above ++ s ∷ []) path)) o ∙ deeper f
+        ap (λ (g : Option Group). choose (same_or_none g (Some group)) (λ _. (above ++ s ∷ []) ∷ carriers group (above ++ s ∷ []) path)
+        (λ _. carriers group (above ++ s ∷ []) path)) o ∙ deeper f
     by (Some g) o f deeper =
         let same = head-of g carried (groups_of path) [] f in
         let rest = tail-of g carried (groups_of path) [] f in
-        ap (λ (q : Option Group). choose (same_or_none q (Some group)) (λ _. (above ++ s ∷ []) ∷ carriers group (above ++ s ∷ []) path) (λ _. carriers group (above ++ s ∷ []) path)) o
-        ∙ (ap (λ b. choose b (λ _. (above ++ s ∷ []) ∷ carriers group (above ++ s ∷ []) path) (λ _. carriers group (above ++ s ∷ []) path)) (ap (λ (q : Group). same_group q group) same ∙ differ)
+        ap (λ (q : Option Group). choose (same_or_none q (Some group)) (λ _. (above ++ s ∷ []) ∷ carriers group (above ++ s ∷ []) path)
+        (λ _. carriers group (above ++ s ∷ []) path)) o
+        ∙ (ap (λ b. choose b (λ _. (above ++ s ∷ []) ∷ carriers group (above ++ s ∷ []) path) (λ _. carriers group (above ++ s ∷ []) path))
+        (ap (λ (q : Group). same_group q group) same ∙ differ)
         ∙ carries-none group (above ++ s ∷ []) path rest)
 
 -- the one front of the group
-one-front : (group : Group) (above path : List Step) → groups_of path ≡ group ∷ [] → carriers group above path ≡ (above ++ take (depth_of group path + 1) path) ∷ []
+one-front : (group : Group) (above path : List Step) → groups_of path ≡ group ∷ []
+    → carriers group above path ≡ (above ++ take (depth_of group path + 1) path) ∷ []
 one-front group above [] e = cc
 one-front group above (s ∷ path) e = by s.group refl e (one-front group (above ++ s ∷ []) path)
   where
@@ -169,13 +181,16 @@ pub record First (fronts : List (List Step)) (front : List Step) : Type 0 where
   pub others : List (List Step)
   pub is : fronts ≡ front ∷ others
 
-pub first-front : (group : Group) (above path : List Step) → nat_lt (depth_of group path) (length path) ≡ true → First (carriers group above path) (above ++ take (depth_of group path + 1) path)
+pub first-front : (group : Group) (above path : List Step) → nat_lt (depth_of group path) (length path) ≡ true
+    → First (carriers group above path) (above ++ take (depth_of group path + 1) path)
 first-front group above [] h = cc
 first-front group above (s ∷ path) h = by (carries group s) h (first-front group (above ++ s ∷ []) path)
   where
     by : (b : Bool) → nat_lt (choose b (λ _. 0) (λ _. 1 + depth_of group path)) (length (s ∷ path)) ≡ true
-        → (nat_lt (depth_of group path) (length path) ≡ true → First (carriers group (above ++ s ∷ []) path) ((above ++ s ∷ []) ++ take (depth_of group path + 1) path))
-        → First (choose b (λ _. (above ++ s ∷ []) ∷ carriers group (above ++ s ∷ []) path) (λ _. carriers group (above ++ s ∷ []) path)) (above ++ take (choose b (λ _. 0) (λ _. 1 + depth_of group path) + 1) (s ∷ path))
+        → (nat_lt (depth_of group path) (length path) ≡ true
+        → First (carriers group (above ++ s ∷ []) path) ((above ++ s ∷ []) ++ take (depth_of group path + 1) path))
+        → First (choose b (λ _. (above ++ s ∷ []) ∷ carriers group (above ++ s ∷ []) path) (λ _. carriers group (above ++ s ∷ []) path))
+        (above ++ take (choose b (λ _. 0) (λ _. 1 + depth_of group path) + 1) (s ∷ path))
     by true h deeper = record { others = carriers group (above ++ s ∷ []) path; is = refl }
     by false h deeper =
         let below : depth_of group path < length path = (let l = ltb-true (1 + depth_of group path) (length (s ∷ path)) h in omega arith) in
@@ -183,7 +198,8 @@ first-front group above (s ∷ path) h = by (carries group s) h (first-front gro
         let e : suc (depth_of group path + 1) ≡ 1 + depth_of group path + 1 = omega arith in
         record {
           others = f.others;
-          is = f.is ∙ (ap (λ p. p ∷ f.others) (append_assoc above (s ∷ []) (take (depth_of group path + 1) path)) ∙ ap (λ n. (above ++ take n (s ∷ path)) ∷ f.others) e);
+          is = f.is ∙ (ap (λ p. p ∷ f.others) (append_assoc above (s ∷ []) (take (depth_of group path + 1) path))
+              ∙ ap (λ n. (above ++ take n (s ∷ path)) ∷ f.others) e);
         }
 
 -- the fronts of the row that carry the group are all this one
@@ -201,7 +217,8 @@ pub record Found (group : Group) (rows : List Row) : Type 0 where
   pub front : List Step
   pub is : first_carrier group rows ≡ Some front
 
-found-own : (group : Group) (rows : List Row) (j : ℕ) (row : Row) → slice_get rows j ≡ Some row → is_added row ≡ false → is_carried group row ≡ true → Found group (built rows)
+found-own : (group : Group) (rows : List Row) (j : ℕ) (row : Row) → slice_get rows j ≡ Some row → is_added row ≡ false → is_carried group row ≡ true
+    → Found group (built rows)
 found-own group [] j row at own h = cc
 found-own group (r ∷ rows) zero row at own h =
     let same = same_Some _ _ at in
@@ -259,7 +276,8 @@ begun own row group h = by (first_carrier group own) refl (both (is_carried_once
         let c = both (is_carried group row) (same_path front (front_of group row)) w.1 in
         record { once = w.0; front = front; is = e; carried = c.0; same = c.1 }
 
-added-are : (own : List Row) (row : Row) (group : Group) (front : List Step) → first_carrier group own ≡ Some front → AddedFacts own row → are front group row ≡ true
+added-are : (own : List Row) (row : Row) (group : Group) (front : List Step) → first_carrier group own ≡ Some front → AddedFacts own row
+    → are front group row ≡ true
 added-are own row group front first w = by row.outer w.begins w.only
   where
     by : (o : Option Group) → begins_there own row o ≡ true → groups_of row.path ≡ listed o → are front group row ≡ true
@@ -277,11 +295,13 @@ added-are own row group front first w = by row.outer w.begins w.only
 
 -- ---- one element over all rows
 
-joined : (f : Row → Bool) (rows : List Row) → list_all f (built rows) ≡ true → AllByRecursion (λ (r : Row). (is_added r ≡ false) ⊎ (f r ≡ true)) rows → list_all f rows ≡ true
+joined : (f : Row → Bool) (rows : List Row) → list_all f (built rows) ≡ true → AllByRecursion (λ (r : Row). (is_added r ≡ false) ⊎ (f r ≡ true)) rows
+    → list_all f rows ≡ true
 joined f [] h k = refl
 joined f (r ∷ rows) h k = go (is_added r) refl h k.0 (λ z. joined f rows z k.1)
   where
-    go : (b : Bool) → is_added r ≡ b → list_all f (if not b then r ∷ built rows else built rows) ≡ true → (is_added r ≡ false) ⊎ (f r ≡ true) → (list_all f (built rows) ≡ true → list_all f rows ≡ true)
+    go : (b : Bool) → is_added r ≡ b → list_all f (if not b then r ∷ built rows else built rows) ≡ true → (is_added r ≡ false) ⊎ (f r ≡ true)
+        → (list_all f (built rows) ≡ true → list_all f rows ≡ true)
         → list_all f (r ∷ rows) ≡ true
     go false e h k more = let w = both (f r) (list_all f (built rows)) h in and_from _ _ w.0 (more w.1)
     go true e h (inl x) more = absurd (false≢true (sym x ∙ e))
@@ -296,26 +316,31 @@ each-are own group front first (r ∷ rows) h = (by h.0, each-are own group fron
     by (inl w) = inl w.built_in
     by (inr w) = inr (added-are own r group front first (added-facts own r w.there))
 
-first-same : (group : Group) (front : List Step) (rows : List Row) (other : List Step) → list_all (are front group) rows ≡ true → first_carrier group rows ≡ Some other → front ≡ other
+first-same : (group : Group) (front : List Step) (rows : List Row) (other : List Step) → list_all (are front group) rows ≡ true
+    → first_carrier group rows ≡ Some other → front ≡ other
 first-same group front [] other h e = cc
-first-same group front (r ∷ rows) other h e = by (is_carried group r) refl e (first-same group front rows other (both (are front group r) (list_all (are front group) rows) h).1)
+first-same group front (r ∷ rows) other h e = by (is_carried group r) refl e
+    (first-same group front rows other (both (are front group r) (list_all (are front group) rows) h).1)
   where
     by : (b : Bool) → is_carried group r ≡ b → choose b (λ _. Some (take (depth_of group r.path + 1) r.path)) (λ _. first_carrier group rows) ≡ Some other
         → (first_carrier group rows ≡ Some other → front ≡ other) → front ≡ other
     by true k e f = front-is group front r (both (are front group r) (list_all (are front group) rows) h).0 k ∙ same_Some _ _ e
     by false k e f = f e
 
-once-in-all : (rows : List Row) (group : Group) → AllByRecursion (IsFine (built rows)) rows → Found group (built rows) → is_carried_once group (built rows) ≡ true → is_carried_once group rows ≡ true
+once-in-all : (rows : List Row) (group : Group) → AllByRecursion (IsFine (built rows)) rows → Found group (built rows)
+    → is_carried_once group (built rows) ≡ true → is_carried_once group rows ≡ true
 once-in-all rows group fine first once = by (first_carrier group rows) refl
   where
     all : list_all (are first.front group) rows ≡ true
-    all = joined (are first.front group) rows (ap (all_are group (built rows)) (sym first.is) ∙ once) (each-are (built rows) group first.front first.is rows fine)
+    all = joined (are first.front group) rows (ap (all_are group (built rows)) (sym first.is)
+        ∙ once) (each-are (built rows) group first.front first.is rows fine)
 
     by : (o : Option (List Step)) → first_carrier group rows ≡ o → is_carried_once group rows ≡ true
     by None e = ap (all_are group rows) e
     by (Some other) e = ap (all_are group rows) (e ∙ ap Some (sym (first-same group first.front rows other all e))) ∙ all
 
-placed-in-all : (rows : List Row) (row : Row) (slot : Option Group) → AllByRecursion (IsFine (built rows)) rows → ((group : Group) → slot ≡ Some group → is_carried group row ≡ true → Found group (built rows))
+placed-in-all : (rows : List Row) (row : Row) (slot : Option Group) → AllByRecursion (IsFine (built rows)) rows
+    → ((group : Group) → slot ≡ Some group → is_carried group row ≡ true → Found group (built rows))
     → is_placed (built rows) row slot ≡ true → is_placed rows row slot ≡ true
 placed-in-all rows row None fine first h = refl
 placed-in-all rows row (Some group) fine first h =
@@ -343,11 +368,13 @@ root-more (first ∷ own) row other h k = has-root-more row.path other.path firs
 added-parts : (row : Row) → is_added row ≡ true → (adds_term row.content ≡ true) × (is_root_or_line row.outer row.inner ≡ true)
 added-parts row h = by (adds_term row.content) h
   where
-    by : (b : Bool) → choose b (λ _. is_root_or_line row.outer row.inner && is_unmarked row) (λ _. false) ≡ true → (b ≡ true) × (is_root_or_line row.outer row.inner ≡ true)
+    by : (b : Bool) → choose b (λ _. is_root_or_line row.outer row.inner && is_unmarked row) (λ _. false) ≡ true
+        → (b ≡ true) × (is_root_or_line row.outer row.inner ≡ true)
     by true h = (refl, (both (is_root_or_line row.outer row.inner) (is_unmarked row) h).0)
     by false h = absurd (false≢true h)
 
-no-inner : (own : List Row) (row : Row) (outer inner : Option Group) → is_root_or_line outer inner ≡ true → (is_placed own row inner ≡ true) × (is_nested row outer inner ≡ true)
+no-inner : (own : List Row) (row : Row) (outer inner : Option Group) → is_root_or_line outer inner ≡ true
+    → (is_placed own row inner ≡ true) × (is_nested row outer inner ≡ true)
 no-inner own row None None h = (refl, refl)
 no-inner own row None (Some inner) h = absurd (false≢true h)
 no-inner own row (Some outer) None h = (refl, refl)
@@ -361,12 +388,14 @@ in-line : (number : ℕ) → is_none (extension_row number (Some groups.InvoiceL
 unfolding parent_of occurrence_of
 in-line number = refl
 
-placed-term : (term : Term) (outer inner : Option Group) → is_extension term ≡ true → is_root_or_line outer inner ≡ true → is_none (row_in term outer inner) ≡ false
+placed-term : (term : Term) (outer inner : Option Group) → is_extension term ≡ true → is_root_or_line outer inner ≡ true
+    → is_none (row_in term outer inner) ≡ false
 placed-term term None None e h = ap is_none (sym (extension-row_is term None None e)) ∙ at-root term.number
 placed-term term None (Some inner) e h = absurd (false≢true h)
 placed-term term (Some outer) None e h =
     let line = group-sound outer groups.InvoiceLine h in
-    ap is_none (sym (extension-row_is term (Some outer) None e)) ∙ (ap (λ (g : Group). is_none (extension_row term.number (Some g) None)) line ∙ in-line term.number)
+    ap is_none (sym (extension-row_is term (Some outer) None e))
+    ∙ (ap (λ (g : Group). is_none (extension_row term.number (Some g) None)) line ∙ in-line term.number)
 placed-term term (Some outer) (Some inner) e h = absurd (false≢true h)
 
 added-known : (row : Row) (content : Content) → adds_term content ≡ true → is_root_or_line row.outer row.inner ≡ true → is_unplaced row content ≡ false
@@ -402,7 +431,8 @@ rooted-in-all [] fine row h = cc
 rooted-in-all (r ∷ rows) fine row h = root-more (built (r ∷ rows)) row r h (placed-fine (built (r ∷ rows)) r fine.0).rooted
 
 -- where the built-in part carries a group of the row
-found-slot : (rows : List Row) (j : ℕ) (row : Row) → slice_get rows j ≡ Some row → IsFine (built rows) row → (group : Group) → (row.outer ≡ Some group) ⊎ (row.inner ≡ Some group) → is_carried group row ≡ true → Found group (built rows)
+found-slot : (rows : List Row) (j : ℕ) (row : Row) → slice_get rows j ≡ Some row → IsFine (built rows) row → (group : Group)
+    → (row.outer ≡ Some group) ⊎ (row.inner ≡ Some group) → is_carried group row ≡ true → Found group (built rows)
 found-slot rows j row at (inl w) group slot h = found-own group rows j row at w.built_in h
 found-slot rows j row at (inr w) group (inl e) h =
     let b = begun (built rows) row group (ap (begins_there (built rows) row) (sym e) ∙ (added-facts (built rows) row w.there).begins) in
@@ -413,7 +443,8 @@ found-slot rows j row at (inr w) group (inr e) h = absurd (false≢true (sym (no
     none None = ap (is_root_or_line None) e
     none (Some outer) = ap (is_root_or_line (Some outer)) e
 
-sound : (rows : List Row) (j : ℕ) (row : Row) → AllByRecursion (IsFine (built rows)) rows → slice_get rows j ≡ Some row → IsFine (built rows) row → IsSoundRow rows row
+sound : (rows : List Row) (j : ℕ) (row : Row) → AllByRecursion (IsFine (built rows)) rows → slice_get rows j ≡ Some row → IsFine (built rows) row
+    → IsSoundRow rows row
 sound rows j row fine at w =
     let p = placed-fine (built rows) row w in
     record {
@@ -448,7 +479,8 @@ pub sound-rows : (rows : List Row) → first_fault rows ≡ Ok tt → All (IsSou
 sound-rows rows h = All-from_recursion (IsSoundRow rows) rows (sound-each rows h)
 
 -- An added row of a well-formed table has no fault.
-pub added-at : (rows : List Row) (j : ℕ) (row : Row) → first_fault rows ≡ Ok tt → slice_get rows j ≡ Some row → is_added row ≡ true → added_fault rows (built rows) j row ≡ None
+pub added-at : (rows : List Row) (j : ℕ) (row : Row) → first_fault rows ≡ Ok tt → slice_get rows j ≡ Some row → is_added row ≡ true
+    → added_fault rows (built rows) j row ≡ None
 added-at rows j row h at added =
     let e : 0 + j ≡ j = omega arith in
     ap (λ b. choose b (λ _. added_fault rows (built rows) j row) (λ _. own_fault rows (built rows) j row)) (sym added)

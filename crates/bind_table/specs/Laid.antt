@@ -42,8 +42,10 @@ is_ncname (c ∷ text) = is_plain_start c && list_all is_plain_char text
 
 -- the namespaces that a document declares whose root is in the first one
 abbrev pub is_declared : Namespace → Namespace → Bool
-is_declared spaces.UblInvoice other = same_namespace other spaces.UblInvoice || (same_namespace other spaces.UblAggregate || same_namespace other spaces.UblBasic)
-is_declared spaces.UblCreditNote other = same_namespace other spaces.UblCreditNote || (same_namespace other spaces.UblAggregate || same_namespace other spaces.UblBasic)
+is_declared spaces.UblInvoice other = same_namespace other spaces.UblInvoice
+    || (same_namespace other spaces.UblAggregate || same_namespace other spaces.UblBasic)
+is_declared spaces.UblCreditNote other = same_namespace other spaces.UblCreditNote
+    || (same_namespace other spaces.UblAggregate || same_namespace other spaces.UblBasic)
 is_declared spaces.CiiInvoice other =
     same_namespace other spaces.CiiInvoice || (same_namespace other spaces.CiiAggregate || (same_namespace other spaces.CiiUnqualified || same_namespace other spaces.CiiQualified))
 is_declared _ other = false

@@ -16,6 +16,7 @@ use Rattle.bind_rows.specs.declared.rows.Row.{Row}
 use Rattle.bind_rows.specs.declared.rows.Content.{Content}
 use Rattle.bind_rows.specs.declared.rows.Content.TheVariants as contents
 use Rattle.bind_rows.specs.Same.{same_name, same_step, same_group, same_or_none, choose}
+use Rattle.bind_rows.specs.Contents.{has_term}
 use Rattle.bind_rows.specs.Added.{is_added, built}
 use Rattle.bind_table.specs.Crossings.{part_by_name, shared, passes_no_group, is_proper_front}
 use Rattle.bind_table.specs.Parting.{clash}
@@ -144,13 +145,6 @@ stands_clear row other = part_by_name row.path other.path || (is_added other && 
 abbrev pub parts_from : List Row → ℕ → ℕ → Row → Bool
 parts_from [] n k row = true
 parts_from (other ∷ others) n k row = ((n == k) || stands_clear row other) && parts_from others (n + 1) k row
-
-abbrev pub holds_term : Content → Bool
-holds_term (contents.Term term) = true
-holds_term (contents.Constant text) = false
-
-abbrev pub has_term : Row → Bool
-has_term row = holds_term row.content
 
 abbrev pub most_shared : List Step → List Row → ℕ
 most_shared path rows = fold max 0 (map (λ (row : Row). shared path row.path) rows)

@@ -1,6 +1,7 @@
 ghost use Rattle.std.specs.Prelude.{◌≡◌, filter, option_map};
 ghost use Rattle.std.specs.List.{list_all};
 ghost use Rattle.bind_rows.specs.Added.{built};
+ghost use Rattle.bind_rows.specs.Contents.{has_term};
 ghost use Rattle.bind_table.specs.Crossings.{passes_no_group};
 ghost use Rattle.bind_table.specs.WellFormed as spec;
 
@@ -8,7 +9,7 @@ use crate::crossings::{is_proper_front, part_by_name, passes_no_group, shared};
 use crate::judging::{
     TableKind, depth_of, first_carrier, is_carried_once, is_rooted, is_same_group,
 };
-use bind_rows::{Content, Row, Step, are_same, is_added};
+use bind_rows::{Row, Step, are_same, is_added};
 use term_table::Group;
 
 /// What is wrong with the k-th row, from 0, which a user added.
@@ -115,15 +116,6 @@ fn parts_from(rows: &[Row], k: usize, row: &Row) -> bool
     true
 }
 
-fn has_term(row: &Row) -> bool
-    ensures { result ≡ spec.has_term row.now }
-{
-    match row.content {
-        Content::Term(_) => true,
-        Content::Constant(_) => false,
-    }
-}
-
 fn most_shared(rows: &[Row], path: &[Step]) -> usize
     ensures { result ≡ spec.most_shared path.now (built rows.now) }
 {
@@ -137,11 +129,11 @@ fn most_shared(rows: &[Row], path: &[Step]) -> usize
 }
 
 fn most_held(rows: &[Row], path: &[Step]) -> usize
-    ensures { result ≡ spec.most_shared path.now (filter spec.has_term (built rows.now)) }
+    ensures { result ≡ spec.most_shared path.now (filter has_term (built rows.now)) }
 {
     let mut most = 0;
     'rows: for row in rows {
-        if !is_added(row) && has_term(row) {
+        if !is_added(row) && row.has_term() {
             most = most.max(shared(path, row.path.as_slice()));
         }
     }

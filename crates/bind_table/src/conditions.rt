@@ -2,7 +2,7 @@ ghost use Rattle.std.specs.Prelude.{◌≡◌, IfOk, map};
 ghost use Rattle.std.specs.Str.{chars};
 ghost use Rattle.bind_table.specs.Items as spec;
 
-use bind_rows::{ElementName, Guard, Leaf, Many, Namespace, Place, Test};
+use bind_rows::{ElementName, Guard, Leaf, Many, Namespace, Place, Test, Word};
 use inv_base::Txt;
 use std::alloc::{AllocError, Global};
 
@@ -30,13 +30,13 @@ pub struct Condition {
     pub asked: Asked,
 }
 
-pub(crate) fn name_of(alloc: Global, tag: &Tag) -> Result<ElementName, AllocError>
-    ensures { IfOk result (λ name. name ≡ spec.name_of tag.now) }
+pub(crate) fn name_of(tag: &Tag) -> ElementName
+    ensures { result ≡ spec.name_of tag.now }
 {
-    Ok(ElementName {
+    ElementName {
         namespace: tag.namespace,
-        local: Txt::of(alloc, tag.local)?,
-    })
+        local: Word::fixed(tag.local),
+    }
 }
 
 fn names_of(alloc: Global, tags: &[Tag]) -> Result<Many<ElementName>, AllocError>
@@ -44,7 +44,7 @@ fn names_of(alloc: Global, tags: &[Tag]) -> Result<Many<ElementName>, AllocError
 {
     let mut names = Many::new(alloc);
     'tags: for tag in tags {
-        names.push(name_of(alloc, tag)?)?;
+        names.push(name_of(tag))?;
     }
     Ok(names)
 }

@@ -1,4 +1,4 @@
-ghost use Rattle.std.specs.Prelude.{◌≡◌, ◌||◌, ◌&&◌, ◌^◌, nat_lt, slice_get, slice_set, Some, ℕ, ◌<◌, ◌≤◌, ◌+◌, ◌++◌, [], ◌∷◌, length, take, drop, IfOk, OnOk, OnErr, vec_len};
+ghost use Rattle.std.specs.Prelude.{◌≡◌, ◌||◌, ◌&&◌, ◌^◌, nat_lt, slice_get, slice_set, Some, ℕ, ◌<◌, ◌≤◌, ◌+◌, ◌++◌, [], ◌∷◌, length, take, drop, IfOk, IsTrue, OnOk, OnErr, vec_len};
 ghost use Rattle.bind_rows.specs.Same.{same_step};
 ghost use Rattle.bind_table.specs.Lines.{Plan, Cell, flat, add, nothing};
 ghost use Rattle.bind_table.specs.Growing as spec;
@@ -55,12 +55,13 @@ fn extend(
     Ok(more)
 }
 
-/// Whether the line at a place, if it stands before another, is that of the step.
+/// Whether the line at a place that was sought for a step is the step's. Where it isn't, it has a greater number.
 fn is_line_of(lines: &[Line], at: usize, to: usize, step: &Step) -> bool
+    requires { (x : Line) → at < to → slice_get lines.now at ≡ Some x → IsTrue (same_step step.now x.step || nat_lt step.now.number x.step.number) }
     ensures { result ≡ (nat_lt at to && spec.is_line_of step.now (slice_get lines.now at)) }
 {
     match lines.get(at) {
-        Some(line) => at < to && step.is_same(&line.step),
+        Some(line) => (at < to) & !(step.number < line.step.number),
         None => false,
     }
 }

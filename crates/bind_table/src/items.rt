@@ -35,7 +35,7 @@ pub(crate) fn step_of(alloc: Global, head: &Head, number: u32) -> Result<Step, A
     ensures { IfOk result (λ step. step ≡ spec.step_of head.now number) }
 {
     Ok(Step {
-        name: name_of(alloc, &head.tag)?,
+        name: name_of(&head.tag),
         number,
         always: head.always,
         group: head.group,

@@ -7,9 +7,9 @@ ghost use Rattle.bind_table.specs.WellFormed as spec;
 use crate::adding::added_fault;
 use crate::parting::clash;
 use bind_rows::{
-    Content, ElementName, Namespace, Row, Same, Step, are_same, is_added, is_same_or_none,
+    Content, ElementName, Namespace, Row, Same, Step, Word, are_same, is_added, is_same_or_none,
 };
-use inv_base::{Txt, is_same_text};
+use inv_base::is_same_text;
 use term_table::{Group, row_in};
 
 /// What may be wrong with a row of a table.
@@ -136,7 +136,7 @@ fn is_root(name: &ElementName) -> bool
     is_root_of(name.namespace, &name.local)
 }
 
-fn is_root_of(namespace: Namespace, local: &Txt) -> bool
+fn is_root_of(namespace: Namespace, local: &Word) -> bool
     ensures { result ≡ spec.is_root_of namespace local.now }
 {
     let text = local.as_str();

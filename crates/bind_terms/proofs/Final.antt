@@ -20,16 +20,16 @@ use Rattle.bind_rows.specs.declared.rows.Row.{Row}
 use Rattle.bind_meaning.specs.declared.fault.BindKind.{BindKind}
 use Rattle.bind_meaning.specs.declared.fault.BindKind.TheVariants as kinds
 use Rattle.bind_meaning.specs.declared.picked.Picked.{Picked}
-use Rattle.bind_meaning.specs.declared.picked.SeatedPick.{SeatedPick}
+use Rattle.bind_meaning.specs.declared.picked.PlacedPick.{PlacedPick}
 use Rattle.bind_meaning.specs.Currencies.{Currencies, currencies}
-use Rattle.bind_meaning.specs.Kept.{kept, all_kept, kept_seat, all_kept_seats}
+use Rattle.bind_meaning.specs.Kept.{kept, all_kept, kept_placed, all_kept_placed}
 use Rattle.bind_meaning.specs.Picks.{Pick, numbered}
 use Rattle.bind_meaning.specs.declared.fault.BindFault.{BindFault}
 use Rattle.bind_meaning.specs.Faults.{lacks_in, every_fault, put_faults, in_fault_order, faults_in}
 use Rattle.bind_meaning.specs.Seats.{Placed, rooms}
 use Rattle.bind_meaning.specs.Judging.{Found, Told, seat_of, first_before, Cause, first_cause, causes, fault_of, faults_behind, wrong_word, least, least_from, is_bad, is_excess, is_not_listed, is_foreign, is_disagreeing, breaks}
 use Rattle.bind_meaning.specs.Elements.{has_element_inside}
-use Rattle.bind_meaning.specs.Terms.{in_order, constant_picks, term_picks, all_faults, entries, passed_over}
+use Rattle.bind_meaning.specs.Terms.{in_order, constant_picks, term_picks, all_faults, entries, passed_over, terms_of}
 use Rattle.node_arena.proofs.FoundLemmas.{AreInOrder}
 use Rattle.bind_terms.specs.declared.firsts.First.{First}
 use Rattle.bind_terms.specs.declared.judging.Verdict.{Verdict}
@@ -38,7 +38,7 @@ use Rattle.bind_terms.specs.Entries.{entries_of}
 use Rattle.bind_terms.specs.Passes.{all_told, words_found, lacks_found, found_at_picks, all_found, HasTold, HasFound, IsVerdict}
 use Rattle.bind_terms.specs.declared.found.Spot.{Spot}
 use Rattle.bind_terms.specs.Faults.{found_in, least_of, Puts}
-use Rattle.bind_terms.specs.Reading.{indicator_picks, term_places, reading, Answers, AreSorted}
+use Rattle.bind_terms.specs.Reading.{indicator_picks, term_places, Answers, AreSorted}
 use Rattle.bind_terms.specs.Telling.{seat_of_first, Entries, is_placed, IsAtItsPlace, Holds}
 use Rattle.bind_terms.specs.Steps.{HasRow, IsOfRow, IsPickOfRow, IsWithin, SaysPlaced, TellsAll}
 use Rattle.bind_terms.proofs.Tolds.{least-append, puts-same}
@@ -69,7 +69,10 @@ back-none (x ∷ xs) ys h = absurd (let k : x ∷ (xs ++ ys) ≡ [] = h in cc)
 -- ---- where there is no fault, each has a value
 
 no-bad : (excess inside bad : Bool) (rest : Option BindKind)
-    → ◌≡◌ {A = Option BindKind} (elim excess [ true ↦ Some kinds.Excess | false ↦ elim inside [ true ↦ Some kinds.ElementInValue | false ↦ elim bad [ true ↦ Some kinds.BadValue | false ↦ rest ] ] ]) None
+    → ◌≡◌ {A = Option BindKind} (elim excess [
+      | true ↦ Some kinds.Excess
+      | false ↦ elim inside [ true ↦ Some kinds.ElementInValue | false ↦ elim bad [ true ↦ Some kinds.BadValue | false ↦ rest ] ]
+    ]) None
     → bad ≡ false
 no-bad true inside bad rest h = absurd (let k : ◌≡◌ {A = Option BindKind} (Some kinds.Excess) None = h in cc)
 no-bad false true bad rest h = absurd (let k : ◌≡◌ {A = Option BindKind} (Some kinds.ElementInValue) None = h in cc)
@@ -84,10 +87,14 @@ first-false : (a b : Bool) → (a || b) ≡ false → a ≡ false
 first-false true b h = absurd (false≢true (sym h))
 first-false false b h = refl
 
-valued : (nodes : List Node) (lists : Lists) (c : Currencies) (before : Option Told) (t : Told) → fault_of nodes lists c before t ≡ [] → is_none t.said.value ≡ false
+valued : (nodes : List Node) (lists : Lists) (c : Currencies) (before : Option Told) (t : Told) → fault_of nodes lists c before t ≡ []
+    → is_none t.said.value ≡ false
 valued nodes lists c before t h =
     let none = no-kind (first_cause (causes nodes lists c before t)) _ h in
-    let rest : List Cause = record { kind = kinds.CodeNotListed; holds = λ _. is_not_listed lists t } ∷ (record { kind = kinds.CurrencyDiffers; holds = λ _. is_foreign nodes c t }
+    let rest : List Cause = record {
+      kind = kinds.CodeNotListed;
+      holds = λ _. is_not_listed lists t;
+    } ∷ (record { kind = kinds.CurrencyDiffers; holds = λ _. is_foreign nodes c t }
     ∷ (record { kind = kinds.Disagree; holds = λ _. is_disagreeing before t } ∷ [])) in
     first-false (is_none t.said.value) (breaks nodes t.placed.pick.row.check t.placed.pick.node)
     (no-bad (is_excess before t) (has_element_inside nodes t.placed.pick.node) (is_bad nodes t) (first_cause rest) none)
@@ -100,13 +107,16 @@ some-place : (o : Option (List ℕ)) → is_some o ≡ true → (p : List ℕ) �
 some-place None h = absurd (false≢true h)
 some-place (Some p) h = (p, refl)
 
-all-valued : (nodes : List Node) (lists : Lists) (c : Currencies) (pre ts : List Told) → faults_behind nodes lists c pre ts ≡ [] → All (λ t. is_placed t ≡ true) ts → Each IsWhole ts
+all-valued : (nodes : List Node) (lists : Lists) (c : Currencies) (pre ts : List Told) → faults_behind nodes lists c pre ts ≡ []
+    → All (λ t. is_placed t ≡ true) ts → Each IsWhole ts
 all-valued nodes lists c pre [] h placed = tt
 all-valued nodes lists c pre (t ∷ ts) h placed =
-    let v = some-value t.said.value (valued nodes lists c (first_before pre t) t (front-none (fault_of nodes lists c (first_before pre t) t) (faults_behind nodes lists c (pre ++ t ∷ []) ts) h)) in
+    let v = some-value t.said.value (valued nodes lists c (first_before pre t) t
+    (front-none (fault_of nodes lists c (first_before pre t) t) (faults_behind nodes lists c (pre ++ t ∷ []) ts) h)) in
     let p = some-place (seat_place (seat_of t)) (All-head (λ u. is_placed u ≡ true) t ts placed) in (
       record { place = p.0; value = v.0; placed = p.1; valued = v.1 },
-      all-valued nodes lists c (pre ++ t ∷ []) ts (back-none (fault_of nodes lists c (first_before pre t) t) (faults_behind nodes lists c (pre ++ t ∷ []) ts) h) (All-tail (λ u. is_placed u ≡ true) t ts placed),
+      all-valued nodes lists c (pre ++ t ∷ []) ts (back-none (fault_of nodes lists c (first_before pre t) t) (faults_behind nodes lists c (pre ++ t ∷ []) ts) h)
+          (All-tail (λ u. is_placed u ≡ true) t ts placed),
     )
 
 -- ---- what is kept
@@ -130,7 +140,8 @@ pairs-cons R x xs all pairs (suc i) (suc j) d lt below = pairs i j d (omega arit
 follow : (e f : List ℕ × First) → IsAtItsPlace e → IsAtItsPlace f → slice_cmp nat_cmp e.0 f.0 ≡ Less → MayFollow (seat_of_first e.1) (seat_of_first f.1)
 follow e f at there less = record { first = e.0; second = f.0; first_is = at; second_is = there; order = not_both_ways e.0 f.0 (ap is_lt less) }
 
-follow-all : (e : List ℕ × First) (es : Entries) → IsAtItsPlace e → All IsAtItsPlace es → AllByRecursion (λ y. slice_cmp nat_cmp e.0 y ≡ Less) (map (λ (x : List ℕ × First). x.0) es)
+follow-all : (e : List ℕ × First) (es : Entries) → IsAtItsPlace e → All IsAtItsPlace es
+    → AllByRecursion (λ y. slice_cmp nat_cmp e.0 y ≡ Less) (map (λ (x : List ℕ × First). x.0) es)
     → All (MayFollow (seat_of_first e.1)) (map seat_of_first (kept_firsts es))
 follow-all e [] at all less = All-nil (MayFollow (seat_of_first e.1))
 follow-all e (f ∷ es) at all less =
@@ -141,10 +152,12 @@ pairs-follow : (es : Entries) → All IsAtItsPlace es → AreSorted es → AllPa
 unfolding IsStrictlySortedBy
 pairs-follow [] all sorted = pairs-nil MayFollow
 pairs-follow (e ∷ es) all sorted =
-    pairs-cons MayFollow (seat_of_first e.1) (map seat_of_first (kept_firsts es)) (follow-all e es (All-head IsAtItsPlace e es all) (All-tail IsAtItsPlace e es all) sorted.0)
+    pairs-cons MayFollow (seat_of_first e.1) (map seat_of_first (kept_firsts es))
+    (follow-all e es (All-head IsAtItsPlace e es all) (All-tail IsAtItsPlace e es all) sorted.0)
     (pairs-follow es (All-tail IsAtItsPlace e es all) sorted.1)
 
-pub in-order : (es : Entries) (firsts : List First) → firsts ≡ map (λ (e : List ℕ × First). e.1) es → All IsAtItsPlace es → AreSorted es → IsInOrder (map seat_of_first firsts)
+pub in-order : (es : Entries) (firsts : List First) → firsts ≡ map (λ (e : List ℕ × First). e.1) es → All IsAtItsPlace es → AreSorted es
+    → IsInOrder (map seat_of_first firsts)
 in-order es firsts e all sorted = subst (λ l. IsInOrder (map seat_of_first l)) (sym e) (record {
   placed = All-map (λ (seat : Seat). is_some (seat_place seat) ≡ true) seat_of_first (kept_firsts es)
       (All-map (λ (f : First). is_some (seat_place (seat_of_first f)) ≡ true) (λ (x : List ℕ × First). x.1) es
@@ -155,49 +168,52 @@ in-order es firsts e all sorted = subst (λ l. IsInOrder (map seat_of_first l)) 
 -- ---- the answer
 
 module _ (nodes : List Node) (order : AreInOrder nodes) (some : 0 < length nodes) (lists : Lists) (rows : List Row) where
-  pub picks-within : (count : ℕ) (picks : List SeatedPick) → length nodes ≡ count → picks ≡ all_kept_seats (term_places nodes rows) → All (IsWithin count) picks
+  pub picks-within : (count : ℕ) (picks : List PlacedPick) → length nodes ≡ count → picks ≡ all_kept_placed (term_places nodes rows)
+      → All (IsWithin count) picks
   picks-within count picks long e =
       subst (λ n. All (IsWithin n) picks) long (subst (All (IsWithin (length nodes))) (sym e)
       (seated-within nodes order some rows (term_picks nodes (currencies nodes rows) rows) (terms-sound nodes order some rows (currencies nodes rows))))
 
-  pub indicators-within : (count : ℕ) (indicators : List Picked) → length nodes ≡ count → indicators ≡ all_kept (in_order nodes (indicator_picks nodes rows)) → All (λ (p : Picked). p.node < count) indicators
+  pub indicators-within : (count : ℕ) (indicators : List Picked) → length nodes ≡ count → indicators ≡ all_kept (in_order nodes (indicator_picks nodes rows))
+      → All (λ (p : Picked). p.node < count) indicators
   indicators-within count indicators long e =
       subst (λ n. All (λ (p : Picked). p.node < n) indicators) long (subst (All (λ (p : Picked). p.node < length nodes)) (sym e)
       (kept-within nodes order some rows (in_order nodes (indicator_picks nodes rows)) (rows-sound nodes order some rows has_indicator)))
 
-  pub picks-rowed : (picks : List SeatedPick) → picks ≡ all_kept_seats (term_places nodes rows) → All (λ (p : SeatedPick). HasRow rows p.picked.row) picks
+  pub picks-rowed : (picks : List PlacedPick) → picks ≡ all_kept_placed (term_places nodes rows) → All (λ (p : PlacedPick). HasRow rows p.picked.row) picks
   picks-rowed picks e =
-      subst (All (λ (p : SeatedPick). HasRow rows p.picked.row)) (sym e)
-      (All-map (λ (p : SeatedPick). HasRow rows p.picked.row) kept_seat (term_places nodes rows)
-      (All-weaker (IsOfRow rows) (λ p. HasRow rows (kept_seat p).picked.row) (λ p h. ap is_some h) (term_places nodes rows)
+      subst (All (λ (p : PlacedPick). HasRow rows p.picked.row)) (sym e)
+      (All-map (λ (p : PlacedPick). HasRow rows p.picked.row) kept_placed (term_places nodes rows)
+      (All-weaker (IsOfRow rows) (λ p. HasRow rows (kept_placed p).picked.row) (λ p h. ap is_some h) (term_places nodes rows)
       (seated-rows nodes order some rows (term_picks nodes (currencies nodes rows) rows) (terms-sound nodes order some rows (currencies nodes rows)))))
 
   -- all that is told has a place, so all that each pick says
-  pub picks-placed : (picks : List SeatedPick) → picks ≡ all_kept_seats (term_places nodes rows) → All (λ t. is_placed t ≡ true) (all_told nodes rows)
+  pub picks-placed : (picks : List PlacedPick) → picks ≡ all_kept_placed (term_places nodes rows) → All (λ t. is_placed t ≡ true) (all_told nodes rows)
       → All (SaysPlaced nodes rows) picks
   picks-placed picks e placed =
       subst (All (SaysPlaced nodes rows)) (sym e)
       (picks-say-placed nodes rows (term_places nodes rows)
       (seated-rows nodes order some rows (term_picks nodes (currencies nodes rows) rows) (terms-sound nodes order some rows (currencies nodes rows))) placed)
 
-  pub indicators-rowed : (indicators : List Picked) → indicators ≡ all_kept (in_order nodes (indicator_picks nodes rows)) → All (λ (p : Picked). HasRow rows p.row) indicators
+  pub indicators-rowed : (indicators : List Picked) → indicators ≡ all_kept (in_order nodes (indicator_picks nodes rows))
+      → All (λ (p : Picked). HasRow rows p.row) indicators
   indicators-rowed indicators e =
       subst (All (λ (p : Picked). HasRow rows p.row)) (sym e)
       (All-map (λ (p : Picked). HasRow rows p.row) kept (in_order nodes (indicator_picks nodes rows))
       (All-weaker (IsPickOfRow rows) (λ p. HasRow rows (kept p).row) (λ p h. ap is_some h) (in_order nodes (indicator_picks nodes rows))
       (kept-rows nodes order some rows (in_order nodes (indicator_picks nodes rows)) (rows-sound nodes order some rows has_indicator))))
 
-  pub standing : (invoice : Option (List ℕ)) (picks : List SeatedPick) (es : Entries) (given : List Found → Type 0) → invoice ≡ (currencies nodes rows).invoice
-      → picks ≡ all_kept_seats (term_places nodes rows) → TellsAll nodes lists invoice picks rows es given
+  pub standing : (invoice : Option (List ℕ)) (picks : List PlacedPick) (es : Entries) (given : List Found → Type 0) → invoice ≡ (currencies nodes rows).invoice
+      → picks ≡ all_kept_placed (term_places nodes rows) → TellsAll nodes lists invoice picks rows es given
       → Holds nodes lists (currencies nodes rows) (all_told nodes rows) es given
   standing invoice picks es given currency picks_are tells =
       tells (term_places nodes rows) (currencies nodes rows) (sym currency) picks_are
       (seated-rows nodes order some rows (term_picks nodes (currencies nodes rows) rows) (terms-sound nodes order some rows (currencies nodes rows)))
 
   -- the faults of the indicators are given behind those of what the picks say
-  pub told-words : (invoice : Option (List ℕ)) (picks : List SeatedPick) (indicators : List Picked) (es : Entries) (was given : List Found → Type 0)
+  pub told-words : (invoice : Option (List ℕ)) (picks : List PlacedPick) (indicators : List Picked) (es : Entries) (was given : List Found → Type 0)
       → invoice ≡ (currencies nodes rows).invoice
-      → picks ≡ all_kept_seats (term_places nodes rows) → indicators ≡ all_kept (in_order nodes (indicator_picks nodes rows))
+      → picks ≡ all_kept_placed (term_places nodes rows) → indicators ≡ all_kept (in_order nodes (indicator_picks nodes rows))
       → TellsAll nodes lists invoice picks rows es was
       → ((qs : List Pick) → indicators ≡ all_kept qs → All (IsPickOfRow rows) qs → Puts was given (flat_map (wrong_word nodes) qs))
       → HasTold nodes lists rows es given
@@ -214,9 +230,9 @@ module _ (nodes : List Node) (order : AreInOrder nodes) (some : 0 < length nodes
         placed = h.placed;
       }
 
-  module _ (picks : List SeatedPick) (es : Entries) (was given : List Found → Type 0) (firsts : List First) (h : HasTold nodes lists rows es was)
-      (picks_are : picks ≡ all_kept_seats (term_places nodes rows)) (firsts_are : firsts ≡ map (λ (e : List ℕ × First). e.1) es)
-      (lacks : (qs : List Placed) → picks ≡ all_kept_seats qs → Puts was given (flat_map (lacks_in nodes (map seat_of_first firsts)) (rooms qs))) where
+  module _ (picks : List PlacedPick) (es : Entries) (was given : List Found → Type 0) (firsts : List First) (h : HasTold nodes lists rows es was)
+      (picks_are : picks ≡ all_kept_placed (term_places nodes rows)) (firsts_are : firsts ≡ map (λ (e : List ℕ × First). e.1) es)
+      (lacks : (qs : List Placed) → picks ≡ all_kept_placed qs → Puts was given (flat_map (lacks_in nodes (map seat_of_first firsts)) (rooms qs))) where
     alike : (p : Seat → Bool) → list_any p (map seat_of_first firsts) ≡ list_any p (map seat_of (all_told nodes rows))
     alike p =
         any-map seat_of_first p firsts ∙ (ap (list_any (λ (f : First). p (seat_of_first f))) firsts_are
@@ -279,7 +295,8 @@ module _ (nodes : List Node) (order : AreInOrder nodes) (some : 0 < length nodes
     whole-least : last ≡ least (all_faults nodes lists (currencies nodes rows) rows (term_places nodes rows))
     whole-least = h.is_given ∙ found-least
 
-    told-fault : (fault : Found) → last ≡ Some fault → reading nodes lists rows ≡ Err fault.fault
+    told-fault : (fault : Found) → last ≡ Some fault → terms_of nodes rows lists ≡ Err fault.fault
+    unfolding terms_of
     told-fault fault e =
         ap (λ (o : Option Found). elim o [
           | Some first ↦ Err first.fault
@@ -287,7 +304,8 @@ module _ (nodes : List Node) (order : AreInOrder nodes) (some : 0 < length nodes
         ]) (sym whole-least ∙ e)
 
     told-invoice : (invoice : List Entry) → last ≡ None → invoice ≡ flat_map entries_of firsts
-        → reading nodes lists rows ≡ Ok (record { entries = invoice; passed_over = passed_over nodes rows })
+        → terms_of nodes rows lists ≡ Ok (record { entries = invoice; passed_over = passed_over nodes rows })
+    unfolding terms_of
     told-invoice invoice e made =
         let none : least (all_faults nodes lists (currencies nodes rows) rows (term_places nodes rows)) ≡ None = sym whole-least ∙ e in
         let faultless = front-none (found_at_picks nodes lists rows) _ (least-none _ none) in
@@ -299,7 +317,7 @@ module _ (nodes : List Node) (order : AreInOrder nodes) (some : 0 < length nodes
         ∙ (λ i. Ok (record { entries = (sym entries_are) i; passed_over = passed_over nodes rows }))
 
     -- Where no fault was found, what was told first is what is read.
-    pub told-entries : last ≡ None → reading nodes lists rows ≡ Ok (record { entries = flat_map entries_of firsts; passed_over = passed_over nodes rows })
+    pub told-entries : last ≡ None → terms_of nodes rows lists ≡ Ok (record { entries = flat_map entries_of firsts; passed_over = passed_over nodes rows })
     told-entries e = told-invoice (flat_map entries_of firsts) e refl
 
     pub told-verdict : (v : Verdict) → IsVerdict firsts last v → Answers nodes lists rows v

@@ -68,7 +68,8 @@ none-at Less x rest h = (λ e. absurd (let k : Less ≡ Equal = e in cc), h)
 none-at Equal x rest h = absurd (let k : Some x ≡ None = h in cc)
 none-at Greater x rest h = (λ e. absurd (let k : Greater ≡ Equal = e in cc), h)
 
-any-step : (o : Ordering) (q : List ℕ × First → Bool) (new e same : List ℕ × First) (es later : Entries) → (o ≡ Equal → ⊥) → list_any q later ≡ (q new || list_any q es)
+any-step : (o : Ordering) (q : List ℕ × First → Bool) (new e same : List ℕ × First) (es later : Entries) → (o ≡ Equal → ⊥)
+    → list_any q later ≡ (q new || list_any q es)
     → list_any q (match_ordering o (new ∷ (e ∷ es)) (same ∷ es) (e ∷ later)) ≡ (q new || list_any q (e ∷ es))
 any-step Less q new e same es later apart h = refl
 any-step Equal q new e same es later apart h = absurd (apart refl)
@@ -81,7 +82,8 @@ any-insert q (e ∷ es) place f h =
     let k = none-at (order place e.0) e.1 (kept_at place es) h in
     any-step (order place e.0) q (place, f) e (e.0, f) es (insert_entry order es place f) k.0 (any-insert q es place f k.1)
 
-all-step : (o : Ordering) (P : List ℕ × First → Type 0) (new e same : List ℕ × First) (es later : Entries) → (o ≡ Equal → ⊥) → P new → All P (e ∷ es) → All P later
+all-step : (o : Ordering) (P : List ℕ × First → Type 0) (new e same : List ℕ × First) (es later : Entries) → (o ≡ Equal → ⊥) → P new → All P (e ∷ es)
+    → All P later
     → All P (match_ordering o (new ∷ (e ∷ es)) (same ∷ es) (e ∷ later))
 all-step Less P new e same es later apart p all h = All-cons P new (e ∷ es) p all
 all-step Equal P new e same es later apart p all h = absurd (apart refl)
@@ -144,7 +146,8 @@ module _ (nodes : List Node) (lists : Lists) (c : Currencies) (before : List Tol
     pub holds-known : Holds nodes lists c (before ++ t ∷ []) more is
     holds-known = subst (λ x. Holds nodes lists c (before ++ t ∷ []) x is) (sym same) (record {
       look_up = λ u q e. h.look_up u q e ∙ ap (option_map first_of) (known-more before t f known u);
-      entries_are = h.entries_are ∙ ap (arranged []) (sym (firsts-more [] [] before t (λ u. refl) ∙ (ap (λ o. firsts_behind [] before ++ kept_if o t) known ∙ append-nil (firsts_behind [] before))));
+      entries_are = h.entries_are ∙ ap (arranged [])
+          (sym (firsts-more [] [] before t (λ u. refl) ∙ (ap (λ o. firsts_behind [] before ++ kept_if o t) known ∙ append-nil (firsts_behind [] before))));
       at_places = h.at_places;
       same_seats = λ p. h.same_seats p ∙ sym (seats-more p ∙ absorbed p (p (seat_of t)) refl);
       is_given = given-more;
@@ -158,7 +161,8 @@ module _ (nodes : List Node) (lists : Lists) (c : Currencies) (before : List Tol
     look u q true e same =
         let one : seat_of t ≡ seat_of u = one_seat (seat_of t) (seat_of u) q (at ∙ ap Some (place-is place q same)) e in
         let fresh : first_before before u ≡ None = first-same before u t (sym one) ∙ none in
-        ap (option_map first_of) (sym (first-append before (t ∷ []) u ∙ (ap (λ o. or_else o (first_before (t ∷ []) u)) fresh ∙ one-true t u (seat-told t u one))))
+        ap (option_map first_of) (sym (first-append before (t ∷ []) u
+        ∙ (ap (λ o. or_else o (first_before (t ∷ []) u)) fresh ∙ one-true t u (seat-told t u one))))
     look u q false e apart =
         let other : is_of_seat t u ≡ false = elim (bool_cases (is_of_seat t u)) [
           | inl one ↦
@@ -171,7 +175,8 @@ module _ (nodes : List Node) (lists : Lists) (c : Currencies) (before : List Tol
     pub holds-new : Holds nodes lists c (before ++ t ∷ []) more is
     holds-new = record {
       look_up = λ u q e. looked q ∙ look u q (is_eq (order place q)) e refl;
-      entries_are = put ∙ (ap (λ x. insert_entry order x place (first_of t)) h.entries_are ∙ (ap (λ x. insert_entry order (arranged [] (firsts_behind [] before)) x (first_of t)) (sym place-told)
+      entries_are = put ∙ (ap (λ x. insert_entry order x place (first_of t)) h.entries_are
+          ∙ (ap (λ x. insert_entry order (arranged [] (firsts_behind [] before)) x (first_of t)) (sym place-told)
           ∙ (sym (arranged-append [] (firsts_behind [] before) (t ∷ []))
           ∙ ap (arranged []) (sym (firsts-more [] [] before t (λ u. refl) ∙ ap (λ o. firsts_behind [] before ++ kept_if o t) none)))));
       at_places = subst (All IsAtItsPlace) (sym put) (all-insert IsAtItsPlace entries place (first_of t) absent at h.at_places);
@@ -187,7 +192,8 @@ module _ (nodes : List Node) (lists : Lists) (c : Currencies) (before : List Tol
   holds-more put looked = go (kept_at place entries) refl put looked
     where
       go : (o : Option First) → kept_at place entries ≡ o → more ≡ (elim o [ None ↦ insert_entry order entries place (first_of t) | Some other ↦ entries ])
-          → ((q : List ℕ) → kept_at q more ≡ (elim o [ None ↦ cond (is_eq (order place q)) (Some (first_of t)) (kept_at q entries) | Some other ↦ kept_at q entries ]))
+          → ((q : List ℕ) → kept_at q more ≡ (elim
+          o [ None ↦ cond (is_eq (order place q)) (Some (first_of t)) (kept_at q entries) | Some other ↦ kept_at q entries ]))
           → Holds nodes lists c (before ++ t ∷ []) more is
       go None e put looked = holds-new (none-first (first_before before t) (sym (h.look_up t place at) ∙ e)) e put looked
       go (Some x) e put looked = let k = some-first (first_before before t) x (sym (h.look_up t place at) ∙ e) in holds-known k.0 k.1 put

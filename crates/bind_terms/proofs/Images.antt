@@ -13,7 +13,8 @@ use Rattle.term_table.proofs.GroupLemmas.{both}
 
 ascii : (bytes : List ℕ) → list_all (λ b. nat_lt b 128) bytes ≡ true → IsAscii bytes
 ascii [] e = IsAscii-nil
-ascii (b ∷ bytes) e = let parts = both (nat_lt b 128) (list_all (λ b. nat_lt b 128) bytes) e in IsAscii-cons b bytes (ltb-true b 128 parts.0) (ascii bytes parts.1)
+ascii (b ∷ bytes) e = let parts = both (nat_lt b 128) (list_all (λ b. nat_lt b 128) bytes) e in
+    IsAscii-cons b bytes (ltb-true b 128 parts.0) (ascii bytes parts.1)
 
 -- a literal's characters
 pub literal : (bytes : List ℕ) → list_all (λ b. nat_lt b 128) bytes ≡ true → chars bytes ≡ bytes
@@ -36,9 +37,11 @@ pub second-image : {E : Type 0} (r : Result (Option Value) E) (text : List ℕ) 
     → IfOk r (λ value. value ≡ Some (values.Code (chars (codes "35")))) → IfOk r (λ value. value ≡ image_among images text)
 second-image r text a b h = found r (codes "35") (image_among images text) refl (rw (a, b) refl) h
 
-pub third-image : {E : Type 0} (r : Result (Option Value) E) (text : List ℕ) → bytes_eq (codes "5") text ≡ false → bytes_eq (codes "29") text ≡ false → bytes_eq (codes "72") text ≡ true
+pub third-image : {E : Type 0} (r : Result (Option Value) E) (text : List ℕ) → bytes_eq (codes "5") text ≡ false → bytes_eq (codes "29") text ≡ false
+    → bytes_eq (codes "72") text ≡ true
     → IfOk r (λ value. value ≡ Some (values.Code (chars (codes "432")))) → IfOk r (λ value. value ≡ image_among images text)
 third-image r text a b c h = found r (codes "432") (image_among images text) refl (rw (a, b, c) refl) h
 
-pub no-image : (text : List ℕ) → bytes_eq (codes "5") text ≡ false → bytes_eq (codes "29") text ≡ false → bytes_eq (codes "72") text ≡ false → None ≡ image_among images text
+pub no-image : (text : List ℕ) → bytes_eq (codes "5") text ≡ false → bytes_eq (codes "29") text ≡ false → bytes_eq (codes "72") text ≡ false
+    → None ≡ image_among images text
 no-image text a b c = rw (a, b, c) refl

@@ -31,7 +31,8 @@ use Rattle.bind_terms.proofs.Sound.{IsSound, rows-sound, unordered-sound}
 
 abbrev word_by : List Node → Pick → Check → List Found
 word_by nodes pick check = elim check [
-  | (checks.Indicator term) ↦ elim (is_one_of words (trimmed (string_at nodes pick.node))) [ true ↦ [] | false ↦ found (place_at pick kinds.BadValue) kinds.BadValue (names.Term term) pick.node ∷ [] ]
+  | (checks.Indicator term) ↦ elim (is_one_of words
+      (trimmed (string_at nodes pick.node))) [ true ↦ [] | false ↦ found (place_at pick kinds.BadValue) kinds.BadValue (names.Term term) pick.node ∷ [] ]
   | _ ↦ []
 ]
 
@@ -60,9 +61,11 @@ word-is nodes pick x (checks.Indicator term) e h = record { term = term; check =
 
 -- ---- rows that check no indicator
 
-nothing-in : {X : Type 0} (nodes : List Node) (f : X → List Pick) → ((x : X) → flat_map (wrong_word nodes) (f x) ≡ []) → (xs : List X) → flat_map (wrong_word nodes) (flat_map f xs) ≡ []
+nothing-in : {X : Type 0} (nodes : List Node) (f : X → List Pick) → ((x : X) → flat_map (wrong_word nodes) (f x) ≡ []) → (xs : List X)
+    → flat_map (wrong_word nodes) (flat_map f xs) ≡ []
 nothing-in nodes f h [] = refl
-nothing-in nodes f h (x ∷ xs) = flat_map-append (wrong_word nodes) (f x) (flat_map f xs) ∙ (ap (λ l. l ++ flat_map (wrong_word nodes) (flat_map f xs)) (h x) ∙ nothing-in nodes f h xs)
+nothing-in nodes f h (x ∷ xs) = flat_map-append (wrong_word nodes) (f x) (flat_map f xs)
+    ∙ (ap (λ l. l ++ flat_map (wrong_word nodes) (flat_map f xs)) (h x) ∙ nothing-in nodes f h xs)
 
 way-nothing : (nodes : List Node) (k : ℕ) (row : Row) (way ns : List ℕ) → is_indicator row.check ≡ false
     → flat_map (wrong_word nodes) (map (λ n. record { place = k; row = row; elements = way; node = n }) ns) ≡ []
@@ -72,27 +75,32 @@ way-nothing nodes k row way (n ∷ ns) h =
     (no-word nodes (record { place = k; row = row; elements = way; node = n }) row.check refl h) ∙ way-nothing nodes k row way ns h
 
 row-nothing : (nodes : List Node) (k : ℕ) (row : Row) → is_indicator row.check ≡ false → flat_map (wrong_word nodes) (nodes_picked nodes k row) ≡ []
-row-nothing nodes k row h = nothing-in nodes (picks_of_way nodes k row) (λ way. way-nothing nodes k row way (leaves_of nodes row.leaf (last_of way)) h) (ways nodes row.path 0)
+row-nothing nodes k row h = nothing-in nodes (picks_of_way nodes k row) (λ way. way-nothing nodes k row way (leaves_of nodes row.leaf (last_of way)) h)
+    (ways nodes row.path 0)
 
 abbrev picks_in : List Node → Numbered → List Pick
 picks_in nodes r = nodes_picked nodes r.place r.row
 
 rows-step : (b c : Bool) (nodes : List Node) (r : Numbered) (xs ys : List Numbered) → (c ≡ false → flat_map (wrong_word nodes) (picks_in nodes r) ≡ [])
     → flat_map (wrong_word nodes) (flat_map (picks_in nodes) xs) ≡ flat_map (wrong_word nodes) (flat_map (picks_in nodes) ys)
-    → flat_map (wrong_word nodes) (flat_map (picks_in nodes) (if b && c then r ∷ xs else xs)) ≡ flat_map (wrong_word nodes) (flat_map (picks_in nodes) (if b then r ∷ ys else ys))
+    → flat_map (wrong_word nodes) (flat_map (picks_in nodes) (if b && c then r ∷ xs else xs))
+    ≡ flat_map (wrong_word nodes) (flat_map (picks_in nodes) (if b then r ∷ ys else ys))
 rows-step false c nodes r xs ys none h = h
 rows-step true true nodes r xs ys none h =
     flat_map-append (wrong_word nodes) (picks_in nodes r) (flat_map (picks_in nodes) xs)
-    ∙ (ap (λ l. flat_map (wrong_word nodes) (picks_in nodes r) ++ l) h ∙ sym (flat_map-append (wrong_word nodes) (picks_in nodes r) (flat_map (picks_in nodes) ys)))
+    ∙ (ap (λ l. flat_map (wrong_word nodes) (picks_in nodes r) ++ l) h
+    ∙ sym (flat_map-append (wrong_word nodes) (picks_in nodes r) (flat_map (picks_in nodes) ys)))
 rows-step true false nodes r xs ys none h =
-    h ∙ sym (flat_map-append (wrong_word nodes) (picks_in nodes r) (flat_map (picks_in nodes) ys) ∙ ap (λ l. l ++ flat_map (wrong_word nodes) (flat_map (picks_in nodes) ys)) (none refl))
+    h ∙ sym (flat_map-append (wrong_word nodes) (picks_in nodes r) (flat_map (picks_in nodes) ys)
+    ∙ ap (λ l. l ++ flat_map (wrong_word nodes) (flat_map (picks_in nodes) ys)) (none refl))
 
 pub rows-words : (nodes : List Node) (rows : List Numbered)
     → flat_map (wrong_word nodes) (flat_map (picks_in nodes) (filter (λ (r : Numbered). has_indicator r.row) rows))
     ≡ flat_map (wrong_word nodes) (flat_map (picks_in nodes) (filter (λ (r : Numbered). not (has_any_term r.row)) rows))
 rows-words nodes [] = refl
 rows-words nodes (r ∷ rows) =
-    rows-step (not (has_any_term r.row)) (is_indicator r.row.check) nodes r (filter (λ (r : Numbered). has_indicator r.row) rows) (filter (λ (r : Numbered). not (has_any_term r.row)) rows)
+    rows-step (not (has_any_term r.row)) (is_indicator r.row.check) nodes r (filter (λ (r : Numbered). has_indicator r.row) rows)
+    (filter (λ (r : Numbered). not (has_any_term r.row)) rows)
     (row-nothing nodes r.place r.row) (rows-words nodes rows)
 
 -- ---- in document order
@@ -127,11 +135,14 @@ module _ (nodes : List Node) (order : AreInOrder nodes) (some : 0 < length nodes
       let sound = among-all (IsSound nodes order some rows) f.source picks (unordered-sound nodes order some rows has_indicator) f.among in
       let n = f.source.node in
       let here : Among f.source (in_order nodes picks) =
-      among-flat_map (λ (node : Node). filter (λ (pick : Pick). pick.node == node.number) picks) (tree_node nodes n) f.source nodes (among-at nodes n sound.node)
-      (among-filter (λ (pick : Pick). pick.node == (tree_node nodes n).number) f.source picks (same-number n (tree_node nodes n).number (order n sound.node)) f.among) in
+      among-flat_map (λ (node : Node). filter (λ (pick : Pick). pick.node == node.number) picks) (tree_node nodes n) f.source nodes
+      (among-at nodes n sound.node)
+      (among-filter (λ (pick : Pick). pick.node == (tree_node nodes n).number) f.source picks
+      (same-number n (tree_node nodes n).number (order n sound.node)) f.among) in
       among-flat_map (wrong_word nodes) f.source x (in_order nodes picks) here f.piece
 
-  one-word : (x y : Found) (p q : Pick) → IsWord x p → IsWord y q → row_numbered rows p.place ≡ Some p.row → row_numbered rows q.place ≡ Some q.row → x.place ≡ y.place → x ≡ y
+  one-word : (x y : Found) (p q : Pick) → IsWord x p → IsWord y q → row_numbered rows p.place ≡ Some p.row → row_numbered rows q.place ≡ Some q.row
+      → x.place ≡ y.place → x ≡ y
   one-word x y p q a b e f same =
       let places : place_at p kinds.BadValue ≡ place_at q kinds.BadValue = ap (λ (z : Found). z.place) a.is ∙ (same ∙ sym (ap (λ (z : Found). z.place) b.is)) in
       let node : p.node ≡ q.node = cc in
@@ -149,7 +160,8 @@ module _ (nodes : List Node) (order : AreInOrder nodes) (some : 0 < length nodes
       let all = rows-sound nodes order some rows has_indicator in
       let a = among-all (IsSound nodes order some rows) f.source (in_order nodes picks) all f.among in
       let b = among-all (IsSound nodes order some rows) g.source (in_order nodes picks) all g.among in
-      one-word x y f.source g.source (word-is nodes f.source x f.source.row.check refl f.piece) (word-is nodes g.source y g.source.row.check refl g.piece) a.of_row b.of_row same
+      one-word x y f.source g.source (word-is nodes f.source x f.source.row.check refl f.piece)
+      (word-is nodes g.source y g.source.row.check refl g.piece) a.of_row b.of_row same
 
   abbrev pub in_document_order : List Found
   in_document_order = flat_map (wrong_word nodes) (in_order nodes (indicator_picks nodes rows))
@@ -170,7 +182,8 @@ module _ (nodes : List Node) (order : AreInOrder nodes) (some : 0 < length nodes
   words-are-one = one-each
 
   pub words-same : (o : Option Found)
-      → least_of o (flat_map (wrong_word nodes) (in_order nodes (indicator_picks nodes rows))) ≡ least_of o (flat_map (wrong_word nodes) (constant_picks nodes rows))
+      → least_of o (flat_map (wrong_word nodes) (in_order nodes (indicator_picks nodes rows)))
+      ≡ least_of o (flat_map (wrong_word nodes) (constant_picks nodes rows))
   unfolding picks
   words-same o =
       same-least o (flat_map (wrong_word nodes) (in_order nodes picks)) (flat_map (wrong_word nodes) picks) leaves enters one-each

@@ -8,7 +8,7 @@ use Rattle.term_table.specs.declared.contexts.Seat.{Seat}
 use Rattle.term_table.specs.Contexts.{same_slot, same_context, outer_context, root_context}
 use Rattle.inv_terms.proofs.ContextLemmas.{context_is}
 use Rattle.bind_meaning.specs.declared.picked.Seated.{Seated}
-use Rattle.bind_meaning.specs.declared.picked.SeatedPick.{SeatedPick}
+use Rattle.bind_meaning.specs.declared.picked.PlacedPick.{PlacedPick}
 use Rattle.bind_meaning.specs.Seats.{Room, slot_of}
 use Rattle.bind_meaning.specs.Judging.{Found}
 use Rattle.reading_laws.proofs.ListLemmas.{both, or-left, or-right}
@@ -41,7 +41,7 @@ among-its context seat slot h =
     let w = seat-there seat slot h in
     ap (λ o. has_room (rooms_at context o) context) w.1 ∙ among-itself context w.0.element
 
-pub pick-seen : (before : List Room) (pick : SeatedPick) → WereSeen (before ++ pick_rooms pick) (context_in pick)
+pub pick-seen : (before : List Room) (pick : PlacedPick) → WereSeen (before ++ pick_rooms pick) (context_in pick)
 pick-seen before pick = record {
   outer = λ slot e. among-back before (pick_rooms pick) (outer_context (context_in pick))
       (among-front (rooms_at (outer_context (context_in pick)) pick.outer) (rooms_at (context_in pick) pick.inner) (outer_context (context_in pick))
@@ -76,7 +76,7 @@ module _ (nodes : List Node) (seats : List Seat) (first : List Found → Type 0)
 outer-is : (a b : Context) → same_slot a.outer b.outer ≡ true → outer_context a ≡ outer_context b
 outer-is a b h = context_is (outer_context a) (outer_context b) (ap (λ x. x && true) h)
 
-module _ (nodes : List Node) (seats : List Seat) (pick : SeatedPick) (last context : Context) (here : context ≡ context_in pick)
+module _ (nodes : List Node) (seats : List Seat) (pick : PlacedPick) (last context : Context) (here : context ≡ context_in pick)
     (first : List Found → Type 0) (before : List Room) (were : WereSeen before last) where
   outer-among : same_slot context.outer last.outer ≡ true → (t : Seated) → pick.outer ≡ Some t → has_room before (outer_context (context_in pick)) ≡ true
   outer-among h t e =
@@ -121,7 +121,8 @@ module _ (nodes : List Node) (seats : List Seat) (pick : SeatedPick) (last conte
       (outer-again keys given (both (same_slot context.outer last.outer) (same_slot context.inner last.inner) h).0 s) (context_in pick) pick.inner
       (λ t e. among-front before outer_rooms (context_in pick) (inner-among h t e)))
 
-  pick-inner : (keys more : List (List ℕ)) (was given : List Found → Type 0) → same_slot context.outer last.outer ≡ true → Seen nodes seats first before keys was
+  pick-inner : (keys more : List (List ℕ)) (was given : List Found → Type 0) → same_slot context.outer last.outer ≡ true
+      → Seen nodes seats first before keys was
       → ((b : List Room) → AreKeysOf b keys → SeesMore nodes seats b context pick.inner more was given)
       → Seen nodes seats first (before ++ pick_rooms pick) more given
   pick-inner keys more was given h s step = inner-more keys more was given (outer-again keys was h s) step
@@ -143,11 +144,12 @@ begun : (nodes : List Node) (seats : List Seat) (before : List Room) (keys : Lis
     → Seen nodes seats (behind_rooms nodes seats before was) before keys was
 begun nodes seats before keys was keys_are = record { keys_are = keys_are; puts = λ fs h. h }
 
-module _ (nodes : List Node) (seats : List Seat) (pick : SeatedPick) (last context : Context) (here : context ≡ context_in pick) where
+module _ (nodes : List Node) (seats : List Seat) (pick : PlacedPick) (last context : Context) (here : context ≡ context_in pick) where
   pub sees-passed : (keys : List (List ℕ)) (given : List Found → Type 0) → same_context context last ≡ true
       → SeesPick nodes seats pick last keys keys given given
   sees-passed keys given h before were keys_are =
-      pick-passed nodes seats pick last context here (behind_rooms nodes seats before given) before were keys given h (begun nodes seats before keys given keys_are)
+      pick-passed nodes seats pick last context here (behind_rooms nodes seats before given) before were keys given h
+      (begun nodes seats before keys given keys_are)
 
   pub sees-inner : (keys more : List (List ℕ)) (was given : List Found → Type 0) → same_slot context.outer last.outer ≡ true
       → ((b : List Room) → AreKeysOf b keys → SeesMore nodes seats b context pick.inner more was given)
@@ -164,23 +166,25 @@ module _ (nodes : List Node) (seats : List Seat) (pick : SeatedPick) (last conte
       pick-both nodes seats pick last context here (behind_rooms nodes seats before was) before were keys middle more was between given around around_is
       (begun nodes seats before keys was keys_are) one two
 
-resumed : (nodes : List Node) (seats : List Seat) (first : List Found → Type 0) (before : List Room) (keys more : List (List ℕ)) (was given : List Found → Type 0)
-    (pick : SeatedPick) → Seen nodes seats first before keys was → Seen nodes seats (behind_rooms nodes seats before was) (before ++ pick_rooms pick) more given
+resumed : (nodes : List Node) (seats : List Seat) (first : List Found → Type 0) (before : List Room) (keys more : List (List ℕ))
+    (was given : List Found → Type 0)
+    (pick : PlacedPick) → Seen nodes seats first before keys was → Seen nodes seats (behind_rooms nodes seats before was) (before ++ pick_rooms pick) more given
     → Seen nodes seats first (before ++ pick_rooms pick) more given
 resumed nodes seats first before keys more was given pick s t = record { keys_are = t.keys_are; puts = λ fs h. t.puts fs (s.puts fs h) }
 
 -- ---- the picks up to one
 
-pub record SeenUpTo (nodes : List Node) (seats : List Seat) (first : List Found → Type 0) (picks : List SeatedPick) (count : ℕ) (last : Context)
+pub record SeenUpTo (nodes : List Node) (seats : List Seat) (first : List Found → Type 0) (picks : List PlacedPick) (count : ℕ) (last : Context)
     (keys : List (List ℕ)) (given : List Found → Type 0) : Type 0 where
   pub seen : Seen nodes seats first (flat_map pick_rooms (take count picks)) keys given
   pub were : WereSeen (flat_map pick_rooms (take count picks)) last
 
-pub up-to-none : (nodes : List Node) (seats : List Seat) (first : List Found → Type 0) (picks : List SeatedPick) (keys : List (List ℕ)) → keys ≡ []
+pub up-to-none : (nodes : List Node) (seats : List Seat) (first : List Found → Type 0) (picks : List PlacedPick) (keys : List (List ℕ)) → keys ≡ []
     → SeenUpTo nodes seats first picks 0 root_context keys first
 up-to-none nodes seats first picks keys e = record { seen = seen-none nodes seats first keys e; were = none-seen [] }
 
-pub up-to-more : (nodes : List Node) (seats : List Seat) (first : List Found → Type 0) (picks : List SeatedPick) (count : ℕ) (pick : SeatedPick) (last context : Context)
+pub up-to-more : (nodes : List Node) (seats : List Seat) (first : List Found → Type 0) (picks : List PlacedPick) (count : ℕ) (pick : PlacedPick)
+    (last context : Context)
     (keys more : List (List ℕ)) (was given : List Found → Type 0)
     → count < length picks → pick ≡ get_or picks count pick → context ≡ context_in pick
     → SeesPick nodes seats pick last keys more was given → SeenUpTo nodes seats first picks count last keys was
@@ -189,6 +193,8 @@ up-to-more nodes seats first picks count pick last context keys more was given b
     let before = flat_map pick_rooms (take count picks) in
     let longer = rooms-more picks count pick below at in
     record {
-      seen = subst (λ l. Seen nodes seats first l more given) longer (resumed nodes seats first before keys more was given pick s.seen (step before s.were s.seen.keys_are));
-      were = subst (λ c. WereSeen (flat_map pick_rooms (take (count + 1) picks)) c) (sym here) (subst (λ l. WereSeen l (context_in pick)) longer (pick-seen before pick));
+      seen = subst (λ l. Seen nodes seats first l more given) longer
+          (resumed nodes seats first before keys more was given pick s.seen (step before s.were s.seen.keys_are));
+      were = subst (λ c. WereSeen (flat_map pick_rooms (take (count + 1) picks)) c) (sym here)
+          (subst (λ l. WereSeen l (context_in pick)) longer (pick-seen before pick));
     }

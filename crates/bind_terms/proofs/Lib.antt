@@ -20,3 +20,4 @@ pub mod FaultOrder
 pub mod FirstFault
 pub mod Gathering
 pub mod Within
+mod Days

@@ -44,7 +44,8 @@ by-places a b p q e f = choice a b (Some p) (Some q) e f
 not-back : (a b : Seat) → comes_before a b ≡ true → comes_before b a ≡ false
 not-back a b h = go (seat_place a) (seat_place b) refl refl (sym (choice a b (seat_place a) (seat_place b) refl refl) ∙ h)
   where
-    go : (o q : Option (List ℕ)) → seat_place a ≡ o → seat_place b ≡ q → (elim o [ None ↦ false | Some x ↦ elim q [ None ↦ false | Some y ↦ precedes x y ] ]) ≡ true → comes_before b a ≡ false
+    go : (o q : Option (List ℕ)) → seat_place a ≡ o → seat_place b ≡ q
+        → (elim o [ None ↦ false | Some x ↦ elim q [ None ↦ false | Some y ↦ precedes x y ] ]) ≡ true → comes_before b a ≡ false
     go None q e f k = absurd (false≢true k)
     go (Some p) None e f k = absurd (false≢true k)
     go (Some p) (Some q) e f k = by-places b a q p f e ∙ not_both_ways p q k
@@ -114,9 +115,14 @@ each-weaker : {X : Type 0} (P Q : X → Type 0) → ((x : X) → P x → Q x) �
 each-weaker P Q f [] h = tt
 each-weaker P Q f (x ∷ xs) h = (f x h.0, each-weaker P Q f xs h.1)
 
-fresh-step : (o : Option Told) (pre ts : List Told) (t : Told) → first_before pre t ≡ o → Each (Fresh (pre ++ t ∷ [])) (firsts_behind (pre ++ t ∷ []) ts) → Each (Fresh pre) (firsts_behind pre ts)
+fresh-step : (o : Option Told) (pre ts : List Told) (t : Told) → first_before pre t ≡ o → Each (Fresh (pre ++ t ∷ [])) (firsts_behind (pre ++ t ∷ []) ts)
+    → Each (Fresh pre) (firsts_behind pre ts)
     → Each (Fresh pre) (elim o [ None ↦ t ∷ firsts_behind (pre ++ (t ∷ [])) ts | Some first ↦ firsts_behind pre ts ])
-fresh-step None pre ts t e more same = (e, each-weaker (Fresh (pre ++ t ∷ [])) (Fresh pre) (λ u h. (or-none _ _ (sym (first-append pre (t ∷ []) u) ∙ h)).0) (firsts_behind (pre ++ t ∷ []) ts) more)
+fresh-step None pre ts t e more same = (
+  e,
+  each-weaker (Fresh (pre ++ t ∷ [])) (Fresh pre) (λ u h. (or-none _ _ (sym (first-append pre (t ∷ []) u) ∙ h)).0)
+      (firsts_behind (pre ++ t ∷ []) ts) more,
+)
 fresh-step (Some f) pre ts t e more same = same
 
 fresh : (pre ts : List Told) → Each (Fresh pre) (firsts_behind pre ts)
@@ -132,15 +138,19 @@ EachOther (t ∷ ts) = Each (Other t) ts × EachOther ts
 
 other-step : (o : Option Told) (pre ts : List Told) (t : Told) → EachOther (firsts_behind (pre ++ t ∷ []) ts) → EachOther (firsts_behind pre ts)
     → EachOther (elim o [ None ↦ t ∷ firsts_behind (pre ++ (t ∷ [])) ts | Some first ↦ firsts_behind pre ts ])
-other-step None pre ts t more same =
-    (each-weaker (Fresh (pre ++ t ∷ [])) (Other t) (λ u h. one-none (is_of_seat t u) t (or-none _ _ (sym (first-append pre (t ∷ []) u) ∙ h)).1) (firsts_behind (pre ++ t ∷ []) ts) (fresh (pre ++ t ∷ []) ts), more)
+other-step None pre ts t more same = (
+  each-weaker (Fresh (pre ++ t ∷ [])) (Other t) (λ u h. one-none (is_of_seat t u) t (or-none _ _ (sym (first-append pre (t ∷ []) u) ∙ h)).1)
+      (firsts_behind (pre ++ t ∷ []) ts) (fresh (pre ++ t ∷ []) ts),
+  more,
+)
 other-step (Some f) pre ts t more same = same
 
 pub others : (pre ts : List Told) → EachOther (firsts_behind pre ts)
 others pre [] = tt
 others pre (t ∷ ts) = other-step (first_before pre t) pre ts t (others (pre ++ t ∷ []) ts) (others pre ts)
 
-kept-step : (o : Option Told) (P : Told → Type 0) (pre ts : List Told) (t : Told) → P t → Each P (firsts_behind (pre ++ t ∷ []) ts) → Each P (firsts_behind pre ts)
+kept-step : (o : Option Told) (P : Told → Type 0) (pre ts : List Told) (t : Told) → P t → Each P (firsts_behind (pre ++ t ∷ []) ts)
+    → Each P (firsts_behind pre ts)
     → Each P (elim o [ None ↦ t ∷ firsts_behind (pre ++ (t ∷ [])) ts | Some first ↦ firsts_behind pre ts ])
 kept-step None P pre ts t p more same = (p, more)
 kept-step (Some f) P pre ts t p more same = same
@@ -220,20 +230,24 @@ none-at Less x rest h = (λ e. absurd (let k : Less ≡ Equal = e in cc), h)
 none-at Equal x rest h = absurd (let k : Some x ≡ None = h in cc)
 none-at Greater x rest h = (λ e. absurd (let k : Greater ≡ Equal = e in cc), h)
 
-put-step : (o : Ordering) (new e same : List ℕ × First) (es later : Entries) (a b : Entry) → (o ≡ Equal → ⊥) → entries_of new.1 ≡ a ∷ [] → entries_of e.1 ≡ b ∷ [] → ahead a b ≡ is_lt o
+put-step : (o : Ordering) (new e same : List ℕ × First) (es later : Entries) (a b : Entry) → (o ≡ Equal → ⊥) → entries_of new.1 ≡ a ∷ []
+    → entries_of e.1 ≡ b ∷ [] → ahead a b ≡ is_lt o
     → entries_kept later ≡ put a (entries_kept es) → entries_kept (match_ordering o (new ∷ (e ∷ es)) (same ∷ es) (e ∷ later)) ≡ put a (entries_kept (e ∷ es))
 put-step Less new e same es later a b apart new_is e_is is more =
-    ap (λ l. l ++ entries_kept (e ∷ es)) new_is ∙ (ap (λ l. a ∷ (l ++ entries_kept es)) e_is ∙ (sym (put-true a b (entries_kept es) is) ∙ ap (λ l. put a (l ++ entries_kept es)) (sym e_is)))
+    ap (λ l. l ++ entries_kept (e ∷ es)) new_is
+    ∙ (ap (λ l. a ∷ (l ++ entries_kept es)) e_is ∙ (sym (put-true a b (entries_kept es) is) ∙ ap (λ l. put a (l ++ entries_kept es)) (sym e_is)))
 put-step Equal new e same es later a b apart new_is e_is is more = absurd (apart refl)
 put-step Greater new e same es later a b apart new_is e_is is more =
-    ap (λ l. l ++ entries_kept later) e_is ∙ (ap (λ l. b ∷ l) more ∙ (sym (put-false a b (entries_kept es) is) ∙ ap (λ l. put a (l ++ entries_kept es)) (sym e_is)))
+    ap (λ l. l ++ entries_kept later) e_is ∙ (ap (λ l. b ∷ l) more
+    ∙ (sym (put-false a b (entries_kept es) is) ∙ ap (λ l. put a (l ++ entries_kept es)) (sym e_is)))
 
 put-insert : (entries : Entries) → Each IsKept entries → (t : Told) (w : IsWhole t) → kept_at w.place entries ≡ None
     → entries_kept (insert_entry order entries w.place (first_of t)) ≡ put (entry_at t w) (entries_kept entries)
 put-insert [] h t w absent = ap (λ l. l ++ []) (first-entry-is t w)
 put-insert (e ∷ es) h t w absent =
     let k = none-at (order w.place e.0) e.1 (kept_at w.place es) absent in
-    put-step (order w.place e.0) (w.place, first_of t) e (e.0, first_of t) es (insert_entry order es w.place (first_of t)) (entry_at t w) (kept_entry e h.0) k.0 (first-entry-is t w) (kept-is e h.0)
+    put-step (order w.place e.0) (w.place, first_of t) e (e.0, first_of t) es (insert_entry order es w.place (first_of t)) (entry_at t w) (kept_entry e h.0) k.0
+    (first-entry-is t w) (kept-is e h.0)
     (by-places (seat_of t) (seat_of_first e.1) w.place e.0 w.placed h.0.placed) (put-insert es h.1 t w k.1)
 
 each-step : (o : Ordering) (new e same : List ℕ × First) (es later : Entries) → (o ≡ Equal → ⊥) → IsKept new → IsKept e → Each IsKept es → Each IsKept later
@@ -242,11 +256,13 @@ each-step Less new e same es later apart n h k m = (n, (h, k))
 each-step Equal new e same es later apart n h k m = absurd (apart refl)
 each-step Greater new e same es later apart n h k m = (h, m)
 
-each-insert : (entries : Entries) → Each IsKept entries → (t : Told) (w : IsWhole t) → kept_at w.place entries ≡ None → Each IsKept (insert_entry order entries w.place (first_of t))
+each-insert : (entries : Entries) → Each IsKept entries → (t : Told) (w : IsWhole t) → kept_at w.place entries ≡ None
+    → Each IsKept (insert_entry order entries w.place (first_of t))
 each-insert [] h t w absent = (record { value = w.value; placed = w.placed; valued = w.valued }, tt)
 each-insert (e ∷ es) h t w absent =
     let k = none-at (order w.place e.0) e.1 (kept_at w.place es) absent in
-    each-step (order w.place e.0) (w.place, first_of t) e (e.0, first_of t) es (insert_entry order es w.place (first_of t)) k.0 (record { value = w.value; placed = w.placed; valued = w.valued }) h.0 h.1
+    each-step (order w.place e.0) (w.place, first_of t) e (e.0, first_of t) es (insert_entry order es w.place (first_of t)) k.0
+    (record { value = w.value; placed = w.placed; valued = w.valued }) h.0 h.1
     (each-insert es h.1 t w k.1)
 
 -- ---- no entry of a place
@@ -273,7 +289,8 @@ or-false false false e f = refl
 or-false false true e f = f
 or-false true b e f = e
 
-still-away : (entries : Entries) (t u : Told) (w : IsWhole t) (x : IsWhole u) → kept_at w.place entries ≡ None → is_of_seat t u ≡ false → Away entries u → Away (insert_entry order entries w.place (first_of t)) u
+still-away : (entries : Entries) (t u : Told) (w : IsWhole t) (x : IsWhole u) → kept_at w.place entries ≡ None → is_of_seat t u ≡ false → Away entries u
+    → Away (insert_entry order entries w.place (first_of t)) u
 still-away entries t u w x absent other away =
     any-insert (λ (e : List ℕ × First). is_eq (order (told_place u) e.0)) entries w.place (first_of t) absent
     ∙ or-false (is_eq (order (told_place u) w.place)) (has_place (told_place u) entries)
@@ -282,7 +299,8 @@ still-away entries t u w x absent other away =
       | inr apart ↦ apart
     ]) away
 
-all-away : (entries : Entries) (t : Told) (w : IsWhole t) (ts : List Told) → Each IsWhole ts → kept_at w.place entries ≡ None → Each (Other t) ts → Each (Away entries) ts
+all-away : (entries : Entries) (t : Told) (w : IsWhole t) (ts : List Told) → Each IsWhole ts → kept_at w.place entries ≡ None → Each (Other t) ts
+    → Each (Away entries) ts
     → Each (Away (insert_entry order entries w.place (first_of t))) ts
 all-away entries t w [] h absent other away = tt
 all-away entries t w (u ∷ ts) h absent other away = (still-away entries t u w h.0 absent other.0 away.0, all-away entries t w ts h.1 absent other.1 away.1)
@@ -294,14 +312,16 @@ arranged-puts entries k (t ∷ ts) h other away =
     let w = h.0 in
     let absent : kept_at w.place entries ≡ None = no-place w.place entries (ap (λ q. has_place q entries) (sym (place-told t w)) ∙ away.0) in
     ap (λ q. entries_kept (arranged (insert_entry order entries q (first_of t)) ts)) (place-told t w)
-    ∙ (arranged-puts (insert_entry order entries w.place (first_of t)) (each-insert entries k t w absent) ts h.1 other.1 (all-away entries t w ts h.1 absent other.0 away.1)
+    ∙ (arranged-puts (insert_entry order entries w.place (first_of t)) (each-insert entries k t w absent) ts h.1 other.1
+    (all-away entries t w ts h.1 absent other.0 away.1)
     ∙ ap (λ l. puts l (entries_at ts h.1)) (put-insert entries k t w absent))
 
 each-all : {X : Type 0} (P : X → Type 0) → ((x : X) → P x) → (xs : List X) → Each P xs
 each-all P f [] = tt
 each-all P f (x ∷ xs) = (f x, each-all P f xs)
 
-pub arranged-listed : (ts : List Told) → Each IsWhole ts → flat_map entries_of (map (λ (e : List ℕ × First). e.1) (arranged [] (firsts_behind [] ts))) ≡ entries ts
+pub arranged-listed : (ts : List Told) → Each IsWhole ts
+    → flat_map entries_of (map (λ (e : List ℕ × First). e.1) (arranged [] (firsts_behind [] ts))) ≡ entries ts
 arranged-listed ts h =
     let firsts = firsts_behind [] ts in
     let all = each-first IsWhole [] ts h in

@@ -29,7 +29,8 @@ numbered_at n [] h k below = absurd (omega arith)
 numbered_at n (node ∷ nodes) h zero below = h.0 ∙ omega arith
 numbered_at n (node ∷ nodes) h (suc k) below = numbered_at (n + 1) nodes h.1 k (omega arith) ∙ omega arith
 
-pub at-document : (document : Document) (k : ℕ) → k < length document.nodes → tree_node (tree_nodes document) k ≡ node_of document.names (node_at document.nodes k)
+pub at-document : (document : Document) (k : ℕ) → k < length document.nodes
+    → tree_node (tree_nodes document) k ≡ node_of document.names (node_at document.nodes k)
 at-document document k below = get_or-map (node_of document.names) document.nodes k document_node _ below
 
 pub ordered : (document : Document) → AreNumbered 0 document.nodes → AreInOrder (tree_nodes document)
@@ -59,10 +60,12 @@ filter-true : (p : Node → Bool) (node : Node) (nodes : List Node) → p node �
 filter-true p node nodes h = rw h refl
 
 at-drop : (nodes : List Node) (k : ℕ) → k < length nodes → drop k nodes ≡ tree_node nodes k ∷ drop (k + 1) nodes
-at-drop nodes k below = drop-cons nodes k (record { number = 0; kind = kinds.Document; name = None; above = []; text = [] }) below ∙ ap (λ j. tree_node nodes k ∷ drop j nodes) (let e : suc k ≡ k + 1 = omega arith in e)
+at-drop nodes k below = drop-cons nodes k (record { number = 0; kind = kinds.Document; name = None; above = []; text = [] }) below
+    ∙ ap (λ j. tree_node nodes k ∷ drop j nodes) (let e : suc k ≡ k + 1 = omega arith in e)
 
 -- where none is so from one place up to another, both have the same
-skipped : (is_so : Node → Bool) (nodes : List Node) (steps start : ℕ) → start + steps ≤ length nodes → ((k : ℕ) → start ≤ k → k < start + steps → is_so (tree_node nodes k) ≡ false)
+skipped : (is_so : Node → Bool) (nodes : List Node) (steps start : ℕ) → start + steps ≤ length nodes
+    → ((k : ℕ) → start ≤ k → k < start + steps → is_so (tree_node nodes k) ≡ false)
     → those is_so nodes start ≡ those is_so nodes (start + steps)
 skipped is_so nodes zero start h none = ap (those is_so nodes) (omega arith)
 skipped is_so nodes (suc steps) start h none =
@@ -77,7 +80,8 @@ past-all (node ∷ nodes) zero h = absurd (omega arith)
 past-all (node ∷ nodes) (suc n) h = past-all nodes n (omega arith)
 
 -- none is so from a place on
-none-behind : (is_so : Node → Bool) (nodes : List Node) (start : ℕ) → start ≤ length nodes → ((k : ℕ) → start ≤ k → k < length nodes → is_so (tree_node nodes k) ≡ false) → those is_so nodes start ≡ []
+none-behind : (is_so : Node → Bool) (nodes : List Node) (start : ℕ) → start ≤ length nodes
+    → ((k : ℕ) → start ≤ k → k < length nodes → is_so (tree_node nodes k) ≡ false) → those is_so nodes start ≡ []
 none-behind is_so nodes start h none =
     skipped is_so nodes (length nodes - start) start (omega arith) (λ k a b. none k a (omega arith))
     ∙ ap (λ xs. map number (filter is_so xs)) (past-all nodes (start + (length nodes - start)) (omega arith))
@@ -87,7 +91,8 @@ none-behind is_so nodes start h none =
 -- an attribute of the element stands next, or none does
 abbrev pub Next : List Node → ℕ → (Node → Bool) → List ℕ → List ℕ → Option ℕ → Type 0
 Next nodes n q found all None = found ≡ all
-Next nodes n q found all (Some m) = (found ++ those (both (is_attribute_of n) q) nodes m ≡ all) × (m < length nodes) × (is_attribute_of n (tree_node nodes m) ≡ true)
+Next nodes n q found all (Some m) = (found ++ those (both (is_attribute_of n) q) nodes m ≡ all) × (m < length nodes)
+    × (is_attribute_of n (tree_node nodes m) ≡ true)
 
 append-nil : (xs : List ℕ) → xs ++ [] ≡ xs
 append-nil [] = refl
@@ -114,22 +119,27 @@ nearest-is : (n : ℕ) (above : List ℕ) → is_nearest n above ≡ true → ne
 nearest-is n [] h = absurd (false≢true h)
 nearest-is n (m ∷ above) h = ap Some (let e : m ≡ n = grind (arith, nat_tests) in e)
 
-next-is : (nodes : List Node) (n m : ℕ) → is_attribute_of n (tree_node nodes m) ≡ true → next_attribute nodes m ≡ first_that (is_attribute_of n) (drop (m + 1) nodes)
+next-is : (nodes : List Node) (n m : ℕ) → is_attribute_of n (tree_node nodes m) ≡ true
+    → next_attribute nodes m ≡ first_that (is_attribute_of n) (drop (m + 1) nodes)
 next-is nodes n m h =
     let k = parts (is_nearest n (tree_node nodes m).above) (is_attribute (tree_node nodes m)) h in
     rw (k.1, nearest-is n (tree_node nodes m).above k.0) refl
 
-here : (nodes : List Node) (n m : ℕ) (q : Node → Bool) → m < length nodes → is_attribute_of n (tree_node nodes m) ≡ true → (tree_node nodes m).number ≡ m → (b : Bool) → q (tree_node nodes m) ≡ b
+here : (nodes : List Node) (n m : ℕ) (q : Node → Bool) → m < length nodes → is_attribute_of n (tree_node nodes m) ≡ true → (tree_node nodes m).number ≡ m
+    → (b : Bool) → q (tree_node nodes m) ≡ b
     → those (both (is_attribute_of n) q) nodes m ≡ (if b then m ∷ [] else []) ++ those (both (is_attribute_of n) q) nodes (m + 1)
 here nodes n m q below is at true e =
     ap (λ xs. map number (filter (both (is_attribute_of n) q) xs)) (at-drop nodes m below)
-    ∙ (ap (map number) (filter-true (both (is_attribute_of n) q) (tree_node nodes m) (drop (m + 1) nodes) (both-true (is_attribute_of n) q (tree_node nodes m) is ∙ e))
+    ∙ (ap (map number) (filter-true (both (is_attribute_of n) q) (tree_node nodes m) (drop (m + 1) nodes)
+    (both-true (is_attribute_of n) q (tree_node nodes m) is ∙ e))
     ∙ ap (λ k. k ∷ those (both (is_attribute_of n) q) nodes (m + 1)) at)
 here nodes n m q below is at false e =
     ap (λ xs. map number (filter (both (is_attribute_of n) q) xs)) (at-drop nodes m below)
-    ∙ ap (map number) (filter-false (both (is_attribute_of n) q) (tree_node nodes m) (drop (m + 1) nodes) (both-true (is_attribute_of n) q (tree_node nodes m) is ∙ e))
+    ∙ ap (map number) (filter-false (both (is_attribute_of n) q) (tree_node nodes m) (drop (m + 1) nodes)
+    (both-true (is_attribute_of n) q (tree_node nodes m) is ∙ e))
 
-pub attributes-go_on : (nodes : List Node) (n : ℕ) (q : Node → Bool) (found longer all : List ℕ) (m : ℕ) (next : Option ℕ) (b : Bool) → AreInOrder nodes → Next nodes n q found all (Some m)
+pub attributes-go_on : (nodes : List Node) (n : ℕ) (q : Node → Bool) (found longer all : List ℕ) (m : ℕ) (next : Option ℕ) (b : Bool) → AreInOrder nodes
+    → Next nodes n q found all (Some m)
     → q (tree_node nodes m) ≡ b → longer ≡ found ++ (if b then m ∷ [] else []) → next ≡ next_attribute nodes m → Next nodes n q longer all next
 attributes-go_on nodes n q found longer all m next b order (e, below, is) so more step =
     next-from nodes n q longer all (m + 1) next order (omega (arith, below))
@@ -152,7 +162,8 @@ IsInterval nodes n last = (k : ℕ) → k < length nodes → is_inside n (tree_n
 pub none-begin : (nodes : List Node) (n last : ℕ) → n ≤ last → NoneUpTo nodes n last n
 none-begin nodes n last h = record { from = omega arith; to = h; none = λ k a b. absurd (omega (arith, a, b)) }
 
-pub none-more : (nodes : List Node) (n last at next : ℕ) → NoneUpTo nodes n last at → next ≡ at + 1 → at < last → is_element (tree_node nodes next) ≡ false → NoneUpTo nodes n last next
+pub none-more : (nodes : List Node) (n last at next : ℕ) → NoneUpTo nodes n last at → next ≡ at + 1 → at < last → is_element (tree_node nodes next) ≡ false
+    → NoneUpTo nodes n last next
 none-more nodes n last at next h e below out = record {
   from = omega (arith, h.from, e);
   to = omega (arith, e, below);
@@ -172,7 +183,8 @@ and-true a b h k = rw (h, k) refl
 between : (n last k : ℕ) → n < k → k ≤ last → is_between n last k ≡ true
 between n last k a b = grind (arith, nat_tests)
 
-pub some-inside : (nodes : List Node) (n last at next : ℕ) → IsInterval nodes n last → NoneUpTo nodes n last at → next ≡ at + 1 → at < last → next < length nodes → is_element (tree_node nodes next) ≡ true
+pub some-inside : (nodes : List Node) (n last at next : ℕ) → IsInterval nodes n last → NoneUpTo nodes n last at → next ≡ at + 1 → at < last
+    → next < length nodes → is_element (tree_node nodes next) ≡ true
     → true ≡ has_element_inside nodes n
 some-inside nodes n last at next interval h e below within is =
     sym (list_any_at (λ (node : Node). is_element node && is_among n node.above) nodes next _ within
@@ -200,13 +212,15 @@ none-inside nodes n last at interval h past =
 
 -- ---- names
 
-pub named-uri : (document : Document) (n : ℕ) (local other uri : List ℕ) (k : ℕ) (names more : List Name) → n < length document.nodes → Some k ≡ (node_at document.nodes n).name
+pub named-uri : (document : Document) (n : ℕ) (local other uri : List ℕ) (k : ℕ) (names more : List Name) → n < length document.nodes
+    → Some k ≡ (node_at document.nodes n).name
     → bytes_eq local other ≡ true → other ≡ (name_at names k).local → names ≡ document.names → uri ≡ (name_at more k).uri → more ≡ document.names
     → bytes_eq (chars []) uri ≡ has_plain_name local (tree_node (tree_nodes document) n)
 named-uri document n local other uri k names more below name same local_is names_are uri_is more_are =
     let at : (tree_node (tree_nodes document) n).name ≡ Some (name_at document.names k) =
     ap (λ (node : Node). node.name) (at-document document n below) ∙ ap (option_map (name_at document.names)) (sym name) in
-    let spelled : bytes_eq local (name_at document.names k).local ≡ true = ap (bytes_eq local) (sym (local_is ∙ ap (λ x. (name_at x k).local) names_are)) ∙ same in
+    let spelled : bytes_eq local (name_at document.names k).local ≡ true = ap (bytes_eq local) (sym (local_is ∙ ap (λ x. (name_at x k).local) names_are))
+    ∙ same in
     ap (λ x. bytes_eq x uri) chars-nil
     ∙ (ap (bytes_eq []) (uri_is ∙ ap (λ x. (name_at x k).uri) more_are)
     ∙ (ap (λ b. elim b [ true ↦ bytes_eq [] (name_at document.names k).uri | false ↦ false ]) (sym spelled) ∙ ap (is_named [] local) (sym at)))

@@ -19,7 +19,7 @@ use Rattle.term_table.specs.Places.{first_row, slot_place}
 use Rattle.inv_terms.proofs.PushLemmas.{same_slot_itself}
 use Rattle.inv_terms.proofs.ContextLemmas.{context_is}
 use Rattle.bind_meaning.specs.declared.picked.Seated.{Seated}
-use Rattle.bind_meaning.specs.Kept.{all_kept_seats}
+use Rattle.bind_meaning.specs.Kept.{all_kept_placed}
 use Rattle.bind_meaning.specs.Seats.{Placed, Room, context_of, outer_room, inner_room, each_once, rooms}
 use Rattle.bind_meaning.specs.Judging.{Found}
 use Rattle.bind_meaning.specs.Faults.{lacks_in}
@@ -31,7 +31,12 @@ use Rattle.bind_terms.proofs.Holding.{place-is, place-itself}
 
 all_groups : List Group
 all_groups =
-    groups.Root ∷ groups.InvoiceNote ∷ groups.ProcessControl ∷ groups.PrecedingInvoice ∷ groups.Seller ∷ groups.SellerAddress ∷ groups.SellerContact ∷ groups.Buyer ∷ groups.BuyerAddress ∷ groups.BuyerContact ∷ groups.Payee ∷ groups.TaxRepresentative ∷ groups.TaxRepresentativeAddress ∷ groups.Delivery ∷ groups.InvoicingPeriod ∷ groups.DeliveryAddress ∷ groups.PaymentInstructions ∷ groups.CreditTransfer ∷ groups.PaymentCard ∷ groups.DirectDebit ∷ groups.DocumentAllowance ∷ groups.DocumentCharge ∷ groups.DocumentTotals ∷ groups.VatBreakdown ∷ groups.SupportingDocument ∷ groups.InvoiceLine ∷ groups.LinePeriod ∷ groups.LineAllowance ∷ groups.LineCharge ∷ groups.PriceDetails ∷ groups.LineVat ∷ groups.ItemInformation ∷ groups.ItemAttribute ∷ groups.SellerIdentifier ∷ groups.SellerSchemedIdentifier ∷ groups.ItemClassification ∷ []
+    groups.Root ∷ groups.InvoiceNote ∷ groups.ProcessControl ∷ groups.PrecedingInvoice ∷ groups.Seller ∷ groups.SellerAddress ∷ groups.SellerContact
+    ∷ groups.Buyer ∷ groups.BuyerAddress ∷ groups.BuyerContact ∷ groups.Payee ∷ groups.TaxRepresentative ∷ groups.TaxRepresentativeAddress
+    ∷ groups.Delivery ∷ groups.InvoicingPeriod ∷ groups.DeliveryAddress ∷ groups.PaymentInstructions ∷ groups.CreditTransfer ∷ groups.PaymentCard
+    ∷ groups.DirectDebit ∷ groups.DocumentAllowance ∷ groups.DocumentCharge ∷ groups.DocumentTotals ∷ groups.VatBreakdown ∷ groups.SupportingDocument
+    ∷ groups.InvoiceLine ∷ groups.LinePeriod ∷ groups.LineAllowance ∷ groups.LineCharge ∷ groups.PriceDetails ∷ groups.LineVat
+    ∷ groups.ItemInformation ∷ groups.ItemAttribute ∷ groups.SellerIdentifier ∷ groups.SellerSchemedIdentifier ∷ groups.ItemClassification ∷ []
 
 starting : ℕ → Option Group
 starting n = find (λ g. first_row g == n) all_groups
@@ -136,7 +141,8 @@ key-same : (a b : Context) → is_eq (slice_cmp nat_cmp (room_key a) (room_key b
 key-same a b = elim (bool_cases (is_eq (slice_cmp nat_cmp (room_key a) (room_key b)))) [
   | inl same ↦ same ∙ sym (ap (λ c. same_context c a) (sym (key-told a b (place-is (room_key a) (room_key b) same))) ∙ context-itself a)
   | inr apart ↦ elim (bool_cases (same_context b a)) [
-    | inl one ↦ absurd (false≢true (sym apart ∙ (ap (λ c. is_eq (slice_cmp nat_cmp (room_key a) (room_key c))) (context_is b a one) ∙ place-itself (room_key a))))
+    | inl one ↦ absurd (false≢true (sym apart
+        ∙ (ap (λ c. is_eq (slice_cmp nat_cmp (room_key a) (room_key c))) (context_is b a one) ∙ place-itself (room_key a))))
     | inr two ↦ apart ∙ sym two
   ]
 ]
@@ -153,7 +159,8 @@ filter-append : (q : Room → Bool) (xs ys : List Room) → filter q (xs ++ ys) 
 filter-append q [] ys = refl
 filter-append q (x ∷ xs) ys = go (q x) (filter-append q xs ys)
   where
-    go : (b : Bool) → filter q (xs ++ ys) ≡ filter q xs ++ filter q ys → (if b then x ∷ filter q (xs ++ ys) else filter q (xs ++ ys)) ≡ (if b then x ∷ filter q xs else filter q xs) ++ filter q ys
+    go : (b : Bool) → filter q (xs ++ ys) ≡ filter q xs ++ filter q ys
+        → (if b then x ∷ filter q (xs ++ ys) else filter q (xs ++ ys)) ≡ (if b then x ∷ filter q xs else filter q xs) ++ filter q ys
     go true h = ap (λ l. x ∷ l) h
     go false h = h
 
@@ -167,13 +174,16 @@ filtered-once q true false room e = refl
 filtered-once q false true room e = rw e refl
 filtered-once q false false room e = rw e refl
 
-pub once-more : (before : List Room) (room : Room) → each_once (before ++ room ∷ []) ≡ each_once before ++ once_if (list_any (λ (r : Room). same_context r.context room.context) before) room
+pub once-more : (before : List Room) (room : Room)
+    → each_once (before ++ room ∷ []) ≡ each_once before ++ once_if (list_any (λ (r : Room). same_context r.context room.context) before) room
 once-more [] room = refl
 once-more (x ∷ before) room =
     ap (λ l. x ∷ filter (λ (other : Room). not (same_context x.context other.context)) l) (once-more before room)
-    ∙ ap (λ l. x ∷ l) (filter-append (λ (other : Room). not (same_context x.context other.context)) (each_once before) (once_if (list_any (λ (r : Room). same_context r.context room.context) before) room)
+    ∙ ap (λ l. x ∷ l) (filter-append (λ (other : Room). not (same_context x.context other.context)) (each_once before)
+    (once_if (list_any (λ (r : Room). same_context r.context room.context) before) room)
     ∙ ap (λ l. filter (λ (other : Room). not (same_context x.context other.context)) (each_once before) ++ l)
-    (filtered-once (λ (other : Room). not (same_context x.context other.context)) (list_any (λ (r : Room). same_context r.context room.context) before) (same_context x.context room.context) room refl))
+    (filtered-once (λ (other : Room). not (same_context x.context other.context)) (list_any (λ (r : Room). same_context r.context room.context) before)
+    (same_context x.context room.context) room refl))
 
 flat_map-append : (f : Room → List Found) (xs ys : List Room) → flat_map f (xs ++ ys) ≡ flat_map f xs ++ flat_map f ys
 flat_map-append f [] ys = refl
@@ -227,6 +237,6 @@ seen-none nodes seats first keys e = subst (λ k. Seen nodes seats first [] k fi
 outer-is : (p : Placed) → outer_room p ≡ rooms_at (outer_context (context_of p)) p.outer
 outer-is p = refl
 
-pub all-rooms : (ps : List Placed) → flat_map (λ p. outer_room p ++ inner_room p) ps ≡ flat_map pick_rooms (all_kept_seats ps)
+pub all-rooms : (ps : List Placed) → flat_map (λ p. outer_room p ++ inner_room p) ps ≡ flat_map pick_rooms (all_kept_placed ps)
 all-rooms [] = refl
 all-rooms (p ∷ ps) = ap (λ l. (outer_room p ++ inner_room p) ++ l) (all-rooms ps)

@@ -53,7 +53,8 @@ flat_map-among f y (z ∷ xs) h = elim (among-split y (f z) (flat_map f xs) h) [
   | inr b ↦ from-more f y z xs (flat_map-among f y xs b)
 ]
 
-filter-keeps : {X : Type 0} (b : Bool) (x y : X) (p : X → Bool) (xs : List X) → p y ≡ b → p x ≡ true → (Among x xs → Among x (filter p xs)) → (y ≡ x) ⊎ Among x xs → Among x (if b then y ∷ filter p xs else filter p xs)
+filter-keeps : {X : Type 0} (b : Bool) (x y : X) (p : X → Bool) (xs : List X) → p y ≡ b → p x ≡ true → (Among x xs → Among x (filter p xs))
+    → (y ≡ x) ⊎ Among x xs → Among x (if b then y ∷ filter p xs else filter p xs)
 filter-keeps true x y p xs e k more (inl s) = inl s
 filter-keeps true x y p xs e k more (inr h) = inr (more h)
 filter-keeps false x y p xs e k more (inl s) = absurd (false≢true (sym e ∙ (ap p s ∙ k)))
@@ -63,7 +64,8 @@ pub among-filter : {X : Type 0} (p : X → Bool) (x : X) (xs : List X) → p x �
 among-filter p x [] e h = h
 among-filter p x (y ∷ xs) e h = filter-keeps (p y) x y p xs refl e (among-filter p x xs e) h
 
-filter-takes : {X : Type 0} (b : Bool) (x y : X) (p : X → Bool) (xs : List X) → (Among x (filter p xs) → Among x xs) → Among x (if b then y ∷ filter p xs else filter p xs) → (y ≡ x) ⊎ Among x xs
+filter-takes : {X : Type 0} (b : Bool) (x y : X) (p : X → Bool) (xs : List X) → (Among x (filter p xs) → Among x xs)
+    → Among x (if b then y ∷ filter p xs else filter p xs) → (y ≡ x) ⊎ Among x xs
 filter-takes true x y p xs more (inl e) = inl e
 filter-takes true x y p xs more (inr h) = inr (more h)
 filter-takes false x y p xs more h = inr (more h)
@@ -131,7 +133,11 @@ pub first-of : (a : Found) (xs : List Found) → First a xs
 first-of a [] = record {
   r = a;
   is = refl;
-  first = record { one = inl refl; none_of = λ x k. elim k [ inl s ↦ ap (λ (z : Found). precedes z.place a.place) (sym s) ∙ never_before_itself a.place | inr k ↦ absurd k ]; front = inl refl };
+  first = record {
+    one = inl refl;
+    none_of = λ x k. elim k [ inl s ↦ ap (λ (z : Found). precedes z.place a.place) (sym s) ∙ never_before_itself a.place | inr k ↦ absurd k ];
+    front = inl refl;
+  };
 }
 first-of a (x ∷ xs) =
     let f = first-of (earlier a x) xs in
@@ -141,7 +147,8 @@ first-of a (x ∷ xs) =
 abbrev pub AreOne : List Found → Type 0
 AreOne xs = (x y : Found) → Among x xs → Among y xs → x.place ≡ y.place → x ≡ y
 
-same-firsts : (a : Found) (xs ys : List Found) (r s : Found) → ((x : Found) → Among x xs → Among x ys) → ((x : Found) → Among x ys → Among x xs) → AreOne xs → IsFirst a xs r → IsFirst a ys s → r ≡ s
+same-firsts : (a : Found) (xs ys : List Found) (r s : Found) → ((x : Found) → Among x xs → Among x ys) → ((x : Found) → Among x ys → Among x xs) → AreOne xs
+    → IsFirst a xs r → IsFirst a ys s → r ≡ s
 same-firsts a xs ys r s to from one f g =
     let sr : precedes s.place r.place ≡ false = f.none_of s (elim g.one [ inl e ↦ inl e | inr k ↦ inr (from s k) ]) in
     let rs : precedes r.place s.place ≡ false = g.none_of r (elim f.one [ inl e ↦ inl e | inr k ↦ inr (to r k) ]) in
@@ -166,12 +173,14 @@ same-firsts a xs ys r s to from one f g =
 first-whole : (x : Found) (xs : List Found) (r : Found) → IsFirst x xs r → Among r (x ∷ xs)
 first-whole x xs r f = f.one
 
-same-wholes : (x y : Found) (xs ys : List Found) (r s : Found) → ((z : Found) → Among z (x ∷ xs) → Among z (y ∷ ys)) → ((z : Found) → Among z (y ∷ ys) → Among z (x ∷ xs)) → AreOne (x ∷ xs)
+same-wholes : (x y : Found) (xs ys : List Found) (r s : Found) → ((z : Found) → Among z (x ∷ xs) → Among z (y ∷ ys))
+    → ((z : Found) → Among z (y ∷ ys) → Among z (x ∷ xs)) → AreOne (x ∷ xs)
     → IsFirst x xs r → IsFirst y ys s → r ≡ s
 same-wholes x y xs ys r s to from one f g =
     one r s f.one (from s g.one) (neither_before r.place s.place (g.none_of r (to r f.one)) (f.none_of s (from s g.one)))
 
-pub same-least : (o : Option Found) (xs ys : List Found) → ((x : Found) → Among x xs → Among x ys) → ((x : Found) → Among x ys → Among x xs) → AreOne xs → least_of o xs ≡ least_of o ys
+pub same-least : (o : Option Found) (xs ys : List Found) → ((x : Found) → Among x xs → Among x ys) → ((x : Found) → Among x ys → Among x xs) → AreOne xs
+    → least_of o xs ≡ least_of o ys
 same-least None [] [] to from one = refl
 same-least None [] (y ∷ ys) to from one = absurd (from y (inl refl))
 same-least None (x ∷ xs) [] to from one = absurd (to x (inl refl))

@@ -16,11 +16,11 @@ use Rattle.bind_rows.specs.declared.rows.Row.{Row}
 use Rattle.bind_rows.specs.declared.rows.Content.{Content}
 use Rattle.bind_rows.specs.declared.rows.Content.TheVariants as contents
 use Rattle.bind_meaning.specs.declared.fault.BindKind.{BindKind}
-use Rattle.bind_meaning.specs.declared.picked.SeatedPick.{SeatedPick}
+use Rattle.bind_meaning.specs.declared.picked.PlacedPick.{PlacedPick}
 use Rattle.bind_meaning.specs.Elements.{string_at}
 use Rattle.bind_meaning.specs.Picks.{term_in}
 use Rattle.bind_meaning.specs.Currencies.{Currencies}
-use Rattle.bind_meaning.specs.Kept.{kept, kept_seat, all_kept_seats}
+use Rattle.bind_meaning.specs.Kept.{kept, kept_placed, all_kept_placed}
 use Rattle.bind_meaning.specs.Seats.{Placed, context_of}
 use Rattle.bind_meaning.specs.Values.{Said, said}
 use Rattle.bind_meaning.specs.Judging.{Found, Told, told_by, said_by, first_before, first_cause, causes, fault_of, seat_of}
@@ -40,7 +40,8 @@ use Rattle.bind_terms.proofs.Holding.{holds-none, holds-more}
 -- ---- one value
 
 causes-are : (nodes : List Node) (lists : Lists) (c : Currencies) (p : Placed) (s : Said) (before : Option Told)
-    → kind_of nodes lists c.invoice p.pick.row p.pick.node (context_of p) (option_map (λ (f : Told). f.said) before) s ≡ first_cause (causes nodes lists c before (told_at p s))
+    → kind_of nodes lists c.invoice p.pick.row p.pick.node (context_of p) (option_map (λ (f : Told). f.said) before) s
+    ≡ first_cause (causes nodes lists c before (told_at p s))
 causes-are nodes lists c p s None = refl
 causes-are nodes lists c p s (Some f) = refl
 
@@ -48,40 +49,45 @@ kept-said : (o : Option Told) → option_map said_of (option_map (λ (f : First)
 kept-said None = refl
 kept-said (Some f) = refl
 
-pub tells-one : (nodes : List Node) (lists : Lists) (invoice : Option (List ℕ)) (row : Row) (pick : SeatedPick) (one : Kept) (context : Context) (listed : ℕ) (kind : Option BindKind) (first : Option Kept)
+pub tells-one : (nodes : List Node) (lists : Lists) (invoice : Option (List ℕ)) (row : Row) (pick : PlacedPick) (one : Kept) (context : Context) (listed : ℕ)
+    (kind : Option BindKind) (first : Option Kept)
     (old new : Entries) (was is : List Found → Type 0) → context ≡ context_in pick → Some listed ≡ row_of one.term context
     → first ≡ option_map (λ (f : First). f.said) (kept_at (row_place listed context) old)
-    → kind ≡ kind_of nodes lists invoice row pick.picked.node context (option_map said_of first) (said_of one)
+    → kind ≡ kind_of nodes lists invoice row pick.picked.node (context_in pick) (option_map said_of first) (said_of one)
     → new ≡ put_entry old (row_place listed context) (record { row = listed; context = context; said = one })
     → ((q : List ℕ) → kept_at q new ≡ kept_behind q old (row_place listed context) (record { row = listed; context = context; said = one }))
     → Puts was is (faults_at kind pick.picked one.term) → Tells nodes lists invoice pick row (said_of one ∷ []) old was new is
-tells-one nodes lists invoice row pick one context listed kind first old new was is in_pick in_row firsts cause put looked fault before p c same_invoice same_pick same_row h =
+tells-one nodes lists invoice row pick one context listed kind first old new was is in_pick in_row firsts cause put looked fault before p c same_invoice
+    same_pick same_row h =
     let s : Said = said_of one in
     let t : Told = told_at p s in
-    let here : context_of p ≡ context = ap context_in same_pick ∙ sym in_pick in
+    let stands : context_of p ≡ context_in pick = ap context_in same_pick in
+    let here : context_of p ≡ context = stands ∙ sym in_pick in
     let place : List ℕ = row_place listed context in
     let at : Some place ≡ place_of one.term context = ap (option_map (λ r. row_place r context)) in_row in
     let at_it : seat_place (seat_of t) ≡ Some place = ap (place_of one.term) here ∙ sym at in
-    let row_is : listed ≡ unwrap_or (row_of one.term (context_of p)) 0 = ap (λ o. unwrap_or o 0) in_row ∙ ap (λ x. unwrap_or (row_of one.term x) 0) (sym here) in
-    let kept_first : ◌≡◌ {A = First} (record { row = listed; context = context; said = one }) (first_of t) = λ i. record { row = row_is i; context = (sym here) i; said = one } in
+    let row_is : listed ≡ unwrap_or (row_of one.term (context_of p)) 0 = ap (λ o. unwrap_or o 0) in_row
+    ∙ ap (λ x. unwrap_or (row_of one.term x) 0) (sym here) in
+    let kept_first : ◌≡◌ {A = First} (record { row = listed; context = context; said = one }) (first_of t) =
+    λ i. record { row = row_is i; context = (sym here) i; said = one } in
     let first_is : option_map said_of first ≡ option_map (λ (f : Told). f.said) (first_before before t) =
     ap (option_map said_of) (firsts ∙ ap (option_map (λ (f : First). f.said)) (h.look_up t place at_it)) ∙ kept-said (first_before before t) in
     let kind_is : kind ≡ first_cause (causes nodes lists c (first_before before t) t) =
-    cause ∙ (ap (λ x. kind_of nodes lists x row pick.picked.node context (option_map said_of first) s) (sym same_invoice)
-    ∙ (ap (λ x. kind_of nodes lists c.invoice x pick.picked.node context (option_map said_of first) s) (sym same_row)
-    ∙ (ap (λ (x : SeatedPick). kind_of nodes lists c.invoice p.pick.row x.picked.node context (option_map said_of first) s) (sym same_pick)
-    ∙ (ap (λ x. kind_of nodes lists c.invoice p.pick.row p.pick.node x (option_map said_of first) s) (sym here)
+    cause ∙ (ap (λ x. kind_of nodes lists x row pick.picked.node (context_in pick) (option_map said_of first) s) (sym same_invoice)
+    ∙ (ap (λ x. kind_of nodes lists c.invoice x pick.picked.node (context_in pick) (option_map said_of first) s) (sym same_row)
+    ∙ (ap (λ x. kind_of nodes lists c.invoice p.pick.row pick.picked.node x (option_map said_of first) s) (sym stands)
+    ∙ (ap (λ (x : PlacedPick). kind_of nodes lists c.invoice p.pick.row x.picked.node (context_of p) (option_map said_of first) s) (sym same_pick)
     ∙ (ap (λ x. kind_of nodes lists c.invoice p.pick.row p.pick.node (context_of p) x s) first_is
     ∙ causes-are nodes lists c p s (first_before before t)))))) in
     let fault_is : faults_at kind pick.picked one.term ≡ fault_of nodes lists c (first_before before t) t =
-    ap (λ (x : SeatedPick). faults_at kind x.picked one.term) (sym same_pick) ∙ ap (λ x. faults_at x (kept p.pick) one.term) kind_is in
+    ap (λ (x : PlacedPick). faults_at kind x.picked one.term) (sym same_pick) ∙ ap (λ x. faults_at x (kept p.pick) one.term) kind_is in
     holds-more nodes lists c before old was h t place at_it new is (puts-same was is _ _ fault_is fault)
     (put ∙ ap (put_entry old place) kept_first)
     (λ q. looked q ∙ ap (kept_behind q old place) kept_first)
 
 -- ---- all of a pick
 
-pub tells-two : (nodes : List Node) (lists : Lists) (invoice : Option (List ℕ)) (pick : SeatedPick) (row : Row) (a b : Said) (old middle new : Entries)
+pub tells-two : (nodes : List Node) (lists : Lists) (invoice : Option (List ℕ)) (pick : PlacedPick) (row : Row) (a b : Said) (old middle new : Entries)
     (was middling is : List Found → Type 0)
     → Tells nodes lists invoice pick row (a ∷ []) old was middle middling → Tells nodes lists invoice pick row (b ∷ []) middle middling new is
     → Tells nodes lists invoice pick row (a ∷ (b ∷ [])) old was new is
@@ -91,16 +97,18 @@ tells-two nodes lists invoice pick row a b old middle new was middling is first 
     subst (λ l. Holds nodes lists c l new is) (append_assoc before (told_at p a ∷ []) (told_at p b ∷ [])) two
 
 said-by-row : (nodes : List Node) (p : Placed) (content : Content) (term : Term) → content ≡ contents.Term term
-    → (elim (term_in content) [ None ↦ [] | Some t ↦ said p.pick.row.form t (string_at nodes p.pick.node) ]) ≡ said p.pick.row.form term (string_at nodes p.pick.node)
+    → (elim (term_in content) [ None ↦ [] | Some t ↦ said p.pick.row.form t (string_at nodes p.pick.node) ])
+    ≡ said p.pick.row.form term (string_at nodes p.pick.node)
 said-by-row nodes p content term e = ap (λ x. elim (term_in x) [ None ↦ [] | Some t ↦ said p.pick.row.form t (string_at nodes p.pick.node) ]) e
 
-pub tells-row : (nodes : List Node) (lists : Lists) (invoice : Option (List ℕ)) (pick : SeatedPick) (row : Row) (term : Term) (all : List Said)
+pub tells-row : (nodes : List Node) (lists : Lists) (invoice : Option (List ℕ)) (pick : PlacedPick) (row : Row) (term : Term) (all : List Said)
     (string : List ℕ) (old new : Entries) (was is : List Found → Type 0)
     → row.content ≡ contents.Term term → all ≡ said row.form term string → string ≡ string_at nodes pick.picked.node
     → Tells nodes lists invoice pick row all old was new is → TellsPick nodes lists invoice pick row old was new is
 tells-row nodes lists invoice pick row term all string old new was is content sayings string_is step before p c same_invoice same_pick same_row h =
     let all_is : all ≡ said_by nodes p =
-    sayings ∙ (ap (λ (x : Row). said x.form term string) (sym same_row) ∙ (ap (said p.pick.row.form term) (string_is ∙ ap (λ (x : SeatedPick). string_at nodes x.picked.node) (sym same_pick))
+    sayings ∙ (ap (λ (x : Row). said x.form term string) (sym same_row)
+    ∙ (ap (said p.pick.row.form term) (string_is ∙ ap (λ (x : PlacedPick). string_at nodes x.picked.node) (sym same_pick))
     ∙ sym (said-by-row nodes p p.pick.row.content term (ap (λ (x : Row). x.content) same_row ∙ content)))) in
     subst (λ l. Holds nodes lists c (before ++ map (told_at p) l) new is) all_is
     (step before p c same_invoice same_pick same_row h)
@@ -109,22 +117,23 @@ no-term : (nodes : List Node) (p : Placed) (content : Content) (text : List ℕ)
     → ◌≡◌ {A = List Said} (elim (term_in content) [ None ↦ [] | Some t ↦ said p.pick.row.form t (string_at nodes p.pick.node) ]) []
 no-term nodes p content text e = ap (λ x. elim (term_in x) [ None ↦ [] | Some t ↦ said p.pick.row.form t (string_at nodes p.pick.node) ]) e
 
-pub tells-nothing : (nodes : List Node) (lists : Lists) (invoice : Option (List ℕ)) (pick : SeatedPick) (row : Row) (text : List ℕ) (entries : Entries)
+pub tells-nothing : (nodes : List Node) (lists : Lists) (invoice : Option (List ℕ)) (pick : PlacedPick) (row : Row) (text : List ℕ) (entries : Entries)
     (was : List Found → Type 0)
     → row.content ≡ contents.Constant text → TellsPick nodes lists invoice pick row entries was entries was
 tells-nothing nodes lists invoice pick row text entries was content before p c same_invoice same_pick same_row h =
     subst (λ l. Holds nodes lists c l entries was)
-    (sym (ap (λ l. before ++ map (told_at p) l) (no-term nodes p p.pick.row.content text (ap (λ (x : Row). x.content) same_row ∙ content)) ∙ append-nil before)) h
+    (sym (ap (λ l. before ++ map (told_at p) l) (no-term nodes p p.pick.row.content text (ap (λ (x : Row). x.content) same_row ∙ content))
+    ∙ append-nil before)) h
 
-pub tells-of : (nodes : List Node) (lists : Lists) (invoice : Option (List ℕ)) (pick : SeatedPick) (rows : List Row) (row : Row) (old new : Entries)
+pub tells-of : (nodes : List Node) (lists : Lists) (invoice : Option (List ℕ)) (pick : PlacedPick) (rows : List Row) (row : Row) (old new : Entries)
     (was is : List Found → Type 0)
     → Some row ≡ row_numbered rows pick.picked.row → TellsPick nodes lists invoice pick row old was new is
     → TellsOf nodes lists invoice pick rows old was new is
 tells-of nodes lists invoice pick rows row old new was is at step before p c same_invoice same_pick of_row h =
-    step before p c same_invoice same_pick (same_Some _ _ (sym of_row ∙ (ap (λ (x : SeatedPick). row_numbered rows x.picked.row) same_pick ∙ sym at))) h
+    step before p c same_invoice same_pick (same_Some _ _ (sym of_row ∙ (ap (λ (x : PlacedPick). row_numbered rows x.picked.row) same_pick ∙ sym at))) h
 
 -- what a string says of the row's term is what the pick says
-pub sayings-placed : (nodes : List Node) (pick : SeatedPick) (row : Row) (term : Term) (all : List Said) (string : List ℕ)
+pub sayings-placed : (nodes : List Node) (pick : PlacedPick) (row : Row) (term : Term) (all : List Said) (string : List ℕ)
     → row.content ≡ contents.Term term → all ≡ said row.form term string → string ≡ string_at nodes pick.picked.node
     → ArePlaced (context_in pick) (said_by_row nodes pick row) → ArePlaced (context_in pick) all
 sayings-placed nodes pick row term all string content sayings string_is placed =
@@ -133,7 +142,8 @@ sayings-placed nodes pick row term all string content sayings string_is placed =
     ∙ sym (sayings ∙ ap (said row.form term) string_is) in
     subst (ArePlaced (context_in pick)) same placed
 
-one-placed : (context : Context) (all : List Said) (a : Said) (others : List Said) → ArePlaced context all → all ≡ a ∷ others → is_some (place_of a.term context) ≡ true
+one-placed : (context : Context) (all : List Said) (a : Said) (others : List Said) → ArePlaced context all → all ≡ a ∷ others
+    → is_some (place_of a.term context) ≡ true
 one-placed context all a others h e =
     All-head (λ (s : Said). is_some (place_of s.term context) ≡ true) a others (subst (ArePlaced context) e h)
 
@@ -147,10 +157,11 @@ module _ (context : Context) (sayings : Sayings) (placed : ArePlaced context (al
   pub second-placed : (one other : Kept) → sayings ≡ all.Two one other → is_some (place_of other.term context) ≡ true
   second-placed one other e =
       one-placed context (said_of other ∷ []) (said_of other) []
-      (All-tail (λ (s : Said). is_some (place_of s.term context) ≡ true) (said_of one) (said_of other ∷ []) (subst (ArePlaced context) (ap all_said e) placed)) refl
+      (All-tail (λ (s : Said). is_some (place_of s.term context) ≡ true) (said_of one) (said_of other ∷ [])
+      (subst (ArePlaced context) (ap all_said e) placed)) refl
 
 -- the same of a call's result
-module _ {X E : Type 0} (r : Result X E) (nodes : List Node) (lists : Lists) (invoice : Option (List ℕ)) (pick : SeatedPick) (row : Row) where
+module _ {X E : Type 0} (r : Result X E) (nodes : List Node) (lists : Lists) (invoice : Option (List ℕ)) (pick : PlacedPick) (row : Row) where
   pub tells-same : (told all : List Said) (old new : Entries) (was is : List Found → Type 0) → told ≡ all
       → OnOk r (Tells nodes lists invoice pick row told old was new is)
       → OnOk r (Tells nodes lists invoice pick row all old was new is)
@@ -175,12 +186,12 @@ module _ {X E : Type 0} (r : Result X E) (nodes : List Node) (lists : Lists) (in
 -- ---- all picks
 
 -- the picks up to one were told
-pub record Passed (nodes : List Node) (lists : Lists) (invoice : Option (List ℕ)) (picks : List SeatedPick) (rows : List Row) (count : ℕ) (entries : Entries)
+pub record Passed (nodes : List Node) (lists : Lists) (invoice : Option (List ℕ)) (picks : List PlacedPick) (rows : List Row) (count : ℕ) (entries : Entries)
     (was : List Found → Type 0) : Type 0 where
-  pub holds : (ps : List Placed) (c : Currencies) → c.invoice ≡ invoice → picks ≡ all_kept_seats ps → All (IsOfRow rows) ps
+  pub holds : (ps : List Placed) (c : Currencies) → c.invoice ≡ invoice → picks ≡ all_kept_placed ps → All (IsOfRow rows) ps
       → Holds nodes lists c (told nodes (take count ps)) entries was
 
-pub passed-none : (nodes : List Node) (lists : Lists) (invoice : Option (List ℕ)) (picks : List SeatedPick) (rows : List Row) (entries : Entries)
+pub passed-none : (nodes : List Node) (lists : Lists) (invoice : Option (List ℕ)) (picks : List PlacedPick) (rows : List Row) (entries : Entries)
     (given : List Found → Type 0)
     → entries ≡ [] → given [] → Passed nodes lists invoice picks rows 0 entries given
 passed-none nodes lists invoice picks rows entries given e fresh = record {
@@ -189,7 +200,8 @@ passed-none nodes lists invoice picks rows entries given e fresh = record {
 
 flat_map-append : (nodes : List Node) (xs ys : List Placed) → told nodes (xs ++ ys) ≡ told nodes xs ++ told nodes ys
 flat_map-append nodes [] ys = refl
-flat_map-append nodes (x ∷ xs) ys = ap (λ l. told_by nodes x ++ l) (flat_map-append nodes xs ys) ∙ sym (append_assoc (told_by nodes x) (told nodes xs) (told nodes ys))
+flat_map-append nodes (x ∷ xs) ys = ap (λ l. told_by nodes x ++ l) (flat_map-append nodes xs ys)
+    ∙ sym (append_assoc (told_by nodes x) (told nodes xs) (told nodes ys))
 
 take-next : (ps : List Placed) (count : ℕ) (d : Placed) → count < length ps → take (count + 1) ps ≡ take count ps ++ get_or ps count d ∷ []
 take-next ps count d h = take_more ps count d h
@@ -198,17 +210,17 @@ first-of : (ps : List Placed) (count : ℕ) → count < length ps → Placed
 first-of [] count h = absurd (omega arith)
 first-of (p ∷ ps) count h = p
 
-pub passed-more : (nodes : List Node) (lists : Lists) (invoice : Option (List ℕ)) (picks : List SeatedPick) (rows : List Row) (count : ℕ) (old new : Entries)
-    (was is : List Found → Type 0) (pick : SeatedPick)
+pub passed-more : (nodes : List Node) (lists : Lists) (invoice : Option (List ℕ)) (picks : List PlacedPick) (rows : List Row) (count : ℕ) (old new : Entries)
+    (was is : List Found → Type 0) (pick : PlacedPick)
     → count < length picks → pick ≡ get_or picks count pick → Passed nodes lists invoice picks rows count old was
     → TellsOf nodes lists invoice pick rows old was new is
     → Passed nodes lists invoice picks rows (count + 1) new is
 passed-more nodes lists invoice picks rows count old new was is pick below at before step = record {
   holds = λ ps c same_invoice same_picks of_rows.
-      let long : count < length ps = omega (arith, below, ap length same_picks, length-map ps kept_seat) in
+      let long : count < length ps = omega (arith, below, ap length same_picks, length-map ps kept_placed) in
       let d : Placed = first-of ps count long in
       let p : Placed = get_or ps count d in
-      let pick_is : kept_seat p ≡ pick = sym (get_or-map kept_seat ps count d pick long) ∙ (ap (λ l. get_or l count pick) (sym same_picks) ∙ sym at) in
+      let pick_is : kept_placed p ≡ pick = sym (get_or-map kept_placed ps count d pick long) ∙ (ap (λ l. get_or l count pick) (sym same_picks) ∙ sym at) in
       let one = before.holds ps c same_invoice same_picks of_rows in
       let other = step (told nodes (take count ps)) p c same_invoice pick_is (All-get_or (IsOfRow rows) ps count d long of_rows) one in
       subst (λ l. Holds nodes lists c l new is)
@@ -222,9 +234,9 @@ take-all [] (suc count) h = refl
 take-all (p ∷ ps) zero h = absurd (omega arith)
 take-all (p ∷ ps) (suc count) h = ap (λ l. p ∷ l) (take-all ps count (omega arith))
 
-pub passed-all : (nodes : List Node) (lists : Lists) (invoice : Option (List ℕ)) (picks : List SeatedPick) (rows : List Row) (count : ℕ) (entries : Entries)
+pub passed-all : (nodes : List Node) (lists : Lists) (invoice : Option (List ℕ)) (picks : List PlacedPick) (rows : List Row) (count : ℕ) (entries : Entries)
     (was : List Found → Type 0)
     → length picks ≤ count → Passed nodes lists invoice picks rows count entries was → TellsAll nodes lists invoice picks rows entries was
 passed-all nodes lists invoice picks rows count entries was past h ps c same_invoice same_picks of_rows =
-    subst (λ l. Holds nodes lists c (told nodes l) entries was) (take-all ps count (omega (arith, past, ap length same_picks, length-map ps kept_seat)))
+    subst (λ l. Holds nodes lists c (told nodes l) entries was) (take-all ps count (omega (arith, past, ap length same_picks, length-map ps kept_placed)))
     (h.holds ps c same_invoice same_picks of_rows)

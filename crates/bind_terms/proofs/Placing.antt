@@ -5,7 +5,7 @@ use Rattle.std.proofs.lemmas.Option.{same_Some}
 use Rattle.inv_base.specs.Tree.{Node}
 use Rattle.term_table.specs.Places.{place_of}
 use Rattle.bind_rows.specs.declared.rows.Row.{Row}
-use Rattle.bind_meaning.specs.Kept.{kept_seat, all_kept_seats}
+use Rattle.bind_meaning.specs.Kept.{kept_placed, all_kept_placed}
 use Rattle.bind_meaning.specs.Seats.{Placed, context_of}
 use Rattle.bind_meaning.specs.Values.{Said}
 use Rattle.bind_meaning.specs.Judging.{told_by, said_by}
@@ -23,13 +23,13 @@ each-back P [] ys h = h
 each-back P (x ∷ xs) ys h = each-back P xs ys h.1
 
 one-says : (nodes : List Node) (rows : List Row) (p : Placed) → IsOfRow rows p → AllByRecursion (λ s. HasPlace (told_at p s)) (said_by nodes p)
-    → SaysPlaced nodes rows (kept_seat p)
+    → SaysPlaced nodes rows (kept_placed p)
 one-says nodes rows p of_row h row e =
-    subst (λ r. ArePlaced (context_of p) (said_by_row nodes (kept_seat p) r)) (same_Some _ _ (sym of_row ∙ e))
+    subst (λ r. ArePlaced (context_of p) (said_by_row nodes (kept_placed p) r)) (same_Some _ _ (sym of_row ∙ e))
     (all-of-each (λ (s : Said). is_some (place_of s.term (context_of p)) ≡ true) (said_by nodes p) h)
 
 each-says : (nodes : List Node) (rows : List Row) (ps : List Placed) → AllByRecursion (IsOfRow rows) ps → AllByRecursion HasPlace (told nodes ps)
-    → AllByRecursion (SaysPlaced nodes rows) (all_kept_seats ps)
+    → AllByRecursion (SaysPlaced nodes rows) (all_kept_placed ps)
 each-says nodes rows [] of_rows h = tt
 each-says nodes rows (p ∷ ps) of_rows h = (
   one-says nodes rows p of_rows.0 (each-unmap HasPlace (told_at p) (said_by nodes p) (each-front HasPlace (told_by nodes p) (told nodes ps) h)),
@@ -37,7 +37,7 @@ each-says nodes rows (p ∷ ps) of_rows h = (
 )
 
 pub picks-say-placed : (nodes : List Node) (rows : List Row) (ps : List Placed) → All (IsOfRow rows) ps → All HasPlace (told nodes ps)
-    → All (SaysPlaced nodes rows) (all_kept_seats ps)
+    → All (SaysPlaced nodes rows) (all_kept_placed ps)
 picks-say-placed nodes rows ps of_rows h =
-    all-of-each (SaysPlaced nodes rows) (all_kept_seats ps)
+    all-of-each (SaysPlaced nodes rows) (all_kept_placed ps)
     (each-says nodes rows ps (each-of-all (IsOfRow rows) ps of_rows) (each-of-all HasPlace (told nodes ps) h))

@@ -18,8 +18,8 @@ use Rattle.node_arena.specs.Moves.{last_inside}
 use Rattle.inv_terms.specs.declared.lacks.Lack.{Lack}
 use Rattle.inv_terms.specs.Lacking.{all_missing}
 use Rattle.bind_meaning.specs.declared.picked.Seated.{Seated}
-use Rattle.bind_meaning.specs.declared.picked.SeatedPick.{SeatedPick}
-use Rattle.bind_meaning.specs.Kept.{all_kept_seats}
+use Rattle.bind_meaning.specs.declared.picked.PlacedPick.{PlacedPick}
+use Rattle.bind_meaning.specs.Kept.{all_kept_placed}
 use Rattle.bind_meaning.specs.Seats.{Placed, Room, whole, slot_of, each_once, rooms}
 use Rattle.bind_meaning.specs.Judging.{Found}
 use Rattle.bind_meaning.specs.Faults.{lacks_in}
@@ -103,7 +103,7 @@ outer-nested c = go c.outer
     go None = refl
     go (Some s) = refl
 
-pub pick-nested : (pick : SeatedPick) → (is_some pick.outer || is_none pick.inner) ≡ true → IsNested (context_in pick)
+pub pick-nested : (pick : PlacedPick) → (is_some pick.outer || is_none pick.inner) ≡ true → IsNested (context_in pick)
 pick-nested pick h = go pick.outer pick.inner h
   where
     go : (o i : Option Seated) → (is_some o || is_none i) ≡ true → (is_some (slot_of o) || is_none (slot_of i)) ≡ true
@@ -129,7 +129,8 @@ not-equal Less rest h = (λ e. absurd (let k : Less ≡ Equal = e in cc), h)
 not-equal Equal rest h = absurd (false≢true (sym h))
 not-equal Greater rest h = (λ e. absurd (let k : Greater ≡ Equal = e in cc), h)
 
-any-key : (q : List ℕ → Bool) (keys : List (List ℕ)) (key : List ℕ) → has_key keys key ≡ false → list_any q (insert_key (slice_cmp nat_cmp) keys key) ≡ (q key || list_any q keys)
+any-key : (q : List ℕ → Bool) (keys : List (List ℕ)) (key : List ℕ) → has_key keys key ≡ false
+    → list_any q (insert_key (slice_cmp nat_cmp) keys key) ≡ (q key || list_any q keys)
 any-key q [] key h = refl
 any-key q (x ∷ keys) key h =
     let k = not-equal (slice_cmp nat_cmp key x) (has_key keys key) h in
@@ -139,7 +140,8 @@ pub key-added : (keys more : List (List ℕ)) (key : List ℕ) → has_key keys 
     → (q : List ℕ) → has_key more q ≡ (is_eq (slice_cmp nat_cmp q key) || has_key keys q)
 key-added keys more key h e q = ap (λ l. has_key l q) e ∙ any-key (λ other. is_eq (slice_cmp nat_cmp q other)) keys key h
 
-pub key-there : (keys more : List (List ℕ)) (key : List ℕ) → has_key keys key ≡ true → more ≡ keys → (q : List ℕ) → has_key more q ≡ (is_eq (slice_cmp nat_cmp q key) || has_key keys q)
+pub key-there : (keys more : List (List ℕ)) (key : List ℕ) → has_key keys key ≡ true → more ≡ keys → (q : List ℕ)
+    → has_key more q ≡ (is_eq (slice_cmp nat_cmp q key) || has_key keys q)
 key-there keys more key h e q = ap (λ l. has_key l q) e ∙ go (is_eq (slice_cmp nat_cmp q key)) refl
   where
     go : (b : Bool) → is_eq (slice_cmp nat_cmp q key) ≡ b → has_key keys q ≡ (b || has_key keys q)
@@ -189,26 +191,27 @@ room-none nodes seats context seat keys given is before known =
 
 -- ---- all picks
 
-append-rooms : (xs ys : List SeatedPick) → flat_map pick_rooms (xs ++ ys) ≡ flat_map pick_rooms xs ++ flat_map pick_rooms ys
+append-rooms : (xs ys : List PlacedPick) → flat_map pick_rooms (xs ++ ys) ≡ flat_map pick_rooms xs ++ flat_map pick_rooms ys
 append-rooms [] ys = refl
-append-rooms (x ∷ xs) ys = ap (λ l. pick_rooms x ++ l) (append-rooms xs ys) ∙ sym (append_assoc (pick_rooms x) (flat_map pick_rooms xs) (flat_map pick_rooms ys))
+append-rooms (x ∷ xs) ys = ap (λ l. pick_rooms x ++ l) (append-rooms xs ys)
+    ∙ sym (append_assoc (pick_rooms x) (flat_map pick_rooms xs) (flat_map pick_rooms ys))
 
-pub rooms-more : (picks : List SeatedPick) (count : ℕ) (pick : SeatedPick) → count < length picks → pick ≡ get_or picks count pick
+pub rooms-more : (picks : List PlacedPick) (count : ℕ) (pick : PlacedPick) → count < length picks → pick ≡ get_or picks count pick
     → flat_map pick_rooms (take count picks) ++ pick_rooms pick ≡ flat_map pick_rooms (take (count + 1) picks)
 rooms-more picks count pick below at =
     sym (ap (flat_map pick_rooms) (take_more picks count pick below ∙ ap (λ k. take count picks ++ k ∷ []) (sym at))
     ∙ (append-rooms (take count picks) (pick ∷ []) ∙ ap (λ l. flat_map pick_rooms (take count picks) ++ l) (append-nil (pick_rooms pick))))
 
-all : (xs : List SeatedPick) (n : ℕ) → length xs ≤ n → take n xs ≡ xs
+all : (xs : List PlacedPick) (n : ℕ) → length xs ≤ n → take n xs ≡ xs
 all [] zero h = refl
 all [] (suc n) h = refl
 all (x ∷ xs) zero h = absurd (omega arith)
 all (x ∷ xs) (suc n) h = ap (λ l. x ∷ l) (all xs n (omega arith))
 
-pub seen-all : (nodes : List Node) (seats : List Seat) (was first : List Found → Type 0) (picks : List SeatedPick) (count : ℕ) (keys : List (List ℕ))
+pub seen-all : (nodes : List Node) (seats : List Seat) (was first : List Found → Type 0) (picks : List PlacedPick) (count : ℕ) (keys : List (List ℕ))
     (given : List Found → Type 0)
     → length picks ≤ count → Puts was first (lacks_in nodes seats whole) → Seen nodes seats first (flat_map pick_rooms (take count picks)) keys given
-    → (ps : List Placed) → picks ≡ all_kept_seats ps → Puts was given (flat_map (lacks_in nodes seats) (rooms ps))
+    → (ps : List Placed) → picks ≡ all_kept_placed ps → Puts was given (flat_map (lacks_in nodes seats) (rooms ps))
 seen-all nodes seats was first picks count keys given past whole_puts seen ps e =
     puts-both was first given (lacks_in nodes seats whole) _ whole_puts
     (puts-same first given _ _ (ap (λ l. flat_map (lacks_in nodes seats) (each_once l))

@@ -20,14 +20,15 @@ use Rattle.bind_meaning.specs.Names.{has_element_name, has_plain_name}
 use Rattle.bind_meaning.specs.Elements.{number, both, children_named, attributes_named, is_blank_at, are_met, met}
 use Rattle.bind_meaning.specs.Picks.{Pick, ways, last_of, filled, leaves_of, picks_of_way, nodes_picked, Numbered, numbered, rows_where, all_picked, without_fillers, is_filler, carrier, carrier_in, has_any_term}
 use Rattle.bind_meaning.specs.Currencies.{Currencies, is_in_its_currency, in_their_currencies}
-use Rattle.bind_meaning.specs.Kept.{kept, kept_seat, all_kept, all_kept_seats}
+use Rattle.bind_meaning.specs.Kept.{kept, kept_placed, all_kept, all_kept_placed}
 use Rattle.bind_meaning.specs.Seats.{placed, outer_at, inner_at, inner_within}
 use Rattle.bind_meaning.specs.Terms.{in_order, term_picks, place_all}
 use Rattle.bind_terms.specs.Steps.{row_numbered, IsOfRow, IsPickOfRow, IsWithin}
 
 -- ---- lists joined
 
-pub all-flat_map : {X Y : Type 0} (P : Y → Type 0) (Q : X → Type 0) (f : X → List Y) → ((x : X) → Q x → All P (f x)) → (xs : List X) → All Q xs → All P (flat_map f xs)
+pub all-flat_map : {X Y : Type 0} (P : Y → Type 0) (Q : X → Type 0) (f : X → List Y) → ((x : X) → Q x → All P (f x)) → (xs : List X) → All Q xs
+    → All P (flat_map f xs)
 all-flat_map P Q f h [] all = All-nil P
 all-flat_map P Q f h (x ∷ xs) all = All-append P (f x) (flat_map f xs) (h x (All-head Q x xs all)) (all-flat_map P Q f h xs (All-tail Q x xs all))
 
@@ -48,20 +49,23 @@ module _ (nodes : List Node) (order : AreInOrder nodes) (some : 0 < length nodes
   below n = n < length nodes
 
   numbers-below : All (λ (node : Node). node.number < length nodes) nodes
-  numbers-below = All-from_get_or (λ (node : Node). node.number < length nodes) nodes (record { number = 0; kind = kinds.Document; name = None; above = []; text = [] })
+  numbers-below = All-from_get_or (λ (node : Node). node.number < length nodes) nodes
+      (record { number = 0; kind = kinds.Document; name = None; above = []; text = [] })
       (λ k h. subst below (sym (order k h)) h)
 
   filtered-below : (p : Node → Bool) → All below (map number (filter p nodes))
   filtered-below p = All-map below number (filter p nodes) (All-filter p (λ (node : Node). node.number < length nodes) nodes numbers-below)
 
   met-below : (step : Step) (n : ℕ) → All below (met nodes step n)
-  met-below step n = All-filter (are_met nodes step.guards) below (children_named nodes step.name n) (filtered-below (both (is_child n) (has_element_name step.name)))
+  met-below step n = All-filter (are_met nodes step.guards) below (children_named nodes step.name n)
+      (filtered-below (both (is_child n) (has_element_name step.name)))
 
   ways-below : (path : List Step) (n : ℕ) → All (All below) (ways nodes path n)
   ways-below [] n = All-cons (All below) [] [] (All-nil below) (All-nil (All below))
   ways-below (step ∷ path) n =
       all-flat_map (All below) below (λ m. map (λ way. m ∷ way) (ways nodes path m))
-      (λ m h. All-map (All below) (λ way. m ∷ way) (ways nodes path m) (All-weaker (All below) (λ way. All below (m ∷ way)) (λ way k. All-cons below m way h k) (ways nodes path m) (ways-below path m)))
+      (λ m h. All-map (All below) (λ way. m ∷ way) (ways nodes path m)
+      (All-weaker (All below) (λ way. All below (m ∷ way)) (λ way k. All-cons below m way h k) (ways nodes path m) (ways-below path m)))
       (met nodes step n) (met-below step n)
 
   last-below : (way : List ℕ) → All below way → below (last_of way)
@@ -73,7 +77,8 @@ module _ (nodes : List Node) (order : AreInOrder nodes) (some : 0 < length nodes
   leaves-below leaves.Element n h = All-filter (λ m. not (is_blank_at nodes m)) below (n ∷ []) (All-cons below n [] h (All-nil below))
   leaves-below (leaves.Attribute local) n h =
       all-flat_map below any_of (λ m. filled nodes (attributes_named nodes local m))
-      (λ m k. All-filter (λ j. not (is_blank_at nodes j)) below (attributes_named nodes local m) (filtered-below (both (is_attribute_of m) (has_plain_name local))))
+      (λ m k. All-filter (λ j. not (is_blank_at nodes j)) below (attributes_named nodes local m)
+      (filtered-below (both (is_attribute_of m) (has_plain_name local))))
       (filled nodes (n ∷ [])) (all-any (filled nodes (n ∷ [])))
 
   module _ (rows : List Row) where
@@ -86,7 +91,8 @@ module _ (nodes : List Node) (order : AreInOrder nodes) (some : 0 < length nodes
     way-sound : (k : ℕ) (row : Row) → row_numbered rows k ≡ Some row → (way : List ℕ) → All below way → All IsSound (picks_of_way nodes k row way)
     way-sound k row e way h =
         All-map IsSound (λ n. record { place = k; row = row; elements = way; node = n }) (leaves_of nodes row.leaf (last_of way))
-        (All-weaker below (λ n. IsSound (record { place = k; row = row; elements = way; node = n })) (λ n b. record { node = b; elements = h; of_row = e }) (leaves_of nodes row.leaf (last_of way))
+        (All-weaker below (λ n. IsSound (record { place = k; row = row; elements = way; node = n })) (λ n b. record { node = b; elements = h; of_row = e })
+        (leaves_of nodes row.leaf (last_of way))
         (leaves-below row.leaf (last_of way) (last-below way h)))
 
     row-sound : (k : ℕ) (row : Row) → row_numbered rows k ≡ Some row → All IsSound (nodes_picked nodes k row)
@@ -105,17 +111,20 @@ module _ (nodes : List Node) (order : AreInOrder nodes) (some : 0 < length nodes
     picked-sound : (test : Row → Bool) → All IsSound (all_picked nodes (rows_where test rows))
     picked-sound test =
         all-flat_map IsSound is_numbered (λ (r : Numbered). nodes_picked nodes r.place r.row) (λ r e. row-sound r.place r.row e) (rows_where test rows)
-        (All-filter (λ (r : Numbered). test r.row) is_numbered (numbered 1 rows) (numbered-from 1 0 rows refl (λ i. ap (slice_get rows) (let z : i ≡ 0 + i = omega arith in z))))
+        (All-filter (λ (r : Numbered). test r.row) is_numbered (numbered 1 rows)
+        (numbered-from 1 0 rows refl (λ i. ap (slice_get rows) (let z : i ≡ 0 + i = omega arith in z))))
 
     ordered-sound : (picks : List Pick) → All IsSound picks → All IsSound (in_order nodes picks)
     ordered-sound picks h =
-        all-flat_map IsSound any_of (λ (node : Node). filter (λ (pick : Pick). pick.node == node.number) picks) (λ node k. All-filter (λ (pick : Pick). pick.node == node.number) IsSound picks h) nodes (all-any nodes)
+        all-flat_map IsSound any_of (λ (node : Node). filter (λ (pick : Pick). pick.node == node.number) picks)
+        (λ node k. All-filter (λ (pick : Pick). pick.node == node.number) IsSound picks h) nodes (all-any nodes)
 
     pub terms-sound : (c : Currencies) → All IsSound (term_picks nodes c rows)
     terms-sound c =
         let all = all_picked nodes (rows_where has_any_term rows) in
         ordered-sound (in_their_currencies nodes c (without_fillers nodes all))
-        (All-filter (is_in_its_currency nodes c) IsSound (without_fillers nodes all) (All-filter (λ pick. not (is_filler nodes all pick)) IsSound all (picked-sound has_any_term)))
+        (All-filter (is_in_its_currency nodes c) IsSound (without_fillers nodes all)
+        (All-filter (λ pick. not (is_filler nodes all pick)) IsSound all (picked-sound has_any_term)))
 
     pub rows-sound : (test : Row → Bool) → All IsSound (in_order nodes (all_picked nodes (rows_where test rows)))
     rows-sound test = ordered-sound (all_picked nodes (rows_where test rows)) (picked-sound test)
@@ -134,26 +143,32 @@ module _ (nodes : List Node) (order : AreInOrder nodes) (some : 0 < length nodes
         go true k = for-some below n (All-head below n way h)
         go false k = k
 
-    seat-below : (o : Option ℕ) (f : ℕ → Seated) → ((n : ℕ) → (f n).element ≡ n) → ForSome o below → ForSome (option_map f o) (λ (s : Seated). s.element < length nodes)
+    seat-below : (o : Option ℕ) (f : ℕ → Seated) → ((n : ℕ) → (f n).element ≡ n) → ForSome o below
+        → ForSome (option_map f o) (λ (s : Seated). s.element < length nodes)
     seat-below None f e h = for-none (λ (s : Seated). s.element < length nodes)
     seat-below (Some n) f e h = for-some (λ (s : Seated). s.element < length nodes) (f n) (subst below (sym (e n)) (h n refl))
 
     outer-below : (picks : List Pick) (pick : Pick) → IsSound pick → (o : Option Group)
         → ForSome (option_and_then (λ group. option_map (outer_at nodes picks group) (carrier_in pick group)) o) (λ (s : Seated). s.element < length nodes)
     outer-below picks pick h None = for-none (λ (s : Seated). s.element < length nodes)
-    outer-below picks pick h (Some group) = seat-below (carrier_in pick group) (outer_at nodes picks group) (λ n. refl) (carrier-below group pick.row.path pick.elements h.elements)
+    outer-below picks pick h (Some group) = seat-below (carrier_in pick group) (outer_at nodes picks group) (λ n. refl)
+        (carrier-below group pick.row.path pick.elements h.elements)
 
     inner-in : (picks : List Pick) (pick : Pick) → IsSound pick → (outer : Group) (n : ℕ) (o : Option Group)
-        → ForSome (option_and_then (λ group. option_map (inner_at nodes picks outer n group) (carrier_in pick group)) o) (λ (s : Seated). s.element < length nodes)
+        → ForSome (option_and_then (λ group. option_map (inner_at nodes picks outer n group) (carrier_in pick group)) o)
+        (λ (s : Seated). s.element < length nodes)
     inner-in picks pick h outer n None = for-none (λ (s : Seated). s.element < length nodes)
-    inner-in picks pick h outer n (Some group) = seat-below (carrier_in pick group) (inner_at nodes picks outer n group) (λ m. refl) (carrier-below group pick.row.path pick.elements h.elements)
+    inner-in picks pick h outer n (Some group) =
+        seat-below (carrier_in pick group) (inner_at nodes picks outer n group) (λ m. refl) (carrier-below group pick.row.path pick.elements h.elements)
 
-    inner-then : (picks : List Pick) (pick : Pick) → IsSound pick → (outer : Group) (o : Option ℕ) → ForSome (option_and_then (inner_within nodes picks pick outer) o) (λ (s : Seated). s.element < length nodes)
+    inner-then : (picks : List Pick) (pick : Pick) → IsSound pick → (outer : Group) (o : Option ℕ)
+        → ForSome (option_and_then (inner_within nodes picks pick outer) o) (λ (s : Seated). s.element < length nodes)
     inner-then picks pick h outer None = for-none (λ (s : Seated). s.element < length nodes)
     inner-then picks pick h outer (Some n) = inner-in picks pick h outer n pick.row.inner
 
     inner-below : (picks : List Pick) (pick : Pick) → IsSound pick → (o : Option Group)
-        → ForSome (option_and_then (λ outer. option_and_then (inner_within nodes picks pick outer) (carrier_in pick outer)) o) (λ (s : Seated). s.element < length nodes)
+        → ForSome (option_and_then (λ outer. option_and_then (inner_within nodes picks pick outer) (carrier_in pick outer)) o)
+        (λ (s : Seated). s.element < length nodes)
     inner-below picks pick h None = for-none (λ (s : Seated). s.element < length nodes)
     inner-below picks pick h (Some outer) = inner-then picks pick h outer (carrier_in pick outer)
 
@@ -168,18 +183,25 @@ module _ (nodes : List Node) (order : AreInOrder nodes) (some : 0 < length nodes
     nested-seats picks pick None = refl
     nested-seats picks pick (Some group) = nested-then picks pick group (carrier_in pick group)
 
-    pub seated-within : (picks : List Pick) → All IsSound picks → All (IsWithin (length nodes)) (all_kept_seats (place_all nodes picks))
+    pub seated-within : (picks : List Pick) → All IsSound picks → All (IsWithin (length nodes)) (all_kept_placed (place_all nodes picks))
     seated-within picks h =
-        All-map (IsWithin (length nodes)) kept_seat (place_all nodes picks)
-        (All-map (λ p. IsWithin (length nodes) (kept_seat p)) (placed nodes picks) picks
-        (All-weaker IsSound (λ pick. IsWithin (length nodes) (kept_seat (placed nodes picks pick)))
-        (λ pick s. record { node = s.node; outer = outer-below picks pick s pick.row.outer; inner = inner-below picks pick s pick.row.outer; nested = nested-seats picks pick pick.row.outer }) picks h))
+        All-map (IsWithin (length nodes)) kept_placed (place_all nodes picks)
+        (All-map (λ p. IsWithin (length nodes) (kept_placed p)) (placed nodes picks) picks
+        (All-weaker IsSound (λ pick. IsWithin (length nodes) (kept_placed (placed nodes picks pick)))
+        (λ pick s. record {
+          node = s.node;
+          outer = outer-below picks pick s pick.row.outer;
+          inner = inner-below picks pick s pick.row.outer;
+          nested = nested-seats picks pick pick.row.outer;
+        }) picks h))
 
     pub seated-rows : (picks : List Pick) → All IsSound picks → All (IsOfRow rows) (place_all nodes picks)
-    seated-rows picks h = All-map (IsOfRow rows) (placed nodes picks) picks (All-weaker IsSound (λ pick. IsOfRow rows (placed nodes picks pick)) (λ pick s. s.of_row) picks h)
+    seated-rows picks h = All-map (IsOfRow rows) (placed nodes picks) picks
+        (All-weaker IsSound (λ pick. IsOfRow rows (placed nodes picks pick)) (λ pick s. s.of_row) picks h)
 
     pub kept-within : (picks : List Pick) → All IsSound picks → All (λ (p : Picked). p.node < length nodes) (all_kept picks)
-    kept-within picks h = All-map (λ (p : Picked). p.node < length nodes) kept picks (All-weaker IsSound (λ pick. pick.node < length nodes) (λ pick s. s.node) picks h)
+    kept-within picks h = All-map (λ (p : Picked). p.node < length nodes) kept picks
+        (All-weaker IsSound (λ pick. pick.node < length nodes) (λ pick s. s.node) picks h)
 
     pub kept-rows : (picks : List Pick) → All IsSound picks → All (IsPickOfRow rows) picks
     kept-rows picks h = All-weaker IsSound (IsPickOfRow rows) (λ pick s. s.of_row) picks h

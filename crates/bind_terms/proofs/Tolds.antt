@@ -21,7 +21,8 @@ abbrev pub or_else : Option Told → Option Told → Option Told
 or_else (Some f) other = Some f
 or_else None other = other
 
-chosen : (b : Bool) (x : Told) (a c other : Option Told) → a ≡ or_else c other → (elim b [ true ↦ Some x | false ↦ a ]) ≡ or_else (elim b [ true ↦ Some x | false ↦ c ]) other
+chosen : (b : Bool) (x : Told) (a c other : Option Told) → a ≡ or_else c other
+    → (elim b [ true ↦ Some x | false ↦ a ]) ≡ or_else (elim b [ true ↦ Some x | false ↦ c ]) other
 chosen true x a c other e = refl
 chosen false x a c other e = e
 
@@ -29,7 +30,8 @@ pub first-append : (xs ys : List Told) (t : Told) → first_before (xs ++ ys) t 
 first-append [] ys t = refl
 first-append (x ∷ xs) ys t = chosen (is_of_seat x t) x _ _ _ (first-append xs ys t)
 
-found-first : (b : Bool) (x t f : Told) (rest : Option Told) → is_of_seat x t ≡ b → (rest ≡ Some f → is_of_seat f t ≡ true) → (elim b [ true ↦ Some x | false ↦ rest ]) ≡ Some f → is_of_seat f t ≡ true
+found-first : (b : Bool) (x t f : Told) (rest : Option Told) → is_of_seat x t ≡ b → (rest ≡ Some f → is_of_seat f t ≡ true)
+    → (elim b [ true ↦ Some x | false ↦ rest ]) ≡ Some f → is_of_seat f t ≡ true
 found-first true x t f rest e later h = let same : x ≡ f = same_Some _ _ h in ap (λ y. is_of_seat y t) (sym same) ∙ e
 found-first false x t f rest e later h = later h
 
@@ -75,7 +77,8 @@ abbrev pub kept_if : Option Told → Told → List Told
 kept_if None t = t ∷ []
 kept_if (Some f) t = []
 
-one-more : (o : Option Told) (pre : List Told) (t : Told) → (elim o [ None ↦ t ∷ firsts_behind (pre ++ (t ∷ [])) [] | Some first ↦ firsts_behind pre [] ]) ≡ kept_if o t
+one-more : (o : Option Told) (pre : List Told) (t : Told)
+    → (elim o [ None ↦ t ∷ firsts_behind (pre ++ (t ∷ [])) [] | Some first ↦ firsts_behind pre [] ]) ≡ kept_if o t
 one-more None pre t = refl
 one-more (Some f) pre t = refl
 
@@ -102,7 +105,8 @@ faults-more nodes lists c pre [] t =
 faults-more nodes lists c pre (x ∷ xs) t =
     ap (λ l. fault_of nodes lists c (first_before pre x) x ++ l) (faults-more nodes lists c (pre ++ x ∷ []) xs t
     ∙ ap (λ l. faults_behind nodes lists c (pre ++ x ∷ []) xs ++ fault_of nodes lists c (first_before l t) t) (append_assoc pre (x ∷ []) xs))
-    ∙ sym (append_assoc (fault_of nodes lists c (first_before pre x) x) (faults_behind nodes lists c (pre ++ x ∷ []) xs) (fault_of nodes lists c (first_before (pre ++ x ∷ xs) t) t))
+    ∙ sym (append_assoc (fault_of nodes lists c (first_before pre x) x) (faults_behind nodes lists c (pre ++ x ∷ []) xs)
+    (fault_of nodes lists c (first_before (pre ++ x ∷ xs) t) t))
 
 pub least-append : (o : Option Found) (xs ys : List Found) → least_of o (xs ++ ys) ≡ least_of (least_of o xs) ys
 least-append o [] ys = refl
@@ -128,7 +132,8 @@ or-second false b h = h
 or-first : (a b : Bool) → a ≡ true → (a || b) ≡ true
 or-first a b h = rw h refl
 
-first-any : (b : Bool) (p : Seat → Bool) (x t f : Told) (xs : List Told) → is_of_seat x t ≡ b → (first_before xs t ≡ Some f → list_any (λ u. p (seat_of u)) xs ≡ true)
+first-any : (b : Bool) (p : Seat → Bool) (x t f : Told) (xs : List Told) → is_of_seat x t ≡ b
+    → (first_before xs t ≡ Some f → list_any (λ u. p (seat_of u)) xs ≡ true)
     → (elim b [ true ↦ Some x | false ↦ first_before xs t ]) ≡ Some f → p (seat_of t) ≡ true → list_any (λ u. p (seat_of u)) (x ∷ xs) ≡ true
 first-any true p x t f xs e later h holds = or-first (p (seat_of x)) _ (ap p (told-seat x t e) ∙ holds)
 first-any false p x t f xs e later h holds = or-second (p (seat_of x)) _ (later h)

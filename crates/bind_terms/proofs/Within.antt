@@ -30,7 +30,7 @@ use Rattle.bind_meaning.specs.Elements.{string_at, is_one_of}
 use Rattle.inv_terms.specs.Values.{trimmed}
 use Rattle.bind_meaning.specs.Picks.{Pick, has_any_term}
 use Rattle.bind_meaning.specs.Currencies.{Currencies, currencies}
-use Rattle.bind_meaning.specs.Kept.{kept_seat}
+use Rattle.bind_meaning.specs.Kept.{kept_placed}
 use Rattle.bind_meaning.specs.Seats.{Placed, Room, whole, outer_room, inner_room, each_once, rooms, context_of}
 use Rattle.bind_meaning.specs.Values.{Said}
 use Rattle.bind_meaning.specs.Judging.{Found, found, Told, told_by, said_by, first_before, Cause, first_cause, causes, place_at, fault_of, faults_behind, words, wrong_word, seat_of, earlier}
@@ -157,7 +157,7 @@ module _ (count : ℕ) where
       (All-filter (λ (other : Room). not (same_context room.context other.context)) is_room_at (each_once rs)
       (each_once-at rs (All-tail is_room_at room rs all)))
 
-  outer_room-at : (p : Placed) → IsWithin count (kept_seat p) → All is_room_at (outer_room p)
+  outer_room-at : (p : Placed) → IsWithin count (kept_placed p) → All is_room_at (outer_room p)
   outer_room-at p within = go p.outer within.outer
     where
       go : (seat : Option Seated) → ForSome seat (λ (s : Seated). s.element < count)
@@ -165,7 +165,7 @@ module _ (count : ℕ) where
       go None h = All-nil is_room_at
       go (Some seat) h = All-cons is_room_at (record { context = outer_context (context_of p); element = seat.element }) [] (h seat refl) (All-nil is_room_at)
 
-  inner_room-at : (p : Placed) → IsWithin count (kept_seat p) → All is_room_at (inner_room p)
+  inner_room-at : (p : Placed) → IsWithin count (kept_placed p) → All is_room_at (inner_room p)
   inner_room-at p within = go p.inner within.inner
     where
       go : (seat : Option Seated) → ForSome seat (λ (s : Seated). s.element < count)
@@ -173,11 +173,11 @@ module _ (count : ℕ) where
       go None h = All-nil is_room_at
       go (Some seat) h = All-cons is_room_at (record { context = context_of p; element = seat.element }) [] (h seat refl) (All-nil is_room_at)
 
-  rooms-at : (ps : List Placed) → 1 < count → All (λ p. IsWithin count (kept_seat p)) ps → All is_room_at (rooms ps)
+  rooms-at : (ps : List Placed) → 1 < count → All (λ p. IsWithin count (kept_placed p)) ps → All is_room_at (rooms ps)
   rooms-at ps some all =
       All-cons is_room_at whole (each_once (flat_map (λ p. outer_room p ++ inner_room p) ps)) some
       (each_once-at (flat_map (λ p. outer_room p ++ inner_room p) ps)
-      (all-flat_map is_room_at (λ p. IsWithin count (kept_seat p)) (λ p. outer_room p ++ inner_room p)
+      (all-flat_map is_room_at (λ p. IsWithin count (kept_placed p)) (λ p. outer_room p ++ inner_room p)
       (λ p h. All-append is_room_at (outer_room p) (inner_room p) (outer_room-at p h) (inner_room-at p h)) ps all))
 
 -- ---- in their order
@@ -219,11 +219,11 @@ module _ (nodes : List Node) (order : AreInOrder nodes) (some : 1 < length nodes
   faults-within c =
       let count = length nodes in
       let ps = place_all nodes (term_picks nodes c rows) in
-      let within = all-of_map (IsWithin count) kept_seat ps (seated-within nodes order few rows (term_picks nodes c rows)
+      let within = all-of_map (IsWithin count) kept_placed ps (seated-within nodes order few rows (term_picks nodes c rows)
       (terms-sound nodes order few rows c)) in
       All-append (is_at count) (faults_behind nodes lists c [] (told nodes ps)) _
       (faults-at count nodes lists c [] (told nodes ps) (told-at count nodes ps
-      (All-weaker (λ p. IsWithin count (kept_seat p)) (λ (p : Placed). p.pick.node < count) (λ p h. h.node) ps within)))
+      (All-weaker (λ p. IsWithin count (kept_placed p)) (λ (p : Placed). p.pick.node < count) (λ p h. h.node) ps within)))
       (All-append (is_at count) (flat_map (wrong_word nodes) (constant_picks nodes rows)) _
       (all-flat_map (is_at count) (λ (pick : Pick). pick.node < count) (wrong_word nodes) (wrong-at count nodes) (constant_picks nodes rows)
       (All-weaker (IsSound nodes order few rows) (λ (pick : Pick). pick.node < count) (λ pick h. h.node) (constant_picks nodes rows)

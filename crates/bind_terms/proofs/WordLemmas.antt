@@ -20,9 +20,11 @@ pub record Worded (nodes : List Node) (picked : List Picked) (rows : List Row) (
 pub worded-none : (nodes : List Node) (picked : List Picked) (rows : List Row) (first : List Found → Type 0) → Worded nodes picked rows first 0 first
 worded-none nodes picked rows first = record { is = λ picks e h. puts-none first }
 
-words-append : (nodes : List Node) (xs ys : List Pick) → flat_map (wrong_word nodes) (xs ++ ys) ≡ flat_map (wrong_word nodes) xs ++ flat_map (wrong_word nodes) ys
+words-append : (nodes : List Node) (xs ys : List Pick)
+    → flat_map (wrong_word nodes) (xs ++ ys) ≡ flat_map (wrong_word nodes) xs ++ flat_map (wrong_word nodes) ys
 words-append nodes [] ys = refl
-words-append nodes (x ∷ xs) ys = ap (λ l. wrong_word nodes x ++ l) (words-append nodes xs ys) ∙ sym (append_assoc (wrong_word nodes x) (flat_map (wrong_word nodes) xs) (flat_map (wrong_word nodes) ys))
+words-append nodes (x ∷ xs) ys = ap (λ l. wrong_word nodes x ++ l) (words-append nodes xs ys)
+    ∙ sym (append_assoc (wrong_word nodes x) (flat_map (wrong_word nodes) xs) (flat_map (wrong_word nodes) ys))
 
 a-pick : (picks : List Pick) (count : ℕ) → count < length picks → Pick
 a-pick [] count h = absurd (omega arith)

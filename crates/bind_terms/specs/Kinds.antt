@@ -1,8 +1,6 @@
 -- What is wrong with a value at a node, from what stands there: the causes of faults over the parts that the code has.
 use Rattle.std.specs.Prelude.{ℕ, Bool, true, false, not, ◌&&◌, ◌||◌, List, [], ◌∷◌, codes, Option, None, Some, option_and_then, is_none, is_some}
 use Rattle.std.specs.Str.{bytes_eq}
-use Rattle.inv_base.specs.declared.tree.Kind.{Kind}
-use Rattle.inv_base.specs.declared.tree.Kind.TheVariants as node_kinds
 use Rattle.inv_base.specs.Tree.{Node}
 use Rattle.code_lists.specs.CodeFiles.{Lists}
 use Rattle.term_table.specs.declared.terms.Letter.TheVariants as letters
@@ -19,9 +17,6 @@ use Rattle.bind_meaning.specs.Elements.{string_at, has_element_inside}
 use Rattle.bind_meaning.specs.Currencies.{amount_currency}
 use Rattle.bind_meaning.specs.Values.{Said, form_for, type_of}
 use Rattle.bind_meaning.specs.Judging.{Cause, first_cause, may_repeat, breaks, differs, disagree}
-
-abbrev pub is_element_kind : Kind → Bool
-is_element_kind kind = elim kind [ node_kinds.Document ↦ false | node_kinds.Element ↦ true | node_kinds.Attribute ↦ false | node_kinds.Text ↦ false ]
 
 -- The text isn't blank, and isn't `102` with white space around it.
 abbrev pub is_other : List ℕ → Bool
@@ -46,7 +41,8 @@ abbrev pub is_amount : Row → Term → Bool
 is_amount row term = elim (type_of (form_for row.form term) term) [ Some letters.A ↦ true | _ ↦ false ]
 
 abbrev pub is_foreign : List Node → Option (List ℕ) → Row → ℕ → Term → Bool
-is_foreign nodes invoice row n term = elim (is_amount row term && not (is_accounting_total row.written)) [ true ↦ differs invoice (amount_currency nodes n) | false ↦ false ]
+is_foreign nodes invoice row n term = elim
+    (is_amount row term && not (is_accounting_total row.written)) [ true ↦ differs invoice (amount_currency nodes n) | false ↦ false ]
 
 abbrev pub is_disagreeing : Option Said → Said → Bool
 is_disagreeing None said = false

@@ -1,5 +1,5 @@
 -- What a document is by a table, in the words of the reader of its picks.
-use Rattle.std.specs.Prelude.{◌≡◌, ℕ, Bool, true, false, not, ◌&&◌, List, map, Result, Ok, Err}
+use Rattle.std.specs.Prelude.{◌≡◌, ℕ, Bool, true, false, not, ◌&&◌, List, map, Ok, Err}
 use Rattle.std.specs.Ordering.{nat_cmp}
 use Rattle.std.specs.Cmp.Lexicographic.{slice_cmp}
 use Rattle.std.specs.List.Sorted.{IsStrictlySortedBy}
@@ -8,11 +8,10 @@ use Rattle.code_lists.specs.CodeFiles.{Lists}
 use Rattle.bind_rows.specs.declared.rows.Row.{Row}
 use Rattle.bind_rows.specs.declared.rows.Check.{Check}
 use Rattle.bind_rows.specs.declared.rows.Check.TheVariants as checks
-use Rattle.bind_meaning.specs.declared.fault.BindFault.{BindFault}
 use Rattle.bind_meaning.specs.Picks.{Pick, has_any_term, rows_where, all_picked}
 use Rattle.bind_meaning.specs.Currencies.{currencies}
 use Rattle.bind_meaning.specs.Seats.{Placed}
-use Rattle.bind_meaning.specs.Terms.{term_picks, place_all, passed_over, Read, read_placed}
+use Rattle.bind_meaning.specs.Terms.{term_picks, place_all, passed_over, terms_of}
 use Rattle.bind_terms.specs.declared.judging.Verdict.{Verdict}
 use Rattle.bind_terms.specs.declared.judging.Verdict.TheVariants as verdicts
 use Rattle.bind_terms.specs.declared.firsts.First.{First}
@@ -36,13 +35,10 @@ indicator_picks nodes rows = all_picked nodes (rows_where has_indicator rows)
 abbrev pub term_places : List Node → List Row → List Placed
 term_places nodes rows = place_all nodes (term_picks nodes (currencies nodes rows) rows)
 
--- the invoice that the document is by the table, or its first fault
-abbrev pub reading : List Node → Lists → List Row → Result Read BindFault
-reading nodes lists rows = read_placed nodes lists (currencies nodes rows) rows (term_places nodes rows)
-
+-- The document is that invoice by the table, or that is its first fault.
 abbrev pub Answers : List Node → Lists → List Row → Verdict → Type 0
-Answers nodes lists rows (verdicts.Invoice invoice) = reading nodes lists rows ≡ Ok (record { entries = invoice; passed_over = passed_over nodes rows })
-Answers nodes lists rows (verdicts.Fault fault) = reading nodes lists rows ≡ Err fault
+Answers nodes lists rows (verdicts.Invoice invoice) = terms_of nodes rows lists ≡ Ok (record { entries = invoice; passed_over = passed_over nodes rows })
+Answers nodes lists rows (verdicts.Fault fault) = terms_of nodes rows lists ≡ Err fault
 
 -- Each place of the entries comes before those behind it.
 abbrev pub AreSorted : Entries → Type 0

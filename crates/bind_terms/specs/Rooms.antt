@@ -12,7 +12,7 @@ use Rattle.term_table.specs.Places.{place}
 use Rattle.inv_terms.specs.declared.lacks.Lack.{Lack}
 use Rattle.bind_meaning.specs.declared.fault.BindKind.TheVariants as kinds
 use Rattle.bind_meaning.specs.declared.picked.Seated.{Seated}
-use Rattle.bind_meaning.specs.declared.picked.SeatedPick.{SeatedPick}
+use Rattle.bind_meaning.specs.declared.picked.PlacedPick.{PlacedPick}
 use Rattle.bind_meaning.specs.Seats.{Room, each_once}
 use Rattle.bind_meaning.specs.Judging.{Found, found, depth, name_of}
 use Rattle.bind_meaning.specs.Faults.{lacks_in}
@@ -45,7 +45,7 @@ abbrev pub AreKeysOf : List Room → List (List ℕ) → Type 0
 AreKeysOf before keys = (context : Context) → has_key keys (room_key context) ≡ has_room before context
 
 -- the rooms of a pick, the outer one first
-abbrev pub pick_rooms : SeatedPick → List Room
+abbrev pub pick_rooms : PlacedPick → List Room
 pick_rooms pick = rooms_at (outer_context (context_in pick)) pick.outer ++ rooms_at (context_in pick) pick.inner
 
 -- a room, unless it was seen
@@ -84,7 +84,7 @@ abbrev pub behind_rooms : List Node → List Seat → List Room → (List Found 
 behind_rooms nodes seats before was fs = was (fs ++ flat_map (lacks_in nodes seats) (each_once before))
 
 -- Behind whatever was seen before, with the rooms of the last pick, the rooms of this one are seen.
-abbrev pub SeesPick : List Node → List Seat → SeatedPick → Context → List (List ℕ) → List (List ℕ) → (List Found → Type 0) → (List Found → Type 0) → Type 0
+abbrev pub SeesPick : List Node → List Seat → PlacedPick → Context → List (List ℕ) → List (List ℕ) → (List Found → Type 0) → (List Found → Type 0) → Type 0
 SeesPick nodes seats pick last keys more was given =
     (before : List Room) → WereSeen before last → AreKeysOf before keys
     → Seen nodes seats (behind_rooms nodes seats before was) (before ++ pick_rooms pick) more given

@@ -12,13 +12,13 @@ use Rattle.bind_rows.specs.declared.rows.Row.{Row}
 use Rattle.bind_meaning.specs.declared.fault.BindKind.{BindKind}
 use Rattle.bind_meaning.specs.declared.picked.Picked.{Picked}
 use Rattle.bind_meaning.specs.declared.picked.Seated.{Seated}
-use Rattle.bind_meaning.specs.declared.picked.SeatedPick.{SeatedPick}
+use Rattle.bind_meaning.specs.declared.picked.PlacedPick.{PlacedPick}
 use Rattle.bind_meaning.specs.Elements.{string_at}
 use Rattle.bind_meaning.specs.Picks.{Pick, term_in}
 use Rattle.bind_meaning.specs.Seats.{Placed}
 use Rattle.bind_meaning.specs.Values.{Said, said}
 use Rattle.bind_meaning.specs.Currencies.{Currencies}
-use Rattle.bind_meaning.specs.Kept.{kept_seat, all_kept_seats}
+use Rattle.bind_meaning.specs.Kept.{kept_placed, all_kept_placed}
 use Rattle.bind_meaning.specs.Judging.{Found, found, rank, Told, told_by}
 use Rattle.bind_meaning.specs.Terms.{told}
 use Rattle.inv_base.specs.Tree.{Node}
@@ -47,7 +47,7 @@ abbrev pub IsSeatWithin : ℕ → Option Seated → Type 0
 IsSeatWithin count seat = ForSome seat (λ (s : Seated). s.element < count)
 
 -- The pick and its elements are nodes of the document, and an inner seat stands in an outer one.
-pub record IsWithin (count : ℕ) (pick : SeatedPick) : Type 0 where
+pub record IsWithin (count : ℕ) (pick : PlacedPick) : Type 0 where
   pub node : pick.picked.node < count
   pub outer : IsSeatWithin count pick.outer
   pub inner : IsSeatWithin count pick.inner
@@ -58,11 +58,11 @@ abbrev pub ArePlaced : Context → List Said → Type 0
 ArePlaced context all = All (λ (s : Said). is_some (place_of s.term context) ≡ true) all
 
 -- what a pick says by its row
-abbrev pub said_by_row : List Node → SeatedPick → Row → List Said
+abbrev pub said_by_row : List Node → PlacedPick → Row → List Said
 said_by_row nodes pick row = elim (term_in row.content) [ None ↦ [] | Some term ↦ said row.form term (string_at nodes pick.picked.node) ]
 
 -- the same by its table
-abbrev pub SaysPlaced : List Node → List Row → SeatedPick → Type 0
+abbrev pub SaysPlaced : List Node → List Row → PlacedPick → Type 0
 SaysPlaced nodes rows pick = (row : Row) → row_numbered rows pick.picked.row ≡ Some row → ArePlaced (context_in pick) (said_by_row nodes pick row)
 
 abbrev pub told_at : Placed → Said → Told
@@ -88,26 +88,26 @@ faults_at kind picked term = elim kind [ None ↦ [] | Some k ↦ fault_at k pic
 -- ---- what each step of the pass leaves, behind whatever was told before
 
 -- the step tells these values of the pick
-abbrev pub Tells : List Node → Lists → Option (List ℕ) → SeatedPick → Row → List Said → Entries → (List Found → Type 0) → Entries → (List Found → Type 0)
+abbrev pub Tells : List Node → Lists → Option (List ℕ) → PlacedPick → Row → List Said → Entries → (List Found → Type 0) → Entries → (List Found → Type 0)
     → Type 0
 Tells nodes lists invoice pick row said old was new is =
-    (before : List Told) (p : Placed) (c : Currencies) → c.invoice ≡ invoice → kept_seat p ≡ pick → p.pick.row ≡ row
+    (before : List Told) (p : Placed) (c : Currencies) → c.invoice ≡ invoice → kept_placed p ≡ pick → p.pick.row ≡ row
     → Holds nodes lists c before old was → Holds nodes lists c (before ++ map (told_at p) said) new is
 
 -- the step tells what the pick says, by its row
-abbrev pub TellsPick : List Node → Lists → Option (List ℕ) → SeatedPick → Row → Entries → (List Found → Type 0) → Entries → (List Found → Type 0) → Type 0
+abbrev pub TellsPick : List Node → Lists → Option (List ℕ) → PlacedPick → Row → Entries → (List Found → Type 0) → Entries → (List Found → Type 0) → Type 0
 TellsPick nodes lists invoice pick row old was new is =
-    (before : List Told) (p : Placed) (c : Currencies) → c.invoice ≡ invoice → kept_seat p ≡ pick → p.pick.row ≡ row
+    (before : List Told) (p : Placed) (c : Currencies) → c.invoice ≡ invoice → kept_placed p ≡ pick → p.pick.row ≡ row
     → Holds nodes lists c before old was → Holds nodes lists c (before ++ told_by nodes p) new is
 
 -- the same by its table
-abbrev pub TellsOf : List Node → Lists → Option (List ℕ) → SeatedPick → List Row → Entries → (List Found → Type 0) → Entries → (List Found → Type 0) → Type 0
+abbrev pub TellsOf : List Node → Lists → Option (List ℕ) → PlacedPick → List Row → Entries → (List Found → Type 0) → Entries → (List Found → Type 0) → Type 0
 TellsOf nodes lists invoice pick rows old was new is =
-    (before : List Told) (p : Placed) (c : Currencies) → c.invoice ≡ invoice → kept_seat p ≡ pick → IsOfRow rows p
+    (before : List Told) (p : Placed) (c : Currencies) → c.invoice ≡ invoice → kept_placed p ≡ pick → IsOfRow rows p
     → Holds nodes lists c before old was → Holds nodes lists c (before ++ told_by nodes p) new is
 
 -- the pass tells what all picks say
-abbrev pub TellsAll : List Node → Lists → Option (List ℕ) → List SeatedPick → List Row → Entries → (List Found → Type 0) → Type 0
+abbrev pub TellsAll : List Node → Lists → Option (List ℕ) → List PlacedPick → List Row → Entries → (List Found → Type 0) → Type 0
 TellsAll nodes lists invoice picks rows entries given =
-    (ps : List Placed) (c : Currencies) → c.invoice ≡ invoice → picks ≡ all_kept_seats ps → All (IsOfRow rows) ps
+    (ps : List Placed) (c : Currencies) → c.invoice ≡ invoice → picks ≡ all_kept_placed ps → All (IsOfRow rows) ps
     → Holds nodes lists c (told nodes ps) entries given

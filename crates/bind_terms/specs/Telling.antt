@@ -12,7 +12,7 @@ use Rattle.term_table.specs.declared.contexts.Seat.{Seat}
 use Rattle.term_table.specs.declared.contexts.Context.{Context}
 use Rattle.term_table.specs.Rows.{row_of}
 use Rattle.term_table.specs.Places.{place, seat_place}
-use Rattle.bind_meaning.specs.declared.picked.SeatedPick.{SeatedPick}
+use Rattle.bind_meaning.specs.declared.picked.PlacedPick.{PlacedPick}
 use Rattle.bind_meaning.specs.Currencies.{Currencies}
 use Rattle.bind_meaning.specs.Seats.{context_of, slot_of}
 use Rattle.bind_meaning.specs.Judging.{Found, Told, seat_of, first_before, faults_behind}
@@ -28,13 +28,17 @@ place_of_first f = place f.row f.context
 
 -- what was told, as it is kept
 abbrev pub first_of : Told → First
-first_of t = record { row = unwrap_or (row_of t.said.term (context_of t.placed)) 0; context = context_of t.placed; said = record { term = t.said.term; value = t.said.value } }
+first_of t = record {
+  row = unwrap_or (row_of t.said.term (context_of t.placed)) 0;
+  context = context_of t.placed;
+  said = record { term = t.said.term; value = t.said.value };
+}
 
 abbrev pub Entries : Type 0
 Entries = List (List ℕ × First)
 
 -- the context of a pick
-abbrev pub context_in : SeatedPick → Context
+abbrev pub context_in : PlacedPick → Context
 context_in pick = record { outer = slot_of pick.outer; inner = slot_of pick.inner }
 
 -- what is kept at a place

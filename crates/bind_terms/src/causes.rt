@@ -1,58 +1,54 @@
 //! The first cause of a fault at a node, in the order of their kinds.
-ghost use Rattle.std.specs.Prelude.{◌≡◌, ◌<◌, ◌||◌, length, chars, IfOk, is_none, option_map, option_copied, option_and_then};
-ghost use Rattle.term_table.specs.SemanticModel.{same_term};
+ghost use Rattle.std.specs.Prelude.{◌≡◌, ◌<◌, ◌||◌, IfOk, is_none, option_map, option_copied};
 ghost use Rattle.inv_terms.specs.Validity as lacks;
-ghost use Rattle.node_arena.specs.Moves.{tree_nodes};
 ghost use Rattle.bind_meaning.specs.Judging as spec;
 ghost use Rattle.bind_terms.specs.Sayings.{said_of};
+ghost use Rattle.bind_terms.specs.Scenes.{nodes_of, count, lists_of, currency_of};
+ghost use Rattle.bind_terms.specs.Telling.{context_in};
 ghost use Rattle.bind_terms.specs.Kinds as kinds;
 
-use crate::Said;
 use crate::checks::breaks;
 use crate::currency::differs;
 use crate::insides::has_element_inside;
+use crate::telling::context_of;
+use crate::{RowedPick, Said, Scene};
 use bind_meaning::{BindKind, form_for, type_of};
-use bind_rows::{Check, Repeats, Row, Written};
+use bind_rows::{Repeats, Row, Written};
 use code_lists::CodeLists;
 use inv_base::Steps;
 use inv_terms::Value;
-use node_arena::{Doc, NodeId};
-use std::alloc::{AllocError, Global};
+use std::alloc::AllocError;
 use std::sync::ledger::Ledger;
 use term_table::{Context, Letter, Term, list_in};
 
-/// What is wrong, if anything, with a value that a row says at a node in a context: the first cause in the order of the
-/// kinds. `first` is what the first pick of the term in the context said, where this isn't the first. An amount is
-/// compared with the currency of the invoice, unless it is the VAT total in the accounting currency.
+/// What is wrong, if anything, with a value that a row says by its pick: the first cause in the order of the kinds.
+/// `first` is what the first pick of the term in the context said, where this isn't the first. An amount is compared with
+/// the currency of the invoice, unless it is the VAT total in the accounting currency.
 pub fn first_cause<L: Ledger>(
-    alloc: Global,
-    doc: &Doc<'_>,
-    lists: &CodeLists,
-    invoice_currency: Option<&str>,
-    row: &Row,
-    n: NodeId,
-    context: Context,
+    scene: &Scene<'_, '_>,
+    rowed: &RowedPick<'_>,
     first: Option<&Said>,
     said: &Said,
     steps: &mut Steps<L>,
 ) -> Result<Option<BindKind>, AllocError>
-    requires { n < length doc.now.nodes }
-    ensures { IfOk result (λ kind. kind ≡ kinds.kind_of (tree_nodes doc.now) lists.now (option_map (λ text. chars text.now) invoice_currency.entry)
-        row.now n context (option_map said_of (option_copied first.entry)) (said_of said.now)) }
+    requires { rowed.now.pick.now.picked.node < count scene.now }
+    ensures { IfOk result (λ kind. kind ≡ kinds.kind_of (nodes_of scene.now) (lists_of scene.now) (currency_of scene.now)
+        rowed.now.row.now rowed.now.pick.now.picked.node (context_in rowed.now.pick.now)
+        (option_map said_of (option_copied first.entry)) (said_of said.now)) }
 {
-    if first.is_some() && !may_repeat(row.repeats) {
+    if first.is_some() && !may_repeat(rowed.row.repeats) {
         return Ok(Some(BindKind::Excess));
     }
-    if has_element_inside(doc, n, steps) {
+    if has_element_inside(scene.doc, rowed.pick.picked.node, steps) {
         return Ok(Some(BindKind::ElementInValue));
     }
-    if is_bad(alloc, doc, row.check, n, said, steps)? {
+    if is_bad(scene, rowed, said, steps)? {
         return Ok(Some(BindKind::BadValue));
     }
-    if is_not_listed(lists, context, said) {
+    if is_not_listed(scene.lists, context_of(rowed.pick), said) {
         return Ok(Some(BindKind::CodeNotListed));
     }
-    if is_foreign(alloc, doc, invoice_currency, row, n, said.term, steps)? {
+    if is_foreign(scene, rowed, said.term, steps)? {
         return Ok(Some(BindKind::CurrencyDiffers));
     }
     if is_disagreeing(first, said) {
@@ -72,20 +68,20 @@ fn may_repeat(repeats: Repeats) -> bool
 
 // Whether the string is no value, or the node breaks what its row checks.
 fn is_bad<L: Ledger>(
-    alloc: Global,
-    doc: &Doc<'_>,
-    check: Check,
-    n: NodeId,
+    scene: &Scene<'_, '_>,
+    rowed: &RowedPick<'_>,
     said: &Said,
     steps: &mut Steps<L>,
 ) -> Result<bool, AllocError>
-    requires { n < length doc.now.nodes }
-    ensures { IfOk result (λ bad. bad ≡ (is_none said.now.value || spec.breaks (tree_nodes doc.now) check n)) }
+    requires { rowed.now.pick.now.picked.node < count scene.now }
+    ensures { IfOk result (λ bad. bad ≡ (is_none said.now.value
+        || spec.breaks (nodes_of scene.now) rowed.now.row.now.check rowed.now.pick.now.picked.node)) }
 {
     if said.value.is_none() {
         return Ok(true);
     }
-    breaks(alloc, doc, check, n, steps)
+    let node = rowed.pick.picked.node;
+    breaks(scene.alloc, scene.doc, rowed.row.check, node, steps)
 }
 
 // Whether the value is a code that isn't in the term's list.
@@ -131,19 +127,18 @@ fn is_accounting_total(written: &Written) -> bool
 
 // Whether the amount is in another currency than the invoice, where that isn't right.
 fn is_foreign<L: Ledger>(
-    alloc: Global,
-    doc: &Doc<'_>,
-    invoice_currency: Option<&str>,
-    row: &Row,
-    n: NodeId,
+    scene: &Scene<'_, '_>,
+    rowed: &RowedPick<'_>,
     term: Term,
     steps: &mut Steps<L>,
 ) -> Result<bool, AllocError>
-    requires { n < length doc.now.nodes }
-    ensures { IfOk result (λ foreign. foreign ≡ kinds.is_foreign (tree_nodes doc.now) (option_map (λ text. chars text.now) invoice_currency.entry) row.now n term) }
+    requires { rowed.now.pick.now.picked.node < count scene.now }
+    ensures { IfOk result (λ foreign. foreign ≡ kinds.is_foreign (nodes_of scene.now) (currency_of scene.now)
+        rowed.now.row.now rowed.now.pick.now.picked.node term) }
 {
-    if is_amount(row, term) && !is_accounting_total(&row.written) {
-        return differs(alloc, doc, invoice_currency, n, steps);
+    if is_amount(rowed.row, term) && !is_accounting_total(&rowed.row.written) {
+        let node = rowed.pick.picked.node;
+        return differs(scene.alloc, scene.doc, scene.invoice_currency, node, steps);
     }
     Ok(false)
 }

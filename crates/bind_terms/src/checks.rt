@@ -7,6 +7,7 @@ ghost use Rattle.bind_meaning.specs.Judging as spec;
 ghost use Rattle.bind_terms.specs.Kinds.{is_other, is_other_at};
 
 use crate::attributes::attributes_named;
+use bind_meaning::is_blank_at;
 use bind_rows::Check;
 use inv_base::{Steps, is_same_text};
 use inv_terms::{is_blank, trimmed};
@@ -63,19 +64,6 @@ fn are_blank<L: Ledger>(
         }
     }
     Ok(true)
-}
-
-fn is_blank_at<L: Ledger>(
-    alloc: Global,
-    doc: &Doc<'_>,
-    n: NodeId,
-    steps: &mut Steps<L>,
-) -> Result<bool, AllocError>
-    requires { n < length doc.now.nodes }
-    ensures { IfOk result (λ blank. blank ≡ is_blank_at (tree_nodes doc.now) n) }
-{
-    let string = doc.string(alloc, n, steps)?;
-    Ok(is_blank(string.as_str()))
 }
 
 // Whether the attribute `format` isn't blank and other than `102`.

@@ -1,5 +1,5 @@
 //! The entries of an invoice.
-ghost use Rattle.std.specs.Prelude.{◌≡◌, ◌++◌, flat_map, IfOk, OnOk};
+ghost use Rattle.std.specs.Prelude.{◌≡◌, ◌++◌, flat_map, reverse, vec_len, IfOk, OnOk};
 ghost use Rattle.inv_terms.specs.Listing.{IsInvoice};
 ghost use Rattle.bind_terms.specs.Entries.{entries_of};
 
@@ -20,11 +20,35 @@ pub(crate) fn invoice_of(alloc: Global, firsts: Vec<First>) -> Result<Invoice, A
 fn entries_of(alloc: Global, firsts: Vec<First>) -> Result<Vec<Entry>, AllocError>
     ensures { IfOk result (λ entries. entries.items ≡ flat_map entries_of firsts.items) }
 {
-    let mut entries = Vec::with_capacity(alloc, firsts.len())?;
-    'firsts: for first in firsts {
+    let mut entries = from_last(alloc, firsts)?;
+    entries.reverse();
+    Ok(entries)
+}
+
+/// The entries, the last first. Each list may take more memory than the document, so the one is given back while the other grows.
+fn from_last(alloc: Global, firsts: Vec<First>) -> Result<Vec<Entry>, AllocError>
+    ensures { IfOk result (λ entries. reverse entries.items ≡ flat_map entries_of firsts.items) }
+{
+    let mut rest = firsts;
+    let mut entries = Vec::new(alloc);
+    'firsts: while let Some(first) = rest.pop() {
         push_first(&mut entries, first)?;
+        give_back(&mut rest);
     }
     Ok(entries)
+}
+
+/// How many are taken from a list before it gives back the room that they had.
+const GIVEN_BACK: usize = 65_536;
+
+/// Gives back the room that the list no longer needs, now and then.
+fn give_back(rest: &mut Vec<First>)
+    ensures items { rest.new.items ≡ rest.old.items }
+    ensures len { vec_len rest.new ≡ vec_len rest.old }
+{
+    if rest.len() % GIVEN_BACK == 0 {
+        rest.shrink_to_fit();
+    }
 }
 
 fn push_first(entries: &mut Vec<Entry>, first: First) -> Result<(), AllocError>

@@ -2,10 +2,10 @@
 ghost use Rattle.std.specs.Prelude.{◌≡◌, ◌<◌, length};
 ghost use Rattle.node_arena.specs.Moves.{tree_nodes, is_inside};
 ghost use Rattle.bind_meaning.specs.Elements as spec;
-ghost use Rattle.bind_terms.specs.Kinds.{is_element_kind};
 
+use bind_meaning::is_element;
 use inv_base::Steps;
-use node_arena::{Doc, Kind, NodeId, insides_are_intervals};
+use node_arena::{Doc, NodeId, insides_are_intervals};
 use std::sync::ledger::Ledger;
 
 /// Whether an element stands inside the node, at any depth. It goes over what is inside up to the first one.
@@ -29,13 +29,4 @@ pub fn has_element_inside<L: Ledger>(doc: &Doc<'_>, n: NodeId, steps: &mut Steps
         }
     }
     false
-}
-
-fn is_element(kind: Kind) -> bool
-    ensures { result ≡ is_element_kind kind }
-{
-    match kind {
-        Kind::Element => true,
-        Kind::Document | Kind::Attribute | Kind::Text => false,
-    }
 }

@@ -1,19 +1,18 @@
 //! The invoice that a document is, or its first fault; and all its faults.
-ghost use Rattle.std.specs.Prelude.{◌≡◌, ◌≢◌, ◌<◌, [], All, None, chars, length, option_map, IfOk, IfErr, OnOk, Ok, Err, map, flat_map};
-ghost use Rattle.node_arena.specs.Moves.{tree_nodes};
+ghost use Rattle.std.specs.Prelude.{◌≡◌, ◌≢◌, ◌<◌, [], All, None, option_map, IfOk, IfErr, OnOk, Ok, Err, map, flat_map};
 ghost use Rattle.bind_table.specs.WellFormed.{first_fault};
 ghost use Rattle.inv_terms.specs.Listing.{IsInvoice};
 ghost use Rattle.inv_terms.specs.declared.lacks.Name.TheVariants as names;
 ghost use Rattle.bind_meaning.specs.declared.fault.BindKind.TheVariants as kinds;
 ghost use Rattle.bind_meaning.specs.Currencies.{currencies};
 ghost use Rattle.bind_meaning.specs.Faults.{faults_in};
-ghost use Rattle.bind_meaning.specs.Kept.{all_kept, all_kept_seats};
-ghost use Rattle.bind_meaning.specs.Terms.{in_order, passed_over};
+ghost use Rattle.bind_meaning.specs.Kept.{all_kept, all_kept_placed};
+ghost use Rattle.bind_meaning.specs.Terms.{in_order, passed_over, terms_of};
 ghost use Rattle.bind_terms.specs.Entries.{entries_of};
 ghost use Rattle.bind_terms.specs.Faults.{found_of};
 ghost use Rattle.bind_terms.specs.Passes.{HasTold, HasFound, IsVerdict};
-ghost use Rattle.bind_terms.specs.Scenes.{nodes_of, rows_of, lists_of, IsSet};
-ghost use Rattle.bind_terms.specs.Reading.{indicator_picks, term_places, reading, Answers, AreSorted};
+ghost use Rattle.bind_terms.specs.Scenes.{nodes_of, count, rows_of, lists_of, currency_of, IsSet};
+ghost use Rattle.bind_terms.specs.Reading.{indicator_picks, term_places, Answers, AreSorted};
 
 use crate::entries::invoice_of;
 use crate::firsts::{First, Firsts};
@@ -23,12 +22,9 @@ use crate::keeping::{InOrder, Keeper, Least};
 use crate::lacks::put_lacks;
 use crate::scene::Scene;
 use crate::telling::tell_picks;
-use bind_meaning::{BindFault, BindKind, Picked, SeatedPick};
-use bind_table::Binding;
-use code_lists::CodeLists;
+use bind_meaning::{BindFault, BindKind, Picked, PlacedPick};
 use inv_base::Steps;
 use inv_terms::{Invoice, Name};
-use node_arena::Doc;
 use ordered_map::OrderedMap;
 use reading_laws::{nothing_read_is_refused, numbers_of_nodes_rise, read_invoices_are_valid};
 use std::alloc::{AllocError, Global};
@@ -38,39 +34,28 @@ use std::sync::ledger::Ledger;
 /// pick, with its contexts, and `indicators` what the rows pick that check an indicator, both in document order.
 /// Without memory the fault is of kind Memory, at the document's own node, and names nothing; no other fault is of that kind.
 pub fn judge<L: Ledger>(
-    alloc: Global,
-    doc: &Doc<'_>,
-    table: &Binding,
-    lists: &CodeLists,
-    invoice_currency: Option<&str>,
-    picks: Vec<SeatedPick>,
+    scene: &Scene<'_, '_>,
+    picks: Vec<PlacedPick>,
     indicators: &[Picked],
     steps: &mut Steps<L>,
 ) -> Result<Invoice, BindFault>
-    requires formed { first_fault table.now ≡ Ok tt }
-    requires currency { option_map (λ text. chars text.now) invoice_currency ≡ (currencies (tree_nodes doc.now) table.now).invoice }
-    requires picks { picks.items ≡ all_kept_seats (term_places (tree_nodes doc.now) table.now) }
-    requires indicators { indicators.now ≡ all_kept (in_order (tree_nodes doc.now) (indicator_picks (tree_nodes doc.now) table.now)) }
-    ensures ok { IfOk result (λ invoice. reading (tree_nodes doc.now) lists.now table.now
-        ≡ Ok (record { entries = invoice; passed_over = passed_over (tree_nodes doc.now) table.now })) }
-    ensures err { IfErr result (λ fault. fault.kind ≢ kinds.Memory → reading (tree_nodes doc.now) lists.now table.now ≡ Err fault) }
+    requires formed { first_fault (rows_of scene.now) ≡ Ok tt }
+    requires currency { currency_of scene.now ≡ (currencies (nodes_of scene.now) (rows_of scene.now)).invoice }
+    requires picks { picks.items ≡ all_kept_placed (term_places (nodes_of scene.now) (rows_of scene.now)) }
+    requires indicators { indicators.now ≡ all_kept (in_order (nodes_of scene.now) (indicator_picks (nodes_of scene.now) (rows_of scene.now))) }
+    ensures ok { IfOk result (λ invoice. terms_of (nodes_of scene.now) (rows_of scene.now) (lists_of scene.now)
+        ≡ Ok (record { entries = invoice; passed_over = passed_over (nodes_of scene.now) (rows_of scene.now) })) }
+    ensures err { IfErr result (λ fault. fault.kind ≢ kinds.Memory → terms_of (nodes_of scene.now) (rows_of scene.now) (lists_of scene.now) ≡ Err fault) }
     ensures memory { IfErr result (λ fault. fault.kind ≡ kinds.Memory → fault ≡ record { kind = kinds.Memory; name = names.Nothing; node = 0 }) }
 {
-    doc.is_of_a_tree();
-    let scene = Scene {
-        alloc,
-        doc,
-        table,
-        lists,
-        invoice_currency,
-    };
-    match judged(&scene, picks, indicators, steps) {
+    scene.doc.is_of_a_tree();
+    match judged(scene, picks, indicators, steps) {
         Ok(Verdict::Invoice(invoice)) => Ok(invoice),
         Ok(Verdict::Fault(fault)) => Err(fault),
         Err(_) => Err(BindFault {
             kind: BindKind::Memory,
             name: Name::Nothing,
-            node: doc.document(),
+            node: scene.doc.document(),
         }),
     }
 }
@@ -78,34 +63,23 @@ pub fn judge<L: Ledger>(
 /// All faults of the document as an invoice of the table, in their order: at one node and row the first kind alone. `picks`
 /// and `indicators` are those of `judge`.
 pub fn faults<L: Ledger>(
-    alloc: Global,
-    doc: &Doc<'_>,
-    table: &Binding,
-    lists: &CodeLists,
-    invoice_currency: Option<&str>,
-    picks: Vec<SeatedPick>,
+    scene: &Scene<'_, '_>,
+    picks: Vec<PlacedPick>,
     indicators: &[Picked],
     steps: &mut Steps<L>,
 ) -> Result<Vec<BindFault>, AllocError>
-    requires formed { first_fault table.now ≡ Ok tt }
-    requires currency { option_map (λ text. chars text.now) invoice_currency ≡ (currencies (tree_nodes doc.now) table.now).invoice }
-    requires picks { picks.items ≡ all_kept_seats (term_places (tree_nodes doc.now) table.now) }
-    requires indicators { indicators.now ≡ all_kept (in_order (tree_nodes doc.now) (indicator_picks (tree_nodes doc.now) table.now)) }
-    ensures faults { IfOk result (λ faults. faults.items ≡ faults_in (tree_nodes doc.now) table.now lists.now) }
-    ensures within { IfOk result (λ faults. All (λ fault. fault.node < length doc.now.nodes) faults.items) }
+    requires formed { first_fault (rows_of scene.now) ≡ Ok tt }
+    requires currency { currency_of scene.now ≡ (currencies (nodes_of scene.now) (rows_of scene.now)).invoice }
+    requires picks { picks.items ≡ all_kept_placed (term_places (nodes_of scene.now) (rows_of scene.now)) }
+    requires indicators { indicators.now ≡ all_kept (in_order (nodes_of scene.now) (indicator_picks (nodes_of scene.now) (rows_of scene.now))) }
+    ensures faults { IfOk result (λ faults. faults.items ≡ faults_in (nodes_of scene.now) (rows_of scene.now) (lists_of scene.now)) }
+    ensures within { IfOk result (λ faults. All (λ fault. fault.node < count scene.now) faults.items) }
 {
-    doc.is_of_a_tree();
-    let scene = Scene {
-        alloc,
-        doc,
-        table,
-        lists,
-        invoice_currency,
-    };
-    let mut kept = InOrder::new(alloc);
-    let firsts = find_faults(&scene, picks, indicators, &mut kept, steps)?;
+    scene.doc.is_of_a_tree();
+    let mut kept = InOrder::new(scene.alloc);
+    let firsts = find_faults(scene, picks, indicators, &mut kept, steps)?;
     drop(firsts);
-    kept.into_faults(alloc)
+    kept.into_faults(scene.alloc)
 }
 
 /// What a document is by a table.
@@ -117,12 +91,12 @@ pub(crate) enum Verdict {
 
 fn judged<L: Ledger>(
     scene: &Scene<'_, '_>,
-    picks: Vec<SeatedPick>,
+    picks: Vec<PlacedPick>,
     indicators: &[Picked],
     steps: &mut Steps<L>,
 ) -> Result<Verdict, AllocError>
     requires set { IsSet scene.now }
-    requires picks { picks.items ≡ all_kept_seats (term_places (nodes_of scene.now) (rows_of scene.now)) }
+    requires picks { picks.items ≡ all_kept_placed (term_places (nodes_of scene.now) (rows_of scene.now)) }
     requires indicators { indicators.now ≡ all_kept (in_order (nodes_of scene.now) (indicator_picks (nodes_of scene.now) (rows_of scene.now))) }
     ensures { IfOk result (Answers (nodes_of scene.now) (lists_of scene.now) (rows_of scene.now)) }
 {
@@ -138,13 +112,13 @@ fn judged<L: Ledger>(
 // answered in listing order. The picks are let go as soon as all is found.
 fn find_faults<L: Ledger, K: Keeper>(
     scene: &Scene<'_, '_>,
-    picks: Vec<SeatedPick>,
+    picks: Vec<PlacedPick>,
     indicators: &[Picked],
     keeper: &mut K,
     steps: &mut Steps<L>,
 ) -> Result<Vec<First>, AllocError>
     requires set { IsSet scene.now }
-    requires picks { picks.items ≡ all_kept_seats (term_places (nodes_of scene.now) (rows_of scene.now)) }
+    requires picks { picks.items ≡ all_kept_placed (term_places (nodes_of scene.now) (rows_of scene.now)) }
     requires indicators { indicators.now ≡ all_kept (in_order (nodes_of scene.now) (indicator_picks (nodes_of scene.now) (rows_of scene.now))) }
     requires none { K.given keeper.old [] }
     ensures { IfOk result (λ firsts. HasFound (nodes_of scene.now) (lists_of scene.now) (rows_of scene.now) firsts.items (K.given keeper.new)) }
@@ -157,13 +131,13 @@ fn find_faults<L: Ledger, K: Keeper>(
 // The same of picks that are lent.
 fn find_all<L: Ledger, K: Keeper>(
     scene: &Scene<'_, '_>,
-    picks: &[SeatedPick],
+    picks: &[PlacedPick],
     indicators: &[Picked],
     keeper: &mut K,
     steps: &mut Steps<L>,
 ) -> Result<Vec<First>, AllocError>
     requires set { IsSet scene.now }
-    requires picks { picks.now ≡ all_kept_seats (term_places (nodes_of scene.now) (rows_of scene.now)) }
+    requires picks { picks.now ≡ all_kept_placed (term_places (nodes_of scene.now) (rows_of scene.now)) }
     requires indicators { indicators.now ≡ all_kept (in_order (nodes_of scene.now) (indicator_picks (nodes_of scene.now) (rows_of scene.now))) }
     requires none { K.given keeper.old [] }
     ensures { IfOk result (λ firsts. HasFound (nodes_of scene.now) (lists_of scene.now) (rows_of scene.now) firsts.items (K.given keeper.new)) }
@@ -179,14 +153,14 @@ fn find_all<L: Ledger, K: Keeper>(
 // What the picks say is put by, and the faults at nodes are given to the keeper: of what they say, and of the indicators.
 fn find_at_nodes<L: Ledger, K: Keeper>(
     scene: &Scene<'_, '_>,
-    picks: &[SeatedPick],
+    picks: &[PlacedPick],
     indicators: &[Picked],
     told: &mut Firsts,
     keeper: &mut K,
     steps: &mut Steps<L>,
 ) -> Result<(), AllocError>
     requires set { IsSet scene.now }
-    requires picks { picks.now ≡ all_kept_seats (term_places (nodes_of scene.now) (rows_of scene.now)) }
+    requires picks { picks.now ≡ all_kept_placed (term_places (nodes_of scene.now) (rows_of scene.now)) }
     requires indicators { indicators.now ≡ all_kept (in_order (nodes_of scene.now) (indicator_picks (nodes_of scene.now) (rows_of scene.now))) }
     requires empty { told.old.entries ≡ [] }
     requires none { K.given keeper.old [] }

@@ -3,7 +3,7 @@ ghost use Rattle.std.specs.Prelude.{◌≡◌, ◌<◌, ◌-◌, List, All, map,
 ghost use Rattle.term_table.specs.Runs.{IsInOrder, IsNested};
 ghost use Rattle.bind_meaning.specs.Judging as spec;
 ghost use Rattle.bind_meaning.specs.Faults.{lacks_in};
-ghost use Rattle.bind_meaning.specs.Kept.{all_kept_seats};
+ghost use Rattle.bind_meaning.specs.Kept.{all_kept_placed};
 ghost use Rattle.bind_meaning.specs.Seats.{Placed, Room, rooms};
 ghost use Rattle.bind_terms.specs.Faults.{found_of, Puts};
 ghost use Rattle.bind_terms.specs.Scenes.{nodes_of, count};
@@ -16,7 +16,7 @@ use crate::found::{Found, Side, Spot};
 use crate::keeping::Keeper;
 use crate::scene::Scene;
 use crate::telling::context_of;
-use bind_meaning::{BindFault, BindKind, Seated as SeatAt, SeatedPick};
+use bind_meaning::{BindFault, BindKind, PlacedPick, Seated as SeatAt};
 use inv_base::Steps;
 use inv_terms::{Lack, Name, TermFault, all_missing};
 use node_arena::NodeId;
@@ -25,25 +25,33 @@ use std::collections::BTreeSet;
 use std::sync::ledger::Ledger;
 use term_table::{Context, ListingPlace, ROOT, place_at, run_in};
 
+/// A scene, with what was told in it first of each term in each context, in listing order.
+#[derive(Clone, Copy)]
+pub(crate) struct ToldScene<'t, 'd> {
+    pub(crate) scene: &'t Scene<'t, 'd>,
+    pub(crate) firsts: &'t [First],
+}
+
 /// Gives the keeper all that is missing: in the invoice itself, and in each occurrence of a group, of which the picks have
 /// the elements. Each context is judged once, over what stands in it and inside it alone.
 pub(crate) fn put_lacks<L: Ledger, K: Keeper>(
     scene: &Scene<'_, '_>,
     firsts: &[First],
-    picks: &[SeatedPick],
+    picks: &[PlacedPick],
     keeper: &mut K,
     steps: &mut Steps<L>,
 ) -> Result<(), AllocError>
     requires order { IsInOrder (map seat_of_first firsts.now) }
     requires within { All (IsWithin (count scene.now)) picks.now }
-    ensures { OnOk result ((ps : List Placed) → picks.now ≡ all_kept_seats ps
+    ensures { OnOk result ((ps : List Placed) → picks.now ≡ all_kept_placed ps
         → Puts (K.given keeper.old) (K.given keeper.new) (flat_map (lacks_in (nodes_of scene.now) (map seat_of_first firsts.now)) (rooms ps))) }
 {
-    put_lacks_in(scene, firsts, ROOT, scene.doc.root(), keeper, steps)?;
+    let told = ToldScene { scene, firsts };
+    put_lacks_in(&told, ROOT, scene.doc.root(), keeper, steps)?;
     let mut seen = BTreeSet::new(scene.alloc);
     let mut last = ROOT;
     'picks: for pick in picks {
-        put_lacks_of(scene, firsts, pick, last, &mut seen, keeper, steps)?;
+        put_lacks_of(&told, pick, last, &mut seen, keeper, steps)?;
         last = context_of(pick);
     }
     Ok(())
@@ -52,17 +60,16 @@ pub(crate) fn put_lacks<L: Ledger, K: Keeper>(
 // The same in the contexts of a pick. Most picks stand where the one before stands, so those of its contexts are known to
 // have been seen without a look at the others.
 fn put_lacks_of<L: Ledger, K: Keeper>(
-    scene: &Scene<'_, '_>,
-    firsts: &[First],
-    pick: &SeatedPick,
+    told: &ToldScene<'_, '_>,
+    pick: &PlacedPick,
     last: Context,
     seen: &mut BTreeSet<ListingPlace>,
     keeper: &mut K,
     steps: &mut Steps<L>,
 ) -> Result<(), AllocError>
-    requires order { IsInOrder (map seat_of_first firsts.now) }
-    requires within { IsWithin (count scene.now) pick.now }
-    ensures { OnOk result (SeesPick (nodes_of scene.now) (map seat_of_first firsts.now) pick.now last seen.old.keys seen.new.keys
+    requires order { IsInOrder (map seat_of_first told.now.firsts.now) }
+    requires within { IsWithin (count told.now.scene.now) pick.now }
+    ensures { OnOk result (SeesPick (nodes_of told.now.scene.now) (map seat_of_first told.now.firsts.now) pick.now last seen.old.keys seen.new.keys
         (K.given keeper.old) (K.given keeper.new)) }
 {
     let context = context_of(pick);
@@ -70,34 +77,34 @@ fn put_lacks_of<L: Ledger, K: Keeper>(
         return Ok(());
     }
     if context.has_same_outer(last) {
-        return put_lacks_at(scene, firsts, context, pick.inner, seen, keeper, steps);
+        return put_lacks_at(told, context, pick.inner, seen, keeper, steps);
     }
     let around = context.without_inner();
-    put_lacks_at(scene, firsts, around, pick.outer, seen, keeper, steps)?;
-    put_lacks_at(scene, firsts, context, pick.inner, seen, keeper, steps)
+    put_lacks_at(told, around, pick.outer, seen, keeper, steps)?;
+    put_lacks_at(told, context, pick.inner, seen, keeper, steps)
 }
 
 // The same in a context that has an element, unless it was seen before.
 fn put_lacks_at<L: Ledger, K: Keeper>(
-    scene: &Scene<'_, '_>,
-    firsts: &[First],
+    told: &ToldScene<'_, '_>,
     context: Context,
     seat: Option<SeatAt>,
     seen: &mut BTreeSet<ListingPlace>,
     keeper: &mut K,
     steps: &mut Steps<L>,
 ) -> Result<(), AllocError>
-    requires order { IsInOrder (map seat_of_first firsts.now) }
+    requires order { IsInOrder (map seat_of_first told.now.firsts.now) }
     requires nested { IsNested context }
-    requires within { IsSeatWithin (count scene.now) seat }
+    requires within { IsSeatWithin (count told.now.scene.now) seat }
     ensures { OnOk result ((before : List Room) → AreKeysOf before seen.old.keys
-        → SeesMore (nodes_of scene.now) (map seat_of_first firsts.now) before context seat seen.new.keys (K.given keeper.old) (K.given keeper.new)) }
+        → SeesMore (nodes_of told.now.scene.now) (map seat_of_first told.now.firsts.now) before context seat seen.new.keys
+        (K.given keeper.old) (K.given keeper.new)) }
 {
     match seat {
         Some(seat) => {
             let added = seen.insert(key_of(context))?;
             if added {
-                return put_lacks_in(scene, firsts, context, seat.element, keeper, steps);
+                return put_lacks_in(told, context, seat.element, keeper, steps);
             }
             Ok(())
         }
@@ -114,26 +121,25 @@ fn key_of(context: Context) -> ListingPlace
 
 // The same in one context.
 fn put_lacks_in<L: Ledger, K: Keeper>(
-    scene: &Scene<'_, '_>,
-    firsts: &[First],
+    told: &ToldScene<'_, '_>,
     context: Context,
     element: NodeId,
     keeper: &mut K,
     steps: &mut Steps<L>,
 ) -> Result<(), AllocError>
-    requires order { IsInOrder (map seat_of_first firsts.now) }
+    requires order { IsInOrder (map seat_of_first told.now.firsts.now) }
     requires nested { IsNested context }
-    requires within { element < count scene.now }
+    requires within { element < count told.now.scene.now }
     ensures { OnOk result (Puts (K.given keeper.old) (K.given keeper.new)
-        (lacks_in (nodes_of scene.now) (map seat_of_first firsts.now) (room_at context element))) }
+        (lacks_in (nodes_of told.now.scene.now) (map seat_of_first told.now.firsts.now) (room_at context element))) }
 {
-    let lacks = all_missing(scene.alloc, run_in(firsts, context), context)?;
+    let lacks = all_missing(told.scene.alloc, run_in(told.firsts, context), context)?;
     let found = lacks.as_slice();
     if found.is_empty() {
         drop(lacks);
         return Ok(());
     }
-    let last = scene.doc.last_inside(element, steps);
+    let last = told.scene.doc.last_inside(element, steps);
     let put = put_each(found, context, element, last, keeper);
     drop(lacks);
     put

@@ -8,10 +8,10 @@ use std::alloc::Global;
 /// A document, with what says what it is as an invoice: the table whose rows pick in it, the code lists, and the currency
 /// that it names for the invoice.
 #[derive(Clone, Copy)]
-pub(crate) struct Scene<'s, 'd> {
-    pub(crate) alloc: Global,
-    pub(crate) doc: &'s Doc<'d>,
-    pub(crate) table: &'s Binding,
-    pub(crate) lists: &'s CodeLists,
-    pub(crate) invoice_currency: Option<&'s str>,
+pub struct Scene<'s, 'd> {
+    pub alloc: Global,
+    pub doc: &'s Doc<'d>,
+    pub table: &'s Binding,
+    pub lists: &'s CodeLists,
+    pub invoice_currency: Option<&'s str>,
 }

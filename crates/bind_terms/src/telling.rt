@@ -12,9 +12,8 @@ ghost use Rattle.bind_terms.specs.Steps.{IsWithin, ArePlaced, said_by_row, SaysP
 use crate::firsts::{First, Firsts};
 use crate::found::{Found, Side, Spot};
 use crate::keeping::Keeper;
-use crate::scene::Scene;
-use crate::{Said, Sayings, first_cause, what_is_said};
-use bind_meaning::{BindFault, BindKind, Picked, Seated, SeatedPick};
+use crate::{RowedPick, Said, Sayings, Scene, first_cause, what_is_said};
+use bind_meaning::{BindFault, BindKind, Picked, PlacedPick, Seated};
 use bind_rows::{Content, Row};
 use bind_table::Binding;
 use inv_base::Steps;
@@ -32,7 +31,7 @@ fn slot_of(seat: Option<Seated>) -> Option<Slot>
     }
 }
 
-pub(crate) fn context_of(pick: &SeatedPick) -> Context
+pub(crate) fn context_of(pick: &PlacedPick) -> Context
     ensures { result ≡ context_in pick.now }
 {
     Context {
@@ -54,7 +53,7 @@ pub(crate) fn row_at(table: &Binding, number: u32) -> Option<&Row>
 /// What all picks say, in document order: the first of each is put by, and each fault is given to the keeper.
 pub(crate) fn tell_picks<L: Ledger, K: Keeper>(
     scene: &Scene<'_, '_>,
-    picks: &[SeatedPick],
+    picks: &[PlacedPick],
     firsts: &mut Firsts,
     keeper: &mut K,
     steps: &mut Steps<L>,
@@ -76,7 +75,7 @@ pub(crate) fn tell_picks<L: Ledger, K: Keeper>(
 // What one pick says, behind those before it.
 fn tell_pick<L: Ledger, K: Keeper>(
     scene: &Scene<'_, '_>,
-    pick: &SeatedPick,
+    pick: &PlacedPick,
     firsts: &mut Firsts,
     keeper: &mut K,
     steps: &mut Steps<L>,
@@ -88,7 +87,7 @@ fn tell_pick<L: Ledger, K: Keeper>(
         firsts.old.entries (K.given keeper.old) firsts.new.entries (K.given keeper.new)) }
 {
     match row_at(scene.table, pick.picked.row) {
-        Some(row) => tell_row(scene, row, pick, firsts, keeper, steps),
+        Some(row) => tell_row(scene, &RowedPick { row, pick }, firsts, keeper, steps),
         None => unreachable!(),
     }
 }
@@ -96,22 +95,22 @@ fn tell_pick<L: Ledger, K: Keeper>(
 // The same by its row.
 fn tell_row<L: Ledger, K: Keeper>(
     scene: &Scene<'_, '_>,
-    row: &Row,
-    pick: &SeatedPick,
+    rowed: &RowedPick<'_>,
     firsts: &mut Firsts,
     keeper: &mut K,
     steps: &mut Steps<L>,
 ) -> Result<(), AllocError>
-    requires within { IsWithin (count scene.now) pick.now }
-    requires placed { ArePlaced (context_in pick.now) (said_by_row (nodes_of scene.now) pick.now row.now) }
-    ensures { OnOk result (TellsPick (nodes_of scene.now) (lists_of scene.now) (currency_of scene.now) pick.now row.now
+    requires within { IsWithin (count scene.now) rowed.now.pick.now }
+    requires placed { ArePlaced (context_in rowed.now.pick.now) (said_by_row (nodes_of scene.now) rowed.now.pick.now rowed.now.row.now) }
+    ensures { OnOk result (TellsPick (nodes_of scene.now) (lists_of scene.now) (currency_of scene.now) rowed.now.pick.now rowed.now.row.now
         firsts.old.entries (K.given keeper.old) firsts.new.entries (K.given keeper.new)) }
 {
-    match row.content {
+    match rowed.row.content {
         Content::Term(term) => {
-            let string = scene.doc.string(scene.alloc, pick.picked.node, steps)?;
-            let sayings = what_is_said(scene.alloc, row.form, term, string.as_str())?;
-            tell_all(scene, row, pick, sayings, firsts, keeper, steps)
+            let node = rowed.pick.picked.node;
+            let string = scene.doc.string(scene.alloc, node, steps)?;
+            let sayings = what_is_said(scene.alloc, rowed.row.form, term, string.as_str())?;
+            tell_all(scene, rowed, sayings, firsts, keeper, steps)
         }
         Content::Constant(_) => Ok(()),
     }
@@ -120,23 +119,22 @@ fn tell_row<L: Ledger, K: Keeper>(
 // All that a pick says.
 fn tell_all<L: Ledger, K: Keeper>(
     scene: &Scene<'_, '_>,
-    row: &Row,
-    pick: &SeatedPick,
+    rowed: &RowedPick<'_>,
     sayings: Sayings,
     firsts: &mut Firsts,
     keeper: &mut K,
     steps: &mut Steps<L>,
 ) -> Result<(), AllocError>
-    requires within { IsWithin (count scene.now) pick.now }
-    requires placed { ArePlaced (context_in pick.now) (all_said sayings) }
-    ensures { OnOk result (Tells (nodes_of scene.now) (lists_of scene.now) (currency_of scene.now) pick.now row.now (all_said sayings)
+    requires within { IsWithin (count scene.now) rowed.now.pick.now }
+    requires placed { ArePlaced (context_in rowed.now.pick.now) (all_said sayings) }
+    ensures { OnOk result (Tells (nodes_of scene.now) (lists_of scene.now) (currency_of scene.now) rowed.now.pick.now rowed.now.row.now (all_said sayings)
         firsts.old.entries (K.given keeper.old) firsts.new.entries (K.given keeper.new)) }
 {
     match sayings {
-        Sayings::One(one) => tell(scene, row, pick, one, firsts, keeper, steps),
+        Sayings::One(one) => tell(scene, rowed, one, firsts, keeper, steps),
         Sayings::Two(one, other) => {
-            tell(scene, row, pick, one, firsts, keeper, steps)?;
-            tell(scene, row, pick, other, firsts, keeper, steps)
+            tell(scene, rowed, one, firsts, keeper, steps)?;
+            tell(scene, rowed, other, firsts, keeper, steps)
         }
     }
 }
@@ -144,43 +142,31 @@ fn tell_all<L: Ledger, K: Keeper>(
 // One value that a pick says.
 fn tell<L: Ledger, K: Keeper>(
     scene: &Scene<'_, '_>,
-    row: &Row,
-    pick: &SeatedPick,
+    rowed: &RowedPick<'_>,
     said: Said,
     firsts: &mut Firsts,
     keeper: &mut K,
     steps: &mut Steps<L>,
 ) -> Result<(), AllocError>
-    requires within { IsWithin (count scene.now) pick.now }
-    requires placed { is_some (places.place_of said.term (context_in pick.now)) ≡ true }
-    ensures { OnOk result (Tells (nodes_of scene.now) (lists_of scene.now) (currency_of scene.now) pick.now row.now (said_of said ∷ [])
+    requires within { IsWithin (count scene.now) rowed.now.pick.now }
+    requires placed { is_some (places.place_of said.term (context_in rowed.now.pick.now)) ≡ true }
+    ensures { OnOk result (Tells (nodes_of scene.now) (lists_of scene.now) (currency_of scene.now) rowed.now.pick.now rowed.now.row.now (said_of said ∷ [])
         firsts.old.entries (K.given keeper.old) firsts.new.entries (K.given keeper.new)) }
 {
     let term = said.term;
-    let context = context_of(pick);
+    let context = context_of(rowed.pick);
     let listed = row_in(term, context);
     let place = place_at(listed, context);
     let first = said_before(firsts, place);
     let is_first = first.is_none();
-    let kind = first_cause(
-        scene.alloc,
-        scene.doc,
-        scene.lists,
-        scene.invoice_currency,
-        row,
-        pick.picked.node,
-        context,
-        first,
-        &said,
-        steps,
-    )?;
+    let kind = first_cause(scene, rowed, first, &said, steps)?;
     let told = First {
         row: listed,
         context,
         said,
     };
     put_first(firsts, told, is_first)?;
-    put_cause(keeper, kind, pick.picked, term)
+    put_cause(keeper, kind, rowed.pick.picked, term)
 }
 
 // The row of a term that has one in the context.

@@ -1,12 +1,10 @@
 //! Values by the type of a term, dates without dashes, and BT-8 by UNTDID 2475.
 ghost use Rattle.std.specs.Prelude.{◌≡◌, chars, IfOk};
-ghost use Rattle.std.specs.List.{list_all};
-ghost use Rattle.inv_base.specs.Characters as characters;
 ghost use Rattle.bind_meaning.specs.Values as spec;
 ghost use Rattle.inv_terms.specs.declared.values.Value.TheVariants as values;
 
 use bind_meaning::letter_of;
-use inv_base::{Txt, is_char, is_same_text};
+use inv_base::{Txt, is_same_text};
 use inv_decimal::Day;
 use inv_terms::{Value, trimmed};
 use std::alloc::{AllocError, Global};
@@ -22,20 +20,11 @@ pub(crate) fn by_type(alloc: Global, term: Term, text: &str) -> Result<Option<Va
     }
 }
 
-// Whether each character is one that XML 1.0 has.
-fn has_chars_alone(text: &str) -> bool
-    ensures { result ≡ list_all characters.is_char (chars text.now) }
-{
-    text.chars().all(|c| is_char(c))
-}
-
-/// The date that a string `YYYYMMDD` says, with white space around it or none.
+/// The date that a string `YYYYMMDD` says, with white space around it or none. Such a string has no character that XML 1.0
+/// doesn't have, so none is looked for.
 pub(crate) fn plain_date(text: &str) -> Option<Value>
     ensures { result ≡ spec.plain_date (chars text.now) }
 {
-    if !has_chars_alone(text) {
-        return None;
-    }
     match Day::read_plain(trimmed(text)) {
         Some(day) => Some(Value::Date(day)),
         None => None,

@@ -24,7 +24,8 @@ tree-numbered names n (node ∷ nodes) (is, rest) = (is, tree-numbered names (n 
 drop-numbered : (k n : ℕ) (nodes : List Node) → Numbered n nodes → Numbered (n + k) (drop k nodes)
 drop-numbered zero n nodes h = let P : ℕ → Type 0 = λ m. Numbered m nodes in subst P (let e : n ≡ n + 0 = omega arith in e) h
 drop-numbered (suc k) n [] h = tt
-drop-numbered (suc k) n (node ∷ nodes) h = let P : ℕ → Type 0 = λ m. Numbered m (drop k nodes) in subst P (let e : n + 1 + k ≡ n + suc k = omega arith in e) (drop-numbered k (n + 1) nodes h.1)
+drop-numbered (suc k) n (node ∷ nodes) h = let P : ℕ → Type 0 = λ m. Numbered m (drop k nodes) in
+    subst P (let e : n + 1 + k ≡ n + suc k = omega arith in e) (drop-numbered k (n + 1) nodes h.1)
 
 pub number-at : (n k : ℕ) (nodes : List Node) → Numbered n nodes → k < length nodes → (get_or nodes k none).number ≡ n + k
 number-at n k [] h within = absurd (omega (arith, within))
@@ -43,8 +44,10 @@ module _ (is_so : Node → Bool) where
   first-later n node nodes found None h = h
   first-later n node nodes found (Some m) (k, is, within, so, all) = (suc k, omega (arith, is), omega (arith, within), so, all)
 
-  first-at : (n : ℕ) (node : Node) (nodes : List Node) (b : Bool) → is_so node ≡ b → node.number ≡ n → FirstIs (n + 1) nodes (filter is_so nodes) (first_that is_so nodes)
-      → FirstIs n (node ∷ nodes) (cond b (node ∷ filter is_so nodes) (filter is_so nodes)) (option_map (λ (x : Node). x.number) (cond b (Some node) (find is_so nodes)))
+  first-at : (n : ℕ) (node : Node) (nodes : List Node) (b : Bool) → is_so node ≡ b → node.number ≡ n
+      → FirstIs (n + 1) nodes (filter is_so nodes) (first_that is_so nodes)
+      → FirstIs n (node ∷ nodes) (cond b (node ∷ filter is_so nodes) (filter is_so nodes))
+      (option_map (λ (x : Node). x.number) (cond b (Some node) (find is_so nodes)))
   first-at n node nodes true e is later = (0, is ∙ (let z : n ≡ n + 0 = omega arith in z), omega arith, e, rw e refl)
   first-at n node nodes false e is later = first-later n node nodes (filter is_so nodes) (first_that is_so nodes) later
 
@@ -69,17 +72,20 @@ module _ (is_so : Node → Bool) (d : Document) (numbered : AreNumbered 0 d.node
   from-first j (Some m) (k, is, within, so, all) =
       let place : m ≡ j + k = omega (arith, is) in
       let longer : length (drop j (tree_nodes d)) ≡ length (tree_nodes d) - j = length-drop j (tree_nodes d) in (
-        ap (λ i. map number (filter is_so (drop i (tree_nodes d)))) place ∙ (ap (λ xs. map number (filter is_so xs)) (sym (drop-drop k j (tree_nodes d))) ∙ ap (map number) (sym all)),
+        ap (λ i. map number (filter is_so (drop i (tree_nodes d)))) place
+            ∙ (ap (λ xs. map number (filter is_so xs)) (sym (drop-drop k j (tree_nodes d))) ∙ ap (map number) (sym all)),
         (
           omega (arith, place, within, longer, long),
           ap (λ i. is_so (get_or (tree_nodes d) i none)) place ∙ (ap is_so (sym (get_or-drop j (tree_nodes d) k none)) ∙ so),
         ),
       )
 
-  first-of : (j : ℕ) → (numbers_from is_so d (first_that is_so (drop j (tree_nodes d))) ≡ map number (filter is_so (drop j (tree_nodes d)))) × IsAt is_so d (first_that is_so (drop j (tree_nodes d)))
+  first-of : (j : ℕ) → (numbers_from is_so d (first_that is_so (drop j (tree_nodes d))) ≡ map number (filter is_so (drop j (tree_nodes d))))
+      × IsAt is_so d (first_that is_so (drop j (tree_nodes d)))
   first-of j = from-first j (first_that is_so (drop j (tree_nodes d))) (first-is is_so (0 + j) (drop j (tree_nodes d)) (drop-numbered j 0 (tree_nodes d) whole))
 
-  here : (m : ℕ) → m < length d.nodes → is_so (tree_node (tree_nodes d) m) ≡ true → numbers_from is_so d (Some m) ≡ m ∷ map number (filter is_so (drop (m + 1) (tree_nodes d)))
+  here : (m : ℕ) → m < length d.nodes → is_so (tree_node (tree_nodes d) m) ≡ true
+      → numbers_from is_so d (Some m) ≡ m ∷ map number (filter is_so (drop (m + 1) (tree_nodes d)))
   here m within so =
       let node = tree_node (tree_nodes d) m in
       let n : node.number ≡ m = number-at 0 m (tree_nodes d) whole (omega (arith, within, long)) ∙ (let e : 0 + m ≡ m = omega arith in e) in
@@ -112,7 +118,8 @@ child-next nodes n m h =
     ap (λ b. cond b None (next_by nodes m is_child (parent nodes m))) (not-true (is_attribute (tree_node nodes m)) parts.1)
     ∙ ap (next_by nodes m is_child) (nearest-is n (tree_node nodes m).above parts.0)
 
-attribute-next : (nodes : List Node) (n m : ℕ) → is_attribute_of n (tree_node nodes m) ≡ true → next_attribute nodes m ≡ first_that (is_attribute_of n) (behind m nodes)
+attribute-next : (nodes : List Node) (n m : ℕ) → is_attribute_of n (tree_node nodes m) ≡ true
+    → next_attribute nodes m ≡ first_that (is_attribute_of n) (behind m nodes)
 attribute-next nodes n m h =
     let parts = and_parts (is_nearest n (tree_node nodes m).above) (is_attribute (tree_node nodes m)) h in
     ap (λ b. cond b (next_by nodes m is_attribute_of (parent nodes m)) None) parts.1
@@ -120,7 +127,9 @@ attribute-next nodes n m h =
 
 pub chained : (d : Document) → AreNumbered 0 d.nodes → IsChained d
 chained d numbered = record {
-  numbers = λ n within. number-at 0 n (tree_nodes d) (tree-numbered d.names 0 d.nodes numbered) (omega (arith, within, length-map d.nodes (node_of d.names))) ∙ (let e : 0 + n ≡ n = omega arith in e);
+  numbers = λ n within. number-at 0 n (tree_nodes d) (tree-numbered d.names 0 d.nodes numbered) (omega (arith, within, length-map d.nodes (node_of d.names)))
+      ∙ (let e : 0 + n ≡ n = omega arith in e);
   children = λ n. leading (is_child n) d numbered (first_child (tree_nodes d) n) (next_sibling (tree_nodes d)) refl (λ m so. child-next (tree_nodes d) n m so);
-  attributes = λ n. leading (is_attribute_of n) d numbered (first_attribute (tree_nodes d) n) (next_attribute (tree_nodes d)) refl (λ m so. attribute-next (tree_nodes d) n m so);
+  attributes = λ n. leading (is_attribute_of n) d numbered (first_attribute (tree_nodes d) n) (next_attribute (tree_nodes d)) refl
+      (λ m so. attribute-next (tree_nodes d) n m so);
 }

@@ -41,7 +41,8 @@ from-places n (node ∷ nodes) h = (
   from-places (n + 1) nodes (λ k l. h (suc k) (omega (arith, l)) ∙ (let e : n + suc k ≡ n + 1 + k = omega arith in e)),
 )
 
-pub finds-of : (d : Document) (rows : List Row) (lines held : List FoundLine) (finds seen : List Find) → RowsAreWalked → LeadsAlike d → All HasSteps rows → held ≡ lines → lines ≡ lined d (plan_of rows)
+pub finds-of : (d : Document) (rows : List Row) (lines held : List FoundLine) (finds seen : List Find) → RowsAreWalked → LeadsAlike d → All HasSteps rows
+    → held ≡ lines → lines ≡ lined d (plan_of rows)
     → ((plan : Plan) → held ≡ lined d plan → finds ≡ strolled d plan [] 0) → seen ≡ finds → Finds d rows seen
 finds-of d rows lines held finds seen walking alike long held_is lines_is found seen_is = record {
   moved = λ f.
@@ -65,15 +66,18 @@ indicator-agrees d (contents.Constant text) (checks.Indicator term) = refl
 
 module _ (d : Document) (nested : IsNested d) (some : 0 < length d.nodes) where
   numbers : From 0 (tree_nodes d)
-  numbers = from-places 0 (tree_nodes d) (λ k l. nested.read.numbers k (omega (arith, l, length-map d.nodes (node_of d.names))) ∙ (let e : k ≡ 0 + k = omega arith in e))
+  numbers = from-places 0 (tree_nodes d) (λ k l. nested.read.numbers k (omega (arith, l, length-map d.nodes (node_of d.names)))
+      ∙ (let e : k ≡ 0 + k = omega arith in e))
 
-  module _ (w : Wanted) (test : Row → Bool) (agree : (row : Row) → test row ≡ is_for d w (wanted row)) (rows : List Row) (finds : List Find) (picks : List Picked)
+  module _ (w : Wanted) (test : Row → Bool) (agree : (row : Row) → test row ≡ is_for d w (wanted row)) (rows : List Row) (finds : List Find)
+      (picks : List Picked)
       (found : Finds d rows finds) (sorts : Sorts (flat_map (picked_for w) finds) picks) where
     counts : (f : Picked → ℕ) → sum_by f (map kept (in_order (tree_nodes d) (all_picked (tree_nodes d) (rows_where test rows)))) ≡ sum_by f picks
     counts f =
         let ps = all_picked (tree_nodes d) (rows_where test rows) in
         let raw = picked_from (sight d) 0 rows [] 0 in
-        let inside : Every (λ (p : Pick). p.node < length (tree_nodes d)) ps = subst (λ n. Every (λ (p : Pick). p.node < n) ps) (sym (length-map d.nodes (node_of d.names))) (all-inside d nested some (rows_where test rows)) in
+        let inside : Every (λ (p : Pick). p.node < length (tree_nodes d)) ps =
+        subst (λ n. Every (λ (p : Pick). p.node < n) ps) (sym (length-map d.nodes (node_of d.names))) (all-inside d nested some (rows_where test rows)) in
         sum-map f kept (in_order (tree_nodes d) ps)
         ∙ (in_order-counts (λ p. f (kept p)) (tree_nodes d) ps numbers inside
         ∙ (sym (sum-map f kept ps)
@@ -86,10 +90,12 @@ module _ (d : Document) (nested : IsNested d) (some : 0 < length d.nodes) where
     sorted-picks =
         let ps = all_picked (tree_nodes d) (rows_where test rows) in
         unique order order-total order-exact picks (map kept (in_order (tree_nodes d) ps)) counts (up-sorted order order-total order-exact picks sorts.sorted)
-        (up-map NotAbove kept (in_order (tree_nodes d) ps) (in_order-up 0 (tree_nodes d) ps numbers (all-before d nested some (rows_where test rows) (rows-up (λ (r : Numbered). test r.row) 1 rows))))
+        (up-map NotAbove kept (in_order (tree_nodes d) ps)
+        (in_order-up 0 (tree_nodes d) ps numbers (all-before d nested some (rows_where test rows) (rows-up (λ (r : Numbered). test r.row) 1 rows))))
 
   pub sorts-picks : SortsPicks d
   sorts-picks = record {
     terms = λ rows finds picks found sorts. sorted-picks wants.Term has_any_term (λ row. term-agrees d row.content row.check) rows finds picks found sorts;
-    indicators = λ rows finds picks found sorts. sorted-picks wants.Indicator is_indicator (λ row. indicator-agrees d row.content row.check) rows finds picks found sorts;
+    indicators = λ rows finds picks found sorts. sorted-picks wants.Indicator is_indicator
+        (λ row. indicator-agrees d row.content row.check) rows finds picks found sorts;
   }

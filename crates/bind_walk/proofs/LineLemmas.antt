@@ -43,7 +43,8 @@ module _ (d : Document) (rows : List Row) where
   every-back P [] ys h = h
   every-back P (x ∷ xs) ys h = every-back P xs ys h.1
 
-  cells-are : (path : List Step) (cells : List Cell) → Every HasRow (map (end_at path) cells) → flat_map (found_at d rows) (numbers cells) ≡ flat_map (found_cell d) cells
+  cells-are : (path : List Step) (cells : List Cell) → Every HasRow (map (end_at path) cells)
+      → flat_map (found_at d rows) (numbers cells) ≡ flat_map (found_cell d) cells
   cells-are path [] h = refl
   cells-are path (cell ∷ cells) h =
       ap (λ o. row_at d cell.number o ++ flat_map (found_at d rows) (numbers cells)) h.0 ∙ ap (λ xs. found_cell d cell ++ xs) (cells-are path cells h.1)
@@ -54,12 +55,17 @@ module _ (d : Document) (rows : List Row) where
       let here = map (end_at (above ++ s ∷ [])) cells in
       let within = ends (above ++ s ∷ []) inside in
       let behind = every-back HasRow here (within ++ ends above rest) h in
-      let in_is : map (found_line d rows) (flat inside) ≡ lined d inside = lines-are (above ++ s ∷ []) inside (every-front HasRow within (ends above rest) behind) in
+      let in_is : map (found_line d rows) (flat inside) ≡ lined d inside =
+      lines-are (above ++ s ∷ []) inside (every-front HasRow within (ends above rest) behind) in
       let rest_is : map (found_line d rows) (flat rest) ≡ lined d rest = lines-are above rest (every-back HasRow within (ends above rest) behind) in
       let size : length (flat inside) ≡ length (lined d inside) = sym (length-map (flat inside) (found_line d rows)) ∙ ap length in_is in
-      let make : List FoundRow → ℕ → FoundLine = λ rs n. record { name = found_element d s.name; guards = map (found_guard d) s.guards; group = s.group; rows = rs; size = n } in
-      ap (λ xs. found_line d rows (record { step = s; rows = numbers cells; size = length (flat inside) }) ∷ xs) (map-append (found_line d rows) (flat inside) (flat rest) ∙ (ap (λ xs. xs ++ map (found_line d rows) (flat rest)) in_is ∙ ap (λ xs. lined d inside ++ xs) rest_is))
-      ∙ (ap (λ rs. make rs (length (flat inside)) ∷ (lined d inside ++ lined d rest)) (cells-are (above ++ s ∷ []) cells (every-front HasRow here (within ++ ends above rest) h))
+      let make : List FoundRow → ℕ → FoundLine =
+      λ rs n. record { name = found_element d s.name; guards = map (found_guard d) s.guards; group = s.group; rows = rs; size = n } in
+      ap (λ xs. found_line d rows (record { step = s; rows = numbers cells; size = length (flat inside) }) ∷ xs)
+      (map-append (found_line d rows) (flat inside) (flat rest)
+      ∙ (ap (λ xs. xs ++ map (found_line d rows) (flat rest)) in_is ∙ ap (λ xs. lined d inside ++ xs) rest_is))
+      ∙ (ap (λ rs. make rs (length (flat inside)) ∷ (lined d inside ++ lined d rest))
+      (cells-are (above ++ s ∷ []) cells (every-front HasRow here (within ++ ends above rest) h))
       ∙ ap (λ n. make (flat_map (found_cell d) cells) n ∷ (lined d inside ++ lined d rest)) size)
 
   pub lines-of : IsPermutation (own_ends 0 rows) (ends [] (plan_of rows)) → map (found_line d rows) (flat (plan_of rows)) ≡ lined d (plan_of rows)

@@ -47,7 +47,8 @@ any-filter : (has u : ℕ → Bool) (ns : List ℕ) → list_any (λ m. has m &&
 any-filter has u [] = refl
 any-filter has u (n ∷ ns) = at (has n) (any-filter has u ns)
   where
-    at : (b : Bool) → list_any (λ m. has m && u m) ns ≡ list_any u (filter has ns) → ((b && u n) || list_any (λ m. has m && u m) ns) ≡ list_any u (cond b (n ∷ filter has ns) (filter has ns))
+    at : (b : Bool) → list_any (λ m. has m && u m) ns ≡ list_any u (filter has ns)
+        → ((b && u n) || list_any (λ m. has m && u m) ns) ≡ list_any u (cond b (n ∷ filter has ns) (filter has ns))
     at true e = ap (λ b. u n || b) e
     at false e = e
 
@@ -75,7 +76,8 @@ flat-filter {X} has is f [] = refl
 flat-filter {X} has is f (n ∷ ns) = at (has n) (is n) refl (flat-filter has is f ns)
   where
     at : (a b : Bool) → is n ≡ b → flat_map (if_both has is f) ns ≡ flat_map f (filter is (filter has ns))
-        → ((elim (a && b) as (λ _. List X) [ true ↦ f n | false ↦ [] ]) ++ flat_map (if_both has is f) ns) ≡ flat_map f (filter is (cond a (n ∷ filter has ns) (filter has ns)))
+        → ((elim (a && b) as (λ _. List X) [ true ↦ f n | false ↦ [] ]) ++ flat_map (if_both has is f) ns)
+        ≡ flat_map f (filter is (cond a (n ∷ filter has ns) (filter has ns)))
     at true true s e = ap (λ xs. f n ++ xs) e ∙ ap (λ b. flat_map f (cond b (n ∷ filter is (filter has ns)) (filter is (filter has ns)))) (sym s)
     at true false s e = e ∙ ap (λ b. flat_map f (cond b (n ∷ filter is (filter has ns)) (filter is (filter has ns)))) (sym s)
     at false b s e = e
@@ -83,15 +85,18 @@ flat-filter {X} has is f (n ∷ ns) = at (has n) (is n) refl (flat-filter has is
 abbrev if_dark : {X : Type 0} → (ℕ → Bool) → (ℕ → Bool) → (ℕ → X) → ℕ → List X
 if_dark has blank f m = elim (has m) [ false ↦ [] | true ↦ elim (blank m) [ true ↦ [] | false ↦ f m ∷ [] ] ]
 
-dark-filter : {X : Type 0} (has blank : ℕ → Bool) (f : ℕ → X) (ns : List ℕ) → flat_map (if_dark has blank f) ns ≡ map f (filter (λ m. not (blank m)) (filter has ns))
+dark-filter : {X : Type 0} (has blank : ℕ → Bool) (f : ℕ → X) (ns : List ℕ)
+    → flat_map (if_dark has blank f) ns ≡ map f (filter (λ m. not (blank m)) (filter has ns))
 dark-filter {X} has blank f [] = refl
 dark-filter {X} has blank f (n ∷ ns) = at (has n) (blank n) refl (dark-filter has blank f ns)
   where
     at : (a b : Bool) → blank n ≡ b → flat_map (if_dark has blank f) ns ≡ map f (filter (λ m. not (blank m)) (filter has ns))
         → ((elim a as (λ _. List X) [ false ↦ [] | true ↦ elim b as (λ _. List X) [ true ↦ [] | false ↦ f n ∷ [] ] ]) ++ flat_map (if_dark has blank f) ns)
         ≡ map f (filter (λ m. not (blank m)) (cond a (n ∷ filter has ns) (filter has ns)))
-    at true true s e = e ∙ ap (λ b. map f (cond (not b) (n ∷ filter (λ m. not (blank m)) (filter has ns)) (filter (λ m. not (blank m)) (filter has ns)))) (sym s)
-    at true false s e = ap (λ xs. f n ∷ xs) e ∙ ap (λ b. map f (cond (not b) (n ∷ filter (λ m. not (blank m)) (filter has ns)) (filter (λ m. not (blank m)) (filter has ns)))) (sym s)
+    at true true s e = e ∙ ap (λ b. map f (cond (not b) (n ∷ filter (λ m. not (blank m)) (filter has ns)) (filter (λ m. not (blank m)) (filter has ns))))
+        (sym s)
+    at true false s e = ap (λ xs. f n ∷ xs) e
+        ∙ ap (λ b. map f (cond (not b) (n ∷ filter (λ m. not (blank m)) (filter has ns)) (filter (λ m. not (blank m)) (filter has ns)))) (sym s)
     at false b s e = e
 
 -- nodes of a sort that have a name, by their numbers
@@ -103,8 +108,10 @@ named-filter sort has is_found (node ∷ nodes) h = at (sort node) (has node) h.
     at : (a b : Bool) → is_found node.number ≡ b → map number (filter (both sort has) nodes) ≡ filter is_found (map number (filter sort nodes))
         → map number (cond (elim a as (λ _. Bool) [ true ↦ b | false ↦ false ]) (node ∷ filter (both sort has) nodes) (filter (both sort has) nodes))
         ≡ filter is_found (map number (cond a (node ∷ filter sort nodes) (filter sort nodes)))
-    at true true s e = ap (λ ns. node.number ∷ ns) e ∙ ap (λ b. cond b (node.number ∷ filter is_found (map number (filter sort nodes))) (filter is_found (map number (filter sort nodes)))) (sym s)
-    at true false s e = e ∙ ap (λ b. cond b (node.number ∷ filter is_found (map number (filter sort nodes))) (filter is_found (map number (filter sort nodes)))) (sym s)
+    at true true s e = ap (λ ns. node.number ∷ ns) e
+        ∙ ap (λ b. cond b (node.number ∷ filter is_found (map number (filter sort nodes))) (filter is_found (map number (filter sort nodes)))) (sym s)
+    at true false s e = e ∙ ap (λ b. cond b (node.number ∷ filter is_found (map number (filter sort nodes))) (filter is_found (map number (filter sort nodes))))
+        (sym s)
     at false b s e = e
 
 -- ---- names
@@ -157,26 +164,32 @@ module _ (d : Document) (read : IsRead d) where
       let n : (tree_node (tree_nodes d) j).number ≡ j = read.numbers j within in
       record { within = omega (arith, n, within); itself = ap (tree_node (tree_nodes d)) n })
 
-  found-is : (uri local : List ℕ) (node : Node) → IsMember d node → is_found (find_name (record { uri = uri; local = local }) d.names) node.number ≡ is_named uri local node.name
+  found-is : (uri local : List ℕ) (node : Node) → IsMember d node
+      → is_found (find_name (record { uri = uri; local = local }) d.names) node.number ≡ is_named uri local node.name
   found-is uri local node m =
       sym (read.named (record { uri = uri; local = local }) node.number m.within)
       ∙ (ap (has_name (record { uri = uri; local = local })) m.itself ∙ sym (named-is uri local node))
 
-  pub name-is : (name : ElementName) (n : ℕ) → n < length d.nodes → has_found (found_element d name) (node_at d.nodes n) ≡ has_element_name name (tree_node (tree_nodes d) n)
+  pub name-is : (name : ElementName) (n : ℕ) → n < length d.nodes
+      → has_found (found_element d name) (node_at d.nodes n) ≡ has_element_name name (tree_node (tree_nodes d) n)
   name-is name n within =
-      sym (read.named (record { uri = uri_of name.namespace; local = name.local }) n within) ∙ sym (named-is (uri_of name.namespace) name.local (tree_node (tree_nodes d) n))
+      sym (read.named (record { uri = uri_of name.namespace; local = name.local }) n within)
+      ∙ sym (named-is (uri_of name.namespace) name.local (tree_node (tree_nodes d) n))
 
   children-are : (name : ElementName) (n : ℕ) → children_named (tree_nodes d) name n ≡ filter (is_found (found_element d name)) (children d n)
   children-are name n = named-filter (is_child n) (has_element_name name) (is_found (found_element d name)) (tree_nodes d)
-      (every-weaker (IsMember d) (λ (node : Node). is_found (found_element d name) node.number ≡ has_element_name name node) (λ node m. found-is (uri_of name.namespace) name.local node m) (tree_nodes d) members)
+      (every-weaker (IsMember d) (λ (node : Node). is_found (found_element d name) node.number ≡ has_element_name name node)
+      (λ node m. found-is (uri_of name.namespace) name.local node m) (tree_nodes d) members)
 
   attributes-are : (local : List ℕ) (n : ℕ) → attributes_named (tree_nodes d) local n ≡ filter (is_found (local_name local)) (attributes d n)
   attributes-are local n = named-filter (is_attribute_of n) (has_plain_name local) (is_found (local_name local)) (tree_nodes d)
-      (every-weaker (IsMember d) (λ (node : Node). is_found (local_name local) node.number ≡ has_plain_name local node) (λ node m. found-is [] local node m) (tree_nodes d) members)
+      (every-weaker (IsMember d) (λ (node : Node). is_found (local_name local) node.number ≡ has_plain_name local node) (λ node m. found-is [] local node m)
+      (tree_nodes d) members)
 
   pub all-within : (sort : Node → Bool) → Every (λ m. m < length d.nodes) (numbers_of sort d)
   all-within sort = every-map (λ m. m < length d.nodes) number (filter sort (tree_nodes d))
-      (every-weaker (λ node. IsMember d node × (sort node ≡ true)) (λ (node : Node). node.number < length d.nodes) (λ node m. m.0.within) (filter sort (tree_nodes d)) (every-filter (IsMember d) sort (tree_nodes d) members))
+      (every-weaker (λ node. IsMember d node × (sort node ≡ true)) (λ (node : Node). node.number < length d.nodes) (λ node m. m.0.within)
+      (filter sort (tree_nodes d)) (every-filter (IsMember d) sort (tree_nodes d) members))
 
   -- ---- guards
 
@@ -188,7 +201,8 @@ module _ (d : Document) (read : IsRead d) where
       ap (map (λ m. trimmed (string_at (tree_nodes d) m))) (flat_map-append (leaves_at (tree_nodes d) leaf) ns ms)
       ∙ map-append (λ m. trimmed (string_at (tree_nodes d) m)) (flat_map (leaves_at (tree_nodes d) leaf) ns) (flat_map (leaves_at (tree_nodes d) leaf) ms)
 
-  any-strings : (p : List ℕ → Bool) (leaf : Leaf) (f : ℕ → List ℕ) (ns : List ℕ) → list_any p (strings leaf (flat_map f ns)) ≡ list_any (λ m. list_any p (strings leaf (f m))) ns
+  any-strings : (p : List ℕ → Bool) (leaf : Leaf) (f : ℕ → List ℕ) (ns : List ℕ)
+      → list_any p (strings leaf (flat_map f ns)) ≡ list_any (λ m. list_any p (strings leaf (f m))) ns
   any-strings p leaf f [] = refl
   any-strings p leaf f (n ∷ ns) =
       ap (list_any p) (strings-append leaf (f n) (flat_map f ns))
@@ -198,7 +212,8 @@ module _ (d : Document) (read : IsRead d) where
   leaf-is test leaves.Element n = or-false (looks_for test (trimmed (string_at (tree_nodes d) n)))
   leaf-is test (leaves.Attribute local) n =
       any-filter (is_found (local_name local)) (λ m. looks_for test (trimmed (string_at (tree_nodes d) m))) (attributes d n)
-      ∙ (ap (list_any (λ m. looks_for test (trimmed (string_at (tree_nodes d) m)))) (sym (append-nil (attributes_named (tree_nodes d) local n) ∙ attributes-are local n))
+      ∙ (ap (list_any (λ m. looks_for test (trimmed (string_at (tree_nodes d) m))))
+      (sym (append-nil (attributes_named (tree_nodes d) local n) ∙ attributes-are local n))
       ∙ sym (any-map (looks_for test) (λ m. trimmed (string_at (tree_nodes d) m)) (attributes_named (tree_nodes d) local n ++ [])))
 
   abbrev guard_of : List (Option ℕ) → Leaf → Test → FoundGuard
@@ -215,8 +230,10 @@ module _ (d : Document) (read : IsRead d) where
       ∙ (any-agree deeper seen (children_named (tree_nodes d) name n) (each (children_named (tree_nodes d) name n) (below-is whole leaf test path))
       ∙ sym (any-strings (looks_for test) leaf (elements_below (tree_nodes d) path) (children_named (tree_nodes d) name n))))
     where
-      each : (ns : List ℕ) → ((m : ℕ) → some_below d (guard_of whole leaf test) (map (found_element d) path) m ≡ list_any (looks_for test) (strings leaf (elements_below (tree_nodes d) path m)))
-          → Every (λ m. some_below d (guard_of whole leaf test) (map (found_element d) path) m ≡ list_any (looks_for test) (strings leaf (elements_below (tree_nodes d) path m))) ns
+      each : (ns : List ℕ) → ((m : ℕ) → some_below d (guard_of whole leaf test) (map (found_element d) path) m
+          ≡ list_any (looks_for test) (strings leaf (elements_below (tree_nodes d) path m)))
+          → Every (λ m. some_below d (guard_of whole leaf test) (map (found_element d) path) m
+          ≡ list_any (looks_for test) (strings leaf (elements_below (tree_nodes d) path m))) ns
       each [] h = tt
       each (m ∷ ns) h = (h m, each ns h)
 
@@ -247,7 +264,8 @@ module _ (d : Document) (read : IsRead d) where
   named_row k w row local = record { number = k + 1; wanted = w; end = ends.Attribute; attribute = local_name local; outer = row.outer; inner = row.inner }
 
   attributes-found : (around : List Carried) (n k : ℕ) (w : Wanted) (row : Row) (local : List ℕ)
-      → found_attributes d around n (named_row k w row local) ≡ map (find_at around (k + 1) row w) (filled (tree_nodes d) (attributes_named (tree_nodes d) local n))
+      → found_attributes d around n (named_row k w row local)
+      ≡ map (find_at around (k + 1) row w) (filled (tree_nodes d) (attributes_named (tree_nodes d) local n))
   attributes-found around n k w row local =
       dark-filter (is_found (local_name local)) (λ m. is_blank (string_at (tree_nodes d) m)) (find_at around (k + 1) row w) (attributes d n)
       ∙ ap (λ ns. map (find_at around (k + 1) row w) (filled (tree_nodes d) ns)) (sym (attributes-are local n))
@@ -269,7 +287,14 @@ module _ (d : Document) (read : IsRead d) where
 
   -- the row with the end that a leaf has
   abbrev leaf_row : ℕ → Wanted → Row → Leaf → FoundRow
-  leaf_row k w row leaf = record { number = k + 1; wanted = w; end = end_at (found_leaf d leaf); attribute = attribute_at (found_leaf d leaf); outer = row.outer; inner = row.inner }
+  leaf_row k w row leaf = record {
+    number = k + 1;
+    wanted = w;
+    end = end_at (found_leaf d leaf);
+    attribute = attribute_at (found_leaf d leaf);
+    outer = row.outer;
+    inner = row.inner;
+  }
 
   leaf-row : (around : List Carried) (n k : ℕ) (row : Row) (w : Wanted) (leaf : Leaf) (b : Bool)
       → cut b (flat_map (found_in_row d around n) (leaf_row k w row leaf ∷ [])) ≡ map (find_at around (k + 1) row w) (leaf_nodes b n leaf)
@@ -278,7 +303,8 @@ module _ (d : Document) (read : IsRead d) where
   leaf-row around n k row w (leaves.Attribute local) true = refl
   leaf-row around n k row w (leaves.Attribute local) false =
       let ns = filled (tree_nodes d) (attributes_named (tree_nodes d) local n) in
-      append-nil (found_attributes d around n (named_row k w row local)) ∙ (attributes-found around n k w row local ∙ ap (map (find_at around (k + 1) row w)) (sym (append-nil ns)))
+      append-nil (found_attributes d around n (named_row k w row local))
+      ∙ (attributes-found around n k w row local ∙ ap (map (find_at around (k + 1) row w)) (sym (append-nil ns)))
 
   row-is : (around : List Carried) (n k : ℕ) (row : Row) (w : Option Wanted)
       → cut (is_blank (string_at (tree_nodes d) n)) (flat_map (found_in_row d around n) (row_for d k row w)) ≡ told_for d around (k + 1) row n w
@@ -291,7 +317,8 @@ module _ (d : Document) (read : IsRead d) where
   cut-append false xs ys = refl
 
   cells-are : (around : List Carried) (n : ℕ) (cells : List Cell)
-      → cut (is_blank (string_at (tree_nodes d) n)) (flat_map (found_in_row d around n) (flat_map (found_cell d) cells)) ≡ flat_map (λ cell. told d cell around n) cells
+      → cut (is_blank (string_at (tree_nodes d) n)) (flat_map (found_in_row d around n) (flat_map (found_cell d) cells))
+      ≡ flat_map (λ cell. told d cell around n) cells
   cells-are around n [] = none-cut (is_blank (string_at (tree_nodes d) n))
   cells-are around n (cell ∷ cells) =
       let b = is_blank (string_at (tree_nodes d) n) in
@@ -326,14 +353,17 @@ module _ (d : Document) (read : IsRead d) where
       same-filter p q h (m ∷ ns) = ap (λ b. cond b (m ∷ filter p ns) (filter p ns)) (h m) ∙ ap (λ ms. cond (q m) (m ∷ ms) ms) (same-filter p q h ns)
 
       one : (m : ℕ) → entered_in d (line_of d s cells inside) inside around m
-          ≡ if_both (is_found (found_element d s.name)) (λ m. list_all (found.is_met d m) (map (found_guard d) s.guards)) (λ m. inside_of cells inside (entered (sight d).enter s.group m around) m) m
+          ≡ if_both (is_found (found_element d s.name)) (λ m. list_all (found.is_met d m) (map (found_guard d) s.guards))
+          (λ m. inside_of cells inside (entered (sight d).enter s.group m around) m) m
       one m =
           let test = is_of d (line_of d s cells inside) m in
           ap (λ xs. elim test as (λ _. List Find) [ true ↦ xs | false ↦ [] ])
           (ap (λ c. found_in d (line_of d s cells inside) inside c m) (around-is s.group m around)
-          ∙ ap (λ xs. xs ++ walked (sight d) inside (entered (sight d).enter s.group m around) m) (cells-are (entered (sight d).enter s.group m around) m cells))
+          ∙ ap (λ xs. xs ++ walked (sight d) inside (entered (sight d).enter s.group m around) m)
+          (cells-are (entered (sight d).enter s.group m around) m cells))
 
       each : (ns : List ℕ) → Every (λ m. entered_in d (line_of d s cells inside) inside around m
-          ≡ if_both (is_found (found_element d s.name)) (λ m. list_all (found.is_met d m) (map (found_guard d) s.guards)) (λ m. inside_of cells inside (entered (sight d).enter s.group m around) m) m) ns
+          ≡ if_both (is_found (found_element d s.name)) (λ m. list_all (found.is_met d m) (map (found_guard d) s.guards))
+          (λ m. inside_of cells inside (entered (sight d).enter s.group m around) m) m) ns
       each [] = tt
       each (m ∷ ns) = (one m, each ns)

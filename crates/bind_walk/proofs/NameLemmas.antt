@@ -17,7 +17,8 @@ use Rattle.bind_walk.specs.Found.{found_element}
 
 ascii : (bytes : List ℕ) → list_all (λ b. nat_lt b 128) bytes ≡ true → IsAscii bytes
 ascii [] e = IsAscii-nil
-ascii (b ∷ bytes) e = let parts = and_parts (nat_lt b 128) (list_all (λ b. nat_lt b 128) bytes) e in IsAscii-cons b bytes (ltb-true b 128 parts.0) (ascii bytes parts.1)
+ascii (b ∷ bytes) e = let parts = and_parts (nat_lt b 128) (list_all (λ b. nat_lt b 128) bytes) e in
+    IsAscii-cons b bytes (ltb-true b 128 parts.0) (ascii bytes parts.1)
 
 all_ascii : (space : Namespace) → list_all (λ b. nat_lt b 128) (uri_of space) ≡ true
 all_ascii spaces.UblInvoice = refl
@@ -32,11 +33,13 @@ all_ascii spaces.CiiQualified = refl
 pub uri-chars : (space : Namespace) → chars (uri_of space) ≡ uri_of space
 uri-chars space = chars-IsAscii (uri_of space) (ascii (uri_of space) (all_ascii space))
 
-pub element-found : (d : Document) (name : ElementName) (uri local : List ℕ) (names : List Name) (id : Option ℕ) → uri ≡ uri_of name.namespace → chars local ≡ name.local → names ≡ d.names
+pub element-found : (d : Document) (name : ElementName) (uri local : List ℕ) (names : List Name) (id : Option ℕ) → uri ≡ uri_of name.namespace
+    → chars local ≡ name.local → names ≡ d.names
     → id ≡ find_name (record { uri = chars uri; local = chars local }) names → id ≡ found_element d name
 element-found d name uri local names id u l n is =
     let both : List ℕ → List ℕ → Name = λ x y. record { uri = x; local = y } in
-    is ∙ (ap (λ x. find_name (both x (chars local)) names) (ap chars u ∙ uri-chars name.namespace) ∙ (ap (λ x. find_name (both (uri_of name.namespace) x) names) l ∙ ap (find_name (both (uri_of name.namespace) name.local)) n))
+    is ∙ (ap (λ x. find_name (both x (chars local)) names) (ap chars u ∙ uri-chars name.namespace)
+    ∙ (ap (λ x. find_name (both (uri_of name.namespace) x) names) l ∙ ap (find_name (both (uri_of name.namespace) name.local)) n))
 
 pub attribute-found : (d : Document) (text local : List ℕ) (names : List Name) (id : Option ℕ) → chars local ≡ text → names ≡ d.names
     → id ≡ find_name (record { uri = chars []; local = chars local }) names → id ≡ find_name (record { uri = []; local = text }) d.names

@@ -6,7 +6,8 @@ use Rattle.node_arena.specs.Moves.{has_found}
 use Rattle.bind_walk.specs.Found.{is_same_number}
 
 -- of a node whose name has the number
-pub number-says : (d : Document) (found : Option ℕ) (name m : ℕ) → (node_at d.nodes m).name ≡ Some name → has_found found (node_at d.nodes m) ≡ is_same_number found name
+pub number-says : (d : Document) (found : Option ℕ) (name m : ℕ) → (node_at d.nodes m).name ≡ Some name
+    → has_found found (node_at d.nodes m) ≡ is_same_number found name
 number-says d None name m e = refl
 number-says d (Some own) name m e = ap (λ n. elim n as (λ _. Bool) [ None ↦ false | Some k ↦ k == own ]) e
 

@@ -63,18 +63,23 @@ abbrev pub NotAbove : Picked → Picked → Type 0
 NotAbove a b = is_lt (order b a) ≡ false
 
 greater : (a b : ℕ) → a < b → nat_cmp b a ≡ Greater
-greater a b h = by_ranked (b < a) (b ≡ a) (a < b) (nat_cmp b a) (ranked b a (nat_cmp b a) refl) (λ f k. absurd (omega (arith, k, h))) (λ f k. absurd (omega (arith, k, h))) (λ f k. f)
+greater a b h = by_ranked (b < a) (b ≡ a) (a < b) (nat_cmp b a) (ranked b a (nat_cmp b a) refl) (λ f k. absurd (omega (arith, k, h)))
+    (λ f k. absurd (omega (arith, k, h))) (λ f k. f)
 
 equal : (a b : ℕ) → a ≡ b → nat_cmp b a ≡ Equal
 equal a b h = ap (nat_cmp b) h ∙ tied_itself nat_cmp_total b
 
 before-node : (a b : Picked) → a.node < b.node → NotAbove a b
-before-node a b h = ap (λ o. is_lt (ordering_then o (then_cmp (on (λ (p : Picked). p.row) nat_cmp) (then_cmp (on (λ (p : Picked). p.outer) (option_cmp nat_cmp)) (on (λ (p : Picked). p.inner) (option_cmp nat_cmp))) b a))) (greater a.node b.node h)
+before-node a b h = ap (λ o. is_lt (ordering_then o
+    (then_cmp (on (λ (p : Picked). p.row) nat_cmp)
+    (then_cmp (on (λ (p : Picked). p.outer) (option_cmp nat_cmp)) (on (λ (p : Picked). p.inner) (option_cmp nat_cmp))) b a))) (greater a.node b.node h)
 
 before-row : (a b : Picked) → a.node ≡ b.node → a.row < b.row → NotAbove a b
 before-row a b h k =
-    ap (λ o. is_lt (ordering_then o (then_cmp (on (λ (p : Picked). p.row) nat_cmp) (then_cmp (on (λ (p : Picked). p.outer) (option_cmp nat_cmp)) (on (λ (p : Picked). p.inner) (option_cmp nat_cmp))) b a))) (equal a.node b.node h)
-    ∙ ap (λ o. is_lt (ordering_then o (then_cmp (on (λ (p : Picked). p.outer) (option_cmp nat_cmp)) (on (λ (p : Picked). p.inner) (option_cmp nat_cmp)) b a))) (greater a.row b.row k)
+    ap (λ o. is_lt (ordering_then o (then_cmp (on (λ (p : Picked). p.row) nat_cmp)
+    (then_cmp (on (λ (p : Picked). p.outer) (option_cmp nat_cmp)) (on (λ (p : Picked). p.inner) (option_cmp nat_cmp))) b a))) (equal a.node b.node h)
+    ∙ ap (λ o. is_lt (ordering_then o (then_cmp (on (λ (p : Picked). p.outer) (option_cmp nat_cmp)) (on (λ (p : Picked). p.inner) (option_cmp nat_cmp)) b a)))
+    (greater a.row b.row k)
 
 -- ---- ways and the ancestors of their ends
 
@@ -119,9 +124,11 @@ module _ (d : Document) (nested : IsNested d) where
   }
 
   -- nodes of a sort that stand right inside one
-  inside : (n : ℕ) (sort has : Node → Bool) → ((node : Node) → sort node ≡ true → is_nearest n node.above ≡ true) → Every (IsIn n) (map number (filter (both sort has) (tree_nodes d)))
+  inside : (n : ℕ) (sort has : Node → Bool) → ((node : Node) → sort node ≡ true → is_nearest n node.above ≡ true)
+      → Every (IsIn n) (map number (filter (both sort has) (tree_nodes d)))
   inside n sort has f = every-map (IsIn n) number (filter (both sort has) (tree_nodes d))
-      (every-weaker (λ node. IsMember d node × (both sort has node ≡ true)) (λ (node : Node). IsIn n node.number) (λ node h. near n node h.0 (f node (both-true sort has node h.1).0)) (filter (both sort has) (tree_nodes d))
+      (every-weaker (λ node. IsMember d node × (both sort has node ≡ true)) (λ (node : Node). IsIn n node.number)
+      (λ node h. near n node h.0 (f node (both-true sort has node h.1).0)) (filter (both sort has) (tree_nodes d))
       (every-filter (IsMember d) (both sort has) (tree_nodes d) (members d nested.read)))
 
   kids : (name : _) (n : ℕ) → Every (IsIn n) (children_named (tree_nodes d) name n)
@@ -142,11 +149,13 @@ module _ (d : Document) (nested : IsNested d) where
   trails : (path : List Step) (x : ℕ) → x < length d.nodes → Every (IsTrail x) (ways (tree_nodes d) path x)
   trails [] x within = (record { within = within; trail = refl }, tt)
   trails (s ∷ path) x within = every-flat_map (IsTrail x) (λ m. map (λ way. m ∷ way) (ways (tree_nodes d) path m)) (met (tree_nodes d) s x)
-      (every-weaker (IsIn x) (λ m. Every (IsTrail x) (map (λ way. m ∷ way) (ways (tree_nodes d) path m))) (λ m h. one m h (trails path m h.within)) (met (tree_nodes d) s x) (met-in s x))
+      (every-weaker (IsIn x) (λ m. Every (IsTrail x) (map (λ way. m ∷ way) (ways (tree_nodes d) path m))) (λ m h. one m h (trails path m h.within))
+      (met (tree_nodes d) s x) (met-in s x))
     where
       one : (m : ℕ) → IsIn x m → Every (IsTrail m) (ways (tree_nodes d) path m) → Every (IsTrail x) (map (λ way. m ∷ way) (ways (tree_nodes d) path m))
       one m h ts = every-map (IsTrail x) (λ way. m ∷ way) (ways (tree_nodes d) path m)
-          (every-weaker (IsTrail m) (λ way. IsTrail x (m ∷ way)) (λ way t. record { within = t.within; trail = t.trail ∙ ap (λ a. turned (m ∷ a) way) h.above }) (ways (tree_nodes d) path m) ts)
+          (every-weaker (IsTrail m) (λ way. IsTrail x (m ∷ way)) (λ way t. record { within = t.within; trail = t.trail ∙ ap (λ a. turned (m ∷ a) way) h.above })
+          (ways (tree_nodes d) path m) ts)
 
   -- ---- picks of a row
 
@@ -170,18 +179,21 @@ module _ (d : Document) (nested : IsNested d) where
     trail : trail_of leaf m ≡ path_of n
 
   filled-every : (P : ℕ → Type 0) (ns : List ℕ) → Every P ns → Every P (filled (tree_nodes d) ns)
-  filled-every P ns h = every-weaker (λ m. P m × (not (is_blank_at (tree_nodes d) m) ≡ true)) P (λ m k. k.0) (filled (tree_nodes d) ns) (every-filter P (λ m. not (is_blank_at (tree_nodes d) m)) ns h)
+  filled-every P ns h = every-weaker (λ m. P m × (not (is_blank_at (tree_nodes d) m) ≡ true)) P (λ m k. k.0) (filled (tree_nodes d) ns)
+      (every-filter P (λ m. not (is_blank_at (tree_nodes d) m)) ns h)
 
   leaf-every : (leaf : Leaf) (n : ℕ) → n < length d.nodes → Every (IsLeaf leaf n) (leaves_of (tree_nodes d) leaf n)
   leaf-every leaves.Element n within = filled-every (IsLeaf leaves.Element n) (n ∷ []) (record { within = within; trail = refl }, tt)
   leaf-every (leaves.Attribute local) n within =
       every-flat_map (IsLeaf (leaves.Attribute local) n) (λ m. filled (tree_nodes d) (attributes_named (tree_nodes d) local m)) (filled (tree_nodes d) (n ∷ []))
-      (every-weaker (λ m. m ≡ n) (λ m. Every (IsLeaf (leaves.Attribute local) n) (filled (tree_nodes d) (attributes_named (tree_nodes d) local m))) (λ m e. one m e)
+      (every-weaker (λ m. m ≡ n) (λ m. Every (IsLeaf (leaves.Attribute local) n) (filled (tree_nodes d) (attributes_named (tree_nodes d) local m)))
+      (λ m e. one m e)
       (filled (tree_nodes d) (n ∷ [])) (filled-every (λ m. m ≡ n) (n ∷ []) (refl, tt)))
     where
       one : (m : ℕ) → m ≡ n → Every (IsLeaf (leaves.Attribute local) n) (filled (tree_nodes d) (attributes_named (tree_nodes d) local m))
       one m e = filled-every (IsLeaf (leaves.Attribute local) n) (attributes_named (tree_nodes d) local m)
-          (every-weaker (IsIn m) (IsLeaf (leaves.Attribute local) n) (λ a h. record { within = h.within; trail = h.above ∙ ap path_of e }) (attributes_named (tree_nodes d) local m) (attributes local m))
+          (every-weaker (IsIn m) (IsLeaf (leaves.Attribute local) n) (λ a h. record { within = h.within; trail = h.above ∙ ap path_of e })
+          (attributes_named (tree_nodes d) local m) (attributes local m))
 
   way-picks : (k : ℕ) (row : Row) (way : List ℕ) → IsTrail 0 way → Every (IsPick k row) (picks_of_way (tree_nodes d) k row way)
   way-picks k row way t =
@@ -193,7 +205,8 @@ module _ (d : Document) (nested : IsNested d) where
 
   pub row-picks-are : (k : ℕ) (row : Row) → 0 < length d.nodes → Every (IsPick k row) (nodes_picked (tree_nodes d) k row)
   row-picks-are k row some = every-flat_map (IsPick k row) (picks_of_way (tree_nodes d) k row) (ways (tree_nodes d) row.path 0)
-      (every-weaker (IsTrail 0) (λ way. Every (IsPick k row) (picks_of_way (tree_nodes d) k row way)) (λ way t. way-picks k row way t) (ways (tree_nodes d) row.path 0) (trails row.path 0 some))
+      (every-weaker (IsTrail 0) (λ way. Every (IsPick k row) (picks_of_way (tree_nodes d) k row way)) (λ way t. way-picks k row way t)
+      (ways (tree_nodes d) row.path 0) (trails row.path 0 some))
 
   -- two picks of a row at one node are kept alike
   abbrev keep : ℕ → Row → List ℕ → ℕ → Picked
@@ -217,16 +230,19 @@ module _ (d : Document) (nested : IsNested d) where
 
   pub all-before : 0 < length d.nodes → (rows : List Numbered) → Up (λ (r s : Numbered). r.place < s.place) rows → Up Before (all_picked (tree_nodes d) rows)
   all-before some rows up = up-flat_map Before (λ (r s : Numbered). r.place < s.place) (λ (r : Numbered). nodes_picked (tree_nodes d) r.place r.row)
-      (λ r. up-any (IsPick r.place r.row) Before (λ p q a b e. itself (kept p) (kept q) (same-picks r.place r.row p q a b e)) (nodes_picked (tree_nodes d) r.place r.row) (row-picks-are r.place r.row some))
+      (λ r. up-any (IsPick r.place r.row) Before (λ p q a b e. itself (kept p) (kept q) (same-picks r.place r.row p q a b e))
+      (nodes_picked (tree_nodes d) r.place r.row) (row-picks-are r.place r.row some))
       (λ r s less. every-weaker (IsPick r.place r.row) (λ p. Every (Before p) (nodes_picked (tree_nodes d) s.place s.row))
-      (λ p a. every-weaker (IsPick s.place s.row) (Before p) (λ q b e. before-row (kept p) (kept q) e (omega (arith, a.place, b.place, less))) (nodes_picked (tree_nodes d) s.place s.row) (row-picks-are s.place s.row some))
+      (λ p a. every-weaker (IsPick s.place s.row) (Before p) (λ q b e. before-row (kept p) (kept q) e (omega (arith, a.place, b.place, less)))
+      (nodes_picked (tree_nodes d) s.place s.row) (row-picks-are s.place s.row some))
       (nodes_picked (tree_nodes d) r.place r.row) (row-picks-are r.place r.row some))
       rows up
 
   pub all-inside : 0 < length d.nodes → (rows : List Numbered) → Every (λ (p : Pick). p.node < length d.nodes) (all_picked (tree_nodes d) rows)
   all-inside some [] = tt
   all-inside some (r ∷ rows) = every-append (λ (p : Pick). p.node < length d.nodes) (nodes_picked (tree_nodes d) r.place r.row) (all_picked (tree_nodes d) rows)
-      (every-weaker (IsPick r.place r.row) (λ (p : Pick). p.node < length d.nodes) (λ p a. a.within) (nodes_picked (tree_nodes d) r.place r.row) (row-picks-are r.place r.row some)) (all-inside some rows)
+      (every-weaker (IsPick r.place r.row) (λ (p : Pick). p.node < length d.nodes) (λ p a. a.within) (nodes_picked (tree_nodes d) r.place r.row)
+      (row-picks-are r.place r.row some)) (all-inside some rows)
 
 -- ---- rows by their numbers
 
@@ -264,19 +280,24 @@ module _ (L : Picked → Picked → Type 0) where
 behind-every : (n : ℕ) (nodes : List Node) (picks : List Pick) → From n nodes → Every (λ (p : Pick). n ≤ p.node) (in_order nodes picks)
 behind-every n [] picks f = tt
 behind-every n (node ∷ nodes) picks f = every-append (λ (p : Pick). n ≤ p.node) (filter (at_node node) picks) (in_order nodes picks)
-    (every-weaker (λ (p : Pick). p.node ≡ node.number) (λ (p : Pick). n ≤ p.node) (λ p e. omega (arith, e, f.0)) (filter (at_node node) picks) (here-every NotAbove node picks))
-    (every-weaker (λ (p : Pick). n + 1 ≤ p.node) (λ (p : Pick). n ≤ p.node) (λ p h. omega (arith, h)) (in_order nodes picks) (behind-every (n + 1) nodes picks f.1))
+    (every-weaker (λ (p : Pick). p.node ≡ node.number) (λ (p : Pick). n ≤ p.node) (λ p e. omega (arith, e, f.0)) (filter (at_node node) picks)
+    (here-every NotAbove node picks))
+    (every-weaker (λ (p : Pick). n + 1 ≤ p.node) (λ (p : Pick). n ≤ p.node) (λ p h. omega (arith, h)) (in_order nodes picks)
+    (behind-every (n + 1) nodes picks f.1))
 
 pub in_order-up : (n : ℕ) (nodes : List Node) (picks : List Pick) → From n nodes → Up (λ (p q : Pick). p.node ≡ q.node → NotAbove (kept p) (kept q)) picks
     → Up (λ (p q : Pick). NotAbove (kept p) (kept q)) (in_order nodes picks)
 in_order-up n [] picks f up = tt
 in_order-up n (node ∷ nodes) picks f up =
     up-append (λ (p q : Pick). NotAbove (kept p) (kept q)) (filter (at_node node) picks) (in_order nodes picks)
-    (up-weaker (λ (p : Pick). p.node ≡ node.number) (λ (p q : Pick). p.node ≡ q.node → NotAbove (kept p) (kept q)) (λ (p q : Pick). NotAbove (kept p) (kept q)) (λ p q a b h. h (a ∙ sym b))
-    (filter (at_node node) picks) (here-every NotAbove node picks) (up-filter (λ (p q : Pick). p.node ≡ q.node → NotAbove (kept p) (kept q)) (at_node node) picks up))
+    (up-weaker (λ (p : Pick). p.node ≡ node.number) (λ (p q : Pick). p.node ≡ q.node → NotAbove (kept p) (kept q)) (λ (p q : Pick). NotAbove (kept p) (kept q))
+    (λ p q a b h. h (a ∙ sym b))
+    (filter (at_node node) picks) (here-every NotAbove node picks)
+    (up-filter (λ (p q : Pick). p.node ≡ q.node → NotAbove (kept p) (kept q)) (at_node node) picks up))
     (in_order-up (n + 1) nodes picks f.1 up)
     (every-weaker (λ (p : Pick). p.node ≡ node.number) (λ p. Every (λ q. NotAbove (kept p) (kept q)) (in_order nodes picks))
-    (λ p e. every-weaker (λ (q : Pick). n + 1 ≤ q.node) (λ q. NotAbove (kept p) (kept q)) (λ q h. before-node (kept p) (kept q) (omega (arith, e, f.0, h))) (in_order nodes picks) (behind-every (n + 1) nodes picks f.1))
+    (λ p e. every-weaker (λ (q : Pick). n + 1 ≤ q.node) (λ q. NotAbove (kept p) (kept q)) (λ q h. before-node (kept p) (kept q) (omega (arith, e, f.0, h)))
+    (in_order nodes picks) (behind-every (n + 1) nodes picks f.1))
     (filter (at_node node) picks) (here-every NotAbove node picks))
 
 -- each pick stands there once
@@ -289,10 +310,13 @@ module _ (f : Pick → ℕ) (p : Pick) (picks : List Pick) where
   passed n [] from h = refl
   passed n (node ∷ nodes) from h =
       sum_by-append f (filter (at_node node) (p ∷ picks)) (in_order nodes (p ∷ picks))
-      ∙ (ap (λ b. sum_by f (cond b (p ∷ filter (at_node node) picks) (filter (at_node node) picks)) + sum_by f (in_order nodes (p ∷ picks))) (ne_eqb p.node node.number (λ e. omega (arith, e, from.0, h)))
-      ∙ (ap (λ k. sum_by f (filter (at_node node) picks) + k) (passed (n + 1) nodes from.1 (omega (arith, h))) ∙ sym (sum_by-append f (filter (at_node node) picks) (in_order nodes picks))))
+      ∙ (ap (λ b. sum_by f (cond b (p ∷ filter (at_node node) picks) (filter (at_node node) picks)) + sum_by f (in_order nodes (p ∷ picks)))
+      (ne_eqb p.node node.number (λ e. omega (arith, e, from.0, h)))
+      ∙ (ap (λ k. sum_by f (filter (at_node node) picks) + k) (passed (n + 1) nodes from.1 (omega (arith, h)))
+      ∙ sym (sum_by-append f (filter (at_node node) picks) (in_order nodes picks))))
 
-  stands : (n : ℕ) (nodes : List Node) → From n nodes → n ≤ p.node → p.node < n + length nodes → sum_by f (in_order nodes (p ∷ picks)) ≡ f p + sum_by f (in_order nodes picks)
+  stands : (n : ℕ) (nodes : List Node) → From n nodes → n ≤ p.node → p.node < n + length nodes
+      → sum_by f (in_order nodes (p ∷ picks)) ≡ f p + sum_by f (in_order nodes picks)
   stands n [] from low high = absurd (omega (arith, low, high))
   stands n (node ∷ nodes) from low high = elim (cases_eq p.node n) [
     | inl e ↦
@@ -302,17 +326,22 @@ module _ (f : Pick → ℕ) (p : Pick) (picks : List Pick) where
         let b : sum_by f (in_order nodes (p ∷ picks)) ≡ sum_by f (in_order nodes picks) = passed (n + 1) nodes from.1 (omega (arith, e)) in
         let c : sum_by f (own ++ in_order nodes picks) ≡ sum_by f own + sum_by f (in_order nodes picks) = sum_by-append f own (in_order nodes picks) in
         sum_by-append f (filter (at_node node) (p ∷ picks)) (in_order nodes (p ∷ picks))
-        ∙ (ap (λ t. sum_by f (cond t (p ∷ own) own) + sum_by f (in_order nodes (p ∷ picks))) hit ∙ (let r : sum_by f (p ∷ own) + sum_by f (in_order nodes (p ∷ picks)) ≡ f p + sum_by f (own ++ in_order nodes picks) = omega (arith, a, b, c) in r))
+        ∙ (ap (λ t. sum_by f (cond t (p ∷ own) own) + sum_by f (in_order nodes (p ∷ picks))) hit
+        ∙ (let r : sum_by f (p ∷ own) + sum_by f (in_order nodes (p ∷ picks)) ≡ f p + sum_by f (own ++ in_order nodes picks) = omega (arith, a, b, c) in r))
     | inr ne ↦
         let miss : (p.node == node.number) ≡ false = ne_eqb p.node node.number (λ e. ne (e ∙ from.0)) in
         let own = filter (at_node node) picks in
-        let b : sum_by f (in_order nodes (p ∷ picks)) ≡ f p + sum_by f (in_order nodes picks) = stands (n + 1) nodes from.1 (omega (arith, low, ne)) (omega (arith, high)) in
+        let b : sum_by f (in_order nodes (p ∷ picks)) ≡ f p + sum_by f (in_order nodes picks) =
+        stands (n + 1) nodes from.1 (omega (arith, low, ne)) (omega (arith, high)) in
         let c : sum_by f (own ++ in_order nodes picks) ≡ sum_by f own + sum_by f (in_order nodes picks) = sum_by-append f own (in_order nodes picks) in
         sum_by-append f (filter (at_node node) (p ∷ picks)) (in_order nodes (p ∷ picks))
-        ∙ (ap (λ t. sum_by f (cond t (p ∷ own) own) + sum_by f (in_order nodes (p ∷ picks))) miss ∙ (let r : sum_by f own + sum_by f (in_order nodes (p ∷ picks)) ≡ f p + sum_by f (own ++ in_order nodes picks) = omega (arith, b, c) in r))
+        ∙ (ap (λ t. sum_by f (cond t (p ∷ own) own) + sum_by f (in_order nodes (p ∷ picks))) miss
+        ∙ (let r : sum_by f own + sum_by f (in_order nodes (p ∷ picks)) ≡ f p + sum_by f (own ++ in_order nodes picks) = omega (arith, b, c) in r))
   ]
 
-pub in_order-counts : (f : Pick → ℕ) (nodes : List Node) (picks : List Pick) → From 0 nodes → Every (λ (p : Pick). p.node < length nodes) picks → sum_by f (in_order nodes picks) ≡ sum_by f picks
+pub in_order-counts : (f : Pick → ℕ) (nodes : List Node) (picks : List Pick) → From 0 nodes → Every (λ (p : Pick). p.node < length nodes) picks
+    → sum_by f (in_order nodes picks) ≡ sum_by f picks
 in_order-counts f nodes [] from h = none-there f nodes
 in_order-counts f nodes (p ∷ picks) from h =
-    stands f p picks 0 nodes from (omega arith) (omega (arith, h.0)) ∙ (ap (λ k. f p + k) (in_order-counts f nodes picks from h.1) ∙ sym (sum_by-cons f p picks))
+    stands f p picks 0 nodes from (omega arith) (omega (arith, h.0))
+    ∙ (ap (λ k. f p + k) (in_order-counts f nodes picks from h.1) ∙ sym (sum_by-cons f p picks))

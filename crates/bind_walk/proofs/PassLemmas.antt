@@ -8,7 +8,6 @@ use Rattle.std.proofs.lemmas.Bool.{cases_lt, lt-ltb, le-ltb}
 use Rattle.std.proofs.lemmas.List.Folds.{list_any-append}
 use Rattle.std.proofs.Math.Seq.{get_or-append_seam, drop-append_seam}
 use Rattle.inv_base.specs.Tree.{Node}
-use Rattle.inv_base.specs.declared.tree.Kind.{Kind}
 use Rattle.inv_base.specs.declared.tree.Kind.TheVariants as kinds
 use Rattle.node_arena.specs.Document.{Document, document_node, node_at}
 use Rattle.node_arena.specs.Moves.{node_of, tree_nodes, tree_node, has_found, parent}
@@ -17,7 +16,7 @@ use Rattle.bind_rows.specs.declared.rows.Step.{Step}
 use Rattle.bind_rows.specs.Same.{same_step, choose}
 use Rattle.bind_table.specs.Lines.{Cell, Plan, nothing, a_line, into, own_cells, add, grown, plan_of}
 use Rattle.bind_meaning.specs.Names.{has_element_name}
-use Rattle.bind_meaning.specs.Elements.{is_element}
+use Rattle.bind_meaning.specs.Elements.{is_element_kind, is_element}
 use Rattle.bind_meaning.specs.Faults.{passed_nodes}
 use Rattle.bind_meaning.specs.Terms.{names_row, is_on_a_way, is_passed_over, turned, without_first, way_to}
 use Rattle.bind_walk.specs.Chains.{number}
@@ -27,7 +26,7 @@ use Rattle.bind_walk.specs.Lines.{lined}
 use Rattle.bind_walk.specs.Found.{found_element, is_same_number}
 use Rattle.bind_walk.specs.Walks.{line_of}
 use Rattle.bind_walk.proofs.NumberLemmas.{number-says, none-found}
-use Rattle.bind_walk.specs.Passing.{inside_named, insides, led, some_plan, path_of, state, is_passed, roots_of, IsSpan, IsSomeSpan, SpansOf, AreSpans, AddsNamed, part, LeadsInside, IsPart, no_part, Reaches, AreReached, IsReached, some_of, is_left, Begins, one_if, LeadsThrough, is_element_kind}
+use Rattle.bind_walk.specs.Passing.{inside_named, insides, led, some_plan, path_of, state, is_passed, roots_of, IsSpan, IsSomeSpan, SpansOf, AreSpans, AddsNamed, part, LeadsInside, IsPart, no_part, Reaches, AreReached, IsReached, some_of, is_left, Begins, one_if, LeadsThrough}
 
 -- ---- tests
 
@@ -82,20 +81,24 @@ module _ (d : Document) (same : (s t : Step) → same_step s t ≡ true → s �
 
     into-by : (s t : Step) (cells : List Cell) (inside rest : Plan) (n : ℕ) (way : List ℕ) (a b : Bool) → (a ≡ true → s ≡ t)
         → leads (into s own deeper rest) (n ∷ way) ≡ (leads rest (n ∷ way) || (named s n && more way))
-        → leads (choose a (λ _. a_line t (own cells) (deeper inside) rest) (λ _. choose b (λ _. a_line s (own []) (deeper nothing) (a_line t cells inside rest)) (λ _. a_line t cells inside (into s own deeper rest)))) (n ∷ way)
+        → leads (choose a (λ _. a_line t (own cells) (deeper inside) rest)
+        (λ _. choose b (λ _. a_line s (own []) (deeper nothing) (a_line t cells inside rest)) (λ _. a_line t cells inside (into s own deeper rest))))
+        (n ∷ way)
         ≡ (leads (a_line t cells inside rest) (n ∷ way) || (named s n && more way))
     into-by s t cells inside rest n way true b sound others =
         ap (λ x. (named t n && x) || leads rest (n ∷ way)) (deeper-leads inside way)
         ∙ (spread (named t n) (leads inside way) (more way) (leads rest (n ∷ way))
         ∙ ap (λ r. leads (a_line t cells inside rest) (n ∷ way) || (named r n && more way)) (sym (sound refl)))
     into-by s t cells inside rest n way false true sound others =
-        ap (λ x. (named s n && x) || leads (a_line t cells inside rest) (n ∷ way)) (fresh way) ∙ or-comm (named s n && more way) (leads (a_line t cells inside rest) (n ∷ way))
+        ap (λ x. (named s n && x) || leads (a_line t cells inside rest) (n ∷ way)) (fresh way)
+        ∙ or-comm (named s n && more way) (leads (a_line t cells inside rest) (n ∷ way))
     into-by s t cells inside rest n way false false sound others =
         ap (λ x. (named t n && leads inside way) || x) others ∙ or-assoc (named t n && leads inside way) (leads rest (n ∷ way)) (named s n && more way)
 
     into-leads : (s : Step) (plan : Plan) (n : ℕ) (way : List ℕ) → leads (into s own deeper plan) (n ∷ way) ≡ (leads plan (n ∷ way) || (named s n && more way))
     into-leads s nothing n way = sym (or-false (named s n && leads (deeper nothing) way)) ∙ ap (λ x. named s n && x) (fresh way)
-    into-leads s (a_line t cells inside rest) n way = into-by s t cells inside rest n way (same_step s t) (nat_lt s.number t.number) (same s t) (into-leads s rest n way)
+    into-leads s (a_line t cells inside rest) n way =
+        into-by s t cells inside rest n way (same_step s t) (nat_lt s.number t.number) (same s t) (into-leads s rest n way)
 
   names-nil : (path : List Step) → names_row (tree_nodes d) path [] ≡ true
   names-nil [] = refl
@@ -104,7 +107,8 @@ module _ (d : Document) (same : (s t : Step) → same_step s t ≡ true → s �
   nil-leads : (p : Plan) (plan : Plan) (path : List Step) → leads p [] ≡ (leads plan [] || names_row (tree_nodes d) path [])
   nil-leads p plan path = leads-nil p ∙ ap (λ b. b || names_row (tree_nodes d) path []) (sym (leads-nil plan))
 
-  add-leads : (cell : Cell) (steps : List Step) (plan : Plan) (way : List ℕ) → leads (add steps cell plan) way ≡ (leads plan way || names_row (tree_nodes d) steps way)
+  add-leads : (cell : Cell) (steps : List Step) (plan : Plan) (way : List ℕ)
+      → leads (add steps cell plan) way ≡ (leads plan way || names_row (tree_nodes d) steps way)
   add-leads cell [] plan [] = nil-leads plan plan []
   add-leads cell [] plan (n ∷ way) = or-false (leads plan (n ∷ way))
   add-leads cell (s ∷ steps) plan [] = nil-leads (add (s ∷ steps) cell plan) plan (s ∷ steps)
@@ -112,7 +116,8 @@ module _ (d : Document) (same : (s t : Step) → same_step s t ≡ true → s �
       into-leads (own_cells steps cell) (add steps cell) (names_row (tree_nodes d) steps) (names-nil steps) (add-leads cell steps) s plan n way
       ∙ ap (λ b. leads plan (n ∷ way) || b) (and-elim (named s n) (names_row (tree_nodes d) steps way))
 
-  grown-leads : (plan : Plan) (n : ℕ) (rows : List Row) (way : List ℕ) → leads (grown plan n rows) way ≡ (leads plan way || list_any (λ (row : Row). names_row (tree_nodes d) row.path way) rows)
+  grown-leads : (plan : Plan) (n : ℕ) (rows : List Row) (way : List ℕ)
+      → leads (grown plan n rows) way ≡ (leads plan way || list_any (λ (row : Row). names_row (tree_nodes d) row.path way) rows)
   grown-leads plan n [] way = or-false (leads plan way)
   grown-leads plan n (row ∷ rows) way =
       let cell : Cell = record { number = n; row = row } in
@@ -121,7 +126,8 @@ module _ (d : Document) (same : (s t : Step) → same_step s t ≡ true → s �
       ∙ sym (or-assoc (leads plan way) (names_row (tree_nodes d) row.path way) (list_any (λ (r : Row). names_row (tree_nodes d) r.path way) rows)))
 
   plan-leads : (row : Row) (rows : List Row) (way : List ℕ) → leads (plan_of (row ∷ rows)) way ≡ is_on_a_way (tree_nodes d) (row ∷ rows) way
-  plan-leads row rows [] = leads-nil (plan_of (row ∷ rows)) ∙ ap (λ b. b || list_any (λ (r : Row). names_row (tree_nodes d) r.path []) rows) (sym (names-nil row.path))
+  plan-leads row rows [] = leads-nil (plan_of (row ∷ rows))
+      ∙ ap (λ b. b || list_any (λ (r : Row). names_row (tree_nodes d) r.path []) rows) (sym (names-nil row.path))
   plan-leads row rows (n ∷ way) = grown-leads nothing 0 (row ∷ rows) (n ∷ way)
 
   -- ---- sets of lines
@@ -131,7 +137,8 @@ module _ (d : Document) (same : (s t : Step) → same_step s t ≡ true → s �
   one-leads n (a_line s cells inside rest) way = at (named s n) (one-leads n rest way)
     where
       at : (b : Bool) → list_any (λ p. leads p way) (inside_named d n rest) ≡ leads rest (n ∷ way)
-          → list_any (λ p. leads p way) ((elim b as (λ _. List Plan) [ true ↦ inside ∷ [] | false ↦ [] ]) ++ inside_named d n rest) ≡ ((b && leads inside way) || leads rest (n ∷ way))
+          → list_any (λ p. leads p way) ((elim b as (λ _. List Plan) [ true ↦ inside ∷ [] | false ↦ [] ]) ++ inside_named d n rest)
+          ≡ ((b && leads inside way) || leads rest (n ∷ way))
       at true e = ap (λ b. leads inside way || b) e
       at false e = e
 
@@ -155,8 +162,11 @@ module _ (d : Document) (same : (s t : Step) → same_step s t ≡ true → s �
 
   pub passed-is : (rows : List Row) (node : Node) → is_passed d (roots_of rows) node ≡ is_passed_over (tree_nodes d) rows node
   passed-is rows node =
-      ap (λ b. elim (is_element node) as (λ _. Bool) [ true ↦ b && not (some_plan (led d (roots_of rows) (way_to (node.number ∷ node.above)))) | false ↦ false ]) (on-is rows (way_to node.above))
-      ∙ ap (λ b. elim (is_element node) as (λ _. Bool) [ true ↦ is_on_a_way (tree_nodes d) rows (way_to node.above) && not b | false ↦ false ]) (on-is rows (way_to (node.number ∷ node.above)))
+      ap (λ b. elim (is_element
+      node) as (λ _. Bool) [ true ↦ b && not (some_plan (led d (roots_of rows) (way_to (node.number ∷ node.above)))) | false ↦ false ])
+      (on-is rows (way_to node.above))
+      ∙ ap (λ b. elim (is_element node) as (λ _. Bool) [ true ↦ is_on_a_way (tree_nodes d) rows (way_to node.above) && not b | false ↦ false ])
+      (on-is rows (way_to (node.number ∷ node.above)))
 
 -- ---- ways
 
@@ -203,12 +213,14 @@ module _ (d : Document) where
     pub inside_span : IsSpan d lines (at + 1) (at + (1 + line.size)) within
     pub rest_span : IsSpan d lines (at + (1 + line.size)) to rest
 
-  pub line-at : (lines : List FoundLine) (at to : ℕ) (line : FoundLine) (plan : Plan) → IsSpan d lines at to plan → at < to → line ≡ get_or lines at line → LineAt lines at to line plan
+  pub line-at : (lines : List FoundLine) (at to : ℕ) (line : FoundLine) (plan : Plan) → IsSpan d lines at to plan → at < to → line ≡ get_or lines at line
+      → LineAt lines at to line plan
   line-at lines at to line nothing span below read = let e = span.ends in absurd (omega (arith, below))
   line-at lines at to line (a_line s cells inside rest) span below read =
       let here = line_of d s cells inside in
       let behind = (lined d inside ++ lined d rest) ++ span.back in
-      let is : line ≡ here = read ∙ (ap (λ ls. get_or ls at line) span.is ∙ (ap (λ n. get_or (span.front ++ (here ∷ behind)) n line) (sym span.begins) ∙ get_or-append_seam span.front here behind line)) in
+      let is : line ≡ here = read ∙ (ap (λ ls. get_or ls at line) span.is
+      ∙ (ap (λ n. get_or (span.front ++ (here ∷ behind)) n line) (sym span.begins) ∙ get_or-append_seam span.front here behind line)) in
       let size : line.size ≡ length (lined d inside) = ap (λ (l : FoundLine). l.size) is in
       let begins = span.begins in
       let ends = span.ends in
@@ -223,14 +235,16 @@ module _ (d : Document) where
         inside_span = record {
           front = span.front ++ here ∷ [];
           back = lined d rest ++ span.back;
-          is = span.is ∙ (ap (λ xs. span.front ++ (here ∷ xs)) (append_assoc (lined d inside) (lined d rest) span.back) ∙ sym (append_assoc span.front (here ∷ []) (lined d inside ++ (lined d rest ++ span.back))));
+          is = span.is ∙ (ap (λ xs. span.front ++ (here ∷ xs)) (append_assoc (lined d inside) (lined d rest) span.back)
+              ∙ sym (append_assoc span.front (here ∷ []) (lined d inside ++ (lined d rest ++ span.back))));
           begins = length-append span.front (here ∷ []) ∙ ap (λ n. n + 1) begins;
           ends = omega (arith, size);
         };
         rest_span = record {
           front = span.front ++ (here ∷ lined d inside);
           back = span.back;
-          is = span.is ∙ (ap (λ xs. span.front ++ (here ∷ xs)) (append_assoc (lined d inside) (lined d rest) span.back) ∙ sym (append_assoc span.front (here ∷ lined d inside) (lined d rest ++ span.back)));
+          is = span.is ∙ (ap (λ xs. span.front ++ (here ∷ xs)) (append_assoc (lined d inside) (lined d rest) span.back)
+              ∙ sym (append_assoc span.front (here ∷ lined d inside) (lined d rest ++ span.back)));
           begins = let n = length-append span.front (here ∷ lined d inside) in omega (arith, n, size, begins);
           ends = omega (arith, both, size, ends);
         };
@@ -244,7 +258,8 @@ module _ (d : Document) where
       let e = span.ends in
       (omega arith, omega (arith, a, b, c, e))
 
-  pub spans-push : (lines : List FoundLine) (spans : List Span) (plans : List Plan) (span : Span) (plan : Plan) → SpansOf d lines spans plans → IsSpan d lines span.from span.to plan → SpansOf d lines (spans ++ span ∷ []) (plans ++ plan ∷ [])
+  pub spans-push : (lines : List FoundLine) (spans : List Span) (plans : List Plan) (span : Span) (plan : Plan) → SpansOf d lines spans plans
+      → IsSpan d lines span.from span.to plan → SpansOf d lines (spans ++ span ∷ []) (plans ++ plan ∷ [])
   spans-push lines [] [] span plan h k = (k, tt)
   spans-push lines [] (p ∷ plans) span plan h k = absurd h
   spans-push lines (s ∷ spans) [] span plan h k = absurd h
@@ -254,12 +269,14 @@ module _ (d : Document) where
   pub record Adding (lines : List FoundLine) (from to m : ℕ) (old : List Span) (at : ℕ) (new : List Span) : Type 0 where
     pub some : IsSomeSpan d lines at to
     pub all : (plan : Plan) (plans : List Plan) → IsSpan d lines from to plan → SpansOf d lines old plans
-        → (rest : Plan) × (dones : List Plan) × IsSpan d lines at to rest × SpansOf d lines new dones × ((dones ++ inside_named d m rest) ≡ (plans ++ inside_named d m plan))
+        → (rest : Plan) × (dones : List Plan) × IsSpan d lines at to rest × SpansOf d lines new dones
+        × ((dones ++ inside_named d m rest) ≡ (plans ++ inside_named d m plan))
 
   pub adding_begin : (lines : List FoundLine) (from to m : ℕ) (old : List Span) → IsSomeSpan d lines from to → Adding lines from to m old from old
   adding_begin lines from to m old some = record { some = some; all = λ plan plans span of. (plan, plans, span, of, refl) }
 
-  pub adding_fits : (lines : List FoundLine) (at to : ℕ) (line : FoundLine) → IsSomeSpan d lines at to → at < to → line ≡ get_or lines at line → (at + (1 + line.size) ≤ to) × (to ≤ length lines)
+  pub adding_fits : (lines : List FoundLine) (at to : ℕ) (line : FoundLine) → IsSomeSpan d lines at to → at < to → line ≡ get_or lines at line
+      → (at + (1 + line.size) ≤ to) × (to ≤ length lines)
   adding_fits lines at to line some below read =
       let l = line-at lines at to line some.plan some.span below read in
       ((span-bounds lines (at + (1 + line.size)) to l.rest l.rest_span).0, (span-bounds lines at to some.plan some.span).1)
@@ -284,9 +301,11 @@ module _ (d : Document) where
             (k.rest, w.1, k.rest_span, w.3, ap (λ xs. w.1 ++ xs) (sym e) ∙ w.4);
       }
 
-  pub adding_hit : (lines : List FoundLine) (from to m : ℕ) (old : List Span) (at : ℕ) (new : List Span) (line : FoundLine) (named : Bool) (span : Span) (after : List Span)
+  pub adding_hit : (lines : List FoundLine) (from to m : ℕ) (old : List Span) (at : ℕ) (new : List Span) (line : FoundLine) (named : Bool) (span : Span)
+      (after : List Span)
       → ((s : Step) (cells : List Cell) (inside : Plan) → line ≡ line_of d s cells inside → has_element_name s.name (tree_node (tree_nodes d) m) ≡ named)
-      → Adding lines from to m old at new → at < to → line ≡ get_or lines at line → named ≡ true → span ≡ record { from = at + 1; to = at + (1 + line.size) } → after ≡ new ++ span ∷ []
+      → Adding lines from to m old at new → at < to → line ≡ get_or lines at line → named ≡ true → span ≡ record { from = at + 1; to = at + (1 + line.size) }
+      → after ≡ new ++ span ∷ []
       → Adding lines from to m old (at + (1 + line.size)) after
   adding_hit lines from to m old at new line named span after says a below read hit span_is after_is =
       let l = line-at lines at to line a.some.plan a.some.span below read in
@@ -297,7 +316,8 @@ module _ (d : Document) where
             let k = line-at lines at to line w.0 w.2 below read in
             let named_is : has_element_name k.step.name (tree_node (tree_nodes d) m) ≡ true = says k.step k.cells k.within k.line_is ∙ hit in
             let e : inside_named d m w.0 ≡ k.within ∷ inside_named d m k.rest =
-            ap (inside_named d m) k.plan_is ∙ ap (λ b. (elim b as (λ _. List Plan) [ true ↦ k.within ∷ [] | false ↦ [] ]) ++ inside_named d m k.rest) named_is in
+            ap (inside_named d m) k.plan_is ∙ ap (λ b. (elim b as (λ _. List Plan) [ true ↦ k.within ∷ [] | false ↦ [] ]) ++ inside_named d m k.rest)
+            named_is in
             let here : IsSpan d lines span.from span.to k.within = subst (λ (s : Span). IsSpan d lines s.from s.to k.within) (sym span_is) k.inside_span in (
               k.rest,
               w.1 ++ k.within ∷ [],
@@ -307,12 +327,15 @@ module _ (d : Document) where
             );
       }
 
-  pub named-says : (line : FoundLine) (m name : ℕ) (named : Bool) → LeadsThrough d → m < length d.nodes → (node_at d.nodes m).name ≡ Some name → named ≡ is_same_number line.name name
+  pub named-says : (line : FoundLine) (m name : ℕ) (named : Bool) → LeadsThrough d → m < length d.nodes → (node_at d.nodes m).name ≡ Some name
+      → named ≡ is_same_number line.name name
       → (s : Step) (cells : List Cell) (inside : Plan) → line ≡ line_of d s cells inside → has_element_name s.name (tree_node (tree_nodes d) m) ≡ named
   named-says line m name named through within name_is is s cells inside line_is =
-      sym (is ∙ (sym (number-says d line.name name m name_is) ∙ (ap (λ (l : FoundLine). has_found l.name (node_at d.nodes m)) line_is ∙ through.named s.name m within)))
+      sym (is ∙ (sym (number-says d line.name name m name_is)
+      ∙ (ap (λ (l : FoundLine). has_found l.name (node_at d.nodes m)) line_is ∙ through.named s.name m within)))
 
-  pub adding_end : (lines : List FoundLine) (from to m : ℕ) (old : List Span) (at : ℕ) (new : List Span) → Adding lines from to m old at new → to ≤ at → AddsNamed d lines from to m old new
+  pub adding_end : (lines : List FoundLine) (from to m : ℕ) (old : List Span) (at : ℕ) (new : List Span) → Adding lines from to m old at new → to ≤ at
+      → AddsNamed d lines from to m old new
   adding_end lines from to m old at new a past plan plans span of =
       let w = a.all plan plans span of in
       let none : inside_named d m w.0 ≡ [] = empty w.0 w.2 in
@@ -342,7 +365,8 @@ module _ (d : Document) where
     pub some : AreSpans d lines new
     pub longer : length old ≤ length new
     pub all : (plans : List Plan) → SpansOf d lines old plans
-        → (dones : List Plan) × SpansOf d lines new (plans ++ dones) × ((dones ++ insides d m (drop at (take around.to plans))) ≡ insides d m (part plans around))
+        → (dones : List Plan) × SpansOf d lines new (plans ++ dones)
+        × ((dones ++ insides d m (drop at (take around.to plans))) ≡ insides d m (part plans around))
 
   pub naming_begin : (lines : List FoundLine) (around : Span) (m : ℕ) (old : List Span) → AreSpans d lines old → Naming lines around m old around.from old
   naming_begin lines around m old some = record {
@@ -362,7 +386,8 @@ module _ (d : Document) where
           (span-at lines new n.some.plans at no_part n.some.are (naming_fits below within));
     }
 
-    pub naming_more : (span : Span) (after : List Span) → at < around.to → around.to ≤ length old → span ≡ get_or new at no_part → AddsNamed d lines span.from span.to m new after
+    pub naming_more : (span : Span) (after : List Span) → at < around.to → around.to ≤ length old → span ≡ get_or new at no_part
+        → AddsNamed d lines span.from span.to m new after
         → Naming lines around m old (at + 1) after
     naming_more span after below within read adds =
         let fits : at < length new = naming_fits below within in
@@ -384,10 +409,12 @@ module _ (d : Document) where
               let spanned : IsSpan d lines span.from span.to plan = subst (IsSpan d lines span.from span.to) here (placed (plans ++ w.0) w.1) in
               let taken : length (take around.to plans) ≡ around.to = length-take-le around.to plans (omega (arith, within, long)) in
               let next : drop at (take around.to plans) ≡ plan ∷ drop (at + 1) (take around.to plans) =
-              drop_more (take around.to plans) at nothing (omega (arith, below, taken)) ∙ ap (λ p. p ∷ drop (at + 1) (take around.to plans)) (get_or-take around.to plans at nothing below) in (
+              drop_more (take around.to plans) at nothing (omega (arith, below, taken))
+              ∙ ap (λ p. p ∷ drop (at + 1) (take around.to plans)) (get_or-take around.to plans at nothing below) in (
                 w.0 ++ inside_named d m plan,
                 subst (SpansOf d lines after) (append_assoc plans w.0 (inside_named d m plan)) (adds plan (plans ++ w.0) spanned w.1),
-                append_assoc w.0 (inside_named d m plan) (insides d m (drop (at + 1) (take around.to plans))) ∙ (ap (λ ps. w.0 ++ insides d m ps) (sym next) ∙ w.2),
+                append_assoc w.0 (inside_named d m plan) (insides d m (drop (at + 1) (take around.to plans)))
+                    ∙ (ap (λ ps. w.0 ++ insides d m ps) (sym next) ∙ w.2),
               );
         }
 
@@ -403,14 +430,17 @@ module _ (d : Document) where
   nameless : LeadsThrough d → (m : ℕ) → m < length d.nodes → (node_at d.nodes m).name ≡ None → (plan : Plan) → inside_named d m plan ≡ []
   nameless through m within none nothing = refl
   nameless through m within none (a_line s cells inside rest) =
-      ap (λ b. (elim b as (λ _. List Plan) [ true ↦ inside ∷ [] | false ↦ [] ]) ++ inside_named d m rest) (sym (through.named s.name m within) ∙ none-found d (found_element d s.name) m none)
+      ap (λ b. (elim b as (λ _. List Plan) [ true ↦ inside ∷ [] | false ↦ [] ]) ++ inside_named d m rest)
+      (sym (through.named s.name m within) ∙ none-found d (found_element d s.name) m none)
       ∙ nameless through m within none rest
 
   all-nameless : LeadsThrough d → (m : ℕ) → m < length d.nodes → (node_at d.nodes m).name ≡ None → (plans : List Plan) → insides d m plans ≡ []
   all-nameless through m within none [] = refl
-  all-nameless through m within none (plan ∷ plans) = ap (λ xs. xs ++ insides d m plans) (nameless through m within none plan) ∙ all-nameless through m within none plans
+  all-nameless through m within none (plan ∷ plans) = ap (λ xs. xs ++ insides d m plans) (nameless through m within none plan)
+      ∙ all-nameless through m within none plans
 
-  pub leads_nowhere : LeadsThrough d → (lines : List FoundLine) (around : Span) (m : ℕ) (spans : List Span) → m < length d.nodes → None ≡ (node_at d.nodes m).name → LeadsInside d lines around m spans spans
+  pub leads_nowhere : LeadsThrough d → (lines : List FoundLine) (around : Span) (m : ℕ) (spans : List Span) → m < length d.nodes
+      → None ≡ (node_at d.nodes m).name → LeadsInside d lines around m spans spans
   leads_nowhere through lines around m spans within none plans of =
       subst (SpansOf d lines spans) (sym (append-nil plans) ∙ ap (λ xs. plans ++ xs) (sym (all-nameless through m within (sym none) (part plans around)))) of
 
@@ -443,27 +473,23 @@ some-part plans p own s =
 
 -- ---- the nodes so far
 
-kind-is : (kind : Kind) → (elim kind as (λ _. Bool) [ kinds.Document ↦ false | kinds.Element ↦ true | kinds.Attribute ↦ false | kinds.Text ↦ false ]) ≡ is_element_kind kind
-kind-is kinds.Document = refl
-kind-is kinds.Element = refl
-kind-is kinds.Attribute = refl
-kind-is kinds.Text = refl
-
 pub kinds-are : (d : Document) (n : ℕ) → n < length d.nodes → is_element (tree_node (tree_nodes d) n) ≡ is_element_kind (node_at d.nodes n).kind
-kinds-are d n within = ap is_element (get_or-map (node_of d.names) d.nodes n document_node _ within) ∙ kind-is (node_at d.nodes n).kind
+kinds-are d n within = ap is_element (get_or-map (node_of d.names) d.nodes n document_node _ within)
 
 module _ (d : Document) (lines : List FoundLine) where
   not-not : (b : Bool) → not (not b) ≡ b
   not-not true = refl
   not-not false = refl
 
-  pub around-part : (roots : List Plan) (spans parts : List Span) (m k p : ℕ) (around : Span) (r : Reaches d lines roots spans parts m) → p < m → k ≡ p → around ≡ get_or parts k no_part
+  pub around-part : (roots : List Plan) (spans parts : List Span) (m k p : ℕ) (around : Span) (r : Reaches d lines roots spans parts m) → p < m → k ≡ p
+      → around ≡ get_or parts k no_part
       → IsPart r.plans around (state d roots p)
   around-part roots spans parts m k p around r below place read =
       let is : around ≡ get_or parts p no_part = read ∙ ap (λ j. get_or parts j no_part) place in
       subst (λ a. IsPart r.plans a (state d roots p)) (sym is) (r.each p below)
 
-  pub around_fits : (spans parts : List Span) (m k p : ℕ) (around : Span) → AreReached d lines spans parts m → p < m → k ≡ p → around ≡ get_or parts k no_part → around.to ≤ length spans
+  pub around_fits : (spans parts : List Span) (m k p : ℕ) (around : Span) → AreReached d lines spans parts m → p < m → k ≡ p → around ≡ get_or parts k no_part
+      → around.to ≤ length spans
   around_fits spans parts m k p around a below place read =
       let own = around-part a.roots spans parts m k p around a.reaches below place read in
       let long = spans-long d lines spans a.reaches.plans a.reaches.are in
@@ -472,11 +498,13 @@ module _ (d : Document) (lines : List FoundLine) where
   pub are_spans : (spans parts : List Span) (m : ℕ) → AreReached d lines spans parts m → AreSpans d lines spans
   are_spans spans parts m a = record { plans = a.reaches.plans; are = a.reaches.are }
 
-  pub reached_more : LeadsThrough d → (roots : List Plan) (spans parts : List Span) (m p k : ℕ) (around inside : Span) (more_spans more_parts : List Span) (passed : Bool)
+  pub reached_more : LeadsThrough d → (roots : List Plan) (spans parts : List Span) (m p k : ℕ) (around inside : Span) (more_spans more_parts : List Span)
+      (passed : Bool)
       → m < length d.nodes → Reaches d lines roots spans parts m → parent (tree_nodes d) m ≡ Some p → p < m → k ≡ p → around ≡ get_or parts k no_part
       → inside.from ≡ length spans → inside.to ≡ length more_spans → LeadsInside d lines around m spans more_spans → more_parts ≡ parts ++ inside ∷ []
       → passed ≡ (is_element_kind (node_at d.nodes m).kind && is_left around inside) → IsReached d lines roots more_spans more_parts m passed
-  reached_more through roots spans parts m p k around inside more_spans more_parts passed within r parent_is below place read from_is to_is leads more_is passed_is =
+  reached_more through roots spans parts m p k around inside more_spans more_parts passed within r parent_is below place read from_is to_is leads more_is
+      passed_is =
       let above = through.inside_one m p within parent_is in
       let own = around-part roots spans parts m k p around r below place read in
       let next : state d roots m ≡ insides d m (state d roots p) = state-more d roots m p above in
@@ -490,7 +518,8 @@ module _ (d : Document) (lines : List FoundLine) where
       let on_around : some_of around ≡ some_plan (led d roots (way_to node.above)) =
       some-part r.plans around (state d roots p) own ∙ ap (λ a. some_plan (led d roots (way_to a))) (sym above) in
       let on_here : some_of inside ≡ some_plan (led d roots (way_to (node.number ∷ node.above))) =
-      some-part (r.plans ++ more) inside (state d roots m) here ∙ ap (λ n. some_plan (led d roots (way_to (n ∷ node.above)))) (sym (through.numbers m within)) in
+      some-part (r.plans ++ more) inside (state d roots m) here
+      ∙ ap (λ n. some_plan (led d roots (way_to (n ∷ node.above)))) (sym (through.numbers m within)) in
       record {
         reaches = record {
           plans = r.plans ++ more;
@@ -502,7 +531,8 @@ module _ (d : Document) (lines : List FoundLine) where
               (part-more r.plans more (get_or parts j no_part) (state d roots j) (r.each j before)))
               (λ (behind : m ≤ j). let e : m ≡ j = omega (arith, behind, h) in
               subst (λ i. IsPart (r.plans ++ more) (get_or more_parts i no_part) (state d roots i)) e
-              (subst (λ q. IsPart (r.plans ++ more) q (state d roots m)) (sym (ap (λ ps. get_or ps m no_part) more_is ∙ get_or_at parts inside [] no_part m r.long)) here))
+              (subst (λ q. IsPart (r.plans ++ more) q (state d roots m))
+              (sym (ap (λ ps. get_or ps m no_part) more_is ∙ get_or_at parts inside [] no_part m r.long)) here))
               (cases_lt j m);
         };
         is = passed_is
@@ -512,22 +542,32 @@ module _ (d : Document) (lines : List FoundLine) where
             ∙ and-elim (is_element node) (some_plan (led d roots (way_to node.above)) && not (some_plan (led d roots (way_to (node.number ∷ node.above))))))));
       }
 
-  one-reached : (roots : List Plan) (spans parts : List Span) (p : Span) → SpansOf d lines spans roots → IsPart roots p (state d roots 0) → parts ≡ p ∷ [] → Reaches d lines roots spans parts 1
+  one-reached : (roots : List Plan) (spans parts : List Span) (p : Span) → SpansOf d lines spans roots → IsPart roots p (state d roots 0) → parts ≡ p ∷ []
+      → Reaches d lines roots spans parts 1
   one-reached roots spans parts p are own is = record {
     plans = roots;
     are = are;
     long = ap length is;
-    each = λ k h. (let z : 0 ≡ k = omega (arith, h) in subst (λ j. IsPart roots (get_or parts j no_part) (state d roots j)) z (subst (λ ps. IsPart roots (get_or ps 0 no_part) (state d roots 0)) (sym is) own));
+    each = λ k h. (let z : 0 ≡ k = omega (arith, h) in
+        subst (λ j. IsPart roots (get_or parts j no_part) (state d roots j)) z
+        (subst (λ ps. IsPart roots (get_or ps 0 no_part) (state d roots 0)) (sym is) own));
   }
 
-  pub reaches-begin : LeadsThrough d → (rows : List Row) (spans parts : List Span) → lines ≡ lined d (plan_of rows) → Begins rows lines spans parts → Reaches d lines (roots_of rows) spans parts 1
+  pub reaches-begin : LeadsThrough d → (rows : List Row) (spans parts : List Span) → lines ≡ lined d (plan_of rows) → Begins rows lines spans parts
+      → Reaches d lines (roots_of rows) spans parts 1
   reaches-begin through [] spans parts is begins =
       one-reached [] spans parts no_part (subst (λ ss. SpansOf d lines ss []) (sym begins.0) tt)
       (record { ordered = omega arith; within = omega arith; is = sym (state-begin d [] through.outermost) }) begins.1
   reaches-begin through (row ∷ rows) spans parts is begins =
       let roots : List Plan = plan_of (row ∷ rows) ∷ [] in
       let whole : IsSpan d lines 0 (length lines) (plan_of (row ∷ rows)) =
-      record { front = []; back = []; is = is ∙ sym (append-nil (lined d (plan_of (row ∷ rows)))); begins = refl; ends = (let e = ap length is in omega arith) } in
+      record {
+        front = [];
+        back = [];
+        is = is ∙ sym (append-nil (lined d (plan_of (row ∷ rows))));
+        begins = refl;
+        ends = (let e = ap length is in omega arith);
+      } in
       one-reached roots spans parts (record { from = 0; to = 1 }) (subst (λ ss. SpansOf d lines ss roots) (sym begins.0) (whole, tt))
       (record { ordered = omega arith; within = omega arith; is = sym (state-begin d roots through.outermost) }) begins.1
 
@@ -552,7 +592,8 @@ module _ (d : Document) (lines : List FoundLine) where
       let node = tree_node (tree_nodes d) n in
       ap (λ xs. map number (filter test xs)) (take_more (tree_nodes d) n dark (omega (arith, within, long)))
       ∙ (ap (map number) (filter-append test (take n (tree_nodes d)) (node ∷ []))
-      ∙ (map-append number (filter test (take n (tree_nodes d))) (filter test (node ∷ [])) ∙ ap (λ xs. map number (filter test (take n (tree_nodes d))) ++ xs) (at (test node))))
+      ∙ (map-append number (filter test (take n (tree_nodes d))) (filter test (node ∷ []))
+      ∙ ap (λ xs. map number (filter test (take n (tree_nodes d))) ++ xs) (at (test node))))
     where
       at : (b : Bool) → map number (cond b (tree_node (tree_nodes d) n ∷ []) []) ≡ one_if b (tree_node (tree_nodes d) n).number
       at true = refl
@@ -562,12 +603,17 @@ module _ (d : Document) (lines : List FoundLine) where
   one-inside true m within = All-cons (λ k. k < length d.nodes) m [] within (All-nil (λ k. k < length d.nodes))
   one-inside false m within = All-nil (λ k. k < length d.nodes)
 
-  pub noting_begin : LeadsThrough d → (rows : List Row) (spans parts : List Span) (n : ℕ) (passed : List ℕ) → lines ≡ lined d (plan_of rows) → Begins rows lines spans parts
+  pub noting_begin : LeadsThrough d → (rows : List Row) (spans parts : List Span) (n : ℕ) (passed : List ℕ) → lines ≡ lined d (plan_of rows)
+      → Begins rows lines spans parts
       → n ≡ 0 → passed ≡ [] → Noting rows spans parts n passed
   noting_begin through rows spans parts n passed is begins zero_is none =
       let some : 0 < length d.nodes = let r = through.rooted in omega (arith, r) in
       let first : is_passed d (roots_of rows) (tree_node (tree_nodes d) 0) ≡ false =
-      ap (λ b. elim b as (λ _. Bool) [ true ↦ some_plan (led d (roots_of rows) (way_to (tree_node (tree_nodes d) 0).above)) && not (some_plan (led d (roots_of rows) (way_to ((tree_node (tree_nodes d) 0).number ∷ (tree_node (tree_nodes d) 0).above)))) | false ↦ false ]) through.no_element in
+      ap (λ b. elim b as (λ _. Bool) [
+        | true ↦ some_plan (led d (roots_of rows) (way_to (tree_node (tree_nodes d) 0).above))
+            && not (some_plan (led d (roots_of rows) (way_to ((tree_node (tree_nodes d) 0).number ∷ (tree_node (tree_nodes d) 0).above))))
+        | false ↦ false
+      ]) through.no_element in
       let at_zero : Noting rows spans parts 0 [] = record {
         within = some;
         reaches = reaches-begin through rows spans parts is begins;
@@ -576,9 +622,11 @@ module _ (d : Document) (lines : List FoundLine) where
       } in
       subst (λ ps. Noting rows spans parts n ps) (sym none) (subst (λ k. Noting rows spans parts k []) (sym zero_is) at_zero)
 
-  pub noting_more : LeadsThrough d → (rows : List Row) (spans parts : List Span) (n : ℕ) (passed : List ℕ) (m : ℕ) (more_spans more_parts : List Span) (is_passed_now : Bool) (more : List ℕ)
+  pub noting_more : LeadsThrough d → (rows : List Row) (spans parts : List Span) (n : ℕ) (passed : List ℕ) (m : ℕ) (more_spans more_parts : List Span)
+      (is_passed_now : Bool) (more : List ℕ)
       → Noting rows spans parts n passed → n + 1 < length d.nodes → m ≡ n + 1
-      → IsReached d lines (roots_of rows) more_spans more_parts m is_passed_now → more ≡ passed ++ one_if is_passed_now m → Noting rows more_spans more_parts m more
+      → IsReached d lines (roots_of rows) more_spans more_parts m is_passed_now → more ≡ passed ++ one_if is_passed_now m
+      → Noting rows more_spans more_parts m more
   noting_more through rows spans parts n passed m more_spans more_parts is_passed_now more c within m_is v more_is =
       let here : m < length d.nodes = omega (arith, within, m_is) in
       record {
@@ -593,7 +641,8 @@ module _ (d : Document) (lines : List FoundLine) where
             (All-append (λ k. k < length d.nodes) passed (one_if is_passed_now m) c.inside (one-inside is_passed_now m here));
       }
 
-  pub noting_end : LeadsThrough d → (rows : List Row) (spans parts : List Span) (n : ℕ) (passed : List ℕ) → Noting rows spans parts n passed → (n + 1 < length d.nodes → ⊥)
+  pub noting_end : LeadsThrough d → (rows : List Row) (spans parts : List Span) (n : ℕ) (passed : List ℕ) → Noting rows spans parts n passed
+      → (n + 1 < length d.nodes → ⊥)
       → passed ≡ passed_nodes (tree_nodes d) rows
   unfolding passed_nodes
   noting_end through rows spans parts n passed c end =

@@ -62,13 +62,17 @@ abbrev of_group : List Carried → List Step → List ℕ → Option Group → O
 of_group around path way None = None
 of_group around path way (Some group) = or_else (carried group around) (carrier group path way)
 
-carried-push : (group : Group) (around : List Carried) (c : Carried) → carried group (around ++ c ∷ []) ≡ or_else (carried group around) (elim (same_or_none (Some c.group) (Some group)) [ true ↦ Some c.element | false ↦ None ])
+carried-push : (group : Group) (around : List Carried) (c : Carried)
+    → carried group (around ++ c ∷ []) ≡ or_else (carried group around)
+    (elim (same_or_none (Some c.group) (Some group)) [ true ↦ Some c.element | false ↦ None ])
 carried-push group [] c = refl
 carried-push group (a ∷ around) c = at (same_or_none (Some a.group) (Some group)) (carried-push group around c)
   where
-    at : (b : Bool) → carried group (around ++ c ∷ []) ≡ or_else (carried group around) (elim (same_or_none (Some c.group) (Some group)) [ true ↦ Some c.element | false ↦ None ])
+    at : (b : Bool) → carried group (around ++ c ∷ [])
+        ≡ or_else (carried group around) (elim (same_or_none (Some c.group) (Some group)) [ true ↦ Some c.element | false ↦ None ])
         → (elim b as (λ _. Option ℕ) [ true ↦ Some a.element | false ↦ carried group (around ++ c ∷ []) ])
-        ≡ or_else (elim b as (λ _. Option ℕ) [ true ↦ Some a.element | false ↦ carried group around ]) (elim (same_or_none (Some c.group) (Some group)) [ true ↦ Some c.element | false ↦ None ])
+        ≡ or_else (elim b as (λ _. Option ℕ) [ true ↦ Some a.element | false ↦ carried group around ])
+        (elim (same_or_none (Some c.group) (Some group)) [ true ↦ Some c.element | false ↦ None ])
     at true e = refl
     at false e = e
 
@@ -85,7 +89,8 @@ module _ (d : Document) where
       ap (λ o. or_else o (carrier group path way)) (carried-push group around (record { group = g; element = m }))
       ∙ (or-assoc (carried group around) here (carrier group path way) ∙ ap (or_else (carried group around)) (at (same_or_none (Some g) (Some group))))
     where
-      at : (b : Bool) → or_else (elim b as (λ _. Option ℕ) [ true ↦ Some m | false ↦ None ]) (carrier group path way) ≡ (elim b as (λ _. Option ℕ) [ true ↦ Some m | false ↦ carrier group path way ])
+      at : (b : Bool) → or_else (elim b as (λ _. Option ℕ) [ true ↦ Some m | false ↦ None ]) (carrier group path way)
+          ≡ (elim b as (λ _. Option ℕ) [ true ↦ Some m | false ↦ carrier group path way ])
       at true = refl
       at false = refl
 
@@ -127,8 +132,10 @@ module _ (d : Document) where
       ∙ ap (λ i. told_by k row (of_group around (s ∷ path) (m ∷ way) row.outer) i n w) (group-step s path way m around row.inner)
 
   path-is : (cell : Cell) (path : List Step) (around : List Carried) (x : ℕ)
-      → picked (sight d) cell path around x ≡ flat_map (λ way. told_way around path way (cell.number + 1) cell.row (last_of (x ∷ way)) (wanted cell.row)) (ways (tree_nodes d) path x)
-  path-is cell [] around x = told-is around (cell.number + 1) cell.row x (wanted cell.row) ∙ sym (append-nil (told_way around [] [] (cell.number + 1) cell.row x (wanted cell.row)))
+      → picked (sight d) cell path around x ≡ flat_map (λ way. told_way around path way (cell.number + 1) cell.row (last_of (x ∷ way)) (wanted cell.row))
+      (ways (tree_nodes d) path x)
+  path-is cell [] around x = told-is around (cell.number + 1) cell.row x (wanted cell.row)
+      ∙ sym (append-nil (told_way around [] [] (cell.number + 1) cell.row x (wanted cell.row)))
   path-is cell (s ∷ path) around x =
       let k = cell.number + 1 in
       let row = cell.row in
@@ -139,7 +146,8 @@ module _ (d : Document) where
       let whole : List ℕ → List Find = λ way. told_way around (s ∷ path) way k row (last_of (x ∷ way)) w in
       flat-agree below along (λ m. path-is cell path (entered enter s.group m around) m) (met nodes s x)
       ∙ (flat-agree along (λ m. flat_map whole (map (λ way. m ∷ way) (ways nodes path m)))
-      (λ m. flat-agree (λ way. told_way (entered enter s.group m around) path way k row (last_of (m ∷ way)) w) (λ way. whole (m ∷ way)) (λ way. told-step s path around k row m w way (last_of (m ∷ way))) (ways nodes path m)
+      (λ m. flat-agree (λ way. told_way (entered enter s.group m around) path way k row (last_of (m ∷ way)) w) (λ way. whole (m ∷ way))
+      (λ way. told-step s path around k row m w way (last_of (m ∷ way))) (ways nodes path m)
       ∙ sym (flat-map whole (λ way. m ∷ way) (ways nodes path m))) (met nodes s x)
       ∙ sym (flat-flat whole (λ m. map (λ way. m ∷ way) (ways nodes path m)) (met nodes s x)))
 
@@ -161,7 +169,8 @@ module _ (d : Document) where
       ≡ map kept (map (λ n. record { place = k; row = row; elements = way; node = n }) ns)
   kept-is k row way ns w =
       ap (λ o. map (λ n. (find_with k w o (of_group [] row.path way row.inner) n).picked) ns) (group-whole row.path way row.outer)
-      ∙ (ap (λ i. map (λ n. (find_with k w (option_and_then (λ group. carrier group row.path way) row.outer) i n).picked) ns) (group-whole row.path way row.inner)
+      ∙ (ap (λ i. map (λ n. (find_with k w (option_and_then (λ group. carrier group row.path way) row.outer) i n).picked) ns)
+      (group-whole row.path way row.inner)
       ∙ sym (map-map kept (λ n. record { place = k; row = row; elements = way; node = n }) ns))
 
   picked-when : (w v : Wanted) (k : ℕ) (outer inner : Option ℕ) (ns : List ℕ)
@@ -174,7 +183,8 @@ module _ (d : Document) where
   picked-when w v k outer inner (n ∷ ns) = at (same_wanted v w) (picked-when w v k outer inner ns)
     where
       at : (b : Bool) → flat_map (picked_for w) (map (find_with k v outer inner) ns) ≡ when b (map (λ n. (find_with k v outer inner n).picked) ns)
-          → (when b ((find_with k v outer inner n).picked ∷ []) ++ flat_map (picked_for w) (map (find_with k v outer inner) ns)) ≡ when b (map (λ n. (find_with k v outer inner n).picked) (n ∷ ns))
+          → (when b ((find_with k v outer inner n).picked ∷ []) ++ flat_map (picked_for w) (map (find_with k v outer inner) ns))
+          ≡ when b (map (λ n. (find_with k v outer inner n).picked) (n ∷ ns))
       at true e = ap (λ xs. (find_with k v outer inner n).picked ∷ xs) e
       at false e = e
 
@@ -193,29 +203,38 @@ module _ (d : Document) where
   when-flat false f (x ∷ xs) = when-flat false f xs
 
   row-picks : (w : Wanted) (n : ℕ) (row : Row)
-      → flat_map (picked_for w) (picked (sight d) (record { number = n; row = row }) row.path [] 0) ≡ when (is_for w (wanted row)) (map kept (nodes_picked (tree_nodes d) (n + 1) row))
+      → flat_map (picked_for w) (picked (sight d) (record { number = n; row = row }) row.path [] 0)
+      ≡ when (is_for w (wanted row)) (map kept (nodes_picked (tree_nodes d) (n + 1) row))
   row-picks w n row =
       let nodes = tree_nodes d in
       let all = ways nodes row.path 0 in
       let one : List ℕ → List Find = λ way. told_way [] row.path way (n + 1) row (last_of (0 ∷ way)) (wanted row) in
       ap (flat_map (picked_for w)) (path-is (record { number = n; row = row }) row.path [] 0)
       ∙ (flat-flat (picked_for w) one all
-      ∙ (flat-agree (λ way. flat_map (picked_for w) (one way)) (λ way. when (is_for w (wanted row)) (map kept (picks_of_way nodes (n + 1) row way))) (λ way. way-is w (n + 1) row way (wanted row)) all
+      ∙ (flat-agree (λ way. flat_map (picked_for w) (one way)) (λ way. when (is_for w (wanted row)) (map kept (picks_of_way nodes (n + 1) row way)))
+      (λ way. way-is w (n + 1) row way (wanted row)) all
       ∙ (when-flat (is_for w (wanted row)) (λ way. map kept (picks_of_way nodes (n + 1) row way)) all
       ∙ ap (when (is_for w (wanted row))) (sym (map-flat kept (picks_of_way nodes (n + 1) row) all)))))
 
   pub rows-pick : (w : Wanted) (test : Row → Bool) → ((row : Row) → test row ≡ is_for w (wanted row)) → (n : ℕ) (rows : List Row)
-      → flat_map (picked_for w) (picked_from (sight d) n rows [] 0) ≡ map kept (all_picked (tree_nodes d) (filter (λ (r : Numbered). test r.row) (numbered (n + 1) rows)))
+      → flat_map (picked_for w) (picked_from (sight d) n rows [] 0)
+      ≡ map kept (all_picked (tree_nodes d) (filter (λ (r : Numbered). test r.row) (numbered (n + 1) rows)))
   rows-pick w test agree n [] = refl
   rows-pick w test agree n (row ∷ rows) =
       let own = picked (sight d) (record { number = n; row = row }) row.path [] 0 in
       let others = picked_from (sight d) (n + 1) rows [] 0 in
       flat_map-append (picked_for w) own others
-      ∙ (ap (λ xs. xs ++ flat_map (picked_for w) others) (row-picks w n row ∙ ap (λ b. when b (map kept (nodes_picked (tree_nodes d) (n + 1) row))) (sym (agree row)))
+      ∙ (ap (λ xs. xs ++ flat_map (picked_for w) others)
+      (row-picks w n row ∙ ap (λ b. when b (map kept (nodes_picked (tree_nodes d) (n + 1) row))) (sym (agree row)))
       ∙ at (test row) (rows-pick w test agree (n + 1) rows))
     where
-      at : (b : Bool) → flat_map (picked_for w) (picked_from (sight d) (n + 1) rows [] 0) ≡ map kept (all_picked (tree_nodes d) (filter (λ (r : Numbered). test r.row) (numbered (n + 1 + 1) rows)))
+      at : (b : Bool) → flat_map (picked_for w) (picked_from (sight d) (n + 1) rows [] 0)
+          ≡ map kept (all_picked (tree_nodes d) (filter (λ (r : Numbered). test r.row) (numbered (n + 1 + 1) rows)))
           → (when b (map kept (nodes_picked (tree_nodes d) (n + 1) row)) ++ flat_map (picked_for w) (picked_from (sight d) (n + 1) rows [] 0))
-          ≡ map kept (all_picked (tree_nodes d) (cond b (record { place = n + 1; row = row } ∷ filter (λ (r : Numbered). test r.row) (numbered (n + 1 + 1) rows)) (filter (λ (r : Numbered). test r.row) (numbered (n + 1 + 1) rows))))
-      at true e = ap (λ xs. map kept (nodes_picked (tree_nodes d) (n + 1) row) ++ xs) e ∙ sym (map-append kept (nodes_picked (tree_nodes d) (n + 1) row) (all_picked (tree_nodes d) (filter (λ (r : Numbered). test r.row) (numbered (n + 1 + 1) rows))))
+          ≡ map kept (all_picked (tree_nodes d) (cond b
+          (record { place = n + 1; row = row } ∷ filter (λ (r : Numbered). test r.row) (numbered (n + 1 + 1) rows))
+          (filter (λ (r : Numbered). test r.row) (numbered (n + 1 + 1) rows))))
+      at true e = ap (λ xs. map kept (nodes_picked (tree_nodes d) (n + 1) row) ++ xs) e
+          ∙ sym (map-append kept (nodes_picked (tree_nodes d) (n + 1) row)
+          (all_picked (tree_nodes d) (filter (λ (r : Numbered). test r.row) (numbered (n + 1 + 1) rows))))
       at false e = e

@@ -37,7 +37,8 @@ module _ {X : Type 0} where
   every-filter P test [] h = tt
   every-filter P test (x ∷ xs) h = at (test x) refl (every-filter P test xs h.1)
     where
-      at : (b : Bool) → test x ≡ b → Every (λ x. P x × (test x ≡ true)) (filter test xs) → Every (λ x. P x × (test x ≡ true)) (cond b (x ∷ filter test xs) (filter test xs))
+      at : (b : Bool) → test x ≡ b → Every (λ x. P x × (test x ≡ true)) (filter test xs)
+          → Every (λ x. P x × (test x ≡ true)) (cond b (x ∷ filter test xs) (filter test xs))
       at true e k = ((h.0, e), k)
       at false e k = k
 
@@ -80,7 +81,8 @@ module _ {X Y : Type 0} where
   up-map L f (x ∷ xs) h = (every-map (L (f x)) f xs h.0, up-map L f xs h.1)
 
   -- of lists one behind another
-  pub up-flat_map : (L : Y → Y → Type 0) (M : X → X → Type 0) (f : X → List Y) → ((x : X) → Up L (f x)) → ((x y : X) → M x y → Every (λ a. Every (L a) (f y)) (f x))
+  pub up-flat_map : (L : Y → Y → Type 0) (M : X → X → Type 0) (f : X → List Y) → ((x : X) → Up L (f x))
+      → ((x y : X) → M x y → Every (λ a. Every (L a) (f y)) (f x))
       → (xs : List X) → Up M xs → Up L (flat_map f xs)
   up-flat_map L M f one two [] h = tt
   up-flat_map L M f one two (x ∷ xs) h = up-append L (f x) (flat_map f xs) (one x) (up-flat_map L M f one two xs h.1) (across xs h.0)
@@ -123,7 +125,11 @@ module _ {X : Type 0} (R : X → X → Ordering) (total : IsTotalOrder R) (exact
 
   up-far : (xs : List X) → ((i j : ℕ) (d : X) → i ≤ j → j < length xs → below (get_or xs j d) (get_or xs i d) ≡ false) → Up NotAbove xs
   up-far [] h = tt
-  up-far (x ∷ xs) h = (every-at (NotAbove x) xs x (λ j l. h 0 (suc j) x (omega arith) (omega (arith, l))), up-far xs (λ i j d le l. h (suc i) (suc j) d (omega (arith, le)) (omega (arith, l))))
+  up-far (x ∷ xs) h = (
+    every-at (NotAbove x) xs x (λ j l. h 0 (suc j) x (omega arith) (omega (arith, l))),
+    up-far xs
+        (λ i j d le l. h (suc i) (suc j) d (omega (arith, le)) (omega (arith, l))),
+  )
 
   pub up-sorted : (xs : List X) → IsSorted R xs → Up NotAbove xs
   up-sorted xs s = up-far xs (sorted_far below (ranks_by total (λ x. x)) xs s)
@@ -133,7 +139,8 @@ module _ {X : Type 0} (R : X → X → Ordering) (total : IsTotalOrder R) (exact
 
   none-below : (x : X) (ys : List X) → Every (NotAbove x) ys → sum_by (λ y. one_if (below y x)) ys ≡ 0
   none-below x [] h = refl
-  none-below x (y ∷ ys) h = sum_by-cons (λ z. one_if (below z x)) y ys ∙ (ap (λ b. one_if b + sum_by (λ z. one_if (below z x)) ys) h.0 ∙ (let e = none-below x ys h.1 in omega (arith, e)))
+  none-below x (y ∷ ys) h = sum_by-cons (λ z. one_if (below z x)) y ys
+      ∙ (ap (λ b. one_if b + sum_by (λ z. one_if (below z x)) ys) h.0 ∙ (let e = none-below x ys h.1 in omega (arith, e)))
 
   itself : (x : X) → below x x ≡ false
   itself x = ap is_lt (tied_itself total x)

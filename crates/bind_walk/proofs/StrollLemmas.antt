@@ -38,7 +38,8 @@ module _ (f : Find → ℕ) where
       omega (arith, ones, others, first, rest)
 
   module _ (d : Document) where
-    entered-alike : (line : FoundLine) (deeper other : List Carried → ℕ → List Find) → ((c : List Carried) (m : ℕ) → sum_by f (deeper c m) ≡ sum_by f (other c m))
+    entered-alike : (line : FoundLine) (deeper other : List Carried → ℕ → List Find)
+        → ((c : List Carried) (m : ℕ) → sum_by f (deeper c m) ≡ sum_by f (other c m))
         → (around : List Carried) (n : ℕ) → sum_by f (entered_by d line deeper around n) ≡ sum_by f (entered_by d line other around n)
     entered-alike line deeper other same around n = at (is_of d line n)
       where
@@ -52,14 +53,16 @@ module _ (f : Find → ℕ) where
             omega (arith, ones, others, inside)
         at false = refl
 
-    pub strolled-sum : LeadsAlike d → (plan : Plan) (around : List Carried) (n : ℕ) → sum_by f (strolled d plan around n) ≡ sum_by f (walked (sight d) plan around n)
+    pub strolled-sum : LeadsAlike d → (plan : Plan) (around : List Carried) (n : ℕ)
+        → sum_by f (strolled d plan around n) ≡ sum_by f (walked (sight d) plan around n)
     strolled-sum alike nothing around n = nowhere (children d n)
     strolled-sum alike (a_line s cells inside rest) around n =
         let line : FoundLine = line_of d s cells inside in
         let first : ℕ → List Find = entered_by d line (strolled d inside) around in
         let step : List Find = through (sight d) (λ c y. here (sight d) cells c y ++ walked (sight d) inside c y) s.group around (met (tree_nodes d) s n) in
         let apart = sum-apart first (met_by d rest around) (children d n) in
-        let same = sum-alike first (entered_in d line inside around) (λ m. entered-alike line (strolled d inside) (walked (sight d) inside) (λ c k. strolled-sum alike inside c k) around m) (children d n) in
+        let same = sum-alike first (entered_in d line inside around)
+        (λ m. entered-alike line (strolled d inside) (walked (sight d) inside) (λ c k. strolled-sum alike inside c k) around m) (children d n) in
         let lead = ap (sum_by f) (alike s cells inside around n) in
         let others = strolled-sum alike rest around n in
         let both = sum_by-append f step (walked (sight d) rest around n) in

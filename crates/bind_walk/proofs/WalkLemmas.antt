@@ -19,12 +19,15 @@ use Rattle.bind_walk.specs.Walks.{line_of, AreLined, around_in, is_of, found_by,
 use Rattle.bind_walk.proofs.NumberLemmas.{number-says, none-found}
 
 -- An element isn't of a line whose name it hasn't.
-not-entered : (d : Document) (line : FoundLine) (deeper : List Carried → ℕ → List Find) (around : List Carried) (n : ℕ) → has_found line.name (node_at d.nodes n) ≡ false → entered_by d line deeper around n ≡ []
+not-entered : (d : Document) (line : FoundLine) (deeper : List Carried → ℕ → List Find) (around : List Carried) (n : ℕ)
+    → has_found line.name (node_at d.nodes n) ≡ false → entered_by d line deeper around n ≡ []
 not-entered d line deeper around n other =
-    ap (λ b. elim (b && list_all (is_met d n) line.guards) as (λ _. List Find) [ true ↦ found_by d line deeper (around_in line.group n around) n | false ↦ [] ]) other
+    ap (λ b. elim (b && list_all (is_met d n) line.guards) as (λ _. List Find) [ true ↦ found_by d line deeper (around_in line.group n around) n | false ↦ [] ])
+    other
 
 -- At an element of a line of a group more is around.
-pub entered_some : (d : Document) (line : FoundLine) (lines : List FoundLine) (n : ℕ) (around further : List Carried) (group : Group) (passes : Bool) (old new : List Find)
+pub entered_some : (d : Document) (line : FoundLine) (lines : List FoundLine) (n : ℕ) (around further : List Carried) (group : Group) (passes : Bool)
+    (old new : List Find)
     → passes ≡ is_of d line n → passes ≡ true → line.group ≡ Some group → further ≡ around ++ record { group = group; element = n } ∷ []
     → PicksIn d line lines n further old new → Enters d line lines n around old new
 entered_some d line lines n around further group passes old new passes_is passed group_is further_is picks plan is =
@@ -33,7 +36,8 @@ entered_some d line lines n around further group passes old new passes_is passed
     ∙ ap (λ c. found_by d line (strolled d plan) c n) (ap (λ g. around_in g n around) group_is ∙ sym further_is)))
 
 -- Of the lines of a tree these are left: what was recorded, and what they find in a child, is what all find there.
-pub record Left (d : Document) (lines : List FoundLine) (n : ℕ) (around : List Carried) (old : List Find) (left : List FoundLine) (new : List Find) : Type 0 where
+pub record Left (d : Document) (lines : List FoundLine) (n : ℕ) (around : List Carried) (old : List Find) (left : List FoundLine)
+    (new : List Find) : Type 0 where
   pub some : AreLined d left
   pub shorter : length left ≤ length lines
   pub all : (plan : Plan) → lines ≡ lined d plan → (rest : Plan) × (left ≡ lined d rest) × (new ++ met_by d rest around n ≡ old ++ met_by d plan around n)
@@ -45,22 +49,26 @@ pub record Inside (d : Document) (lines : List FoundLine) (n : ℕ) (around : Li
       → new ++ flat_map (met_by d plan around) (numbers_from (is_child n) d at) ≡ old ++ strolled d plan around n
 
 -- Without lines nothing is found.
-pub walks_nowhere : (d : Document) (lines : List FoundLine) (n : ℕ) (around : List Carried) (old : List Find) → (length lines == 0) ≡ true → Walks d lines n around old old
+pub walks_nowhere : (d : Document) (lines : List FoundLine) (n : ℕ) (around : List Carried) (old : List Find) → (length lines == 0) ≡ true
+    → Walks d lines n around old old
 walks_nowhere d lines n around old none nothing is = sym (append-nil old) ∙ ap (λ xs. old ++ xs) (sym (nowhere (children d n)))
   where
     nowhere : (ns : List ℕ) → flat_map (met_by d nothing around) ns ≡ []
     nowhere [] = refl
     nowhere (m ∷ ns) = nowhere ns
-walks_nowhere d lines n around old none (a_line s cells inside rest) is = absurd (let e = ap length is in let z = eqb-true (length lines) 0 none in omega (arith, e, z))
+walks_nowhere d lines n around old none (a_line s cells inside rest) is =
+    absurd (let e = ap length is in let z = eqb-true (length lines) 0 none in omega (arith, e, z))
 
 -- nor in a child that has no name
-pub meets_nothing : (d : Document) (lines : List FoundLine) (n : ℕ) (around : List Carried) (old : List Find) → None ≡ (node_at d.nodes n).name → Meets d lines n around old old
+pub meets_nothing : (d : Document) (lines : List FoundLine) (n : ℕ) (around : List Carried) (old : List Find) → None ≡ (node_at d.nodes n).name
+    → Meets d lines n around old old
 meets_nothing d lines n around old none plan is = sym (append-nil old) ∙ ap (λ xs. old ++ xs) (sym (all plan))
   where
     all : (plan : Plan) → met_by d plan around n ≡ []
     all nothing = refl
     all (a_line s cells inside rest) =
-        ap (λ xs. xs ++ met_by d rest around n) (not-entered d (line_of d s cells inside) (strolled d inside) around n (none-found d (found_element d s.name) n (sym none))) ∙ all rest
+        ap (λ xs. xs ++ met_by d rest around n) (not-entered d (line_of d s cells inside) (strolled d inside) around n
+        (none-found d (found_element d s.name) n (sym none))) ∙ all rest
 
 -- ---- lines
 
@@ -96,16 +104,20 @@ module _ {d : Document} {line : FoundLine} {behind : List FoundLine} {plan : Pla
   pub split-rest : drop line.size behind ≡ lined d s.rest
   split-rest = ap (drop line.size) s.behind_is ∙ drop_at (lined d s.inside) (lined d s.rest) line.size (sym split-size)
 
-pub left_begin : (d : Document) (lines : List FoundLine) (n : ℕ) (around : List Carried) (old : List Find) → AreLined d lines → Left d lines n around old lines old
+pub left_begin : (d : Document) (lines : List FoundLine) (n : ℕ) (around : List Carried) (old : List Find) → AreLined d lines
+    → Left d lines n around old lines old
 left_begin d lines n around old a = record { some = a; shorter = omega arith; all = λ plan is. (plan, is, refl) }
 
-left_split : (d : Document) (left : List FoundLine) (line : FoundLine) (behind : List FoundLine) → left ≡ line ∷ behind → AreLined d left → (plan : Plan) × Split d line behind plan
+left_split : (d : Document) (left : List FoundLine) (line : FoundLine) (behind : List FoundLine) → left ≡ line ∷ behind → AreLined d left
+    → (plan : Plan) × Split d line behind plan
 left_split d left line behind is a = (a.plan, split d line behind a.plan (sym is ∙ a.is))
 
-pub left_fits : (d : Document) (left : List FoundLine) (line : FoundLine) (behind : List FoundLine) → left ≡ line ∷ behind → AreLined d left → line.size ≤ length behind
+pub left_fits : (d : Document) (left : List FoundLine) (line : FoundLine) (behind : List FoundLine) → left ≡ line ∷ behind → AreLined d left
+    → line.size ≤ length behind
 left_fits d left line behind is a = split-fits (left_split d left line behind is a).1
 
-pub left_inside : (d : Document) (left : List FoundLine) (line : FoundLine) (behind inside : List FoundLine) → left ≡ line ∷ behind → inside ≡ take line.size behind → AreLined d left → AreLined d inside
+pub left_inside : (d : Document) (left : List FoundLine) (line : FoundLine) (behind inside : List FoundLine) → left ≡ line ∷ behind
+    → inside ≡ take line.size behind → AreLined d left → AreLined d inside
 left_inside d left line behind inside is front a =
     let s = left_split d left line behind is a in
     record { plan = s.1.inside; is = front ∙ split-inside s.1 }
@@ -113,7 +125,8 @@ left_inside d left line behind inside is front a =
 module _ (d : Document) (lines : List FoundLine) (n : ℕ) (around : List Carried) (old : List Find) (left : List FoundLine) (new : List Find)
     (line : FoundLine) (behind inside rest : List FoundLine) (l : Left d lines n around old left new)
     (is : left ≡ line ∷ behind) (front : inside ≡ take line.size behind) (back : rest ≡ drop line.size behind) where
-  pub left_more : (after : List Find) → ((plan : Plan) → inside ≡ lined d plan → after ≡ new ++ entered_by d line (strolled d plan) around n) → Left d lines n around old rest after
+  pub left_more : (after : List Find) → ((plan : Plan) → inside ≡ lined d plan → after ≡ new ++ entered_by d line (strolled d plan) around n)
+      → Left d lines n around old rest after
   left_more after enters =
       let s = left_split d left line behind is l.some in
       record {
@@ -124,7 +137,8 @@ module _ (d : Document) (lines : List FoundLine) (n : ℕ) (around : List Carrie
             let t = split d line behind w.0 (sym is ∙ w.1) in
             let found : List Find = entered_by d (line_of d t.step t.cells t.inside) (strolled d t.inside) around n in
             let others : List Find = met_by d t.rest around n in
-            let step : after ≡ new ++ found = enters t.inside (front ∙ split-inside t) ∙ ap (λ x. new ++ entered_by d x (strolled d t.inside) around n) t.line_is in (
+            let step : after ≡ new ++ found = enters t.inside (front ∙ split-inside t)
+            ∙ ap (λ x. new ++ entered_by d x (strolled d t.inside) around n) t.line_is in (
               t.rest,
               back ∙ split-rest t,
               ap (λ xs. xs ++ others) step ∙ (append_assoc new found others ∙ (ap (λ p. new ++ met_by d p around n) (sym t.plan_is) ∙ w.2)),
@@ -134,9 +148,11 @@ module _ (d : Document) (lines : List FoundLine) (n : ℕ) (around : List Carrie
   -- a line of another name
   pub left_past : (name : ℕ) → (node_at d.nodes n).name ≡ Some name → is_same_number line.name name ≡ false → Left d lines n around old rest new
   left_past name named other =
-      left_more new (λ plan lined_is. sym (append-nil new) ∙ ap (λ xs. new ++ xs) (sym (not-entered d line (strolled d plan) around n (number-says d line.name name n named ∙ other))))
+      left_more new (λ plan lined_is. sym (append-nil new)
+      ∙ ap (λ xs. new ++ xs) (sym (not-entered d line (strolled d plan) around n (number-says d line.name name n named ∙ other))))
 
-pub left_end : (d : Document) (lines : List FoundLine) (n : ℕ) (around : List Carried) (old : List Find) (new : List Find) → Left d lines n around old [] new → Meets d lines n around old new
+pub left_end : (d : Document) (lines : List FoundLine) (n : ℕ) (around : List Carried) (old : List Find) (new : List Find) → Left d lines n around old [] new
+    → Meets d lines n around old new
 left_end d lines n around old new l plan is =
     let w = l.all plan is in
     at w.0 w.1 w.2

@@ -42,7 +42,14 @@ attribute_at founds.Element = None
 attribute_at (founds.Attribute name) = name
 
 abbrev pub wanted_row : Document → ℕ → Row → Wanted → FoundRow
-wanted_row d k row w = record { number = k + 1; wanted = w; end = end_at (found_leaf d row.leaf); attribute = attribute_at (found_leaf d row.leaf); outer = row.outer; inner = row.inner }
+wanted_row d k row w = record {
+  number = k + 1;
+  wanted = w;
+  end = end_at (found_leaf d row.leaf);
+  attribute = attribute_at (found_leaf d row.leaf);
+  outer = row.outer;
+  inner = row.inner;
+}
 
 abbrev pub row_for : Document → ℕ → Row → Option Wanted → List FoundRow
 row_for d k row None = []

@@ -1,8 +1,6 @@
 -- Where names lead along the lines of a table, guards aside. No public clause cites it.
 use Rattle.std.specs.Prelude.{◌≡◌, ℕ, ◌+◌, ◌^◌, ◌<◌, ◌≤◌, nat_lt, Bool, true, false, not, ◌&&◌, List, [], ◌∷◌, ◌++◌, length, get_or, take, drop, Some}
 use Rattle.std.specs.List.{flat_map}
-use Rattle.inv_base.specs.declared.tree.Kind.{Kind}
-use Rattle.inv_base.specs.declared.tree.Kind.TheVariants as kinds
 use Rattle.inv_base.specs.Tree.{Node}
 use Rattle.node_arena.specs.Document.{Document, node_at}
 use Rattle.node_arena.specs.Moves.{tree_nodes, tree_node, has_found, parent}
@@ -11,24 +9,19 @@ use Rattle.bind_rows.specs.declared.names.ElementName.{ElementName}
 use Rattle.bind_table.specs.Lines.{Plan, nothing, a_line, plan_of}
 use Rattle.bind_walk.specs.Found.{found_element}
 use Rattle.bind_meaning.specs.Names.{has_element_name}
-use Rattle.bind_meaning.specs.Elements.{is_element}
+use Rattle.bind_meaning.specs.Elements.{is_element_kind, is_element}
 use Rattle.bind_meaning.specs.Terms.{is_passed_over, way_to}
 use Rattle.bind_walk.specs.declared.lines.FoundLine.{FoundLine}
 use Rattle.bind_walk.specs.declared.passed.Span.{Span}
 use Rattle.bind_walk.specs.Lines.{lined}
-
-abbrev pub is_element_kind : Kind → Bool
-is_element_kind kinds.Document = false
-is_element_kind kinds.Element = true
-is_element_kind kinds.Attribute = false
-is_element_kind kinds.Text = false
 
 -- ---- lines by their names
 
 -- the insides of those lines that stand beside one another and have the name of a node
 abbrev pub inside_named : Document → ℕ → Plan → List Plan
 inside_named d n nothing = []
-inside_named d n (a_line s cells inside rest) = (elim (has_element_name s.name (tree_node (tree_nodes d) n)) [ true ↦ inside ∷ [] | false ↦ [] ]) ++ inside_named d n rest
+inside_named d n (a_line s cells inside rest) =
+    (elim (has_element_name s.name (tree_node (tree_nodes d) n)) [ true ↦ inside ∷ [] | false ↦ [] ]) ++ inside_named d n rest
 
 abbrev pub insides : Document → ℕ → List Plan → List Plan
 insides d n plans = flat_map (inside_named d n) plans
@@ -84,7 +77,8 @@ pub record AreSpans (d : Document) (lines : List FoundLine) (spans : List Span) 
   pub are : SpansOf d lines spans plans
 
 abbrev pub AddsNamed : Document → List FoundLine → ℕ → ℕ → ℕ → List Span → List Span → Type 0
-AddsNamed d lines from to m old new = (plan : Plan) (plans : List Plan) → IsSpan d lines from to plan → SpansOf d lines old plans → SpansOf d lines new (plans ++ inside_named d m plan)
+AddsNamed d lines from to m old new = (plan : Plan) (plans : List Plan) → IsSpan d lines from to plan → SpansOf d lines old plans
+    → SpansOf d lines new (plans ++ inside_named d m plan)
 
 -- the things of a list from one place on, before another
 abbrev pub part : {X : Type 0} → List X → Span → List X
@@ -137,7 +131,8 @@ one_if false n = []
 -- ---- what holds of a document
 
 pub record LeadsThrough (d : Document) : Type 0 where
-  pub named : (name : ElementName) (n : ℕ) → n < length d.nodes → has_found (found_element d name) (node_at d.nodes n) ≡ has_element_name name (tree_node (tree_nodes d) n)
+  pub named : (name : ElementName) (n : ℕ) → n < length d.nodes
+      → has_found (found_element d name) (node_at d.nodes n) ≡ has_element_name name (tree_node (tree_nodes d) n)
   pub rooted : 1 < length d.nodes
   pub few : length d.nodes < 2 ^ 32
   pub numbers : (n : ℕ) → n < length d.nodes → (tree_node (tree_nodes d) n).number ≡ n

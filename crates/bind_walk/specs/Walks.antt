@@ -49,7 +49,10 @@ carrier_of around None = None
 carrier_of around (Some group) = carried group around
 
 abbrev pub find_of : List Carried → FoundRow → ℕ → Find
-find_of around row n = record { wanted = row.wanted; picked = record { node = n; row = row.number; outer = carrier_of around row.outer; inner = carrier_of around row.inner } }
+find_of around row n = record {
+  wanted = row.wanted;
+  picked = record { node = n; row = row.number; outer = carrier_of around row.outer; inner = carrier_of around row.inner };
+}
 
 -- ---- what rows pick that end at an element
 
@@ -75,7 +78,10 @@ found_here d around n rows = elim (is_blank (string_at d n)) [ true ↦ [] | fal
 -- ---- the sight of a document in which the lines of a table pick these finds
 
 abbrev pub find_at : List Carried → ℕ → Row → Wanted → ℕ → Find
-find_at around k row w n = record { wanted = w; picked = record { node = n; row = k; outer = carrier_of around row.outer; inner = carrier_of around row.inner } }
+find_at around k row w n = record {
+  wanted = w;
+  picked = record { node = n; row = k; outer = carrier_of around row.outer; inner = carrier_of around row.inner };
+}
 
 abbrev pub told_for : Document → List Carried → ℕ → Row → ℕ → Option Wanted → List Find
 told_for d around k row n None = []

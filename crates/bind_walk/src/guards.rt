@@ -7,6 +7,7 @@ ghost use Rattle.bind_walk.specs.Found as spec;
 
 use crate::chains::chains_lead_on;
 use crate::names::{FoundLeaf, find_element, find_leaf, has_name};
+use crate::scene::Scene;
 use crate::strings::is_trimmed;
 use bind_rows::{Copied, ElementName, Guard, Many, Test};
 use inv_base::{Steps, Txt};
@@ -72,17 +73,16 @@ fn find_path(
 
 /// Whether all guards are met at an element.
 pub fn are_met<L: Ledger>(
-    alloc: Global,
-    doc: &Doc<'_>,
+    scene: &Scene<'_, '_>,
     n: NodeId,
     guards: &[FoundGuard],
     steps: &mut Steps<L>,
 ) -> Result<bool, AllocError>
-    requires { n < length doc.now.nodes }
-    ensures { IfOk result (λ met. met ≡ list_all (spec.is_met doc.now n) guards.now) }
+    requires { n < length scene.now.doc.now.nodes }
+    ensures { IfOk result (λ met. met ≡ list_all (spec.is_met scene.now.doc.now n) guards.now) }
 {
     'guards: for guard in guards {
-        if !is_met(alloc, doc, n, guard, steps)? {
+        if !is_met(scene, n, guard, steps)? {
             return Ok(false);
         }
     }
@@ -90,16 +90,15 @@ pub fn are_met<L: Ledger>(
 }
 
 fn is_met<L: Ledger>(
-    alloc: Global,
-    doc: &Doc<'_>,
+    scene: &Scene<'_, '_>,
     n: NodeId,
     guard: &FoundGuard,
     steps: &mut Steps<L>,
 ) -> Result<bool, AllocError>
-    requires { n < length doc.now.nodes }
-    ensures { IfOk result (λ met. met ≡ spec.is_met doc.now n guard.now) }
+    requires { n < length scene.now.doc.now.nodes }
+    ensures { IfOk result (λ met. met ≡ spec.is_met scene.now.doc.now n guard.now) }
 {
-    let found = some_below(alloc, doc, n, guard.path.as_slice(), guard, steps)?;
+    let found = some_below(scene, n, guard.path.as_slice(), guard, steps)?;
     Ok(found == is_positive(&guard.test))
 }
 
@@ -116,26 +115,25 @@ fn is_positive(test: &Test) -> bool
 /// Whether a node at the end of the path has a string that the guard looks for.
 #[cycle(below)]
 fn some_below<L: Ledger>(
-    alloc: Global,
-    doc: &Doc<'_>,
+    scene: &Scene<'_, '_>,
     n: NodeId,
     path: &[Option<u32>],
     guard: &FoundGuard,
     steps: &mut Steps<L>,
 ) -> Result<bool, AllocError>
-    requires { n < length doc.now.nodes }
-    ensures { IfOk result (λ found. found ≡ spec.some_below doc.now guard.now path.now n) }
+    requires { n < length scene.now.doc.now.nodes }
+    ensures { IfOk result (λ found. found ≡ spec.some_below scene.now.doc.now guard.now path.now n) }
 {
     let Some((name, deeper)) = path.split_first() else {
-        return is_at(alloc, doc, n, guard, steps);
+        return is_at(scene, n, guard, steps);
     };
-    chains_lead_on(doc);
-    let mut at = doc.first_child(n, steps);
+    chains_lead_on(scene.doc);
+    let mut at = scene.doc.first_child(n, steps);
     'children: while let Some(m) = at {
-        if some_at(alloc, doc, m, *name, deeper, guard, steps)? {
+        if some_at(scene, m, *name, deeper, guard, steps)? {
             return Ok(true);
         }
-        at = doc.next_sibling(m, steps);
+        at = scene.doc.next_sibling(m, steps);
     }
     Ok(false)
 }
@@ -143,91 +141,86 @@ fn some_below<L: Ledger>(
 /// The same for one child: where it has the name, below it.
 #[cycle(below)]
 fn some_at<L: Ledger>(
-    alloc: Global,
-    doc: &Doc<'_>,
+    scene: &Scene<'_, '_>,
     n: NodeId,
     name: Option<u32>,
     path: &[Option<u32>],
     guard: &FoundGuard,
     steps: &mut Steps<L>,
 ) -> Result<bool, AllocError>
-    requires { n < length doc.now.nodes }
-    ensures { IfOk result (λ found. found ≡ spec.some_at doc.now guard.now name path.now n) }
+    requires { n < length scene.now.doc.now.nodes }
+    ensures { IfOk result (λ found. found ≡ spec.some_at scene.now.doc.now guard.now name path.now n) }
 {
-    if !has_name(doc, n, name) {
+    if !has_name(scene.doc, n, name) {
         return Ok(false);
     }
-    some_below(alloc, doc, n, path, guard, steps)
+    some_below(scene, n, path, guard, steps)
 }
 
 /// Whether the element, or the attribute of it that the guard names, has a string that the guard looks for.
 fn is_at<L: Ledger>(
-    alloc: Global,
-    doc: &Doc<'_>,
+    scene: &Scene<'_, '_>,
     n: NodeId,
     guard: &FoundGuard,
     steps: &mut Steps<L>,
 ) -> Result<bool, AllocError>
-    requires { n < length doc.now.nodes }
-    ensures { IfOk result (λ found. found ≡ spec.is_at doc.now guard.now.test guard.now.leaf n) }
+    requires { n < length scene.now.doc.now.nodes }
+    ensures { IfOk result (λ found. found ≡ spec.is_at scene.now.doc.now guard.now.test guard.now.leaf n) }
 {
     match &guard.leaf {
-        FoundLeaf::Element => holds(alloc, doc, n, &guard.test, steps),
-        FoundLeaf::Attribute(name) => some_attribute(alloc, doc, n, *name, &guard.test, steps),
+        FoundLeaf::Element => holds(scene, n, &guard.test, steps),
+        FoundLeaf::Attribute(name) => some_attribute(scene, n, *name, &guard.test, steps),
     }
 }
 
 fn some_attribute<L: Ledger>(
-    alloc: Global,
-    doc: &Doc<'_>,
+    scene: &Scene<'_, '_>,
     n: NodeId,
     name: Option<u32>,
     test: &Test,
     steps: &mut Steps<L>,
 ) -> Result<bool, AllocError>
-    requires { n < length doc.now.nodes }
-    ensures { IfOk result (λ found. found ≡ spec.some_attribute doc.now test.now name n) }
+    requires { n < length scene.now.doc.now.nodes }
+    ensures { IfOk result (λ found. found ≡ spec.some_attribute scene.now.doc.now test.now name n) }
 {
-    chains_lead_on(doc);
-    let mut at = doc.first_attribute(n, steps);
+    chains_lead_on(scene.doc);
+    let mut at = scene.doc.first_attribute(n, steps);
     'attributes: while let Some(m) = at {
-        if holds_named(alloc, doc, m, name, test, steps)? {
+        if holds_named(scene, m, name, test, steps)? {
             return Ok(true);
         }
-        at = doc.next_attribute(m, steps);
+        at = scene.doc.next_attribute(m, steps);
     }
     Ok(false)
 }
 
 fn holds_named<L: Ledger>(
-    alloc: Global,
-    doc: &Doc<'_>,
+    scene: &Scene<'_, '_>,
     n: NodeId,
     name: Option<u32>,
     test: &Test,
     steps: &mut Steps<L>,
 ) -> Result<bool, AllocError>
-    requires { n < length doc.now.nodes }
-    ensures { IfOk result (λ found. found ≡ spec.holds_named doc.now test.now name n) }
+    requires { n < length scene.now.doc.now.nodes }
+    ensures { IfOk result (λ found. found ≡ spec.holds_named scene.now.doc.now test.now name n) }
 {
-    if !has_name(doc, n, name) {
+    if !has_name(scene.doc, n, name) {
         return Ok(false);
     }
-    holds(alloc, doc, n, test, steps)
+    holds(scene, n, test, steps)
 }
 
 /// Whether a node's string is one that the test looks for.
 fn holds<L: Ledger>(
-    alloc: Global,
-    doc: &Doc<'_>,
+    scene: &Scene<'_, '_>,
     n: NodeId,
     test: &Test,
     steps: &mut Steps<L>,
 ) -> Result<bool, AllocError>
-    requires { n < length doc.now.nodes }
-    ensures { IfOk result (λ found. found ≡ spec.holds doc.now test.now n) }
+    requires { n < length scene.now.doc.now.nodes }
+    ensures { IfOk result (λ found. found ≡ spec.holds scene.now.doc.now test.now n) }
 {
-    let string = doc.string(alloc, n, steps)?;
+    let string = scene.doc.string(scene.alloc, n, steps)?;
     Ok(looks_for(test, string.as_str()))
 }
 

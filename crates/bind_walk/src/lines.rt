@@ -28,7 +28,7 @@ pub(crate) enum End {
     Attribute,
 }
 
-/// A row that is read, by its number from 1.
+/// A row that is read, by its number from 1, as picks tell their rows. The lines of the table have its index, from 0.
 #[derive(Clone, Copy)]
 pub(crate) struct FoundRow {
     pub(crate) number: u32,

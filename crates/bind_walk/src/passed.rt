@@ -4,6 +4,7 @@ ghost use Rattle.std.specs.Prelude.{◌≡◌, ◌++◌, ◌<◌, ◌≤◌, ◌
 ghost use Rattle.node_arena.specs.Document.{node_at};
 ghost use Rattle.node_arena.specs.Moves.{tree_nodes};
 ghost use Rattle.bind_table.specs.Lines.{Plan, plan_of};
+ghost use Rattle.bind_meaning.specs.Elements.{is_element_kind};
 ghost use Rattle.bind_meaning.specs.Faults.{passed_nodes};
 ghost use Rattle.bind_walk.specs.Lines.{lined};
 ghost use Rattle.bind_walk.specs.Passing as spec;
@@ -11,6 +12,7 @@ ghost use Rattle.bind_walk.specs.Passing as spec;
 use crate::chains_lead_on;
 use crate::lines::FoundLine;
 use crate::names::is_number;
+use bind_meaning::is_element;
 use bind_rows::Row;
 use bind_table::laws::same_steps_are_equal;
 use inv_base::{Kind, Steps};
@@ -140,18 +142,9 @@ fn span_at(spans: &[Span], at: usize) -> Span
 
 /// Whether a node is an element to which names don't lead, right inside one to which they do.
 fn is_left_at(kind: Kind, around: Span, inside: Span) -> bool
-    ensures { result ≡ (spec.is_element_kind kind && spec.is_left around inside) }
+    ensures { result ≡ (is_element_kind kind && spec.is_left around inside) }
 {
     is_element(kind) && is_left(around, inside)
-}
-
-fn is_element(kind: Kind) -> bool
-    ensures { result ≡ spec.is_element_kind kind }
-{
-    match kind {
-        Kind::Element => true,
-        Kind::Document | Kind::Attribute | Kind::Text => false,
-    }
 }
 
 /// Whether names lead to the node around and no further.
@@ -228,6 +221,7 @@ fn add_part(
 }
 
 /// Puts the insides of the lines from one place to another that have a node's name, which has this number, behind the others.
+// The places are two arguments and no span: that a number fits its type is known of an argument, and not of a struct's field.
 fn add_named(
     doc: &Doc<'_>,
     lines: &[FoundLine],

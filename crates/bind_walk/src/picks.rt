@@ -16,11 +16,11 @@ ghost use Rattle.bind_walk.specs.Walks.{strolled, AreLined, picked_for};
 ghost use Rattle.bind_walk.specs.declared.lines.Wanted.TheVariants as wants;
 ghost use Rattle.bind_walk.specs.Finding as spec;
 
-use crate::chains_lead_on;
 use crate::lines::{FoundLine, Wanted, find_lines};
 use crate::passed::passed_of;
 use crate::sorting::sorted;
-use crate::walk::{Carried, Find, lines_lead_as_steps_do, walk};
+use crate::walk::{Carried, Find, Position, lines_lead_as_steps_do, walk};
+use crate::{Scene, chains_lead_on};
 use bind_meaning::Picked;
 use bind_rows::Many;
 use bind_table::Binding;
@@ -63,8 +63,10 @@ pub fn pick_all<L: Ledger>(
     steps: &mut Steps<L>,
 ) -> Result<Picks, AllocError>
     requires { All HasSteps table.now }
-    ensures terms { IfOk result (λ picks. picks.terms.items ≡ all_kept (in_order (tree_nodes doc.now) (all_picked (tree_nodes doc.now) (rows_where has_any_term table.now)))) }
-    ensures indicators { IfOk result (λ picks. picks.indicators.items ≡ all_kept (in_order (tree_nodes doc.now) (all_picked (tree_nodes doc.now) (rows_where is_indicator table.now)))) }
+    ensures terms { IfOk result (λ picks. picks.terms.items
+        ≡ all_kept (in_order (tree_nodes doc.now) (all_picked (tree_nodes doc.now) (rows_where has_any_term table.now)))) }
+    ensures indicators { IfOk result (λ picks. picks.indicators.items
+        ≡ all_kept (in_order (tree_nodes doc.now) (all_picked (tree_nodes doc.now) (rows_where is_indicator table.now)))) }
     ensures passed_over { IfOk result (λ picks. picks.passed_over.items ≡ passed_nodes (tree_nodes doc.now) table.now) }
     ensures passed_within { IfOk result (λ picks. All (λ m. m < length doc.now.nodes) picks.passed_over.items) }
 {
@@ -84,8 +86,10 @@ fn picks_by<L: Ledger>(
 ) -> Result<Picks, AllocError>
     requires steps { All HasSteps table.now }
     requires lines { lines.now ≡ lined doc.now (plan_of table.now) }
-    ensures terms { IfOk result (λ picks. picks.terms.items ≡ all_kept (in_order (tree_nodes doc.now) (all_picked (tree_nodes doc.now) (rows_where has_any_term table.now)))) }
-    ensures indicators { IfOk result (λ picks. picks.indicators.items ≡ all_kept (in_order (tree_nodes doc.now) (all_picked (tree_nodes doc.now) (rows_where is_indicator table.now)))) }
+    ensures terms { IfOk result (λ picks. picks.terms.items
+        ≡ all_kept (in_order (tree_nodes doc.now) (all_picked (tree_nodes doc.now) (rows_where has_any_term table.now)))) }
+    ensures indicators { IfOk result (λ picks. picks.indicators.items
+        ≡ all_kept (in_order (tree_nodes doc.now) (all_picked (tree_nodes doc.now) (rows_where is_indicator table.now)))) }
     ensures passed_over { IfOk result (λ picks. picks.passed_over.items ≡ passed_nodes (tree_nodes doc.now) table.now) }
     ensures passed_within { IfOk result (λ picks. All (λ m. m < length doc.now.nodes) picks.passed_over.items) }
 {
@@ -137,7 +141,12 @@ fn find_all<L: Ledger>(
     ensures { IfOk result (λ finds. (plan : Plan) → lines.now ≡ lined doc.now plan → finds.items ≡ strolled doc.now plan [] 0) }
 {
     let mut finds = Vec::new(alloc);
-    walk(alloc, doc, lines, doc.document(), &[], &mut finds, steps)?;
+    let scene = Scene { alloc, doc };
+    let top = Position {
+        node: doc.document(),
+        around: &[],
+    };
+    walk(&scene, lines, &top, &mut finds, steps)?;
     Ok(finds)
 }
 

@@ -9,8 +9,8 @@ ghost use Rattle.bind_walk.specs.Walks as spec;
 
 use crate::lines::{End, FoundLine, FoundRow, Wanted};
 use crate::names::is_number;
-use crate::{are_met, chains_lead_on, has_name, is_blank_at};
-use bind_meaning::Picked;
+use crate::{Scene, are_met, chains_lead_on, has_name};
+use bind_meaning::{Picked, is_blank_at};
 use bind_rows::is_same_or_none;
 use inv_base::Steps;
 use node_arena::{Doc, NodeId, names_are_found_by_number};
@@ -23,6 +23,13 @@ use term_table::Group;
 pub(crate) struct Carried {
     pub(crate) group: Group,
     pub(crate) element: NodeId,
+}
+
+/// Where the walk stands: at a node, inside the elements that carry groups, from the outermost on.
+#[derive(Clone, Copy)]
+pub(crate) struct Position<'p> {
+    pub(crate) node: NodeId,
+    pub(crate) around: &'p [Carried],
 }
 
 /// A node that was found, and what for.
@@ -44,26 +51,28 @@ pub(crate) fn lines_lead_as_steps_do(doc: &Doc<'_>)
 /// Records what the rows at these lines pick below an element.
 #[cycle(walking)]
 pub(crate) fn walk<L: Ledger>(
-    alloc: Global,
-    doc: &Doc<'_>,
+    scene: &Scene<'_, '_>,
     lines: &[FoundLine],
-    n: NodeId,
-    around: &[Carried],
+    position: &Position<'_>,
     finds: &mut Vec<Find>,
     steps: &mut Steps<L>,
 ) -> Result<(), AllocError>
-    requires within { n < length doc.now.nodes }
-    requires lined { spec.AreLined doc.now lines.now }
-    ensures { OnOk result (spec.Walks doc.now lines.now n around.now finds.old.items finds.new.items) }
+    requires within { position.now.node < length scene.now.doc.now.nodes }
+    requires lined { spec.AreLined scene.now.doc.now lines.now }
+    ensures { OnOk result (spec.Walks scene.now.doc.now lines.now position.now.node position.now.around.now finds.old.items finds.new.items) }
 {
     if lines.is_empty() {
         return Ok(());
     }
-    chains_lead_on(doc);
-    let mut at = doc.first_child(n, steps);
+    chains_lead_on(scene.doc);
+    let mut at = scene.doc.first_child(position.node, steps);
     'children: while let Some(m) = at {
-        meet(alloc, doc, lines, m, around, finds, steps)?;
-        at = doc.next_sibling(m, steps);
+        let child = Position {
+            node: m,
+            around: position.around,
+        };
+        meet(scene, lines, &child, finds, steps)?;
+        at = scene.doc.next_sibling(m, steps);
     }
     Ok(())
 }
@@ -71,20 +80,18 @@ pub(crate) fn walk<L: Ledger>(
 /// Records what the rows at these lines and inside them pick in one child.
 #[cycle(walking)]
 fn meet<L: Ledger>(
-    alloc: Global,
-    doc: &Doc<'_>,
+    scene: &Scene<'_, '_>,
     lines: &[FoundLine],
-    n: NodeId,
-    around: &[Carried],
+    position: &Position<'_>,
     finds: &mut Vec<Find>,
     steps: &mut Steps<L>,
 ) -> Result<(), AllocError>
-    requires within { n < length doc.now.nodes }
-    requires lined { spec.AreLined doc.now lines.now }
-    ensures { OnOk result (spec.Meets doc.now lines.now n around.now finds.old.items finds.new.items) }
+    requires within { position.now.node < length scene.now.doc.now.nodes }
+    requires lined { spec.AreLined scene.now.doc.now lines.now }
+    ensures { OnOk result (spec.Meets scene.now.doc.now lines.now position.now.node position.now.around.now finds.old.items finds.new.items) }
 {
-    match doc.name(n) {
-        Some(name) => follow(alloc, doc, lines, n, name.number(), around, finds, steps),
+    match scene.doc.name(position.node) {
+        Some(name) => follow(scene, lines, position, name.number(), finds, steps),
         None => Ok(()),
     }
 }
@@ -92,25 +99,23 @@ fn meet<L: Ledger>(
 /// The same where the child's name has this number: by the lines that have it too.
 #[cycle(walking)]
 fn follow<L: Ledger>(
-    alloc: Global,
-    doc: &Doc<'_>,
+    scene: &Scene<'_, '_>,
     lines: &[FoundLine],
-    n: NodeId,
+    position: &Position<'_>,
     name: u32,
-    around: &[Carried],
     finds: &mut Vec<Find>,
     steps: &mut Steps<L>,
 ) -> Result<(), AllocError>
-    requires within { n < length doc.now.nodes }
-    requires named { (node_at doc.now.nodes n).name ≡ Some name }
-    requires lined { spec.AreLined doc.now lines.now }
-    ensures { OnOk result (spec.Meets doc.now lines.now n around.now finds.old.items finds.new.items) }
+    requires within { position.now.node < length scene.now.doc.now.nodes }
+    requires named { (node_at scene.now.doc.now.nodes position.now.node).name ≡ Some name }
+    requires lined { spec.AreLined scene.now.doc.now lines.now }
+    ensures { OnOk result (spec.Meets scene.now.doc.now lines.now position.now.node position.now.around.now finds.old.items finds.new.items) }
 {
     let mut left = lines;
     'lines: while let Some((line, behind)) = left.split_first() {
         let (inside, rest) = behind.split_at(line.size);
         if is_number(line.name, name) {
-            enter(alloc, doc, line, inside, n, around, finds, steps)?;
+            enter(scene, line, inside, position, finds, steps)?;
         }
         left = rest;
     }
@@ -120,36 +125,34 @@ fn follow<L: Ledger>(
 /// Records what the rows at a line and inside it pick in a child, where it is an element of the line.
 #[cycle(walking)]
 fn enter<L: Ledger>(
-    alloc: Global,
-    doc: &Doc<'_>,
+    scene: &Scene<'_, '_>,
     line: &FoundLine,
     inside: &[FoundLine],
-    n: NodeId,
-    around: &[Carried],
+    position: &Position<'_>,
     finds: &mut Vec<Find>,
     steps: &mut Steps<L>,
 ) -> Result<(), AllocError>
-    requires within { n < length doc.now.nodes }
-    requires lined { spec.AreLined doc.now inside.now }
-    ensures { OnOk result (spec.Enters doc.now line.now inside.now n around.now finds.old.items finds.new.items) }
+    requires within { position.now.node < length scene.now.doc.now.nodes }
+    requires lined { spec.AreLined scene.now.doc.now inside.now }
+    ensures { OnOk result (spec.Enters scene.now.doc.now line.now inside.now position.now.node position.now.around.now
+        finds.old.items finds.new.items) }
 {
-    if !passes(alloc, doc, line, n, steps)? {
+    if !passes(scene, line, position.node, steps)? {
         return Ok(());
     }
     match line.group {
-        None => pick_in(alloc, doc, line, inside, n, around, finds, steps),
+        None => pick_in(scene, line, inside, position, finds, steps),
         Some(group) => {
-            let further = with_carrier(alloc, around, Carried { group, element: n })?;
-            pick_in(
-                alloc,
-                doc,
-                line,
-                inside,
-                n,
-                further.as_slice(),
-                finds,
-                steps,
-            )
+            let carried = Carried {
+                group,
+                element: position.node,
+            };
+            let further = with_carrier(scene.alloc, position.around, carried)?;
+            let carrier = Position {
+                node: position.node,
+                around: further.as_slice(),
+            };
+            pick_in(scene, line, inside, &carrier, finds, steps)
         }
     }
 }
@@ -157,21 +160,20 @@ fn enter<L: Ledger>(
 /// The same in an element of the line.
 #[cycle(walking)]
 fn pick_in<L: Ledger>(
-    alloc: Global,
-    doc: &Doc<'_>,
+    scene: &Scene<'_, '_>,
     line: &FoundLine,
     inside: &[FoundLine],
-    n: NodeId,
-    around: &[Carried],
+    position: &Position<'_>,
     finds: &mut Vec<Find>,
     steps: &mut Steps<L>,
 ) -> Result<(), AllocError>
-    requires within { n < length doc.now.nodes }
-    requires lined { spec.AreLined doc.now inside.now }
-    ensures { OnOk result (spec.PicksIn doc.now line.now inside.now n around.now finds.old.items finds.new.items) }
+    requires within { position.now.node < length scene.now.doc.now.nodes }
+    requires lined { spec.AreLined scene.now.doc.now inside.now }
+    ensures { OnOk result (spec.PicksIn scene.now.doc.now line.now inside.now position.now.node position.now.around.now
+        finds.old.items finds.new.items) }
 {
-    pick_here(alloc, doc, line.rows.as_slice(), n, around, finds, steps)?;
-    walk(alloc, doc, inside, n, around, finds, steps)
+    pick_here(scene, line.rows.as_slice(), position, finds, steps)?;
+    walk(scene, inside, position, finds, steps)
 }
 
 /// The elements around, and one more behind them.
@@ -190,120 +192,120 @@ fn with_carrier(
 
 /// Whether a node is an element of the line, its guards met.
 fn passes<L: Ledger>(
-    alloc: Global,
-    doc: &Doc<'_>,
+    scene: &Scene<'_, '_>,
     line: &FoundLine,
     n: NodeId,
     steps: &mut Steps<L>,
 ) -> Result<bool, AllocError>
-    requires { n < length doc.now.nodes }
-    ensures { IfOk result (λ passes. passes ≡ (has_found line.now.name (node_at doc.now.nodes n) && list_all (is_met doc.now n) line.now.guards)) }
+    requires { n < length scene.now.doc.now.nodes }
+    ensures { IfOk result (λ passes. passes ≡ (has_found line.now.name (node_at scene.now.doc.now.nodes n)
+        && list_all (is_met scene.now.doc.now n) line.now.guards)) }
 {
-    if !has_name(doc, n, line.name) {
+    if !has_name(scene.doc, n, line.name) {
         return Ok(false);
     }
-    are_met(alloc, doc, n, line.guards.as_slice(), steps)
+    are_met(scene, n, line.guards.as_slice(), steps)
 }
 
 /// Records what rows pick that end at an element or at an attribute of it.
 fn pick_here<L: Ledger>(
-    alloc: Global,
-    doc: &Doc<'_>,
+    scene: &Scene<'_, '_>,
     rows: &[FoundRow],
-    n: NodeId,
-    around: &[Carried],
+    position: &Position<'_>,
     finds: &mut Vec<Find>,
     steps: &mut Steps<L>,
 ) -> Result<(), AllocError>
-    requires { n < length doc.now.nodes }
-    ensures { OnOk result (finds.new.items ≡ finds.old.items ++ spec.found_here doc.now around.now n rows.now) }
+    requires { position.now.node < length scene.now.doc.now.nodes }
+    ensures { OnOk result (finds.new.items ≡ finds.old.items
+        ++ spec.found_here scene.now.doc.now position.now.around.now position.now.node rows.now) }
 {
     if rows.is_empty() {
         return Ok(());
     }
-    if is_blank_at(alloc, doc, n, steps)? {
+    if is_blank_at(scene.alloc, scene.doc, position.node, steps)? {
         return Ok(());
     }
     'rows: for row in rows {
-        pick_row(alloc, doc, row, n, around, finds, steps)?;
+        pick_row(scene, row, position, finds, steps)?;
     }
     Ok(())
 }
 
 fn pick_row<L: Ledger>(
-    alloc: Global,
-    doc: &Doc<'_>,
+    scene: &Scene<'_, '_>,
     row: &FoundRow,
-    n: NodeId,
-    around: &[Carried],
+    position: &Position<'_>,
     finds: &mut Vec<Find>,
     steps: &mut Steps<L>,
 ) -> Result<(), AllocError>
-    requires { n < length doc.now.nodes }
-    ensures { OnOk result (finds.new.items ≡ finds.old.items ++ spec.found_in_row doc.now around.now n row.now) }
+    requires { position.now.node < length scene.now.doc.now.nodes }
+    ensures { OnOk result (finds.new.items ≡ finds.old.items
+        ++ spec.found_in_row scene.now.doc.now position.now.around.now position.now.node row.now) }
 {
     match row.end {
         End::Element => {
-            finds.push(find_of(row, n, around))?;
+            finds.push(find_of(row, position))?;
             Ok(())
         }
-        End::Attribute => pick_attributes(alloc, doc, row, n, around, finds, steps),
+        End::Attribute => pick_attributes(scene, row, position, finds, steps),
     }
 }
 
 fn pick_attributes<L: Ledger>(
-    alloc: Global,
-    doc: &Doc<'_>,
+    scene: &Scene<'_, '_>,
     row: &FoundRow,
-    n: NodeId,
-    around: &[Carried],
+    position: &Position<'_>,
     finds: &mut Vec<Find>,
     steps: &mut Steps<L>,
 ) -> Result<(), AllocError>
-    requires { n < length doc.now.nodes }
-    ensures { OnOk result (finds.new.items ≡ finds.old.items ++ spec.found_attributes doc.now around.now n row.now) }
+    requires { position.now.node < length scene.now.doc.now.nodes }
+    ensures { OnOk result (finds.new.items ≡ finds.old.items
+        ++ spec.found_attributes scene.now.doc.now position.now.around.now position.now.node row.now) }
 {
-    chains_lead_on(doc);
-    let mut at = doc.first_attribute(n, steps);
+    chains_lead_on(scene.doc);
+    let mut at = scene.doc.first_attribute(position.node, steps);
     'attributes: while let Some(m) = at {
-        pick_attribute(alloc, doc, row, m, around, finds, steps)?;
-        at = doc.next_attribute(m, steps);
+        let attribute = Position {
+            node: m,
+            around: position.around,
+        };
+        pick_attribute(scene, row, &attribute, finds, steps)?;
+        at = scene.doc.next_attribute(m, steps);
     }
     Ok(())
 }
 
 fn pick_attribute<L: Ledger>(
-    alloc: Global,
-    doc: &Doc<'_>,
+    scene: &Scene<'_, '_>,
     row: &FoundRow,
-    n: NodeId,
-    around: &[Carried],
+    position: &Position<'_>,
     finds: &mut Vec<Find>,
     steps: &mut Steps<L>,
 ) -> Result<(), AllocError>
-    requires { n < length doc.now.nodes }
-    ensures { OnOk result (finds.new.items ≡ finds.old.items ++ spec.found_attribute doc.now around.now row.now n) }
+    requires { position.now.node < length scene.now.doc.now.nodes }
+    ensures { OnOk result (finds.new.items ≡ finds.old.items
+        ++ spec.found_attribute scene.now.doc.now position.now.around.now row.now position.now.node) }
 {
-    if !has_name(doc, n, row.attribute) {
+    if !has_name(scene.doc, position.node, row.attribute) {
         return Ok(());
     }
-    if is_blank_at(alloc, doc, n, steps)? {
+    if is_blank_at(scene.alloc, scene.doc, position.node, steps)? {
         return Ok(());
     }
-    finds.push(find_of(row, n, around))?;
+    finds.push(find_of(row, position))?;
     Ok(())
 }
 
-fn find_of(row: &FoundRow, n: NodeId, around: &[Carried]) -> Find
-    ensures { result ≡ spec.find_of around.now row.now n }
+fn find_of(row: &FoundRow, position: &Position<'_>) -> Find
+    ensures { result ≡ spec.find_of position.now.around.now row.now position.now.node }
 {
     Find {
         wanted: row.wanted,
         picked: Picked {
-            node: n,
+            node: position.node,
             row: row.number,
-            outer: carrier_of(row.outer, around),
-            inner: carrier_of(row.inner, around),
+            outer: carrier_of(row.outer, position.around),
+            inner: carrier_of(row.inner, position.around),
         },
     }
 }

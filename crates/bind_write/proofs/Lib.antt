@@ -1,6 +1,7 @@
 pub mod WordLemmas
 pub mod WriterSteps
 pub mod TextLemmas
+pub mod LookLemmas
 pub mod SourceLemmas
 pub mod SpotLemmas
 pub mod PlanLemmas

@@ -10,7 +10,7 @@ use Rattle.xml_write.specs.declared.gauge.Gauge.{Gauge}
 use Rattle.xml_write.specs.Canonical.{Declaration, canonical_text}
 use Rattle.xml_write.specs.Calls.{Call, call_close, calls_of, encoded}
 use Rattle.xml_write.specs.Writers.{measuring}
-use Rattle.xml_write.specs.Sizes.{stopped, unmeasured, gauged, gauged_by_all, longest, canonical_tags}
+use Rattle.xml_write.specs.Sizes.{stopped, tag_stopped, unmeasured, gauged, gauged_by_all, longest, canonical_tags}
 use Rattle.bind_rows.specs.declared.rows.Row.{Row}
 use Rattle.bind_table.specs.Lines.{Plan, Cell, nothing, a_line, plan_of}
 use Rattle.bind_meaning.specs.Trees as trees
@@ -88,7 +88,7 @@ pub record Laws : Type 0 where
   pub bytes : (ds : List Declaration) (document : Forest)
       → (gauged_by_all unmeasured (map encoded (calls_of ds document))).bytes ≡ stopped (length (encode_utf8_all (canonical_text ds document)))
   pub longest_tag : (ds : List Declaration) (document : Forest)
-      → (gauged_by_all unmeasured (map encoded (calls_of ds document))).longest_tag ≡ stopped (longest (canonical_tags ds document))
+      → (gauged_by_all unmeasured (map encoded (calls_of ds document))).longest_tag ≡ tag_stopped (longest (canonical_tags ds document))
   pub nodes : (ds : List Declaration) (document : Forest) → IsDocument document
       → (gauged_by_all unmeasured (map encoded (calls_of ds document))).nodes ≡ stopped (size document + 1)
 
@@ -119,7 +119,7 @@ module _ (rows : List Row) (es : List Entry) (laws : Laws) where
         let e = sym (no-document rows es r none) in
         record {
           bytes = ap (λ f. stopped (length (encode_utf8_all (canonical_text ds f)))) e;
-          longest_tag = ap (λ f. stopped (longest (canonical_tags ds f))) e;
+          longest_tag = ap (λ f. tag_stopped (longest (canonical_tags ds f))) e;
           nodes = ap (λ f. stopped (node_count f)) e;
         }
 

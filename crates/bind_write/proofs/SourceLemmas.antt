@@ -1,6 +1,6 @@
 -- What is looked up among the entries of one occurrence is what all entries have.
 use Rattle.std.proofs.Common.{◌≡◌, ℕ, ◌+◌, ◌==◌, Bool, true, false, ◌&&◌, ◌||◌, cond, List, [], ◌∷◌, Option, Some, None, refl, ap, sym, ◌∙◌, subst, arith, fold, max, map, length, suc, ◌<◌, ◌≤◌, get_or, drop, drop-cons, add-one}
-use Rattle.std.specs.Prelude.{filter, find, option_map, option_and_then, is_none, is_some, nat_eq}
+use Rattle.std.specs.Prelude.{filter, find, option_map, option_and_then, is_none, is_some, nat_eq, if◌then◌else◌}
 use Rattle.std.proofs.lemmas.Bool.Decides.{nat_tests}
 use Rattle.std.proofs.lemmas.Grind.{common_steps}
 use Rattle.std.proofs.lemmas.List.Elements.{All-filter}
@@ -19,6 +19,7 @@ use Rattle.inv_terms.specs.declared.entries.Entry.{Entry}
 use Rattle.inv_terms.specs.declared.values.Value.{Value}
 use Rattle.inv_terms.specs.Values.{spelled}
 use Rattle.inv_terms.specs.Listing.{seat_of, is_at}
+use Rattle.inv_terms.specs.Listing as listing
 use Rattle.bind_rows.specs.declared.rows.Content.TheVariants as contents
 use Rattle.bind_rows.specs.declared.rows.Form.{Form}
 use Rattle.bind_rows.specs.declared.rows.Form.TheVariants as forms
@@ -31,6 +32,16 @@ use Rattle.bind_meaning.specs.Writing.{coded_note, formed, if_so, scheme_of, if_
 use Rattle.bind_meaning.specs.Trees.{index_in, inner_count, constant_or_text}
 use Rattle.bind_write.specs.Sources.{run_of, HasSameValues}
 use Rattle.bind_write.specs.Spots.{inner_count_of}
+
+-- ---- the number of a slot, as an invoice's listing says it and as a document's tree does
+
+chosen : (b : Bool) (n : ℕ) → (if b then n else 0) ≡ elim b [ true ↦ n | false ↦ 0 ]
+chosen true n = refl
+chosen false n = refl
+
+pub same-index : (group : Group) (slot : Option Slot) → listing.index_in group slot ≡ index_in group slot
+same-index group None = refl
+same-index group (Some slot) = chosen (same_group slot.group group) slot.index
 
 -- ---- lists that are filtered
 

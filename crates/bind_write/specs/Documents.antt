@@ -4,7 +4,7 @@ use Rattle.inv_base.specs.Tree.{Forest, no_more, a_text, an_element, size}
 use Rattle.inv_terms.specs.declared.entries.Entry.{Entry}
 use Rattle.xml_write.specs.declared.gauge.Gauge.{Gauge}
 use Rattle.xml_write.specs.Canonical.{Declaration, canonical_text}
-use Rattle.xml_write.specs.Sizes.{stopped, longest, canonical_tags}
+use Rattle.xml_write.specs.Sizes.{stopped, tag_stopped, longest, canonical_tags}
 use Rattle.bind_rows.specs.declared.names.Namespace.{Namespace}
 use Rattle.bind_rows.specs.declared.rows.Row.{Row}
 use Rattle.bind_table.specs.Lines.{Plan, nothing, a_line, plan_of}
@@ -43,8 +43,8 @@ root_alone (an_element name attributes inside rest) = an_element name attributes
 abbrev pub node_count : Forest → ℕ
 node_count document = size (root_alone document) + 1
 
--- The numbers are those of the invoice's document, each up to the greatest of 64 bits.
+-- The numbers are those of the invoice's document, each up to where it stops, past the limits on documents.
 pub record HasSizes (rows : List Row) (es : List Entry) (sizes : Gauge) : Type 0 where
   pub bytes : sizes.bytes ≡ stopped (length (encode_utf8_all (document_text rows es)))
-  pub longest_tag : sizes.longest_tag ≡ stopped (longest (canonical_tags (declarations_for rows) (document_of rows es)))
+  pub longest_tag : sizes.longest_tag ≡ tag_stopped (longest (canonical_tags (declarations_for rows) (document_of rows es)))
   pub nodes : sizes.nodes ≡ stopped (node_count (document_of rows es))

@@ -9,13 +9,14 @@ ghost use Rattle.bind_write.specs.Wordings as wordings;
 ghost use Rattle.bind_write.specs.Cells as spec;
 
 use crate::holding::{row_at, wording_of, writes};
+use crate::looking::value_of;
 use crate::source::Source;
 use crate::wording::{Plain, Wording, text_of};
 use bind_meaning::{form_for, type_of};
 use bind_rows::{Content, Leaf, Namespace, Row, Step, Written};
 use bind_table::Line;
 use inv_base::{Sink, Txt};
-use inv_terms::{Value, value_in};
+use inv_terms::Value;
 use term_table::{Letter, ROOT, Term};
 use xml_write::{WriteFault, Writer};
 
@@ -114,7 +115,7 @@ fn put_currency_of<W: Writer, K: Sink>(
     ensures makes { Makes result (W.view pen.old) (K.view out.old) (spec.currency_of source.now.entries.now row.now) (W.view pen.new) (K.view out.new) }
     ensures state { state_of (W.view pen.new) ≡ InsideTag }
 {
-    match value_in(source.entries, currency_term(&row.written), ROOT) {
+    match value_of(source.entries, currency_term(&row.written), ROOT) {
         None => Ok(()),
         Some(value) => put_value(pen, out, "currencyID", value),
     }

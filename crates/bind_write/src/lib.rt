@@ -4,6 +4,7 @@
 mod cells;
 mod documents;
 mod holding;
+mod looking;
 mod roots;
 mod sizes;
 mod source;

@@ -4,8 +4,8 @@ ghost use Rattle.bind_write.specs.Sources as sources;
 ghost use Rattle.bind_write.specs.Spots as spec;
 
 use crate::source::{Source, occurrence};
-use inv_terms::Entry;
-use term_table::{Context, Group, Slot};
+use inv_terms::{Entry, index_in};
+use term_table::{Context, Group};
 
 /// Where a line is written: in each occurrence of its group, or once where there is none.
 #[derive(Clone, Copy)]
@@ -80,20 +80,4 @@ fn last_inner(run: &[Entry], group: Group) -> u32
         last = last.max(index_in(group, e.context.inner));
     }
     last
-}
-
-/// The number of the slot, if it is one of that group, and else 0.
-fn index_in(group: Group, slot: Option<Slot>) -> u32
-    ensures { result ≡ trees.index_in group slot }
-{
-    match slot {
-        Some(slot) => {
-            if slot.group.is_same(group) {
-                slot.index
-            } else {
-                0
-            }
-        }
-        None => 0,
-    }
 }

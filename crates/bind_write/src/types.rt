@@ -4,9 +4,10 @@ ghost use Rattle.term_table.specs.Runs.{IsInOrder};
 ghost use Rattle.inv_terms.specs.Listing.{seat_of};
 ghost use Rattle.bind_meaning.specs.Writing as writing;
 
+use crate::looking::value_of;
 use bind_meaning::form_for;
 use bind_rows::{Row, letter_of_form};
-use inv_terms::{Entry, Value, value_in};
+use inv_terms::{Entry, Value};
 use term_table::{Context, Group, Letter, Slot, Term};
 
 /// Whether the value has the type.
@@ -67,10 +68,10 @@ pub(crate) fn value_for<'a>(
     ensures { option_copied result ≡ writing.value_for row.now entries.now term context }
 {
     match letter_of_form(form_for(row.form, term)) {
-        None => value_in(entries, term, context),
+        None => value_of(entries, term, context),
         Some(letter) => {
             if has_slots(row, context) {
-                of_type(letter, value_in(entries, term, context))
+                of_type(letter, value_of(entries, term, context))
             } else {
                 None
             }

@@ -1,5 +1,4 @@
 ghost use Rattle.std.specs.Prelude.{◌≡◌, ◌&&◌, ◌||◌, Option, Some, None, map, option_map, option_copied, take, chars, codes, bytes_eq, is_some, is_none, not, nat_le, length, false};
-ghost use Rattle.std.specs.Str.{IsAscii};
 ghost use Rattle.std.specs.List.{list_all};
 ghost use Rattle.inv_decimal.specs.CivilDay.{IsDay};
 ghost use Rattle.inv_decimal.specs.WrittenDay.{plain_day_text};
@@ -11,14 +10,14 @@ ghost use Rattle.bind_meaning.specs.Values as meaning;
 ghost use Rattle.bind_write.specs.Sources as sources;
 ghost use Rattle.bind_write.specs.Wordings as spec;
 
+use crate::looking::value_of;
 use crate::types::value_for;
 use bind_meaning::form_for;
 use bind_rows::{Content, Form, Row, Written};
-use inv_base::Txt;
+use inv_base::{Txt, ascii_text};
 use inv_decimal::Day;
 use inv_decimal::laws::printed_texts_are_ascii;
-use inv_terms::{Entry, Value, value_in};
-use std::str::from_utf8;
+use inv_terms::{Entry, Value};
 use term_table::{Context, Term};
 
 /// A code of BT-8 as UNTDID 2475 has it.
@@ -52,17 +51,6 @@ const SUBJECT: Term = Term {
     number: 21,
     part: 0,
 };
-
-/// The text of bytes that are ASCII.
-fn ascii_text(bytes: &[u8]) -> &str
-    requires { IsAscii bytes.now }
-    ensures { chars result.now ≡ bytes.now }
-{
-    match from_utf8(bytes) {
-        Ok(text) => text,
-        Err(_) => unreachable!(),
-    }
-}
 
 /// Puts the day at the front of the buffer, in eight bytes.
 fn put_day(day: Day, buf: &mut [u8; 40])
@@ -157,7 +145,7 @@ fn formed<'a>(form: Form, entries: &'a [Entry], context: Context, value: &'a Val
             text: due_date(value),
         },
         Form::CodedNote => Wording {
-            subject: value_in(entries, SUBJECT, context),
+            subject: value_of(entries, SUBJECT, context),
             text: Plain::Value(value),
         },
         Form::Typed(_) => Wording {
@@ -223,7 +211,7 @@ fn stands(entries: &[Entry], term: Term, context: Context) -> bool
     requires { IsInOrder (map listing.seat_of entries.now) }
     ensures { result ≡ is_some (listing.value_in entries.now term context) }
 {
-    value_in(entries, term, context).is_some()
+    value_of(entries, term, context).is_some()
 }
 
 fn scheme_of(term: Term) -> Term

@@ -15,7 +15,8 @@ told-ok k None r s goes h = goes h
 told-ok k (Some kind) r s goes h = cc
 
 -- the first rows of a list, and then the others, whose first has the number m
-sound : (rows own : List Row) (n k m : ℕ) (others : List Row) → k + n ≡ m → first_fault_from rows own k (take n others) ≡ Ok tt → first_fault_from rows own m (drop n others) ≡ Ok tt → first_fault_from rows own k others ≡ Ok tt
+sound : (rows own : List Row) (n k m : ℕ) (others : List Row) → k + n ≡ m → first_fault_from rows own k (take n others) ≡ Ok tt
+    → first_fault_from rows own m (drop n others) ≡ Ok tt → first_fault_from rows own k others ≡ Ok tt
 sound rows own zero k m others e front back = subst (λ j. first_fault_from rows own j others ≡ Ok tt) (let f : m ≡ k = omega arith in f) back
 sound rows own (suc n) k m [] e front back = refl
 sound rows own (suc n) k m (row ∷ others) e front back =
@@ -50,4 +51,8 @@ cii_200 = refl
 
 pub cii_sound : first_fault cii_rows ≡ Ok tt
 cii_sound =
-    sound cii_rows (built cii_rows) 40 0 40 cii_rows refl cii_0 (sound cii_rows (built cii_rows) 40 40 80 (drop 40 cii_rows) refl cii_40 (sound cii_rows (built cii_rows) 40 80 120 (drop 40 (drop 40 cii_rows)) refl cii_80 (sound cii_rows (built cii_rows) 40 120 160 (drop 40 (drop 40 (drop 40 cii_rows))) refl cii_120 (sound cii_rows (built cii_rows) 40 160 200 (drop 40 (drop 40 (drop 40 (drop 40 cii_rows)))) refl cii_160 (cii_200)))))
+    sound cii_rows (built cii_rows) 40 0 40 cii_rows refl cii_0
+    (sound cii_rows (built cii_rows) 40 40 80 (drop 40 cii_rows) refl cii_40
+    (sound cii_rows (built cii_rows) 40 80 120 (drop 40 (drop 40 cii_rows)) refl cii_80
+    (sound cii_rows (built cii_rows) 40 120 160 (drop 40 (drop 40 (drop 40 cii_rows))) refl cii_120
+    (sound cii_rows (built cii_rows) 40 160 200 (drop 40 (drop 40 (drop 40 (drop 40 cii_rows)))) refl cii_160 (cii_200)))))

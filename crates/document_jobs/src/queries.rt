@@ -350,7 +350,7 @@ fn write_by<L: Ledger, O: Sink>(
 /// The value of an expression at a document.
 fn value_of<'a, L: Ledger>(
     alloc: Global,
-    plan: &Plan,
+    plan: &'a Plan,
     doc: &Doc<'a>,
     steps: &mut Steps<L>,
 ) -> Result<Outcome<'a>, AllocError>

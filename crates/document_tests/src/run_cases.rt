@@ -94,7 +94,7 @@ fn steps_at<'a, L: Ledger>(
 fn both_counts<'a, L: Ledger>(
     alloc: Global,
     doc: &Doc<'a>,
-    plan: &Plan,
+    plan: &'a Plan,
     env: &Env<'a>,
     ledger: Blank,
 ) -> Result<(u64, u64), AllocError>

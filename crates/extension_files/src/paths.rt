@@ -4,8 +4,8 @@ ghost use Rattle.std.specs.List.{list_all, slice_split};
 ghost use Rattle.std.specs.Char.{is_ascii_alphanumeric};
 ghost use Rattle.extension_files.specs.PathTexts as spec;
 
-use bind_rows::{ElementName, Namespace, prefix_of};
-use inv_base::{Many, Txt};
+use bind_rows::{ElementName, Namespace, Word, prefix_of};
+use inv_base::Many;
 use std::alloc::{AllocError, Global};
 
 /// The names that a path's text spells, if it is one of names in these namespaces.
@@ -64,7 +64,7 @@ fn name_of(
     match parts_of(spaces, text) {
         Some((namespace, local)) => Ok(Some(ElementName {
             namespace,
-            local: Txt::of(alloc, local)?,
+            local: Word::of(alloc, local)?,
         })),
         None => Ok(None),
     }

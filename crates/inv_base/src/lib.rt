@@ -2,6 +2,7 @@
 //! faults, places, characters, and in `specs/` the plain tree of a document.
 #![tactic(auto)]
 
+mod ascii;
 mod buffered;
 mod characters;
 mod copying;
@@ -20,6 +21,7 @@ mod tree;
 mod txt;
 mod writing;
 
+pub use ascii::ascii_text;
 pub use buffered::Buffered;
 pub use characters::{is_char, is_name_char, is_name_start, is_white_space};
 pub use fronts::{Stops, front_len};

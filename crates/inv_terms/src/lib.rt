@@ -27,6 +27,7 @@ pub use laws::{
     invoices_are_in_listing_order, invoices_with_the_same_entries_are_equal,
     push_refuses_what_makes_no_invoice, spelled_values_are_read_back,
 };
+pub use listing::index_in;
 pub use looking::value_in;
 pub use missing::{all_missing, first_missing};
 pub use spaces::{is_blank, trimmed};

@@ -31,8 +31,8 @@ fn comes_before(a: &Entry, b: &Entry) -> bool
     }
 }
 
-// The number of the slot, if it is one of that group, and else 0.
-fn index_in(group: Group, slot: Option<Slot>) -> u32
+/// The number of the slot, if it is one of that group, and else 0.
+pub fn index_in(group: Group, slot: Option<Slot>) -> u32
     ensures { result ≡ spec.index_in group slot }
 {
     match slot {

@@ -1,5 +1,4 @@
 ghost use Rattle.std.specs.Prelude.{◌≡◌, IfOk, chars, take, bytes_eq};
-ghost use Rattle.std.specs.Str.{IsAscii};
 ghost use Rattle.std.specs.Ordering.{int_cmp, is_eq};
 ghost use Rattle.inv_decimal.specs.CivilDay.{IsDay};
 ghost use Rattle.inv_decimal.specs.WrittenNumber.{scaled_text};
@@ -10,12 +9,11 @@ ghost use Rattle.inv_terms.specs.Values as spec;
 
 use crate::spaces::{is_blank, trimmed};
 use code_lists::is_code;
-use inv_base::{Txt, is_char};
+use inv_base::{Txt, ascii_text, is_char};
 use inv_decimal::laws::printed_texts_are_ascii;
 use inv_decimal::{Day, Scaled};
 use std::alloc::{AllocError, Global};
 use std::cmp::Ordering;
-use std::str::from_utf8;
 use term_table::Letter;
 
 /// The value of a business term. A number keeps how many digits it was written with behind the point.
@@ -82,17 +80,6 @@ impl Value {
             (Value::Base64(a), Value::Base64(b)) => is_same_text(a, b),
             _ => false,
         }
-    }
-}
-
-// The text of bytes that are ASCII.
-fn ascii_text(bytes: &[u8]) -> &str
-    requires { IsAscii bytes.now }
-    ensures { chars result.now ≡ bytes.now }
-{
-    match from_utf8(bytes) {
-        Ok(text) => text,
-        Err(_) => unreachable!(),
     }
 }
 

@@ -1,6 +1,5 @@
 //! VAT categories as texts, by which their sums are found: equal categories have one text.
 ghost use Rattle.std.specs.Prelude.{◌≡◌, ◌++◌, ◌∷◌, chars, string_bytes, option_map, option_copied, OnOk};
-ghost use Rattle.std.specs.Str.{IsAscii};
 ghost use Rattle.inv_decimal.specs.Number.{IsDecimal};
 ghost use Rattle.inv_decimal.specs.WrittenNumber.{decimal_text};
 ghost use Rattle.inv_totals.specs.Totals.{category_at};
@@ -8,12 +7,11 @@ ghost use Rattle.inv_totals.specs.Adding as spec;
 
 use crate::stated::{code_at, stated};
 use crate::sums::CategoryTerms;
-use inv_base::Txt;
+use inv_base::{Txt, ascii_text};
 use inv_decimal::laws::printed_texts_are_ascii;
 use inv_decimal::{Dec, Scaled};
 use inv_terms::Invoice;
 use std::alloc::AllocError;
-use std::str::from_utf8;
 use term_table::Context;
 
 /// Puts the text of the VAT category that stands in a context in place of what was there: its rate, a space, and its
@@ -76,15 +74,4 @@ fn number_text<'a>(number: &Dec, buf: &'a mut [u8; 40]) -> &'a str
     printed_texts_are_ascii();
     let len = number.print(buf);
     ascii_text(&buf[..len])
-}
-
-/// The text of bytes that are ASCII.
-fn ascii_text(bytes: &[u8]) -> &str
-    requires { IsAscii bytes.now }
-    ensures { chars result.now ≡ bytes.now }
-{
-    match from_utf8(bytes) {
-        Ok(text) => text,
-        Err(_) => unreachable!(),
-    }
 }

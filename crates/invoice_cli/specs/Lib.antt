@@ -5,3 +5,4 @@ pub mod Answers
 pub mod Endings
 pub mod Conversions
 pub mod Adapters
+pub mod Trials

@@ -3,9 +3,10 @@ ghost use Rattle.invoice_cli.specs.Job.{job, words_of};
 ghost use Rattle.invoice_cli.specs.Answers.{Answers, Says};
 ghost use Rattle.invoice_cli.specs.Endings.{Ends};
 ghost use Rattle.invoice_cli.specs.Conversions.{ConversionsReturn};
+ghost use Rattle.invoice_cli.specs.Trials.{TrialsKeepTerms};
 
 use crate::conversions::conversions_return;
-use crate::trials::trial;
+use crate::trials::{trial, trials_keep_terms};
 use crate::usage::HELP;
 use crate::version::say_version;
 use crate::words::{Command, command_of};
@@ -35,6 +36,8 @@ use validation_jobs::validate;
 /// syntax, where that carries it too, and this back, writes the first bytes again. Nothing else is ever answered as done:
 /// where `convert` is, the code lists, the further terms and the file were accepted, and the syntax carries the invoice. All of it
 /// holds whatever terms a user adds.
+///
+/// An answer to `try` says `same terms yes` and the generated total for each number of lines that words may name (`trials`).
 pub fn run<S: Shelf, O: Sink, E: Sink>(
     alloc: Global,
     words: &[String],
@@ -46,8 +49,10 @@ pub fn run<S: Shelf, O: Sink, E: Sink>(
         (record { shelf = S.view shelf.old; out = O.view out.old; err = E.view err.old })
         (record { shelf = S.view shelf.new; out = O.view out.new; err = E.view err.new }) result }
     ensures conversions { ConversionsReturn }
+    ensures trials { TrialsKeepTerms }
 {
     conversions_return();
+    trials_keep_terms();
     let answered = answer_held::<Brand, S, O, E>(alloc, words, shelf, Lent { sink: out }, err);
     answered.1
 }

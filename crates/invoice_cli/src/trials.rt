@@ -3,13 +3,22 @@ ghost use Rattle.std.specs.Prelude.{◌≡◌, ◌≤◌, ◌<◌, ℕ};
 ghost use Rattle.trial_run.specs.Trials.{trial_of, trial_text};
 ghost use Rattle.invoice_cli.specs.Job.{most_lines};
 ghost use Rattle.invoice_cli.specs.Answers.{Tries};
+ghost use Rattle.invoice_cli.specs.Trials.{TrialsKeepTerms};
 
 use inv_base::{Sink, Steps};
 use job_course::Status;
 use std::alloc::Global;
 use std::marker::Brand;
 use std::sync::ledger::{Blank, Ledger};
+use trial_laws::trials_keep_the_terms;
 use trial_run::{run_trial, write_trial};
+
+/// A trial of each number of lines finds the same terms and the generated total. It has no code.
+pub(crate) fn trials_keep_terms()
+    ensures { TrialsKeepTerms }
+{
+    trials_keep_the_terms();
+}
 
 /// Tries the tool on a generated invoice of so many lines, and writes what the trial came to. Nothing is written before it is over.
 pub(crate) fn trial<O: Sink>(alloc: Global, lines: u32, out: &mut O) -> Status

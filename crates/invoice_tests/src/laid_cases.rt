@@ -2,7 +2,7 @@
 ghost use Rattle.std.specs.Prelude.{◌≡◌, ◌+◌, ◌<◌, [], length, IfOk, OnOk};
 
 use bind_rows::{
-    Check, Content, ElementName, Form, Leaf, Many, Namespace, Repeats, Row, Step, Written,
+    Check, Content, ElementName, Form, Leaf, Many, Namespace, Repeats, Row, Step, Word, Written,
 };
 use bind_table::Binding;
 use cii_binding::cii;
@@ -111,7 +111,7 @@ fn element(
     Ok(Step {
         name: ElementName {
             namespace,
-            local: Txt::of(alloc, local)?,
+            local: Word::of(alloc, local)?,
         },
         number: u32::from(number),
         always: false,

@@ -1,10 +1,9 @@
 ghost use Rattle.std.specs.Prelude.{◌≡◌, ℕ, ◌+◌, ◌<◌, ◌^◌, length, IfOk, OnOk};
 
 use bind_rows::{
-    Check, Content, ElementName, Form, Leaf, Many, Namespace, Repeats, Row, Step, Written,
+    Check, Content, ElementName, Form, Leaf, Many, Namespace, Repeats, Row, Step, Word, Written,
 };
 use bind_table::Binding;
-use inv_base::Txt;
 use std::alloc::{AllocError, Global};
 use term_table::{Group, Term};
 
@@ -21,7 +20,7 @@ pub fn element(
     Ok(Step {
         name: ElementName {
             namespace,
-            local: Txt::of(alloc, local)?,
+            local: Word::of(alloc, local)?,
         },
         number,
         always: false,

@@ -13,7 +13,8 @@ use Rattle.xpath_operators.specs.Nodes.{IsWithin, AreWithin}
 use Rattle.item_listing.specs.Listing.{WritesSome}
 use Rattle.item_listing.specs.Printing.{stopped}
 
-pub within_at : (count : ℕ) (items : List Item) (k : ℕ) (item : Item) → AreWithin count items → k < length items → item ≡ get_or items k item → IsWithin count item
+pub within_at : (count : ℕ) (items : List Item) (k : ℕ) (item : Item) → AreWithin count items → k < length items
+    → item ≡ get_or items k item → IsWithin count item
 within_at count [] k item h l e = absurd (omega (arith, l))
 within_at count (x ∷ items) zero item h l e = subst (IsWithin count) (sym e) h.0
 within_at count (x ∷ items) (suc k) item h l e = within_at count items k item h.1 (omega (arith, l)) e

@@ -33,7 +33,8 @@ none-below q n b [] r h = refl
 none-below q n b (x ∷ xs) r h =
     let rest = filter (λ (node : Node). nat_lt node.number n && q node.number) xs in
     let low = r.0 in
-    ap (λ t. length (if t && q x.number then x ∷ rest else rest)) (not-less x.number n (omega (arith, low, h))) ∙ none-below q n (suc x.number) xs r.1 (omega (arith, low, h))
+    ap (λ t. length (if t && q x.number then x ∷ rest else rest)) (not-less x.number n (omega (arith, low, h)))
+    ∙ none-below q n (suc x.number) xs r.1 (omega (arith, low, h))
 
 -- the one before, of those that are so
 record Previous (q : ℕ → Bool) (n b k : ℕ) (nodes : List Node) : Type 0 where
@@ -44,7 +45,9 @@ record Previous (q : ℕ → Bool) (n b k : ℕ) (nodes : List Node) : Type 0 wh
   place : count q number nodes ≡ k
 
 module _ (q : ℕ → Bool) (n : ℕ) where
-  one-more : (x : Node) (xs : List Node) (m k : ℕ) (c : Bool) → nat_lt x.number m ≡ true → q x.number ≡ c → length (if c then x ∷ filter (λ (node : Node). nat_lt node.number m && q node.number) xs else filter (λ (node : Node). nat_lt node.number m && q node.number) xs) ≡ k
+  one-more : (x : Node) (xs : List Node) (m k : ℕ) (c : Bool) → nat_lt x.number m ≡ true → q x.number ≡ c
+      → length (if c then x ∷ filter (λ (node : Node). nat_lt node.number m && q node.number) xs else filter
+      (λ (node : Node). nat_lt node.number m && q node.number) xs) ≡ k
       → count q m (x ∷ xs) ≡ k
   one-more x xs m k c e f h =
       let rest = filter (λ (node : Node). nat_lt node.number m && q node.number) xs in
@@ -59,7 +62,8 @@ module _ (q : ℕ → Bool) (n : ℕ) where
     place = none-below q x.number x.number (x ∷ xs) (let z : x.number ≤ x.number = omega arith in z, r.1) (omega arith);
   }
 
-  previous-behind : (b k j : ℕ) (x : Node) (xs : List Node) (c : Bool) → Rise b (x ∷ xs) → q x.number ≡ c → (l : List Node → ℕ) → Previous q n (suc x.number) j xs
+  previous-behind : (b k j : ℕ) (x : Node) (xs : List Node) (c : Bool) → Rise b (x ∷ xs) → q x.number ≡ c → (l : List Node → ℕ)
+      → Previous q n (suc x.number) j xs
       → ((rest : List Node) → length rest ≡ j → length (if c then x ∷ rest else rest) ≡ k) → Previous q n b k (x ∷ xs)
   previous-behind b k j x xs c r f l p h =
       let low = r.0 in
@@ -79,9 +83,11 @@ module _ (q : ℕ → Bool) (n : ℕ) where
       rest : List Node
       rest = filter (λ (node : Node). nat_lt node.number n && q node.number) xs
 
-      go : (a c : Bool) (i : ℕ) → nat_lt x.number n ≡ a → q x.number ≡ c → length (if a && c then x ∷ rest else rest) ≡ suc i → ((j : ℕ) → length rest ≡ suc j → Previous q n (suc x.number) j xs) → Previous q n b i (x ∷ xs)
+      go : (a c : Bool) (i : ℕ) → nat_lt x.number n ≡ a → q x.number ≡ c → length (if a && c then x ∷ rest else rest) ≡ suc i
+          → ((j : ℕ) → length rest ≡ suc j → Previous q n (suc x.number) j xs) → Previous q n b i (x ∷ xs)
       go true true zero e f l g = previous-first b x xs r e f
-      go true true (suc j) e f l g = previous-behind b (suc j) j x xs true r f length (g j (let z : suc (length rest) ≡ suc (suc j) = l in omega arith)) (λ others h. ap suc h)
+      go true true (suc j) e f l g = previous-behind b (suc j) j x xs true r f length (g j (let z : suc (length rest) ≡ suc (suc j) = l in omega arith))
+          (λ others h. ap suc h)
       go true false i e f l g = previous-behind b i i x xs false r f length (g i l) (λ others h. h)
       go false c i e f l g =
           let p = g i l in
@@ -91,10 +97,12 @@ module _ (q : ℕ → Bool) (n : ℕ) where
 
 -- ---- so an occurrence is counted, where each element before it is one
 
-first-counted : (es : List Entry) (around : Slot → Context) (group : Group) (i : ℕ) → i ≡ 1 → is_counted es around (Some (record { group = group; index = i })) ≡ true
+first-counted : (es : List Entry) (around : Slot → Context) (group : Group) (i : ℕ) → i ≡ 1
+    → is_counted es around (Some (record { group = group; index = i })) ≡ true
 first-counted es around group i e = ap (λ j. nat_le 1 j && ((j == 1) || occurs es (around (record { group = group; index = j - 1 })))) e
 
-later-counted : (es : List Entry) (around : Slot → Context) (group : Group) (i m : ℕ) → i ≡ suc (suc m) → occurs es (around (record { group = group; index = suc m })) ≡ true
+later-counted : (es : List Entry) (around : Slot → Context) (group : Group) (i m : ℕ) → i ≡ suc (suc m)
+    → occurs es (around (record { group = group; index = suc m })) ≡ true
     → is_counted es around (Some (record { group = group; index = i })) ≡ true
 later-counted es around group i m e h =
     and-true (nat_le 1 i) _ (from-one i (omega (arith, e)))
@@ -118,4 +126,5 @@ counted nodes r es around group elements n h = go (count q n nodes) refl
         let p = previous q n 0 k nodes r e in
         let place = p.place in
         later-counted es around group (place_among nodes elements n) k (let z : 1 + count q n nodes ≡ suc (suc k) = omega (arith, e) in z)
-        (ap (λ j. occurs es (around (record { group = group; index = j }))) (let z : suc k ≡ 1 + count q p.number nodes = omega (arith, place) in z) ∙ h p.number p.is)
+        (ap (λ j. occurs es (around (record { group = group; index = j }))) (let z : suc k ≡ 1 + count q p.number nodes = omega (arith, place) in z)
+        ∙ h p.number p.is)

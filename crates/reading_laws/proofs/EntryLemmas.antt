@@ -49,13 +49,15 @@ OfEntry P t = (value : Value) → t.said.value ≡ Some value → P (entry_at t 
 pub each-entry : (P : Entry → Type 0) (t : Told) → OfEntry P t → AllByRecursion P (entry_of t)
 each-entry P t h = go t.said.value refl
   where
-    go : (o : Option Value) → t.said.value ≡ o → AllByRecursion P (elim o [ None ↦ [] | Some value ↦ record { context = context_of t.placed; term = t.said.term; value = value } ∷ [] ])
+    go : (o : Option Value) → t.said.value ≡ o
+        → AllByRecursion P (elim o [ None ↦ [] | Some value ↦ record { context = context_of t.placed; term = t.said.term; value = value } ∷ [] ])
     go None e = tt
     go (Some value) e = (h value e, tt)
 
 pub of-entries : (P : Entry → Type 0) (ts : List Told) → AllByRecursion (OfEntry P) ts → AllByRecursion P (entries ts)
 of-entries P ts h =
-    each-listed P (flat_map entry_of (firsts_behind [] ts)) (each-flat P (OfEntry P) entry_of (each-entry P) (firsts_behind [] ts) (each-first (OfEntry P) [] ts h))
+    each-listed P (flat_map entry_of (firsts_behind [] ts))
+    (each-flat P (OfEntry P) entry_of (each-entry P) (firsts_behind [] ts) (each-first (OfEntry P) [] ts h))
 
 -- ---- the same seats
 
@@ -69,7 +71,8 @@ HasPlace t = is_some (seat_place (seat_of t)) ≡ true
 pub seat-is : (a t : Told) → is_of_seat a t ≡ true → seat_of a ≡ seat_of t
 seat-is a t h = go (same_term a.said.term t.said.term) refl h
   where
-    go : (b : Bool) → same_term a.said.term t.said.term ≡ b → (elim b [ true ↦ same_context (context_of a.placed) (context_of t.placed) | false ↦ false ]) ≡ true → seat_of a ≡ seat_of t
+    go : (b : Bool) → same_term a.said.term t.said.term ≡ b
+        → (elim b [ true ↦ same_context (context_of a.placed) (context_of t.placed) | false ↦ false ]) ≡ true → seat_of a ≡ seat_of t
     go true e l =
         let term : a.said.term ≡ t.said.term = same_term_is a.said.term t.said.term e in
         let context : context_of a.placed ≡ context_of t.placed = context_is (context_of a.placed) (context_of t.placed) l in
@@ -85,7 +88,8 @@ module _ (q : Seat → Bool) where
   found-before [] t h k = absurd (false≢true h)
   found-before (a ∷ before) t h k = go (is_of_seat a t) refl h (λ l. found-before before t l k)
     where
-      go : (b : Bool) → is_of_seat a t ≡ b → is_some (elim b [ true ↦ Some a | false ↦ first_before before t ]) ≡ true → (is_some (first_before before t) ≡ true → list_any (λ t. q (seat_of t)) before ≡ true)
+      go : (b : Bool) → is_of_seat a t ≡ b → is_some (elim b [ true ↦ Some a | false ↦ first_before before t ]) ≡ true
+          → (is_some (first_before before t) ≡ true → list_any (λ t. q (seat_of t)) before ≡ true)
           → (q (seat_of a) || list_any (λ t. q (seat_of t)) before) ≡ true
       go true e l f = or-left (q (seat_of a)) (list_any (λ t. q (seat_of t)) before) (ap q (seat-is a t e) ∙ k)
       go false e l f = or-right (q (seat_of a)) (list_any (λ t. q (seat_of t)) before) (f l)
@@ -108,7 +112,8 @@ module _ (q : Seat → Bool) where
       go : (o : Option Told) → first_before before t ≡ o
           → (any_told (before ++ (t ∷ [])) || any_told (firsts_behind (before ++ (t ∷ [])) ts)) ≡ (any_told (before ++ (t ∷ [])) || any_told ts)
           → (any_told before || any_told (firsts_behind before ts)) ≡ (any_told before || any_told ts)
-          → (any_told before || any_told (elim o [ None ↦ t ∷ firsts_behind (before ++ (t ∷ [])) ts | Some first ↦ firsts_behind before ts ])) ≡ (any_told before || any_told (t ∷ ts))
+          → (any_told before || any_told (elim o [ None ↦ t ∷ firsts_behind (before ++ (t ∷ [])) ts | Some first ↦ firsts_behind before ts ]))
+          ≡ (any_told before || any_told (t ∷ ts))
       go None e f g =
           new-step (any_told before) (q (seat_of t)) (any_told (firsts_behind (before ++ (t ∷ [])) ts)) (any_told ts) (any_told (before ++ (t ∷ [])))
           (any-append (λ t. q (seat_of t)) before (t ∷ [])) f
@@ -124,7 +129,8 @@ module _ (q : Seat → Bool) where
   entries-there (t ∷ ts) v = go t.said.value v.0 (entries-there ts v.1)
     where
       go : (o : Option Value) → is_some o ≡ true → any_entry (flat_map entry_of ts) ≡ any_told ts
-          → any_entry ((elim o [ None ↦ [] | Some value ↦ record { context = context_of t.placed; term = t.said.term; value = value } ∷ [] ]) ++ flat_map entry_of ts) ≡ any_told (t ∷ ts)
+          → any_entry ((elim o [ None ↦ [] | Some value ↦ record { context = context_of t.placed; term = t.said.term; value = value } ∷ [] ])
+          ++ flat_map entry_of ts) ≡ any_told (t ∷ ts)
       go None k f = absurd (false≢true k)
       go (Some value) k f = ap (λ b. q (seat_of t) || b) f
 

@@ -73,7 +73,8 @@ abbrev read_entries : Result Read BindFault → List Entry
 read_entries (Ok read) = read.entries
 read_entries (Err fault) = []
 
-read-placed : (nodes : List Node) (lists : Lists) (rows : List Row) (read : Read) (o : Option Found) → least (all_faults nodes lists (currencies nodes rows) rows (places_in nodes rows)) ≡ o
+read-placed : (nodes : List Node) (lists : Lists) (rows : List Row) (read : Read) (o : Option Found)
+    → least (all_faults nodes lists (currencies nodes rows) rows (places_in nodes rows)) ≡ o
     → ◌≡◌ {A = Result Read BindFault} (elim o [
       | Some first ↦ Err first.fault
       | None ↦ Ok (record { entries = entries (told nodes (places_in nodes rows)); passed_over = passed_over nodes rows })
@@ -84,7 +85,8 @@ read-placed nodes lists rows read None e k =
     let c = currencies nodes rows in
     let ps = places_in nodes rows in
     let none = no-least (all_faults nodes lists c rows ps) e in
-    let a = none-of-both (faults_behind nodes lists c [] (told nodes ps)) (flat_map (wrong_word nodes) (constant_picks nodes rows) ++ flat_map (missing_in nodes (map seat_of (told nodes ps))) (rooms ps)) none in
+    let a = none-of-both (faults_behind nodes lists c [] (told nodes ps))
+    (flat_map (wrong_word nodes) (constant_picks nodes rows) ++ flat_map (missing_in nodes (map seat_of (told nodes ps))) (rooms ps)) none in
     let b = none-of-both (flat_map (wrong_word nodes) (constant_picks nodes rows)) (flat_map (missing_in nodes (map seat_of (told nodes ps))) (rooms ps)) a.1 in
     record {
       entries_are = sym (ap read_entries k);

@@ -34,7 +34,8 @@ module _ (fits : (form : Form) (term : Term) (string : List ℕ) → AllFit (sai
       (λ p term k e. each-of-all FitsIts (said p.pick.row.form term (string_at nodes p.pick.node)) (fits p.pick.row.form term (string_at nodes p.pick.node)))
       ps (each-any AnyPlaced (λ p. tt) ps)
 
-  pub entries-fit : (nodes : List Node) (rows : List Row) (lists : Lists) (read : Read) → terms_of nodes rows lists ≡ Ok read → All (λ (e : Entry). Fits e.term e.value) read.entries
+  pub entries-fit : (nodes : List Node) (rows : List Row) (lists : Lists) (read : Read) → terms_of nodes rows lists ≡ Ok read
+      → All (λ (e : Entry). Fits e.term e.value) read.entries
   entries-fit nodes rows lists read h =
       let r = read-of nodes rows lists read h in
       let ts = told nodes (places_in nodes rows) in
@@ -53,4 +54,5 @@ code-allowed lists t fine value e = sym (ap (λ o. is_outside lists (list_of t.s
 pub each-allowed : (nodes : List Node) (rows : List Row) (lists : Lists) (es : List Entry) → IsReadOf nodes rows lists es → AllByRecursion (IsAllowed lists) es
 each-allowed nodes rows lists es r =
     let ts = told nodes (places_in nodes rows) in
-    subst (AllByRecursion (IsAllowed lists)) (sym r.entries_are) (of-entries (IsAllowed lists) ts (each-weaker (IsFine lists) (OfEntry (IsAllowed lists)) (code-allowed lists) ts r.fine))
+    subst (AllByRecursion (IsAllowed lists)) (sym r.entries_are)
+    (of-entries (IsAllowed lists) ts (each-weaker (IsFine lists) (OfEntry (IsAllowed lists)) (code-allowed lists) ts r.fine))

@@ -30,7 +30,8 @@ front-listed : (es more : List Entry) → is_listed (es ++ more) ≡ true → is
 front-listed [] more h = refl
 front-listed (e ∷ es) more h =
     let w = both (list_all (comes_before e) (es ++ more)) (is_listed (es ++ more)) h in
-    and-true (list_all (comes_before e) es) (is_listed es) (tests-hold (comes_before e) es (each-front (Ahead e) es more (tests-each (comes_before e) (es ++ more) w.0))) (front-listed es more w.1)
+    and-true (list_all (comes_before e) es) (is_listed es)
+    (tests-hold (comes_before e) es (each-front (Ahead e) es more (tests-each (comes_before e) (es ++ more) w.0))) (front-listed es more w.1)
 
 all-ahead : (es more : List Entry) → is_listed (es ++ more) ≡ true → AllByRecursion (λ e. AllByRecursion (Ahead e) more) es
 all-ahead [] more h = tt
@@ -53,7 +54,8 @@ outer-behind e y slot ahead at one inside =
     let w = outer-rises (seat_of e) (seat_of y) (before-from (seat_of e) (seat_of y) ahead) slot (earlier slot) at there refl in
     too-small slot.index (slot.index - 1) one refl w.0
 
-inner-behind : (e y : Entry) (slot : Slot) → Ahead e y → e.context.inner ≡ Some slot → 1 ≤ slot.index → is_inside (in_inner e.context.outer (earlier slot)) y.context ≡ true → ⊥
+inner-behind : (e y : Entry) (slot : Slot) → Ahead e y → e.context.inner ≡ Some slot → 1 ≤ slot.index
+    → is_inside (in_inner e.context.outer (earlier slot)) y.context ≡ true → ⊥
 inner-behind e y slot ahead at one inside =
     let b = before-from (seat_of e) (seat_of y) ahead in
     let u = outer_slot (seat_of e) b.first slot at in
@@ -63,7 +65,8 @@ inner-behind e y slot ahead at one inside =
     let there : y.context.inner ≡ Some (earlier slot) = sym (same_slot_is (Some (earlier slot)) y.context.inner v.1) in
     too-small slot.index (slot.index - 1) one refl (inner-rises (seat_of e) (seat_of y) b u.0 slot (earlier slot) u.1 out at there refl)
 
-none-occurs : (more : List Entry) (c : Context) (P : Entry → Type 0) → AllByRecursion P more → ((y : Entry) → P y → is_inside c y.context ≡ true → ⊥) → occurs more c ≡ false
+none-occurs : (more : List Entry) (c : Context) (P : Entry → Type 0) → AllByRecursion P more → ((y : Entry) → P y → is_inside c y.context ≡ true → ⊥)
+    → occurs more c ≡ false
 none-occurs more c P all h = elim (bool-cases (occurs more c)) [
   | inl k ↦ (let w = any-here P (λ (y : Entry). is_inside c y.context) more all k in absurd (h w.0 w.1 w.2))
   | inr k ↦ k
@@ -78,7 +81,8 @@ or-end false b e h = absurd (false≢true (sym e ∙ h))
 at-least : (i : ℕ) → nat_le 1 i ≡ true → 1 ≤ i
 at-least i h = grind (arith, nat_tests)
 
-front-counted : (es more : List Entry) (around : Slot → Context) (o : Option Slot) → ((slot : Slot) → o ≡ Some slot → 1 ≤ slot.index → occurs more (around (earlier slot)) ≡ false)
+front-counted : (es more : List Entry) (around : Slot → Context) (o : Option Slot)
+    → ((slot : Slot) → o ≡ Some slot → 1 ≤ slot.index → occurs more (around (earlier slot)) ≡ false)
     → is_counted (es ++ more) around o ≡ true → is_counted es around o ≡ true
 front-counted es more around None none h = refl
 front-counted es more around (Some slot) none h =
@@ -98,14 +102,16 @@ entry-counted : (es more : List Entry) (e : Entry) → AllByRecursion (Ahead e) 
 entry-counted es more e ahead h =
     let w = both (is_counted (es ++ more) in_outer e.context.outer) (is_counted (es ++ more) (in_inner e.context.outer) e.context.inner) h in
     and-true (is_counted es in_outer e.context.outer) (is_counted es (in_inner e.context.outer) e.context.inner)
-    (front-counted es more in_outer e.context.outer (λ slot at one. none-occurs more (in_outer (earlier slot)) (Ahead e) ahead (λ y k i. outer-behind e y slot k at one i)) w.0)
+    (front-counted es more in_outer e.context.outer
+    (λ slot at one. none-occurs more (in_outer (earlier slot)) (Ahead e) ahead (λ y k i. outer-behind e y slot k at one i)) w.0)
     (front-counted es more (in_inner e.context.outer) e.context.inner
     (λ slot at one. none-occurs more (in_inner e.context.outer (earlier slot)) (Ahead e) ahead (λ y k i. inner-behind e y slot k at one i)) w.1)
 
 front-numbered : (es more : List Entry) → is_listed (es ++ more) ≡ true → is_numbered (es ++ more) ≡ true → is_numbered es ≡ true
 front-numbered es more listed h =
     tests-hold (is_counted_in es) es
-    (each-weaker (λ e. AllByRecursion (Ahead e) more × (is_counted_in (es ++ more) e ≡ true)) (λ e. is_counted_in es e ≡ true) (λ e w. entry-counted es more e w.0 w.1) es
+    (each-weaker (λ e. AllByRecursion (Ahead e) more × (is_counted_in (es ++ more) e ≡ true)) (λ e. is_counted_in es e ≡ true)
+    (λ e w. entry-counted es more e w.0 w.1) es
     (each-both (λ e. AllByRecursion (Ahead e) more) (λ e. is_counted_in (es ++ more) e ≡ true) es (all-ahead es more listed)
     (each-front (λ e. is_counted_in (es ++ more) e ≡ true) es more (tests-each (is_counted_in (es ++ more)) (es ++ more) h))))
 

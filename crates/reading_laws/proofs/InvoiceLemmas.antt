@@ -29,7 +29,8 @@ use Rattle.reading_laws.proofs.OrderLemmas.{entries-listed}
 use Rattle.reading_laws.proofs.NumberLemmas.{entries-numbered}
 use Rattle.reading_laws.proofs.NodeLemmas.{document-rises}
 
-sound-picks : (nodes : List Node) (rows : List Row) → first_fault rows ≡ Ok tt → AllByRecursion (IsPickOf (IsSoundRow rows)) (term_picks nodes (currencies nodes rows) rows)
+sound-picks : (nodes : List Node) (rows : List Row) → first_fault rows ≡ Ok tt
+    → AllByRecursion (IsPickOf (IsSoundRow rows)) (term_picks nodes (currencies nodes rows) rows)
 sound-picks nodes rows formed = picks-of nodes (IsSoundRow rows) rows (sound-each rows formed) (currencies nodes rows)
 
 all-placed : (nodes : List Node) (rows : List Row) → first_fault rows ≡ Ok tt → AllByRecursion HasPlace (told nodes (places_in nodes rows))
@@ -38,19 +39,23 @@ all-placed nodes rows formed = told-placed rows nodes (term_picks nodes (currenc
 pub places-told : (nodes : List Node) (rows : List Row) → first_fault rows ≡ Ok tt → All HasPlace (told nodes (places_in nodes rows))
 places-told nodes rows formed = all-of-each HasPlace (told nodes (places_in nodes rows)) (all-placed nodes rows formed)
 
-pub read-placed : (nodes : List Node) (rows : List Row) (lists : Lists) (read : Read) → first_fault rows ≡ Ok tt → terms_of nodes rows lists ≡ Ok read → list_all is_placed read.entries ≡ true
+pub read-placed : (nodes : List Node) (rows : List Row) (lists : Lists) (read : Read) → first_fault rows ≡ Ok tt → terms_of nodes rows lists ≡ Ok read
+    → list_all is_placed read.entries ≡ true
 read-placed nodes rows lists read formed h =
     let r = read-of nodes rows lists read h in
     let ts = told nodes (places_in nodes rows) in
     subst (λ es. list_all is_placed es ≡ true) (sym r.entries_are)
-    (tests-hold is_placed (entries ts) (of-entries (λ e. is_placed e ≡ true) ts (each-weaker HasPlace (OfEntry (λ e. is_placed e ≡ true)) (λ t k value e. k) ts (all-placed nodes rows formed))))
+    (tests-hold is_placed (entries ts) (of-entries (λ e. is_placed e ≡ true) ts
+    (each-weaker HasPlace (OfEntry (λ e. is_placed e ≡ true)) (λ t k value e. k) ts (all-placed nodes rows formed))))
 
-pub read-listed : (nodes : List Node) (rows : List Row) (lists : Lists) (read : Read) → first_fault rows ≡ Ok tt → terms_of nodes rows lists ≡ Ok read → is_listed read.entries ≡ true
+pub read-listed : (nodes : List Node) (rows : List Row) (lists : Lists) (read : Read) → first_fault rows ≡ Ok tt → terms_of nodes rows lists ≡ Ok read
+    → is_listed read.entries ≡ true
 read-listed nodes rows lists read formed h =
     let r = read-of nodes rows lists read h in
     subst (λ es. is_listed es ≡ true) (sym r.entries_are) (entries-listed (told nodes (places_in nodes rows)) (all-placed nodes rows formed))
 
-pub read-numbered : (nodes : List Node) (rows : List Row) (lists : Lists) (read : Read) → Rise 0 nodes → first_fault rows ≡ Ok tt → terms_of nodes rows lists ≡ Ok read → is_numbered read.entries ≡ true
+pub read-numbered : (nodes : List Node) (rows : List Row) (lists : Lists) (read : Read) → Rise 0 nodes → first_fault rows ≡ Ok tt
+    → terms_of nodes rows lists ≡ Ok read → is_numbered read.entries ≡ true
 read-numbered nodes rows lists read rise formed h =
     let r = read-of nodes rows lists read h in
     let picks = term_picks nodes (currencies nodes rows) rows in
@@ -60,9 +65,11 @@ read-numbered nodes rows lists read rise formed h =
 
 -- ---- so it is a valid invoice
 
-module _ (fit : (nodes : List Node) (rows : List Row) (lists : Lists) (read : Read) → terms_of nodes rows lists ≡ Ok read → All (λ (e : Entry). Fits e.term e.value) read.entries)
+module _ (fit : (nodes : List Node) (rows : List Row) (lists : Lists) (read : Read) → terms_of nodes rows lists ≡ Ok read
+    → All (λ (e : Entry). Fits e.term e.value) read.entries)
     (whole : (nodes : List Node) (rows : List Row) (lists : Lists) (read : Read) → terms_of nodes rows lists ≡ Ok read → IsValid read.entries lists) where
-  pub read-invoice : (nodes : List Node) (rows : List Row) (lists : Lists) (read : Read) → Rise 0 nodes → first_fault rows ≡ Ok tt → terms_of nodes rows lists ≡ Ok read
+  pub read-invoice : (nodes : List Node) (rows : List Row) (lists : Lists) (read : Read) → Rise 0 nodes → first_fault rows ≡ Ok tt
+      → terms_of nodes rows lists ≡ Ok read
       → IsInvoice read.entries × IsValid read.entries lists
   read-invoice nodes rows lists read rise formed h = (
     record {
@@ -80,9 +87,11 @@ module _ (fit : (nodes : List Node) (rows : List Row) (lists : Lists) (read : Re
     formed which.CreditNote = credit_note
     formed which.Cii = cii
 
-    pub table-read : (table : Which) (nodes : List Node) (lists : Lists) (read : Read) → Rise 0 nodes → terms_of nodes (rows_of table) lists ≡ Ok read → IsInvoice read.entries × IsValid read.entries lists
+    pub table-read : (table : Which) (nodes : List Node) (lists : Lists) (read : Read) → Rise 0 nodes → terms_of nodes (rows_of table) lists ≡ Ok read
+        → IsInvoice read.entries × IsValid read.entries lists
     table-read table nodes lists read rise h = read-invoice nodes (rows_of table) lists read rise (formed table) h
 
-    pub document-read : (table : Which) (document : Document) (lists : Lists) (read : Read) → IsOfATree document → terms_of (tree_nodes document) (rows_of table) lists ≡ Ok read
+    pub document-read : (table : Which) (document : Document) (lists : Lists) (read : Read) → IsOfATree document
+        → terms_of (tree_nodes document) (rows_of table) lists ≡ Ok read
         → IsInvoice read.entries × IsValid read.entries lists
     document-read table document lists read tree h = table-read table (tree_nodes document) lists read (document-rises document tree) h

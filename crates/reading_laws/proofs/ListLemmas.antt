@@ -65,7 +65,8 @@ pub each-weaker : {X : Type 0} (P Q : X → Type 0) → ((x : X) → P x → Q x
 each-weaker P Q f [] h = tt
 each-weaker P Q f (x ∷ xs) h = (f x h.0, each-weaker P Q f xs h.1)
 
-pub each-flat : {X Y : Type 0} (P : Y → Type 0) (Q : X → Type 0) (f : X → List Y) → ((x : X) → Q x → AllByRecursion P (f x)) → (xs : List X) → AllByRecursion Q xs → AllByRecursion P (flat_map f xs)
+pub each-flat : {X Y : Type 0} (P : Y → Type 0) (Q : X → Type 0) (f : X → List Y) → ((x : X) → Q x → AllByRecursion P (f x)) → (xs : List X)
+    → AllByRecursion Q xs → AllByRecursion P (flat_map f xs)
 each-flat P Q f h [] all = tt
 each-flat P Q f h (x ∷ xs) all = each-append P (f x) (flat_map f xs) (h x all.0) (each-flat P Q f h xs all.1)
 
@@ -122,10 +123,12 @@ any-here P q (x ∷ xs) h k = go (q x) refl k (any-here P q xs h.1)
     go false e l f = f l
 
 -- what some of a part of a list passes, some of the list passes
-pub any-of-flat : {X Y : Type 0} (f : X → List Y) (xs : List X) → AllByRecursion (λ x. (q : Y → Bool) → list_any q (f x) ≡ true → list_any q (flat_map f xs) ≡ true) xs
+pub any-of-flat : {X Y : Type 0} (f : X → List Y) (xs : List X)
+    → AllByRecursion (λ x. (q : Y → Bool) → list_any q (f x) ≡ true → list_any q (flat_map f xs) ≡ true) xs
 any-of-flat f [] = tt
 any-of-flat f (x ∷ xs) = (
   λ q h. any-append q (f x) (flat_map f xs) ∙ or-left (list_any q (f x)) (list_any q (flat_map f xs)) h,
-  each-weaker (λ y. (q : _ → Bool) → list_any q (f y) ≡ true → list_any q (flat_map f xs) ≡ true) (λ y. (q : _ → Bool) → list_any q (f y) ≡ true → list_any q (flat_map f (x ∷ xs)) ≡ true)
+  each-weaker (λ y. (q : _ → Bool) → list_any q (f y) ≡ true → list_any q (flat_map f xs) ≡ true)
+      (λ y. (q : _ → Bool) → list_any q (f y) ≡ true → list_any q (flat_map f (x ∷ xs)) ≡ true)
       (λ y h q k. any-append q (f x) (flat_map f xs) ∙ or-right (list_any q (f x)) (list_any q (flat_map f xs)) (h q k)) xs (any-of-flat f xs),
 )

@@ -43,11 +43,13 @@ module _ (xs ys : List Seat) (alike : AreAlike xs ys) (context : Context) where
 
   stands-same : (group : Group) → stands xs group ≡ stands ys group
   stands-same group =
-      any-agree (λ (row : TermRow). is_around group row.group && (shows_its_group row.term && has_term xs row.term)) (λ (row : TermRow). is_around group row.group && (shows_its_group row.term && has_term ys row.term))
+      any-agree (λ (row : TermRow). is_around group row.group && (shows_its_group row.term && has_term xs row.term))
+      (λ (row : TermRow). is_around group row.group && (shows_its_group row.term && has_term ys row.term))
       (λ row. ap (λ b. is_around group row.group && (shows_its_group row.term && b)) (term-same row.term)) terms
 
   decided-by : (o : Occurrence) (group : Group)
-      → ◌≡◌ {A = Option Bool} (elim o [ occurs.Once ↦ None | occurs.AtMostOnce ↦ Some (stands xs group) | occurs.AnyNumber ↦ Some true | occurs.AtLeastOnce ↦ Some true ])
+      → ◌≡◌ {A = Option Bool} (elim
+      o [ occurs.Once ↦ None | occurs.AtMostOnce ↦ Some (stands xs group) | occurs.AnyNumber ↦ Some true | occurs.AtLeastOnce ↦ Some true ])
       (elim o [ occurs.Once ↦ None | occurs.AtMostOnce ↦ Some (stands ys group) | occurs.AnyNumber ↦ Some true | occurs.AtLeastOnce ↦ Some true ])
   decided-by occurs.Once group = refl
   decided-by occurs.AtMostOnce group = ap Some (stands-same group)
@@ -79,8 +81,10 @@ module _ (xs ys : List Seat) (alike : AreAlike xs ys) (context : Context) where
 
   at-same : (k : ℕ) (row : TermRow) → missing_at xs context k row ≡ missing_at ys context k row
   at-same k row =
-      ap (λ b. if has_context row.group context then (if b then Some (names.Term row.term) else None) else (if lacks_group xs context k row then Some (names.Group row.group) else None)) (missing-same row)
-      ∙ ap (λ b. if has_context row.group context then (if is_missing ys context row then Some (names.Term row.term) else None) else (if b then Some (names.Group row.group) else None)) (lacks-same k row)
+      ap (λ b. if has_context row.group context then (if b then Some (names.Term row.term) else None) else
+      (if lacks_group xs context k row then Some (names.Group row.group) else None)) (missing-same row)
+      ∙ ap (λ b. if has_context row.group context then (if is_missing ys context row then Some (names.Term row.term) else None) else
+      (if b then Some (names.Group row.group) else None)) (lacks-same k row)
 
   from-same : (k : ℕ) (rows : List TermRow) → all_missing_from xs context k rows ≡ all_missing_from ys context k rows
   from-same k [] = refl
@@ -102,7 +106,8 @@ any-filter : (p q : Seat → Bool) (xs : List Seat) → list_any p (filter q xs)
 any-filter p q [] = refl
 any-filter p q (x ∷ xs) = go (q x) (any-filter p q xs)
   where
-    go : (b : Bool) → list_any p (filter q xs) ≡ list_any (λ x. q x && p x) xs → list_any p (if b then x ∷ filter q xs else filter q xs) ≡ ((b && p x) || list_any (λ x. q x && p x) xs)
+    go : (b : Bool) → list_any p (filter q xs) ≡ list_any (λ x. q x && p x) xs
+        → list_any p (if b then x ∷ filter q xs else filter q xs) ≡ ((b && p x) || list_any (λ x. q x && p x) xs)
     go true h = ap (λ c. p x || c) h
     go false h = h
 
@@ -126,7 +131,8 @@ pub map-filter : {X : Type 0} (f : X → Seat) (q : Seat → Bool) (xs : List X)
 map-filter f q [] = refl
 map-filter f q (x ∷ xs) = go (q (f x)) (map-filter f q xs)
   where
-    go : (b : Bool) → map f (filter (λ y. q (f y)) xs) ≡ filter q (map f xs) → map f (if b then x ∷ filter (λ y. q (f y)) xs else filter (λ y. q (f y)) xs) ≡ (if b then f x ∷ filter q (map f xs) else filter q (map f xs))
+    go : (b : Bool) → map f (filter (λ y. q (f y)) xs) ≡ filter q (map f xs)
+        → map f (if b then x ∷ filter (λ y. q (f y)) xs else filter (λ y. q (f y)) xs) ≡ (if b then f x ∷ filter q (map f xs) else filter q (map f xs))
     go true h = ap (λ l. f x ∷ l) h
     go false h = h
 

@@ -41,8 +41,10 @@ forest-rises above n (an_element name attributes inside rest) =
     let a = nodes_of_attributes (n ∷ above) (n + 1) attributes in
     let b = nodes_of (n ∷ above) (n + (1 + length attributes)) inside in
     let c = nodes_of above (n + (1 + (length attributes + size inside))) rest in
-    let first = from-to a (attributes-rise (n ∷ above) (n + 1) attributes) (let z : n + 1 ≡ suc n = omega arith in z) (let z : n + 1 + length attributes ≡ n + (1 + length attributes) = omega arith in z) in
-    let second = from-to b (forest-rises (n ∷ above) (n + (1 + length attributes)) inside) (let z : n + (1 + length attributes) ≡ n + (1 + length attributes) = omega arith in z)
+    let first = from-to a (attributes-rise (n ∷ above) (n + 1) attributes) (let z : n + 1 ≡ suc n = omega arith in z)
+    (let z : n + 1 + length attributes ≡ n + (1 + length attributes) = omega arith in z) in
+    let second = from-to b (forest-rises (n ∷ above) (n + (1 + length attributes)) inside)
+    (let z : n + (1 + length attributes) ≡ n + (1 + length attributes) = omega arith in z)
     (let z : n + (1 + length attributes) + size inside ≡ n + (1 + (length attributes + size inside)) = omega arith in z) in
     let third = from-to c (forest-rises above (n + (1 + (length attributes + size inside))) rest)
     (let z : n + (1 + (length attributes + size inside)) ≡ n + (1 + (length attributes + size inside)) = omega arith in z)

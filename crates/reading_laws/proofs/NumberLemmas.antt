@@ -46,12 +46,14 @@ terms-within = refl
 
 within-one : (group inner : Group) → is_within_one group ≡ true → inner_group group ≡ Some inner → outer_group group ≡ outer_group inner
 unfolding is_within_one
-within-one group inner h e = same_groups_is (outer_group group) (outer_group inner) (sym (ap (λ o. elim o [ None ↦ true | Some i ↦ same_groups (outer_group group) (outer_group i) ]) e) ∙ h)
+within-one group inner h e = same_groups_is (outer_group group) (outer_group inner)
+    (sym (ap (λ o. elim o [ None ↦ true | Some i ↦ same_groups (outer_group group) (outer_group i) ]) e) ∙ h)
 
 known-outer : (row : Row) (term : Term) (inner : Group) → IsKnown row term → row.inner ≡ Some inner → row.outer ≡ outer_group inner
 known-outer row term inner h e =
     let any = sym (some-place (is_row_in term row.outer row.inner) listing_rows) ∙ h in
-    let w = any-here (λ (line : TermRow). is_within_one line.group ≡ true) (is_row_in term row.outer row.inner) listing_rows (tests-each (λ (line : TermRow). is_within_one line.group) listing_rows terms-within) any in
+    let w = any-here (λ (line : TermRow). is_within_one line.group ≡ true) (is_row_in term row.outer row.inner) listing_rows
+    (tests-each (λ (line : TermRow). is_within_one line.group) listing_rows terms-within) any in
     let stands = (both (same_term w.0.term term) (stands_in w.0.group row.outer row.inner) w.2).1 in
     let v = both (same_groups row.outer (outer_group w.0.group)) (same_groups row.inner (inner_group w.0.group)) stands in
     same_groups_is row.outer (outer_group w.0.group) v.0 ∙ within-one w.0.group inner w.1 (sym (same_groups_is row.inner (inner_group w.0.group) v.1) ∙ e)
@@ -78,7 +80,8 @@ module _ (nodes : List Node) (picks : List Pick) where
   abbrev Tells : Pick → Type 0
   Tells pick = (q : Context → Bool) → q (context_of (placed nodes picks pick)) ≡ true → list_any (λ t. q (context_of t.placed)) all_told ≡ true
 
-  told-there : (p : Placed) (term : Term) → term_in p.pick.row.content ≡ Some term → (q : Context → Bool) → q (context_of p) ≡ true → list_any (λ t. q (context_of t.placed)) (told_by nodes p) ≡ true
+  told-there : (p : Placed) (term : Term) → term_in p.pick.row.content ≡ Some term → (q : Context → Bool) → q (context_of p) ≡ true
+      → list_any (λ t. q (context_of t.placed)) (told_by nodes p) ≡ true
   told-there p term e q h =
       any-map (λ s. record { placed = p; said = s }) (λ t. q (context_of t.placed)) (said_by nodes p)
       ∙ (ap (λ b. list_any (λ (s : Said). b) (said_by nodes p)) h
@@ -87,10 +90,13 @@ module _ (nodes : List Node) (picks : List Pick) where
 
   all-tell : (R : Row → Type 0) → AllByRecursion (IsPickOf R) picks → AllByRecursion Tells picks
   all-tell R h =
-      each-weaker (λ pick. IsPickOf R pick × ((q : Told → Bool) → list_any q (told_by nodes (placed nodes picks pick)) ≡ true → list_any q all_told ≡ true)) Tells
-      (λ pick w q k. (let t = term-there (term_in pick.row.content) w.0.term in w.1 (λ t. q (context_of t.placed)) (told-there (placed nodes picks pick) t.0 t.1 q k))) picks
+      each-weaker (λ pick. IsPickOf R pick × ((q : Told → Bool) → list_any q (told_by nodes (placed nodes picks pick)) ≡ true
+      → list_any q all_told ≡ true)) Tells
+      (λ pick w q k. (let t = term-there (term_in pick.row.content) w.0.term in
+      w.1 (λ t. q (context_of t.placed)) (told-there (placed nodes picks pick) t.0 t.1 q k))) picks
       (each-both (IsPickOf R) (λ pick. (q : Told → Bool) → list_any q (told_by nodes (placed nodes picks pick)) ≡ true → list_any q all_told ≡ true) picks h
-      (each-unmap (λ p. (q : Told → Bool) → list_any q (told_by nodes p) ≡ true → list_any q all_told ≡ true) (placed nodes picks) picks (any-of-flat (told_by nodes) (place_all nodes picks))))
+      (each-unmap (λ p. (q : Told → Bool) → list_any q (told_by nodes p) ≡ true → list_any q all_told ≡ true) (placed nodes picks) picks
+      (any-of-flat (told_by nodes) (place_all nodes picks))))
 
   -- ---- elements of groups
 
@@ -98,11 +104,13 @@ module _ (nodes : List Node) (picks : List Pick) where
   among-append m [] ys h = inr h
   among-append m (x ∷ xs) ys h = go (m == x) h (among-append m xs ys)
     where
-      go : (b : Bool) → (b || is_among m (xs ++ ys)) ≡ true → (is_among m (xs ++ ys) ≡ true → (is_among m xs ≡ true) ⊎ (is_among m ys ≡ true)) → ((b || is_among m xs) ≡ true) ⊎ (is_among m ys ≡ true)
+      go : (b : Bool) → (b || is_among m (xs ++ ys)) ≡ true → (is_among m (xs ++ ys) ≡ true → (is_among m xs ≡ true) ⊎ (is_among m ys ≡ true))
+          → ((b || is_among m xs) ≡ true) ⊎ (is_among m ys ≡ true)
       go true k f = inl refl
       go false k f = f k
 
-  among-flat : {X : Type 0} (P : X → Type 0) (f : X → List ℕ) (m : ℕ) (xs : List X) → AllByRecursion P xs → is_among m (flat_map f xs) ≡ true → (x : X) × P x × (is_among m (f x) ≡ true)
+  among-flat : {X : Type 0} (P : X → Type 0) (f : X → List ℕ) (m : ℕ) (xs : List X) → AllByRecursion P xs → is_among m (flat_map f xs) ≡ true
+      → (x : X) × P x × (is_among m (f x) ≡ true)
   among-flat P f m [] all h = absurd (false≢true h)
   among-flat P f m (x ∷ xs) all h = elim (among-append m (f x) (flat_map f xs) h) [ inl k ↦ (x, all.0, k) | inr k ↦ among-flat P f m xs all.1 k ]
 
@@ -125,11 +133,14 @@ module _ (nodes : List Node) (picks : List Pick) where
   abbrev inner_slot : Group → ℕ → Group → ℕ → Slot
   inner_slot outer n group m = record { group = group; index = place_among nodes (inner_elements picks outer n group) m }
 
-  outer-is : (pick : Pick) (group : Group) (n : ℕ) → pick.row.outer ≡ Some group → carrier_in pick group ≡ Some n → (context_of (placed nodes picks pick)).outer ≡ Some (outer_slot group n)
+  outer-is : (pick : Pick) (group : Group) (n : ℕ) → pick.row.outer ≡ Some group → carrier_in pick group ≡ Some n
+      → (context_of (placed nodes picks pick)).outer ≡ Some (outer_slot group n)
   outer-is pick group n e f =
-      ap (λ o. slot_of (option_and_then (λ g. option_map (outer_at nodes picks g) (carrier_in pick g)) o)) e ∙ ap (λ o. slot_of (option_map (outer_at nodes picks group) o)) f
+      ap (λ o. slot_of (option_and_then (λ g. option_map (outer_at nodes picks g) (carrier_in pick g)) o)) e
+      ∙ ap (λ o. slot_of (option_map (outer_at nodes picks group) o)) f
 
-  inner-is : (pick : Pick) (outer : Group) (n : ℕ) (group : Group) (m : ℕ) → pick.row.outer ≡ Some outer → carrier_in pick outer ≡ Some n → pick.row.inner ≡ Some group → carrier_in pick group ≡ Some m
+  inner-is : (pick : Pick) (outer : Group) (n : ℕ) (group : Group) (m : ℕ) → pick.row.outer ≡ Some outer → carrier_in pick outer ≡ Some n
+      → pick.row.inner ≡ Some group → carrier_in pick group ≡ Some m
       → (context_of (placed nodes picks pick)).inner ≡ Some (inner_slot outer n group m)
   inner-is pick outer n group m e f g h =
       ap (λ o. slot_of (option_and_then (λ x. option_and_then (inner_within nodes picks pick x) (carrier_in pick x)) o)) e
@@ -151,15 +162,18 @@ module _ (nodes : List Node) (picks : List Pick) where
     inside-inner : (outer : Option Slot) (slot : Slot) (c : Context) → c.outer ≡ outer → c.inner ≡ Some slot → is_inside (in_inner outer slot) c ≡ true
     inside-inner outer slot c e f =
         and-true (is_none outer || same_slot outer c.outer) (same_slot (Some slot) c.inner)
-        (or-right (is_none outer) (same_slot outer c.outer) (ap (same_slot outer) e ∙ same_slot_itself outer)) (ap (same_slot (Some slot)) f ∙ same_slot_itself (Some slot))
+        (or-right (is_none outer) (same_slot outer c.outer) (ap (same_slot outer) e ∙ same_slot_itself outer))
+        (ap (same_slot (Some slot)) f ∙ same_slot_itself (Some slot))
 
     outer-occurs : (group : Group) (m : ℕ) → is_among m (outer_elements picks group) ≡ true → occurs es (in_outer (outer_slot group m)) ≡ true
     outer-occurs group m h =
         let own = filter (is_of_outer group) picks in
-        let all = each-both Tells (λ pick. is_of_outer group pick ≡ true) own (each-filter Tells (is_of_outer group) picks (all-tell (IsSoundRow rows) sound)) (each-passes (is_of_outer group) picks) in
+        let all = each-both Tells (λ pick. is_of_outer group pick ≡ true) own (each-filter Tells (is_of_outer group) picks (all-tell (IsSoundRow rows) sound))
+        (each-passes (is_of_outer group) picks) in
         let w = among-flat (λ pick. Tells pick × (is_of_outer group pick ≡ true)) (λ pick. listed (carrier_in pick group)) m own all h in
         let outer = outer-is w.0 group m (group-is w.0.row.outer group w.1.1) (is-listed-one m (carrier_in w.0 group) w.2) in
-        occurs-told (in_outer (outer_slot group m)) (w.1.0 (is_inside (in_outer (outer_slot group m))) (inside-outer (outer_slot group m) (context_of (placed nodes picks w.0)) outer))
+        occurs-told (in_outer (outer_slot group m))
+        (w.1.0 (is_inside (in_outer (outer_slot group m))) (inside-outer (outer_slot group m) (context_of (placed nodes picks w.0)) outer))
 
     outer-counted : (pick : Pick) → is_counted es in_outer (context_of (placed nodes picks pick)).outer ≡ true
     outer-counted pick = by pick.row.outer
@@ -168,7 +182,8 @@ module _ (nodes : List Node) (picks : List Pick) where
         at group None = refl
         at group (Some n) = counted nodes rise es in_outer group (outer_elements picks group) n (outer-occurs group)
 
-        by : (o : Option Group) → is_counted es in_outer (slot_of (option_and_then (λ group. option_map (outer_at nodes picks group) (carrier_in pick group)) o)) ≡ true
+        by : (o : Option Group) → is_counted es in_outer
+            (slot_of (option_and_then (λ group. option_map (outer_at nodes picks group) (carrier_in pick group)) o)) ≡ true
         by None = refl
         by (Some group) = at group (carrier_in pick group)
 
@@ -178,22 +193,26 @@ module _ (nodes : List Node) (picks : List Pick) where
         let test : Pick → Bool = λ pick. is_of_inner group pick && is_inside_of outer n pick in
         let own = filter test picks in
         let all = each-both (λ pick. Tells pick × IsPickOf (IsSoundRow rows) pick) (λ pick. test pick ≡ true) own
-        (each-filter (λ pick. Tells pick × IsPickOf (IsSoundRow rows) pick) test picks (each-both Tells (IsPickOf (IsSoundRow rows)) picks (all-tell (IsSoundRow rows) sound) sound)) (each-passes test picks) in
+        (each-filter (λ pick. Tells pick × IsPickOf (IsSoundRow rows) pick) test picks
+        (each-both Tells (IsPickOf (IsSoundRow rows)) picks (all-tell (IsSoundRow rows) sound) sound)) (each-passes test picks) in
         let w = among-flat (λ pick. (Tells pick × IsPickOf (IsSoundRow rows) pick) × (test pick ≡ true)) (λ pick. listed (carrier_in pick group)) m own all h in
         let pick = w.0 in
         let s = w.1.0.1 in
         let t = both (is_of_inner group pick) (is_inside_of outer n pick) w.1.1 in
         let inner : pick.row.inner ≡ Some group = group-is pick.row.inner group t.0 in
         let term = term-there (term_in pick.row.content) s.term in
-        let out : pick.row.outer ≡ Some outer = known-outer pick.row term.0 group (known-in pick.row term.0 pick.row.content s.row.known term.1) inner ∙ around in
+        let out : pick.row.outer ≡ Some outer = known-outer pick.row term.0 group (known-in pick.row term.0 pick.row.content s.row.known term.1) inner
+        ∙ around in
         let carried : carrier_in pick outer ≡ Some n = is-listed-one n (carrier_in pick outer) t.1 in
         let there : carrier_in pick group ≡ Some m = is-listed-one m (carrier_in pick group) w.2 in
         let c = context_of (placed nodes picks pick) in
         occurs-told (in_inner (Some (outer_slot outer n)) (inner_slot outer n group m))
         (w.1.0.0 (is_inside (in_inner (Some (outer_slot outer n)) (inner_slot outer n group m)))
-        (inside-inner (Some (outer_slot outer n)) (inner_slot outer n group m) c (outer-is pick outer n out carried) (inner-is pick outer n group m out carried inner there)))
+        (inside-inner (Some (outer_slot outer n)) (inner_slot outer n group m) c (outer-is pick outer n out carried)
+        (inner-is pick outer n group m out carried inner there)))
 
-    inner-counted : (pick : Pick) → IsPickOf (IsSoundRow rows) pick → is_counted es (in_inner (context_of (placed nodes picks pick)).outer) (context_of (placed nodes picks pick)).inner ≡ true
+    inner-counted : (pick : Pick) → IsPickOf (IsSoundRow rows) pick
+        → is_counted es (in_inner (context_of (placed nodes picks pick)).outer) (context_of (placed nodes picks pick)).inner ≡ true
     inner-counted pick s = by pick.row.outer refl
       where
         c : Context
@@ -207,11 +226,13 @@ module _ (nodes : List Node) (picks : List Pick) where
             ∙ counted nodes rise es (in_inner (Some (outer_slot outer n))) group (inner_elements picks outer n group) m (inner-occurs outer n group around)
 
         within : (outer : Group) (n : ℕ) → pick.row.outer ≡ Some outer → c.outer ≡ Some (outer_slot outer n) → (i : Option Group) → pick.row.inner ≡ i
-            → is_counted es (in_inner c.outer) (slot_of (option_and_then (λ group. option_map (inner_at nodes picks outer n group) (carrier_in pick group)) i)) ≡ true
+            → is_counted es (in_inner c.outer) (slot_of (option_and_then (λ group. option_map (inner_at nodes picks outer n group) (carrier_in pick group)) i))
+            ≡ true
         within outer n out e None f = refl
         within outer n out e (Some group) f =
             let term = term-there (term_in pick.row.content) s.term in
-            last outer n group e (sym (known-outer pick.row term.0 group (known-in pick.row term.0 pick.row.content s.row.known term.1) f) ∙ out) (carrier_in pick group)
+            last outer n group e (sym (known-outer pick.row term.0 group (known-in pick.row term.0 pick.row.content s.row.known term.1) f) ∙ out)
+            (carrier_in pick group)
 
         at : (outer : Group) → pick.row.outer ≡ Some outer → (n : Option ℕ) → carrier_in pick outer ≡ n
             → is_counted es (in_inner c.outer) (slot_of (option_and_then (inner_within nodes picks pick outer) n)) ≡ true
@@ -219,7 +240,8 @@ module _ (nodes : List Node) (picks : List Pick) where
         at outer out (Some n) e = within outer n out (outer-is pick outer n out e) pick.row.inner refl
 
         by : (o : Option Group) → pick.row.outer ≡ o
-            → is_counted es (in_inner c.outer) (slot_of (option_and_then (λ outer. option_and_then (inner_within nodes picks pick outer) (carrier_in pick outer)) o)) ≡ true
+            → is_counted es (in_inner c.outer) (slot_of
+            (option_and_then (λ outer. option_and_then (inner_within nodes picks pick outer) (carrier_in pick outer)) o)) ≡ true
         by None e = refl
         by (Some outer) e = at outer e (carrier_in pick outer) refl
 
@@ -234,10 +256,12 @@ module _ (nodes : List Node) (picks : List Pick) where
     told-counted : AllByRecursion (λ t. IsCounted (context_of t.placed)) all_told
     told-counted =
         of-placed (λ p. IsCounted (context_of p)) nodes
-        (place_all nodes picks) (each-map (λ p. IsCounted (context_of p)) (placed nodes picks) picks (each-weaker (IsPickOf (IsSoundRow rows)) (λ pick. IsCounted (context_of (placed nodes picks pick))) pick-counted picks sound))
+        (place_all nodes picks) (each-map (λ p. IsCounted (context_of p)) (placed nodes picks) picks
+        (each-weaker (IsPickOf (IsSoundRow rows)) (λ pick. IsCounted (context_of (placed nodes picks pick))) pick-counted picks sound))
 
     pub entries-numbered : is_numbered (entries all_told) ≡ true
     unfolding es
     entries-numbered =
         tests-hold (λ (e : Entry). is_counted es in_outer e.context.outer && is_counted es (in_inner e.context.outer) e.context.inner) (entries all_told)
-        (of-entries (λ (e : Entry). IsCounted e.context) all_told (each-weaker (λ t. IsCounted (context_of t.placed)) (OfEntry (λ (e : Entry). IsCounted e.context)) (λ t h value e. h) all_told told-counted))
+        (of-entries (λ (e : Entry). IsCounted e.context) all_told
+        (each-weaker (λ t. IsCounted (context_of t.placed)) (OfEntry (λ (e : Entry). IsCounted e.context)) (λ t h value e. h) all_told told-counted))

@@ -47,7 +47,8 @@ fresh : (before ts : List Told) → AllByRecursion (Fresh before) (firsts_behind
 fresh before [] = tt
 fresh before (t ∷ ts) = go (first_before before t) refl (fresh (before ++ (t ∷ [])) ts) (fresh before ts)
   where
-    go : (o : Option Told) → first_before before t ≡ o → AllByRecursion (Fresh (before ++ (t ∷ []))) (firsts_behind (before ++ (t ∷ [])) ts) → AllByRecursion (Fresh before) (firsts_behind before ts)
+    go : (o : Option Told) → first_before before t ≡ o → AllByRecursion (Fresh (before ++ (t ∷ []))) (firsts_behind (before ++ (t ∷ [])) ts)
+        → AllByRecursion (Fresh before) (firsts_behind before ts)
         → AllByRecursion (Fresh before) (elim o [ None ↦ t ∷ firsts_behind (before ++ (t ∷ [])) ts | Some first ↦ firsts_behind before ts ])
     go None e f g = (e, each-weaker (Fresh (before ++ (t ∷ []))) (Fresh before) (λ u k. (none-split before t u k).0) (firsts_behind (before ++ (t ∷ [])) ts) f)
     go (Some first) e f g = g
@@ -58,7 +59,11 @@ first-pairs before (t ∷ ts) = go (first_before before t) (first-pairs (before 
   where
     go : (o : Option Told) → EachPair (firsts_behind (before ++ (t ∷ [])) ts) → EachPair (firsts_behind before ts)
         → EachPair (elim o [ None ↦ t ∷ firsts_behind (before ++ (t ∷ [])) ts | Some first ↦ firsts_behind before ts ])
-    go None f g = (each-weaker (Fresh (before ++ (t ∷ []))) (Other t) (λ u k. (none-split before t u k).1) (firsts_behind (before ++ (t ∷ [])) ts) (fresh (before ++ (t ∷ [])) ts), f)
+    go None f g = (
+      each-weaker (Fresh (before ++ (t ∷ []))) (Other t) (λ u k. (none-split before t u k).1) (firsts_behind (before ++ (t ∷ [])) ts)
+          (fresh (before ++ (t ∷ [])) ts),
+      f,
+    )
     go (Some first) f g = g
 
 -- ---- entries put in order
@@ -124,13 +129,15 @@ told-rises [] h pairs = tt
 told-rises (t ∷ ts) h pairs = go t.said.value (told-rises ts h.1 pairs.1)
   where
     go : (o : Option Value) → Rises (listed (flat_map entry_of ts))
-        → Rises (listed ((elim o [ None ↦ [] | Some value ↦ record { context = context_of t.placed; term = t.said.term; value = value } ∷ [] ]) ++ flat_map entry_of ts))
+        → Rises (listed ((elim o [ None ↦ [] | Some value ↦ record { context = context_of t.placed; term = t.said.term; value = value } ∷ [] ])
+        ++ flat_map entry_of ts))
     go None r = r
     go (Some value) r =
         put-rises (entry_at t value) (listed (flat_map entry_of ts))
         (each-listed (Apart (entry_at t value)) (flat_map entry_of ts)
         (each-flat (Apart (entry_at t value)) (OfEntry (Apart (entry_at t value))) entry_of (each-entry (Apart (entry_at t value))) ts
-        (each-weaker (λ u. HasPlace u × Other t u) (OfEntry (Apart (entry_at t value))) (λ u w v e. apart-told t u h.0 w.0 w.1) ts (each-both HasPlace (Other t) ts h.1 pairs.0)))) r
+        (each-weaker (λ u. HasPlace u × Other t u) (OfEntry (Apart (entry_at t value))) (λ u w v e. apart-told t u h.0 w.0 w.1) ts
+        (each-both HasPlace (Other t) ts h.1 pairs.0)))) r
 
 pub entries-listed : (ts : List Told) → AllByRecursion HasPlace ts → is_listed (entries ts) ≡ true
 entries-listed ts h = rises-listed (entries ts) (told-rises (firsts_behind [] ts) (each-first HasPlace [] ts h) (first-pairs [] ts))

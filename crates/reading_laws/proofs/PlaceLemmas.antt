@@ -11,7 +11,7 @@ use Rattle.term_table.specs.declared.terms.Term.{Term}
 use Rattle.term_table.specs.declared.contexts.Slot.{Slot}
 use Rattle.term_table.specs.declared.contexts.Context.{Context}
 use Rattle.term_table.specs.declared.contexts.Seat.{Seat}
-use Rattle.term_table.specs.SemanticModel.{terms, is_extension, extension_rows, listing_rows}
+use Rattle.term_table.specs.SemanticModel.{terms, extension_rows, listing_rows}
 use Rattle.term_table.specs.Contexts.{slot_group}
 use Rattle.term_table.specs.Rows.{is_row_in, row_in}
 use Rattle.term_table.specs.Places.{place, seat_place}
@@ -22,7 +22,7 @@ use Rattle.bind_rows.specs.declared.rows.Form.{Form}
 use Rattle.bind_rows.specs.declared.rows.Content.{Content}
 use Rattle.bind_rows.specs.declared.rows.Content.TheVariants as contents
 use Rattle.bind_rows.specs.Same.{same_or_none, choose}
-use Rattle.bind_table.specs.WellFormed.{is_unknown, is_placed, is_carried, is_carried_once, depth_of}
+use Rattle.bind_table.specs.WellFormed.{is_placed, is_carried, is_carried_once, depth_of}
 use Rattle.bind_meaning.specs.Elements.{string_at}
 use Rattle.bind_meaning.specs.Picks.{Pick, term_in, carrier, carrier_in}
 use Rattle.bind_meaning.specs.Seats.{placed, context_of, slot_of, outer_at, inner_at, inner_within}
@@ -42,18 +42,22 @@ less-step d l h = grind (arith, nat_tests)
 none-less : (l : ℕ) → nat_lt l 0 ≡ true → ⊥
 none-less l h = grind (arith, nat_tests)
 
-carrier-there : (group : Group) (path : List Step) (way : List ℕ) → length way ≡ length path → nat_lt (depth_of group path) (length path) ≡ true → is_some (carrier group path way) ≡ true
+carrier-there : (group : Group) (path : List Step) (way : List ℕ) → length way ≡ length path → nat_lt (depth_of group path) (length path) ≡ true
+    → is_some (carrier group path way) ≡ true
 carrier-there group [] way l h = absurd (none-less 0 h)
 carrier-there group (step ∷ path) [] l h = absurd (let z : 0 ≡ suc (length path) = l in omega arith)
-carrier-there group (step ∷ path) (n ∷ way) l h = go (same_or_none step.group (Some group)) h (carrier-there group path way (let z : suc (length way) ≡ suc (length path) = l in omega arith))
+carrier-there group (step ∷ path) (n ∷ way) l h =
+    go (same_or_none step.group (Some group)) h (carrier-there group path way (let z : suc (length way) ≡ suc (length path) = l in omega arith))
   where
-    go : (b : Bool) → nat_lt (choose b (λ _. 0) (λ _. 1 + depth_of group path)) (suc (length path)) ≡ true → (nat_lt (depth_of group path) (length path) ≡ true → is_some (carrier group path way) ≡ true)
+    go : (b : Bool) → nat_lt (choose b (λ _. 0) (λ _. 1 + depth_of group path)) (suc (length path)) ≡ true
+        → (nat_lt (depth_of group path) (length path) ≡ true → is_some (carrier group path way) ≡ true)
         → is_some (elim b [ true ↦ Some n | false ↦ carrier group path way ]) ≡ true
     go true k f = refl
     go false k f = f (less-step (depth_of group path) (length path) k)
 
 -- the element of an outer or an inner group of a row that is placed
-pub carried : (rows : List Row) (pick : Pick) (group : Group) → length pick.elements ≡ length pick.row.path → is_placed rows pick.row (Some group) ≡ true → is_some (carrier_in pick group) ≡ true
+pub carried : (rows : List Row) (pick : Pick) (group : Group) → length pick.elements ≡ length pick.row.path → is_placed rows pick.row (Some group) ≡ true
+    → is_some (carrier_in pick group) ≡ true
 carried rows pick group l h = carrier-there group pick.row.path pick.elements l (both (is_carried group pick.row) (is_carried_once group rows) h).0
 
 -- ---- the groups of its context are the row's
@@ -64,7 +68,8 @@ no-outer term group h =
     let w = placed_outer seat (go (row_in term None (Some group)) h) (record { group = group; index = 0 }) refl in
     let z : ◌≡◌ {A = Option Slot} None (Some w.0) = w.1 in cc
   where
-    go : (o : Option ℕ) → is_some o ≡ true → is_some (option_map (λ row. place row (record { outer = None; inner = Some (record { group = group; index = 0 }) })) o) ≡ true
+    go : (o : Option ℕ) → is_some o ≡ true → is_some
+        (option_map (λ row. place row (record { outer = None; inner = Some (record { group = group; index = 0 }) })) o) ≡ true
     go None k = k
     go (Some n) k = refl
 
@@ -96,7 +101,8 @@ place-there : {X : Type 0} (p : X → Bool) (xs : List X) → nat_lt (position_o
 place-there p [] = refl
 place-there p (x ∷ xs) = go (p x) (place-there p xs)
   where
-    go : (b : Bool) → nat_lt (position_or_len p xs) (length xs) ≡ list_any p xs → nat_lt (cond (not b) (1 + position_or_len p xs) 0) (suc (length xs)) ≡ (b || list_any p xs)
+    go : (b : Bool) → nat_lt (position_or_len p xs) (length xs) ≡ list_any p xs
+        → nat_lt (cond (not b) (1 + position_or_len p xs) 0) (suc (length xs)) ≡ (b || list_any p xs)
     go true h = less-first (length xs)
     go false h = less-same (position_or_len p xs) (length xs) ∙ h
 
@@ -123,7 +129,8 @@ AllKnown row all = AllByRecursion (λ s. IsKnown row s.term) all
 
 said-known : (row : Row) (form : Form) (term : Term) (string : List ℕ) → IsKnown row term → AllKnown row (said form term string)
 said-known row form term string k =
-    of-said (AllKnown row) term (λ value. (k, tt)) (λ e text code. (let h : IsKnown row note = subst (IsKnown row) e k in (h, (code-known row h, tt)))) form string
+    of-said (AllKnown row) term (λ value. (k, tt))
+    (λ e text code. (let h : IsKnown row note = subst (IsKnown row) e k in (h, (code-known row h, tt)))) form string
 
 module _ (rows : List Row) (nodes : List Node) (picks : List Pick) where
   outer-group : (pick : Pick) (o : Option Group) → length pick.elements ≡ length pick.row.path → is_placed rows pick.row o ≡ true
@@ -144,7 +151,8 @@ module _ (rows : List Row) (nodes : List Node) (picks : List Pick) where
       go None k = absurd (false≢true k)
       go (Some m) k = refl
 
-  inner-group : (pick : Pick) (o i : Option Group) → pick.row.inner ≡ i → (o ≡ None → i ≡ None) → length pick.elements ≡ length pick.row.path → is_placed rows pick.row o ≡ true → is_placed rows pick.row i ≡ true
+  inner-group : (pick : Pick) (o i : Option Group) → pick.row.inner ≡ i → (o ≡ None → i ≡ None) → length pick.elements ≡ length pick.row.path
+      → is_placed rows pick.row o ≡ true → is_placed rows pick.row i ≡ true
       → slot_group (slot_of (option_and_then (λ outer. option_and_then (inner_within nodes picks pick outer) (carrier_in pick outer)) o)) ≡ i
   inner-group pick None i e none l h k = sym (none refl)
   inner-group pick (Some outer) i e none l h k = go (carrier_in pick outer) (carried rows pick outer l h)
@@ -162,16 +170,20 @@ module _ (rows : List Row) (nodes : List Node) (picks : List Pick) where
 
   none-inside : (row : Row) (term : Term) → IsKnown row term → row.outer ≡ None → (i : Option Group) → row.inner ≡ i → i ≡ None
   none-inside row term h e None f = refl
-  none-inside row term h e (Some group) f = absurd (no-outer term group (ap (λ o. is_some (row_in term o (Some group))) (sym e) ∙ (ap (λ i. is_some (row_in term row.outer i)) (sym f) ∙ h)))
+  none-inside row term h e (Some group) f =
+      absurd (no-outer term group (ap (λ o. is_some (row_in term o (Some group))) (sym e) ∙ (ap (λ i. is_some (row_in term row.outer i)) (sym f) ∙ h)))
 
   pub has-groups : (pick : Pick) (term : Term) → IsPickOf (IsSoundRow rows) pick → term_in pick.row.content ≡ Some term → HasGroups pick
   has-groups pick term s e = record {
     outer = outer-group pick pick.row.outer s.long s.row.outer;
-    inner = inner-group pick pick.row.outer pick.row.inner refl (λ f. none-inside pick.row term (known-in pick.row term pick.row.content s.row.known e) f pick.row.inner refl) s.long s.row.outer s.row.inner;
+    inner = inner-group pick pick.row.outer pick.row.inner refl
+        (λ f. none-inside pick.row term (known-in pick.row term pick.row.content s.row.known e) f pick.row.inner refl) s.long s.row.outer s.row.inner;
   }
 
-  placed-by : (term : Term) (c : Context) (o i : Option Group) → slot_group c.outer ≡ o → slot_group c.inner ≡ i → is_some (row_in term o i) ≡ true → is_some (seat_place (record { term = term; context = c })) ≡ true
-  placed-by term c o i e f h = go (row_in term (slot_group c.outer) (slot_group c.inner)) (ap (λ x. is_some (row_in term x (slot_group c.inner))) e ∙ (ap (λ x. is_some (row_in term o x)) f ∙ h))
+  placed-by : (term : Term) (c : Context) (o i : Option Group) → slot_group c.outer ≡ o → slot_group c.inner ≡ i → is_some (row_in term o i) ≡ true
+      → is_some (seat_place (record { term = term; context = c })) ≡ true
+  placed-by term c o i e f h = go (row_in term (slot_group c.outer) (slot_group c.inner))
+      (ap (λ x. is_some (row_in term x (slot_group c.inner))) e ∙ (ap (λ x. is_some (row_in term o x)) f ∙ h))
     where
       go : (n : Option ℕ) → is_some n ≡ true → is_some (option_map (λ row. place row c) n) ≡ true
       go None k = k
@@ -186,7 +198,9 @@ module _ (rows : List Row) (nodes : List Node) (picks : List Pick) where
       each-weaker (λ x. IsKnown p.pick.row x.term) (λ x. HasPlace (record { placed = p; said = x }))
       (λ x k. subst (λ q. is_some (seat_place (record { term = x.term; context = context_of q })) ≡ true) (sym w.1)
       (placed-by x.term (context_of (placed nodes picks p.pick)) p.pick.row.outer p.pick.row.inner g.outer g.inner k))
-      (said p.pick.row.form term (string_at nodes p.pick.node)) (said-known p.pick.row p.pick.row.form term (string_at nodes p.pick.node) (known-in p.pick.row term p.pick.row.content s.row.known e)))
+      (said p.pick.row.form term (string_at nodes p.pick.node))
+      (said-known p.pick.row p.pick.row.form term (string_at nodes p.pick.node) (known-in p.pick.row term p.pick.row.content s.row.known e)))
       (place_all nodes picks)
       (each-map (λ p. IsPickOf (IsSoundRow rows) p.pick × (p ≡ placed nodes picks p.pick)) (placed nodes picks) picks
-      (each-weaker (IsPickOf (IsSoundRow rows)) (λ pick. IsPickOf (IsSoundRow rows) pick × (placed nodes picks pick ≡ placed nodes picks pick)) (λ pick s. (s, refl)) picks h))
+      (each-weaker (IsPickOf (IsSoundRow rows)) (λ pick. IsPickOf (IsSoundRow rows) pick × (placed nodes picks pick ≡ placed nodes picks pick))
+      (λ pick s. (s, refl)) picks h))

@@ -40,8 +40,10 @@ module _ (P : List Said → Type 0) where
     of-behind string first a b c last text =
         let plain = one (by_type note string) in
         choice ((first == 35) && (last == 35))
-        (elim (list_all is_subject_character (a ∷ b ∷ c ∷ []) && not (is_blank text)) [ true ↦ coded (a ∷ b ∷ c ∷ []) text | false ↦ plain_note string ]) (plain_note string)
-        (choice (list_all is_subject_character (a ∷ b ∷ c ∷ []) && not (is_blank text)) (coded (a ∷ b ∷ c ∷ []) text) (plain_note string) (two (by_type note text) (by_type subject_code (a ∷ b ∷ c ∷ []))) plain) plain
+        (elim (list_all is_subject_character (a ∷ b ∷ c ∷ []) && not (is_blank text)) [ true ↦ coded (a ∷ b ∷ c ∷ []) text | false ↦ plain_note string ])
+        (plain_note string)
+        (choice (list_all is_subject_character (a ∷ b ∷ c ∷ []) && not (is_blank text)) (coded (a ∷ b ∷ c ∷ []) text) (plain_note string)
+        (two (by_type note text) (by_type subject_code (a ∷ b ∷ c ∷ []))) plain) plain
 
     of-note : (string : List ℕ) → P (note_of string)
     of-note [] = one _
@@ -71,9 +73,11 @@ module _ (P : List Said → Type 0) where
 
 -- a property of what is told that holds of all that a pick says
 pub of-told : (P : Told → Type 0) (Q : Placed → Type 0) (nodes : List Node)
-    → ((p : Placed) (term : Term) → Q p → term_in p.pick.row.content ≡ Some term → AllByRecursion (λ s. P (record { placed = p; said = s })) (said p.pick.row.form term (string_at nodes p.pick.node)))
+    → ((p : Placed) (term : Term) → Q p → term_in p.pick.row.content ≡ Some term
+    → AllByRecursion (λ s. P (record { placed = p; said = s })) (said p.pick.row.form term (string_at nodes p.pick.node)))
     → (ps : List Placed) → AllByRecursion Q ps → AllByRecursion P (told nodes ps)
-of-told P Q nodes h ps all = each-flat P Q (told_by nodes) (λ p k. each-map P (λ s. record { placed = p; said = s }) (said_by nodes p) (go p k (term_in p.pick.row.content) refl)) ps all
+of-told P Q nodes h ps all = each-flat P Q (told_by nodes)
+    (λ p k. each-map P (λ s. record { placed = p; said = s }) (said_by nodes p) (go p k (term_in p.pick.row.content) refl)) ps all
   where
     go : (p : Placed) → Q p → (o : Option Term) → term_in p.pick.row.content ≡ o
         → AllByRecursion (λ s. P (record { placed = p; said = s })) (elim o [ None ↦ [] | Some term ↦ said p.pick.row.form term (string_at nodes p.pick.node) ])
@@ -81,4 +85,5 @@ of-told P Q nodes h ps all = each-flat P Q (told_by nodes) (λ p k. each-map P (
     go p k (Some term) e = h p term k e
 
 pub of-placed : (Q : Placed → Type 0) (nodes : List Node) (ps : List Placed) → AllByRecursion Q ps → AllByRecursion (λ t. Q t.placed) (told nodes ps)
-of-placed Q nodes ps all = of-told (λ t. Q t.placed) Q nodes (λ p term k e. each-any (λ s. Q p) (λ s. k) (said p.pick.row.form term (string_at nodes p.pick.node))) ps all
+of-placed Q nodes ps all = of-told (λ t. Q t.placed) Q nodes
+    (λ p term k e. each-any (λ s. Q p) (λ s. k) (said p.pick.row.form term (string_at nodes p.pick.node))) ps all

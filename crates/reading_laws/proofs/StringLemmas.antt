@@ -72,7 +72,8 @@ plain-chars (c ∷ text) h = let k = both (is_plain c) _ h in rw (plain-char c k
 plain-ends : (text : List ℕ) → list_all is_plain text ≡ true → HasEnds text
 plain-ends text h = record {
   first = λ c rest e. plain-black c (both (is_plain c) _ (ap (list_all is_plain) (sym e) ∙ h)).0;
-  last = λ init l e. plain-black l (both (is_plain l) true (both (list_all is_plain init) _ (sym (list_all-append is_plain init (l ∷ [])) ∙ (ap (list_all is_plain) (sym e) ∙ h))).1).0;
+  last = λ init l e. plain-black l (both (is_plain l) true
+      (both (list_all is_plain init) _ (sym (list_all-append is_plain init (l ∷ [])) ∙ (ap (list_all is_plain) (sym e) ∙ h))).1).0;
 }
 
 all_pair : (p : ℕ → Bool) (a b : List ℕ) → list_all p a ≡ true → list_all p b ≡ true → list_all p (a ++ b) ≡ true
@@ -91,7 +92,8 @@ last_digits-plain (suc k) n =
 day-plain : (d : CivilDay) → list_all is_plain (dashed_day_text d) ≡ true
 unfolding dashed_day_text is_plain
 day-plain d =
-    all_pair is_plain (last_digits 4 d.year) _ (last_digits-plain 4 d.year) (all_pair is_plain (last_digits 2 d.month) _ (last_digits-plain 2 d.month) (last_digits-plain 2 d.day))
+    all_pair is_plain (last_digits 4 d.year) _ (last_digits-plain 4 d.year)
+    (all_pair is_plain (last_digits 2 d.month) _ (last_digits-plain 2 d.month) (last_digits-plain 2 d.day))
 
 append-nil : (xs : List ℕ) → xs ++ [] ≡ xs
 append-nil [] = refl
@@ -124,7 +126,8 @@ code-fits : (term : Term) (image : Image) (value : Value) → letter_of term ≡
 code-fits term image value e read h =
     subst (Fits term) (same_Some _ _ h) (record { letter = letters.C; text = image.code; typed = modelled e; read = read })
 
-image-step : (term : Term) (image : Image) (others : Option Value) (value : Value) (b : Bool) → letter_of term ≡ Some letters.C → value_of letters.C image.code ≡ Some (values.Code image.code)
+image-step : (term : Term) (image : Image) (others : Option Value) (value : Value) (b : Bool) → letter_of term ≡ Some letters.C
+    → value_of letters.C image.code ≡ Some (values.Code image.code)
     → (others ≡ Some value → Fits term value) → (elim b [ true ↦ Some (values.Code image.code) | false ↦ others ]) ≡ Some value → Fits term value
 image-step term image others value true e read more h = code-fits term image value e read h
 image-step term image others value false e read more h = more h
@@ -174,7 +177,8 @@ choice-fits false xs ys h k = k
 behind-fits : (string : List ℕ) (first a b c last : ℕ) (text : List ℕ) → AllFit (note_behind string first a b c last text)
 behind-fits string first a b c last text =
     choice-fits ((first == 35) && (last == 35))
-    (elim (list_all is_subject_character (a ∷ b ∷ c ∷ []) && not (is_blank text)) [ true ↦ coded (a ∷ b ∷ c ∷ []) text | false ↦ plain_note string ]) (plain_note string)
+    (elim (list_all is_subject_character (a ∷ b ∷ c ∷ []) && not (is_blank text)) [ true ↦ coded (a ∷ b ∷ c ∷ []) text | false ↦ plain_note string ])
+    (plain_note string)
     (choice-fits (list_all is_subject_character (a ∷ b ∷ c ∷ []) && not (is_blank text)) (coded (a ∷ b ∷ c ∷ []) text) (plain_note string)
     (coded-fits (a ∷ b ∷ c ∷ []) text) (plain-fits string)) (plain-fits string)
 
@@ -192,7 +196,8 @@ not-true : (b : Bool) → not b ≡ true → b ≡ false
 not-true true h = absurd (false≢true h)
 not-true false h = refl
 
-typed-fits : (letter : Letter) (term : Term) (string : List ℕ) → suits (forms.Typed letter) term ≡ true → (value : Value) → value_of letter string ≡ Some value → Fits term value
+typed-fits : (letter : Letter) (term : Term) (string : List ℕ) → suits (forms.Typed letter) term ≡ true → (value : Value) → value_of letter string ≡ Some value
+    → Fits term value
 typed-fits letter term string h value read =
     let k = both (is_extension term) (not (is_base64 letter)) h in
     record { letter = letter; text = string; typed = added k.0 (not-true (is_base64 letter) k.1); read = read }
@@ -215,7 +220,8 @@ module _ (dashed : (d : CivilDay) → IsDay d → read_dashed_day (dashed_day_te
   suited-fits (forms.Typed letter) term string h = one-fits term (value_of letter string) (typed-fits letter term string h)
   suited-fits forms.TypedPlainDate term string h = one-fits term (plain_date string) (λ v. date-fits term string v (added h refl))
 
-  form-fits : (form : Form) (term : Term) (string : List ℕ) (b : Bool) → suits form term ≡ b → AllFit (said_in (elim b [ true ↦ form | false ↦ forms.Model ]) term string)
+  form-fits : (form : Form) (term : Term) (string : List ℕ) (b : Bool) → suits form term ≡ b
+      → AllFit (said_in (elim b [ true ↦ form | false ↦ forms.Model ]) term string)
   form-fits form term string true h = suited-fits form term string h
   form-fits form term string false h = suited-fits forms.Model term string refl
 

@@ -45,18 +45,22 @@ slot-itself c = go c.outer c.inner
 
 -- each room once has the same contexts
 kept-apart : (room : Room) (c : Context) (rs : List Room) → Judged rs c
-    → (same_context room.context c || list_any (λ (r : Room). same_context r.context c) (filter (λ (other : Room). not (same_context room.context other.context)) rs)) ≡ true
+    → (same_context room.context c || list_any (λ (r : Room). same_context r.context c)
+    (filter (λ (other : Room). not (same_context room.context other.context)) rs)) ≡ true
 kept-apart room c [] h = absurd (false≢true h)
 kept-apart room c (r ∷ rs) h = go (same_context r.context c) (same_context room.context r.context) refl refl h (kept-apart room c rs)
   where
     rest : List Room
     rest = filter (λ (other : Room). not (same_context room.context other.context)) rs
 
-    go : (a b : Bool) → same_context r.context c ≡ a → same_context room.context r.context ≡ b → (a || list_any (λ (x : Room). same_context x.context c) rs) ≡ true
+    go : (a b : Bool) → same_context r.context c ≡ a → same_context room.context r.context ≡ b
+        → (a || list_any (λ (x : Room). same_context x.context c) rs) ≡ true
         → (Judged rs c → (same_context room.context c || list_any (λ (x : Room). same_context x.context c) rest) ≡ true)
         → (same_context room.context c || list_any (λ (x : Room). same_context x.context c) (if not b then r ∷ rest else rest)) ≡ true
-    go true true e k l f = or-left (same_context room.context c) (list_any (λ (x : Room). same_context x.context c) rest) (ap (λ d. same_context d c) (context_is room.context r.context k) ∙ e)
-    go true false e k l f = or-right (same_context room.context c) (list_any (λ (x : Room). same_context x.context c) (r ∷ rest)) (or-left (same_context r.context c) (list_any (λ (x : Room). same_context x.context c) rest) e)
+    go true true e k l f = or-left (same_context room.context c) (list_any (λ (x : Room). same_context x.context c) rest)
+        (ap (λ d. same_context d c) (context_is room.context r.context k) ∙ e)
+    go true false e k l f = or-right (same_context room.context c) (list_any (λ (x : Room). same_context x.context c) (r ∷ rest))
+        (or-left (same_context r.context c) (list_any (λ (x : Room). same_context x.context c) rest) e)
     go false true e k l f = f l
     go false false e k l f = ap (λ b. same_context room.context c || (b || list_any (λ (x : Room). same_context x.context c) rest)) e ∙ f l
 
@@ -64,7 +68,8 @@ once-judged : (c : Context) (rs : List Room) → Judged rs c → Judged (each_on
 once-judged c [] h = h
 once-judged c (room ∷ rs) h = go (same_context room.context c) refl h (once-judged c rs)
   where
-    go : (b : Bool) → same_context room.context c ≡ b → (b || list_any (λ (r : Room). same_context r.context c) rs) ≡ true → (Judged rs c → Judged (each_once rs) c) → Judged (each_once (room ∷ rs)) c
+    go : (b : Bool) → same_context room.context c ≡ b → (b || list_any (λ (r : Room). same_context r.context c) rs) ≡ true
+        → (Judged rs c → Judged (each_once rs) c) → Judged (each_once (room ∷ rs)) c
     go true e l f = or-left (same_context room.context c) _ e
     go false e l f = kept-apart room c (each_once rs) (f l)
 
@@ -74,28 +79,34 @@ rooms_of p = outer_room p ++ inner_room p
 -- the contexts that a pick stands in are judged
 abbrev HasRooms : List Placed → Placed → Type 0
 HasRooms ps p =
-    (is_some (context_of p).outer ≡ true → Judged (rooms ps) (outer_context (context_of p))) × (is_some (context_of p).inner ≡ true → Judged (rooms ps) (context_of p))
+    (is_some (context_of p).outer ≡ true → Judged (rooms ps) (outer_context (context_of p)))
+    × (is_some (context_of p).inner ≡ true → Judged (rooms ps) (context_of p))
 
 in-rooms : (ps : List Placed) (c : Context) → list_any (λ (room : Room). same_context room.context c) (flat_map rooms_of ps) ≡ true → Judged (rooms ps) c
-in-rooms ps c h = or-right (same_context root_context c) (list_any (λ (room : Room). same_context room.context c) (each_once (flat_map rooms_of ps))) (once-judged c (flat_map rooms_of ps) h)
+in-rooms ps c h = or-right (same_context root_context c) (list_any (λ (room : Room). same_context room.context c) (each_once (flat_map rooms_of ps)))
+    (once-judged c (flat_map rooms_of ps) h)
 
-in-outer : (p : Placed) → is_some (context_of p).outer ≡ true → list_any (λ (room : Room). same_context room.context (outer_context (context_of p))) (rooms_of p) ≡ true
+in-outer : (p : Placed) → is_some (context_of p).outer ≡ true
+    → list_any (λ (room : Room). same_context room.context (outer_context (context_of p))) (rooms_of p) ≡ true
 in-outer p h =
     any-append (λ (room : Room). same_context room.context (outer_context (context_of p))) (outer_room p) (inner_room p)
     ∙ or-left (list_any (λ (room : Room). same_context room.context (outer_context (context_of p))) (outer_room p)) _ (go p.outer h)
   where
     go : (o : Option Seated) → is_some (slot_of o) ≡ true
-        → list_any (λ (room : Room). same_context room.context (outer_context (context_of p))) (elim o [ None ↦ [] | Some seat ↦ record { context = outer_context (context_of p); element = seat.element } ∷ [] ]) ≡ true
+        → list_any (λ (room : Room). same_context room.context (outer_context (context_of p)))
+        (elim o [ None ↦ [] | Some seat ↦ record { context = outer_context (context_of p); element = seat.element } ∷ [] ]) ≡ true
     go None k = absurd (false≢true k)
     go (Some seat) k = or-left (same_context (outer_context (context_of p)) (outer_context (context_of p))) false (slot-itself (outer_context (context_of p)))
 
 in-inner : (p : Placed) → is_some (context_of p).inner ≡ true → list_any (λ (room : Room). same_context room.context (context_of p)) (rooms_of p) ≡ true
 in-inner p h =
     any-append (λ (room : Room). same_context room.context (context_of p)) (outer_room p) (inner_room p)
-    ∙ or-right (list_any (λ (room : Room). same_context room.context (context_of p)) (outer_room p)) (list_any (λ (room : Room). same_context room.context (context_of p)) (inner_room p)) (go p.inner h)
+    ∙ or-right (list_any (λ (room : Room). same_context room.context (context_of p)) (outer_room p))
+    (list_any (λ (room : Room). same_context room.context (context_of p)) (inner_room p)) (go p.inner h)
   where
     go : (o : Option Seated) → is_some (slot_of o) ≡ true
-        → list_any (λ (room : Room). same_context room.context (context_of p)) (elim o [ None ↦ [] | Some seat ↦ record { context = context_of p; element = seat.element } ∷ [] ]) ≡ true
+        → list_any (λ (room : Room). same_context room.context (context_of p))
+        (elim o [ None ↦ [] | Some seat ↦ record { context = context_of p; element = seat.element } ∷ [] ]) ≡ true
     go None k = absurd (false≢true k)
     go (Some seat) k = or-left (same_context (context_of p) (context_of p)) false (slot-itself (context_of p))
 
@@ -139,7 +150,8 @@ context-judged nodes ps c (inr w) = each-at (ShowsJudged ps) (entries (told node
 abbrev lack_in : List Seat → Context → Option Lack
 lack_in seats c = first_missing (filter (λ (seat : Seat). is_inside c seat.context) seats) c
 
-rooms-whole : (nodes : List Node) (seats : List Seat) (rs : List Room) → flat_map (judging.missing_in nodes seats) rs ≡ [] → AllByRecursion (λ (room : Room). lack_in seats room.context ≡ None) rs
+rooms-whole : (nodes : List Node) (seats : List Seat) (rs : List Room) → flat_map (judging.missing_in nodes seats) rs ≡ []
+    → AllByRecursion (λ (room : Room). lack_in seats room.context ≡ None) rs
 rooms-whole nodes seats [] h = tt
 rooms-whole nodes seats (room ∷ rs) h =
     let w = none-of-both (judging.missing_in nodes seats room) (flat_map (judging.missing_in nodes seats) rs) h in
@@ -154,7 +166,8 @@ rooms-whole nodes seats (room ∷ rs) h =
     go None k = refl
     go (Some lack) k = absurd (let z : suc 0 ≡ 0 = ap length k in omega arith)
 
-judged-whole : (seats : List Seat) (rs : List Room) (c : Context) → AllByRecursion (λ (room : Room). lack_in seats room.context ≡ None) rs → Judged rs c → lack_in seats c ≡ None
+judged-whole : (seats : List Seat) (rs : List Room) (c : Context) → AllByRecursion (λ (room : Room). lack_in seats room.context ≡ None) rs → Judged rs c
+    → lack_in seats c ≡ None
 judged-whole seats rs c all h =
     let w = any-here (λ (room : Room). lack_in seats room.context ≡ None) (λ (room : Room). same_context room.context c) rs all h in
     subst (λ d. lack_in seats d ≡ None) (context_is w.0.context c w.2) w.1
@@ -163,17 +176,20 @@ any-filter : {X : Type 0} (p q : X → Bool) (xs : List X) → list_any p (filte
 any-filter p q [] = refl
 any-filter p q (x ∷ xs) = go (q x) (any-filter p q xs)
   where
-    go : (b : Bool) → list_any p (filter q xs) ≡ list_any (λ x. q x && p x) xs → list_any p (if b then x ∷ filter q xs else filter q xs) ≡ ((b && p x) || list_any (λ x. q x && p x) xs)
+    go : (b : Bool) → list_any p (filter q xs) ≡ list_any (λ x. q x && p x) xs
+        → list_any p (if b then x ∷ filter q xs else filter q xs) ≡ ((b && p x) || list_any (λ x. q x && p x) xs)
     go true h = ap (λ c. p x || c) h
     go false h = h
 
 seats-alike : (ts : List Told) → AllByRecursion HasValue ts → (c : Context)
-    → AreAlike (map listing.seat_of (filter (λ (e : Entry). is_inside c e.context) (entries ts))) (filter (λ (seat : Seat). is_inside c seat.context) (map seat_of ts))
+    → AreAlike (map listing.seat_of (filter (λ (e : Entry). is_inside c e.context) (entries ts)))
+    (filter (λ (seat : Seat). is_inside c seat.context) (map seat_of ts))
 seats-alike ts v c p =
     any-map listing.seat_of p (filter (λ (e : Entry). is_inside c e.context) (entries ts))
     ∙ (any-filter (λ (e : Entry). p (listing.seat_of e)) (λ (e : Entry). is_inside c e.context) (entries ts)
     ∙ (seats-same (λ (seat : Seat). is_inside c seat.context && p seat) ts v
-    ∙ (sym (any-map seat_of (λ (seat : Seat). is_inside c seat.context && p seat) ts) ∙ sym (any-filter p (λ (seat : Seat). is_inside c seat.context) (map seat_of ts)))))
+    ∙ (sym (any-map seat_of (λ (seat : Seat). is_inside c seat.context && p seat) ts)
+    ∙ sym (any-filter p (λ (seat : Seat). is_inside c seat.context) (map seat_of ts)))))
 
 -- ---- so it lacks nothing
 
@@ -181,7 +197,8 @@ no-lack : (xs : List (Option Lack)) → AllByRecursion (λ o. o ≡ None) xs →
 no-lack [] h = refl
 no-lack (o ∷ xs) h = ap (λ p. fold earlier (earlier None p) xs) h.0 ∙ no-lack xs h.1
 
-context-whole : (nodes : List Node) (rows : List Row) (lists : Lists) (es : List Entry) → IsReadOf nodes rows lists es → (c : Context) → IsContextOf es c → missing_in es c ≡ None
+context-whole : (nodes : List Node) (rows : List Row) (lists : Lists) (es : List Entry) → IsReadOf nodes rows lists es → (c : Context) → IsContextOf es c
+    → missing_in es c ≡ None
 context-whole nodes rows lists es r c h =
     let ps = places_in nodes rows in
     let ts = told nodes ps in
@@ -191,14 +208,17 @@ context-whole nodes rows lists es r c h =
     ∙ (first-same _ _ (seats-alike ts (each-weaker (IsFine lists) HasValue (λ t f. f.value) ts r.fine) c) c ∙ none)
 
 code-whole : (lists : Lists) (e : Entry) → IsAllowed lists e → unlisted lists e ≡ None
-code-whole lists e h = ap (λ b. if b then option_map (λ place. record { place = place; fault = faults.CodeNotListed e.term }) (place_of e.term e.context) else None) h
+code-whole lists e h = ap (λ b. if b then option_map (λ place. record { place = place; fault = faults.CodeNotListed e.term })
+    (place_of e.term e.context) else None) h
 
 lacks-nothing : (nodes : List Node) (rows : List Row) (lists : Lists) (es : List Entry) → IsReadOf nodes rows lists es → first_lack es lists ≡ None
 lacks-nothing nodes rows lists es r =
     no-lack (map (missing_in es) (contexts es) ++ map (unlisted lists) es)
     (each-append (λ o. o ≡ None) (map (missing_in es) (contexts es)) (map (unlisted lists) es)
-    (each-map (λ o. o ≡ None) (missing_in es) (contexts es) (each-member (λ c. missing_in es c ≡ None) (contexts es) (λ c m. context-whole nodes rows lists es r c (context_shown es c m))))
-    (each-map (λ o. o ≡ None) (unlisted lists) es (each-weaker (IsAllowed lists) (λ e. unlisted lists e ≡ None) (code-whole lists) es (each-allowed nodes rows lists es r))))
+    (each-map (λ o. o ≡ None) (missing_in es) (contexts es)
+    (each-member (λ c. missing_in es c ≡ None) (contexts es) (λ c m. context-whole nodes rows lists es r c (context_shown es c m))))
+    (each-map (λ o. o ≡ None) (unlisted lists) es
+    (each-weaker (IsAllowed lists) (λ e. unlisted lists e ≡ None) (code-whole lists) es (each-allowed nodes rows lists es r))))
 
 pub read-valid : ((es : List Entry) (lists : Lists) → ((first_lack es lists ≡ None) ↔ IsValid es lists))
     → (nodes : List Node) (rows : List Row) (lists : Lists) (read : Read) → terms_of nodes rows lists ≡ Ok read → IsValid read.entries lists

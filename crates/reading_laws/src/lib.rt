@@ -69,7 +69,8 @@ pub fn read_entries_are_in_listing_order()
 /// The occurrences of each group are numbered from 1 without a gap, in each occurrence of the group around it, where
 /// the numbers of the nodes rise.
 pub fn read_occurrences_have_no_gap()
-    ensures { (nodes : List Node) (rows : List Row) (lists : Lists) (read : Read) → Rise 0 nodes → first_fault rows ≡ Ok tt → terms_of nodes rows lists ≡ Ok read
+    ensures { (nodes : List Node) (rows : List Row) (lists : Lists) (read : Read) → Rise 0 nodes → first_fault rows ≡ Ok tt
+        → terms_of nodes rows lists ≡ Ok read
         → is_numbered read.entries ≡ true }
 {}
 
@@ -82,11 +83,13 @@ pub fn numbers_of_nodes_rise()
 /// What is read by a well formed table is a valid invoice, so what is read by one of the three tables, and so what is
 /// read of any document.
 pub fn read_invoices_are_valid()
-    ensures rows { (nodes : List Node) (rows : List Row) (lists : Lists) (read : Read) → Rise 0 nodes → first_fault rows ≡ Ok tt → terms_of nodes rows lists ≡ Ok read
+    ensures rows { (nodes : List Node) (rows : List Row) (lists : Lists) (read : Read) → Rise 0 nodes → first_fault rows ≡ Ok tt
+        → terms_of nodes rows lists ≡ Ok read
         → IsInvoice read.entries × IsValid read.entries lists }
     ensures tables { (table : Which) (nodes : List Node) (lists : Lists) (read : Read) → Rise 0 nodes → terms_of nodes (rows_of table) lists ≡ Ok read
         → IsInvoice read.entries × IsValid read.entries lists }
-    ensures documents { (table : Which) (document : Document) (lists : Lists) (read : Read) → IsOfATree document → terms_of (tree_nodes document) (rows_of table) lists ≡ Ok read
+    ensures documents { (table : Which) (document : Document) (lists : Lists) (read : Read) → IsOfATree document
+        → terms_of (tree_nodes document) (rows_of table) lists ≡ Ok read
         → IsInvoice read.entries × IsValid read.entries lists }
 {
     read_values_fit_their_terms();
@@ -100,7 +103,8 @@ pub fn read_invoices_are_valid()
 /// faults, and where the entries of an invoice are added one by one, none is refused.
 pub fn nothing_read_is_refused()
     ensures places { (nodes : List Node) (rows : List Row) → first_fault rows ≡ Ok tt
-        → All (λ (t : Told). is_some (place_of t.said.term (context_of t.placed)) ≡ true) (told nodes (place_all nodes (term_picks nodes (currencies nodes rows) rows))) }
+        → All (λ (t : Told). is_some (place_of t.said.term (context_of t.placed)) ≡ true)
+        (told nodes (place_all nodes (term_picks nodes (currencies nodes rows) rows))) }
     ensures entries { (es more : List Entry) (e : Entry) → IsInvoice (es ++ e ∷ more) → refusal es e ≡ None }
 {
     push_refuses_what_makes_no_invoice();

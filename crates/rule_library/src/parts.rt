@@ -26,6 +26,17 @@ const FILES: usize = 64;
 /// How many parts are put in at most: parts that put nothing in could double with each file.
 const PARTS: u32 = 4_000_000;
 
+/// A part that an element asks for.
+#[derive(Clone, Copy)]
+pub(crate) struct Wanted<'n> {
+    /// The element.
+    pub(crate) node: NodeId,
+    /// Whether only what is in the part's root is wanted.
+    pub(crate) bare: bool,
+    /// The name of the part's file.
+    pub(crate) name: &'n str,
+}
+
 /// Whether a file of that name is being put in.
 fn is_open(walk: &Walk<'_>, name: &str) -> bool
     requires { Stands walk.now }
@@ -93,20 +104,18 @@ fn read_part<'a, S: Shelf>(
     bump: &'a Bump,
     shelf: &mut S,
     walk: &mut Walk<'a>,
-    n: NodeId,
-    bare: bool,
-    name: &str,
+    wanted: &Wanted<'_>,
 ) -> Result<usize, LoadFault>
-    requires at { StandsAt walk.old n }
-    ensures found { IfOk result (λ k. Reaches (spec.new_rest walk.old n bare name.now) (spec.found_rest walk.new n bare k) (S.view shelf.old) (S.view shelf.new)) }
-    ensures at { IfOk result (λ k. StandsAt walk.new n) }
+    requires at { StandsAt walk.old wanted.now.node }
+    ensures found { let w = wanted.now in IfOk result (λ k. Reaches (spec.new_rest walk.old w.node w.bare w.name.now) (spec.found_rest walk.new w.node w.bare k) (S.view shelf.old) (S.view shelf.new)) }
+    ensures at { IfOk result (λ k. StandsAt walk.new wanted.now.node) }
     ensures within { IfOk result (λ k. k < length walk.new.files.items) }
-    ensures fails { IfErr result (λ fault. Fails (spec.new_rest walk.old n bare name.now) fault (S.view shelf.old) (S.view shelf.new)) }
+    ensures fails { let w = wanted.now in IfErr result (λ fault. Fails (spec.new_rest walk.old w.node w.bare w.name.now) fault (S.view shelf.old) (S.view shelf.new)) }
 {
     if has_many(walk) {
-        return Err(fault_in(alloc, walk, n, LoadKind::TooManyFiles));
+        return Err(fault_in(alloc, walk, wanted.node, LoadKind::TooManyFiles));
     }
-    let file = match read_file(alloc, bump, shelf, name, walk.length) {
+    let file = match read_file(alloc, bump, shelf, wanted.name, walk.length) {
         Ok(file) => file,
         Err(fault) => return Err(fault),
     };
@@ -143,19 +152,17 @@ fn find_part<'a, S: Shelf>(
     bump: &'a Bump,
     shelf: &mut S,
     walk: &mut Walk<'a>,
-    n: NodeId,
-    bare: bool,
-    name: &str,
+    wanted: &Wanted<'_>,
 ) -> Result<usize, LoadFault>
-    requires at { StandsAt walk.old n }
-    ensures found { IfOk result (λ k. Reaches (spec.other_rest walk.old n bare name.now) (spec.found_rest walk.new n bare k) (S.view shelf.old) (S.view shelf.new)) }
-    ensures at { IfOk result (λ k. StandsAt walk.new n) }
+    requires at { StandsAt walk.old wanted.now.node }
+    ensures found { let w = wanted.now in IfOk result (λ k. Reaches (spec.other_rest walk.old w.node w.bare w.name.now) (spec.found_rest walk.new w.node w.bare k) (S.view shelf.old) (S.view shelf.new)) }
+    ensures at { IfOk result (λ k. StandsAt walk.new wanted.now.node) }
     ensures within { IfOk result (λ k. k < length walk.new.files.items) }
-    ensures fails { IfErr result (λ fault. Fails (spec.other_rest walk.old n bare name.now) fault (S.view shelf.old) (S.view shelf.new)) }
+    ensures fails { let w = wanted.now in IfErr result (λ fault. Fails (spec.other_rest walk.old w.node w.bare w.name.now) fault (S.view shelf.old) (S.view shelf.new)) }
 {
-    match find(walk.files.as_slice(), name) {
+    match find(walk.files.as_slice(), wanted.name) {
         Some(k) => Ok(k),
-        None => read_part(alloc, bump, shelf, walk, n, bare, name),
+        None => read_part(alloc, bump, shelf, walk, wanted),
     }
 }
 
@@ -228,26 +235,24 @@ pub(crate) fn put_part<'a, S: Shelf>(
     bump: &'a Bump,
     shelf: &mut S,
     walk: &mut Walk<'a>,
-    n: NodeId,
-    bare: bool,
-    name: &str,
+    wanted: &Wanted<'_>,
 ) -> Result<(), LoadFault>
-    requires at { StandsAt walk.old n }
-    ensures goes { IfOk result (λ _. Reaches (spec.part_rest walk.old n bare name.now) (rest_of walk.new) (S.view shelf.old) (S.view shelf.new)) }
+    requires at { StandsAt walk.old wanted.now.node }
+    ensures goes { let w = wanted.now in IfOk result (λ _. Reaches (spec.part_rest walk.old w.node w.bare w.name.now) (rest_of walk.new) (S.view shelf.old) (S.view shelf.new)) }
     ensures stands { OnOk result (Stands walk.new) }
-    ensures fails { IfErr result (λ fault. Fails (spec.part_rest walk.old n bare name.now) fault (S.view shelf.old) (S.view shelf.new)) }
+    ensures fails { let w = wanted.now in IfErr result (λ fault. Fails (spec.part_rest walk.old w.node w.bare w.name.now) fault (S.view shelf.old) (S.view shelf.new)) }
 {
-    if is_open(walk, name) {
-        return Err(fault_in(alloc, walk, n, LoadKind::IncludeCycle));
+    if is_open(walk, wanted.name) {
+        return Err(fault_in(alloc, walk, wanted.node, LoadKind::IncludeCycle));
     }
-    let k = match find_part(alloc, bump, shelf, walk, n, bare, name) {
+    let k = match find_part(alloc, bump, shelf, walk, wanted) {
         Ok(k) => k,
         Err(fault) => return Err(fault),
     };
-    if is_unfit(walk, n, bare, k) {
-        return Err(fault_in(alloc, walk, n, LoadKind::NotSame));
+    if is_unfit(walk, wanted.node, wanted.bare, k) {
+        return Err(fault_in(alloc, walk, wanted.node, LoadKind::NotSame));
     }
-    match enter(walk, n, bare, k) {
+    match enter(walk, wanted.node, wanted.bare, k) {
         Ok(()) => Ok(()),
         Err(_) => Err(want_of_memory()),
     }

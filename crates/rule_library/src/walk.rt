@@ -18,7 +18,7 @@ use crate::faults::{LoadFault, LoadKind, fault_at, want_of_memory};
 use crate::files::{File, file_in};
 use crate::joining::Joined;
 use crate::moves::{level_of, next_of};
-use crate::parts::put_part;
+use crate::parts::{Wanted, put_part};
 use bumpalo::Bump;
 use inv_base::{Kind, Place, Shelf};
 use node_arena::{Doc, NodeId};
@@ -279,8 +279,22 @@ fn put_asked<'a, S: Shelf>(
     match request_in(walk, n) {
         Request::Stays => put_element(alloc, walk, n),
         Request::Bad => Err(fault_in(alloc, walk, n, LoadKind::BadHref)),
-        Request::RootOf(name) => put_part(alloc, bump, shelf, walk, n, false, name),
-        Request::InsideOf(name) => put_part(alloc, bump, shelf, walk, n, true, name),
+        Request::RootOf(name) => {
+            let wanted = Wanted {
+                node: n,
+                bare: false,
+                name,
+            };
+            put_part(alloc, bump, shelf, walk, &wanted)
+        }
+        Request::InsideOf(name) => {
+            let wanted = Wanted {
+                node: n,
+                bare: true,
+                name,
+            };
+            put_part(alloc, bump, shelf, walk, &wanted)
+        }
     }
 }
 

@@ -10,6 +10,7 @@ use inv_base::Many;
 use schematron_entries::Entry;
 use schematron_expansion::Instance;
 use schematron_meaning::Attribute;
+use schematron_rules::number_of;
 use std::alloc::{AllocError, Global};
 use std::collections::BTreeMap;
 
@@ -110,16 +111,6 @@ fn in_order(numbers: Vec<usize>) -> Vec<usize>
     ordered.sort_unstable();
     ordered.dedup();
     ordered
-}
-
-/// The number, in 32 bits. No file has as many patterns as there are numbers; one that had would count as want of memory.
-fn number_of(place: usize) -> Result<u32, AllocError>
-    ensures { IfOk result (λ number. number ≡ place) }
-{
-    match u32::try_from(place) {
-        Ok(number) => Ok(number),
-        Err(_) => Err(AllocError),
-    }
 }
 
 fn push_number(list: &mut Many<u32>, place: usize) -> Result<(), AllocError>

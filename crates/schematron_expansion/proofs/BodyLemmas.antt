@@ -44,7 +44,8 @@ passed_by : (rules : List Entry) (e : Entry) (ys : List Entry) (item same : Bool
 passed_by rules e ys item same h = ap (flat_map (λ (y : Entry). part_by y.role rules y)) (not_inside e ys item same h)
 
 taken_by : (rules : List Entry) (e : Entry) (ys : List Entry) (item same : Bool) → same ≡ true
-    → flat_map (λ (y : Entry). part_by y.role rules y) (cond (item && same) (e ∷ ys) ys) ≡ cond item (part_by e.role rules e) [] ++ flat_map (λ (y : Entry). part_by y.role rules y) ys
+    → flat_map (λ (y : Entry). part_by y.role rules y) (cond (item && same) (e ∷ ys) ys) ≡ cond item (part_by e.role rules e) []
+    ++ flat_map (λ (y : Entry). part_by y.role rules y) ys
 taken_by rules e ys false same h = refl
 taken_by rules e ys true true h = refl
 taken_by rules e ys true false h = absurd (false≢true h)
@@ -56,7 +57,8 @@ body_chained rules n = record {
   taken = λ e es h. taken_by rules e (inside is_item es n) (is_item e.role) (nat_eq e.parent n) (same_number e.parent n ∙ h);
 }
 
-bodies_mapped : (es rules : List Entry) (all : List Entry) → map (λ n. body_at es rules n) (map (λ (rule : Entry). rule.number) all) ≡ map (λ (rule : Entry). body_at es rules rule.number) all
+bodies_mapped : (es rules : List Entry) (all : List Entry) → map (λ n. body_at es rules n) (map (λ (rule : Entry). rule.number) all) ≡ map
+    (λ (rule : Entry). body_at es rules rule.number) all
 bodies_mapped es rules [] = refl
 bodies_mapped es rules (e ∷ all) = ap (λ xs. body_at es rules e.number ∷ xs) (bodies_mapped es rules all)
 
@@ -64,6 +66,7 @@ pub bodies_are : (es : List Entry) (nodes : List ℕ) → nodes ≡ map (λ (rul
 unfolding bodies
 bodies_are es nodes h = ap (bodies_at es) h ∙ bodies_mapped es (abstract_rules es) (abstract_rules es)
 
-pub graph_is : {E : Type 0} (r : Result (List (List Part)) E) (found wanted : List (List Part)) → found ≡ wanted → IfOk r (λ g. g ≡ found) → IfOk r (λ g. g ≡ wanted)
+pub graph_is : {E : Type 0} (r : Result (List (List Part)) E) (found wanted : List (List Part)) → found ≡ wanted → IfOk r (λ g. g ≡ found)
+    → IfOk r (λ g. g ≡ wanted)
 graph_is (Ok g) found wanted h is = is ∙ h
 graph_is (Err x) found wanted h is = is

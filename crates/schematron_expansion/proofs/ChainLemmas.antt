@@ -1,5 +1,6 @@
 -- The chain of what stands in an element, and what all of it comes to together.
-use Rattle.std.proofs.Common.{◌≡◌, ℕ, zero, suc, ◌+◌, ◌-◌, ◌<◌, ◌≤◌, Bool, true, false, cond, nat_eq, eqb-true, List, [], ◌∷◌, ◌++◌, length, get_or, drop, Option, Some, None, IfSome, refl, ap, sym, subst, ◌∙◌, append_assoc, append-nil, arith}
+use Rattle.std.proofs.Common.{◌≡◌, ℕ, zero, suc, ◌+◌, ◌-◌, ◌<◌, ◌≤◌, Bool, true, false, cond, nat_eq, eqb-true, List, [], ◌∷◌, ◌++◌, length, get_or, drop}
+use Rattle.std.proofs.Common.{Option, Some, None, IfSome, refl, ap, sym, subst, ◌∙◌, append_assoc, append-nil, arith}
 use Rattle.std.specs.List.{position_from}
 use Rattle.std.proofs.lemmas.List.{length-map, length-drop, get_or-drop, get_or-map, drop_more, drop-map}
 use Rattle.std.proofs.Math.Dec.{eqb-zero-suc, eqb-suc-zero, eqb-suc-suc}
@@ -41,8 +42,10 @@ placed all n k (x ∷ xs) d o h = by (nat_eq n x) refl (placed all n (k + 1) xs 
   where
     by : (b : Bool) → nat_eq n x ≡ b → (position_from (nat_eq n) (k + 1) xs ≡ o → IfSome o (IsPlace all n (k + 1))) → IfSome o (IsPlace all n k)
     by true e rest =
-        let item : get_or all k 0 ≡ n = ap (λ i. get_or all i 0) (omega arith) ∙ (sym (get_or-drop k all 0 0) ∙ (ap (λ ys. get_or ys 0 0) d ∙ sym (eqb-true n x e))) in
-        subst (λ q. IfSome q (IsPlace all n k)) (sym (ap (λ b. cond b (Some k) (position_from (nat_eq n) (k + 1) xs)) e) ∙ h) (omega arith, (begins_within all k x xs d, item))
+        let item : get_or all k 0 ≡ n =
+        ap (λ i. get_or all i 0) (omega arith) ∙ (sym (get_or-drop k all 0 0) ∙ (ap (λ ys. get_or ys 0 0) d ∙ sym (eqb-true n x e))) in
+        subst (λ q. IfSome q (IsPlace all n k)) (sym (ap (λ b. cond b (Some k) (position_from (nat_eq n) (k + 1) xs)) e) ∙ h)
+        (omega arith, (begins_within all k x xs d, item))
     by false e rest = later all n k o (rest (sym (ap (λ b. cond b (Some k) (position_from (nat_eq n) (k + 1) xs)) e) ∙ h))
 
 parents_length : (es : List Entry) → length (parents es) ≡ length es
@@ -90,14 +93,17 @@ module _ {X : Type 0} (n : ℕ) (part : Entry → List X) (whole : List Entry �
   -- what is between a place and the next one comes to nothing
   skipped : (es : List Entry) (k : ℕ) (rest : List Entry) → drop k es ≡ rest → whole (from_place es (position_from (nat_eq n) k (parents rest))) ≡ whole rest
   skipped es k [] d = refl
-  skipped es k (e ∷ rest) d = by (nat_eq n e.parent) refl (skipped es (k + 1) rest (behind_first es k e rest (omega (arith, sym (length-drop k es) ∙ ap length d)) d))
+  skipped es k (e ∷ rest) d =
+      by (nat_eq n e.parent) refl (skipped es (k + 1) rest (behind_first es k e rest (omega (arith, sym (length-drop k es) ∙ ap length d)) d))
     where
       by : (b : Bool) → nat_eq n e.parent ≡ b → whole (from_place es (position_from (nat_eq n) (k + 1) (parents rest))) ≡ whole rest
           → whole (from_place es (cond (nat_eq n e.parent) (Some k) (position_from (nat_eq n) (k + 1) (parents rest)))) ≡ whole (e ∷ rest)
       by true h more = ap (λ b. whole (from_place es (cond b (Some k) (position_from (nat_eq n) (k + 1) (parents rest))))) h ∙ ap whole d
-      by false h more = ap (λ b. whole (from_place es (cond b (Some k) (position_from (nat_eq n) (k + 1) (parents rest))))) h ∙ (more ∙ sym (laws.passed e rest h))
+      by false h more = ap (λ b. whole (from_place es (cond b (Some k) (position_from (nat_eq n) (k + 1) (parents rest))))) h
+          ∙ (more ∙ sym (laws.passed e rest h))
 
-  pub chain_begins : (es : List Entry) (numbers : List ℕ) (found : List X) (next : Option ℕ) → numbers ≡ parents es → found ≡ [] → next ≡ position_from (nat_eq n) 0 numbers → OnChain whole es n found next
+  pub chain_begins : (es : List Entry) (numbers : List ℕ) (found : List X) (next : Option ℕ) → numbers ≡ parents es → found ≡ []
+      → next ≡ position_from (nat_eq n) 0 numbers → OnChain whole es n found next
   chain_begins es numbers found next c p f =
       let is : next ≡ position_from (nat_eq n) 0 (parents es) = f ∙ ap (position_from (nat_eq n) 0) c in record {
         place = there es n 0 next (placed (parents es) n 0 (parents es) refl next (sym is));
@@ -105,7 +111,8 @@ module _ {X : Type 0} (n : ℕ) (part : Entry → List X) (whole : List Entry �
       }
 
   -- one place on
-  chain_goes : (es : List Entry) (at : ℕ) (numbers : List ℕ) (found more : List X) (e : Entry) (next : Option ℕ) → numbers ≡ parents es → OnChain whole es n found (Some at) → e ≡ get_or es at e
+  chain_goes : (es : List Entry) (at : ℕ) (numbers : List ℕ) (found more : List X) (e : Entry) (next : Option ℕ) → numbers ≡ parents es
+      → OnChain whole es n found (Some at) → e ≡ get_or es at e
       → more ≡ found ++ part e → next ≡ next_of numbers at → OnChain whole es n more next × GoesOn (length es) at next
   chain_goes es at numbers found more e next c h here m f =
       let is : next ≡ position_from (nat_eq n) (at + 1) (parents (drop (at + 1) es)) =
@@ -115,7 +122,8 @@ module _ {X : Type 0} (n : ℕ) (part : Entry → List X) (whole : List Entry �
       placed (parents es) n (at + 1) (parents (drop (at + 1) es)) (drop-map (λ (y : Entry). y.parent) (at + 1) es) next (sym is) in
       let front : drop at es ≡ e ∷ drop (at + 1) es = drop_more es at e h.place.0 ∙ ap (λ y. y ∷ drop (at + 1) es) (sym here) in
       let inside : nat_eq n e.parent ≡ true =
-      ap (λ x. nat_eq x e.parent) (sym h.place.1 ∙ (get_or-map (λ (y : Entry). y.parent) es at e 0 h.place.0 ∙ ap (λ (y : Entry). y.parent) (sym here))) ∙ itself e.parent in (
+      ap (λ x. nat_eq x e.parent) (sym h.place.1 ∙ (get_or-map (λ (y : Entry). y.parent) es at e 0 h.place.0 ∙ ap (λ (y : Entry). y.parent) (sym here)))
+      ∙ itself e.parent in (
         record {
           place = there es n (at + 1) next known;
           left = ap (λ ps. ps ++ whole (from_place es next)) m
@@ -128,14 +136,16 @@ module _ {X : Type 0} (n : ℕ) (part : Entry → List X) (whole : List Entry �
       )
 
   -- the loop's step, where the entry is one of those that were read
-  pub chain_on : (entries : List Read) (at : ℕ) (numbers : List ℕ) (found more : List X) (e : Read) (now next : Option ℕ) → now ≡ Some at → numbers ≡ parents (seen_entries entries)
+  pub chain_on : (entries : List Read) (at : ℕ) (numbers : List ℕ) (found more : List X) (e : Read) (now next : Option ℕ)
+      → now ≡ Some at → numbers ≡ parents (seen_entries entries)
       → OnChain whole (seen_entries entries) n found now → e ≡ get_or entries at e → more ≡ found ++ part (seen_entry e) → next ≡ next_of numbers at
       → OnChain whole (seen_entries entries) n more next × (left_from (length (seen_entries entries)) next < left_from (length (seen_entries entries)) now)
   chain_on entries at numbers found more e now next is c h here m f =
       let es : List Entry = seen_entries entries in
       let at_it : OnChain whole es n found (Some at) = subst (OnChain whole es n found) is h in
       let within : at < length entries = omega (arith, at_it.place.0, length-map entries seen_entry) in
-      let both = chain_goes es at numbers found more (seen_entry e) next c at_it (ap seen_entry here ∙ sym (get_or-map seen_entry entries at e (seen_entry e) within)) m f in
+      let both = chain_goes es at numbers found more (seen_entry e) next c at_it (ap seen_entry here
+      ∙ sym (get_or-map seen_entry entries at e (seen_entry e) within)) m f in
       (both.0, subst (λ o. left_from (length es) next < left_from (length es) o) (sym is) (goes_down (length es) at next at_it.place.0 both.1))
 
   pub chain_ends : (es : List Entry) (found : List X) → OnChain whole es n found None → found ≡ whole es

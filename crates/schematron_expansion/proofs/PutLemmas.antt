@@ -1,5 +1,6 @@
 -- What rules put, and the first of each.
-use Rattle.std.proofs.Common.{◌≡◌, ℕ, ◌+◌, ◌<◌, ◌≤◌, Bool, true, false, ◌||◌, not, cond, nat_eq, eqb-true, List, [], ◌∷◌, ◌++◌, map, length, get_or, take, find, Option, Some, None, option_to_list, refl, ap, sym, subst, ◌∙◌, append_assoc, append-nil, if◌then◌else◌}
+use Rattle.std.proofs.Common.{◌≡◌, ℕ, ◌+◌, ◌<◌, ◌≤◌, Bool, true, false, ◌||◌, not, cond, nat_eq, eqb-true, List, [], ◌∷◌, ◌++◌, map, length, get_or, take, find}
+use Rattle.std.proofs.Common.{Option, Some, None, option_to_list, refl, ap, sym, subst, ◌∙◌, append_assoc, append-nil, if◌then◌else◌}
 use Rattle.std.specs.Prelude.{flat_map}
 use Rattle.std.specs.List.{list_any}
 use Rattle.std.proofs.lemmas.List.{take_more, take_all}
@@ -20,7 +21,8 @@ use Rattle.schematron_expansion.proofs.ChainLemmas.{itself}
 
 -- ---- one item more
 
-flat_on : {L X : Type 0} (g : L → List X) (xs : List L) (i : ℕ) (x : L) (found more : List X) → i < length xs → found ≡ flat_map g (take i xs) → more ≡ found ++ g (get_or xs i x) → more ≡ flat_map g (take (i + 1) xs)
+flat_on : {L X : Type 0} (g : L → List X) (xs : List L) (i : ℕ) (x : L) (found more : List X) → i < length xs → found ≡ flat_map g (take i xs)
+    → more ≡ found ++ g (get_or xs i x) → more ≡ flat_map g (take (i + 1) xs)
 flat_on g xs i x found more within h m = m ∙ (ap (λ ys. ys ++ g (get_or xs i x)) h
     ∙ (ap (λ ys. flat_map g (take i xs) ++ ys) (sym (append-nil (g (get_or xs i x))))
     ∙ sym (ap (flat_map g) (take_more xs i x within) ∙ flat_map-append g (take i xs) (get_or xs i x ∷ []))))
@@ -34,7 +36,8 @@ at_thing file stand thing = map (put_at_stand stand) (at_node file.entries thing
 things_are : (file : File) (rule : ℕ) → expansion file.bodies (Puts rule ∷ []) ≡ things_put file.bodies rule
 things_are file rule = append-nil (things_put file.bodies rule)
 
-pub things_on : (file : File) (stand : Option ℕ) (things : List Thing) (i : ℕ) (t : Thing) (before found more : List Put) → i < length things → found ≡ before ++ flat_map (at_thing file stand) (take i things)
+pub things_on : (file : File) (stand : Option ℕ) (things : List Thing) (i : ℕ) (t : Thing) (before found more : List Put) → i < length things
+    → found ≡ before ++ flat_map (at_thing file stand) (take i things)
     → more ≡ found ++ at_thing file stand (get_or things i t) → more ≡ before ++ flat_map (at_thing file stand) (take (i + 1) things)
 things_on file stand things i t before found more within h m =
     let g = at_thing file stand in
@@ -45,10 +48,12 @@ things_on file stand things i t before found more within h m =
 gone_through : {X : Type 0} (xs ys : List X) (i : ℕ) → ys ≡ xs → length ys ≤ i → take i ys ≡ xs
 gone_through xs ys i is h = take_all i ys h ∙ is
 
-pub put_all : (file : File) (stand : Option ℕ) (rule : ℕ) (graph : List (List Part)) (things lent : List Thing) (i : ℕ) (before found : List Put) → graph ≡ file.bodies → things ≡ expansion graph (Puts rule ∷ []) → lent ≡ things
+pub put_all : (file : File) (stand : Option ℕ) (rule : ℕ) (graph : List (List Part)) (things lent : List Thing) (i : ℕ) (before found : List Put)
+    → graph ≡ file.bodies → things ≡ expansion graph (Puts rule ∷ []) → lent ≡ things
     → length lent ≤ i → found ≡ before ++ flat_map (at_thing file stand) (take i lent) → found ≡ before ++ put_at file stand (Some rule)
 put_all file stand rule graph things lent i before found g is l all h =
-    h ∙ ap (λ ts. before ++ flat_map (at_thing file stand) ts) (gone_through things lent i l all ∙ (is ∙ (ap (λ b. expansion b (Puts rule ∷ [])) g ∙ things_are file rule)))
+    h ∙ ap (λ ts. before ++ flat_map (at_thing file stand) ts) (gone_through things lent i l all
+    ∙ (is ∙ (ap (λ b. expansion b (Puts rule ∷ [])) g ∙ things_are file rule)))
 
 -- ---- the first of each
 
@@ -61,10 +66,12 @@ abbrev thing_if : Thing → List Thing → List Thing → Bool → List Thing
 thing_if thing old new true = old
 thing_if thing old new false = thing ∷ new
 
-told_put : (put : Put) (puts : List Put) (told : List ℕ) → list_any (nat_eq put.entry.number) told ≡ true → first_puts_behind told (put ∷ puts) ≡ first_puts_behind told puts
+told_put : (put : Put) (puts : List Put) (told : List ℕ) → list_any (nat_eq put.entry.number) told ≡ true
+    → first_puts_behind told (put ∷ puts) ≡ first_puts_behind told puts
 told_put put puts told h = ap (put_if put (first_puts_behind told puts) (first_puts_behind (put.entry.number ∷ told) puts)) h
 
-new_put : (put : Put) (puts : List Put) (told : List ℕ) → list_any (nat_eq put.entry.number) told ≡ false → first_puts_behind told (put ∷ puts) ≡ put ∷ first_puts_behind (put.entry.number ∷ told) puts
+new_put : (put : Put) (puts : List Put) (told : List ℕ) → list_any (nat_eq put.entry.number) told ≡ false
+    → first_puts_behind told (put ∷ puts) ≡ put ∷ first_puts_behind (put.entry.number ∷ told) puts
 new_put put puts told h = ap (put_if put (first_puts_behind told puts) (first_puts_behind (put.entry.number ∷ told) puts)) h
 
 -- both tell the same numbers
@@ -94,28 +101,36 @@ alike_last m told n = list_any-append (nat_eq n) told (m ∷ []) ∙ or_same (li
 
 -- ---- telling
 
-tells_both : (told more most : List ℕ) (found longer longest puts others : List Put) → Tells told found more longer puts → Tells more longer most longest others → Tells told found most longest (puts ++ others)
-tells_both told more most found longer longest puts others h k rest = k rest ∙ (h (others ++ rest) ∙ ap (λ ps. found ++ first_puts_behind told ps) (sym (append_assoc puts others rest)))
+tells_both : (told more most : List ℕ) (found longer longest puts others : List Put) → Tells told found more longer puts → Tells more longer most longest others
+    → Tells told found most longest (puts ++ others)
+tells_both told more most found longer longest puts others h k rest =
+    k rest ∙ (h (others ++ rest) ∙ ap (λ ps. found ++ first_puts_behind told ps) (sym (append_assoc puts others rest)))
 
-tells_new : (told more : List ℕ) (found longer : List Put) (put : Put) → list_any (nat_eq put.entry.number) told ≡ false → more ≡ told ++ put.entry.number ∷ [] → longer ≡ found ++ put ∷ []
+tells_new : (told more : List ℕ) (found longer : List Put) (put : Put) → list_any (nat_eq put.entry.number) told ≡ false → more ≡ told ++ put.entry.number ∷ []
+    → longer ≡ found ++ put ∷ []
     → Tells told found more longer (put ∷ [])
 tells_new told more found longer put is m l rest = (λ i. l i ++ first_puts_behind (m i) rest)
     ∙ (append_assoc found (put ∷ []) (first_puts_behind (told ++ put.entry.number ∷ []) rest)
-    ∙ ap (λ ps. found ++ ps) (ap (λ ps. put ∷ ps) (alike_first (told ++ put.entry.number ∷ []) (put.entry.number ∷ told) rest (alike_last put.entry.number told)) ∙ sym (new_put put rest told is)))
+    ∙ ap (λ ps. found ++ ps) (ap (λ ps. put ∷ ps) (alike_first (told ++ put.entry.number ∷ []) (put.entry.number ∷ told) rest
+    (alike_last put.entry.number told)) ∙ sym (new_put put rest told is)))
 
 -- the number was put in
-pub tells_put : (told more : List ℕ) (found longer : List Put) (put : Put) (n : ℕ) (added : Bool) → n ≡ put.entry.number → added ≡ not (list_any (nat_eq n) told) → added ≡ true → more ≡ insert_key nat_eq told n
+pub tells_put : (told more : List ℕ) (found longer : List Put) (put : Put) (n : ℕ) (added : Bool) → n ≡ put.entry.number
+    → added ≡ not (list_any (nat_eq n) told) → added ≡ true → more ≡ insert_key nat_eq told n
     → longer ≡ found ++ put ∷ [] → Tells told found more longer (put ∷ [])
 tells_put told more found longer put n added is a put_in m l =
     let none : list_any (nat_eq n) told ≡ false = not-true (list_any (nat_eq n) told) (sym a ∙ put_in) in
-    tells_new told more found longer put (ap (λ k. list_any (nat_eq k) told) (sym is) ∙ none) (m ∙ (ap (λ b. if b then told else told ++ n ∷ []) none ∙ ap (λ k. told ++ k ∷ []) is)) l
+    tells_new told more found longer put (ap (λ k. list_any (nat_eq k) told) (sym is) ∙ none) (m ∙ (ap (λ b. if b then told else told ++ n ∷ []) none
+    ∙ ap (λ k. told ++ k ∷ []) is)) l
 
-pub tells_on : (file : File) (stand : Option ℕ) (things : List Thing) (i : ℕ) (t : Thing) (told more most : List ℕ) (found longer longest : List Put) → i < length things
+pub tells_on : (file : File) (stand : Option ℕ) (things : List Thing) (i : ℕ) (t : Thing) (told more most : List ℕ) (found longer longest : List Put)
+    → i < length things
     → Tells told found more longer (flat_map (at_thing file stand) (take i things)) → Tells more longer most longest (at_thing file stand (get_or things i t))
     → Tells told found most longest (flat_map (at_thing file stand) (take (i + 1) things))
 tells_on file stand things i t told more most found longer longest within h k =
     let g = at_thing file stand in
-    subst (Tells told found most longest) (flat_on g things i t (flat_map g (take i things)) (flat_map g (take i things) ++ g (get_or things i t)) within refl refl)
+    subst (Tells told found most longest) (flat_on g things i t (flat_map g (take i things)) (flat_map g (take i things) ++ g (get_or things i t)) within refl
+    refl)
     (tells_both told more most found longer longest (flat_map g (take i things)) (g (get_or things i t)) h k)
 
 -- ---- copies within one rule
@@ -144,63 +159,77 @@ module _ (file : File) (stand : Option ℕ) where
   abbrev Covered : List ℕ → List ℕ → Type 0
   Covered seen told = (n : ℕ) → list_any (nat_eq n) seen ≡ true → GoneOver told n (one n)
 
-  gone_more : (told more : List ℕ) (n : ℕ) (o : Option Entry) → (list_any (nat_eq n) told ≡ true → list_any (nat_eq n) more ≡ true) → GoneOver told n o → GoneOver more n o
+  gone_more : (told more : List ℕ) (n : ℕ) (o : Option Entry) → (list_any (nat_eq n) told ≡ true → list_any (nat_eq n) more ≡ true)
+      → GoneOver told n o → GoneOver more n o
   gone_more told more n None grows h = tt
   gone_more told more n (Some e) grows h = grows h
 
-  covered_more : (n : ℕ) (seen told more : List ℕ) → Covered seen told → ((m : ℕ) → list_any (nat_eq m) told ≡ true → list_any (nat_eq m) more ≡ true) → GoneOver more n (one n) → Covered (n ∷ seen) more
+  covered_more : (n : ℕ) (seen told more : List ℕ) → Covered seen told → ((m : ℕ) → list_any (nat_eq m) told ≡ true → list_any (nat_eq m) more ≡ true)
+      → GoneOver more n (one n) → Covered (n ∷ seen) more
   covered_more n seen told more h grows here m k = by (nat_eq m n) refl k
     where
       by : (b : Bool) → nat_eq m n ≡ b → (b || list_any (nat_eq m) seen) ≡ true → GoneOver more m (one m)
       by true is j = subst (λ x. GoneOver more x (one x)) (sym (eqb-true m n is)) here
       by false is j = gone_more told more m (one m) (grows m) (h m j)
 
-  gone_first : (told : List ℕ) (n : ℕ) (o : Option Entry) → one n ≡ o → GoneOver told n o → (rest : List Put) → first_puts_behind told (put_of o ++ rest) ≡ first_puts_behind told rest
+  gone_first : (told : List ℕ) (n : ℕ) (o : Option Entry) → one n ≡ o → GoneOver told n o → (rest : List Put)
+      → first_puts_behind told (put_of o ++ rest) ≡ first_puts_behind told rest
   gone_first told n None is h rest = refl
   gone_first told n (Some e) is h rest =
-      told_put (put_at_stand stand e) rest told (ap (λ m. list_any (nat_eq m) told) (eqb-true e.number n (passes (λ (x : Entry). nat_eq x.number n) file.entries e is)) ∙ h)
+      told_put (put_at_stand stand e) rest told (ap (λ m. list_any (nat_eq m) told)
+      (eqb-true e.number n (passes (λ (x : Entry). nat_eq x.number n) file.entries e is)) ∙ h)
 
   -- of these things copies may go, where these numbers were seen and those told
   abbrev Same : List Thing → List Put → List ℕ → List ℕ → Type 0
-  Same things rest seen told = first_puts_behind told (flat_map (at_thing file stand) (firsts_behind seen things) ++ rest) ≡ first_puts_behind told (flat_map (at_thing file stand) things ++ rest)
+  Same things rest seen told = first_puts_behind told (flat_map (at_thing file stand) (firsts_behind seen things) ++ rest) ≡ first_puts_behind told
+      (flat_map (at_thing file stand) things ++ rest)
 
-  copy_seen : (t : Thing) (things : List Thing) (seen told : List ℕ) (rest : List Put) → list_any (nat_eq t.number) seen ≡ true → GoneOver told t.number (one t.number) → Same things rest seen told
+  copy_seen : (t : Thing) (things : List Thing) (seen told : List ℕ) (rest : List Put) → list_any (nat_eq t.number) seen ≡ true
+      → GoneOver told t.number (one t.number) → Same things rest seen told
       → Same (t ∷ things) rest seen told
   copy_seen t things seen told rest is h same =
-      ap (λ b. first_puts_behind told (flat_map (at_thing file stand) (thing_if t (firsts_behind seen things) (firsts_behind (t.number ∷ seen) things) b) ++ rest)) is
+      ap (λ b. first_puts_behind told (flat_map (at_thing file stand) (thing_if t (firsts_behind seen things) (firsts_behind (t.number ∷ seen) things) b)
+      ++ rest)) is
       ∙ (same ∙ sym (ap (first_puts_behind told) (append_assoc (at_thing file stand t) (flat_map (at_thing file stand) things) rest)
       ∙ gone_first told t.number (one t.number) refl h (flat_map (at_thing file stand) things ++ rest)))
 
   -- what is new: nothing has the number, or it was told, or it is told now
-  new_none : (n : ℕ) (front back : List Put) (seen told : List ℕ) → one n ≡ None → Covered seen told → ((r : List ℕ) → Covered (n ∷ seen) r → first_puts_behind r front ≡ first_puts_behind r back)
+  new_none : (n : ℕ) (front back : List Put) (seen told : List ℕ) → one n ≡ None → Covered seen told
+      → ((r : List ℕ) → Covered (n ∷ seen) r → first_puts_behind r front ≡ first_puts_behind r back)
       → first_puts_behind told front ≡ first_puts_behind told back
   new_none n front back seen told is h later = later told (covered_more n seen told told h (λ m k. k) (subst (GoneOver told n) (sym is) tt))
 
-  new_some : (n : ℕ) (front back : List Put) (seen told : List ℕ) (e : Entry) (b : Bool) → one n ≡ Some e → list_any (nat_eq e.number) told ≡ b → Covered seen told
+  new_some : (n : ℕ) (front back : List Put) (seen told : List ℕ) (e : Entry) (b : Bool) → one n ≡ Some e
+      → list_any (nat_eq e.number) told ≡ b → Covered seen told
       → ((r : List ℕ) → Covered (n ∷ seen) r → first_puts_behind r front ≡ first_puts_behind r back)
       → first_puts_behind told (put_at_stand stand e ∷ front) ≡ first_puts_behind told (put_at_stand stand e ∷ back)
   new_some n front back seen told e true is k h later =
       let same : e.number ≡ n = eqb-true e.number n (passes (λ (x : Entry). nat_eq x.number n) file.entries e is) in
       let here : list_any (nat_eq n) told ≡ true = ap (λ m. list_any (nat_eq m) told) (sym same) ∙ k in
-      told_put (put_at_stand stand e) front told k ∙ (later told (covered_more n seen told told h (λ m j. j) (subst (GoneOver told n) (sym is) here)) ∙ sym (told_put (put_at_stand stand e) back told k))
+      told_put (put_at_stand stand e) front told k ∙ (later told (covered_more n seen told told h (λ m j. j) (subst (GoneOver told n) (sym is) here))
+      ∙ sym (told_put (put_at_stand stand e) back told k))
   new_some n front back seen told e false is k h later =
       let same : e.number ≡ n = eqb-true e.number n (passes (λ (x : Entry). nat_eq x.number n) file.entries e is) in
       let here : list_any (nat_eq n) (e.number ∷ told) ≡ true = ap (λ b. b || list_any (nat_eq n) told) (ap (nat_eq n) same ∙ itself n) in
       new_put (put_at_stand stand e) front told k
-      ∙ (ap (λ ps. put_at_stand stand e ∷ ps) (later (e.number ∷ told) (covered_more n seen told (e.number ∷ told) h (λ m j. or_true (nat_eq m e.number) (list_any (nat_eq m) told) j) (subst (GoneOver (e.number ∷ told) n) (sym is) here)))
+      ∙ (ap (λ ps. put_at_stand stand e ∷ ps) (later (e.number ∷ told) (covered_more n seen told (e.number ∷ told) h
+      (λ m j. or_true (nat_eq m e.number) (list_any (nat_eq m) told) j) (subst (GoneOver (e.number ∷ told) n) (sym is) here)))
       ∙ sym (new_put (put_at_stand stand e) back told k))
 
-  new_first : (n : ℕ) (front back : List Put) (seen told : List ℕ) (o : Option Entry) → one n ≡ o → Covered seen told → ((r : List ℕ) → Covered (n ∷ seen) r → first_puts_behind r front ≡ first_puts_behind r back)
+  new_first : (n : ℕ) (front back : List Put) (seen told : List ℕ) (o : Option Entry) → one n ≡ o → Covered seen told
+      → ((r : List ℕ) → Covered (n ∷ seen) r → first_puts_behind r front ≡ first_puts_behind r back)
       → first_puts_behind told (put_of o ++ front) ≡ first_puts_behind told (put_of o ++ back)
   new_first n front back seen told None is h later = new_none n front back seen told is h later
   new_first n front back seen told (Some e) is h later = new_some n front back seen told e (list_any (nat_eq e.number) told) is refl h later
 
-  copy_new : (t : Thing) (things : List Thing) (seen told : List ℕ) (rest : List Put) → list_any (nat_eq t.number) seen ≡ false → Covered seen told → ((s r : List ℕ) → Covered s r → Same things rest s r)
+  copy_new : (t : Thing) (things : List Thing) (seen told : List ℕ) (rest : List Put) → list_any (nat_eq t.number) seen ≡ false → Covered seen told
+      → ((s r : List ℕ) → Covered s r → Same things rest s r)
       → Same (t ∷ things) rest seen told
   copy_new t things seen told rest is h later =
       let front : List Put = flat_map (at_thing file stand) (firsts_behind (t.number ∷ seen) things) in
       let back : List Put = flat_map (at_thing file stand) things in
-      ap (λ b. first_puts_behind told (flat_map (at_thing file stand) (thing_if t (firsts_behind seen things) (firsts_behind (t.number ∷ seen) things) b) ++ rest)) is
+      ap (λ b. first_puts_behind told (flat_map (at_thing file stand) (thing_if t (firsts_behind seen things) (firsts_behind (t.number ∷ seen) things) b)
+      ++ rest)) is
       ∙ (ap (first_puts_behind told) (append_assoc (at_thing file stand t) front rest)
       ∙ (new_first t.number (front ++ rest) (back ++ rest) seen told (one t.number) refl h (λ r c. later (t.number ∷ seen) r c)
       ∙ sym (ap (first_puts_behind told) (append_assoc (at_thing file stand t) back rest))))
@@ -217,13 +246,18 @@ module _ (file : File) (stand : Option ℕ) where
   none_seen told n h = absurd (false≢true h)
 
   -- the first things of a rule tell what all of them do
-  tells_firsts : (things all : List Thing) (told more : List ℕ) (found longer : List Put) → things ≡ firsts all → Tells told found more longer (flat_map (at_thing file stand) things)
+  tells_firsts : (things all : List Thing) (told more : List ℕ) (found longer : List Put) → things ≡ firsts all
+      → Tells told found more longer (flat_map (at_thing file stand) things)
       → Tells told found more longer (flat_map (at_thing file stand) all)
   tells_firsts things all told more found longer is h rest = h rest
-      ∙ (ap (λ ts. found ++ first_puts_behind told (flat_map (at_thing file stand) ts ++ rest)) is ∙ ap (λ ps. found ++ ps) (copies all [] told rest (none_seen told)))
+      ∙ (ap (λ ts. found ++ first_puts_behind told (flat_map (at_thing file stand) ts ++ rest)) is
+      ∙ ap (λ ps. found ++ ps) (copies all [] told rest (none_seen told)))
 
-  pub tells_rule : (rule : ℕ) (graph : List (List Part)) (things lent : List Thing) (i : ℕ) (told more : List ℕ) (found longer : List Put) → graph ≡ file.bodies → things ≡ firsts (expansion graph (Puts rule ∷ [])) → lent ≡ things
-      → length lent ≤ i → Tells told found more longer (flat_map (at_thing file stand) (take i lent)) → Tells told found more longer (put_at file stand (Some rule))
+  pub tells_rule : (rule : ℕ) (graph : List (List Part)) (things lent : List Thing) (i : ℕ) (told more : List ℕ) (found longer : List Put) → graph ≡ file.bodies
+      → things ≡ firsts (expansion graph (Puts rule ∷ [])) → lent ≡ things
+      → length lent ≤ i → Tells told found more longer (flat_map (at_thing file stand) (take i lent))
+      → Tells told found more longer (put_at file stand (Some rule))
   tells_rule rule graph things lent i told more found longer g is l all h =
-      tells_firsts things (things_put file.bodies rule) told more found longer (is ∙ ap firsts (ap (λ b. expansion b (Puts rule ∷ [])) g ∙ things_are file rule))
+      tells_firsts things (things_put file.bodies rule) told more found longer
+      (is ∙ ap firsts (ap (λ b. expansion b (Puts rule ∷ [])) g ∙ things_are file rule))
       (subst (λ ts. Tells told found more longer (flat_map (at_thing file stand) ts)) (gone_through things lent i l all) h)

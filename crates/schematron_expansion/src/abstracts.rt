@@ -60,7 +60,8 @@ fn take_entry<'d>(rules: &mut AbstractRules<'d>, e: &Entry<'d>) -> Result<(), Al
 /// Adds a rule behind the others.
 fn add_rule<'d>(rules: &mut AbstractRules<'d>, e: &Entry<'d>) -> Result<(), AllocError>
     ensures nodes { OnOk result (rules.new.nodes.items ≡ rules.old.nodes.items ++ e.now.node ∷ []) }
-    ensures names { OnOk result (spec.AddsName (spec.named_in (λ key. key.now) rules.old.names) (spec.named_in (λ key. key.now) rules.new.names) (spec.id_of (seen_entry e.now)) (length rules.old.nodes.items)) }
+    ensures names { OnOk result (spec.AddsName (spec.named_in (λ key. key.now) rules.old.names) (spec.named_in (λ key. key.now) rules.new.names)
+        (spec.id_of (seen_entry e.now)) (length rules.old.nodes.items)) }
 {
     add_name(
         &mut rules.names,
@@ -113,7 +114,8 @@ fn add_name<'d>(
     id: Option<&'d str>,
     place: usize,
 ) -> Result<(), AllocError>
-    ensures { OnOk result (spec.AddsName (spec.named_in (λ key. key.now) names.old) (spec.named_in (λ key. key.now) names.new) (option_map (λ name. chars name.now) id.entry) place) }
+    ensures { OnOk result (spec.AddsName (spec.named_in (λ key. key.now) names.old) (spec.named_in (λ key. key.now) names.new)
+        (option_map (λ name. chars name.now) id.entry) place) }
 {
     match id {
         Some(id) => add_text(names, id, place),
@@ -137,7 +139,8 @@ fn add_text<'d>(
 
 /// The place of the first rule of that name.
 pub(crate) fn place_of<'d>(names: &IndexMap<&'d str, usize>, id: Option<&'d str>) -> Option<usize>
-    ensures { (rules : List meaning.Entry) → spec.AreNames (spec.named_in (λ key. key.now) names.now) rules → result ≡ bodies.rule_named rules (option_map (λ name. chars name.now) id.entry) }
+    ensures { (rules : List meaning.Entry) → spec.AreNames (spec.named_in (λ key. key.now) names.now) rules
+        → result ≡ bodies.rule_named rules (option_map (λ name. chars name.now) id.entry) }
 {
     match id {
         Some(id) => place_of_text(names, id),
@@ -146,7 +149,8 @@ pub(crate) fn place_of<'d>(names: &IndexMap<&'d str, usize>, id: Option<&'d str>
 }
 
 fn place_of_text<'d>(names: &IndexMap<&'d str, usize>, id: &'d str) -> Option<usize>
-    ensures { (rules : List meaning.Entry) → spec.AreNames (spec.named_in (λ key. key.now) names.now) rules → result ≡ bodies.rule_named rules (Some (chars id.now)) }
+    ensures { (rules : List meaning.Entry) → spec.AreNames (spec.named_in (λ key. key.now) names.now) rules
+        → result ≡ bodies.rule_named rules (Some (chars id.now)) }
 {
     place_of_name(names, id)
 }

@@ -68,7 +68,8 @@ fn push_own<'e, 'd>(
     pattern: &'e Entry<'d>,
     found: &mut Vec<Instance<'e, 'd>>,
 ) -> Result<(), AllocError>
-    ensures { OnOk result (map seen_instance found.new.items ≡ map seen_instance found.old.items ++ expansion.instance_by r.Pattern [] (seen_entry pattern.now)) }
+    ensures { OnOk result (map seen_instance found.new.items ≡ map seen_instance found.old.items
+        ++ expansion.instance_by r.Pattern [] (seen_entry pattern.now)) }
 {
     found.push(Instance {
         pattern,
@@ -86,7 +87,8 @@ fn push_used<'e, 'd>(
     pattern: &'e Entry<'d>,
     found: &mut Vec<Instance<'e, 'd>>,
 ) -> Result<(), AllocError>
-    ensures { OnOk result (map seen_instance found.new.items ≡ map seen_instance found.old.items ++ expansion.instance_by r.Use file.now.entries (seen_entry pattern.now)) }
+    ensures { OnOk result (map seen_instance found.new.items ≡ map seen_instance found.old.items
+        ++ expansion.instance_by r.Use file.now.entries (seen_entry pattern.now)) }
 {
     match file.pattern_used(pattern) {
         Some(body) => push_body(file, alloc, pattern, body, found),
@@ -102,7 +104,8 @@ fn push_body<'e, 'd>(
     body: &'e Entry<'d>,
     found: &mut Vec<Instance<'e, 'd>>,
 ) -> Result<(), AllocError>
-    ensures { OnOk result (map seen_instance found.new.items ≡ map seen_instance found.old.items ++ expansion.used_by file.now.entries (seen_entry pattern.now) (Some (seen_entry body.now))) }
+    ensures { OnOk result (map seen_instance found.new.items ≡ map seen_instance found.old.items
+        ++ expansion.used_by file.now.entries (seen_entry pattern.now) (Some (seen_entry body.now))) }
 {
     let number = pattern.node.number();
     let params = parameters(file, alloc, number)?;
@@ -139,7 +142,8 @@ fn push_given(
     name: Option<&str>,
     value: Option<&str>,
 ) -> Result<(), AllocError>
-    ensures { OnOk result (params.new ≡ expansion.with_given params.old (option_map (λ name. chars name.now) name.entry) (option_map (λ value. chars value.now) value.entry)) }
+    ensures { OnOk result (params.new ≡ expansion.with_given params.old (option_map (λ name. chars name.now) name.entry)
+        (option_map (λ value. chars value.now) value.entry)) }
 {
     match name {
         Some(name) => push_value(params, alloc, name, value),

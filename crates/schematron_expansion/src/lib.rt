@@ -20,3 +20,4 @@ pub use found::{Found, sooner};
 pub use instances::Instance;
 pub use puts::Put;
 pub use sizes::{assertions, assertions_inside};
+pub use sorts::is_parameter;

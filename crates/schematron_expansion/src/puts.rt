@@ -156,7 +156,8 @@ fn push_at<'e, 'd>(
     number: u32,
     found: &mut Vec<Put<'e, 'd>>,
 ) -> Result<(), AllocError>
-    ensures { OnOk result (map seen_put found.new.items ≡ map seen_put found.old.items ++ map (expansion.put_at_stand stand) (at_node file.now.entries number)) }
+    ensures { OnOk result (map seen_put found.new.items ≡ map seen_put found.old.items
+        ++ map (expansion.put_at_stand stand) (at_node file.now.entries number)) }
 {
     match file.at(number) {
         Some(e) => push_put(stand, e, found),

@@ -28,7 +28,8 @@ fn is_part(role: Role) -> bool
     matches!(role, Role::ValueOf | Role::NodeName | Role::Characters)
 }
 
-fn is_parameter(role: Role) -> bool
+/// The role is that of a parameter of an abstract pattern.
+pub fn is_parameter(role: Role) -> bool
     ensures { result ≡ is_parameter role }
 {
     matches!(role, Role::Parameter)

@@ -2,14 +2,14 @@
 ghost use Rattle.std.specs.Prelude.{◌≡◌, ◌∷◌, ◌++◌, [], true, List, chars, option_map, IfOk, OnOk};
 ghost use Rattle.std.specs.List.{list_any};
 ghost use Rattle.schematron_meaning.specs.Entries as meaning;
-ghost use Rattle.schematron_meaning.specs.Lookup as lookup;
 ghost use Rattle.schematron_entries.specs.Seen.{seen_entry, seen_entries};
 ghost use Rattle.schematron_faults.specs.Staying as spec;
 
 use indexmap::IndexSet;
 use inv_base::is_same_text;
 use schematron_entries::Entry;
-use schematron_meaning::{Attribute, Role};
+use schematron_expansion::is_parameter;
+use schematron_meaning::Attribute;
 use schematron_texts::{Parameters, replaced_within};
 use std::alloc::{AllocError, Global};
 use xpath_tokens::MOST_BYTES;
@@ -62,12 +62,6 @@ fn push_blank(alloc: Global, blanks: &mut Parameters, e: &Entry<'_>) -> Result<(
     } else {
         Ok(())
     }
-}
-
-fn is_parameter(role: Role) -> bool
-    ensures { result ≡ lookup.is_parameter role }
-{
-    matches!(role, Role::Parameter)
 }
 
 fn push_name(alloc: Global, blanks: &mut Parameters, name: Option<&str>) -> Result<(), AllocError>

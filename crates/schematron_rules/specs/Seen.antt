@@ -28,7 +28,8 @@ seen_part (p.Values plan) = spec.values (expression plan)
 seen_part p.Name = spec.the_name
 
 abbrev pub seen_assertion : Assertion → spec.Assertion
-seen_assertion x = record { kind = x.kind; test = seen_shown x.test; id = x.id; flag = x.flag; role = x.role; level = x.level; message = map seen_part x.message }
+seen_assertion x =
+    record { kind = x.kind; test = seen_shown x.test; id = x.id; flag = x.flag; role = x.role; level = x.level; message = map seen_part x.message }
 
 abbrev pub seen_rule : Rule → spec.Rule
 seen_rule x = record { context = seen_shown x.context; lets = seen_lets x.lets; assertions = map seen_assertion x.assertions }

@@ -3,10 +3,12 @@
 #![tactic(auto)]
 
 mod expressions;
+mod numbers;
 mod phases;
 mod rules;
 mod scopes;
 
 pub use expressions::{fault_of, judged, plan_of};
+pub use numbers::number_of;
 pub use rules::{Active, Assertion, Compiled, Expanded, Let, Part, Phase, Rule, Rules, Shown};
 pub use scopes::{declare_let, declare_lets, prefixes};

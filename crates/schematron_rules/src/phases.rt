@@ -6,6 +6,7 @@ ghost use Rattle.schematron_meaning.specs.Phases as phases;
 ghost use Rattle.schematron_rules.specs.Seen.{seen_rules, seen_phase, seen_phases, seen_active};
 ghost use Rattle.schematron_rules.specs.Answers.{PhaseAnswers};
 
+use crate::numbers::number_of;
 use crate::rules::{Active, Compiled, Phase, Rules};
 use inv_base::{Many, Txt, is_same_text};
 use schematron_meaning::PhaseFault;
@@ -40,17 +41,6 @@ fn is_all(name: &str) -> bool
     ensures { result ≡ bytes_eq (chars name.now) phases.all_phases }
 {
     is_same_text(name, ALL)
-}
-
-/// The number, in 32 bits. No file has as many patterns or phases as there are numbers; one that had would count as
-/// want of memory.
-fn number_of(place: usize) -> Result<u32, AllocError>
-    ensures { IfOk result (λ number. number ≡ place) }
-{
-    match u32::try_from(place) {
-        Ok(number) => Ok(number),
-        Err(_) => Err(AllocError),
-    }
 }
 
 /// The numbers below a count.

@@ -24,7 +24,7 @@ use xpath_run::Env;
 /// The variables of the whole file: the schema's, then those of the phase that is active.
 fn file_variables<'a, L: Ledger>(
     scene: &Scene<'_, 'a>,
-    rules: &Rules,
+    rules: &'a Rules,
     active: &Active,
     steps: &mut Steps<L>,
 ) -> Result<Env<'a>, AllocError>
@@ -40,9 +40,9 @@ fn file_variables<'a, L: Ledger>(
 }
 
 /// All that the active patterns find.
-fn found_in<L: Ledger>(
-    scene: &Scene<'_, '_>,
-    rules: &Rules,
+fn found_in<'a, L: Ledger>(
+    scene: &Scene<'_, 'a>,
+    rules: &'a Rules,
     active: &Active,
     steps: &mut Steps<L>,
 ) -> Result<Findings, AllocError>

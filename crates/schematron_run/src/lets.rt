@@ -64,7 +64,7 @@ fn fill_one<'a, L: Ledger>(
 /// Declares variables that are evaluated once, and are made ready for that alone.
 pub(crate) fn fill_once<'a, L: Ledger>(
     scene: &Scene<'_, 'a>,
-    lets: &[Let],
+    lets: &'a [Let],
     n: NodeId,
     env: &mut Env<'a>,
     steps: &mut Steps<L>,

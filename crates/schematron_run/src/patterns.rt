@@ -27,7 +27,7 @@ use xpath_walks::documents_are_walkable;
 /// again. The table is clear before and behind.
 fn judge_by_rules<'a, L: Ledger>(
     scene: &Scene<'_, 'a>,
-    rules: &[Rule],
+    rules: &'a [Rule],
     env: &mut Env<'a>,
     table: &mut [Option<u32>],
     findings: &mut Findings,
@@ -63,7 +63,7 @@ fn judge_by_rules<'a, L: Ledger>(
 /// Judges all nodes by a pattern. Its variables are cut off behind it.
 fn judge_pattern<'a, L: Ledger>(
     scene: &Scene<'_, 'a>,
-    pattern: &Expanded,
+    pattern: &'a Expanded,
     env: &mut Env<'a>,
     table: &mut [Option<u32>],
     findings: &mut Findings,
@@ -104,7 +104,7 @@ fn pattern_at(patterns: &[Expanded], k: usize) -> Option<&Expanded>
 /// Judges all nodes by the pattern of that number, where there is one.
 fn judge_by_number<'a, L: Ledger>(
     scene: &Scene<'_, 'a>,
-    patterns: &[Expanded],
+    patterns: &'a [Expanded],
     k: usize,
     env: &mut Env<'a>,
     table: &mut [Option<u32>],
@@ -130,7 +130,7 @@ fn judge_by_number<'a, L: Ledger>(
 /// Judges all nodes by the patterns of these numbers, one after the other.
 pub(crate) fn judge_patterns<'a, L: Ledger>(
     scene: &Scene<'_, 'a>,
-    patterns: &[Expanded],
+    patterns: &'a [Expanded],
     numbers: &[u32],
     env: &mut Env<'a>,
     table: &mut [Option<u32>],

@@ -1,10 +1,10 @@
-mod NumberLemmas
+pub mod NumberLemmas
 mod DigitLemmas
-mod SumLemmas
+pub mod SumLemmas
 mod ValueLemmas
 mod WordLemmas
 mod PlaceLemmas
 mod ListingLemmas
 mod HeadLemmas
-mod LineLemmas
+pub mod LineLemmas
 mod PutLemmas

@@ -1,18 +1,16 @@
 //! The values of the generated invoice.
 ghost use Rattle.std.specs.Prelude.{◌≡◌, ◌<◌, ◌^◌, ◌++◌, codes, decimal, chars, IfOk, true};
-ghost use Rattle.std.specs.Str.{IsAscii};
 ghost use Rattle.inv_terms.specs.declared.values.Value.TheVariants as values;
 ghost use Rattle.trial_invoice.specs.Amounts as spec;
 ghost use Rattle.trial_invoice.specs.Generated.{amount};
 ghost use Rattle.trial_invoice.specs.Written.{is_ascii, last_digit, hundredths_text};
 
-use inv_base::Txt;
+use inv_base::{Txt, ascii_text};
 use inv_decimal::laws::printed_numbers_are_read;
 use inv_decimal::{Day, Scaled};
 use inv_terms::Value;
 use itoa::Buffer;
 use std::alloc::{AllocError, Global};
-use std::str::from_utf8;
 
 /// A text of ASCII.
 pub(crate) fn word(alloc: Global, text: &str) -> Result<Txt, AllocError>
@@ -39,17 +37,6 @@ pub(crate) fn item_name(alloc: Global, line: u32) -> Result<Txt, AllocError>
     let mut name = Vec::from_slice(alloc, b"Item ")?;
     name.extend_from_slice(digits.format(line).as_bytes())?;
     Txt::of(alloc, ascii_text(&name))
-}
-
-/// The text of bytes that are ASCII.
-fn ascii_text(bytes: &[u8]) -> &str
-    requires { IsAscii bytes.now }
-    ensures { result.now ≡ bytes.now }
-{
-    match from_utf8(bytes) {
-        Ok(text) => text,
-        Err(_) => unreachable!(),
-    }
 }
 
 /// The last digit of a number.

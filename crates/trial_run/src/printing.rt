@@ -1,13 +1,11 @@
 //! What a trial came to, written.
-ghost use Rattle.std.specs.Prelude.{encode_utf8_all, decimal};
 ghost use Rattle.inv_base.specs.Printing.{Prints, Printed};
 ghost use Rattle.inv_base.specs.Writing.{Writes};
 ghost use Rattle.trial_run.specs.Trials as spec;
 
 use crate::trial::Trial;
 use inv_base::{Printer, Sink, Txt};
-use itoa::Buffer;
-use svrl_report::print_counts;
+use svrl_report::{print_counts, print_number, print_text};
 use xml_write::WriteFault;
 
 /// Writes what a trial came to, in six lines. Behind a fault the sink has taken a front of them.
@@ -65,19 +63,6 @@ fn print_total<K: Sink>(total: &Option<Txt>, printer: &mut Printer, out: &mut K)
         None => printer.put(out, b"-"),
         Some(total) => print_text(total, printer, out),
     }
-}
-
-fn print_text<K: Sink>(text: &Txt, printer: &mut Printer, out: &mut K)
-    ensures { Prints (encode_utf8_all text.now) printer.old.failed printer.new.failed (K.view out.old) (K.view out.new) }
-{
-    printer.put(out, text.as_str().as_bytes());
-}
-
-fn print_number<K: Sink>(number: u64, printer: &mut Printer, out: &mut K)
-    ensures { Prints (decimal number) printer.old.failed printer.new.failed (K.view out.old) (K.view out.new) }
-{
-    let mut digits = Buffer::new();
-    printer.put(out, digits.format(number).as_bytes());
 }
 
 fn print_answer<K: Sink>(yes: bool, printer: &mut Printer, out: &mut K)

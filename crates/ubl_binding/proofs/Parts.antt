@@ -15,7 +15,8 @@ told-ok k None r s goes h = goes h
 told-ok k (Some kind) r s goes h = cc
 
 -- the first rows of a list, and then the others, whose first has the number m
-sound : (rows own : List Row) (n k m : ℕ) (others : List Row) → k + n ≡ m → first_fault_from rows own k (take n others) ≡ Ok tt → first_fault_from rows own m (drop n others) ≡ Ok tt → first_fault_from rows own k others ≡ Ok tt
+sound : (rows own : List Row) (n k m : ℕ) (others : List Row) → k + n ≡ m → first_fault_from rows own k (take n others) ≡ Ok tt
+    → first_fault_from rows own m (drop n others) ≡ Ok tt → first_fault_from rows own k others ≡ Ok tt
 sound rows own zero k m others e front back = subst (λ j. first_fault_from rows own j others ≡ Ok tt) (let f : m ≡ k = omega arith in f) back
 sound rows own (suc n) k m [] e front back = refl
 sound rows own (suc n) k m (row ∷ others) e front back =
@@ -46,7 +47,10 @@ invoice_160 = refl
 
 pub invoice_sound : first_fault invoice_rows ≡ Ok tt
 invoice_sound =
-    sound invoice_rows (built invoice_rows) 40 0 40 invoice_rows refl invoice_0 (sound invoice_rows (built invoice_rows) 40 40 80 (drop 40 invoice_rows) refl invoice_40 (sound invoice_rows (built invoice_rows) 40 80 120 (drop 40 (drop 40 invoice_rows)) refl invoice_80 (sound invoice_rows (built invoice_rows) 40 120 160 (drop 40 (drop 40 (drop 40 invoice_rows))) refl invoice_120 (invoice_160))))
+    sound invoice_rows (built invoice_rows) 40 0 40 invoice_rows refl invoice_0
+    (sound invoice_rows (built invoice_rows) 40 40 80 (drop 40 invoice_rows) refl invoice_40
+    (sound invoice_rows (built invoice_rows) 40 80 120 (drop 40 (drop 40 invoice_rows)) refl invoice_80
+    (sound invoice_rows (built invoice_rows) 40 120 160 (drop 40 (drop 40 (drop 40 invoice_rows))) refl invoice_120 (invoice_160))))
 
 -- ---- credit_note
 
@@ -72,4 +76,7 @@ credit_note_160 = refl
 
 pub credit_note_sound : first_fault credit_note_rows ≡ Ok tt
 credit_note_sound =
-    sound credit_note_rows (built credit_note_rows) 40 0 40 credit_note_rows refl credit_note_0 (sound credit_note_rows (built credit_note_rows) 40 40 80 (drop 40 credit_note_rows) refl credit_note_40 (sound credit_note_rows (built credit_note_rows) 40 80 120 (drop 40 (drop 40 credit_note_rows)) refl credit_note_80 (sound credit_note_rows (built credit_note_rows) 40 120 160 (drop 40 (drop 40 (drop 40 credit_note_rows))) refl credit_note_120 (credit_note_160))))
+    sound credit_note_rows (built credit_note_rows) 40 0 40 credit_note_rows refl credit_note_0
+    (sound credit_note_rows (built credit_note_rows) 40 40 80 (drop 40 credit_note_rows) refl credit_note_40
+    (sound credit_note_rows (built credit_note_rows) 40 80 120 (drop 40 (drop 40 credit_note_rows)) refl credit_note_80
+    (sound credit_note_rows (built credit_note_rows) 40 120 160 (drop 40 (drop 40 (drop 40 credit_note_rows))) refl credit_note_120 (credit_note_160))))

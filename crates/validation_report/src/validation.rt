@@ -12,7 +12,7 @@ ghost use Rattle.validation_report.specs.Told.{reading_lines};
 ghost use Rattle.validation_report.specs.Held.{ArePlaced, held, held_plain, reading_in, rules_in};
 ghost use Rattle.validation_report.specs.Validating.{report_of, counts_against};
 
-use crate::places::{Passed, Spot, push_fault_spots, push_ordered, push_passed};
+use crate::places::{Passed, Scene, Spot, push_fault_spots, push_ordered, push_passed};
 use crate::printing::{FaultWord, OutcomeWord, print_all_counts, print_all_passed, print_spots};
 use crate::reading::reading_of;
 use bind_meaning::BindFault;
@@ -74,12 +74,12 @@ impl Model for Validation {
 impl Validation {
     /// The report on a document whose bytes gave these starts of lines, with the faults of reading it, the elements that
     /// were passed over, and what rules find in it.
-    pub fn new(
+    pub fn new<'t>(
         alloc: Global,
         doc: &Doc<'_>,
         lines: &LineStarts,
-        faults: &[BindFault],
-        passed: &[NodeId],
+        faults: &'t [BindFault],
+        passed: &'t [NodeId],
         findings: Findings,
     ) -> Result<Validation, AllocError>
         requires faults { All (λ (fault : BindFault). fault.node < length doc.now.nodes) faults.now }
@@ -87,7 +87,12 @@ impl Validation {
         ensures { IfOk result (λ report. (content : List ℕ) → AreLinesOf lines.now content
             → report ≡ report_of (record { content = content; document = doc.now; faults = faults.now; passed = passed.now; lines = findings })) }
     {
-        match prepared(alloc, doc, lines, faults, passed, findings.lines()) {
+        let told = Told {
+            faults,
+            passed,
+            found: findings.lines(),
+        };
+        match prepared(alloc, doc, lines, &told) {
             Ok(ready) => Ok(ready.with(findings)),
             Err(fault) => {
                 drop(findings);
@@ -118,6 +123,14 @@ impl Validation {
     }
 }
 
+/// What is told of a document: the faults of reading it, the elements that were passed over, and what rules find.
+#[derive(Clone, Copy)]
+struct Told<'t> {
+    faults: &'t [BindFault],
+    passed: &'t [NodeId],
+    found: &'t [Line],
+}
+
 /// What a report is made of, but for what rules find.
 struct Ready {
     reading: Findings,
@@ -146,45 +159,42 @@ impl Ready {
 }
 
 /// All but what rules find.
-fn prepared(
+fn prepared<'s>(
     alloc: Global,
-    doc: &Doc<'_>,
-    lines: &LineStarts,
-    faults: &[BindFault],
-    passed: &[NodeId],
-    found: &[Line],
+    doc: &'s Doc<'_>,
+    lines: &'s LineStarts,
+    told: &Told<'_>,
 ) -> Result<Ready, AllocError>
-    requires faults { All (λ (fault : BindFault). fault.node < length doc.now.nodes) faults.now }
-    requires passed { All (λ (n : ℕ). n < length doc.now.nodes) passed.now }
-    ensures reading { IfOk result (λ ready. ready.reading ≡ reading_lines doc.now faults.now) }
+    requires faults { All (λ (fault : BindFault). fault.node < length doc.now.nodes) told.now.faults.now }
+    requires passed { All (λ (n : ℕ). n < length doc.now.nodes) told.now.passed.now }
+    ensures reading { IfOk result (λ ready. ready.reading ≡ reading_lines doc.now told.now.faults.now) }
     ensures placed { IfOk result (λ ready. (content : List ℕ) → AreLinesOf lines.now content
-        → ArePlaced doc.now content faults.now passed.now found.now ready.spots.faults.items ready.spots.passed.items ready.spots.findings.items) }
+        → ArePlaced doc.now content told.now.faults.now told.now.passed.now told.now.found.now ready.spots.faults.items ready.spots.passed.items
+        ready.spots.findings.items) }
 {
     let ordinals = Ordinals::new(alloc, doc)?;
-    let ready = prepared_by(alloc, doc, &ordinals, lines, faults, passed, found);
+    let scene = Scene {
+        doc,
+        ordinals: &ordinals,
+        lines,
+    };
+    let ready = prepared_by(alloc, &scene, told);
     drop(ordinals);
     ready
 }
 
 /// The same by the ordinals of the document's nodes.
-fn prepared_by(
-    alloc: Global,
-    doc: &Doc<'_>,
-    ordinals: &Ordinals,
-    lines: &LineStarts,
-    faults: &[BindFault],
-    passed: &[NodeId],
-    found: &[Line],
-) -> Result<Ready, AllocError>
-    requires faults { All (λ (fault : BindFault). fault.node < length doc.now.nodes) faults.now }
-    requires passed { All (λ (n : ℕ). n < length doc.now.nodes) passed.now }
-    requires ordinals { AreOrdinals doc.now ordinals.now }
-    ensures reading { IfOk result (λ ready. ready.reading ≡ reading_lines doc.now faults.now) }
-    ensures placed { IfOk result (λ ready. (content : List ℕ) → AreLinesOf lines.now content
-        → ArePlaced doc.now content faults.now passed.now found.now ready.spots.faults.items ready.spots.passed.items ready.spots.findings.items) }
+fn prepared_by(alloc: Global, scene: &Scene<'_, '_>, told: &Told<'_>) -> Result<Ready, AllocError>
+    requires faults { All (λ (fault : BindFault). fault.node < length scene.now.doc.now.nodes) told.now.faults.now }
+    requires passed { All (λ (n : ℕ). n < length scene.now.doc.now.nodes) told.now.passed.now }
+    requires ordinals { AreOrdinals scene.now.doc.now scene.now.ordinals.now }
+    ensures reading { IfOk result (λ ready. ready.reading ≡ reading_lines scene.now.doc.now told.now.faults.now) }
+    ensures placed { IfOk result (λ ready. (content : List ℕ) → AreLinesOf scene.now.lines.now content
+        → ArePlaced scene.now.doc.now content told.now.faults.now told.now.passed.now told.now.found.now ready.spots.faults.items ready.spots.passed.items
+        ready.spots.findings.items) }
 {
-    let reading = reading_of(alloc, doc, ordinals, faults)?;
-    match spots_of(alloc, doc, ordinals, lines, faults, passed, found) {
+    let reading = reading_of(alloc, scene.doc, scene.ordinals, told.faults)?;
+    match spots_of(alloc, scene, told) {
         Ok(spots) => Ok(Ready { reading, spots }),
         Err(fault) => {
             drop(reading);
@@ -194,29 +204,20 @@ fn prepared_by(
 }
 
 /// Where stands what is told.
-fn spots_of(
-    alloc: Global,
-    doc: &Doc<'_>,
-    ordinals: &Ordinals,
-    lines: &LineStarts,
-    faults: &[BindFault],
-    passed: &[NodeId],
-    found: &[Line],
-) -> Result<Spots, AllocError>
-    requires faults { All (λ (fault : BindFault). fault.node < length doc.now.nodes) faults.now }
-    requires passed { All (λ (n : ℕ). n < length doc.now.nodes) passed.now }
-    requires ordinals { AreOrdinals doc.now ordinals.now }
-    ensures { IfOk result (λ spots. (content : List ℕ) → AreLinesOf lines.now content
-        → ArePlaced doc.now content faults.now passed.now found.now spots.faults.items spots.passed.items spots.findings.items) }
+fn spots_of(alloc: Global, scene: &Scene<'_, '_>, told: &Told<'_>) -> Result<Spots, AllocError>
+    requires faults { All (λ (fault : BindFault). fault.node < length scene.now.doc.now.nodes) told.now.faults.now }
+    requires passed { All (λ (n : ℕ). n < length scene.now.doc.now.nodes) told.now.passed.now }
+    requires ordinals { AreOrdinals scene.now.doc.now scene.now.ordinals.now }
+    ensures { IfOk result (λ spots. (content : List ℕ) → AreLinesOf scene.now.lines.now content
+        → ArePlaced scene.now.doc.now content told.now.faults.now told.now.passed.now told.now.found.now spots.faults.items
+        spots.passed.items spots.findings.items) }
 {
     let mut spots = Spots {
         faults: Vec::new(alloc),
         passed: Vec::new(alloc),
         findings: Vec::new(alloc),
     };
-    match place_all(
-        alloc, doc, ordinals, lines, faults, passed, found, &mut spots,
-    ) {
+    match place_all(alloc, scene, told, &mut spots) {
         Ok(()) => Ok(spots),
         Err(fault) => {
             drop(spots);
@@ -228,26 +229,23 @@ fn spots_of(
 /// Keeps where all stands that is told.
 fn place_all(
     alloc: Global,
-    doc: &Doc<'_>,
-    ordinals: &Ordinals,
-    lines: &LineStarts,
-    faults: &[BindFault],
-    passed: &[NodeId],
-    found: &[Line],
+    scene: &Scene<'_, '_>,
+    told: &Told<'_>,
     spots: &mut Spots,
 ) -> Result<(), AllocError>
-    requires faults { All (λ (fault : BindFault). fault.node < length doc.now.nodes) faults.now }
-    requires passed { All (λ (n : ℕ). n < length doc.now.nodes) passed.now }
-    requires ordinals { AreOrdinals doc.now ordinals.now }
+    requires faults { All (λ (fault : BindFault). fault.node < length scene.now.doc.now.nodes) told.now.faults.now }
+    requires passed { All (λ (n : ℕ). n < length scene.now.doc.now.nodes) told.now.passed.now }
+    requires ordinals { AreOrdinals scene.now.doc.now scene.now.ordinals.now }
     requires no_faults { spots.old.faults.items ≡ [] }
     requires no_passed { spots.old.passed.items ≡ [] }
     requires no_findings { spots.old.findings.items ≡ [] }
-    ensures { OnOk result ((content : List ℕ) → AreLinesOf lines.now content
-        → ArePlaced doc.now content faults.now passed.now found.now spots.new.faults.items spots.new.passed.items spots.new.findings.items) }
+    ensures { OnOk result ((content : List ℕ) → AreLinesOf scene.now.lines.now content
+        → ArePlaced scene.now.doc.now content told.now.faults.now told.now.passed.now told.now.found.now spots.new.faults.items spots.new.passed.items
+        spots.new.findings.items) }
 {
-    push_fault_spots(doc, lines, faults, &mut spots.faults)?;
-    push_passed(alloc, doc, ordinals, lines, passed, &mut spots.passed)?;
-    push_ordered(doc, ordinals, lines, found, &mut spots.findings)
+    push_fault_spots(scene.doc, scene.lines, told.faults, &mut spots.faults)?;
+    push_passed(alloc, scene, told.passed, &mut spots.passed)?;
+    push_ordered(scene, told.found, &mut spots.findings)
 }
 
 /// Whether the reading or the rules found something that counts against the document.

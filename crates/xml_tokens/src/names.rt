@@ -62,11 +62,10 @@ pub fn is_qname(name: &str) -> bool
 }
 
 /// Whether the byte is white space.
-#[tactic(auto, unfolding(inv_base::specs::Characters::is_white_space))]
 pub fn is_white_space(byte: u8) -> bool
     ensures { result ≡ characters.is_white_space byte }
 {
-    matches!(byte, b'\t' | b'\n' | b'\r' | b' ')
+    inv_base::is_white_space(char::from(byte))
 }
 
 /// Whether the byte ends a name in a tag. None behind `=` in ASCII does, so that a letter takes one comparison.

@@ -1,6 +1,6 @@
 -- What a gauge has measured behind the calls of a document: the sizes of its canonical text.
-use Rattle.std.proofs.Common.{◌≡◌, ℕ, ◌+◌, max, min, Bool, true, false, not, ◌&&◌, ◌==◌, List, [], ◌∷◌, ◌++◌, length, map, refl, ap, sym, ◌∙◌, subst, zero-add, append_assoc, append-nil, length-append, arith}
-use Rattle.std.specs.Prelude.{encode_utf8_all, if◌then◌else◌}
+use Rattle.std.proofs.Common.{◌≡◌, ℕ, ◌+◌, max, Bool, true, false, not, ◌&&◌, ◌==◌, List, [], ◌∷◌, ◌++◌, length, map, refl, ap, sym, ◌∙◌, subst, zero-add, append_assoc, append-nil, length-append, arith}
+use Rattle.std.specs.Prelude.{if◌then◌else◌}
 use Rattle.std.specs.List.{flat_map}
 use Rattle.std.proofs.lemmas.Grind.{flat_map-append}
 use Rattle.std.proofs.lemmas.Str.{encodes-append}
@@ -12,7 +12,7 @@ use Rattle.xml_write.specs.declared.gauge.Gauge.{Gauge}
 use Rattle.xml_write.specs.Escapes.{in_text}
 use Rattle.xml_write.specs.Canonical.{Declaration, attribute_text, attributes_text, declarations_text, declaring_name, attribute_name, element_name, is_childless}
 use Rattle.xml_write.specs.Calls.{Call, call_start, call_attribute, call_declare, call_text, call_end, call_close, lead_in, content_text, behind_text, end_tag, appended_by, state_behind, appended_by_all, behind_all, encoded, attribute_calls, declare_calls, calls_inside, calls_of}
-use Rattle.xml_write.specs.Sizes.{element_tags, forest_tags, canonical_tags, longest, stopped, with_open_tag, with_last_tag, unmeasured, measured, all_stopped, gauged, gauged_by_all}
+use Rattle.xml_write.specs.Sizes.{element_tags, forest_tags, canonical_tags, longest, stopped, tag_stopped, with_open_tag, with_last_tag, unmeasured, measured, all_stopped, gauged, gauged_by_all}
 use Rattle.xml_write.proofs.EncodingLemmas.{encodes-some, encodes-attribute_text, encodes-declaring_name, encodes-end_tag}
 
 -- the calls with texts of characters, measured as they are made in UTF-8
@@ -29,18 +29,24 @@ told-append g (call ∷ calls) more = told-append (measured g (encoded call)) ca
 stopped-plus : (a b : ℕ) → stopped (stopped a + b) ≡ stopped (a + b)
 stopped-plus a b = omega arith
 
-stopped-open_tag : (s : PenState) (a l : ℕ) → stopped (with_open_tag s (stopped a) (stopped l)) ≡ stopped (with_open_tag s a l)
+tag_stopped-plus : (a b : ℕ) → tag_stopped (tag_stopped a + b) ≡ tag_stopped (a + b)
+tag_stopped-plus a b = omega arith
+
+stopped-open_tag : (s : PenState) (a l : ℕ) → tag_stopped (with_open_tag s (tag_stopped a) (tag_stopped l)) ≡ tag_stopped (with_open_tag s a l)
 stopped-open_tag Fresh a l = omega arith
 stopped-open_tag InsideTag a l = omega arith
 stopped-open_tag PastTag a l = omega arith
 
-stopped-last_tag : (s : PenState) (a n l : ℕ) → stopped (with_last_tag s (stopped a) n (stopped l)) ≡ stopped (with_last_tag s a n l)
+stopped-last_tag : (s : PenState) (a n l : ℕ) → tag_stopped (with_last_tag s (tag_stopped a) n (tag_stopped l)) ≡ tag_stopped (with_last_tag s a n l)
 stopped-last_tag Fresh a n l = omega arith
 stopped-last_tag InsideTag a n l = omega arith
 stopped-last_tag PastTag a n l = omega arith
 
 stopped-stopped : (a : ℕ) → stopped (stopped a) ≡ stopped a
 stopped-stopped a = omega arith
+
+tag_stopped-stopped : (a : ℕ) → tag_stopped (tag_stopped a) ≡ tag_stopped a
+tag_stopped-stopped a = omega arith
 
 stopped-one_if_not : (b : Bool) (a : ℕ) → stopped (if b then stopped a else stopped a + 1) ≡ stopped (if b then a else a + 1)
 stopped-one_if_not true a = stopped-stopped a
@@ -57,17 +63,17 @@ pub gauged-stopped : (g : Gauge) (call : Call) → gauged (all_stopped g) call �
 gauged-stopped g (call_start name) =
     same_gauge InsideTag false (stopped-plus g.bytes _) refl (stopped-open_tag g.state g.begun_tag g.longest_tag) (stopped-plus g.nodes 1)
 gauged-stopped g (call_attribute name value) =
-    same_gauge InsideTag false (stopped-plus g.bytes _) (stopped-plus g.begun_tag _) (stopped-stopped g.longest_tag) (stopped-plus g.nodes 1)
+    same_gauge InsideTag false (stopped-plus g.bytes _) (tag_stopped-plus g.begun_tag _) (tag_stopped-stopped g.longest_tag) (stopped-plus g.nodes 1)
 gauged-stopped g (call_declare prefix uri) =
-    same_gauge InsideTag false (stopped-plus g.bytes _) (stopped-plus g.begun_tag _) (stopped-stopped g.longest_tag) (stopped-stopped g.nodes)
+    same_gauge InsideTag false (stopped-plus g.bytes _) (tag_stopped-plus g.begun_tag _) (tag_stopped-stopped g.longest_tag) (stopped-stopped g.nodes)
 gauged-stopped g (call_text []) =
-    same_gauge g.state g.in_text (stopped-stopped g.bytes) (stopped-stopped g.begun_tag) (stopped-stopped g.longest_tag) (stopped-stopped g.nodes)
+    same_gauge g.state g.in_text (stopped-stopped g.bytes) (tag_stopped-stopped g.begun_tag) (tag_stopped-stopped g.longest_tag) (stopped-stopped g.nodes)
 gauged-stopped g (call_text (c ∷ text)) =
     same_gauge PastTag true (stopped-plus g.bytes _) refl (stopped-open_tag g.state g.begun_tag g.longest_tag) (stopped-one_if_not g.in_text g.nodes)
 gauged-stopped g (call_end name) =
     same_gauge PastTag false (stopped-plus g.bytes _) refl (stopped-last_tag g.state g.begun_tag _ g.longest_tag) (stopped-stopped g.nodes)
 gauged-stopped g call_close =
-    same_gauge PastTag g.in_text (stopped-plus g.bytes 1) (stopped-stopped g.begun_tag) (stopped-stopped g.longest_tag) (stopped-stopped g.nodes)
+    same_gauge PastTag g.in_text (stopped-plus g.bytes 1) (tag_stopped-stopped g.begun_tag) (tag_stopped-stopped g.longest_tag) (stopped-stopped g.nodes)
 
 pub gauged_by_all-stopped : (g : Gauge) (calls : List Call) → gauged_by_all (all_stopped g) (map encoded calls) ≡ all_stopped (told g calls)
 gauged_by_all-stopped g [] = refl

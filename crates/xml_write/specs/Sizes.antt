@@ -1,7 +1,6 @@
 -- How large canonical text is, for who keeps limits on it: its bytes, its longest tag, and the nodes of its tree. And how the calls
 -- of a document are measured one by one.
 use Rattle.std.specs.Prelude.{ℕ, ◌+◌, max, min, Bool, true, false, List, [], ◌∷◌, ◌++◌, length, codes, encode_utf8_all, if◌then◌else◌}
-use Rattle.inv_base.specs.Counts.{last_count}
 use Rattle.inv_base.specs.Tree.{Forest, no_more, a_text, an_element}
 use Rattle.xml_write.specs.declared.pen.PenState.{PenState}
 use Rattle.xml_write.specs.declared.pen.PenState.TheVariants.{Fresh, InsideTag, PastTag}
@@ -34,9 +33,22 @@ abbrev pub longest : List (List ℕ) → ℕ
 longest [] = 0
 longest (text ∷ texts) = max (length (encode_utf8_all text)) (longest texts)
 
--- a number that stops at the greatest of 64 bits
+-- Where a number of bytes or of nodes stops: past the limits of each document that is read, so that one that has stopped passes
+-- them too. A gauge whose bytes have stopped needs to look at no further text.
+abbrev pub most_measured : ℕ
+most_measured = 268435456
+
+-- where the number of a tag's bytes stops: past the limit on tags
+abbrev pub longest_measured : ℕ
+longest_measured = 524288
+
+-- a number of bytes or of nodes that stops there
 abbrev pub stopped : ℕ → ℕ
-stopped n = min n last_count
+stopped n = min n most_measured
+
+-- a number of a tag's bytes that stops there
+abbrev pub tag_stopped : ℕ → ℕ
+tag_stopped n = min n longest_measured
 
 -- the longest tag once a start or a text has ended the tag that is open, if one is, by its `>`
 abbrev pub with_open_tag : PenState → ℕ → ℕ → ℕ
@@ -105,8 +117,8 @@ all_stopped g = record {
   state = g.state;
   in_text = g.in_text;
   bytes = stopped g.bytes;
-  begun_tag = stopped g.begun_tag;
-  longest_tag = stopped g.longest_tag;
+  begun_tag = tag_stopped g.begun_tag;
+  longest_tag = tag_stopped g.longest_tag;
   nodes = stopped g.nodes;
 }
 

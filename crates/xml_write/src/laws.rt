@@ -4,7 +4,7 @@ ghost use Rattle.xml_write.specs.declared.gauge.Gauge.{Gauge};
 ghost use Rattle.xml_write.specs.Escapes.{in_text, in_value};
 ghost use Rattle.xml_write.specs.Canonical.{Declaration, qualified, declaring_name, canonical_text};
 ghost use Rattle.xml_write.specs.Calls.{Call, call_text, calls_of, encoded, appended_by, appended_by_all, behind_all, state_behind, are_allowed};
-ghost use Rattle.xml_write.specs.Sizes.{canonical_tags, longest, stopped, unmeasured, gauged, gauged_by_all};
+ghost use Rattle.xml_write.specs.Sizes.{canonical_tags, longest, stopped, tag_stopped, unmeasured, gauged, gauged_by_all};
 
 use crate::pen::PenState;
 
@@ -44,7 +44,7 @@ pub fn gauged_calls_are_sizes()
     ensures bytes { (declarations : List Declaration) (document : Forest)
         → (gauged_by_all unmeasured (map encoded (calls_of declarations document))).bytes ≡ stopped (length (encode_utf8_all (canonical_text declarations document))) }
     ensures longest_tag { (declarations : List Declaration) (document : Forest)
-        → (gauged_by_all unmeasured (map encoded (calls_of declarations document))).longest_tag ≡ stopped (longest (canonical_tags declarations document)) }
+        → (gauged_by_all unmeasured (map encoded (calls_of declarations document))).longest_tag ≡ tag_stopped (longest (canonical_tags declarations document)) }
     ensures nodes { (declarations : List Declaration) (document : Forest) → IsDocument document
         → (gauged_by_all unmeasured (map encoded (calls_of declarations document))).nodes ≡ stopped (size document + 1) }
 {}

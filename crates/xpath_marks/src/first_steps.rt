@@ -132,7 +132,7 @@ fn around<L: Ledger>(
 /// nodes around the elements of that name.
 pub(crate) fn from_around<'a, L: Ledger>(
     ground: &Ground<'_, 'a>,
-    work: &Work,
+    work: &'a Work,
     k: usize,
     slots: &mut Slots<'a>,
     steps: &mut Steps<L>,

@@ -52,7 +52,7 @@ fn joining_of(link: Link) -> Joining
 /// What a step alone finds: what it reaches from some node.
 fn from_everywhere<'a, L: Ledger>(
     ground: &Ground<'_, 'a>,
-    work: &Work,
+    work: &'a Work,
     slots: &mut Slots<'a>,
     steps: &mut Steps<L>,
 ) -> Result<Vec<NodeId>, AllocError>
@@ -111,7 +111,7 @@ fn is_found_by_first(kind: &Kind, link: Link, alone: bool) -> bool
 /// What a pattern without parts finds.
 fn found_by_simple<'a, L: Ledger>(
     ground: &Ground<'_, 'a>,
-    work: &Work,
+    work: &'a Work,
     simple: &Simple,
     slots: &mut Slots<'a>,
     steps: &mut Steps<L>,
@@ -140,7 +140,7 @@ fn found_by_simple<'a, L: Ledger>(
 #[cycle(marking)]
 pub(crate) fn found<'a, L: Ledger>(
     ground: &Ground<'_, 'a>,
-    work: &Work,
+    work: &'a Work,
     slots: &mut Slots<'a>,
     steps: &mut Steps<L>,
 ) -> Result<Vec<NodeId>, AllocError>
@@ -177,7 +177,7 @@ pub(crate) fn found<'a, L: Ledger>(
 #[cycle(marking)]
 fn chain<'a, L: Ledger>(
     ground: &Ground<'_, 'a>,
-    parts: &[(Link, Work)],
+    parts: &'a [(Link, Work)],
     slots: &mut Slots<'a>,
     steps: &mut Steps<L>,
 ) -> Result<Vec<NodeId>, AllocError>
@@ -205,7 +205,7 @@ fn chain<'a, L: Ledger>(
 fn links_on<'a, L: Ledger>(
     ground: &Ground<'_, 'a>,
     before: Vec<NodeId>,
-    parts: &[(Link, Work)],
+    parts: &'a [(Link, Work)],
     slots: &mut Slots<'a>,
     steps: &mut Steps<L>,
 ) -> Result<Vec<NodeId>, AllocError>
@@ -231,7 +231,7 @@ fn link_on<'a, L: Ledger>(
     ground: &Ground<'_, 'a>,
     before: Vec<NodeId>,
     link: Link,
-    work: &Work,
+    work: &'a Work,
     slots: &mut Slots<'a>,
     steps: &mut Steps<L>,
 ) -> Result<Vec<NodeId>, AllocError>

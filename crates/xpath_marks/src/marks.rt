@@ -85,10 +85,11 @@ pub fn marks_of<L: Ledger>(
     marks_over(alloc, plan, doc, env, steps)
 }
 
-/// The same, where what the document and the variables borrow lives as long: so do the values that are kept meanwhile.
+/// The same, where what the document and the variables borrow lives as long as the plan, which lends its literals: so do
+/// the values that are kept meanwhile.
 fn marks_over<'a, L: Ledger>(
     alloc: Global,
-    plan: &Plan,
+    plan: &'a Plan,
     doc: &Doc<'a>,
     env: &Env<'a>,
     steps: &mut Steps<L>,

@@ -32,7 +32,7 @@ fn is_kept(answer: Result<bool, DynError>) -> bool
 /// Whether the predicate keeps the node, which is the one at that position of so many.
 fn holds<'a, L: Ledger>(
     ground: &Ground<'_, 'a>,
-    predicate: &Work,
+    predicate: &'a Work,
     n: NodeId,
     position: u64,
     last: u64,
@@ -72,7 +72,7 @@ fn put_if(is_kept: bool, n: NodeId, kept: &mut Vec<NodeId>) -> Result<(), AllocE
 /// The nodes that the predicate keeps. They are gone through in this order.
 fn kept_by<'a, L: Ledger>(
     ground: &Ground<'_, 'a>,
-    predicate: &Work,
+    predicate: &'a Work,
     nodes: Vec<NodeId>,
     slots: &mut Slots<'a>,
     steps: &mut Steps<L>,
@@ -97,7 +97,7 @@ fn kept_by<'a, L: Ledger>(
 /// The nodes that all predicates keep, each given what the one before it kept.
 pub(crate) fn kept_by_all<'a, L: Ledger>(
     ground: &Ground<'_, 'a>,
-    predicates: &[(Link, Work)],
+    predicates: &'a [(Link, Work)],
     nodes: Vec<NodeId>,
     slots: &mut Slots<'a>,
     steps: &mut Steps<L>,

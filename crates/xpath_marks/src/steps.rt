@@ -47,7 +47,7 @@ fn simple_turn<L: Ledger>(
 #[cycle(turning)]
 fn turn<'a, L: Ledger>(
     ground: &Ground<'_, 'a>,
-    work: &Work,
+    work: &'a Work,
     n: NodeId,
     out: &mut Vec<NodeId>,
     slots: &mut Slots<'a>,
@@ -103,7 +103,7 @@ pub(crate) fn is_filter(kind: &Kind) -> bool
 fn turn_by<'a, L: Ledger>(
     ground: &Ground<'_, 'a>,
     kind: &Kind,
-    parts: &[(Link, Work)],
+    parts: &'a [(Link, Work)],
     n: NodeId,
     out: &mut Vec<NodeId>,
     slots: &mut Slots<'a>,
@@ -134,8 +134,8 @@ fn turn_by<'a, L: Ledger>(
 #[cycle(turning)]
 fn filtered<'a, L: Ledger>(
     ground: &Ground<'_, 'a>,
-    first: &Work,
-    predicates: &[(Link, Work)],
+    first: &'a Work,
+    predicates: &'a [(Link, Work)],
     n: NodeId,
     out: &mut Vec<NodeId>,
     slots: &mut Slots<'a>,
@@ -161,7 +161,7 @@ fn filtered<'a, L: Ledger>(
 /// The nodes that the step leads to from these, in document order.
 pub(crate) fn reached<'a, L: Ledger>(
     ground: &Ground<'_, 'a>,
-    work: &Work,
+    work: &'a Work,
     from: &[NodeId],
     slots: &mut Slots<'a>,
     steps: &mut Steps<L>,

@@ -6,11 +6,10 @@ ghost use Rattle.xpath_meaning.specs.Reading as spec;
 ghost use Rattle.xpath_operators.specs.Spaces.{leading};
 
 /// Whether the byte is white space: TAB, LF, CR or space.
-#[tactic(auto, unfolding(inv_base::specs::Characters::is_white_space))]
 fn is_white_byte(byte: u8) -> bool
     ensures { result ≡ is_white_space byte }
 {
-    matches!(byte, b'\t' | b'\n' | b'\r' | b' ')
+    inv_base::is_white_space(char::from(byte))
 }
 
 /// How many bytes at the front are white space.

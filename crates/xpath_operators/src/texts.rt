@@ -1,6 +1,5 @@
 //! The text of an item (Functions and Operators, sections 2.3 and 17.1.2).
 ghost use Rattle.std.specs.Prelude.{◌≡◌, length, chars, string_bytes, IfOk};
-ghost use Rattle.std.specs.Str.{IsAscii};
 ghost use Rattle.inv_decimal.specs.WrittenNumber.{decimal_text};
 ghost use Rattle.inv_decimal.specs.WrittenDay.{dashed_day_text};
 ghost use Rattle.node_arena.specs.Moves.{tree_nodes};
@@ -9,6 +8,7 @@ ghost use Rattle.xpath_operators.specs.Nodes.{IsWithin};
 ghost use Rattle.xpath_operators.specs.Texts.{Puts};
 
 use crate::strings::string_at;
+use inv_base::ascii_text;
 use inv_decimal::laws::printed_texts_are_ascii;
 use inv_decimal::{Day, Dec};
 use node_arena::Doc;
@@ -20,17 +20,6 @@ fn boolean_text(b: bool) -> &'static str
     ensures { chars result.now ≡ spec.boolean_text b }
 {
     if b { "true" } else { "false" }
-}
-
-/// Bytes that are ASCII as a text.
-fn ascii_text(bytes: &[u8]) -> &str
-    requires { IsAscii bytes.now }
-    ensures { chars result.now ≡ bytes.now }
-{
-    match str::from_utf8(bytes) {
-        Ok(text) => text,
-        Err(_) => unreachable!(),
-    }
 }
 
 fn number_text(alloc: Global, number: &Dec) -> Result<String, AllocError>

@@ -16,3 +16,4 @@ pub mod SeenLemmas
 pub mod SlotLemmas
 pub mod WalkLemmas
 pub mod NamedLemmas
+pub mod SizeLemmas

@@ -7,8 +7,9 @@ use Rattle.xpath_grammar.specs.declared.step.Axis.{Axis}
 use Rattle.xpath_grammar.specs.declared.step.Axis.TheVariants as a
 use Rattle.xpath_items.specs.declared.item.Item.TheVariants as i
 use Rattle.xpath_items.specs.declared.outcome.Focus.{Focus}
-use Rattle.xpath_items.specs.declared.outcome.Outcome.{Outcome}
-use Rattle.xpath_meaning.specs.Values.{Value, value}
+use Rattle.xpath_steps.specs.Lending.{lent_value}
+use Rattle.xpath_steps.specs.declared.lending.Lent.{Lent}
+use Rattle.xpath_meaning.specs.Values.{Value}
 use Rattle.xpath_walks.specs.Walks.{Bounds}
 use Rattle.xpath_plan.specs.declared.work.Kind.{Kind}
 use Rattle.xpath_plan.specs.declared.work.Kind.TheVariants as m
@@ -392,7 +393,7 @@ bounds_along count leading s before after after' same least most = record {
   least = λ h. on_ok_any (before + count ≤ after') s (omega (arith, same, least h));
 }
 
-pub no_bounds_left : {X : Type 0} (slots : List (Option Value)) (slot : ℕ) (found : Option Outcome) (outcome : Outcome)
-    → option_map value found ≡ get_or slots slot None → found ≡ Some outcome
+pub no_bounds_left : {X : Type 0} (slots : List (Option Value)) (slot : ℕ) (found : Option Lent) (lent : Lent)
+    → option_map lent_value found ≡ get_or slots slot None → found ≡ Some lent
     → get_or slots slot None ≡ None → X
-no_bounds_left slots slot found outcome read there empty = absurd (none_some (value outcome) (sym empty ∙ (sym read ∙ ap (option_map value) there)))
+no_bounds_left slots slot found lent read there empty = absurd (none_some (lent_value lent) (sym empty ∙ (sym read ∙ ap (option_map lent_value) there)))

@@ -1,5 +1,5 @@
 -- Parts that are kept, and what slots hold of them.
-use Rattle.std.proofs.Common.{◌≡◌, ℕ, suc, zero, ◌<◌, true, List, [], ◌∷◌, ◌++◌, length, drop, map, Option, Some, None, option_map, get_or, Result, Ok, Err, IfOk, OnOk, OnErr, refl, sym, ap, ◌∙◌, subst, arith, ⊎_elim, append-nil}
+use Rattle.std.proofs.Common.{◌≡◌, ℕ, suc, zero, ◌<◌, true, List, [], ◌∷◌, ◌++◌, length, drop, map, Option, Some, None, option_map, IfSome, get_or, Result, Ok, Err, IfOk, OnOk, OnErr, refl, sym, ap, ◌∙◌, subst, arith, ⊎_elim, append-nil}
 use Rattle.std.specs.Prelude.{slice_get, slice_set, replicate}
 use Rattle.std.specs.declared.alloc.AllocError.{AllocError}
 use Rattle.node_arena.specs.Document.{Document}
@@ -28,7 +28,9 @@ use Rattle.xpath_plan.specs.declared.work.Work.TheFolds.{fold-roll-Work, ind-Wor
 use Rattle.xpath_plan.specs.declared.work.Work.TheVariants as w
 use Rattle.xpath_plan.specs.Plans.{seen, seen_step, label_of, made}
 use Rattle.xpath_plan.specs.Claims.{Kept, Known, IsPlaced, known, known_step, kept_known, operands_known, own_kept, kept_in}
+use Rattle.xpath_steps.specs.Lending.{lent_value}
 use Rattle.xpath_steps.specs.Variables.{ValueWithin}
+use Rattle.xpath_steps.specs.declared.lending.Lent.{Lent}
 use Rattle.xpath_run.specs.declared.ground.Ground.{Ground}
 use Rattle.xpath_run.specs.Contexts.{count, context, operands_of, value_in}
 use Rattle.xpath_run.specs.Finishing.{wanted, first_alone}
@@ -241,15 +243,26 @@ at_node base focus bound height is long =
 
 -- what a slot holds of the part there
 pub kept_here : (base : Ground) (slots : List (Option Value)) (slot height : ℕ) (parts : List (Link × Work)) (focus : Focus) (bound : List Item)
-    (found : Option Outcome) (outcome : Outcome)
+    (found : Option Lent) (lent : Lent)
     → PlacedNode base (m.Once slot height) parts → AreHeld base slots → is_node focus.item ≡ true → length bound ≡ height
-    → option_map value found ≡ get_or slots slot None → found ≡ Some outcome
-    → (value outcome ≡ value_in base (first_part (operands_of base.names.now parts)) focus bound) × ValueWithin (count base) (value outcome)
-kept_here base slots slot height parts focus bound found outcome placed held is long read there =
+    → option_map lent_value found ≡ get_or slots slot None → found ≡ Some lent
+    → (lent_value lent ≡ value_in base (first_part (operands_of base.names.now parts)) focus bound) × ValueWithin (count base) (lent_value lent)
+kept_here base slots slot height parts focus bound found lent placed held is long read there =
     let part : Kept = record { slot = slot; height = height; exp = first_part (operands_of base.names.now parts) } in
-    let holds : IsHeld (tree_nodes base.doc.now) (count base) part (value outcome) =
-    held_there base slots part (value outcome) (placed_own base slot height parts placed) held (sym read ∙ ap (option_map value) there) in
+    let holds : IsHeld (tree_nodes base.doc.now) (count base) part (lent_value lent) =
+    held_there base slots part (lent_value lent) (placed_own base slot height parts placed) held (sym read ∙ ap (option_map lent_value) there) in
     (holds.value (context base focus bound) (at_node base focus bound height is long), holds.within)
+
+-- the same, where there is something
+pub kept_if_there : (base : Ground) (slots : List (Option Value)) (slot height : ℕ) (parts : List (Link × Work)) (focus : Focus) (bound : List Item)
+    (found : Option Lent)
+    → PlacedNode base (m.Once slot height) parts → AreHeld base slots → is_node focus.item ≡ true → length bound ≡ height
+    → option_map lent_value found ≡ get_or slots slot None
+    → IfSome found (λ lent. lent_value lent ≡ value_in base (first_part (operands_of base.names.now parts)) focus bound)
+    × IfSome found (λ lent. ValueWithin (count base) (lent_value lent))
+kept_if_there base slots slot height parts focus bound None placed held is long read = (tt, tt)
+kept_if_there base slots slot height parts focus bound (Some lent) placed held is long read =
+    kept_here base slots slot height parts focus bound (Some lent) lent placed held is long read refl
 
 module _ (base : Ground) (slots slots' : List (Option Value)) (slot height : ℕ) (parts : List (Link × Work)) (focus : Focus) (bound : List Item) (v : Value)
     (placed : PlacedNode base (m.Once slot height) parts) (held : AreHeld base slots) (is : is_node focus.item ≡ true) (long : length bound ≡ height)
@@ -299,12 +312,12 @@ part_placed base work part slot whole h = placed_first base ((whole.link, part) 
     (placed_parts base (m.Once slot zero) ((whole.link, part) ∷ whole.others) (whole_placed base work part slot whole h))
 
 -- what a slot holds of the whole
-pub whole_here : (base : Ground) (slots : List (Option Value)) (work part : Work) (slot : ℕ) (focus : Focus) (found : Option Outcome) (outcome : Outcome)
-    → IsWhole work slot part → PlacedWork base work → AreHeld base slots → is_node focus.item ≡ true → option_map value found ≡ get_or slots slot None
-    → found ≡ Some outcome
-    → (value outcome ≡ value_in base (seen base.names.now work) focus []) × ValueWithin (count base) (value outcome)
-whole_here base slots work part slot focus found outcome whole placed held is read there =
-    let it = kept_here base slots slot zero ((whole.link, part) ∷ whole.others) focus [] found outcome (whole_placed base work part slot whole placed)
+pub whole_here : (base : Ground) (slots : List (Option Value)) (work part : Work) (slot : ℕ) (focus : Focus) (found : Option Lent) (lent : Lent)
+    → IsWhole work slot part → PlacedWork base work → AreHeld base slots → is_node focus.item ≡ true → option_map lent_value found ≡ get_or slots slot None
+    → found ≡ Some lent
+    → (lent_value lent ≡ value_in base (seen base.names.now work) focus []) × ValueWithin (count base) (lent_value lent)
+whole_here base slots work part slot focus found lent whole placed held is read there =
+    let it = kept_here base slots slot zero ((whole.link, part) ∷ whole.others) focus [] found lent (whole_placed base work part slot whole placed)
     held is refl read there in
     (it.0 ∙ ap (λ x. value_in base x focus []) (sym (whole_seen base.names.now work part slot whole)), it.1)
 

@@ -10,3 +10,4 @@ pub mod Slots
 pub mod Runs
 pub mod Whole
 pub mod Named
+pub mod Sizes

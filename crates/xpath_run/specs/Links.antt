@@ -71,6 +71,10 @@ joined_by nodes (l.Operator operator) xs ys = with_values nodes operator xs ys
 joined_by nodes l.Comma xs ys = joined (Ok xs) (Ok ys)
 joined_by nodes l.Other xs ys = Ok []
 
+-- The operator of the link takes the items of both operands as they are.
+abbrev pub IsOnItems : Link → Operator → Type 0
+IsOnItems link operator = (nodes : List Node) (xs ys : List Item) → joined_by nodes link xs ys ≡ operated nodes operator xs ys
+
 -- Of the value before a link this is known before its operand is evaluated: the value of both, or that the operand's
 -- value is wanted, or that the operand is taken at each item.
 abbrev pub IsAhead : List Node → Link → Value → Ahead → Type 0

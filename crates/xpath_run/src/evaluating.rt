@@ -7,6 +7,7 @@ ghost use Rattle.xpath_meaning.specs.Meaning.{means};
 ghost use Rattle.xpath_meaning.specs.Resolving.{in_axis_order, chained, bound_all, chosen_of, filtered_of, arguments_of, first_part};
 ghost use Rattle.xpath_meaning.specs.Steps as steps_spec;
 ghost use Rattle.xpath_meaning.specs.Values as values_spec;
+ghost use Rattle.xpath_meaning.specs.Values.{then_};
 ghost use Rattle.xpath_operators.specs.Nodes.{AreWithin, AllWithin};
 ghost use Rattle.xpath_plan.specs.Plans.{seen, made};
 ghost use Rattle.xpath_run.specs.Contexts.{IsReady, IsReadyFor, context, count, operands_of, turn_in, value_in};
@@ -15,13 +16,13 @@ ghost use Rattle.xpath_run.specs.Slots.{AreHeld, Grows, PlacedWork, PlacedParts,
 ghost use Rattle.xpath_run.specs.Links as links;
 ghost use Rattle.xpath_steps.specs.Variables.{ValueWithin};
 
+use crate::at_hand::{operated_at_hand, told_at_hand};
 use crate::calling::value_of;
 use crate::finishing::{finished, wanted};
 use crate::ground::Ground;
 use crate::linking::{Ahead, ahead_of, joined_by, step_inside, test_inside};
 use crate::parts::{
-    append_found, as_step, first, is_filtered_step, is_light, is_node, is_operator, keep_if,
-    part_at, sole,
+    append_found, as_step, first, is_filtered_step, is_light, is_operator, keep_if, part_at, sole,
 };
 use crate::simple::{simple, simple_in_axis_order};
 use crate::slots::Slots;
@@ -34,14 +35,14 @@ use xpath_grammar::operators::Binder;
 use xpath_items::{DynError, Fault, Focus, Item, Outcome, Seq};
 use xpath_operators::{outcome, truth};
 use xpath_plan::work::{Kind, Link, Work};
-use xpath_steps::{all_nodes, keeps, of_turns, root_of, settled, steps_over};
+use xpath_steps::{all_nodes, copy_of, is_node, keeps, of_turns, root_of, settled, steps_over};
 use xpath_walks::Step;
 
 /// The value of a work at a focus, inside the variables that are bound around it.
 #[cycle(evaluating)]
 pub fn evaluate<'a, L: Ledger>(
     ground: &Ground<'_, 'a>,
-    work: &Work,
+    work: &'a Work,
     focus: &Focus<'a>,
     bound: &mut Vec<Item<'a>>,
     slots: &mut Slots<'a>,
@@ -75,7 +76,7 @@ pub fn evaluate<'a, L: Ledger>(
 fn by_kind<'a, L: Ledger>(
     ground: &Ground<'_, 'a>,
     kind: &Kind,
-    parts: &[(Link, Work)],
+    parts: &'a [(Link, Work)],
     focus: &Focus<'a>,
     bound: &mut Vec<Item<'a>>,
     slots: &mut Slots<'a>,
@@ -105,7 +106,35 @@ fn by_kind<'a, L: Ledger>(
         | Kind::Only
         | Kind::Call(_)
         | Kind::Matches(_)
-        | Kind::Nothing => {
+        | Kind::Nothing => finish(ground, kind, parts, focus, bound, slots, steps),
+    }
+}
+
+/// What a kind makes of the values of its parts. Of an argument that is at hand, of which nothing but the number of items is
+/// looked at, that is looked at where it lies.
+#[cycle(evaluating)]
+fn finish<'a, L: Ledger>(
+    ground: &Ground<'_, 'a>,
+    kind: &Kind,
+    parts: &'a [(Link, Work)],
+    focus: &Focus<'a>,
+    bound: &mut Vec<Item<'a>>,
+    slots: &mut Slots<'a>,
+    steps: &mut Steps<L>,
+) -> Result<Seq<'a>, Fault>
+    requires strict { is_strict kind.now ≡ true }
+    requires ready { IsReady ground.now focus.now bound.old.items }
+    requires placed { PlacedNode ground.now kind.now parts.now }
+    requires slots { AreHeld ground.now slots.old }
+    ensures value { Gives result (value_in ground.now (made kind.now (operands_of ground.now.names.now parts.now)) focus.now bound.old.items) }
+    ensures within { IfOk result (λ items. AreWithin (count ground.now) items) }
+    ensures kept { bound.new.items ≡ bound.old.items }
+    ensures held { AreHeld ground.now slots.new }
+    ensures grown { Grows slots.old slots.new }
+{
+    match told_at_hand(&*ground, kind, parts, focus, bound.as_slice(), slots) {
+        Some(found) => found,
+        None => {
             let values = values_of(ground, wanted(kind, parts), focus, bound, slots, steps)?;
             finished(ground.alloc, ground.doc, kind, focus, values)
         }
@@ -119,7 +148,7 @@ fn once<'a, L: Ledger>(
     ground: &Ground<'_, 'a>,
     slot: usize,
     height: usize,
-    parts: &[(Link, Work)],
+    parts: &'a [(Link, Work)],
     focus: &Focus<'a>,
     bound: &mut Vec<Item<'a>>,
     slots: &mut Slots<'a>,
@@ -140,8 +169,8 @@ fn once<'a, L: Ledger>(
     if !is_node(&focus.item) || bound.len() != height || is_light(part) {
         return evaluate(ground, part, focus, bound, slots, steps);
     }
-    match slots.read(ground.alloc, slot)? {
-        Some(outcome) => value_of(outcome),
+    match slots.lent(slot) {
+        Some(found) => copy_of(ground.alloc, found),
         None => {
             let found = evaluate(ground, part, focus, bound, slots, steps);
             let kept = outcome(found)?;
@@ -154,7 +183,7 @@ fn once<'a, L: Ledger>(
 #[cycle(evaluating)]
 fn values_of<'a, L: Ledger>(
     ground: &Ground<'_, 'a>,
-    parts: &[(Link, Work)],
+    parts: &'a [(Link, Work)],
     focus: &Focus<'a>,
     bound: &mut Vec<Item<'a>>,
     slots: &mut Slots<'a>,
@@ -183,7 +212,7 @@ fn values_of<'a, L: Ledger>(
 #[cycle(evaluating)]
 fn choose<'a, L: Ledger>(
     ground: &Ground<'_, 'a>,
-    parts: &[(Link, Work)],
+    parts: &'a [(Link, Work)],
     focus: &Focus<'a>,
     bound: &mut Vec<Item<'a>>,
     slots: &mut Slots<'a>,
@@ -216,7 +245,7 @@ fn choose<'a, L: Ledger>(
 #[cycle(evaluating)]
 fn chain<'a, L: Ledger>(
     ground: &Ground<'_, 'a>,
-    parts: &[(Link, Work)],
+    parts: &'a [(Link, Work)],
     focus: &Focus<'a>,
     bound: &mut Vec<Item<'a>>,
     slots: &mut Slots<'a>,
@@ -248,7 +277,7 @@ fn chain<'a, L: Ledger>(
 fn links_on<'a, L: Ledger>(
     ground: &Ground<'_, 'a>,
     before: Outcome<'a>,
-    parts: &[(Link, Work)],
+    parts: &'a [(Link, Work)],
     focus: &Focus<'a>,
     bound: &mut Vec<Item<'a>>,
     slots: &mut Slots<'a>,
@@ -277,7 +306,7 @@ fn link_on<'a, L: Ledger>(
     ground: &Ground<'_, 'a>,
     before: Outcome<'a>,
     link: Link,
-    work: &Work,
+    work: &'a Work,
     focus: &Focus<'a>,
     bound: &mut Vec<Item<'a>>,
     slots: &mut Slots<'a>,
@@ -299,12 +328,54 @@ fn link_on<'a, L: Ledger>(
     }
     match ahead_of(ground, before, link, steps)? {
         Ahead::Done(done) => Ok(done),
-        Ahead::Operand(xs) => match evaluate(ground, work, focus, bound, slots, steps) {
+        Ahead::Operand(xs) => operand(ground, link, xs, work, focus, bound, slots, steps),
+        Ahead::Turns(xs) => outcome(path(ground, xs, work, bound, slots, steps)),
+    }
+}
+
+/// What the value before a link and the operand's come to, where the first doesn't decide. An operand that is at hand is looked at
+/// where it lies.
+#[cycle(evaluating)]
+fn operand<'a, L: Ledger>(
+    ground: &Ground<'_, 'a>,
+    link: Link,
+    xs: Seq<'a>,
+    work: &'a Work,
+    focus: &Focus<'a>,
+    bound: &mut Vec<Item<'a>>,
+    slots: &mut Slots<'a>,
+    steps: &mut Steps<L>,
+) -> Result<Outcome<'a>, AllocError>
+    requires ready { IsReady ground.now focus.now bound.old.items }
+    requires xs { AreWithin (count ground.now) xs }
+    requires placed { PlacedWork ground.now work.now }
+    requires slots { AreHeld ground.now slots.old }
+    ensures value { IfOk result (λ outcome. values_spec.value outcome ≡ then_ (value_in ground.now (seen ground.now.names.now work.now) focus.now bound.old.items)
+        (links.joined_by (tree_nodes ground.now.doc.now) link xs.entry)) }
+    ensures within { IfOk result (λ outcome. ValueWithin (count ground.now) (values_spec.value outcome)) }
+    ensures kept { bound.new.items ≡ bound.old.items }
+    ensures held { AreHeld ground.now slots.new }
+    ensures grown { Grows slots.old slots.new }
+{
+    let at_hand = operated_at_hand(
+        &*ground,
+        link,
+        xs.as_slice(),
+        work,
+        focus,
+        bound.as_slice(),
+        slots,
+    );
+    match at_hand {
+        Some(found) => {
+            drop(xs);
+            outcome(found)
+        }
+        None => match evaluate(ground, work, focus, bound, slots, steps) {
             Ok(ys) => outcome(joined_by(ground, link, xs, ys)),
             Err(Fault::Error(error)) => Ok(Outcome::Error(error)),
             Err(Fault::Memory) => Err(AllocError),
         },
-        Ahead::Turns(xs) => outcome(path(ground, xs, work, bound, slots, steps)),
     }
 }
 
@@ -313,7 +384,7 @@ fn link_on<'a, L: Ledger>(
 fn path<'a, L: Ledger>(
     ground: &Ground<'_, 'a>,
     items: Seq<'a>,
-    work: &Work,
+    work: &'a Work,
     bound: &mut Vec<Item<'a>>,
     slots: &mut Slots<'a>,
     steps: &mut Steps<L>,
@@ -353,7 +424,7 @@ fn path<'a, L: Ledger>(
 fn turns<'a, L: Ledger>(
     ground: &Ground<'_, 'a>,
     items: Seq<'a>,
-    work: &Work,
+    work: &'a Work,
     bound: &mut Vec<Item<'a>>,
     slots: &mut Slots<'a>,
     steps: &mut Steps<L>,
@@ -390,7 +461,7 @@ fn turns<'a, L: Ledger>(
 fn filter<'a, L: Ledger>(
     ground: &Ground<'_, 'a>,
     is_step: bool,
-    parts: &[(Link, Work)],
+    parts: &'a [(Link, Work)],
     focus: &Focus<'a>,
     bound: &mut Vec<Item<'a>>,
     slots: &mut Slots<'a>,
@@ -426,7 +497,7 @@ fn filter<'a, L: Ledger>(
 fn keep_all<'a, L: Ledger>(
     ground: &Ground<'_, 'a>,
     items: Seq<'a>,
-    predicates: &[(Link, Work)],
+    predicates: &'a [(Link, Work)],
     bound: &mut Vec<Item<'a>>,
     slots: &mut Slots<'a>,
     steps: &mut Steps<L>,
@@ -465,7 +536,7 @@ fn judged(position: u64, answer: Seq<'_>) -> Result<bool, DynError>
 fn keep<'a, L: Ledger>(
     ground: &Ground<'_, 'a>,
     items: Seq<'a>,
-    predicate: &Work,
+    predicate: &'a Work,
     bound: &mut Vec<Item<'a>>,
     slots: &mut Slots<'a>,
     steps: &mut Steps<L>,
@@ -502,7 +573,7 @@ fn keep<'a, L: Ledger>(
 #[cycle(evaluating)]
 fn along_axis<'a, L: Ledger>(
     ground: &Ground<'_, 'a>,
-    work: &Work,
+    work: &'a Work,
     focus: &Focus<'a>,
     bound: &mut Vec<Item<'a>>,
     slots: &mut Slots<'a>,
@@ -536,7 +607,7 @@ fn along_axis<'a, L: Ledger>(
 fn bind<'a, L: Ledger>(
     ground: &Ground<'_, 'a>,
     binder: Binder,
-    parts: &[(Link, Work)],
+    parts: &'a [(Link, Work)],
     focus: &Focus<'a>,
     bound: &mut Vec<Item<'a>>,
     slots: &mut Slots<'a>,
@@ -570,7 +641,7 @@ fn bind<'a, L: Ledger>(
 fn take_turns<'a, L: Ledger>(
     ground: &Ground<'_, 'a>,
     binder: Binder,
-    inside: &[(Link, Work)],
+    inside: &'a [(Link, Work)],
     items: Seq<'a>,
     focus: &Focus<'a>,
     bound: &mut Vec<Item<'a>>,

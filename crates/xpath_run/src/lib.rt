@@ -1,6 +1,7 @@
 //! The evaluation of plans over a document (XPath 2.0, section 3).
 #![tactic(auto)]
 
+mod at_hand;
 mod calling;
 mod evaluating;
 mod finishing;
@@ -10,6 +11,7 @@ mod named;
 mod parts;
 mod run;
 mod simple;
+mod sizes;
 mod slots;
 mod turns;
 mod values;

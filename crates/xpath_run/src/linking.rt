@@ -3,12 +3,14 @@ ghost use Rattle.std.specs.Prelude.{◌≡◌, ℕ, ◌++◌, List, IfOk, IfSome
 ghost use Rattle.inv_base.specs.Tree.{Node, Name};
 ghost use Rattle.node_arena.specs.Moves.{tree_nodes};
 ghost use Rattle.xpath_items.specs.Faults.{Gives};
-ghost use Rattle.xpath_meaning.specs.Values.{value};
+ghost use Rattle.xpath_meaning.specs.Meaning as meaning;
+ghost use Rattle.xpath_meaning.specs.Values.{value, then_};
 ghost use Rattle.xpath_operators.specs.Nodes.{AreWithin};
 ghost use Rattle.xpath_plan.specs.Plans.{seen, test_seen};
 ghost use Rattle.xpath_run.specs.Contexts.{IsNumbered, count};
 ghost use Rattle.xpath_run.specs.Links as spec;
 ghost use Rattle.xpath_run.specs.Links.{AheadWithin};
+ghost use Rattle.xpath_steps.specs.Lending.{lent_value};
 ghost use Rattle.xpath_steps.specs.Variables.{ValueWithin};
 
 use crate::ground::Ground;
@@ -17,10 +19,10 @@ use inv_base::Steps;
 use std::alloc::{AllocError, Global};
 use std::sync::ledger::Ledger;
 use xpath_grammar::step::{Axis, KindTest};
-use xpath_items::{DynError, Fault, Outcome, Seq};
+use xpath_items::{DynError, Fault, Item, Outcome, Seq};
 use xpath_operators::{boolean, outcome, truth};
 use xpath_plan::work::{Link, StepTest, Work};
-use xpath_steps::{inside_over, operated, steps_over};
+use xpath_steps::{Lent, inside_over, operated, steps_over};
 use xpath_tokens::token::Operator;
 use xpath_walks::Step;
 
@@ -216,5 +218,36 @@ pub(crate) fn joined_by<'a>(
         Link::Operator(operator) => with_values(ground, operator, xs, ys),
         Link::Comma => Ok(one_behind(xs, ys)?),
         Link::Other => Ok(Seq::new(ground.alloc)),
+    }
+}
+
+/// The operator of a link, where it takes the items of both operands as they are: `and` and `or` take truths.
+pub(crate) fn operator_on_items(link: Link) -> Option<Operator>
+    ensures { IfSome result (λ operator. spec.IsOnItems link operator) }
+{
+    match link {
+        Link::Operator(operator) => match operator {
+            Operator::And | Operator::Or => None,
+            _ => Some(operator),
+        },
+        Link::Comma | Link::Other => None,
+    }
+}
+
+/// What an operator makes of the items of a value and of one that is lent.
+pub(crate) fn operated_on<'a>(
+    ground: &Ground<'_, 'a>,
+    operator: Operator,
+    xs: &[Item<'a>],
+    ys: Lent<'_, 'a>,
+) -> Result<Seq<'a>, Fault>
+    requires xs { AreWithin (count ground.now) xs.now }
+    requires ys { ValueWithin (count ground.now) (lent_value ys) }
+    ensures value { Gives result (then_ (lent_value ys.entry) (meaning.operated (tree_nodes ground.now.doc.now) operator xs.now)) }
+    ensures within { IfOk result (λ items. AreWithin (count ground.now) items) }
+{
+    match ys {
+        Lent::Items(ys) => operated(ground.alloc, ground.doc, operator, xs, ys),
+        Lent::Error(error) => Err(Fault::Error(error)),
     }
 }

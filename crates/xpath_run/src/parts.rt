@@ -9,12 +9,11 @@ ghost use Rattle.xpath_run.specs.Depths.{depth, deepest};
 ghost use Rattle.xpath_run.specs.declared.ground.Ground.{Ground};
 ghost use Rattle.xpath_run.specs.Slots.{PlacedWork, PlacedParts};
 ghost use Rattle.xpath_run.specs.Parts as spec;
-ghost use Rattle.xpath_meaning.specs.Steps as steps;
 
 use std::alloc::AllocError;
 use std::mem;
 use xpath_grammar::step::Axis;
-use xpath_items::{Focus, Item, Seq};
+use xpath_items::{Focus, Seq};
 use xpath_plan::work::{Kind, Link, Simple, StepTest, Work};
 
 /// The part with the index.
@@ -90,7 +89,7 @@ pub(crate) fn first(parts: &[(Link, Work)]) -> Option<&Work>
 }
 
 /// The only part.
-fn only(parts: &[(Link, Work)]) -> Option<&Work>
+pub(crate) fn only(parts: &[(Link, Work)]) -> Option<&Work>
     ensures some { (names : List Name) → IfSome result (λ work. spec.IsOnly (operands_of names parts.now) (seen names work.now)) }
     ensures none { (names : List Name) → IfNone result (spec.is_one (operands_of names parts.now) ≡ false) }
     ensures deeper { IfSome result (λ work. depth work.now ≤ deepest parts.now) }
@@ -150,16 +149,6 @@ pub(crate) fn is_light(work: &Work) -> bool {
         Work::Simple(_) => true,
         Work::Node(Kind::Only, _) => true,
         Work::Node(_, _) => false,
-    }
-}
-
-/// Whether it is a node.
-pub(crate) fn is_node(item: &Item<'_>) -> bool
-    ensures { result ≡ steps.is_node item.now }
-{
-    match item {
-        Item::Node(_) => true,
-        _ => false,
     }
 }
 

@@ -30,15 +30,16 @@ use xpath_steps::Env;
 use xpath_walks::numbers_in;
 
 /// A plan over a document, in which the plan's names are looked up once, and the values of parts are kept that are the
-/// same at all nodes. Contracts see the plan, the document and the slots.
-pub struct Run<'p, 'd, 'a> {
+/// same at all nodes. The plan lends its literals to the values, so it lives as long as they. Contracts see the plan, the
+/// document and the slots.
+pub struct Run<'p: 'a, 'd, 'a> {
     plan: &'p Plan,
     doc: &'d Doc<'a>,
     numbers: Vec<Option<NameId>>,
     slots: Slots<'a>,
 }
 
-impl Drop for Run<'_, '_, '_> {
+impl<'p: 'a, 'd, 'a> Drop for Run<'p, 'd, 'a> {
     fn drop(self) {
         let Run {
             plan: _,
@@ -51,7 +52,7 @@ impl Drop for Run<'_, '_, '_> {
     }
 }
 
-impl<'p, 'd, 'a> Model for Run<'p, 'd, 'a> {
+impl<'p: 'a, 'd, 'a> Model for Run<'p, 'd, 'a> {
     ghost use Rattle.xpath_run.specs.Runs.{Running, IsRunning};
     ghost use Rattle.xpath_plan.specs.contracts.work.Work as tree;
     ghost use Rattle.std.specs.Coded.{codes};
@@ -65,7 +66,7 @@ impl<'p, 'd, 'a> Model for Run<'p, 'd, 'a> {
     ghost invariant = { λ run. IsRunning run.plan.now run.doc.now run.numbers.items run.slots };
 }
 
-impl<'p, 'd, 'a> Run<'p, 'd, 'a> {
+impl<'p: 'a, 'd, 'a> Run<'p, 'd, 'a> {
     /// The plan over the document, with nothing kept yet.
     pub fn new(alloc: Global, plan: &'p Plan, doc: &'d Doc<'a>) -> Result<Self, AllocError>
         ensures { IfOk result (λ run. run ≡ record { plan = plan.now; document = doc.now; slots = replicate plan.now.slots None }) }

@@ -21,10 +21,11 @@ use xpath_steps::{bound_at, root_of, step_from, stepped_from};
 use xpath_tokens::token::Number;
 use xpath_walks::Step;
 
-fn text<'a>(alloc: Global, text: &Txt) -> Result<Seq<'a>, Fault>
+/// A literal, which the plan lends.
+fn text<'a>(alloc: Global, text: &'a Txt) -> Result<Seq<'a>, Fault>
     ensures { Gives result (spec.one (Item.String text.now)) }
 {
-    one(alloc, Item::String(Str::own(text.try_clone()?)))
+    one(alloc, Item::String(Str::lent(text.as_str())))
 }
 
 fn number<'a>(alloc: Global, number: Number) -> Result<Seq<'a>, Fault>
@@ -45,7 +46,7 @@ fn item<'a>(alloc: Global, item: &Item<'a>) -> Result<Seq<'a>, Fault>
 /// The value of an expression without parts.
 pub(crate) fn simple<'a, L: Ledger>(
     ground: &Ground<'_, 'a>,
-    x: &Simple,
+    x: &'a Simple,
     focus: &Focus<'a>,
     bound: &[Item<'a>],
     steps: &mut Steps<L>,
@@ -83,7 +84,7 @@ pub(crate) fn simple<'a, L: Ledger>(
 /// The same, a step's nodes in the order of its axis.
 pub(crate) fn simple_in_axis_order<'a, L: Ledger>(
     ground: &Ground<'_, 'a>,
-    x: &Simple,
+    x: &'a Simple,
     focus: &Focus<'a>,
     bound: &[Item<'a>],
     steps: &mut Steps<L>,

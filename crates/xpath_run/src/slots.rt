@@ -3,10 +3,13 @@ ghost use Rattle.std.specs.Prelude.{◌≡◌, None, Some, option_map, replicate
 ghost use Rattle.xpath_meaning.specs.Values as values;
 ghost use Rattle.xpath_run.specs.Held.{held_in};
 ghost use Rattle.xpath_run.specs.Slots as spec;
+ghost use Rattle.xpath_steps.specs.Lending.{lent_value};
 
 use std::alloc::{AllocError, Global};
 use std::marker::Model;
-use xpath_items::{Item, Outcome, Seq};
+use xpath_items::Outcome;
+use xpath_operators::outcome;
+use xpath_steps::{Lent, copy_of, lend};
 
 /// A slot for each part that is kept: it is empty, or holds the part's value or error. Contracts see the list of them.
 #[derive(Drop)]
@@ -36,26 +39,26 @@ impl<'a> Slots<'a> {
         Ok(Slots { kept })
     }
 
-    /// What the slot holds.
-    pub(crate) fn read(&self, alloc: Global, slot: usize) -> Result<Option<Outcome<'a>>, AllocError>
-        ensures { IfOk result (λ found. option_map values.value found ≡ get_or self.now slot None) }
+    /// What the slot holds, lent where it lies.
+    pub(crate) fn lent(&self, slot: usize) -> Option<Lent<'_, 'a>>
+        ensures { option_map lent_value result ≡ get_or self.now slot None }
     {
-        outcome_at(alloc, &self.kept, slot)
+        lent_from(&self.kept, slot)
     }
 
-    /// Keeps the outcome in the slot, where there is one, and gives it back. Without memory nothing changes.
+    /// Keeps what was found in the slot, where there is one, and gives a copy. Without memory nothing changes.
     pub(crate) fn fill(
         &mut self,
         alloc: Global,
         slot: usize,
-        outcome: Outcome<'a>,
+        found: Outcome<'a>,
     ) -> Result<Outcome<'a>, AllocError>
-        ensures value { IfOk result (λ copy. values.value copy ≡ values.value outcome.entry) }
-        ensures filled { OnOk result (self.new ≡ spec.filled self.old slot (values.value outcome.entry)) }
+        ensures value { IfOk result (λ copy. values.value copy ≡ values.value found.entry) }
+        ensures filled { OnOk result (self.new ≡ spec.filled self.old slot (values.value found.entry)) }
         ensures err { OnErr result (self.new ≡ self.old) }
     {
-        let copy = copy_of(alloc, &outcome)?;
-        put_at(self.kept.as_mut_slice(), slot, outcome);
+        let copy = outcome(copy_of(alloc, lend(&found)))?;
+        put_at(self.kept.as_mut_slice(), slot, found);
         Ok(copy)
     }
 }
@@ -68,35 +71,11 @@ fn put_at<'a>(kept: &mut [Option<Outcome<'a>>], slot: usize, outcome: Outcome<'a
     }
 }
 
-/// The same items once more.
-fn copied<'a>(alloc: Global, items: &[Item<'a>]) -> Result<Seq<'a>, AllocError>
-    ensures { IfOk result (λ copy. copy ≡ items.now) }
-{
-    let mut copy = Vec::with_capacity(alloc, items.len())?;
-    'items: for item in items {
-        copy.push(item.copied(alloc)?)?;
-    }
-    Ok(Seq::of_items(copy))
-}
-
-fn copy_of<'a>(alloc: Global, outcome: &Outcome<'a>) -> Result<Outcome<'a>, AllocError>
-    ensures { IfOk result (λ copy. values.value copy ≡ values.value outcome.now) }
-{
-    match outcome {
-        Outcome::Value(items) => Ok(Outcome::Value(copied(alloc, items.as_slice())?)),
-        Outcome::Error(error) => Ok(Outcome::Error(*error)),
-    }
-}
-
-fn outcome_at<'a>(
-    alloc: Global,
-    kept: &[Option<Outcome<'a>>],
-    slot: usize,
-) -> Result<Option<Outcome<'a>>, AllocError>
-    ensures { IfOk result (λ found. option_map values.value found ≡ get_or (held_in kept.now) slot None) }
+fn lent_from<'r, 'a>(kept: &'r [Option<Outcome<'a>>], slot: usize) -> Option<Lent<'r, 'a>>
+    ensures { option_map lent_value result ≡ get_or (held_in kept.now) slot None }
 {
     match kept.get(slot) {
-        Some(Some(outcome)) => Ok(Some(copy_of(alloc, outcome)?)),
-        _ => Ok(None),
+        Some(Some(outcome)) => Some(lend(outcome)),
+        _ => None,
     }
 }

@@ -16,7 +16,6 @@ ghost use Rattle.xpath_walks.specs.Walks.{Bounds, chain_of};
 use crate::evaluating::evaluate;
 use crate::ground::Ground;
 use crate::named::{node_of, walk_in, walked};
-use crate::parts::is_node;
 use crate::slots::Slots;
 use inv_base::Steps;
 use std::alloc::AllocError;
@@ -24,6 +23,7 @@ use std::sync::ledger::Ledger;
 use xpath_items::{Focus, Outcome};
 use xpath_operators::outcome;
 use xpath_plan::work::{Kind, Link, StepTest, Work};
+use xpath_steps::{copy_of, is_node};
 
 /// The slot and the part of a work that is one part that is kept, with no variable around it.
 fn whole_part(work: &Work) -> Option<(usize, &Work)>
@@ -52,7 +52,7 @@ fn whole_in<'w>(kind: &Kind, parts: &'w [(Link, Work)]) -> Option<(usize, &'w Wo
 /// The value of a work at a focus. Where it is one part that is kept, what its slot holds.
 pub(crate) fn run_whole<'a, L: Ledger>(
     ground: &Ground<'_, 'a>,
-    work: &Work,
+    work: &'a Work,
     focus: &Focus<'a>,
     slots: &mut Slots<'a>,
     steps: &mut Steps<L>,
@@ -78,8 +78,8 @@ pub(crate) fn run_whole<'a, L: Ledger>(
     if !is_node(&focus.item) {
         return plainly(ground, work, focus, slots, steps);
     }
-    if let Some(kept) = slots.read(ground.alloc, slot)? {
-        return Ok(kept);
+    if let Some(kept) = slots.lent(slot) {
+        return outcome(copy_of(ground.alloc, kept));
     }
     let found = plainly(ground, part, focus, slots, steps)?;
     slots.fill(ground.alloc, slot, found)
@@ -88,7 +88,7 @@ pub(crate) fn run_whole<'a, L: Ledger>(
 /// The value of a work at a focus, by a walk along the chain of its name where it is one.
 fn plainly<'a, L: Ledger>(
     ground: &Ground<'_, 'a>,
-    work: &Work,
+    work: &'a Work,
     focus: &Focus<'a>,
     slots: &mut Slots<'a>,
     steps: &mut Steps<L>,
@@ -115,7 +115,7 @@ fn plainly<'a, L: Ledger>(
 /// The value of a work at a focus.
 fn by_cycle<'a, L: Ledger>(
     ground: &Ground<'_, 'a>,
-    work: &Work,
+    work: &'a Work,
     focus: &Focus<'a>,
     slots: &mut Slots<'a>,
     steps: &mut Steps<L>,

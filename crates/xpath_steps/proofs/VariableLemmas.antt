@@ -1,15 +1,15 @@
 -- Variables by name, and bound ones by height.
-use Rattle.std.proofs.Common.{◌≡◌, ℕ, suc, zero, ◌<◌, ◌≤◌, Bool, true, false, List, [], ◌∷◌, ◌++◌, length, get_or, take, drop, reverse, Option, Some, None, Result, Ok, refl, ap, sym, subst, ◌∙◌, arith}
-use Rattle.std.specs.Prelude.{◌==◌}
+use Rattle.std.proofs.Common.{◌≡◌, ℕ, suc, zero, ◌+◌, ◌-◌, ◌<◌, ◌≤◌, Bool, true, false, List, [], ◌∷◌, ◌++◌, length, get_or, take, drop, reverse, Option, Some, None, Ok, refl, ap, sym, subst, ◌∙◌, arith}
+use Rattle.std.specs.Prelude.{◌==◌, slice_range}
 use Rattle.std.specs.Str.{bytes_eq}
 use Rattle.std.proofs.lemmas.List.{reverse-append, reverse-reverse, length-reverse}
 use Rattle.std.proofs.lemmas.Bool.{eqb-true}
 use Rattle.std.proofs.lemmas.Bool.Decides.{nat_tests}
 use Rattle.xpath_items.specs.declared.item.Item.{Item}
 use Rattle.xpath_meaning.specs.Meaning.{bound_at, last_of, outer_value, value_or}
-use Rattle.xpath_items.specs.declared.fault.Fault.{Fault}
-use Rattle.xpath_items.specs.Faults.{Gives}
 use Rattle.xpath_meaning.specs.Values.{Value, value}
+use Rattle.xpath_operators.specs.Nodes.{AreWithin}
+use Rattle.xpath_steps.proofs.WithinLemmas.{item_within}
 use Rattle.xpath_steps.specs.Variables.{ValueWithin, ValuesWithin, variable_of, variables_of}
 use Rattle.xpath_steps.specs.declared.variables.Variable.{Variable}
 
@@ -92,6 +92,21 @@ bound_is h items x l e =
 pub bound_none : (h : ℕ) (items : List Item) → length items ≤ h → bound_at h (reverse items) ≡ []
 bound_none h items l = bound_over h (reverse items) (subst (λ n. n ≤ h) (sym (length-reverse items)) l)
 
+one_at : (items : List Item) (h : ℕ) → h < length items → (x : Item) × ((x ≡ get_or items h x) × (take 1 (drop h items) ≡ x ∷ []))
+one_at [] h l = absurd (omega (arith, l))
+one_at (x ∷ items) zero l = (x, (refl, refl))
+one_at (x ∷ items) (suc h) l = one_at items h (omega (arith, l))
+
+module _ (h : ℕ) (items : List Item) (l : h < length items) where
+  here : slice_range items h (h + 1) ≡ (one_at items h l).0 ∷ []
+  here = ap (λ n. take n (drop h items)) (let e : (h + 1) - h ≡ 1 = omega arith in e) ∙ (one_at items h l).1.1
+
+  pub bound_range : slice_range items h (h + 1) ≡ bound_at h (reverse items)
+  bound_range = here ∙ sym (bound_is h items (one_at items h l).0 l (one_at items h l).1.0)
+
+  pub range_within : (count : ℕ) → AreWithin count items → AreWithin count (slice_range items h (h + 1))
+  range_within count w = subst (AreWithin count) (sym here) (item_within count items h (one_at items h l).0 w l (one_at items h l).1.0, tt)
+
 pub map_take : (n : ℕ) (variables : List Variable) → variables_of (take n variables) ≡ take n (variables_of variables)
 map_take zero variables = refl
 map_take (suc n) [] = refl
@@ -111,10 +126,10 @@ rest_at (y ∷ variables) zero x l e = ap (λ z. z ∷ variables) (sym e)
 rest_at (y ∷ variables) (suc k) x l e = rest_at variables k x (omega (arith, l)) e
 
 -- The variable at the place is the last of the name, where none behind it is.
-pub found_last : (name : List ℕ) (variables : List Variable) (left k : ℕ) (x : Variable) (r : Result (List Item) Fault) → left ≤ length variables → left ≡ suc k → x ≡ get_or variables k x
-    → last_of name (variables_of (drop left variables)) ≡ None → bytes_eq name x.name ≡ true → Gives r (value x.outcome) → Gives r (outer_value name (variables_of variables))
-found_last name variables left k x r within is e none same given =
+pub found_last : (name : List ℕ) (variables : List Variable) (left k : ℕ) (x : Variable) → left ≤ length variables → left ≡ suc k → x ≡ get_or variables k x
+    → last_of name (variables_of (drop left variables)) ≡ None → bytes_eq name x.name ≡ true → value x.outcome ≡ outer_value name (variables_of variables)
+found_last name variables left k x within is e none same =
     let here : last_of name (drop k (variables_of variables)) ≡ Some (value x.outcome) =
     ap (last_of name) (sym (map_drop k variables) ∙ ap variables_of (rest_at variables k x (omega (arith, within, is)) e))
     ∙ last_here name (variable_of x) (variables_of (drop (suc k) variables)) (ap (λ n. last_of name (variables_of (drop n variables))) (sym is) ∙ none) same in
-    subst (Gives r) (sym (ap (value_or (Ok [])) (last_found name (variables_of variables) k (value x.outcome) here))) given
+    sym (ap (value_or (Ok [])) (last_found name (variables_of variables) k (value x.outcome) here))

@@ -3,3 +3,4 @@ pub mod Steps
 pub mod Sets
 pub mod Variables
 pub mod Insides
+pub mod Lending

@@ -13,7 +13,8 @@ use std::alloc::{AllocError, Global};
 use xpath_items::{Item, Seq};
 use xpath_walks::{documents_are_walkable, in_order, rising_nodes_are_in_order};
 
-fn is_node(item: &Item<'_>) -> bool
+/// Whether it is a node.
+pub fn is_node(item: &Item<'_>) -> bool
     ensures { result ≡ meaning.is_node item.now }
 {
     match item {

@@ -4,12 +4,14 @@ ghost use Rattle.xpath_items.specs.Faults.{Gives};
 ghost use Rattle.xpath_meaning.specs.Meaning as meaning;
 ghost use Rattle.xpath_meaning.specs.Values as values;
 ghost use Rattle.xpath_operators.specs.Nodes.{AreWithin};
+ghost use Rattle.xpath_steps.specs.Lending.{lent_value};
 ghost use Rattle.xpath_steps.specs.Variables as spec;
 
+use crate::lending::{Lent, copy_of, lend, no_items};
 use inv_base::{Txt, is_same_text};
 use std::alloc::{AllocError, Global};
 use std::marker::Model;
-use xpath_items::{Fault, Item, Outcome, Seq};
+use xpath_items::{Fault, Outcome, Seq};
 
 /// A variable and its value.
 struct Variable<'a> {
@@ -86,48 +88,36 @@ impl<'a> Env<'a> {
         self.variables.len()
     }
 
+    /// The value of the last variable of the name, or its error, lent where it lies; where there is none, empty. It is searched
+    /// from the last one on, by one comparison of names each.
+    pub fn lent(&self, name: &str) -> Lent<'_, 'a>
+        ensures value { lent_value result ≡ meaning.outer_value (chars name.now) self.now }
+        ensures within { (count : ℕ) → spec.ValuesWithin count self.now → spec.ValueWithin count (lent_value result) }
+    {
+        last_lent(&self.variables, name)
+    }
+
     /// The value of the last variable of the name, or its error; where there is none, empty. It is searched from the last one
     /// on, by one comparison of names each.
     pub fn value_of(&self, alloc: Global, name: &str) -> Result<Seq<'a>, Fault>
         ensures value { Gives result (meaning.outer_value (chars name.now) self.now) }
         ensures within { (count : ℕ) → spec.ValuesWithin count self.now → IfOk result (λ items. AreWithin count items) }
     {
-        last_value(alloc, &self.variables, name)
+        copy_of(alloc, self.lent(name))
     }
 }
 
-/// The same items once more.
-fn copied<'a>(alloc: Global, items: &[Item<'a>]) -> Result<Seq<'a>, AllocError>
-    ensures { IfOk result (λ copy. copy ≡ items.now) }
-{
-    let mut copy = Vec::with_capacity(alloc, items.len())?;
-    'items: for item in items {
-        copy.push(item.copied(alloc)?)?;
-    }
-    Ok(Seq::of_items(copy))
-}
-
-/// The value of an outcome, or its error.
-fn value_in<'a>(alloc: Global, outcome: &Outcome<'a>) -> Result<Seq<'a>, Fault>
-    ensures { Gives result (values.value outcome.now) }
-{
-    match outcome {
-        Outcome::Value(items) => Ok(copied(alloc, items.as_slice())?),
-        Outcome::Error(error) => Err(Fault::Error(*error)),
-    }
-}
-
-/// The value of the last variable of the name.
-fn last_value<'a>(alloc: Global, variables: &[Variable<'a>], name: &str) -> Result<Seq<'a>, Fault>
-    ensures { Gives result (meaning.outer_value (chars name.now) (spec.variables_of variables.now)) }
+/// The value of the last variable of the name, lent.
+fn last_lent<'r, 'a>(variables: &'r [Variable<'a>], name: &str) -> Lent<'r, 'a>
+    ensures { lent_value result ≡ meaning.outer_value (chars name.now) (spec.variables_of variables.now) }
 {
     let mut left = variables.len();
     'variables: while left > 0 {
         left -= 1;
         let variable = &variables[left];
         if is_same_text(name, variable.name.as_str()) {
-            return value_in(alloc, &variable.outcome);
+            return lend(&variable.outcome);
         }
     }
-    Ok(Seq::new(alloc))
+    Lent::Items(no_items())
 }

@@ -244,7 +244,7 @@ fn called_with<'a>(
 }
 
 /// Whether the function takes any number of arguments from two on.
-fn is_concat(function: Function) -> bool
+pub fn is_concat(function: Function) -> bool
     ensures { result ≡ meaning.is_concat function }
 {
     match function {

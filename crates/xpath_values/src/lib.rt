@@ -20,7 +20,8 @@ mod texts;
 mod totals;
 mod translating;
 
-pub use calling::call;
+pub use calling::{call, is_concat};
 pub use patterns::found;
+pub use sequences::{count, empty, exists};
 pub use xpath_items::{DynError, Fault, Focus, Item, Outcome, Seq, Str};
 pub use xpath_operators::{atomise, compare, compared, truth};

@@ -49,21 +49,21 @@ pub(crate) fn boolean_of<'a>(alloc: Global, x: &Seq<'a>) -> Result<Seq<'a>, Faul
 }
 
 /// `exists`
-pub(crate) fn exists<'a>(alloc: Global, x: &[Item<'a>]) -> Result<Seq<'a>, Fault>
+pub fn exists<'a>(alloc: Global, x: &[Item<'a>]) -> Result<Seq<'a>, Fault>
     ensures { Gives result (meaning.yes_or_no (not (items.is_empty x.now))) }
 {
     one(alloc, Item::Boolean(!is_empty(x)))
 }
 
 /// `empty`
-pub(crate) fn empty<'a>(alloc: Global, x: &[Item<'a>]) -> Result<Seq<'a>, Fault>
+pub fn empty<'a>(alloc: Global, x: &[Item<'a>]) -> Result<Seq<'a>, Fault>
     ensures { Gives result (meaning.yes_or_no (items.is_empty x.now)) }
 {
     one(alloc, Item::Boolean(is_empty(x)))
 }
 
 /// `count`
-pub(crate) fn count<'a>(alloc: Global, x: &[Item<'a>]) -> Result<Seq<'a>, Fault>
+pub fn count<'a>(alloc: Global, x: &[Item<'a>]) -> Result<Seq<'a>, Fault>
     ensures { Gives result (numbers.counted (length x.now)) }
 {
     counted(alloc, x.len() as u64)

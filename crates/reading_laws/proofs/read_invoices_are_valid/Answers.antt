@@ -6,8 +6,10 @@ returns-clause-rows c = read-invoice c.read_values_fit_their_terms.ensures c.rea
 
 pub returns-clause-tables : goal.returns-clause-tables
 returns-clause-tables c =
-    table-read c.read_values_fit_their_terms.ensures c.read_invoices_lack_nothing.ensures c.invoice_is_well_formed.ensures c.credit_note_is_well_formed.ensures c.cii_is_well_formed.ensures
+    table-read c.read_values_fit_their_terms.ensures c.read_invoices_lack_nothing.ensures c.invoice_is_well_formed.ensures c.credit_note_is_well_formed.ensures
+    c.cii_is_well_formed.ensures
 
 pub returns-clause-documents : goal.returns-clause-documents
 returns-clause-documents c =
-    document-read c.read_values_fit_their_terms.ensures c.read_invoices_lack_nothing.ensures c.invoice_is_well_formed.ensures c.credit_note_is_well_formed.ensures c.cii_is_well_formed.ensures
+    document-read c.read_values_fit_their_terms.ensures c.read_invoices_lack_nothing.ensures c.invoice_is_well_formed.ensures
+    c.credit_note_is_well_formed.ensures c.cii_is_well_formed.ensures

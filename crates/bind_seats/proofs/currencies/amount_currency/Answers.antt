@@ -21,12 +21,14 @@ returns-in-Some-2 g c =
 pub attributes-smaller : goal.attributes-smaller
 attributes-smaller g c =
     let doc = c.args.doc.now in
-    (loop-passed (tree_nodes doc) c.nodes_are_sound.ensures.numbered c.args.n c.in-Some.attribute c.in_ok-text.field-0 _ c.attributes.next c.next_attribute-next.result
+    (loop-passed (tree_nodes doc) c.nodes_are_sound.ensures.numbered c.args.n c.in-Some.attribute c.in_ok-text.field-0 _ c.attributes.next
+    c.next_attribute-next.result
     c.in-Some.is c.attributes.invariant.at c.attributes.invariant.by c.in_ok-text.ensures c.in-None.is c.next_attribute-next.ensures.node).2
 
 pub attributes-preserved : goal.attributes-preserved
 attributes-preserved g c =
     let doc = c.args.doc.now in
-    let passed = loop-passed (tree_nodes doc) c.nodes_are_sound.ensures.numbered c.args.n c.in-Some.attribute c.in_ok-text.field-0 _ c.attributes.next c.next_attribute-next.result
+    let passed = loop-passed (tree_nodes doc) c.nodes_are_sound.ensures.numbered c.args.n c.in-Some.attribute c.in_ok-text.field-0 _ c.attributes.next
+    c.next_attribute-next.result
     c.in-Some.is c.attributes.invariant.at c.attributes.invariant.by c.in_ok-text.ensures c.in-None.is c.next_attribute-next.ensures.node in
     record { at = passed.0; by = passed.1 }

@@ -5,4 +5,5 @@ use Rattle.bind_seats.proofs.fillers.picked_in.Given as goal
 
 abbrev pub invariant-picks : goal.invariant-picks
 invariant-picks g l =
-    l.marks.items ++ marks_of (tree_nodes l.doc) l.rows l.terms (drop l.pick-index l.picks) ≡ marks_of (tree_nodes l.doc) l.rows l.terms l.picks
+    l.marks.items ++ marks_of (tree_nodes l.scene.doc.now) l.scene.rows.now l.terms (drop l.pick-index l.picks)
+    ≡ marks_of (tree_nodes l.scene.doc.now) l.scene.rows.now l.terms l.picks

@@ -7,4 +7,5 @@ use Rattle.bind_seats.proofs.marks.count_before.Goals as goal
 pub returns : goal.returns
 returns c =
     counted (λ m. comes_before m c.args.mark) c.args.marks.now _ c.partition_point.ensures.bound
-    (c.partition_point.ensures.partitioned (λ m. comes_before m c.args.mark) (always_returns_same _ _ _ (λ a r q k. search rules)) (before_is_parted c.args.marks.now c.args.mark c.requires))
+    (c.partition_point.ensures.partitioned (λ m. comes_before m c.args.mark) (always_returns_same _ _ _ (λ a r q k. search rules))
+    (before_is_parted c.args.marks.now c.args.mark c.requires))

@@ -14,11 +14,13 @@ pub staying-requires-clause-within : goal.staying-requires-clause-within
 staying-requires-clause-within g c = within _ _ (long c.args.doc.now) c.nodes_are_sound.ensures c.args.table.now c.args.picks.now c.requires.picks
 
 pub staying-requires-clause-rowed : goal.staying-requires-clause-rowed
-staying-requires-clause-rowed g c = rowed _ c.nodes_are_sound.ensures c.rows-rows.result.now c.args.table.now c.rows-rows.ensures c.args.picks.now c.requires.picks
+staying-requires-clause-rowed g c = rowed _ c.nodes_are_sound.ensures c.rows-rows.result.now c.args.table.now c.rows-rows.ensures c.args.picks.now
+    c.requires.picks
 
 pub returns : goal.returns
 returns g c =
     IfOk-weaker c.staying.result _ _
-    (λ kept is. kept_terms (tree_nodes c.args.doc.now) c.nodes_are_sound.ensures c.rows-rows.result.now c.args.table.now c.rows-rows.ensures c.args.picks.now c.requires.picks _ c.requires.named
+    (λ kept is. kept_terms (tree_nodes c.args.doc.now) c.nodes_are_sound.ensures c.rows-rows.result.now c.args.table.now c.rows-rows.ensures c.args.picks.now
+    c.requires.picks _ c.requires.named
     c.as_slice.result.now c.in_ok-marks.marks.items c.as_slice.ensures.value c.in_ok-marks.ensures.same kept.items is)
     c.staying.ensures

@@ -10,11 +10,13 @@ named-requires g c = within _ _ (long c.args.doc.now) c.nodes_are_sound.ensures 
 
 pub seats_of-requires-clause-named : goal.seats_of-requires-clause-named
 seats_of-requires-clause-named g c =
-    same_currencies (tree_nodes c.args.doc.now) c.nodes_are_sound.ensures c.rows.result.now c.args.table.now c.rows.ensures c.args.picks.now c.requires.picks _ _
+    same_currencies (tree_nodes c.args.doc.now) c.nodes_are_sound.ensures c.rows-rows.result.now c.args.table.now c.rows-rows.ensures c.args.picks.now
+    c.requires.picks _ _
     c.in_ok-named.ensures.invoice c.in_ok-named.ensures.accounting
 
 pub returns-in-Ok-clause-currency : goal.returns-in-Ok-clause-currency
 returns-in-Ok-clause-currency g c =
     ap (λ (x : Currencies). x.invoice)
-    (same_currencies (tree_nodes c.args.doc.now) c.nodes_are_sound.ensures c.rows.result.now c.args.table.now c.rows.ensures c.args.picks.now c.requires.picks _ _
+    (same_currencies (tree_nodes c.args.doc.now) c.nodes_are_sound.ensures c.rows-rows.result.now c.args.table.now c.rows-rows.ensures c.args.picks.now
+    c.requires.picks _ _
     c.in_ok-named.ensures.invoice c.in_ok-named.ensures.accounting)

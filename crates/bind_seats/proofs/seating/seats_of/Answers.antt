@@ -12,7 +12,8 @@ pub all_seated-requires : goal.all_seated-requires
 all_seated-requires g c =
     let nodes = tree_nodes c.args.doc.now in
     subst (λ (r : List Row). AreRowed (length r) c.as_slice.result.now) (sym c.rows.ensures)
-    (terms-rowed nodes c.nodes_are_sound.ensures c.args.table.now (currencies nodes c.args.table.now) c.as_slice.result.now (c.as_slice.ensures.value ∙ c.in_ok-kept.ensures))
+    (terms-rowed nodes c.nodes_are_sound.ensures c.args.table.now (currencies nodes c.args.table.now) c.as_slice.result.now
+    (c.as_slice.ensures.value ∙ c.in_ok-kept.ensures))
 
 pub returns : goal.returns
 returns g c =

@@ -12,7 +12,7 @@ use Rattle.bind_rows.specs.declared.rows.Written.TheVariants as write
 use Rattle.bind_rows.specs.declared.rows.Check.TheVariants as checks
 use Rattle.bind_table.specs.Lines.{Plan, Cell, flat}
 use Rattle.bind_table.specs.Growing.{IsWithin, AreLinesWithin, Seeks, is_line_of, Adds, AddsWithin, chain}
-use Rattle.bind_table.proofs.GrowingLemmas.{Spot, Stands, spot, spot_bounds, stands, adds_new, adds_here, adds_inside, inner_got, inner_room}
+use Rattle.bind_table.proofs.GrowingLemmas.{Spot, Stands, spot, spot_bounds, stopped_line, stands, adds_new, adds_here, adds_inside, inner_got, inner_room}
 use Rattle.bind_table.proofs.growing.+extend.Goals as goal
 
 -- what was found is found in the lines themselves
@@ -50,6 +50,12 @@ some_left : (steps : List Step) → (length steps == 0) ≡ false → More steps
 some_left [] e = cc
 some_left (s ∷ steps) e = record { first = s; others = steps; is = refl }
 
+pub is_line_of-requires : goal.is_line_of-requires
+is_line_of-requires t c x below got =
+    let r = c.requires in
+    stopped_line _ _ _ _ _ _ _ (spot_in c.as_slice.ensures.value c.seek-at.ensures r.front r.back r.plan r.within) x below
+    (sym (ap (λ ls. slice_get ls c.seek-at.result) c.as_slice-2.ensures.value) ∙ got)
+
 pub insert-requires : goal.insert-requires
 insert-requires t c =
     let r = c.requires in
@@ -85,7 +91,8 @@ end_of-end-requires-clause-fits t c x got =
     omega (arith, st.below, b.1, n, z)
 
 -- the line that stands at the place, and the end of its inside
-stands_in : (t : ℕ) (c : goal.After-extend-arg-1 t) (front back : List Line) (plan : Plan) → IsWithin c.args.lines.now.items c.args.from c.args.to front back plan
+stands_in : (t : ℕ) (c : goal.After-extend-arg-1 t) (front back : List Line) (plan : Plan)
+    → IsWithin c.args.lines.now.items c.args.from c.args.to front back plan
     → Stands c.args.lines.now.items c.args.to c.seek-at.result c.in-Some.step.now front back plan
 stands_in t c front back plan w =
     stands _ _ _ _ _ _ _ (spot_in c.as_slice.ensures.value c.seek-at.ensures front back plan w)
@@ -96,23 +103,29 @@ extend-requires t c =
     let r = c.requires in
     let st = stands_in t c r.front r.back r.plan r.within in
     let end = c.end_of-end.ensures st.line (ap (λ ls. slice_get ls c.seek-at.result) c.as_slice-3.ensures.value ∙ st.got) in
-    let P : ℕ → Type 0 = λ n. AreLinesWithin c.args.lines.now.items (c.seek-at.result + 1) n in
-    ((let n = ap length c.in-Some.ensures.cases.0 in let d = c.decreases in omega arith), subst P (sym end) (record { front = _; back = _; plan = _; within = st.within }))
+    let P : ℕ → Type 0 = λ n. AreLinesWithin c.args.lines.now.items (c.seek-at.result + 1) n in (
+      (let n = ap length c.in-Some.ensures.cases.0 in let d = c.decreases in omega arith),
+      subst P (sym end)
+          (record { front = _; back = _; plan = _; within = st.within }),
+    )
 
 -- some cell of that number
 abbrev a_cell : ℕ → Cell
 a_cell n = record { number = n; row = record { path = []; leaf = leaves.Element; outer = None; inner = None; content = contents.Constant []; form = forms.Model; repeats = repeat.Once; written = write.Never; check = checks.Nothing } }
 
 -- what the lines inside it are, once the row is there
-adds_deeper : (t : ℕ) (c : goal.After-enlarge-arg-1 t) (front back : List Line) (plan : Plan) (cell : Cell) → IsWithin c.args.lines.now.items c.args.from c.args.to front back plan → cell.number ≡ c.args.row
+adds_deeper : (t : ℕ) (c : goal.After-enlarge-arg-1 t) (front back : List Line) (plan : Plan) (cell : Cell)
+    → IsWithin c.args.lines.now.items c.args.from c.args.to front back plan → cell.number ≡ c.args.row
     → (st : Stands c.args.lines.now.items c.args.to c.seek-at.result c.in-Some.step.now front back plan)
     → Adds c.in-Some.deeper.now cell c.in_ok-more.more ((front ++ flat st.passed) ++ (st.line ∷ [])) (flat st.rest ++ back) st.inside c.extend.new.lines.items
 adds_deeper t c front back plan cell w named st =
     let end = c.end_of-end.ensures st.line (ap (λ ls. slice_get ls c.seek-at.result) c.as_slice-3.ensures.value ∙ st.got) in
-    let P : ℕ → Type 0 = λ n. IsWithin c.args.lines.now.items (c.seek-at.result + 1) n ((front ++ flat st.passed) ++ (st.line ∷ [])) (flat st.rest ++ back) st.inside in
+    let P : ℕ → Type 0 = λ n. IsWithin c.args.lines.now.items (c.seek-at.result + 1) n ((front ++ flat st.passed) ++ (st.line ∷ []))
+    (flat st.rest ++ back) st.inside in
     c.in_ok-more.ensures.ok _ _ _ cell (subst P (sym end) st.within) named
 
-inside_line_fits : (lines : List Line) (to at : ℕ) (s : Step) (steps : List Step) (cell : Cell) (more : ℕ) (front back : List Line) (plan : Plan) (inner : List Line) → (st : Stands lines to at s front back plan) → More steps
+inside_line_fits : (lines : List Line) (to at : ℕ) (s : Step) (steps : List Step) (cell : Cell) (more : ℕ) (front back : List Line) (plan : Plan)
+    (inner : List Line) → (st : Stands lines to at s front back plan) → More steps
     → Adds steps cell more ((front ++ flat st.passed) ++ (st.line ∷ [])) (flat st.rest ++ back) st.inside inner
     → (slice_get inner at ≡ Some st.line) × (at + (1 + (st.line.size + more)) ≤ length inner)
 inside_line_fits lines to at s steps cell more front back plan inner st m a =
@@ -120,14 +133,17 @@ inside_line_fits lines to at s steps cell more front back plan inner st m a =
     let b = subst P m.is a in
     (inner_got lines to at s m.first m.others cell more front back plan inner st b, inner_room lines to at s m.first m.others cell more front back plan inner st b)
 
-adds_inside_in : (lines : List Line) (to at : ℕ) (s : Step) (steps : List Step) (cell : Cell) (more : ℕ) (front back : List Line) (plan : Plan) (inner new : List Line) → (st : Stands lines to at s front back plan) → More steps
+adds_inside_in : (lines : List Line) (to at : ℕ) (s : Step) (steps : List Step) (cell : Cell) (more : ℕ) (front back : List Line) (plan : Plan)
+    (inner new : List Line) → (st : Stands lines to at s front back plan) → More steps
     → Adds steps cell more ((front ++ flat st.passed) ++ (st.line ∷ [])) (flat st.rest ++ back) st.inside inner
     → new ≡ set inner at (record st.line { size = st.line.size + more }) → Adds (s ∷ steps) cell more front back plan new
 adds_inside_in lines to at s steps cell more front back plan inner new st m a is =
-    let P : List Step → Type 0 = λ p. Adds p cell more ((front ++ flat st.passed) ++ (st.line ∷ [])) (flat st.rest ++ back) st.inside inner → Adds (s ∷ p) cell more front back plan new in
+    let P : List Step → Type 0 = λ p. Adds p cell more ((front ++ flat st.passed) ++ (st.line ∷ [])) (flat st.rest ++ back) st.inside inner
+    → Adds (s ∷ p) cell more front back plan new in
     subst P (sym m.is) (λ b. adds_inside lines to at s m.first m.others cell more front back plan inner new st b is) a
 
-facts_inside : (t : ℕ) (c : goal.After-enlarge-arg-1 t) → (x : Line) × (slice_get c.extend.new.lines.items c.seek-at.result ≡ Some x) × (c.seek-at.result + (1 + (x.size + c.in_ok-more.more)) ≤ length c.extend.new.lines.items)
+facts_inside : (t : ℕ) (c : goal.After-enlarge-arg-1 t) → (x : Line) × (slice_get c.extend.new.lines.items c.seek-at.result ≡ Some x)
+    × (c.seek-at.result + (1 + (x.size + c.in_ok-more.more)) ≤ length c.extend.new.lines.items)
 facts_inside t c =
     let r = c.requires in
     let st = stands _ _ _ _ _ _ _ (spot_in c.as_slice.ensures.value c.seek-at.ensures r.front r.back r.plan r.within)
@@ -156,7 +172,8 @@ returns-clause-ok t c front back plan cell w named =
     (test_in _ _ _ _ _ _ true c.as_slice-2.ensures.value c.is_line_of.ensures c.if-not-is_line_of.false) in
     let m = some_left _ (sym c.is_empty.ensures ∙ c.if-is_empty.false) in
     let end = c.end_of-end.ensures st.line (ap (λ ls. slice_get ls c.seek-at.result) c.as_slice-3.ensures.value ∙ st.got) in
-    let P : ℕ → Type 0 = λ n. IsWithin c.args.lines.now.items (c.seek-at.result + 1) n ((front ++ flat st.passed) ++ (st.line ∷ [])) (flat st.rest ++ back) st.inside in
+    let P : ℕ → Type 0 = λ n. IsWithin c.args.lines.now.items (c.seek-at.result + 1) n ((front ++ flat st.passed) ++ (st.line ∷ []))
+    (flat st.rest ++ back) st.inside in
     let a = c.in_ok-more.ensures.ok _ _ _ cell (subst P (sym end) st.within) named in
     let f = inside_line_fits _ _ _ _ _ cell _ front back plan _ st m a in
     let Q : List Step → Type 0 = λ p. Adds p cell c.in_ok-more.more front back plan c.enlarge.new.lines.items in

@@ -4,4 +4,5 @@ use Rattle.bind_table.specs.WellFormed.{carriers, same_path}
 use Rattle.bind_table.proofs.judging.are_all.Given as goal
 
 abbrev pub invariant-steps : goal.invariant-steps
-invariant-steps l = list_all (same_path l.first) (carriers l.group (take l.depth l.path) (drop l.depth l.path)) ≡ list_all (same_path l.first) (carriers l.group [] l.path)
+invariant-steps l = list_all (same_path l.first) (carriers l.group (take l.depth l.path) (drop l.depth l.path)) ≡ list_all (same_path l.first)
+    (carriers l.group [] l.path)

@@ -14,7 +14,8 @@ both false b e = cc
 
 ascii : (bytes : List ℕ) → list_all (λ b. nat_lt b 128) bytes ≡ true → IsAscii bytes
 ascii [] e = IsAscii-nil
-ascii (b ∷ bytes) e = let parts = both (nat_lt b 128) (list_all (λ b. nat_lt b 128) bytes) e in IsAscii-cons b bytes (ltb-true b 128 parts.0) (ascii bytes parts.1)
+ascii (b ∷ bytes) e = let parts = both (nat_lt b 128) (list_all (λ b. nat_lt b 128) bytes) e in IsAscii-cons b bytes (ltb-true b 128 parts.0)
+    (ascii bytes parts.1)
 
 pub returns-in-UblInvoice : goal.returns-in-UblInvoice
 returns-in-UblInvoice c =
@@ -24,9 +25,11 @@ returns-in-UblInvoice c =
 pub returns-in-UblCreditNote : goal.returns-in-UblCreditNote
 returns-in-UblCreditNote c =
     c.is_same_text-in-UblCreditNote.ensures ∙ (ap (λ x. bytes_eq x (chars (codes "CreditNote"))) c.as_str-text.ensures
-    ∙ (ap (bytes_eq c.args.local.now) (chars-IsAscii _ (ascii (codes "CreditNote") refl)) ∙ ap (λ n. is_root_of n c.args.local.now) (sym c.in-UblCreditNote.is)))
+    ∙ (ap (bytes_eq c.args.local.now) (chars-IsAscii _ (ascii (codes "CreditNote") refl))
+    ∙ ap (λ n. is_root_of n c.args.local.now) (sym c.in-UblCreditNote.is)))
 
 pub returns-in-CiiInvoice : goal.returns-in-CiiInvoice
 returns-in-CiiInvoice c =
     c.is_same_text-in-CiiInvoice.ensures ∙ (ap (λ x. bytes_eq x (chars (codes "CrossIndustryInvoice"))) c.as_str-text.ensures
-    ∙ (ap (bytes_eq c.args.local.now) (chars-IsAscii _ (ascii (codes "CrossIndustryInvoice") refl)) ∙ ap (λ n. is_root_of n c.args.local.now) (sym c.in-CiiInvoice.is)))
+    ∙ (ap (bytes_eq c.args.local.now) (chars-IsAscii _ (ascii (codes "CrossIndustryInvoice") refl))
+    ∙ ap (λ n. is_root_of n c.args.local.now) (sym c.in-CiiInvoice.is)))

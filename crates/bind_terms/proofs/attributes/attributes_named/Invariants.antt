@@ -10,7 +10,8 @@ left count None = 0
 left count (Some m) = count - m
 
 abbrev pub invariant-attributes : goal.invariant-attributes
-invariant-attributes g l = Next (tree_nodes l.doc) l.fn.n (has_plain_name (chars l.local)) l.found.items (attributes_named (tree_nodes l.doc) (chars l.local) l.fn.n) l.at
+invariant-attributes g l = Next (tree_nodes l.doc) l.fn.n (has_plain_name (chars l.local)) l.found.items
+    (attributes_named (tree_nodes l.doc) (chars l.local) l.fn.n) l.at
     × All (λ m. m < length l.doc.nodes) l.found.items
 
 abbrev pub decreases-attributes : goal.decreases-attributes

@@ -6,4 +6,5 @@ use Rattle.bind_meaning.specs.Elements.{is_blank_at}
 use Rattle.bind_terms.proofs.checks.are_blank.Given as goal
 
 abbrev pub invariant-found : goal.invariant-found
-invariant-found g l = list_any (λ m. not (is_blank_at (tree_nodes l.doc) m)) (drop l.m-index l.found) ≡ list_any (λ m. not (is_blank_at (tree_nodes l.doc) m)) l.found
+invariant-found g l = list_any (λ m. not (is_blank_at (tree_nodes l.doc) m)) (drop l.m-index l.found)
+    ≡ list_any (λ m. not (is_blank_at (tree_nodes l.doc) m)) l.found

@@ -13,6 +13,8 @@ use Rattle.bind_terms.proofs.currency.differs.Goals as goal
 
 pub returns-in_ok-found-in-Some : goal.returns-in_ok-found-in-Some
 returns-in_ok-found-in-Some g c =
-    along _ _ _ (ap (λ ms. differs (Some (chars c.in-Some.invoice.now)) (first_full (map (trimmed_at (tree_nodes c.args.doc.now)) ms))) (c.deref.ensures.value ∙ (c.in_ok-found-in-Some.ensures.nodes
+    along _ _ _ (ap (λ ms. differs (Some (chars c.in-Some.invoice.now)) (first_full (map (trimmed_at (tree_nodes c.args.doc.now)) ms)))
+    (c.deref.ensures.value ∙ (c.in_ok-found-in-Some.ensures.nodes
     ∙ ap (λ local. attributes_named (tree_nodes c.args.doc.now) local c.args.n) (literal (codes "currencyID") refl)))
-    ∙ ap (λ (invoice : Option (Bor (List ℕ))). differs (option_map (λ (text : Bor (List ℕ)). chars text.now) invoice) (amount_currency (tree_nodes c.args.doc.now) c.args.n)) (sym c.in-Some.is)) c.is_other_currency.ensures
+    ∙ ap (λ (invoice : Option (Bor (List ℕ))). differs (option_map (λ (text : Bor (List ℕ)). chars text.now) invoice)
+    (amount_currency (tree_nodes c.args.doc.now) c.args.n)) (sym c.in-Some.is)) c.is_other_currency.ensures

@@ -1,12 +1,12 @@
 use Rattle.std.proofs.Common.{subst}
 use Rattle.node_arena.specs.Moves.{tree_nodes}
-use Rattle.bind_meaning.specs.Terms.{terms_of}
 use Rattle.bind_terms.specs.Reading.{Answers}
 use Rattle.bind_terms.proofs.Within.{document-first}
 use Rattle.bind_terms.proofs.judging.judge.Goals as goal
 
 pub returns-in-Ok-Fault-clause-memory : goal.returns-in-Ok-Fault-clause-memory
-unfolding terms_of
 returns-in-Ok-Fault-clause-memory g c = λ memory.
-    absurd ((document-first c.args.doc.now c.is_of_a_tree.ensures.numbers c.is_of_a_tree.ensures.rooted c.args.lists.now c.args.table.now c.in-Ok-Fault.fault
-    (subst (Answers (tree_nodes c.args.doc.now) c.args.lists.now c.args.table.now) c.in-Ok-Fault.field-0-is c.in-Ok-Fault.ensures)).1 memory)
+    absurd ((document-first c.args.scene.now.doc.now c.is_of_a_tree.ensures.numbers c.is_of_a_tree.ensures.rooted c.args.scene.now.lists.now
+    c.args.scene.now.table.now c.in-Ok-Fault.fault
+    (subst (Answers (tree_nodes c.args.scene.now.doc.now) c.args.scene.now.lists.now c.args.scene.now.table.now) c.in-Ok-Fault.field-0-is
+    c.in-Ok-Fault.ensures)).1 memory)

@@ -4,7 +4,6 @@ use Rattle.node_arena.specs.Document.{Document}
 use Rattle.node_arena.specs.Moves.{tree_nodes}
 use Rattle.bind_terms.proofs.NodeLists.{ordered, long}
 use Rattle.bind_terms.specs.Faults.{found_of}
-use Rattle.bind_meaning.specs.Terms.{terms_of}
 use Rattle.bind_terms.proofs.Final.{told-entries, told-verdict}
 use Rattle.bind_terms.specs.Scenes.{nodes_of}
 use Rattle.bind_terms.proofs.judging.judged.Goals as goal
@@ -13,7 +12,6 @@ some-nodes : (document : Document) → 1 < length document.nodes → 0 < length 
 some-nodes document h = omega (arith, h, long document)
 
 pub verdict_of-requires : goal.verdict_of-requires
-unfolding terms_of
 verdict_of-requires g c = λ none.
     (c.read_invoices_are_valid.ensures.rows (nodes_of c.args.scene.now) c.args.scene.now.table.now c.args.scene.now.lists.now _
     (c.numbers_of_nodes_rise.ensures.document c.args.scene.now.doc.now c.is_of_a_tree.ensures.tree) c.requires.set.formed

@@ -10,4 +10,5 @@ returns-in-Some c =
 
 pub returns-in_ok-invoice_of-in-None : goal.returns-in_ok-invoice_of-in-None
 returns-in_ok-invoice_of-in-None c =
-    subst (λ fault. IsVerdict c.args.firsts.items (option_map found_of fault) (verdicts.Invoice c.in_ok-invoice_of-in-None.field-0)) (sym c.in-None.is) c.in_ok-invoice_of-in-None.ensures
+    subst (λ fault. IsVerdict c.args.firsts.items (option_map found_of fault) (verdicts.Invoice c.in_ok-invoice_of-in-None.field-0))
+    (sym c.in-None.is) c.in_ok-invoice_of-in-None.ensures

@@ -6,23 +6,25 @@ use Rattle.bind_terms.specs.Scenes.{currency_of, nodes_of}
 use Rattle.bind_terms.proofs.telling.tell_all.Goals as goal
 
 pub tell-requires-clause-placed : goal.tell-requires-clause-placed
-tell-requires-clause-placed g c = alone-placed (context_in c.args.pick.now) c.args.sayings c.requires.placed c.in-One.one c.in-One.is
+tell-requires-clause-placed g c = alone-placed (context_in c.args.rowed.now.pick.now) c.args.sayings c.requires.placed c.in-One.one c.in-One.is
 
 pub tell-requires-in-Two-clause-placed : goal.tell-requires-in-Two-clause-placed
-tell-requires-in-Two-clause-placed g c = first-placed (context_in c.args.pick.now) c.args.sayings c.requires.placed c.in-Two.one c.in-Two.other c.in-Two.is
+tell-requires-in-Two-clause-placed g c =
+    first-placed (context_in c.args.rowed.now.pick.now) c.args.sayings c.requires.placed c.in-Two.one c.in-Two.other c.in-Two.is
 
 pub tell-requires-in-Two-2-clause-placed : goal.tell-requires-in-Two-2-clause-placed
-tell-requires-in-Two-2-clause-placed g c = second-placed (context_in c.args.pick.now) c.args.sayings c.requires.placed c.in-Two.one c.in-Two.other c.in-Two.is
+tell-requires-in-Two-2-clause-placed g c =
+    second-placed (context_in c.args.rowed.now.pick.now) c.args.sayings c.requires.placed c.in-Two.one c.in-Two.other c.in-Two.is
 
 pub returns-in-One : goal.returns-in-One
 returns-in-One g c =
     tells-same c.tell.result (nodes_of c.args.scene.now) c.args.scene.now.lists.now
-    (currency_of c.args.scene.now) c.args.pick.now c.args.row.now
+    (currency_of c.args.scene.now) c.args.rowed.now.pick.now c.args.rowed.now.row.now
     _ (all_said c.args.sayings) _ _ _ _ (ap all_said (sym c.in-One.is)) c.tell.ensures
 
 pub returns-in_ok-tell-in-Two : goal.returns-in_ok-tell-in-Two
 returns-in_ok-tell-in-Two g c =
     tells-both c.tell-in-Two-2.result (nodes_of c.args.scene.now) c.args.scene.now.lists.now
-    (currency_of c.args.scene.now) c.args.pick.now c.args.row.now
+    (currency_of c.args.scene.now) c.args.rowed.now.pick.now c.args.rowed.now.row.now
     (said_of c.in-Two.one) (said_of c.in-Two.other) (all_said c.args.sayings) _ _ _ _ _ _
     (ap all_said (sym c.in-Two.is)) c.in_ok-tell-in-Two.ensures c.tell-in-Two-2.ensures

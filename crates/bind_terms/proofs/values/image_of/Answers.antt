@@ -6,7 +6,8 @@ use Rattle.bind_terms.proofs.values.image_of.Goals as goal
 
 pub returns-then-is_same_text : goal.returns-then-is_same_text
 returns-then-is_same_text c =
-    first-image _ (chars c.args.written.now) (written (codes "5") (chars c.args.written.now) _ _ refl c.is_same_text.ensures c.if-is_same_text.true) c.some_code.ensures
+    first-image _ (chars c.args.written.now)
+    (written (codes "5") (chars c.args.written.now) _ _ refl c.is_same_text.ensures c.if-is_same_text.true) c.some_code.ensures
 
 pub returns-then-is_same_text-2 : goal.returns-then-is_same_text-2
 returns-then-is_same_text-2 c =

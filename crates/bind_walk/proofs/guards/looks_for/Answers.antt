@@ -7,8 +7,10 @@ use Rattle.bind_walk.proofs.guards.looks_for.Goals as goal
 
 pub returns-in-Present : goal.returns-in-Present
 returns-in-Present c =
-    ap not (c.is_blank.ensures ∙ sym (blank-trimmed (chars c.args.string.now))) ∙ ap (λ t. looks_for t (trimmed (chars c.args.string.now))) (sym c.in-Present.is)
+    ap not (c.is_blank.ensures ∙ sym (blank-trimmed (chars c.args.string.now)))
+    ∙ ap (λ t. looks_for t (trimmed (chars c.args.string.now))) (sym c.in-Present.is)
 
 pub returns-in-Absent : goal.returns-in-Absent
 returns-in-Absent c =
-    ap not (c.is_blank-in-Absent.ensures ∙ sym (blank-trimmed (chars c.args.string.now))) ∙ ap (λ t. looks_for t (trimmed (chars c.args.string.now))) (sym c.in-Absent.is)
+    ap not (c.is_blank-in-Absent.ensures ∙ sym (blank-trimmed (chars c.args.string.now)))
+    ∙ ap (λ t. looks_for t (trimmed (chars c.args.string.now))) (sym c.in-Absent.is)

@@ -11,13 +11,15 @@ overflow_add-behind-in-lines c = omega (arith, c.ranges.to.fits, adding_fits _ _
 pub lines-preserved-in_ok-push : goal.lines-preserved-in_ok-push
 lines-preserved-in_ok-push c =
     adding_hit _ _ _ _ _ _ _ _ c.index-lines-at.result c.is_number.result _ _
-    (named-says _ c.index-lines-at.result c.args.m c.args.name c.is_number.result c.names_lead_through.ensures c.requires.within c.requires.named c.is_number.ensures)
+    (named-says _ c.index-lines-at.result c.args.m c.args.name c.is_number.result c.names_lead_through.ensures c.requires.within c.requires.named
+    c.is_number.ensures)
     c.lines.invariant c.lines-test.true c.index-lines-at.is c.if-is_number.true refl c.in_ok-push.ensures.items
 
 pub lines-preserved : goal.lines-preserved
 lines-preserved c =
     adding_past _ _ _ _ _ _ _ _ c.index-lines-at.result c.is_number.result
-    (named-says _ c.index-lines-at.result c.args.m c.args.name c.is_number.result c.names_lead_through.ensures c.requires.within c.requires.named c.is_number.ensures)
+    (named-says _ c.index-lines-at.result c.args.m c.args.name c.is_number.result c.names_lead_through.ensures c.requires.within c.requires.named
+    c.is_number.ensures)
     c.lines.invariant c.lines-test.true c.index-lines-at.is c.if-is_number.false
 
 pub returns : goal.returns

@@ -6,7 +6,8 @@ use Rattle.bind_walk.proofs.passed.add_part.Goals as goal
 
 pub add_named-requires-clause-span : goal.add_named-requires-clause-span
 add_named-requires-clause-span c =
-    naming_some _ _ _ _ _ _ _ c.spans.invariant c.span_at-span.result c.spans-test.true c.requires.part (c.span_at-span.ensures ∙ ap (λ ss. get_or ss c.spans.at no_part) c.as_slice.ensures.value)
+    naming_some _ _ _ _ _ _ _ c.spans.invariant c.span_at-span.result c.spans-test.true c.requires.part
+    (c.span_at-span.ensures ∙ ap (λ ss. get_or ss c.spans.at no_part) c.as_slice.ensures.value)
 
 pub spans-preserved : goal.spans-preserved
 spans-preserved c =

@@ -25,7 +25,8 @@ returns c =
       inside_one = λ m p within is. (c.moves_lead_on.ensures d of.tree.tree of.tree.has_nodes m within).around p is;
       has_parent = λ m some within.
           let long = length-map d.nodes (node_of d.names) in
-          let w = (c.moves_lead_on.ensures d of.tree.tree of.tree.has_nodes (m - 1) (omega (arith, some, within))).next_parent (omega (arith, some, within, long)) in
+          let w = (c.moves_lead_on.ensures d of.tree.tree of.tree.has_nodes (m - 1) (omega (arith, some, within))).next_parent
+          (omega (arith, some, within, long)) in
           (w.0, subst (λ k. parent (tree_nodes d) k ≡ Some w.0) (let e : m - 1 + 1 ≡ m = omega (arith, some) in e) w.1);
       passed_over = passed-is d c.same_steps_are_equal.ensures;
     }

@@ -9,8 +9,11 @@ nodes-init g c =
 
 pub nodes-preserved : goal.nodes-preserved
 nodes-preserved g c =
-    let reached = c.in_ok-is_passed.ensures (roots_of c.args.rows.now) (subst (λ m. Reaches c.args.doc.now c.args.lines.now (roots_of c.args.rows.now) c.nodes.reached.spans.items c.nodes.reached.parts.items m) (sym c.in-Some.ensures.node.1) c.nodes.invariant.reaches) in
-    noting_more _ _ c.names_lead_through.ensures _ _ _ _ _ _ _ _ _ _ c.nodes.invariant c.in-Some.ensures.node.0 c.in-Some.ensures.node.1 reached c.in_ok-note.ensures
+    let reached = c.in_ok-is_passed.ensures (roots_of c.args.rows.now)
+    (subst (λ m. Reaches c.args.doc.now c.args.lines.now (roots_of c.args.rows.now) c.nodes.reached.spans.items c.nodes.reached.parts.items m)
+    (sym c.in-Some.ensures.node.1) c.nodes.invariant.reaches) in
+    noting_more _ _ c.names_lead_through.ensures _ _ _ _ _ _ _ _ _ _ c.nodes.invariant c.in-Some.ensures.node.0 c.in-Some.ensures.node.1 reached
+    c.in_ok-note.ensures
 
 pub returns-clause-passed : goal.returns-clause-passed
 returns-clause-passed g c = noting_end _ _ c.names_lead_through.ensures _ _ _ _ _ c.nodes.invariant c.in_default.ensures.node

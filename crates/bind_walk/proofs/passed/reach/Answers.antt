@@ -1,6 +1,7 @@
 use Rattle.std.proofs.Common.{◌≡◌, ℕ, Option, Some, None, ap, sym, ◌∙◌}
 use Rattle.std.specs.Prelude.{get_or, ◌&&◌}
-use Rattle.bind_walk.specs.Passing.{no_part, is_left, is_element_kind}
+use Rattle.bind_meaning.specs.Elements.{is_element_kind}
+use Rattle.bind_walk.specs.Passing.{no_part, is_left}
 use Rattle.bind_walk.proofs.PassLemmas.{around_fits, reached_more}
 use Rattle.bind_walk.proofs.passed.reach.Goals as goal
 

@@ -10,7 +10,8 @@ follow-split_at-requires g t c = left_fits _ _ _ _ c.in-Some.ensures.cases.0 c.l
 
 pub follow-enter-requires : goal.follow-enter-requires
 follow-enter-requires g t c =
-    let inside : AreLined c.args.doc.now c.split_at.result.0.now = left_inside _ _ _ _ _ c.in-Some.ensures.cases.0 c.split_at.ensures.front c.lines.invariant.some in
+    let inside : AreLined c.args.scene.now.doc.now c.split_at.result.0.now =
+    left_inside _ _ _ _ _ c.in-Some.ensures.cases.0 c.split_at.ensures.front c.lines.invariant.some in
     let long : length c.split_at.result.0.now ≡ c.in-Some.line.now.size = c.split_at.ensures.front_len in
     let fits : c.in-Some.line.now.size ≤ length c.in-Some.behind.now = left_fits _ _ _ _ c.in-Some.ensures.cases.0 c.lines.invariant.some in
     let less = c.lines.invariant.shorter in
@@ -24,13 +25,17 @@ follow-lines-preserved-in_ok-enter g t c =
 
 pub follow-lines-preserved : goal.follow-lines-preserved
 follow-lines-preserved g t c =
-    left_past _ _ _ _ _ _ _ _ _ _ _ c.lines.invariant c.in-Some.ensures.cases.0 c.split_at.ensures.front c.split_at.ensures.back _ c.requires.named (sym c.is_number.ensures ∙ c.if-is_number.false)
+    left_past _ _ _ _ _ _ _ _ _ _ _ c.lines.invariant c.in-Some.ensures.cases.0 c.split_at.ensures.front c.split_at.ensures.back _ c.requires.named
+    (sym c.is_number.ensures ∙ c.if-is_number.false)
 
 pub follow-returns : goal.follow-returns
-follow-returns g t c = let e = nil_from_length _ c.in_default.ensures.cases in left_end _ _ _ _ _ _ (subst (λ left. Left c.args.doc.now c.args.lines.now c.args.n c.args.around.now c.args.finds.now.items left c.lines.finds.items) e c.lines.invariant)
+follow-returns g t c = let e = nil_from_length _ c.in_default.ensures.cases in
+    left_end _ _ _ _ _ _ (subst (λ left. Left c.args.scene.now.doc.now c.args.lines.now c.args.position.now.node c.args.position.now.around.now
+    c.args.finds.now.items left c.lines.finds.items) e c.lines.invariant)
 
 pub walk-returns-then-is_empty : goal.walk-returns-then-is_empty
-walk-returns-then-is_empty g t c = walks_nowhere c.args.doc.now c.args.lines.now c.args.n c.args.around.now c.args.finds.now.items (sym c.is_empty.ensures ∙ c.if-is_empty.true)
+walk-returns-then-is_empty g t c = walks_nowhere c.args.scene.now.doc.now c.args.lines.now c.args.position.now.node c.args.position.now.around.now
+    c.args.finds.now.items (sym c.is_empty.ensures ∙ c.if-is_empty.true)
 
 pub meet-returns-in-None : goal.meet-returns-in-None
 meet-returns-in-None g t c = meets_nothing _ _ _ _ _ (sym c.in-None.is ∙ c.name.ensures.value)
@@ -38,5 +43,6 @@ meet-returns-in-None g t c = meets_nothing _ _ _ _ _ (sym c.in-None.is ∙ c.nam
 pub enter-returns-in_ok-further-in-Some : goal.enter-returns-in_ok-further-in-Some
 enter-returns-in_ok-further-in-Some g t c =
     on_ok_weaker c.pick_in-in-Some.result
-    (entered_some c.args.doc.now c.args.line.now c.args.inside.now c.args.n c.args.around.now _ c.in-Some.group c.in_ok-passes.field-0 _ _ c.in_ok-passes.ensures c.if-not-branch.false c.in-Some.is (c.as_slice.ensures.value ∙ c.in_ok-further-in-Some.ensures))
+    (entered_some c.args.scene.now.doc.now c.args.line.now c.args.inside.now c.args.position.now.node c.args.position.now.around.now _ c.in-Some.group
+    c.in_ok-passes.field-0 _ _ c.in_ok-passes.ensures c.if-not-branch.false c.in-Some.is (c.as_slice.ensures.value ∙ c.in_ok-further-in-Some.ensures))
     c.pick_in-in-Some.ensures

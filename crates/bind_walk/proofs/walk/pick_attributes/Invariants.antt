@@ -7,10 +7,11 @@ use Rattle.bind_walk.proofs.walk.pick_attributes.Given as goal
 
 abbrev pub invariant-attributes : goal.invariant-attributes
 invariant-attributes g l = record {
-  here : IsAt (is_attribute_of l.fn.n) l.doc l.at;
-  left : l.finds.items ++ flat_map (found_attribute l.doc l.around l.row) (numbers_from (is_attribute_of l.fn.n) l.doc l.at)
-      ≡ l.initial.finds.items ++ found_attributes l.doc l.around l.fn.n l.row;
+  here : IsAt (is_attribute_of l.position.node) l.scene.doc.now l.at;
+  left : l.finds.items ++ flat_map (found_attribute l.scene.doc.now l.position.around.now l.row)
+      (numbers_from (is_attribute_of l.position.node) l.scene.doc.now l.at)
+      ≡ l.initial.finds.items ++ found_attributes l.scene.doc.now l.position.around.now l.position.node l.row;
 }
 
 abbrev pub decreases-attributes : goal.decreases-attributes
-decreases-attributes g l = still l.doc l.at
+decreases-attributes g l = still l.scene.doc.now l.at

@@ -5,4 +5,5 @@ use Rattle.bind_walk.proofs.walk.pick_here.Given as goal
 
 abbrev pub invariant-rows : goal.invariant-rows
 invariant-rows g l =
-    l.finds.items ++ flat_map (found_in_row l.doc l.around l.n) (drop l.row-index l.rows) ≡ l.initial.finds.items ++ flat_map (found_in_row l.doc l.around l.n) l.rows
+    l.finds.items ++ flat_map (found_in_row l.scene.doc.now l.position.around.now l.position.node) (drop l.row-index l.rows) ≡ l.initial.finds.items
+    ++ flat_map (found_in_row l.scene.doc.now l.position.around.now l.position.node) l.rows

@@ -15,4 +15,4 @@ ascii_text-requires c =
 pub returns : goal.returns
 returns c =
     let text : take c.print-len.result c.print-len.new.buf ≡ scaled_text c.args.number.now = ap (take c.print-len.result) c.print-len.ensures.text ∙ take-front _ _ _ c.print-len.ensures.len in
-    c.ascii_text.ensures ∙ text
+    c.ascii_text.ensures.characters ∙ text

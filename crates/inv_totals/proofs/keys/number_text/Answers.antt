@@ -17,4 +17,4 @@ pub returns-clause-text : goal.returns-clause-text
 returns-clause-text c =
     let text : take c.print-len.result c.print-len.new.buf ≡ decimal_text c.args.number.now = ap (take c.print-len.result) c.print-len.ensures.text
     ∙ take-front _ _ _ c.print-len.ensures.len in
-    c.ascii_text.ensures ∙ text
+    c.ascii_text.ensures.characters ∙ text

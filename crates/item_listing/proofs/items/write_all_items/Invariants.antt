@@ -7,4 +7,5 @@ use Rattle.item_listing.proofs.items.write_all_items.Given as goal
 
 -- the lines of the items so far
 abbrev pub invariant-items : goal.invariant-items
-invariant-items g l = Printed l.printer.failed (flat_map (item_line (tree_nodes l.doc)) (take l.item-index l.items)) (g.K.Sink.view l.initial.out) (g.K.Sink.view l.out)
+invariant-items g l =
+    Printed l.printer.failed (flat_map (item_line (tree_nodes l.scene.doc.now)) (take l.item-index l.items)) (g.K.Sink.view l.initial.out) (g.K.Sink.view l.out)

@@ -10,7 +10,8 @@ use Rattle.schematron_expansion.proofs.bodies.body.Goals as goal
 pub items-init : goal.items-init
 items-init c =
     let rules : List Entry = abstract_rules (seen_entries c.args.entries.now) in
-    chain_begins c.args.node (parts_at rules) (λ es. body_at es rules c.args.node) (body_chained rules c.args.node) _ _ _ _ c.requires.chains c.new-parts.ensures.items c.first-next.ensures
+    chain_begins c.args.node (parts_at rules) (λ es. body_at es rules c.args.node) (body_chained rules c.args.node) _ _ _ _ c.requires.chains
+    c.new-parts.ensures.items c.first-next.ensures
 
 pub items-smaller : goal.items-smaller
 items-smaller c =

@@ -5,7 +5,8 @@ use Rattle.schematron_expansion.proofs.CountedLemmas.{got_at, pattern_found, pat
 use Rattle.schematron_expansion.proofs.file.pattern_of_text.Goals as goal
 
 pub returns-in-Some : goal.returns-in-Some
-returns-in-Some c = pattern_got c.args.entries.now _ c.args.id.now c.in-Some.at c.place_of_name.result (option_copied c.get.result) c.requires (encode-chars c.args.id.now c.utf8.id)
+returns-in-Some c = pattern_got c.args.entries.now _ c.args.id.now c.in-Some.at c.place_of_name.result (option_copied c.get.result) c.requires
+    (encode-chars c.args.id.now c.utf8.id)
     c.place_of_name.ensures c.in-Some.is c.get.ensures
 
 pub returns-in-None : goal.returns-in-None

@@ -6,4 +6,5 @@ use Rattle.schematron_expansion.proofs.puts.tell_things.Given as goal
 
 -- the things so far
 abbrev pub invariant-things : goal.invariant-things
-invariant-things l = Tells l.fn.firsts.told.keys (map seen_put l.fn.firsts.found.items) l.firsts.told.keys (map seen_put l.firsts.found.items) (flat_map (at_thing l.file l.stand) (take l.thing-index l.thing-items))
+invariant-things l = Tells l.fn.firsts.told.keys (map seen_put l.fn.firsts.found.items) l.firsts.told.keys (map seen_put l.firsts.found.items)
+    (flat_map (at_thing l.file l.stand) (take l.thing-index l.thing-items))

@@ -16,11 +16,11 @@ returns c =
     let made = c.deref.ensures.value ∙ (c.in_ok-extend_from_slice.ensures.items
     ∙ hundredths-made c.args.n _ _ _ (c.in_ok-text.ensures.items ∙ (c.as_bytes.ensures.value ∙ c.format.ensures.text)) c.last_digit.ensures.value c.last_digit-2.ensures.value) in
     found-same c.in-Some.number (hundredths c.args.n)
-    (sym c.in-Some.is ∙ (c.read.ensures ∙ hundredths-read c.printed_numbers_are_read.ensures.scaled c.args.n c.requires _ (c.ascii_text.ensures ∙ made)))
+    (sym c.in-Some.is ∙ (c.read.ensures ∙ hundredths-read c.printed_numbers_are_read.ensures.scaled c.args.n c.requires _ (c.ascii_text.ensures.bytes ∙ made)))
 
 pub unreachable-requires : goal.unreachable-requires
 unreachable-requires c =
     let made = c.deref.ensures.value ∙ (c.in_ok-extend_from_slice.ensures.items
     ∙ hundredths-made c.args.n _ _ _ (c.in_ok-text.ensures.items ∙ (c.as_bytes.ensures.value ∙ c.format.ensures.text)) c.last_digit.ensures.value c.last_digit-2.ensures.value) in
     none-found (hundredths c.args.n)
-    (sym c.in-None.is ∙ (c.read.ensures ∙ hundredths-read c.printed_numbers_are_read.ensures.scaled c.args.n c.requires _ (c.ascii_text.ensures ∙ made)))
+    (sym c.in-None.is ∙ (c.read.ensures ∙ hundredths-read c.printed_numbers_are_read.ensures.scaled c.args.n c.requires _ (c.ascii_text.ensures.bytes ∙ made)))

@@ -15,4 +15,4 @@ pub returns : goal.returns
 returns c =
     let small : c.args.line < 2 ^ 64 = omega arith in
     let made = c.deref.ensures.value ∙ (c.in_ok-extend_from_slice.ensures.items ∙ item-made c.args.line _ _ c.in_ok-name.ensures.items (c.as_bytes.ensures.value ∙ c.format.ensures.text)) in
-    subst (λ text. IfOk c.of.result (λ t. t ≡ text)) (ap chars (c.ascii_text.ensures ∙ made) ∙ chars-IsAscii _ (item-ascii c.args.line small)) c.of.ensures
+    subst (λ text. IfOk c.of.result (λ t. t ≡ text)) (ap chars (c.ascii_text.ensures.bytes ∙ made) ∙ chars-IsAscii _ (item-ascii c.args.line small)) c.of.ensures

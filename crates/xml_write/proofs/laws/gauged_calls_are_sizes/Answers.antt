@@ -1,14 +1,12 @@
-use Rattle.std.proofs.Common.{ap, sym, ◌∙◌, ◌+◌, List, ℕ, map, length, zero-add}
-use Rattle.inv_base.specs.Tree.{Forest}
+use Rattle.std.proofs.Common.{ap, sym, ◌∙◌, map, length, zero-add}
 use Rattle.xml_write.specs.declared.gauge.Gauge.{Gauge}
 use Rattle.xml_write.specs.declared.pen.PenState.TheVariants.{Fresh}
-use Rattle.xml_write.specs.Canonical.{Declaration, canonical_text}
 use Rattle.xml_write.specs.Calls.{calls_of, encoded, appended_by_all}
-use Rattle.xml_write.specs.Sizes.{stopped, unmeasured, gauged_by_all, all_stopped}
+use Rattle.xml_write.specs.Sizes.{stopped, tag_stopped, unmeasured}
 use lib.Utf8.{encodes}
 use Rattle.xml_write.proofs.CallsLemmas.{calls_of-append}
 use Rattle.xml_write.proofs.EncodingLemmas.{encodes-appended_by_all}
-use Rattle.xml_write.proofs.SizeLemmas.{told, told-bytes, gauged_by_all-stopped, calls_of-Whole}
+use Rattle.xml_write.proofs.SizeLemmas.{told-bytes, gauged_by_all-stopped, calls_of-Whole}
 use Rattle.xml_write.proofs.laws.gauged_calls_are_sizes.Goals as goal
 
 pub returns-clause-bytes : goal.returns-clause-bytes
@@ -22,7 +20,7 @@ returns-clause-bytes c = λ declarations document.
 pub returns-clause-longest_tag : goal.returns-clause-longest_tag
 returns-clause-longest_tag c = λ declarations document.
     ap (λ (g : Gauge). g.longest_tag) (gauged_by_all-stopped unmeasured (calls_of declarations document))
-    ∙ ap stopped (calls_of-Whole declarations document).longest_tag
+    ∙ ap tag_stopped (calls_of-Whole declarations document).longest_tag
 
 pub returns-clause-nodes : goal.returns-clause-nodes
 returns-clause-nodes c = λ declarations document is.

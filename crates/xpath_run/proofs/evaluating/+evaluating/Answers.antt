@@ -22,6 +22,7 @@ use Rattle.xpath_run.proofs.SlotLemmas as slots
 use Rattle.xpath_run.proofs.StrictLemmas.{strict, wanted-no_deeper}
 use Rattle.xpath_run.proofs.TurnSteps as turn
 use Rattle.xpath_operators.specs.Nodes.{AllWithin}
+use Rattle.xpath_steps.specs.Lending.{lent_value}
 use Rattle.xpath_steps.specs.Variables.{ValueWithin}
 use Rattle.xpath_run.proofs.WithinLemmas.{within-along, within-append, all_within-append, all_within-along}
 use Rattle.xpath_run.proofs.evaluating.+evaluating.Goals as goal
@@ -72,11 +73,8 @@ link_on-returns-in-Some-clause-value g t c =
     (context c.args.ground.now c.args.focus.now c.args.bound.now.items) in
     subst (λ v. IfOk c.step_inside.result (λ outcome. value outcome ≡ v)) (sym found) c.step_inside.ensures.value
 
-pub link_on-returns-in-Ok-clause-within : goal.link_on-returns-in-Ok-clause-within
-link_on-returns-in-Ok-clause-within g t c = outcome-within _ c.joined_by.result c.outcome.result c.outcome.ensures c.joined_by.ensures.within
-
-pub link_on-returns-clause-within : goal.link_on-returns-clause-within
-link_on-returns-clause-within g t c = outcome-within _ c.path.result c.outcome-in-Turns.result c.outcome-in-Turns.ensures c.path.ensures.within
+pub link_on-returns-in-Turns-clause-within : goal.link_on-returns-in-Turns-clause-within
+link_on-returns-in-Turns-clause-within g t c = outcome-within _ c.path.result c.outcome.result c.outcome.ensures c.path.ensures.within
 
 pub links_on-parts-preserved : goal.links_on-parts-preserved
 links_on-parts-preserved g t c = record {
@@ -578,22 +576,6 @@ evaluate-by_kind-requires g t c κs within = (
   ),
 )
 
-pub by_kind-values_of-requires : goal.by_kind-values_of-requires
-by_kind-values_of-requires g t c κs within = (
-  omega (arith, c.decreases, wanted-no_deeper c.args.kind.now c.args.parts.now, ap deepest c.wanted.ensures),
-  (
-    search rules,
-    (
-      c.requires.ready,
-      (
-        slots.placed_wanted c.args.ground.now c.args.kind.now c.args.parts.now c.wanted.result.now c.wanted.ensures
-            c.requires.placed,
-        c.requires.slots,
-      ),
-    ),
-  ),
-)
-
 pub once-returns-in_default-clause-grown : goal.once-returns-in_default-clause-grown
 once-returns-in_default-clause-grown g t c = slots.grows_same c.args.slots.now
 
@@ -629,23 +611,6 @@ once-evaluate-found-requires g t c κs within = (
   ),
 )
 
-pub once-returns-in_err-outcome-clause-grown : goal.once-returns-in_err-outcome-clause-grown
-once-returns-in_err-outcome-clause-grown g t c = slots.grows_same c.args.slots.now
-
-pub once-returns-in-Some-2-clause-value : goal.once-returns-in-Some-2-clause-value
-once-returns-in-Some-2-clause-value g t c = gives-along c.value_of.result _ _
-    (slots.kept_here c.args.ground.now c.args.slots.now c.args.slot c.args.height c.args.parts.now c.args.focus.now c.args.bound.now.items
-    c.in_ok-outcome.field-0 c.in-Some-2.outcome
-    c.requires.placed c.requires.slots (sym c.is_node.ensures ∙ c.if-not-is_node.false)
-    (omega (arith, c.len.ensures, c.if-len-height.false, c.args.bound.now.ok.0)) c.in_ok-outcome.ensures c.in-Some-2.is).0 c.value_of.ensures
-
-pub once-returns-in-Some-2-clause-within : goal.once-returns-in-Some-2-clause-within
-once-returns-in-Some-2-clause-within g t c = gives-within (count c.args.ground.now) c.value_of.result (value c.in-Some-2.outcome) c.value_of.ensures
-    (slots.kept_here c.args.ground.now c.args.slots.now c.args.slot c.args.height c.args.parts.now c.args.focus.now c.args.bound.now.items
-    c.in_ok-outcome.field-0 c.in-Some-2.outcome
-    c.requires.placed c.requires.slots (sym c.is_node.ensures ∙ c.if-not-is_node.false)
-    (omega (arith, c.len.ensures, c.if-len-height.false, c.args.bound.now.ok.0)) c.in_ok-outcome.ensures c.in-Some-2.is).1
-
 pub once-returns-in_ok-fill-in-None-clause-within : goal.once-returns-in_ok-fill-in-None-clause-within
 once-returns-in_ok-fill-in-None-clause-within g t c =
     let unused = c.in_ok-kept-in-None.ensures _ (known.value-along c.evaluate-found.result c.args.ground.now c.args.focus.now c.args.bound.now.items _
@@ -653,7 +618,7 @@ once-returns-in_ok-fill-in-None-clause-within g t c =
     let within : ValueWithin (count c.args.ground.now) (value c.in_ok-kept-in-None.kept) =
     subst (λ r. IfOk r (λ outcome. ValueWithin (count c.args.ground.now) (value outcome))) c.in_ok-kept-in-None.was
     (outcome-within (count c.args.ground.now) c.evaluate-found.result c.outcome.result c.outcome.ensures c.evaluate-found.ensures.within) in
-    gives-within (count c.args.ground.now) c.value_of-in-None.result (value c.in_ok-fill-in-None.field-0) c.value_of-in-None.ensures
+    gives-within (count c.args.ground.now) c.value_of.result (value c.in_ok-fill-in-None.field-0) c.value_of.ensures
     (subst (ValueWithin (count c.args.ground.now)) (sym c.in_ok-fill-in-None.ensures.value) within)
 
 pub once-returns-in_ok-fill-in-None-clause-value : goal.once-returns-in_ok-fill-in-None-clause-value
@@ -663,7 +628,7 @@ once-returns-in_ok-fill-in-None-clause-value g t c =
     let within : ValueWithin (count c.args.ground.now) (value c.in_ok-kept-in-None.kept) =
     subst (λ r. IfOk r (λ outcome. ValueWithin (count c.args.ground.now) (value outcome))) c.in_ok-kept-in-None.was
     (outcome-within (count c.args.ground.now) c.evaluate-found.result c.outcome.result c.outcome.ensures c.evaluate-found.ensures.within) in
-    gives-along c.value_of-in-None.result _ _ (c.in_ok-fill-in-None.ensures.value ∙ found) c.value_of-in-None.ensures
+    gives-along c.value_of.result _ _ (c.in_ok-fill-in-None.ensures.value ∙ found) c.value_of.ensures
 
 pub once-returns-in_ok-fill-in-None-clause-held : goal.once-returns-in_ok-fill-in-None-clause-held
 once-returns-in_ok-fill-in-None-clause-held g t c =
@@ -691,8 +656,8 @@ once-returns-in_ok-fill-in-None-clause-grown g t c =
     (omega (arith, c.len.ensures, c.if-len-height.false, c.args.bound.now.ok.0))
     found within c.in_ok-fill-in-None.ensures.filled)
 
-pub once-returns-in-Some-2-clause-grown : goal.once-returns-in-Some-2-clause-grown
-once-returns-in-Some-2-clause-grown g t c = slots.grows_same c.args.slots.now
+pub once-returns-in-Some-lent-clause-grown : goal.once-returns-in-Some-lent-clause-grown
+once-returns-in-Some-lent-clause-grown g t c = slots.grows_same c.args.slots.now
 
 pub values_of-parts-init : goal.values_of-parts-init
 values_of-parts-init g t c = record {
@@ -1125,15 +1090,71 @@ turns-returns-in_err-found-clause-grown g t c = slots.grows_more _ _ _ c.items.i
 pub turns-returns-in_err-append_found-clause-grown : goal.turns-returns-in_err-append_found-clause-grown
 turns-returns-in_err-append_found-clause-grown g t c = slots.grows_more _ _ _ c.items.invariant.grown c.evaluate.ensures.grown
 
-pub by_kind-returns-in_ok-values-in-Cast-clause-value : goal.by_kind-returns-in_ok-values-in-Cast-clause-value
-by_kind-returns-in_ok-values-in-Cast-clause-value g t c =
+pub once-returns-in-Some-lent-clause-value : goal.once-returns-in-Some-lent-clause-value
+once-returns-in-Some-lent-clause-value g t c = gives-along c.copy_of.result _ _
+    (slots.kept_here c.args.ground.now c.args.slots.now c.args.slot c.args.height c.args.parts.now c.args.focus.now c.args.bound.now.items
+    c.lent.result c.in-Some-lent.found
+    c.requires.placed c.requires.slots (sym c.is_node.ensures ∙ c.if-not-is_node.false)
+    (omega (arith, c.len.ensures, c.if-len-height.false, c.args.bound.now.ok.0)) c.lent.ensures c.in-Some-lent.is).0 c.copy_of.ensures
+
+pub once-returns-in-Some-lent-clause-within : goal.once-returns-in-Some-lent-clause-within
+once-returns-in-Some-lent-clause-within g t c = gives-within (count c.args.ground.now) c.copy_of.result (lent_value c.in-Some-lent.found) c.copy_of.ensures
+    (slots.kept_here c.args.ground.now c.args.slots.now c.args.slot c.args.height c.args.parts.now c.args.focus.now c.args.bound.now.items
+    c.lent.result c.in-Some-lent.found
+    c.requires.placed c.requires.slots (sym c.is_node.ensures ∙ c.if-not-is_node.false)
+    (omega (arith, c.len.ensures, c.if-len-height.false, c.args.bound.now.ok.0)) c.lent.ensures c.in-Some-lent.is).1
+
+pub finish-values_of-requires : goal.finish-values_of-requires
+finish-values_of-requires g t c κs within = (
+  omega (arith, c.decreases, wanted-no_deeper c.args.kind.now c.args.parts.now, ap deepest c.wanted.ensures),
+  (
+    search rules,
+    (
+      c.requires.ready,
+      (
+        slots.placed_wanted c.args.ground.now c.args.kind.now c.args.parts.now c.wanted.result.now c.wanted.ensures
+            c.requires.placed,
+        c.requires.slots,
+      ),
+    ),
+  ),
+)
+
+pub finish-returns-in_ok-values-in-None-clause-value : goal.finish-returns-in_ok-values-in-None-clause-value
+finish-returns-in_ok-values-in-None-clause-value g t c =
     let nodes = tree_nodes c.args.ground.now.doc.now in
-    let names = c.args.ground.now.names.now in
     let here = context c.args.ground.now c.args.focus.now c.args.bound.now.items in
-    let is : is_strict c.args.kind.now ≡ true = ⊎_elim (λ x. ap is_strict x.3)
-    (⊎_elim (λ x. ap is_strict x.1) (⊎_elim (ap is_strict) (⊎_elim (λ x. ap is_strict x.1) (⊎_elim (λ x. ap is_strict x.1) (ap is_strict)))))
-    c.in-Cast.is in
     gives-along c.finished.result _ _
-    (sym (strict nodes names c.args.kind.now c.args.parts.now c.wanted.result.now here is c.wanted.ensures
-    ∙ ap (λ v. then_ v (finished nodes c.args.kind.now c.args.focus.now)) c.in_ok-values-in-Cast.ensures.value))
+    (sym (strict nodes c.args.ground.now.names.now c.args.kind.now c.args.parts.now c.wanted.result.now here c.requires.strict c.wanted.ensures
+    ∙ ap (λ v. then_ v (finished nodes c.args.kind.now c.args.focus.now)) c.in_ok-values-in-None.ensures.value))
     c.finished.ensures.value
+
+pub by_kind-finish-requires : goal.by_kind-finish-requires
+by_kind-finish-requires g t c κs within = (
+  omega (arith, c.decreases),
+  (
+    search rules,
+    (
+      ⊎_elim (λ x. ap is_strict x.3)
+          (⊎_elim (λ x. ap is_strict x.1) (⊎_elim (ap is_strict) (⊎_elim (λ x. ap is_strict x.1) (⊎_elim (λ x. ap is_strict x.1) (ap is_strict)))))
+          c.in-Cast.is,
+      (c.requires.ready, (c.requires.placed, c.requires.slots)),
+    ),
+  ),
+)
+
+pub finish-told_at_hand-requires-clause-placed : goal.finish-told_at_hand-requires-clause-placed
+finish-told_at_hand-requires-clause-placed g t c = slots.placed_parts c.args.ground.now c.args.kind.now c.args.parts.now c.requires.placed
+
+pub finish-returns-in-Some-clause-grown : goal.finish-returns-in-Some-clause-grown
+finish-returns-in-Some-clause-grown g t c = slots.grows_same c.args.slots.now
+
+pub operand-returns-in-Some-clause-grown : goal.operand-returns-in-Some-clause-grown
+operand-returns-in-Some-clause-grown g t c = slots.grows_same c.args.slots.now
+
+pub operand-returns-in-Some-clause-within : goal.operand-returns-in-Some-clause-within
+operand-returns-in-Some-clause-within g t c = outcome-within (count c.args.ground.now) c.in-Some.found c.outcome.result c.outcome.ensures c.in-Some.ensures.within
+
+pub operand-returns-in-Ok-clause-within : goal.operand-returns-in-Ok-clause-within
+operand-returns-in-Ok-clause-within g t c =
+    outcome-within (count c.args.ground.now) c.joined_by.result c.outcome-in-Ok.result c.outcome-in-Ok.ensures c.joined_by.ensures.within

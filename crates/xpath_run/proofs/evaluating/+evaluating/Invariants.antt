@@ -63,7 +63,13 @@ abbrev pub decreases-once : goal.decreases-once
 decreases-once g l = 8 * deepest l.parts.now + 5
 
 abbrev pub decreases-by_kind : goal.decreases-by_kind
-decreases-by_kind g l = 8 * deepest l.parts.now + 6
+decreases-by_kind g l = 8 * deepest l.parts.now + 7
+
+abbrev pub decreases-finish : goal.decreases-finish
+decreases-finish g l = 8 * deepest l.parts.now + 6
+
+abbrev pub decreases-operand : goal.decreases-operand
+decreases-operand g l = 8 * depth l.work.now + 1
 
 abbrev pub invariant-values_of-parts : goal.invariant-values_of-parts
 invariant-values_of-parts g l = record {

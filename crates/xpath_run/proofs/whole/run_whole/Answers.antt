@@ -1,25 +1,27 @@
-use Rattle.std.proofs.Common.{sym, ◌∙◌, arith}
+use Rattle.std.proofs.Common.{sym, ◌∙◌}
 use Rattle.xpath_meaning.specs.Values.{value}
 use Rattle.std.proofs.lemmas.Result.{err_from_is_err_and}
 use Rattle.xpath_run.proofs.NamedLemmas.{unkept_walk, whole_walk, on_ok_any, no_bounds_left}
+use Rattle.xpath_run.specs.Contexts.{count}
+use Rattle.xpath_run.proofs.GivesLemmas.{gives-along, outcome-so}
 use Rattle.xpath_run.proofs.SlotLemmas as slots
 use Rattle.xpath_run.proofs.whole.run_whole.Goals as goal
 
-pub returns-in_err-kept-clause-grown : goal.returns-in_err-kept-clause-grown
-returns-in_err-kept-clause-grown g c = slots.grows_same c.args.slots.now
+pub returns-in-Some-lent-clause-value : goal.returns-in-Some-lent-clause-value
+returns-in-Some-lent-clause-value g c = c.outcome.ensures _ (gives-along c.copy_of.result _ _
+    (slots.whole_here c.args.ground.now c.args.slots.now c.args.work.now c.in-Some.part.now c.in-Some.slot
+    c.args.focus.now c.lent.result c.in-Some-lent.kept
+    c.in-Some.ensures.some c.requires.placed c.requires.slots (sym c.is_node.ensures ∙ c.if-not-is_node.false) c.lent.ensures c.in-Some-lent.is).0
+    c.copy_of.ensures)
 
-pub returns-in-Some-2-clause-value : goal.returns-in-Some-2-clause-value
-returns-in-Some-2-clause-value g c = (slots.whole_here c.args.ground.now c.args.slots.now c.args.work.now c.in-Some.part.now c.in-Some.slot
-    c.args.focus.now c.in_ok-kept.field-0 c.in-Some-2.kept
-    c.in-Some.ensures.some c.requires.placed c.requires.slots (sym c.is_node.ensures ∙ c.if-not-is_node.false) c.in_ok-kept.ensures c.in-Some-2.is).0
+pub returns-in-Some-lent-clause-within : goal.returns-in-Some-lent-clause-within
+returns-in-Some-lent-clause-within g c = outcome-so (count c.args.ground.now) c.outcome.result _ (c.outcome.ensures _ c.copy_of.ensures)
+    (slots.whole_here c.args.ground.now c.args.slots.now c.args.work.now c.in-Some.part.now c.in-Some.slot
+    c.args.focus.now c.lent.result c.in-Some-lent.kept
+    c.in-Some.ensures.some c.requires.placed c.requires.slots (sym c.is_node.ensures ∙ c.if-not-is_node.false) c.lent.ensures c.in-Some-lent.is).1
 
-pub returns-in-Some-2-clause-within : goal.returns-in-Some-2-clause-within
-returns-in-Some-2-clause-within g c = (slots.whole_here c.args.ground.now c.args.slots.now c.args.work.now c.in-Some.part.now c.in-Some.slot
-    c.args.focus.now c.in_ok-kept.field-0 c.in-Some-2.kept
-    c.in-Some.ensures.some c.requires.placed c.requires.slots (sym c.is_node.ensures ∙ c.if-not-is_node.false) c.in_ok-kept.ensures c.in-Some-2.is).1
-
-pub returns-in-Some-2-clause-grown : goal.returns-in-Some-2-clause-grown
-returns-in-Some-2-clause-grown g c = slots.grows_same c.args.slots.now
+pub returns-in-Some-lent-clause-grown : goal.returns-in-Some-lent-clause-grown
+returns-in-Some-lent-clause-grown g c = slots.grows_same c.args.slots.now
 
 pub plainly-requires-2-clause-placed : goal.plainly-requires-2-clause-placed
 plainly-requires-2-clause-placed g c = slots.part_placed c.args.ground.now c.args.work.now c.in-Some.part.now c.in-Some.slot c.in-Some.ensures.some
@@ -48,9 +50,9 @@ returns-clause-filled g c = λ k there is. slots.whole_filled c.args.ground.now 
 pub returns-in_default-clause-cost : goal.returns-in_default-clause-cost
 returns-in_default-clause-cost g c = λ walk is empty node. c.plainly.ensures.cost walk (sym (unkept_walk c.args.work.now c.in_default.ensures.none) ∙ is) node
 
-pub returns-in-Some-2-clause-cost : goal.returns-in-Some-2-clause-cost
-returns-in-Some-2-clause-cost g c = λ walk is empty node. no_bounds_left c.args.slots.now c.in-Some.slot c.in_ok-kept.field-0 c.in-Some-2.kept
-    c.in_ok-kept.ensures c.in-Some-2.is
+pub returns-in-Some-lent-clause-cost : goal.returns-in-Some-lent-clause-cost
+returns-in-Some-lent-clause-cost g c = λ walk is empty node. no_bounds_left c.args.slots.now c.in-Some.slot c.lent.result c.in-Some-lent.kept
+    c.lent.ensures c.in-Some-lent.is
     (empty c.in-Some.slot (slots.whole_is c.args.work.now c.in-Some.part.now c.in-Some.slot c.in-Some.ensures.some))
 
 pub returns-clause-cost : goal.returns-clause-cost
@@ -61,8 +63,4 @@ returns-clause-cost g c = λ walk is empty node.
 pub returns-in_err-found-clause-cost : goal.returns-in_err-found-clause-cost
 returns-in_err-found-clause-cost g c = λ walk is empty node.
     let bounds = c.in_err-found.ensures.cost walk (sym (whole_walk c.args.work.now c.in-Some.part.now c.in-Some.slot c.in-Some.ensures.some) ∙ is) node in
-    rw (err_from_is_err_and c.from_residual-in_err-found.result c.from_residual-in_err-found.ensures.1).1 (record { most = bounds.most; least = λ leading. tt })
-
-pub returns-in_err-kept-clause-cost : goal.returns-in_err-kept-clause-cost
-returns-in_err-kept-clause-cost g c = λ walk is empty node.
-    rw (err_from_is_err_and c.from_residual.result c.from_residual.ensures.1).1 (record { most = omega arith; least = λ leading. tt })
+    rw (err_from_is_err_and c.from_residual.result c.from_residual.ensures.1).1 (record { most = bounds.most; least = λ leading. tt })

@@ -1,18 +1,10 @@
-use Rattle.std.proofs.Common.{◌∙◌, ◌∷◌, [], ap, sym, subst, Ok}
-use Rattle.xpath_operators.specs.Nodes.{AreWithin}
-use Rattle.xpath_steps.proofs.VariableLemmas.{bound_is, bound_none}
-use Rattle.xpath_steps.proofs.WithinLemmas.{item_within}
+use Rattle.std.proofs.Common.{Ok, ap, subst}
+use Rattle.xpath_items.specs.Faults.{Gives}
+use Rattle.xpath_steps.proofs.WithinLemmas.{gives_within}
 use Rattle.xpath_steps.proofs.bindings.bound_at.Goals as goal
 
-pub returns-in_ok-one-clause-value : goal.returns-in_ok-one-clause-value
-returns-in_ok-one-clause-value c =
-    ap Ok (bound_is c.args.height c.args.items.now c.index-items-height.result c.if-height-items.true c.index-items-height.is
-    ∙ (ap (λ x. x ∷ []) (sym c.in_ok-item.ensures) ∙ sym c.in_ok-one.ensures))
+pub returns-clause-value : goal.returns-clause-value
+returns-clause-value c = subst (Gives c.copy_of.result) (ap Ok c.lent_at.ensures.value) c.copy_of.ensures
 
-pub returns-in_ok-one-clause-within : goal.returns-in_ok-one-clause-within
-returns-in_ok-one-clause-within c = λ count h.
-    subst (AreWithin count) (ap (λ x. x ∷ []) (sym c.in_ok-item.ensures) ∙ sym c.in_ok-one.ensures)
-    (item_within count c.args.items.now c.args.height c.index-items-height.result h c.if-height-items.true c.index-items-height.is, tt)
-
-pub returns-else-height-items-clause-value : goal.returns-else-height-items-clause-value
-returns-else-height-items-clause-value c = ap Ok (bound_none c.args.height c.args.items.now c.if-height-items.false ∙ sym c.new.ensures)
+pub returns-clause-within : goal.returns-clause-within
+returns-clause-within c = λ count h. gives_within count c.copy_of.result (Ok c.lent_at.result.now) c.copy_of.ensures (c.lent_at.ensures.within count h)

@@ -5,14 +5,16 @@ use Rattle.bind_table.specs.declared.lines.Line.{Line}
 use Rattle.bind_table.specs.Lines.{Plan, Cell, flat, add, grown, plan_of, nothing}
 use Rattle.bind_table.proofs.binding.Binding.push.Goals as goal
 
-grown-append : (plan : Plan) (n : ℕ) (rows : List Row) (row : Row) → grown plan n (rows ++ row ∷ []) ≡ add row.path (record { number = n + length rows; row = row }) (grown plan n rows)
+grown-append : (plan : Plan) (n : ℕ) (rows : List Row) (row : Row)
+    → grown plan n (rows ++ row ∷ []) ≡ add row.path (record { number = n + length rows; row = row }) (grown plan n rows)
 grown-append plan n [] row = let e : n ≡ n + 0 = omega arith in ap (λ k. add row.path (record { number = k; row = row }) plan) e
 grown-append plan n (r ∷ rows) row =
     let e : n + 1 + length rows ≡ n + length (r ∷ rows) = omega arith in
     grown-append (add r.path (record { number = n; row = r }) plan) (n + 1) rows row
     ∙ ap (λ k. add row.path (record { number = k; row = row }) (grown plan n (r ∷ rows))) e
 
-push_rows : (rows rows' : List Row) (row : Row) (n : ℕ) (path : List Step) (lines : List Line) → ((cell : Cell) → cell.number ≡ n → lines ≡ flat (add path cell (plan_of rows)))
+push_rows : (rows rows' : List Row) (row : Row) (n : ℕ) (path : List Step) (lines : List Line)
+    → ((cell : Cell) → cell.number ≡ n → lines ≡ flat (add path cell (plan_of rows)))
     → n ≡ length rows → path ≡ row.path → rows' ≡ rows ++ row ∷ [] → lines ≡ flat (plan_of rows')
 push_rows rows rows' row n path lines says named path_is is =
     let cell : Cell = record { number = 0 + length rows; row = row } in

@@ -6,5 +6,6 @@ use Rattle.schematron_expansion.proofs.file.RuleFile.puts.Given as goal
 
 -- what was found, and what the elements to come put, are all
 abbrev pub invariant-items : goal.invariant-items
-invariant-items l = (map seen_put l.found.items ++ puts_of l.self l.stand (seen_things (λ e. e.now) (into_iter_items l.e-iterator)) ≡ puts l.self l.stand l.number)
+invariant-items l =
+    (map seen_put l.found.items ++ puts_of l.self l.stand (seen_things (λ e. e.now) (into_iter_items l.e-iterator)) ≡ puts l.self l.stand l.number)
     × (into_iter_len l.e-iterator ≡ length (into_iter_items l.e-iterator))

@@ -18,7 +18,7 @@ abbrev pub all_kept : List Pick → List Picked
 all_kept picks = map kept picks
 
 abbrev pub kept_placed : Placed → PlacedPick
-kept_placed p = record { picked = kept p.pick; outer = p.outer; inner = p.inner }
+kept_placed p = record { node = p.pick.node; row = p.pick.place; outer = p.outer; inner = p.inner }
 
 abbrev pub all_kept_placed : List Placed → List PlacedPick
 all_kept_placed ps = map kept_placed ps

@@ -22,10 +22,14 @@ pub struct Seated {
     pub element: NodeId,
 }
 
-/// A pick with the occurrences in which it stands.
+/// A pick with the occurrences in which it stands, which have the elements of its row's groups. Documents have one for each
+/// value, so it has no field twice.
 #[derive(Clone, Copy, PartialEq, Eq)]
 pub struct PlacedPick {
-    pub picked: Picked,
+    /// The node.
+    pub node: NodeId,
+    /// The number of the row in its table, from 1.
+    pub row: u32,
     pub outer: Option<Seated>,
     pub inner: Option<Seated>,
 }

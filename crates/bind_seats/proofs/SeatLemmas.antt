@@ -249,10 +249,16 @@ seated-are law nodes s rows formed ps h seats is =
     ∙ (map-twice (seated rows is.outers is.inners) kept ps
     ∙ (map-alike (λ p. seated rows is.outers is.inners (kept p)) (λ p. kept_placed (placed nodes ps p)) ps
     (All-weaker (IsPick nodes rows) (λ p. seated rows is.outers is.inners (kept p) ≡ kept_placed (placed nodes ps p))
-    (λ p w. ap (λ (r : Row). record { picked = kept p; outer = outer_seat_of is.outers r (kept p); inner = inner_seat_of is.inners r (kept p) })
+    (λ p w. ap (λ (r : Row). record {
+      node = p.node;
+      row = p.place;
+      outer = outer_seat_of is.outers r (kept p);
+      inner = inner_seat_of is.inners r (kept p);
+    })
     (row-is rows p w.of_row)
     ∙ (λ i. record {
-      picked = kept p;
+      node = p.node;
+      row = p.place;
       outer = outer-seats nodes ps is.outers outer_places p p.row.outer i;
       inner = inner-seats nodes ps is.inners inner_places p p.row.outer p.row.inner (nest p w) i;
     })) ps h)

@@ -48,7 +48,7 @@ inner_seat_of marks row q = option_and_then (λ group. option_and_then (λ n. op
 -- a pick in its occurrences, by the marks of outer ones and of inner ones
 abbrev pub seated : List Row → List Mark → List Mark → Picked → PlacedPick
 seated rows outers inners q =
-    record { picked = q; outer = outer_seat_of outers (row_at rows q.row) q; inner = inner_seat_of inners (row_at rows q.row) q }
+    record { node = q.node; row = q.row; outer = outer_seat_of outers (row_at rows q.row) q; inner = inner_seat_of inners (row_at rows q.row) q }
 
 abbrev pub all_seated : List Row → List Mark → List Mark → List Picked → List PlacedPick
 all_seated rows outers inners qs = map (seated rows outers inners) qs

@@ -229,7 +229,8 @@ fn seated(
 {
     let row = row_of(rows, pick);
     PlacedPick {
-        picked: *pick,
+        node: pick.node,
+        row: pick.row,
         outer: outer_seat(outers, row, pick, last),
         inner: inner_seat(inners, row, pick),
     }

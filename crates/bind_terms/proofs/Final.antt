@@ -180,11 +180,11 @@ module _ (nodes : List Node) (order : AreInOrder nodes) (some : 0 < length nodes
       subst (λ n. All (λ (p : Picked). p.node < n) indicators) long (subst (All (λ (p : Picked). p.node < length nodes)) (sym e)
       (kept-within nodes order some rows (in_order nodes (indicator_picks nodes rows)) (rows-sound nodes order some rows has_indicator)))
 
-  pub picks-rowed : (picks : List PlacedPick) → picks ≡ all_kept_placed (term_places nodes rows) → All (λ (p : PlacedPick). HasRow rows p.picked.row) picks
+  pub picks-rowed : (picks : List PlacedPick) → picks ≡ all_kept_placed (term_places nodes rows) → All (λ (p : PlacedPick). HasRow rows p.row) picks
   picks-rowed picks e =
-      subst (All (λ (p : PlacedPick). HasRow rows p.picked.row)) (sym e)
-      (All-map (λ (p : PlacedPick). HasRow rows p.picked.row) kept_placed (term_places nodes rows)
-      (All-weaker (IsOfRow rows) (λ p. HasRow rows (kept_placed p).picked.row) (λ p h. ap is_some h) (term_places nodes rows)
+      subst (All (λ (p : PlacedPick). HasRow rows p.row)) (sym e)
+      (All-map (λ (p : PlacedPick). HasRow rows p.row) kept_placed (term_places nodes rows)
+      (All-weaker (IsOfRow rows) (λ p. HasRow rows (kept_placed p).row) (λ p h. ap is_some h) (term_places nodes rows)
       (seated-rows nodes order some rows (term_picks nodes (currencies nodes rows) rows) (terms-sound nodes order some rows (currencies nodes rows)))))
 
   -- all that is told has a place, so all that each pick says

@@ -21,3 +21,4 @@ pub mod FirstFault
 pub mod Gathering
 pub mod Within
 mod Days
+mod RowNumbers

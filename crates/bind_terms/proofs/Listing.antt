@@ -214,16 +214,16 @@ order = slice_cmp nat_cmp
 record IsKept (e : List ℕ × First) : Type 0 where
   value : Value
   placed : seat_place (seat_of_first e.1) ≡ Some e.0
-  valued : e.1.said.value ≡ Some value
+  valued : e.1.value ≡ Some value
 
 abbrev kept_entry : (e : List ℕ × First) → IsKept e → Entry
-kept_entry e k = record { context = e.1.context; term = e.1.said.term; value = k.value }
+kept_entry e k = record { context = e.1.context; term = e.1.term; value = k.value }
 
 abbrev entries_kept : Entries → List Entry
 entries_kept entries = flat_map entries_of (map (λ (e : List ℕ × First). e.1) entries)
 
 kept-is : (e : List ℕ × First) (k : IsKept e) → entries_of e.1 ≡ kept_entry e k ∷ []
-kept-is e k = ap (λ v. elim v [ None ↦ [] | Some value ↦ record { context = e.1.context; term = e.1.said.term; value = value } ∷ [] ]) k.valued
+kept-is e k = ap (λ v. elim v [ None ↦ [] | Some value ↦ record { context = e.1.context; term = e.1.term; value = value } ∷ [] ]) k.valued
 
 none-at : (o : Ordering) (x : First) (rest : Option First) → (cond (is_eq o) (Some x) rest) ≡ None → (o ≡ Equal → ⊥) × (rest ≡ None)
 none-at Less x rest h = (λ e. absurd (let k : Less ≡ Equal = e in cc), h)

@@ -32,7 +32,7 @@ use Rattle.bind_terms.specs.Sayings.{said_of, all_said}
 use Rattle.bind_terms.specs.Kinds.{kind_of}
 use Rattle.bind_terms.specs.declared.firsts.First.{First}
 use Rattle.bind_terms.specs.Faults.{Puts}
-use Rattle.bind_terms.specs.Telling.{first_of, context_in, Entries, kept_at, Holds}
+use Rattle.bind_terms.specs.Telling.{first_of, said_first, context_in, Entries, kept_at, Holds}
 use Rattle.bind_terms.specs.Steps.{row_numbered, IsOfRow, ArePlaced, said_by_row, told_at, put_entry, kept_behind, faults_at, Tells, TellsPick, TellsOf, TellsAll}
 use Rattle.bind_terms.proofs.Tolds.{append-nil, puts-same}
 use Rattle.bind_terms.proofs.Holding.{holds-none, holds-more}
@@ -45,18 +45,18 @@ causes-are : (nodes : List Node) (lists : Lists) (c : Currencies) (p : Placed) (
 causes-are nodes lists c p s None = refl
 causes-are nodes lists c p s (Some f) = refl
 
-kept-said : (o : Option Told) → option_map said_of (option_map (λ (f : First). f.said) (option_map first_of o)) ≡ option_map (λ (f : Told). f.said) o
+kept-said : (o : Option Told) → option_map said_first (option_map first_of o) ≡ option_map (λ (f : Told). f.said) o
 kept-said None = refl
 kept-said (Some f) = refl
 
 pub tells-one : (nodes : List Node) (lists : Lists) (invoice : Option (List ℕ)) (row : Row) (pick : PlacedPick) (one : Kept) (context : Context) (listed : ℕ)
-    (kind : Option BindKind) (first : Option Kept)
+    (kind : Option BindKind) (first : Option First)
     (old new : Entries) (was is : List Found → Type 0) → context ≡ context_in pick → Some listed ≡ row_of one.term context
-    → first ≡ option_map (λ (f : First). f.said) (kept_at (row_place listed context) old)
-    → kind ≡ kind_of nodes lists invoice row pick.picked.node (context_in pick) (option_map said_of first) (said_of one)
-    → new ≡ put_entry old (row_place listed context) (record { row = listed; context = context; said = one })
-    → ((q : List ℕ) → kept_at q new ≡ kept_behind q old (row_place listed context) (record { row = listed; context = context; said = one }))
-    → Puts was is (faults_at kind pick.picked one.term) → Tells nodes lists invoice pick row (said_of one ∷ []) old was new is
+    → first ≡ kept_at (row_place listed context) old
+    → kind ≡ kind_of nodes lists invoice row pick.node (context_in pick) (option_map said_first first) (said_of one)
+    → new ≡ put_entry old (row_place listed context) (record { context = context; row = listed; term = one.term; value = one.value })
+    → ((q : List ℕ) → kept_at q new ≡ kept_behind q old (row_place listed context) (record { context = context; row = listed; term = one.term; value = one.value }))
+    → Puts was is (faults_at kind pick.node pick.row one.term) → Tells nodes lists invoice pick row (said_of one ∷ []) old was new is
 tells-one nodes lists invoice row pick one context listed kind first old new was is in_pick in_row firsts cause put looked fault before p c same_invoice
     same_pick same_row h =
     let s : Said = said_of one in
@@ -68,19 +68,19 @@ tells-one nodes lists invoice row pick one context listed kind first old new was
     let at_it : seat_place (seat_of t) ≡ Some place = ap (place_of one.term) here ∙ sym at in
     let row_is : listed ≡ unwrap_or (row_of one.term (context_of p)) 0 = ap (λ o. unwrap_or o 0) in_row
     ∙ ap (λ x. unwrap_or (row_of one.term x) 0) (sym here) in
-    let kept_first : ◌≡◌ {A = First} (record { row = listed; context = context; said = one }) (first_of t) =
-    λ i. record { row = row_is i; context = (sym here) i; said = one } in
-    let first_is : option_map said_of first ≡ option_map (λ (f : Told). f.said) (first_before before t) =
-    ap (option_map said_of) (firsts ∙ ap (option_map (λ (f : First). f.said)) (h.look_up t place at_it)) ∙ kept-said (first_before before t) in
+    let kept_first : ◌≡◌ {A = First} (record { context = context; row = listed; term = one.term; value = one.value }) (first_of t) =
+    λ i. record { context = (sym here) i; row = row_is i; term = one.term; value = one.value } in
+    let first_is : option_map said_first first ≡ option_map (λ (f : Told). f.said) (first_before before t) =
+    ap (option_map said_first) (firsts ∙ h.look_up t place at_it) ∙ kept-said (first_before before t) in
     let kind_is : kind ≡ first_cause (causes nodes lists c (first_before before t) t) =
-    cause ∙ (ap (λ x. kind_of nodes lists x row pick.picked.node (context_in pick) (option_map said_of first) s) (sym same_invoice)
-    ∙ (ap (λ x. kind_of nodes lists c.invoice x pick.picked.node (context_in pick) (option_map said_of first) s) (sym same_row)
-    ∙ (ap (λ x. kind_of nodes lists c.invoice p.pick.row pick.picked.node x (option_map said_of first) s) (sym stands)
-    ∙ (ap (λ (x : PlacedPick). kind_of nodes lists c.invoice p.pick.row x.picked.node (context_of p) (option_map said_of first) s) (sym same_pick)
+    cause ∙ (ap (λ x. kind_of nodes lists x row pick.node (context_in pick) (option_map said_first first) s) (sym same_invoice)
+    ∙ (ap (λ x. kind_of nodes lists c.invoice x pick.node (context_in pick) (option_map said_first first) s) (sym same_row)
+    ∙ (ap (λ x. kind_of nodes lists c.invoice p.pick.row pick.node x (option_map said_first first) s) (sym stands)
+    ∙ (ap (λ (x : PlacedPick). kind_of nodes lists c.invoice p.pick.row x.node (context_of p) (option_map said_first first) s) (sym same_pick)
     ∙ (ap (λ x. kind_of nodes lists c.invoice p.pick.row p.pick.node (context_of p) x s) first_is
     ∙ causes-are nodes lists c p s (first_before before t)))))) in
-    let fault_is : faults_at kind pick.picked one.term ≡ fault_of nodes lists c (first_before before t) t =
-    ap (λ (x : PlacedPick). faults_at kind x.picked one.term) (sym same_pick) ∙ ap (λ x. faults_at x (kept p.pick) one.term) kind_is in
+    let fault_is : faults_at kind pick.node pick.row one.term ≡ fault_of nodes lists c (first_before before t) t =
+    ap (λ (x : PlacedPick). faults_at kind x.node x.row one.term) (sym same_pick) ∙ ap (λ x. faults_at x p.pick.node p.pick.place one.term) kind_is in
     holds-more nodes lists c before old was h t place at_it new is (puts-same was is _ _ fault_is fault)
     (put ∙ ap (put_entry old place) kept_first)
     (λ q. looked q ∙ ap (kept_behind q old place) kept_first)
@@ -103,12 +103,12 @@ said-by-row nodes p content term e = ap (λ x. elim (term_in x) [ None ↦ [] | 
 
 pub tells-row : (nodes : List Node) (lists : Lists) (invoice : Option (List ℕ)) (pick : PlacedPick) (row : Row) (term : Term) (all : List Said)
     (string : List ℕ) (old new : Entries) (was is : List Found → Type 0)
-    → row.content ≡ contents.Term term → all ≡ said row.form term string → string ≡ string_at nodes pick.picked.node
+    → row.content ≡ contents.Term term → all ≡ said row.form term string → string ≡ string_at nodes pick.node
     → Tells nodes lists invoice pick row all old was new is → TellsPick nodes lists invoice pick row old was new is
 tells-row nodes lists invoice pick row term all string old new was is content sayings string_is step before p c same_invoice same_pick same_row h =
     let all_is : all ≡ said_by nodes p =
     sayings ∙ (ap (λ (x : Row). said x.form term string) (sym same_row)
-    ∙ (ap (said p.pick.row.form term) (string_is ∙ ap (λ (x : PlacedPick). string_at nodes x.picked.node) (sym same_pick))
+    ∙ (ap (said p.pick.row.form term) (string_is ∙ ap (λ (x : PlacedPick). string_at nodes x.node) (sym same_pick))
     ∙ sym (said-by-row nodes p p.pick.row.content term (ap (λ (x : Row). x.content) same_row ∙ content)))) in
     subst (λ l. Holds nodes lists c (before ++ map (told_at p) l) new is) all_is
     (step before p c same_invoice same_pick same_row h)
@@ -127,18 +127,18 @@ tells-nothing nodes lists invoice pick row text entries was content before p c s
 
 pub tells-of : (nodes : List Node) (lists : Lists) (invoice : Option (List ℕ)) (pick : PlacedPick) (rows : List Row) (row : Row) (old new : Entries)
     (was is : List Found → Type 0)
-    → Some row ≡ row_numbered rows pick.picked.row → TellsPick nodes lists invoice pick row old was new is
+    → Some row ≡ row_numbered rows pick.row → TellsPick nodes lists invoice pick row old was new is
     → TellsOf nodes lists invoice pick rows old was new is
 tells-of nodes lists invoice pick rows row old new was is at step before p c same_invoice same_pick of_row h =
-    step before p c same_invoice same_pick (same_Some _ _ (sym of_row ∙ (ap (λ (x : PlacedPick). row_numbered rows x.picked.row) same_pick ∙ sym at))) h
+    step before p c same_invoice same_pick (same_Some _ _ (sym of_row ∙ (ap (λ (x : PlacedPick). row_numbered rows x.row) same_pick ∙ sym at))) h
 
 -- what a string says of the row's term is what the pick says
 pub sayings-placed : (nodes : List Node) (pick : PlacedPick) (row : Row) (term : Term) (all : List Said) (string : List ℕ)
-    → row.content ≡ contents.Term term → all ≡ said row.form term string → string ≡ string_at nodes pick.picked.node
+    → row.content ≡ contents.Term term → all ≡ said row.form term string → string ≡ string_at nodes pick.node
     → ArePlaced (context_in pick) (said_by_row nodes pick row) → ArePlaced (context_in pick) all
 sayings-placed nodes pick row term all string content sayings string_is placed =
     let same : said_by_row nodes pick row ≡ all =
-    ap (λ x. elim (term_in x) [ None ↦ [] | Some t ↦ said row.form t (string_at nodes pick.picked.node) ]) content
+    ap (λ x. elim (term_in x) [ None ↦ [] | Some t ↦ said row.form t (string_at nodes pick.node) ]) content
     ∙ sym (sayings ∙ ap (said row.form term) string_is) in
     subst (ArePlaced (context_in pick)) same placed
 
@@ -174,12 +174,12 @@ module _ {X E : Type 0} (r : Result X E) (nodes : List Node) (lists : Lists) (in
       tells-same (a ∷ (b ∷ [])) all old new was is e (on_ok_weaker r (λ k. tells-two nodes lists invoice pick row a b old middle new was middling is first k) h)
 
   pub tells-by-row : (term : Term) (all : List Said) (string : List ℕ) (old new : Entries) (was is : List Found → Type 0) → row.content ≡ contents.Term term
-      → all ≡ said row.form term string → string ≡ string_at nodes pick.picked.node
+      → all ≡ said row.form term string → string ≡ string_at nodes pick.node
       → OnOk r (Tells nodes lists invoice pick row all old was new is) → OnOk r (TellsPick nodes lists invoice pick row old was new is)
   tells-by-row term all string old new was is content sayings string_is h =
       on_ok_weaker r (λ k. tells-row nodes lists invoice pick row term all string old new was is content sayings string_is k) h
 
-  pub tells-by-table : (rows : List Row) (old new : Entries) (was is : List Found → Type 0) → Some row ≡ row_numbered rows pick.picked.row
+  pub tells-by-table : (rows : List Row) (old new : Entries) (was is : List Found → Type 0) → Some row ≡ row_numbered rows pick.row
       → OnOk r (TellsPick nodes lists invoice pick row old was new is) → OnOk r (TellsOf nodes lists invoice pick rows old was new is)
   tells-by-table rows old new was is at h = on_ok_weaker r (λ k. tells-of nodes lists invoice pick rows row old new was is at k) h
 

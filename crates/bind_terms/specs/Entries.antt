@@ -5,4 +5,4 @@ use Rattle.bind_terms.specs.declared.firsts.First.{First}
 
 -- its entry, where it has a value
 abbrev pub entries_of : First → List Entry
-entries_of f = elim f.said.value [ None ↦ [] | Some value ↦ record { context = f.context; term = f.said.term; value = value } ∷ [] ]
+entries_of f = elim f.value [ None ↦ [] | Some value ↦ record { context = f.context; term = f.term; value = value } ∷ [] ]

@@ -10,7 +10,6 @@ use Rattle.term_table.specs.Places.{place_of}
 use Rattle.inv_terms.specs.declared.lacks.Name.TheVariants as names
 use Rattle.bind_rows.specs.declared.rows.Row.{Row}
 use Rattle.bind_meaning.specs.declared.fault.BindKind.{BindKind}
-use Rattle.bind_meaning.specs.declared.picked.Picked.{Picked}
 use Rattle.bind_meaning.specs.declared.picked.Seated.{Seated}
 use Rattle.bind_meaning.specs.declared.picked.PlacedPick.{PlacedPick}
 use Rattle.bind_meaning.specs.Elements.{string_at}
@@ -48,7 +47,7 @@ IsSeatWithin count seat = ForSome seat (λ (s : Seated). s.element < count)
 
 -- The pick and its elements are nodes of the document, and an inner seat stands in an outer one.
 pub record IsWithin (count : ℕ) (pick : PlacedPick) : Type 0 where
-  pub node : pick.picked.node < count
+  pub node : pick.node < count
   pub outer : IsSeatWithin count pick.outer
   pub inner : IsSeatWithin count pick.inner
   pub nested : (is_some pick.outer || is_none pick.inner) ≡ true
@@ -59,11 +58,11 @@ ArePlaced context all = All (λ (s : Said). is_some (place_of s.term context) �
 
 -- what a pick says by its row
 abbrev pub said_by_row : List Node → PlacedPick → Row → List Said
-said_by_row nodes pick row = elim (term_in row.content) [ None ↦ [] | Some term ↦ said row.form term (string_at nodes pick.picked.node) ]
+said_by_row nodes pick row = elim (term_in row.content) [ None ↦ [] | Some term ↦ said row.form term (string_at nodes pick.node) ]
 
 -- the same by its table
 abbrev pub SaysPlaced : List Node → List Row → PlacedPick → Type 0
-SaysPlaced nodes rows pick = (row : Row) → row_numbered rows pick.picked.row ≡ Some row → ArePlaced (context_in pick) (said_by_row nodes pick row)
+SaysPlaced nodes rows pick = (row : Row) → row_numbered rows pick.row ≡ Some row → ArePlaced (context_in pick) (said_by_row nodes pick row)
 
 abbrev pub told_at : Placed → Said → Told
 told_at p said = record { placed = p; said = said }
@@ -79,11 +78,11 @@ kept_behind q entries place first = elim (kept_at place entries) [
   | Some other ↦ kept_at q entries
 ]
 
-abbrev pub fault_at : BindKind → Picked → Term → Found
-fault_at kind picked term = found (picked.node ∷ (0 ∷ (picked.row ∷ (rank kind ∷ [])))) kind (names.Term term) picked.node
+abbrev pub fault_at : BindKind → ℕ → ℕ → Term → Found
+fault_at kind node row term = found (node ∷ (0 ∷ (row ∷ (rank kind ∷ [])))) kind (names.Term term) node
 
-abbrev pub faults_at : Option BindKind → Picked → Term → List Found
-faults_at kind picked term = elim kind [ None ↦ [] | Some k ↦ fault_at k picked term ∷ [] ]
+abbrev pub faults_at : Option BindKind → ℕ → ℕ → Term → List Found
+faults_at kind node row term = elim kind [ None ↦ [] | Some k ↦ fault_at k node row term ∷ [] ]
 
 -- ---- what each step of the pass leaves, behind whatever was told before
 

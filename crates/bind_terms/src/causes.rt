@@ -4,14 +4,16 @@ ghost use Rattle.inv_terms.specs.Validity as lacks;
 ghost use Rattle.bind_meaning.specs.Judging as spec;
 ghost use Rattle.bind_terms.specs.Sayings.{said_of};
 ghost use Rattle.bind_terms.specs.Scenes.{nodes_of, count, lists_of, currency_of};
-ghost use Rattle.bind_terms.specs.Telling.{context_in};
+ghost use Rattle.bind_terms.specs.Telling.{context_in, said_first};
 ghost use Rattle.bind_terms.specs.Kinds as kinds;
 
 use crate::checks::breaks;
 use crate::currency::differs;
+use crate::firsts::First;
 use crate::insides::has_element_inside;
+use crate::rowed::RowedPick;
 use crate::telling::context_of;
-use crate::{RowedPick, Said, Scene};
+use crate::{Said, Scene};
 use bind_meaning::{BindKind, form_for, type_of};
 use bind_rows::{Repeats, Row, Written};
 use code_lists::CodeLists;
@@ -24,22 +26,22 @@ use term_table::{Context, Letter, Term, list_in};
 /// What is wrong, if anything, with a value that a row says by its pick: the first cause in the order of the kinds.
 /// `first` is what the first pick of the term in the context said, where this isn't the first. An amount is compared with
 /// the currency of the invoice, unless it is the VAT total in the accounting currency.
-pub fn first_cause<L: Ledger>(
+pub(crate) fn first_cause<L: Ledger>(
     scene: &Scene<'_, '_>,
     rowed: &RowedPick<'_>,
-    first: Option<&Said>,
+    first: Option<&First>,
     said: &Said,
     steps: &mut Steps<L>,
 ) -> Result<Option<BindKind>, AllocError>
-    requires { rowed.now.pick.now.picked.node < count scene.now }
+    requires { rowed.now.pick.now.node < count scene.now }
     ensures { IfOk result (λ kind. kind ≡ kinds.kind_of (nodes_of scene.now) (lists_of scene.now) (currency_of scene.now)
-        rowed.now.row.now rowed.now.pick.now.picked.node (context_in rowed.now.pick.now)
-        (option_map said_of (option_copied first.entry)) (said_of said.now)) }
+        rowed.now.row.now rowed.now.pick.now.node (context_in rowed.now.pick.now)
+        (option_map said_first (option_copied first.entry)) (said_of said.now)) }
 {
     if first.is_some() && !may_repeat(rowed.row.repeats) {
         return Ok(Some(BindKind::Excess));
     }
-    if has_element_inside(scene.doc, rowed.pick.picked.node, steps) {
+    if has_element_inside(scene.doc, rowed.pick.node, steps) {
         return Ok(Some(BindKind::ElementInValue));
     }
     if is_bad(scene, rowed, said, steps)? {
@@ -73,14 +75,14 @@ fn is_bad<L: Ledger>(
     said: &Said,
     steps: &mut Steps<L>,
 ) -> Result<bool, AllocError>
-    requires { rowed.now.pick.now.picked.node < count scene.now }
+    requires { rowed.now.pick.now.node < count scene.now }
     ensures { IfOk result (λ bad. bad ≡ (is_none said.now.value
-        || spec.breaks (nodes_of scene.now) rowed.now.row.now.check rowed.now.pick.now.picked.node)) }
+        || spec.breaks (nodes_of scene.now) rowed.now.row.now.check rowed.now.pick.now.node)) }
 {
     if said.value.is_none() {
         return Ok(true);
     }
-    let node = rowed.pick.picked.node;
+    let node = rowed.pick.node;
     breaks(scene.alloc, scene.doc, rowed.row.check, node, steps)
 }
 
@@ -132,20 +134,20 @@ fn is_foreign<L: Ledger>(
     term: Term,
     steps: &mut Steps<L>,
 ) -> Result<bool, AllocError>
-    requires { rowed.now.pick.now.picked.node < count scene.now }
+    requires { rowed.now.pick.now.node < count scene.now }
     ensures { IfOk result (λ foreign. foreign ≡ kinds.is_foreign (nodes_of scene.now) (currency_of scene.now)
-        rowed.now.row.now rowed.now.pick.now.picked.node term) }
+        rowed.now.row.now rowed.now.pick.now.node term) }
 {
     if is_amount(rowed.row, term) && !is_accounting_total(&rowed.row.written) {
-        let node = rowed.pick.picked.node;
+        let node = rowed.pick.node;
         return differs(scene.alloc, scene.doc, scene.invoice_currency, node, steps);
     }
     Ok(false)
 }
 
 // Whether the first pick of the term in the context said another value, or one of both said none.
-fn is_disagreeing(first: Option<&Said>, said: &Said) -> bool
-    ensures { result ≡ kinds.is_disagreeing (option_map said_of (option_copied first.entry)) (said_of said.now) }
+fn is_disagreeing(first: Option<&First>, said: &Said) -> bool
+    ensures { result ≡ kinds.is_disagreeing (option_map said_first (option_copied first.entry)) (said_of said.now) }
 {
     match first {
         Some(first) => disagree(&first.value, &said.value),

@@ -3,7 +3,6 @@ ghost use Rattle.std.specs.Prelude.{◌≡◌, ◌++◌, flat_map, reverse, vec_
 ghost use Rattle.inv_terms.specs.Listing.{IsInvoice};
 ghost use Rattle.bind_terms.specs.Entries.{entries_of};
 
-use crate::Said;
 use crate::firsts::First;
 use inv_terms::{Entry, Invoice};
 use std::alloc::{AllocError, Global};
@@ -25,7 +24,8 @@ fn entries_of(alloc: Global, firsts: Vec<First>) -> Result<Vec<Entry>, AllocErro
     Ok(entries)
 }
 
-/// The entries, the last first. Each list may take more memory than the document, so the one is given back while the other grows.
+/// The entries, the last first. Each list takes about half as much memory as the document, so the one is given back while the other
+/// grows.
 fn from_last(alloc: Global, firsts: Vec<First>) -> Result<Vec<Entry>, AllocError>
     ensures { IfOk result (λ entries. reverse entries.items ≡ flat_map entries_of firsts.items) }
 {
@@ -55,11 +55,11 @@ fn push_first(entries: &mut Vec<Entry>, first: First) -> Result<(), AllocError>
     ensures { OnOk result (entries.new.items ≡ entries.old.items ++ entries_of first) }
 {
     let First {
-        row: _,
         context,
-        said,
+        row: _,
+        term,
+        value,
     } = first;
-    let Said { term, value } = said;
     match value {
         Some(value) => entries.push(Entry {
             context,

@@ -1,14 +1,17 @@
 //! What the first pick of each term in each context said.
-use crate::Said;
+use inv_terms::Value;
 use ordered_map::{Keyed, OrderedMap};
-use term_table::{Context, ListingPlace, Seat, Seated, place_at};
+use term_table::{Context, ListingPlace, Seat, Seated, Term, place_at};
 
-/// What a pick said, in its context, with the row that the term has there in the semantic model.
+/// What a pick said, in its context, with the row that the term has there in the semantic model. Documents have one for each
+/// value, so its fields lie in an order that leaves no room between them.
 #[derive(Drop)]
 pub(crate) struct First {
-    pub(crate) row: usize,
     pub(crate) context: Context,
-    pub(crate) said: Said,
+    pub(crate) row: u32,
+    pub(crate) term: Term,
+    /// None where the string is no value of the term.
+    pub(crate) value: Option<Value>,
 }
 
 /// What the first pick of each term in each context said, by the place of the term there in listing order. Documents mostly
@@ -22,7 +25,7 @@ impl Seated for First {
 
     fn seat(&self) -> Seat {
         Seat {
-            term: self.said.term,
+            term: self.term,
             context: self.context,
         }
     }
@@ -34,6 +37,6 @@ impl Keyed<ListingPlace> for First {
     ghost key_of = { place_of_first };
 
     fn key(&self) -> ListingPlace {
-        place_at(self.row, self.context)
+        place_at(self.row as usize, self.context)
     }
 }

@@ -69,7 +69,7 @@ fn put_row<L: Ledger, K: Keeper>(
             if is_word(string.as_str()) {
                 return Ok(());
             }
-            keeper.put(fault_at(BindKind::BadValue, picked, term))
+            keeper.put(fault_at(BindKind::BadValue, picked.node, picked.row, term))
         }
         Check::Nothing | Check::Scheme | Check::Format => Ok(()),
     }

@@ -23,11 +23,9 @@ mod telling;
 mod values;
 mod words;
 
-pub use causes::first_cause;
 pub use insides::has_element_inside;
 pub use judging::{faults, judge};
 pub use laws::first_faults_are_first_of_all;
-pub use rowed::RowedPick;
 pub use said::{Said, Sayings, what_is_said};
 pub use scene::Scene;
 pub use words::is_word;

@@ -5,7 +5,7 @@ use bind_rows::Row;
 
 /// A pick, with the row that picks it.
 #[derive(Clone, Copy)]
-pub struct RowedPick<'p> {
-    pub row: &'p Row,
-    pub pick: &'p PlacedPick,
+pub(crate) struct RowedPick<'p> {
+    pub(crate) row: &'p Row,
+    pub(crate) pick: &'p PlacedPick,
 }

@@ -9,15 +9,18 @@ ghost use Rattle.bind_terms.specs.Scenes.{nodes_of, count, rows_of, lists_of, cu
 ghost use Rattle.bind_terms.specs.Telling.{context_in, place_of_first, kept_at};
 ghost use Rattle.bind_terms.specs.Steps.{IsWithin, ArePlaced, said_by_row, SaysPlaced, Tells, TellsPick, TellsOf, TellsAll, HasRow, row_numbered, put_entry, kept_behind, faults_at, fault_at};
 
+use crate::causes::first_cause;
 use crate::firsts::{First, Firsts};
 use crate::found::{Found, Side, Spot};
 use crate::keeping::Keeper;
-use crate::{RowedPick, Said, Sayings, Scene, first_cause, what_is_said};
-use bind_meaning::{BindFault, BindKind, Picked, PlacedPick, Seated};
+use crate::rowed::RowedPick;
+use crate::{Said, Sayings, Scene, what_is_said};
+use bind_meaning::{BindFault, BindKind, PlacedPick, Seated};
 use bind_rows::{Content, Row};
 use bind_table::Binding;
 use inv_base::Steps;
 use inv_terms::Name;
+use node_arena::NodeId;
 use std::alloc::AllocError;
 use std::sync::ledger::Ledger;
 use term_table::{Context, ListingPlace, Slot, Term, place_at, row_of};
@@ -59,7 +62,7 @@ pub(crate) fn tell_picks<L: Ledger, K: Keeper>(
     steps: &mut Steps<L>,
 ) -> Result<(), AllocError>
     requires within { All (IsWithin (count scene.now)) picks.now }
-    requires rows { All (λ pick. HasRow (rows_of scene.now) pick.picked.row) picks.now }
+    requires rows { All (λ pick. HasRow (rows_of scene.now) pick.row) picks.now }
     requires placed { All (SaysPlaced (nodes_of scene.now) (rows_of scene.now)) picks.now }
     requires empty { firsts.old.entries ≡ [] }
     requires none { K.given keeper.old [] }
@@ -81,12 +84,12 @@ fn tell_pick<L: Ledger, K: Keeper>(
     steps: &mut Steps<L>,
 ) -> Result<(), AllocError>
     requires within { IsWithin (count scene.now) pick.now }
-    requires row { HasRow (rows_of scene.now) pick.now.picked.row }
+    requires row { HasRow (rows_of scene.now) pick.now.row }
     requires placed { SaysPlaced (nodes_of scene.now) (rows_of scene.now) pick.now }
     ensures { OnOk result (TellsOf (nodes_of scene.now) (lists_of scene.now) (currency_of scene.now) pick.now (rows_of scene.now)
         firsts.old.entries (K.given keeper.old) firsts.new.entries (K.given keeper.new)) }
 {
-    match row_at(scene.table, pick.picked.row) {
+    match row_at(scene.table, pick.row) {
         Some(row) => tell_row(scene, &RowedPick { row, pick }, firsts, keeper, steps),
         None => unreachable!(),
     }
@@ -107,7 +110,7 @@ fn tell_row<L: Ledger, K: Keeper>(
 {
     match rowed.row.content {
         Content::Term(term) => {
-            let node = rowed.pick.picked.node;
+            let node = rowed.pick.node;
             let string = scene.doc.string(scene.alloc, node, steps)?;
             let sayings = what_is_said(scene.alloc, rowed.row.form, term, string.as_str())?;
             tell_all(scene, rowed, sayings, firsts, keeper, steps)
@@ -156,37 +159,29 @@ fn tell<L: Ledger, K: Keeper>(
     let term = said.term;
     let context = context_of(rowed.pick);
     let listed = row_in(term, context);
-    let place = place_at(listed, context);
-    let first = said_before(firsts, place);
+    let place = place_at(listed as usize, context);
+    let first = firsts.get(&place);
     let is_first = first.is_none();
     let kind = first_cause(scene, rowed, first, &said, steps)?;
+    let Said { term: _, value } = said;
     let told = First {
-        row: listed,
         context,
-        said,
+        row: listed,
+        term,
+        value,
     };
     put_first(firsts, told, is_first)?;
-    put_cause(keeper, kind, rowed.pick.picked, term)
+    put_cause(keeper, kind, rowed.pick, term)
 }
 
 // The row of a term that has one in the context.
-fn row_in(term: Term, context: Context) -> usize
+fn row_in(term: Term, context: Context) -> u32
     requires { is_some (places.place_of term context) ≡ true }
     ensures { Some result ≡ rows.row_of term context }
 {
     match row_of(term, context) {
-        Some(row) => row,
+        Some(row) => row as u32,
         None => unreachable!(),
-    }
-}
-
-// What the first of the place said.
-fn said_before(firsts: &Firsts, place: ListingPlace) -> Option<&Said>
-    ensures { option_copied result ≡ option_map (λ first. first.said) (kept_at place firsts.now.entries) }
-{
-    match firsts.get(&place) {
-        Some(first) => Some(&first.said),
-        None => None,
     }
 }
 
@@ -208,29 +203,30 @@ fn put_first(firsts: &mut Firsts, first: First, is_first: bool) -> Result<(), Al
 fn put_cause<K: Keeper>(
     keeper: &mut K,
     kind: Option<BindKind>,
-    picked: Picked,
+    pick: &PlacedPick,
     term: Term,
 ) -> Result<(), AllocError>
-    ensures { OnOk result (Puts (K.given keeper.old) (K.given keeper.new) (faults_at kind picked term)) }
+    ensures { OnOk result (Puts (K.given keeper.old) (K.given keeper.new) (faults_at kind pick.now.node pick.now.row term)) }
 {
     match kind {
-        Some(kind) => keeper.put(fault_at(kind, picked, term)),
+        Some(kind) => keeper.put(fault_at(kind, pick.node, pick.row, term)),
         None => Ok(()),
     }
 }
 
-pub(crate) fn fault_at(kind: BindKind, picked: Picked, term: Term) -> Found
-    ensures { found_of result ≡ fault_at kind picked term }
+/// A fault of a term at a node that a row picks.
+pub(crate) fn fault_at(kind: BindKind, node: NodeId, row: u32, term: Term) -> Found
+    ensures { found_of result ≡ fault_at kind node row term }
 {
     Found {
         spot: Spot {
-            node: picked.node.number(),
-            side: Side::At { row: picked.row },
+            node: node.number(),
+            side: Side::At { row },
         },
         fault: BindFault {
             kind,
             name: Name::Term(term),
-            node: picked.node,
+            node,
         },
     }
 }

@@ -68,7 +68,7 @@ fn shows_currency(source: &Source<'_>, step: &Step, row: &Row) -> bool
     requires { sources.IsSource source.now }
     ensures { result ≡ spec.shows_currency source.now.entries.now step.now source.now.context row.now }
 {
-    may_show_currency(step, row) && writes(source, row) && is_amount(row)
+    may_show_currency(step, row) && is_amount(row) && writes(source, row)
 }
 
 fn currency_term(written: &Written) -> Term

@@ -22,7 +22,7 @@ moved : (items rest : List First) (first : First) (old new : List Entry) → ite
     → flat_map entries_of rest ++ reverse new ≡ flat_map entries_of items ++ reverse old
 moved items rest first old new e f =
     ap (λ l. flat_map entries_of rest ++ reverse l) f
-    ∙ (ap (λ l. flat_map entries_of rest ++ l) (reverse-append old (entries_of first) ∙ ap (λ l. l ++ reverse old) (one first.said.value first.context first.said.term))
+    ∙ (ap (λ l. flat_map entries_of rest ++ l) (reverse-append old (entries_of first) ∙ ap (λ l. l ++ reverse old) (one first.value first.context first.term))
     ∙ (sym (append_assoc (flat_map entries_of rest) (entries_of first) (reverse old))
     ∙ ap (λ l. l ++ reverse old) (ap (λ l. flat_map entries_of rest ++ l) (sym (append-nil (entries_of first))) ∙ (sym (flat_map-append entries_of rest (first ∷ [])) ∙ ap (flat_map entries_of) (sym e)))))
 

@@ -4,6 +4,5 @@ pub mod StepLemmas
 pub mod IndicatorLemmas
 pub mod TableLemmas
 pub mod RoomLemmas
-pub mod ExtendedLemmas
 pub mod PassedLemmas
 pub mod RootLemmas

@@ -15,7 +15,9 @@ use Rattle.bind_meaning.specs.Terms.{Read, terms_of}
 use Rattle.bind_meaning.specs.Faults.{faults_in, passed_nodes}
 use Rattle.bind_run.specs.declared.faults.Faulted.{Faulted as FaultsFound}
 use Rattle.bind_run.specs.declared.reading.ReadInvoice.{ReadInvoice}
+use Rattle.bind_run.specs.declared.tables.KeptTables.{KeptTables}
 use Rattle.bind_run.specs.declared.tables.Tables.{Tables}
+use Rattle.bind_run.specs.declared.tables.Tables.TheVariants as three
 use Rattle.bind_run.specs.Extensions.{rows_for}
 use Rattle.bind_run.specs.Roots.{which_of, unknown_root}
 
@@ -60,11 +62,15 @@ pub record IsWithin (count : ℕ) (found : FaultsFound) : Type 0 where
 
 -- ---- what the code has
 
+abbrev pub kept_rows : KeptTables → Which → List Row
+kept_rows kept which.Invoice = kept.invoice
+kept_rows kept which.CreditNote = kept.credit_note
+kept_rows kept which.Cii = kept.cii
+
 -- the rows of one of the tables
 abbrev pub rows_in : Tables → Which → List Row
-rows_in tables which.Invoice = tables.invoice
-rows_in tables which.CreditNote = tables.credit_note
-rows_in tables which.Cii = tables.cii
+rows_in three.BuiltIn table = rows_of table
+rows_in (three.Kept kept) table = kept_rows kept table
 
 -- Each is well formed.
 abbrev pub AreFormed : Tables → Type 0

@@ -85,8 +85,11 @@ fn faults_counted<L: Ledger>(
     ensures passed_over { IfOk result (λ found. found.passed_over.items ≡ passed_nodes (tree_nodes doc.now) (rows_in tables.now which)) }
     ensures within { IfOk result (IsWithin (length doc.now.nodes)) }
 {
+    let table = tables.table(alloc, which)?;
     let mut steps = Steps::<L>::new(ledger);
-    faults_by_table(alloc, doc, tables.table(which), which, lists, &mut steps)
+    let answer = faults_by_table(alloc, doc, table.as_ref(), which, lists, &mut steps);
+    drop(table);
+    answer
 }
 
 fn faults_by_table<L: Ledger>(

@@ -19,4 +19,4 @@ pub use faults::{Faulted, faults_of_document};
 pub use laws::invoices_of_documents_are_valid;
 pub use reading::{ReadInvoice, read, read_document};
 pub use roots::binding_of;
-pub use tables::{Tables, tables_are_laid};
+pub use tables::{KeptTables, Tables, tables_are_laid};

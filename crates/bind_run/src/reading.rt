@@ -117,6 +117,12 @@ fn read_counted<L: Ledger>(
     ensures reads { Reads (terms_of (tree_nodes doc.now) (rows_in tables.now which) lists.now) result }
     ensures memory { IfErr result IsWholeIfMemory }
 {
+    let table = match tables.table(alloc, which) {
+        Ok(table) => table,
+        Err(_) => return Err(out_of_memory(doc)),
+    };
     let mut steps = Steps::<L>::new(ledger);
-    read(alloc, doc, tables.table(which), lists, &mut steps)
+    let answer = read(alloc, doc, table.as_ref(), lists, &mut steps);
+    drop(table);
+    answer
 }

@@ -1,22 +1,25 @@
 ghost use Rattle.std.specs.Prelude.{◌≡◌, ◌≢◌, true, Ok, IfOk, IfErr};
+ghost use Rattle.std.specs.Cow.{cow_value};
 ghost use Rattle.std.specs.List.{list_all};
 ghost use Rattle.bind_rows.specs.declared.tables.Which.{Which};
 ghost use Rattle.bind_table.specs.Laid.{is_laid};
 ghost use Rattle.bind_table.specs.WellFormed.{first_fault};
 ghost use Rattle.bind_write.specs.Sources.{has_plain_attribute};
 ghost use Rattle.bind_meaning.specs.Tables.{rows_of};
-ghost use Rattle.bind_run.specs.Extensions.{rows_for, judged, AreGood, IsBadRow};
-ghost use Rattle.bind_run.specs.Reading.{AreTables, AreTablesFor, AreFormed, rows_in};
+ghost use Rattle.extension_files.specs.Extensions.{is_extension};
+ghost use Rattle.bind_run.specs.Extensions.{rows_for, judged, judged_in, AreGood, IsBadRow};
+ghost use Rattle.bind_run.specs.Reading.{AreTables, AreTablesFor, AreFormed, kept_rows, rows_in};
 ghost use Rattle.bind_run.specs.declared.extensions.ExtendFault.TheVariants as faults;
 
 use crate::extensions::{ExtendFault, extended};
 use bind_meaning::Which;
 use bind_table::Binding;
-use extension_files::Extension;
+use extension_files::{ExtTerm, Extension};
 use std::alloc::{AllocError, Global};
+use std::borrow::Cow;
 
-/// Three tables, by which documents are read and written.
-pub struct Tables {
+/// The three tables with the terms that a user adds, which were all made to be judged with these.
+pub struct KeptTables {
     /// UBL Invoice
     pub invoice: Binding,
     /// UBL CreditNote
@@ -25,9 +28,9 @@ pub struct Tables {
     pub cii: Binding,
 }
 
-impl Drop for Tables {
+impl Drop for KeptTables {
     fn drop(self) {
-        let Tables {
+        let KeptTables {
             invoice,
             credit_note,
             cii,
@@ -38,18 +41,34 @@ impl Drop for Tables {
     }
 }
 
+impl KeptTables {
+    fn table(&self, which: Which) -> &Binding
+        ensures { result.now ≡ kept_rows self.now which }
+    {
+        match which {
+            Which::Invoice => &self.invoice,
+            Which::CreditNote => &self.credit_note,
+            Which::Cii => &self.cii,
+        }
+    }
+}
+
+/// Three tables, by which documents are read and written.
+#[derive(Drop)]
+pub enum Tables {
+    /// The built-in ones, of which none is kept: each is made where it is asked for, since a document needs one or two.
+    BuiltIn,
+    Kept(KeptTables),
+}
+
 impl Tables {
-    /// The built-in tables.
-    pub fn built_in(alloc: Global) -> Result<Tables, AllocError>
-        ensures tables { IfOk result (λ tables. AreTables tables) }
-        ensures formed { IfOk result (λ tables. AreFormed tables) }
+    /// The built-in tables. It takes no memory.
+    pub fn built_in() -> Tables
+        ensures tables { AreTables result }
+        ensures formed { AreFormed result }
     {
         are_well_formed();
-        Ok(Tables {
-            invoice: ubl_binding::invoice(alloc)?,
-            credit_note: ubl_binding::credit_note(alloc)?,
-            cii: cii_binding::cii(alloc)?,
-        })
+        Tables::BuiltIn
     }
 
     /// The built-in tables with the terms that a user adds, if all three are well formed with them; or the first row at
@@ -59,33 +78,21 @@ impl Tables {
         ensures good { IfOk result (λ tables. AreGood extension.now) }
         ensures fault { IfErr result (λ fault. fault ≢ faults.Memory → IsBadRow fault (judged (rows_for extension.now))) }
     {
-        let own = Tables::built_in(alloc)?;
-        let more = own.with(alloc, extension);
-        drop(own);
-        more
-    }
-
-    fn with(&self, alloc: Global, extension: &Extension) -> Result<Tables, ExtendFault>
-        requires { AreTables self.now }
-        ensures tables { IfOk result (λ tables. AreTablesFor extension.now tables) }
-        ensures good { IfOk result (λ tables. AreGood extension.now) }
-        ensures fault { IfErr result (λ fault. fault ≢ faults.Memory → IsBadRow fault (judged (rows_for extension.now))) }
-    {
         let terms = extension.terms();
-        let invoice = extended(alloc, Which::Invoice, &self.invoice, terms)?;
-        let credit_note = match extended(alloc, Which::CreditNote, &self.credit_note, terms) {
+        let invoice = made_with(alloc, Which::Invoice, terms)?;
+        let credit_note = match made_with(alloc, Which::CreditNote, terms) {
             Ok(credit_note) => credit_note,
             Err(fault) => {
                 drop(invoice);
                 return Err(fault);
             }
         };
-        match extended(alloc, Which::Cii, &self.cii, terms) {
-            Ok(cii) => Ok(Tables {
+        match made_with(alloc, Which::Cii, terms) {
+            Ok(cii) => Ok(Tables::Kept(KeptTables {
                 invoice,
                 credit_note,
                 cii,
-            }),
+            })),
             Err(fault) => {
                 drop(invoice);
                 drop(credit_note);
@@ -94,16 +101,39 @@ impl Tables {
         }
     }
 
-    /// One of the tables.
-    pub fn table(&self, which: Which) -> &Binding
-        ensures { result.now ≡ rows_in self.now which }
+    /// One of the tables: a built-in one is made, and who asked for it lets it go; any other is lent.
+    pub fn table(&self, alloc: Global, which: Which) -> Result<Cow<'_, Binding>, AllocError>
+        ensures { IfOk result (λ table. cow_value table ≡ rows_in self.now which) }
     {
-        match which {
-            Which::Invoice => &self.invoice,
-            Which::CreditNote => &self.credit_note,
-            Which::Cii => &self.cii,
+        match self {
+            Tables::BuiltIn => Ok(Cow::Owned(made(alloc, which)?)),
+            Tables::Kept(kept) => Ok(Cow::Borrowed(kept.table(which))),
         }
     }
+}
+
+/// One of the built-in tables.
+fn made(alloc: Global, which: Which) -> Result<Binding, AllocError>
+    ensures { IfOk result (λ table. table ≡ rows_of which) }
+{
+    match which {
+        Which::Invoice => ubl_binding::invoice(alloc),
+        Which::CreditNote => ubl_binding::credit_note(alloc),
+        Which::Cii => cii_binding::cii(alloc),
+    }
+}
+
+/// One of the built-in tables with the rows of terms, if it is well formed with them.
+fn made_with(alloc: Global, which: Which, terms: &[ExtTerm]) -> Result<Binding, ExtendFault>
+    requires { is_extension terms.now ≡ true }
+    ensures rows { IfOk result (λ more. more ≡ rows_for terms.now which) }
+    ensures formed { IfOk result (λ more. first_fault more ≡ Ok tt) }
+    ensures fault { IfErr result (λ fault. fault ≢ faults.Memory → IsBadRow fault (judged_in which (rows_for terms.now which))) }
+{
+    let own = made(alloc, which)?;
+    let more = extended(alloc, which, &own, terms);
+    drop(own);
+    more
 }
 
 /// Invoices can be written by each of the three tables: laws of the crates below, which have no code, in one.

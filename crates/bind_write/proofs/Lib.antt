@@ -3,6 +3,7 @@ pub mod WriterSteps
 pub mod TextLemmas
 pub mod LookLemmas
 pub mod SourceLemmas
+pub mod PresenceLemmas
 pub mod SpotLemmas
 pub mod PlanLemmas
 pub mod HoldLemmas

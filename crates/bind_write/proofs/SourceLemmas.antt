@@ -1,6 +1,6 @@
 -- What is looked up among the entries of one occurrence is what all entries have.
-use Rattle.std.proofs.Common.{◌≡◌, ℕ, ◌+◌, ◌==◌, Bool, true, false, ◌&&◌, ◌||◌, cond, List, [], ◌∷◌, Option, Some, None, refl, ap, sym, ◌∙◌, subst, arith, fold, max, map, length, suc, ◌<◌, ◌≤◌, get_or, drop, drop-cons, add-one}
-use Rattle.std.specs.Prelude.{filter, find, option_map, option_and_then, is_none, is_some, nat_eq, if◌then◌else◌}
+use Rattle.std.proofs.Common.{◌⊎◌, inl, inr, ◌≡◌, ℕ, ◌+◌, ◌==◌, Bool, true, false, ◌&&◌, ◌||◌, cond, List, [], ◌∷◌, Option, Some, None, refl, ap, sym, ◌∙◌, subst, arith, fold, max, map, length, suc, ◌<◌, ◌≤◌, get_or, drop, drop-cons, add-one}
+use Rattle.std.specs.Prelude.{filter, find, option_map, option_and_then, is_none, is_some, not, nat_eq, if◌then◌else◌}
 use Rattle.std.proofs.lemmas.Bool.Decides.{nat_tests}
 use Rattle.std.proofs.lemmas.Grind.{common_steps}
 use Rattle.std.proofs.lemmas.List.Elements.{All-filter}
@@ -111,6 +111,11 @@ in_run : (c d : Context) (e : Entry) (term : Term) → d.outer ≡ c.outer → i
 in_run c d e term same at =
     let h = both (same_slot e.context.outer d.outer) (same_slot e.context.inner d.inner) (both (same_term e.term term) (same_context e.context d) at).1 in
     or_true (is_none c.outer) (same_slot c.outer e.context.outer) (same_slot-sym e.context.outer c.outer (ap (same_slot e.context.outer) (sym same) ∙ h.0))
+
+-- a context around another that has an outer occurrence has the same one
+pub same_outer : (d c : Option Slot) (r : Bool) → is_some d ≡ not r → r ≡ false → (d ≡ None) ⊎ (d ≡ c) → d ≡ c
+same_outer d c r e f (inl none) = absurd (let y : false ≡ true = ap is_some (sym none) ∙ (e ∙ ap not f) in cc)
+same_outer d c r e f (inr same) = same
 
 pub run_values : (es : List Entry) (c d : Context) → d.outer ≡ c.outer → HasSameValues es (run_of es c) d
 run_values es c d same = λ term.

@@ -5,12 +5,26 @@ use Rattle.term_table.specs.declared.contexts.Context.{Context}
 use Rattle.inv_terms.specs.declared.entries.Entry.{Entry}
 use Rattle.bind_rows.specs.declared.rows.Row.{Row}
 use Rattle.bind_rows.specs.declared.rows.Step.{Step}
+use Rattle.bind_rows.specs.declared.rows.Written.{Written}
+use Rattle.bind_rows.specs.declared.rows.Written.TheVariants as written
 use Rattle.bind_table.specs.declared.lines.Line.{Line}
 use Rattle.bind_table.specs.Lines.{Plan, Cell, nothing, a_line, flat, numbers}
 use Rattle.bind_meaning.specs.Picks as picks
 use Rattle.bind_meaning.specs.Writing.{row_text, writes_entry}
 use Rattle.bind_meaning.specs.Trees.{line_holds}
 use Rattle.bind_meaning.specs.Trees as trees
+
+-- Something is written where the row's term has no value.
+abbrev pub has_filler : Written → Bool
+has_filler written.Always = false
+has_filler written.Never = false
+has_filler written.IfIban = false
+has_filler written.IfNotIban = false
+has_filler written.IfScheme = false
+has_filler written.IfNoScheme = false
+has_filler (written.OrFiller filler) = true
+has_filler written.VatTotal = false
+has_filler written.AccountingVatTotal = false
 
 -- Each cell is the row of its number.
 abbrev pub IsCellOf : List Row → Cell → Type 0

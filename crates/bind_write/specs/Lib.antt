@@ -1,4 +1,5 @@
 pub mod Documents
+pub mod Presences
 pub mod Sources
 pub mod Spots
 pub mod Wordings

@@ -17,6 +17,7 @@ use Rattle.bind_rows.specs.declared.rows.Form.{Form}
 use Rattle.bind_rows.specs.declared.rows.Form.TheVariants as forms
 use Rattle.bind_meaning.specs.Trees.{or_here}
 use Rattle.bind_write.specs.declared.source.Source.{Source}
+use Rattle.bind_write.specs.Presences.{AreKnown}
 
 -- ---- notes with a code stand in elements, not in attributes
 
@@ -49,6 +50,7 @@ run_of es c = filter (λ (e : Entry). is_inside (outer_context c) e.context) es
 pub record IsSource (s : Source) : Type 0 where
   pub order : IsInOrder (map seat_of s.entries.now)
   pub run : s.run.now ≡ run_of s.entries.now s.context
+  pub known : AreKnown s.presence s.run.now
   pub notes : list_all has_plain_attribute s.rows.now ≡ true
 
 -- It is the source of these rows and entries, from the context.

@@ -1,4 +1,4 @@
-ghost use Rattle.std.specs.Prelude.{◌≡◌, ◌||◌, ◌&&◌, not, option_map, option_copied, slice_get, Some, false, List};
+ghost use Rattle.std.specs.Prelude.{◌≡◌, ◌||◌, ◌&&◌, not, option_map, option_copied, slice_get, Some, None, true, false, List};
 ghost use Rattle.std.specs.List.{list_any};
 ghost use Rattle.bind_table.specs.Growing.{AreLines};
 ghost use Rattle.bind_table.specs.Lines.{Plan, Cell, flat};
@@ -11,8 +11,31 @@ ghost use Rattle.bind_write.specs.Holding as spec;
 use crate::source::{Source, context_for, entries_for};
 use crate::spots::{number_of, spot_at, spots_of};
 use crate::wording::{Plain, Wording, term_wording};
-use bind_rows::{Content, Row};
+use bind_rows::{Content, Row, Written};
 use bind_table::Line;
+use term_table::{Context, Term};
+
+fn has_filler(row: &Row) -> bool
+    ensures { result ≡ spec.has_filler row.now.written }
+{
+    matches!(row.written, Written::OrFiller(_))
+}
+
+/// Whether it is plain without a look at the entries that a row writes nothing of its term in the context: no such term stands in the
+/// context's occurrence, and the row has no filler. Where it isn't plain, it may still write nothing.
+fn is_absent(source: &Source<'_>, row: &Row, term: Term, context: Context) -> bool
+    requires source { sources.IsSource source.now }
+    requires context { sources.IsAround source.now.context context }
+    ensures { result ≡ true → writing.term_text row.now source.now.entries.now term context ≡ None }
+{
+    if context.outer.is_none() {
+        return false;
+    }
+    if source.presence.may_have(term) {
+        return false;
+    }
+    !has_filler(row)
+}
 
 /// What a row writes: its constant, or what its term has in the context.
 pub(crate) fn wording_of<'a>(source: &Source<'a>, row: &'a Row) -> Option<Wording<'a>>
@@ -27,6 +50,9 @@ pub(crate) fn wording_of<'a>(source: &Source<'a>, row: &'a Row) -> Option<Wordin
         }),
         Content::Term(term) => {
             let context = context_for(row, source.context);
+            if is_absent(source, row, *term, context) {
+                return None;
+            }
             term_wording(row, entries_for(source, context), *term, context)
         }
     }
@@ -41,6 +67,9 @@ pub(crate) fn writes(source: &Source<'_>, row: &Row) -> bool
         Content::Constant(_) => false,
         Content::Term(term) => {
             let context = context_for(row, source.context);
+            if is_absent(source, row, *term, context) {
+                return false;
+            }
             term_wording(row, entries_for(source, context), *term, context).is_some()
         }
     }
@@ -103,6 +132,9 @@ fn is_held_somewhere(source: &Source<'_>, line: &Line, inside: &[Line]) -> bool
     ensures { (cells : List Cell) (plan : Plan) → spec.IsLineOf source.now.rows.now line.now inside.now cells plan
         → result ≡ list_any (trees.line_holds source.now.entries.now cells plan) (trees.spots source.now.entries.now source.now.context line.now.step.group) }
 {
+    if line.step.group.is_none() {
+        return is_held(source, line, inside);
+    }
     let spots = spots_of(source, line.step.group);
     'spots: for k in 0..number_of(spots) {
         if is_held(&spot_at(source, spots, k), line, inside) {
@@ -123,21 +155,11 @@ pub(crate) fn is_held(source: &Source<'_>, line: &Line, inside: &[Line]) -> bool
     cells_hold(source, line) || holds(source, inside)
 }
 
-/// Whether the row has a term.
-fn has_term(row: &Row) -> bool
-    ensures { result ≡ spec.has_any_term row.now }
-{
-    match row.content {
-        Content::Term(_) => true,
-        Content::Constant(_) => false,
-    }
-}
-
 fn has_term_at(rows: &[Row], number: usize) -> bool
     ensures { result ≡ spec.has_term_at (slice_get rows.now number) }
 {
     match row_at(rows, number) {
-        Some(row) => has_term(row),
+        Some(row) => row.has_term(),
         None => false,
     }
 }
@@ -146,7 +168,7 @@ fn has_constant_at(rows: &[Row], number: usize) -> bool
     ensures { result ≡ spec.has_constant_at (slice_get rows.now number) }
 {
     match row_at(rows, number) {
-        Some(row) => !has_term(row),
+        Some(row) => !row.has_term(),
         None => false,
     }
 }

@@ -5,6 +5,7 @@ mod cells;
 mod documents;
 mod holding;
 mod looking;
+mod presence;
 mod roots;
 mod sizes;
 mod source;

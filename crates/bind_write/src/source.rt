@@ -6,6 +6,7 @@ ghost use Rattle.inv_terms.specs.Listing.{seat_of};
 ghost use Rattle.bind_meaning.specs.Writing as writing;
 ghost use Rattle.bind_write.specs.Sources as spec;
 
+use crate::presence::Presence;
 use bind_rows::Row;
 use inv_terms::Entry;
 use term_table::{Context, Group, ROOT, Slot, run_in};
@@ -18,6 +19,8 @@ pub(crate) struct Source<'a> {
     pub entries: &'a [Entry],
     /// Those in the outer occurrence of the context. All, where it has none.
     pub run: &'a [Entry],
+    /// What may stand among those.
+    pub presence: Presence,
     pub context: Context,
 }
 
@@ -31,6 +34,7 @@ pub(crate) fn whole<'a>(rows: &'a [Row], entries: &'a [Entry]) -> Source<'a>
         rows,
         entries,
         run: entries,
+        presence: Presence::of_any(),
         context: ROOT,
     }
 }
@@ -55,10 +59,12 @@ fn outer_occurrence<'a>(source: &Source<'a>, slot: Slot) -> Source<'a>
         outer: Some(slot),
         inner: None,
     };
+    let run = run_in(source.entries, context);
     Source {
         rows: source.rows,
         entries: source.entries,
-        run: run_in(source.entries, context),
+        run,
+        presence: Presence::among(run),
         context,
     }
 }
@@ -71,6 +77,7 @@ fn inner_occurrence<'a>(source: &Source<'a>, slot: Slot) -> Source<'a>
         rows: source.rows,
         entries: source.entries,
         run: source.run,
+        presence: source.presence,
         context: Context {
             outer: source.context.outer,
             inner: Some(slot),

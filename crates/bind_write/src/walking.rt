@@ -93,6 +93,9 @@ fn put_line<W: Writer, K: Sink>(
         (flat_map (spec.element_calls source.now.entries.now line.now.step cells plan held) (trees.spots source.now.entries.now source.now.context line.now.step.group)) (W.view pen.new) (K.view out.new) }
     ensures state { state_of (W.view pen.new) ≢ Fresh }
 {
+    if line.step.group.is_none() {
+        return put_element(pen, out, source, line, inside, held);
+    }
     let spots = spots_of(source, line.step.group);
     'spots: for k in 0..number_of(spots) {
         put_element(pen, out, &spot_at(source, spots, k), line, inside, held)?;

@@ -309,12 +309,12 @@ fn report<L: Ledger, O: Sink>(
 }
 
 /// What the rules find, file by file.
-fn judge_all<L: Ledger>(
+fn judge_all<'r, L: Ledger>(
     alloc: Global,
-    chosen: &[Chosen<'_>],
+    chosen: &[Chosen<'r>],
     doc: &Doc<'_>,
     steps: &mut Steps<L>,
-) -> Result<Vec<Findings>, AllocError>
+) -> Result<Vec<Findings<'r>>, AllocError>
     requires { AreChosen (map chosen_of chosen.now) }
     ensures { IfOk result (λ found. found.items ≡ spec.all_found (tree_nodes doc.now) (map chosen_of chosen.now)) }
 {
@@ -326,7 +326,7 @@ fn judge_all<L: Ledger>(
 }
 
 /// Writes the report in SVRL, or the plain one.
-fn write_report<O: Sink>(svrl: bool, found: &[Findings], out: &mut O) -> Result<(), WriteFault>
+fn write_report<O: Sink>(svrl: bool, found: &[Findings<'_>], out: &mut O) -> Result<(), WriteFault>
     ensures { Writes result (spec.report_text svrl found.now) (O.view out.old) (O.view out.new) }
 {
     if svrl {
@@ -337,7 +337,7 @@ fn write_report<O: Sink>(svrl: bool, found: &[Findings], out: &mut O) -> Result<
 }
 
 /// The status of a report.
-fn finding_status(found: &[Findings]) -> Status
+fn finding_status(found: &[Findings<'_>]) -> Status
     ensures { result ≡ spec.finding_status found.now }
 {
     'files: for file in found {
@@ -348,14 +348,14 @@ fn finding_status(found: &[Findings]) -> Status
     Status::Done
 }
 
-fn any_counts(lines: &[Line]) -> bool
+fn any_counts(lines: &[Line<'_>]) -> bool
     ensures { result ≡ list_any spec.counts lines.now }
 {
     lines.iter().any(|line| counts(line))
 }
 
 /// Whether a fatal assertion failed, or one is in error.
-fn counts(line: &Line) -> bool
+fn counts(line: &Line<'_>) -> bool
     ensures { result ≡ spec.counts line.now }
 {
     match line {
@@ -364,7 +364,7 @@ fn counts(line: &Line) -> bool
     }
 }
 
-fn finding_counts(finding: &Finding) -> bool
+fn finding_counts(finding: &Finding<'_>) -> bool
     ensures { result ≡ spec.finding_counts finding.now.outcome finding.now.level }
 {
     match finding.outcome {

@@ -33,13 +33,13 @@ impl Drop for Ready {
 }
 
 impl Ready {
-    /// What they find in a document, in the order of judging. The judging takes its steps.
+    /// What they find in a document, in the order of judging: its texts are lent from them. The judging takes its steps.
     pub fn find<L: Ledger>(
         &self,
         alloc: Global,
         doc: &Doc<'_>,
         steps: &mut Steps<L>,
-    ) -> Result<Findings, AllocError>
+    ) -> Result<Findings<'_>, AllocError>
         requires { IsReady self.now }
         ensures { IfOk result (λ found. found ≡ found_by (seen_ready self.now) (tree_nodes doc.now)) }
     {

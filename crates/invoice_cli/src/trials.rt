@@ -10,14 +10,16 @@ use job_course::Status;
 use std::alloc::Global;
 use std::marker::Brand;
 use std::sync::ledger::{Blank, Ledger};
-use trial_laws::trials_keep_the_terms;
+use trial_laws::{trials_find_one_report, trials_keep_the_terms};
 use trial_run::{run_trial, write_trial};
 
-/// A trial of each number of lines finds the same terms and the generated total. It has no code.
+/// A trial of each number of lines finds the same terms, the generated total, and by its rules the last line alone. It
+/// has no code.
 pub(crate) fn trials_keep_terms()
     ensures { TrialsKeepTerms }
 {
     trials_keep_the_terms();
+    trials_find_one_report();
 }
 
 /// Tries the tool on a generated invoice of so many lines, and writes what the trial came to. Nothing is written before it is over.

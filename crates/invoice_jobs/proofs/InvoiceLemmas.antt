@@ -50,15 +50,13 @@ by_same_rows rows other same nodes lists None = refl
 by_same_rows rows other same nodes lists (Some table) = ap (λ r. terms_of nodes r lists) (same table)
 
 -- An invoice may be written by each of them.
-pub table_laid : (terms : List ExtTerm) (tables : Tables) → AreTablesFor terms tables → AreGood terms
-    → ((t : List ExtTerm) (table : Which) → AreGood t → is_laid (rows_for t table) ≡ true)
-    → (table : Which) (rows : List Row) → rows ≡ rows_in tables table → is_laid rows ≡ true
-table_laid terms tables are good laid table rows is = ap is_laid (is ∙ are table) ∙ laid terms table good
+module _ (terms : List ExtTerm) (good : AreGood terms) (table : Which) (rows : List Row) (is : rows ≡ rows_for terms table) where
+  pub table_laid : ((t : List ExtTerm) (table : Which) → AreGood t → is_laid (rows_for t table) ≡ true) → is_laid rows ≡ true
+  table_laid laid = ap is_laid is ∙ laid terms table good
 
-pub table_notes : (terms : List ExtTerm) (tables : Tables) → AreTablesFor terms tables → AreGood terms
-    → ((t : List ExtTerm) (table : Which) → AreGood t → list_all has_plain_attribute (rows_for t table) ≡ true)
-    → (table : Which) (rows : List Row) → rows ≡ rows_in tables table → list_all has_plain_attribute rows ≡ true
-table_notes terms tables are good notes table rows is = ap (list_all has_plain_attribute) (is ∙ are table) ∙ notes terms table good
+  pub table_notes : ((t : List ExtTerm) (table : Which) → AreGood t → list_all has_plain_attribute (rows_for t table) ≡ true)
+      → list_all has_plain_attribute rows ≡ true
+  table_notes notes = ap (list_all has_plain_attribute) is ∙ notes terms table good
 
 pub without_terms_good : (tables : Tables) → AreTablesFor [] tables → AreFormed tables → AreGood []
 without_terms_good tables are formed = record {

@@ -21,7 +21,7 @@ use Rattle.job_course.specs.declared.status.Status.TheVariants as statuses
 use Rattle.job_course.specs.Course.{Course, ends, refusal, lists_course, taken_course}
 use Rattle.job_course.specs.Outside.{TakesOrFails, HasRead}
 use Rattle.job_course.specs.Runs.{AreListed, Runs, Continues, Fails}
-use Rattle.job_course.proofs.Ends.{behind_lists, memory_here}
+use Rattle.job_course.proofs.Ends.{behind_lists}
 use Rattle.job_course.proofs.FileLemmas.{memory_in, refused_here}
 use Rattle.invoice_jobs.specs.declared.sources.Extended.{Extended}
 use Rattle.invoice_jobs.specs.Sources.{listed_course, extension_line, bad_row_line, by_good, by_terms, terms_course, extended_course, with_terms, IsExtensionRefusal, IsRowRefusal, IsRefusedBy}
@@ -153,16 +153,10 @@ module _ (file : List ℕ) (bytes : List ℕ) (shelf mid : ShelfView) (err mid_e
 
 -- ---- none are named
 
-pub no_terms_go_on : (result : Result Extended Status) (shelf : ShelfView) (err : SinkView) → IfOk result (λ extended. extended.extension ≡ [])
-    → IfOk result (λ extended. Continues (extended_course None) extended.extension shelf shelf err err)
-no_terms_go_on (Ok extended) shelf err is = λ next shelf' out out' err' status further.
+pub no_terms_go_on : (extended : Extended) (shelf : ShelfView) (err : SinkView) → extended.extension ≡ []
+    → Continues (extended_course None) extended.extension shelf shelf err err
+no_terms_go_on extended shelf err is = λ next shelf' out out' err' status further.
     subst (λ t. Runs (next t) (record { shelf = shelf; out = out; err = err }) (record { shelf = shelf'; out = out'; err = err' }) status) is further
-no_terms_go_on (Err status) shelf err is = tt
-
-pub no_tables : (result : Result Extended Status) (shelf : ShelfView) (err : SinkView) → IfErr result (λ status. status ≡ statuses.Memory)
-    → IfErr result (λ status. Fails (extended_course None) status shelf shelf err err)
-no_tables (Ok extended) shelf err is = tt
-no_tables (Err status) shelf err is = λ next out. rw is (memory_here (next []) shelf out err)
 
 -- ---- both
 

@@ -1,9 +1,10 @@
 //! Jobs that read an invoice.
-ghost use Rattle.std.specs.Prelude.{◌≢◌, ◌<◌, length, IfOk, IfErr};
+ghost use Rattle.std.specs.Prelude.{◌≡◌, ◌≢◌, ◌<◌, length, IfOk, IfErr};
 ghost use Rattle.bind_meaning.specs.declared.fault.BindKind.TheVariants as kinds;
 ghost use Rattle.inv_base.specs.Outside.{ShelfView};
-ghost use Rattle.bind_run.specs.Extensions.{AreGood};
+ghost use Rattle.bind_run.specs.Extensions.{AreGood, rows_for};
 ghost use Rattle.bind_run.specs.Reading.{AreTablesFor};
+ghost use Rattle.extension_laws.specs.Texts.{target_rows};
 ghost use Rattle.job_course.specs.Runs.{Runs, Continues, Fails};
 ghost use Rattle.invoice_jobs.specs.Sources.{basis_of, sources_of};
 ghost use Rattle.invoice_jobs.specs.Invoices.{read_of, given_of, IsInvoiceRefusal, invoice_course, read_course, show_course, converted, convert_course, extracted, extract_course};
@@ -11,6 +12,7 @@ ghost use Rattle.invoice_jobs.specs.Invoices.{read_of, given_of, IsInvoiceRefusa
 use crate::refusals::{tell_attach_fault, tell_condition, tell_invoice_fault};
 use crate::sources::{Basis, NO_SOURCES, Sources, load_basis};
 use bind_run::{BindFault, BindKind, ReadInvoice, Syntax, carries, read_document, target, write};
+use bind_table::Binding;
 use bumpalo::Bump;
 use extension_laws::extended_tables_are_laid;
 use inv_base::{Shelf, Sink};
@@ -74,8 +76,8 @@ impl Drop for Loaded {
     }
 }
 
-/// The invoice of a file, by what the files beside it give; or the status with which the job ends. The tables are there before
-/// the document is opened.
+/// The invoice of a file, by what the files beside it give; or the status with which the job ends. These are read, and the terms of a
+/// user judged, before the document is opened.
 pub(crate) fn load<S: Shelf, E: Sink>(
     alloc: Global,
     sources: &Sources<'_>,
@@ -142,13 +144,14 @@ pub fn convert<S: Shelf, O: Sink, E: Sink>(
         (record { shelf = S.view shelf.new; out = O.view out.new; err = E.view err.new }) result }
 {
     match load(alloc, sources, file, shelf, err) {
-        Ok(loaded) => write_converted(&loaded, syntax, out, err),
+        Ok(loaded) => write_converted(alloc, &loaded, syntax, out, err),
         Err(status) => status,
     }
 }
 
-/// Writes an invoice in a syntax, if it is carried there; nothing is written before that is known.
+/// Writes an invoice in a syntax, by the table for it.
 fn write_converted<O: Sink, E: Sink>(
+    alloc: Global,
     loaded: &Loaded,
     syntax: Syntax,
     out: &mut O,
@@ -160,9 +163,33 @@ fn write_converted<O: Sink, E: Sink>(
         (record { shelf = shelf; out = O.view out.old; err = E.view err.old })
         (record { shelf = shelf; out = O.view out.new; err = E.view err.new }) result }
 {
+    let which = target(&loaded.read.invoice, syntax);
+    match loaded.basis.tables.table(alloc, which) {
+        Ok(table) => {
+            let status = write_by(loaded, syntax, table.as_ref(), out, err);
+            drop(table);
+            status
+        }
+        Err(_) => Status::Memory,
+    }
+}
+
+/// Writes an invoice by the table of a syntax, if it is carried there; nothing is written before that is known.
+fn write_by<O: Sink, E: Sink>(
+    loaded: &Loaded,
+    syntax: Syntax,
+    table: &Binding,
+    out: &mut O,
+    err: &mut E,
+) -> Status
+    requires table { table.now ≡ target_rows (rows_for loaded.now.basis.extension) syntax loaded.now.read.invoice }
+    requires good { AreGood loaded.now.basis.extension }
+    ensures { (shelf : ShelfView) → Runs (converted syntax (given_of loaded.now))
+        (record { shelf = shelf; out = O.view out.old; err = E.view err.old })
+        (record { shelf = shelf; out = O.view out.new; err = E.view err.new }) result }
+{
     extended_tables_are_laid();
     let invoice = &loaded.read.invoice;
-    let table = loaded.basis.tables.table(target(invoice, syntax));
     match carries(invoice, table) {
         Ok(()) => {}
         Err(fault) => {

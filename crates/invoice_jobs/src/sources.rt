@@ -80,18 +80,14 @@ fn load_lists<S: Shelf, E: Sink>(
 }
 
 /// The three tables as they are.
-fn without_terms(alloc: Global) -> Result<Extended, Status>
-    ensures tables { IfOk result (λ extended. AreTablesFor extended.extension extended.tables) }
-    ensures good { IfOk result (λ extended. AreGood extended.extension) }
-    ensures none { IfOk result (λ extended. extended.extension ≡ []) }
-    ensures memory { IfErr result (λ status. status ≡ statuses.Memory) }
+fn without_terms(alloc: Global) -> Extended
+    ensures tables { AreTablesFor result.extension result.tables }
+    ensures good { AreGood result.extension }
+    ensures none { result.extension ≡ [] }
 {
-    match Tables::built_in(alloc) {
-        Ok(tables) => Ok(Extended {
-            extension: Extension::none(alloc),
-            tables,
-        }),
-        Err(_) => Err(Status::Memory),
+    Extended {
+        extension: Extension::none(alloc),
+        tables: Tables::built_in(),
     }
 }
 
@@ -195,7 +191,7 @@ pub fn load_extended<S: Shelf, E: Sink>(
 {
     match extension_file {
         Some(file) => load_terms(alloc, file, shelf, err),
-        None => without_terms(alloc),
+        None => Ok(without_terms(alloc)),
     }
 }
 

@@ -2,9 +2,9 @@
 
 use crate::documents::document;
 use bumpalo::Bump;
-use inv_base::{MemSink, Txt};
+use inv_base::{MemSink, Str, Txt};
 use node_arena::{Doc, NodeId};
-use schematron_findings::{Finding, FindingKind, Findings, Level, Line, level_of};
+use schematron_findings::{Finding, FindingKind, Findings, Lent, Level, Line, level_of};
 use std::alloc::{AllocError, Global};
 use std::test::Fail;
 use svrl_report::{write_plain, write_svrl};
@@ -43,52 +43,56 @@ const TWO_SVRL_END: &str = "\
 </svrl:schematron-output>
 ";
 
-/// A text, if there is one.
-fn text(alloc: Global, text: Option<&str>) -> Result<Option<Txt>, AllocError> {
-    match text {
-        Some(text) => Ok(Some(Txt::of(alloc, text)?)),
-        None => Ok(None),
+/// A label that is lent, if there is one.
+fn lent_label(label: Option<&str>) -> Option<Lent<'_>> {
+    match label {
+        Some(label) => Some(Lent::of(label)),
+        None => None,
+    }
+}
+
+/// The same, as an identifier.
+fn lent_id(id: Option<&str>) -> Option<Str<'_>> {
+    match id {
+        Some(id) => Some(Str::lent(id)),
+        None => None,
     }
 }
 
 /// Adds what a pattern begins with: the pattern with its id, and the first node that a rule judges.
-fn push_pattern(
-    alloc: Global,
-    findings: &mut Findings,
-    id: Option<&str>,
+fn push_pattern<'r>(
+    findings: &mut Findings<'r>,
+    id: Option<&'r str>,
     node: NodeId,
-    context: &str,
+    context: &'r str,
 ) -> Result<(), AllocError> {
-    let id = text(alloc, id)?;
-    findings.push(Line::Pattern { id })?;
-    let context = Txt::of(alloc, context)?;
+    findings.push(Line::Pattern { id: lent_label(id) })?;
     findings.push(Line::Fired {
         node,
         rule: 0,
-        context,
+        context: Lent::of(context),
     })
 }
 
 /// A finding with no mark.
-fn finding(
+fn finding<'r>(
     alloc: Global,
     outcome: FindingKind,
-    test: &str,
+    test: &'r str,
     location: &str,
     message: &str,
-) -> Result<Finding, AllocError> {
-    let test = Txt::of(alloc, test)?;
+) -> Result<Finding<'r>, AllocError> {
     let location = Txt::of(alloc, location)?;
     let message = Txt::of(alloc, message)?;
     Ok(Finding {
         outcome,
-        test,
+        level: Level::Fatal,
+        test: Lent::of(test),
         location,
         message,
         id: None,
         flag: None,
         role: None,
-        level: Level::Fatal,
     })
 }
 
@@ -109,42 +113,41 @@ const BARE: Marks = Marks {
 };
 
 /// Adds a finding with its marks.
-fn push_marked(
-    alloc: Global,
-    findings: &mut Findings,
+fn push_marked<'r>(
+    findings: &mut Findings<'r>,
     marks: Marks,
-    found: Finding,
+    found: Finding<'r>,
 ) -> Result<(), AllocError> {
     let mut found = found;
     found.level = marks.level;
-    found.id = text(alloc, marks.id)?;
-    found.flag = text(alloc, marks.flag)?;
-    found.role = text(alloc, marks.role)?;
+    found.id = lent_id(marks.id);
+    found.flag = lent_label(marks.flag);
+    found.role = lent_label(marks.role);
     findings.push(Line::Found(found))
 }
 
 /// Adds a finding at the document, with its marks.
 fn push_found(
     alloc: Global,
-    findings: &mut Findings,
+    findings: &mut Findings<'_>,
     outcome: FindingKind,
     message: &str,
     marks: Marks,
 ) -> Result<(), AllocError> {
     let found = finding(alloc, outcome, "t", "/", message)?;
-    push_marked(alloc, findings, marks, found)
+    push_marked(findings, marks, found)
 }
 
-fn push_first(alloc: Global, findings: &mut Findings, node: NodeId) -> Result<(), AllocError> {
-    push_pattern(alloc, findings, None, node, "a")?;
-    push_pattern(alloc, findings, None, node, "*")?;
+fn push_first(alloc: Global, findings: &mut Findings<'_>, node: NodeId) -> Result<(), AllocError> {
+    push_pattern(findings, None, node, "a")?;
+    push_pattern(findings, None, node, "*")?;
     let location = "/*:a[namespace-uri()=''][1]";
     let found = finding(alloc, FindingKind::Failed, "false()", location, "bad")?;
     let marks = Marks {
         id: Some("B"),
         ..BARE
     };
-    push_marked(alloc, findings, marks, found)
+    push_marked(findings, marks, found)
 }
 
 const REPORTED: Marks = Marks {
@@ -180,11 +183,11 @@ fn information_marks() -> Marks {
     }
 }
 
-fn push_second(alloc: Global, findings: &mut Findings, node: NodeId) -> Result<(), AllocError> {
+fn push_second(alloc: Global, findings: &mut Findings<'_>, node: NodeId) -> Result<(), AllocError> {
     let error = FindingKind::Error(DynError::FORG0001);
     let failed = FindingKind::Failed;
     let text = "\"a\" & b";
-    push_pattern(alloc, findings, Some("P"), node, "/")?;
+    push_pattern(findings, Some("P"), node, "/")?;
     push_found(alloc, findings, FindingKind::Reported, text, REPORTED)?;
     push_found(alloc, findings, error, "", error_marks())?;
     push_found(alloc, findings, failed, "w", warning_marks())?;
@@ -192,7 +195,7 @@ fn push_second(alloc: Global, findings: &mut Findings, node: NodeId) -> Result<(
 }
 
 /// Whether the plain report is this.
-fn is_plain(alloc: Global, files: &[Findings], want: &str) -> Result<bool, AllocError> {
+fn is_plain(alloc: Global, files: &[Findings<'_>], want: &str) -> Result<bool, AllocError> {
     let mut sink = MemSink::new(alloc, 1000)?;
     let written = write_plain(files, &mut sink).is_ok();
     let same = sink.bytes() == want.as_bytes();
@@ -201,7 +204,7 @@ fn is_plain(alloc: Global, files: &[Findings], want: &str) -> Result<bool, Alloc
 }
 
 /// Whether the report in SVRL ends so.
-fn ends_svrl(alloc: Global, files: &[Findings], want: &str) -> Result<bool, AllocError> {
+fn ends_svrl(alloc: Global, files: &[Findings<'_>], want: &str) -> Result<bool, AllocError> {
     let mut sink = MemSink::new(alloc, 2000)?;
     let written = write_svrl(files, &mut sink).is_ok();
     let same = sink.bytes().ends_with(want.as_bytes());
@@ -210,7 +213,7 @@ fn ends_svrl(alloc: Global, files: &[Findings], want: &str) -> Result<bool, Allo
 }
 
 /// Whether the plain report doesn't fit into so many bytes, and fills no more.
-fn overflows(alloc: Global, files: &[Findings], room: usize) -> Result<bool, AllocError> {
+fn overflows(alloc: Global, files: &[Findings<'_>], room: usize) -> Result<bool, AllocError> {
     let mut sink = MemSink::new(alloc, room)?;
     let failed = write_plain(files, &mut sink).is_err();
     let fills = sink.bytes().len() <= room;
@@ -219,7 +222,7 @@ fn overflows(alloc: Global, files: &[Findings], room: usize) -> Result<bool, All
 }
 
 /// The findings in the first of two files, and in both.
-fn expect_reports(alloc: Global, files: &[Findings]) -> Result<(), Fail> {
+fn expect_reports(alloc: Global, files: &[Findings<'_>]) -> Result<(), Fail> {
     let one = files.get(..1).ok_or("files")?;
     expect(is_plain(alloc, one, ONE_PLAIN)?, "one plain")?;
     expect(ends_svrl(alloc, one, ONE_SVRL)?, "one svrl")?;
@@ -229,7 +232,10 @@ fn expect_reports(alloc: Global, files: &[Findings]) -> Result<(), Fail> {
 }
 
 /// The findings, where all of them were pushed.
-fn filled(findings: Findings, pushed: Result<(), AllocError>) -> Result<Findings, AllocError> {
+fn filled<'r>(
+    findings: Findings<'r>,
+    pushed: Result<(), AllocError>,
+) -> Result<Findings<'r>, AllocError> {
     match pushed {
         Ok(()) => Ok(findings),
         Err(error) => {
@@ -239,19 +245,19 @@ fn filled(findings: Findings, pushed: Result<(), AllocError>) -> Result<Findings
     }
 }
 
-fn first_file(alloc: Global, node: NodeId) -> Result<Findings, AllocError> {
+fn first_file(alloc: Global, node: NodeId) -> Result<Findings<'static>, AllocError> {
     let mut findings = Findings::new(alloc);
     let pushed = push_first(alloc, &mut findings, node);
     filled(findings, pushed)
 }
 
-fn second_file(alloc: Global, node: NodeId) -> Result<Findings, AllocError> {
+fn second_file(alloc: Global, node: NodeId) -> Result<Findings<'static>, AllocError> {
     let mut findings = Findings::new(alloc);
     let pushed = push_second(alloc, &mut findings, node);
     filled(findings, pushed)
 }
 
-fn both_files(alloc: Global, doc: &Doc<'_>) -> Result<Vec<Findings>, AllocError> {
+fn both_files(alloc: Global, doc: &Doc<'_>) -> Result<Vec<Findings<'static>>, AllocError> {
     let mut files = Vec::new(alloc);
     files.push(first_file(alloc, doc.root())?)?;
     files.push(second_file(alloc, doc.document())?)?;

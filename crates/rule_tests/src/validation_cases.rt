@@ -6,11 +6,11 @@ ghost use Rattle.bind_meaning.specs.declared.fault.BindFault.{BindFault};
 use crate::documents::document;
 use bind_meaning::{BindFault, BindKind};
 use bumpalo::Bump;
-use inv_base::{MemSink, Steps, Txt};
+use inv_base::{MemSink, Steps, Str, Txt};
 use inv_terms::Name;
 use line_places::{ByteReceiver, LineStarts};
 use node_arena::{Doc, NodeId};
-use schematron_findings::{Finding, FindingKind, Findings, Level, Line};
+use schematron_findings::{Finding, FindingKind, Findings, Lent, Level, Line};
 use std::alloc::{AllocError, Global};
 use std::marker::Brand;
 use std::sync::ledger::{Blank, Ledger};
@@ -139,34 +139,31 @@ fn message_of(id: &str) -> &'static str {
     }
 }
 
-fn push_found(
+fn push_found<'r>(
     alloc: Global,
-    findings: &mut Findings,
+    findings: &mut Findings<'r>,
     sort: Sort,
-    id: &str,
+    id: &'r str,
 ) -> Result<(), AllocError> {
-    let test = Txt::of(alloc, "t")?;
     let location = Txt::of(alloc, location_of(id))?;
     let message = Txt::of(alloc, message_of(id))?;
-    let id = Some(Txt::of(alloc, id)?);
     findings.push(Line::Found(Finding {
         outcome: sort.outcome,
-        test,
+        level: sort.level,
+        test: Lent::of("t"),
         location,
         message,
-        id,
+        id: Some(Str::lent(id)),
         flag: None,
         role: None,
-        level: sort.level,
     }))
 }
 
-fn push_fired(alloc: Global, findings: &mut Findings, node: NodeId) -> Result<(), AllocError> {
-    let context = Txt::of(alloc, "c")?;
+fn push_fired(findings: &mut Findings<'_>, node: NodeId) -> Result<(), AllocError> {
     findings.push(Line::Fired {
         node,
         rule: 3,
-        context,
+        context: Lent::of("c"),
     })
 }
 
@@ -179,26 +176,26 @@ fn element_of(elements: &Elements, word: &str) -> NodeId {
 }
 
 /// Adds the line that a text tells.
-fn push_line(
+fn push_line<'r>(
     alloc: Global,
-    findings: &mut Findings,
+    findings: &mut Findings<'r>,
     elements: &Elements,
-    text: &str,
+    text: &'r str,
 ) -> Result<(), AllocError> {
     let (word, behind) = text.split_once(' ').unwrap_or((text, ""));
     match word {
         "pattern" => findings.push(Line::Pattern { id: None }),
-        "fired" => push_fired(alloc, findings, element_of(elements, behind)),
+        "fired" => push_fired(findings, element_of(elements, behind)),
         _ => push_found(alloc, findings, sort_of(word), behind),
     }
 }
 
 /// Adds the lines that stand in a text, with commas between them.
-fn push_lines(
+fn push_lines<'r>(
     alloc: Global,
-    findings: &mut Findings,
+    findings: &mut Findings<'r>,
     elements: &Elements,
-    texts: &str,
+    texts: &'r str,
 ) -> Result<(), AllocError> {
     for text in texts.split(',') {
         if !text.is_empty() {
@@ -208,7 +205,11 @@ fn push_lines(
     Ok(())
 }
 
-fn findings_of(alloc: Global, elements: &Elements, texts: &str) -> Result<Findings, AllocError> {
+fn findings_of<'r>(
+    alloc: Global,
+    elements: &Elements,
+    texts: &'r str,
+) -> Result<Findings<'r>, AllocError> {
     let mut findings = Findings::new(alloc);
     match push_lines(alloc, &mut findings, elements, texts) {
         Ok(()) => Ok(findings),
@@ -220,7 +221,7 @@ fn findings_of(alloc: Global, elements: &Elements, texts: &str) -> Result<Findin
 }
 
 /// Whether the plain report is this.
-fn is_plain(alloc: Global, report: &Validation, want: &str) -> Result<bool, AllocError> {
+fn is_plain(alloc: Global, report: &Validation<'_>, want: &str) -> Result<bool, AllocError> {
     let mut sink = MemSink::new(alloc, 2000)?;
     let written = report.write_plain(&mut sink).is_ok();
     let same = sink.bytes() == want.as_bytes();
@@ -229,7 +230,7 @@ fn is_plain(alloc: Global, report: &Validation, want: &str) -> Result<bool, Allo
 }
 
 /// Whether the report in SVRL is this.
-fn is_svrl(alloc: Global, report: &Validation, want: &str) -> Result<bool, AllocError> {
+fn is_svrl(alloc: Global, report: &Validation<'_>, want: &str) -> Result<bool, AllocError> {
     let mut sink = MemSink::new(alloc, 3000)?;
     let written = report.write_svrl(&mut sink).is_ok();
     let same = sink.bytes() == want.as_bytes();
@@ -238,7 +239,7 @@ fn is_svrl(alloc: Global, report: &Validation, want: &str) -> Result<bool, Alloc
 }
 
 /// Whether neither report fits into so many bytes, and each fills no more.
-fn overflow(alloc: Global, report: &Validation, room: usize) -> Result<bool, AllocError> {
+fn overflow(alloc: Global, report: &Validation<'_>, room: usize) -> Result<bool, AllocError> {
     let mut sink = MemSink::new(alloc, room)?;
     let plain = report.write_plain(&mut sink).is_err();
     let svrl = report.write_svrl(&mut sink).is_err();
@@ -247,7 +248,7 @@ fn overflow(alloc: Global, report: &Validation, room: usize) -> Result<bool, All
     Ok(plain & svrl & fills)
 }
 
-fn is_told(alloc: Global, report: &Validation, wanted: Wanted) -> Result<bool, AllocError> {
+fn is_told(alloc: Global, report: &Validation<'_>, wanted: Wanted) -> Result<bool, AllocError> {
     let plain = is_plain(alloc, report, wanted.plain)?;
     let svrl = is_svrl(alloc, report, wanted.svrl)?;
     let failed = overflow(alloc, report, 60)?;
@@ -261,7 +262,7 @@ fn is_reported(
     lines: &LineStarts,
     faults: &[BindFault],
     passed: &[NodeId],
-    findings: Findings,
+    findings: Findings<'_>,
     wanted: Wanted,
 ) -> Result<bool, AllocError>
     requires faults { All (λ (fault : BindFault). fault.node < length doc.now.nodes) faults.now }
@@ -337,7 +338,7 @@ struct Counted<'a> {
 }
 
 /// Whether the plain report, which begins with a line for each finding, ends so.
-fn ends_plain(alloc: Global, report: &Validation, want: &str) -> Result<bool, AllocError> {
+fn ends_plain(alloc: Global, report: &Validation<'_>, want: &str) -> Result<bool, AllocError> {
     let mut sink = MemSink::new(alloc, 2000)?;
     let written = report.write_plain(&mut sink).is_ok();
     let same = sink.bytes().trim_ascii_end().ends_with(want.as_bytes());
@@ -345,7 +346,7 @@ fn ends_plain(alloc: Global, report: &Validation, want: &str) -> Result<bool, Al
     Ok(written & same)
 }
 
-fn is_counted(alloc: Global, report: &Validation, wanted: &str) -> Result<bool, AllocError> {
+fn is_counted(alloc: Global, report: &Validation<'_>, wanted: &str) -> Result<bool, AllocError> {
     let (yes, end) = wanted.split_once(' ').unwrap_or((wanted, ""));
     let ends = ends_plain(alloc, report, end)?;
     Ok(ends & (report.has_findings() == (yes == "yes")))

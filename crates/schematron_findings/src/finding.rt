@@ -1,5 +1,6 @@
+use crate::lent::Lent;
 use crate::level::Level;
-use inv_base::Txt;
+use inv_base::{Str, Txt};
 use node_arena::NodeId;
 use xpath_items::DynError;
 
@@ -14,30 +15,32 @@ pub enum FindingKind {
     Error(DynError),
 }
 
-/// An assertion that is told. Test, id, flag and role are those of the rule file, after parameters were put in.
-pub struct Finding {
+/// An assertion that is told. Test, id, flag and role are those of the rule file, after parameters were put in, and are
+/// lent from there; a finding that no rule file names has an id of its own.
+pub struct Finding<'r> {
+    // The small ones stand together, so that there are no gaps between the others.
     pub outcome: FindingKind,
-    pub test: Txt,
+    pub level: Level,
+    pub test: Lent<'r>,
     /// Where the node stands, as a path that XPath reads.
     pub location: Txt,
     pub message: Txt,
-    pub id: Option<Txt>,
-    pub flag: Option<Txt>,
-    pub role: Option<Txt>,
-    pub level: Level,
+    pub id: Option<Str<'r>>,
+    pub flag: Option<Lent<'r>>,
+    pub role: Option<Lent<'r>>,
 }
 
-impl Drop for Finding {
+impl Drop for Finding<'_> {
     fn drop(self) {
         let Finding {
             outcome: _,
+            level: _,
             test,
             location,
             message,
             id,
             flag,
             role,
-            level: _,
         } = self;
         drop(test);
         drop(location);
@@ -50,17 +53,17 @@ impl Drop for Finding {
 
 /// A line of what is found, in the order of a report.
 #[derive(Drop)]
-pub enum Line {
+pub enum Line<'r> {
     /// An active pattern begins.
     Pattern {
-        id: Option<Txt>,
+        id: Option<Lent<'r>>,
     },
     /// A node is judged by the rule of that number in the pattern, from 0 on, with that context.
     Fired {
         node: NodeId,
         rule: u32,
-        context: Txt,
+        context: Lent<'r>,
     },
     /// An assertion of that rule is told.
-    Found(Finding),
+    Found(Finding<'r>),
 }

@@ -3,8 +3,10 @@
 
 mod finding;
 mod findings;
+mod lent;
 mod level;
 
 pub use finding::{Finding, FindingKind, Line};
 pub use findings::Findings;
+pub use lent::Lent;
 pub use level::{Level, level_of};

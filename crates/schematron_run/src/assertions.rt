@@ -7,6 +7,7 @@ ghost use Rattle.schematron_run.specs.Judging as spec;
 ghost use Rattle.schematron_run.specs.Ready.{ready_assertion, ready_part, IsAssertionFor};
 ghost use Rattle.schematron_run.specs.Scenes.{nodes_of, count, IsSet};
 
+use crate::lending::{lent_id, lent_label, lent_text};
 use crate::messages::message_at;
 use crate::ready::ReadyAssertion;
 use crate::scene::Scene;
@@ -16,7 +17,6 @@ use node_arena::NodeId;
 use node_locations::push_location;
 use schematron_findings::{Finding, FindingKind, Findings, Line};
 use schematron_meaning::AssertionKind;
-use schematron_rules::Assertion;
 use std::alloc::AllocError;
 use std::sync::ledger::Ledger;
 use xpath_items::DynError;
@@ -40,23 +40,6 @@ fn told_where(kind: AssertionKind, holds: bool) -> Option<FindingKind>
         AssertionKind::Report if holds => Some(FindingKind::Reported),
         _ => None,
     }
-}
-
-/// The same text once more, where there is one.
-pub(crate) fn copied(text: &Option<Txt>) -> Result<Option<Txt>, AllocError>
-    ensures { IfOk result (λ copy. copy ≡ text.now) }
-{
-    match text {
-        None => Ok(None),
-        Some(text) => copied_text(text),
-    }
-}
-
-fn copied_text(text: &Txt) -> Result<Option<Txt>, AllocError>
-    ensures { IfOk result (λ copy. copy ≡ Some text.now) }
-{
-    let copy = text.try_clone()?;
-    Ok(Some(copy))
 }
 
 fn location_at(scene: &Scene<'_, '_>, n: NodeId) -> Result<Txt, AllocError>
@@ -96,45 +79,14 @@ fn location_and_message<'a, L: Ledger>(
     }
 }
 
-/// The flag and the role of an assertion once more.
-fn flag_and_role(source: &Assertion) -> Result<(Option<Txt>, Option<Txt>), AllocError>
-    ensures flag { IfOk result (λ both. both.0 ≡ source.now.flag) }
-    ensures role { IfOk result (λ both. both.1 ≡ source.now.role) }
-{
-    let flag = copied(&source.flag)?;
-    match copied(&source.role) {
-        Ok(role) => Ok((flag, role)),
-        Err(error) => {
-            drop(flag);
-            Err(error)
-        }
-    }
-}
-
-/// The identifier, the flag and the role of an assertion once more.
-fn labels_of(source: &Assertion) -> Result<(Option<Txt>, Option<Txt>, Option<Txt>), AllocError>
-    ensures id { IfOk result (λ labels. labels.0 ≡ source.now.id) }
-    ensures flag { IfOk result (λ labels. labels.1 ≡ source.now.flag) }
-    ensures role { IfOk result (λ labels. labels.2 ≡ source.now.role) }
-{
-    let id = copied(&source.id)?;
-    match flag_and_role(source) {
-        Ok((flag, role)) => Ok((id, flag, role)),
-        Err(error) => {
-            drop(id);
-            Err(error)
-        }
-    }
-}
-
-fn finding_of<'a, L: Ledger>(
+fn finding_of<'r, 'a, L: Ledger>(
     scene: &Scene<'_, 'a>,
-    assertion: &mut ReadyAssertion<'_, '_, 'a>,
+    assertion: &mut ReadyAssertion<'r, '_, 'a>,
     n: NodeId,
     env: &Env<'a>,
     outcome: FindingKind,
     steps: &mut Steps<L>,
-) -> Result<Finding, AllocError>
+) -> Result<Finding<'r>, AllocError>
     requires ready { IsAssertionFor scene.now.doc.now assertion.old }
     requires within { n < count scene.now }
     requires set { IsSet scene.now }
@@ -144,41 +96,27 @@ fn finding_of<'a, L: Ledger>(
     ensures ready { OnOk result (IsAssertionFor scene.now.doc.now assertion.new) }
 {
     let source = assertion.source;
-    let test = source.test.text.try_clone()?;
-    match location_and_message(scene, assertion, n, env, steps) {
-        Ok((location, message)) => match labels_of(source) {
-            Ok((id, flag, role)) => Ok(Finding {
-                outcome,
-                test,
-                location,
-                message,
-                id,
-                flag,
-                role,
-                level: source.level,
-            }),
-            Err(error) => {
-                drop(test);
-                drop(location);
-                drop(message);
-                Err(error)
-            }
-        },
-        Err(error) => {
-            drop(test);
-            Err(error)
-        }
-    }
+    let (location, message) = location_and_message(scene, assertion, n, env, steps)?;
+    Ok(Finding {
+        outcome,
+        level: source.level,
+        test: lent_text(&source.test.text),
+        location,
+        message,
+        id: lent_id(&source.id),
+        flag: lent_label(&source.flag),
+        role: lent_label(&source.role),
+    })
 }
 
 /// Adds what is told of an assertion, if anything is.
-fn tell<'a, L: Ledger>(
+fn tell<'r, 'a, L: Ledger>(
     scene: &Scene<'_, 'a>,
-    assertion: &mut ReadyAssertion<'_, '_, 'a>,
+    assertion: &mut ReadyAssertion<'r, '_, 'a>,
     n: NodeId,
     env: &Env<'a>,
     told: Option<FindingKind>,
-    findings: &mut Findings,
+    findings: &mut Findings<'r>,
     steps: &mut Steps<L>,
 ) -> Result<(), AllocError>
     requires ready { IsAssertionFor scene.now.doc.now assertion.old }
@@ -196,12 +134,12 @@ fn tell<'a, L: Ledger>(
     findings.push(Line::Found(finding))
 }
 
-fn judge_assertion<'a, L: Ledger>(
+fn judge_assertion<'r, 'a, L: Ledger>(
     scene: &Scene<'_, 'a>,
-    assertion: &mut ReadyAssertion<'_, '_, 'a>,
+    assertion: &mut ReadyAssertion<'r, '_, 'a>,
     n: NodeId,
     env: &Env<'a>,
-    findings: &mut Findings,
+    findings: &mut Findings<'r>,
     steps: &mut Steps<L>,
 ) -> Result<(), AllocError>
     requires ready { IsAssertionFor scene.now.doc.now assertion.old }
@@ -219,12 +157,12 @@ fn judge_assertion<'a, L: Ledger>(
 }
 
 /// Judges a node by the assertions of a rule.
-pub(crate) fn judge_assertions<'a, L: Ledger>(
+pub(crate) fn judge_assertions<'r, 'a, L: Ledger>(
     scene: &Scene<'_, 'a>,
-    assertions: &mut [ReadyAssertion<'_, '_, 'a>],
+    assertions: &mut [ReadyAssertion<'r, '_, 'a>],
     n: NodeId,
     env: &Env<'a>,
-    findings: &mut Findings,
+    findings: &mut Findings<'r>,
     steps: &mut Steps<L>,
 ) -> Result<(), AllocError>
     requires ready { All (IsAssertionFor scene.now.doc.now) assertions.old }

@@ -40,19 +40,20 @@ fn file_variables<'a, L: Ledger>(
 }
 
 /// All that the active patterns find.
-fn found_in<'a, L: Ledger>(
+fn found_in<'r: 'a, 'a, L: Ledger>(
     scene: &Scene<'_, 'a>,
-    rules: &'a Rules,
+    rules: &'r Rules,
     active: &Active,
     steps: &mut Steps<L>,
-) -> Result<Findings, AllocError>
+) -> Result<Findings<'r>, AllocError>
     requires set { IsSet scene.now }
     requires patterns { HasPatterns (seen_rules rules.now) }
     ensures { IfOk result (λ found. found ≡ spec.findings (seen_rules rules.now) (seen_active active.now) (nodes_of scene.now)) }
 {
     let mut env = file_variables(scene, rules, active, steps)?;
     let mut table = vec![in scene.alloc; None; scene.ordinals.len()]?;
-    let mut findings = Findings::new(scene.alloc);
+    // (the lifetime is that of the rules themselves, and not of this call's loan of them)
+    let mut findings: Findings<'r> = Findings::new(scene.alloc);
     judge_patterns(
         scene,
         rules.parts(),
@@ -72,13 +73,13 @@ fn found_in<'a, L: Ledger>(
 /// A pattern costs what its contexts and its tests cost, and not a pass over all nodes besides; the names of its plans
 /// are looked up in the document once. Each move of contexts, variables, tests and messages takes a step; those that
 /// locations are made by are no part of it.
-pub fn judge<L: Ledger>(
+pub fn judge<'r, L: Ledger>(
     alloc: Global,
-    rules: &Rules,
+    rules: &'r Rules,
     active: &Active,
     doc: &Doc<'_>,
     steps: &mut Steps<L>,
-) -> Result<Findings, AllocError>
+) -> Result<Findings<'r>, AllocError>
     requires { CameFrom (seen_rules rules.now) (seen_active active.now) }
     ensures { IfOk result (λ found. found ≡ spec.findings (seen_rules rules.now) (seen_active active.now) (tree_nodes doc.now)) }
 {

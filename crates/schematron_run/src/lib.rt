@@ -5,6 +5,7 @@ mod assertions;
 mod firsts;
 mod judging;
 mod law;
+mod lending;
 mod lets;
 mod messages;
 mod nodes;

@@ -9,6 +9,7 @@ ghost use Rattle.schematron_run.specs.Scenes.{nodes_of, count, IsSet};
 
 use crate::assertions::judge_assertions;
 use crate::firsts::entry_at;
+use crate::lending::lent_text;
 use crate::lets::fill;
 use crate::ready::ReadyRule;
 use crate::scene::Scene;
@@ -20,12 +21,12 @@ use std::sync::ledger::Ledger;
 use xpath_run::Env;
 
 /// Judges a node by a rule with its variables, which are cut off behind it.
-fn judge_inside<'a, L: Ledger>(
+fn judge_inside<'r, 'a, L: Ledger>(
     scene: &Scene<'_, 'a>,
-    rule: &mut ReadyRule<'_, '_, 'a>,
+    rule: &mut ReadyRule<'r, '_, 'a>,
     n: NodeId,
     env: &mut Env<'a>,
-    findings: &mut Findings,
+    findings: &mut Findings<'r>,
     steps: &mut Steps<L>,
 ) -> Result<(), AllocError>
     requires ready { IsRuleFor scene.now.doc.now rule.old }
@@ -52,13 +53,13 @@ fn judge_inside<'a, L: Ledger>(
 }
 
 /// Judges a node by the rule of that number.
-fn judge_by_rule<'a, L: Ledger>(
+fn judge_by_rule<'r, 'a, L: Ledger>(
     scene: &Scene<'_, 'a>,
-    rule: &mut ReadyRule<'_, '_, 'a>,
+    rule: &mut ReadyRule<'r, '_, 'a>,
     k: u32,
     n: NodeId,
     env: &mut Env<'a>,
-    findings: &mut Findings,
+    findings: &mut Findings<'r>,
     steps: &mut Steps<L>,
 ) -> Result<(), AllocError>
     requires ready { IsRuleFor scene.now.doc.now rule.old }
@@ -71,7 +72,7 @@ fn judge_by_rule<'a, L: Ledger>(
     ensures ready { OnOk result (IsRuleFor scene.now.doc.now rule.new) }
 {
     let source = rule.source;
-    let context = source.context.text.try_clone()?;
+    let context = lent_text(&source.context.text);
     findings.push(Line::Fired {
         node: n,
         rule: k,
@@ -81,13 +82,13 @@ fn judge_by_rule<'a, L: Ledger>(
 }
 
 /// Judges a node by the rule that is kept of it.
-fn judge_by_entry<'a, L: Ledger>(
+fn judge_by_entry<'r, 'a, L: Ledger>(
     scene: &Scene<'_, 'a>,
-    rules: &mut [ReadyRule<'_, '_, 'a>],
+    rules: &mut [ReadyRule<'r, '_, 'a>],
     kept: Option<u32>,
     n: NodeId,
     env: &mut Env<'a>,
-    findings: &mut Findings,
+    findings: &mut Findings<'r>,
     steps: &mut Steps<L>,
 ) -> Result<(), AllocError>
     requires ready { All (IsRuleFor scene.now.doc.now) rules.old }
@@ -111,13 +112,13 @@ fn judge_by_entry<'a, L: Ledger>(
 }
 
 /// Judges each of these nodes by the rule that the table keeps of it.
-pub(crate) fn judge_nodes<'a, L: Ledger>(
+pub(crate) fn judge_nodes<'r, 'a, L: Ledger>(
     scene: &Scene<'_, 'a>,
-    rules: &mut [ReadyRule<'_, '_, 'a>],
+    rules: &mut [ReadyRule<'r, '_, 'a>],
     table: &[Option<u32>],
     nodes: &[NodeId],
     env: &mut Env<'a>,
-    findings: &mut Findings,
+    findings: &mut Findings<'r>,
     steps: &mut Steps<L>,
 ) -> Result<(), AllocError>
     requires ready { All (IsRuleFor scene.now.doc.now) rules.old }

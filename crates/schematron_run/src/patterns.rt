@@ -9,8 +9,8 @@ ghost use Rattle.schematron_run.specs.Firsts.{IsClear};
 ghost use Rattle.schematron_run.specs.Judging as spec;
 ghost use Rattle.schematron_run.specs.Scenes.{nodes_of, count, IsSet};
 
-use crate::assertions::copied;
 use crate::firsts::{clear, first_rules};
+use crate::lending::lent_label;
 use crate::lets::fill_once;
 use crate::nodes::judge_nodes;
 use crate::ready::ready_rules;
@@ -25,12 +25,12 @@ use xpath_walks::documents_are_walkable;
 
 /// Judges each node by the first of the rules whose context matches it. The rules are made ready for that, and let go
 /// again. The table is clear before and behind.
-fn judge_by_rules<'a, L: Ledger>(
+fn judge_by_rules<'r: 'a, 'a, L: Ledger>(
     scene: &Scene<'_, 'a>,
-    rules: &'a [Rule],
+    rules: &'r [Rule],
     env: &mut Env<'a>,
     table: &mut [Option<u32>],
-    findings: &mut Findings,
+    findings: &mut Findings<'r>,
     steps: &mut Steps<L>,
 ) -> Result<(), AllocError>
     requires contexts { All HasContext (map seen_rule rules.now) }
@@ -61,12 +61,12 @@ fn judge_by_rules<'a, L: Ledger>(
 }
 
 /// Judges all nodes by a pattern. Its variables are cut off behind it.
-fn judge_pattern<'a, L: Ledger>(
+fn judge_pattern<'r: 'a, 'a, L: Ledger>(
     scene: &Scene<'_, 'a>,
-    pattern: &'a Expanded,
+    pattern: &'r Expanded,
     env: &mut Env<'a>,
     table: &mut [Option<u32>],
-    findings: &mut Findings,
+    findings: &mut Findings<'r>,
     steps: &mut Steps<L>,
 ) -> Result<(), AllocError>
     requires contexts { HaveContexts (seen_pattern pattern.now) }
@@ -79,7 +79,7 @@ fn judge_pattern<'a, L: Ledger>(
     ensures clear { OnOk result (IsClear table.new) }
     ensures long { length table.new ≡ length table.old }
 {
-    let id = copied(&pattern.id)?;
+    let id = lent_label(&pattern.id);
     findings.push(Line::Pattern { id })?;
     let before = env.len();
     fill_once(
@@ -102,13 +102,13 @@ fn pattern_at(patterns: &[Expanded], k: usize) -> Option<&Expanded>
 }
 
 /// Judges all nodes by the pattern of that number, where there is one.
-fn judge_by_number<'a, L: Ledger>(
+fn judge_by_number<'r: 'a, 'a, L: Ledger>(
     scene: &Scene<'_, 'a>,
-    patterns: &'a [Expanded],
+    patterns: &'r [Expanded],
     k: usize,
     env: &mut Env<'a>,
     table: &mut [Option<u32>],
-    findings: &mut Findings,
+    findings: &mut Findings<'r>,
     steps: &mut Steps<L>,
 ) -> Result<(), AllocError>
     requires contexts { All HaveContexts (map seen_pattern patterns.now) }
@@ -128,13 +128,13 @@ fn judge_by_number<'a, L: Ledger>(
 }
 
 /// Judges all nodes by the patterns of these numbers, one after the other.
-pub(crate) fn judge_patterns<'a, L: Ledger>(
+pub(crate) fn judge_patterns<'r: 'a, 'a, L: Ledger>(
     scene: &Scene<'_, 'a>,
-    patterns: &'a [Expanded],
+    patterns: &'r [Expanded],
     numbers: &[u32],
     env: &mut Env<'a>,
     table: &mut [Option<u32>],
-    findings: &mut Findings,
+    findings: &mut Findings<'r>,
     steps: &mut Steps<L>,
 ) -> Result<(), AllocError>
     requires contexts { All HaveContexts (map seen_pattern patterns.now) }

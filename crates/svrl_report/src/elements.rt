@@ -1,11 +1,11 @@
-ghost use Rattle.std.specs.Prelude.{◌≡◌, ◌≢◌, ◌∷◌, [], encode_utf8_all};
+ghost use Rattle.std.specs.Prelude.{◌≡◌, ◌≢◌, ◌∷◌, [], codes, encode_utf8_all};
 ghost use Rattle.xml_write.specs.declared.pen.PenState.TheVariants.{Fresh, InsideTag};
 ghost use Rattle.xml_write.specs.Calls.{call_start, call_attribute, call_end};
 ghost use Rattle.xml_write.specs.Writers.{state_of, Makes};
 ghost use Rattle.svrl_report.specs.Calls as calls;
 
-use inv_base::{Sink, Txt};
-use schematron_findings::{Finding, FindingKind};
+use inv_base::{Sink, Str, Txt};
+use schematron_findings::{Finding, FindingKind, Lent};
 use xml_write::{WriteFault, Writer};
 use xpath_items::code_of;
 
@@ -13,7 +13,7 @@ use xpath_items::code_of;
 pub(crate) fn put_pattern<W: Writer, K: Sink>(
     pen: &mut W,
     out: &mut K,
-    id: &Option<Txt>,
+    id: &Option<Lent<'_>>,
 ) -> Result<(), WriteFault>
     ensures makes { Makes result (W.view pen.old) (K.view out.old) (calls.pattern_calls id.now) (W.view pen.new) (K.view out.new) }
     ensures state { state_of (W.view pen.new) ≢ Fresh }
@@ -27,7 +27,7 @@ pub(crate) fn put_pattern<W: Writer, K: Sink>(
 pub(crate) fn put_fired<W: Writer, K: Sink>(
     pen: &mut W,
     out: &mut K,
-    context: &Txt,
+    context: &Lent<'_>,
 ) -> Result<(), WriteFault>
     ensures makes { Makes result (W.view pen.old) (K.view out.old) (calls.fired_calls context.now) (W.view pen.new) (K.view out.new) }
     ensures state { state_of (W.view pen.new) ≢ Fresh }
@@ -41,7 +41,7 @@ pub(crate) fn put_fired<W: Writer, K: Sink>(
 pub(crate) fn put_finding<W: Writer, K: Sink>(
     pen: &mut W,
     out: &mut K,
-    finding: &Finding,
+    finding: &Finding<'_>,
 ) -> Result<(), WriteFault>
     ensures makes { Makes result (W.view pen.old) (K.view out.old) (calls.finding_calls finding.now) (W.view pen.new) (K.view out.new) }
     ensures state { state_of (W.view pen.new) ≢ Fresh }
@@ -90,7 +90,7 @@ fn put_end<W: Writer, K: Sink>(
 fn put_start<W: Writer, K: Sink>(
     pen: &mut W,
     out: &mut K,
-    finding: &Finding,
+    finding: &Finding<'_>,
 ) -> Result<(), WriteFault>
     ensures makes { Makes result (W.view pen.old) (K.view out.old) (calls.start_calls finding.now) (W.view pen.new) (K.view out.new) }
     ensures state { state_of (W.view pen.new) ≢ Fresh }
@@ -104,29 +104,69 @@ fn put_start<W: Writer, K: Sink>(
 fn put_places<W: Writer, K: Sink>(
     pen: &mut W,
     out: &mut K,
-    finding: &Finding,
+    finding: &Finding<'_>,
 ) -> Result<(), WriteFault>
     requires { state_of (W.view pen.old) ≡ InsideTag }
     ensures makes { Makes result (W.view pen.old) (K.view out.old) (calls.place_calls finding.now) (W.view pen.new) (K.view out.new) }
     ensures state { state_of (W.view pen.new) ≡ InsideTag }
 {
     put_attribute(pen, out, "test", &finding.test)?;
-    put_attribute(pen, out, "location", &finding.location)
+    put_location(pen, out, &finding.location)
+}
+
+fn put_location<W: Writer, K: Sink>(
+    pen: &mut W,
+    out: &mut K,
+    location: &Txt,
+) -> Result<(), WriteFault>
+    requires { state_of (W.view pen.old) ≡ InsideTag }
+    ensures makes { Makes result (W.view pen.old) (K.view out.old) (call_attribute (codes "location") (encode_utf8_all location.now) ∷ []) (W.view pen.new) (K.view out.new) }
+    ensures state { state_of (W.view pen.new) ≡ InsideTag }
+{
+    pen.attribute(out, "location", location.as_str())
 }
 
 /// Writes what marks the assertion.
 fn put_marks<W: Writer, K: Sink>(
     pen: &mut W,
     out: &mut K,
-    finding: &Finding,
+    finding: &Finding<'_>,
 ) -> Result<(), WriteFault>
     requires { state_of (W.view pen.old) ≡ InsideTag }
     ensures makes { Makes result (W.view pen.old) (K.view out.old) (calls.mark_calls finding.now) (W.view pen.new) (K.view out.new) }
     ensures state { state_of (W.view pen.new) ≡ InsideTag }
 {
-    put_given(pen, out, "id", &finding.id)?;
+    put_id(pen, out, &finding.id)?;
     put_flag(pen, out, finding.outcome, &finding.flag)?;
     put_role(pen, out, finding.outcome, &finding.role)
+}
+
+/// Writes the identifier, if it is given.
+fn put_id<W: Writer, K: Sink>(
+    pen: &mut W,
+    out: &mut K,
+    id: &Option<Str<'_>>,
+) -> Result<(), WriteFault>
+    requires { state_of (W.view pen.old) ≡ InsideTag }
+    ensures makes { Makes result (W.view pen.old) (K.view out.old) (calls.given_calls (codes "id") id.now) (W.view pen.new) (K.view out.new) }
+    ensures state { state_of (W.view pen.new) ≡ InsideTag }
+{
+    match id {
+        None => Ok(()),
+        Some(id) => put_given_id(pen, out, id),
+    }
+}
+
+fn put_given_id<W: Writer, K: Sink>(
+    pen: &mut W,
+    out: &mut K,
+    id: &Str<'_>,
+) -> Result<(), WriteFault>
+    requires { state_of (W.view pen.old) ≡ InsideTag }
+    ensures makes { Makes result (W.view pen.old) (K.view out.old) (call_attribute (codes "id") (encode_utf8_all id.now) ∷ []) (W.view pen.new) (K.view out.new) }
+    ensures state { state_of (W.view pen.new) ≡ InsideTag }
+{
+    pen.attribute(out, "id", id.as_str())
 }
 
 /// Writes the flag, for which the code of an error stands.
@@ -134,7 +174,7 @@ fn put_flag<W: Writer, K: Sink>(
     pen: &mut W,
     out: &mut K,
     outcome: FindingKind,
-    flag: &Option<Txt>,
+    flag: &Option<Lent<'_>>,
 ) -> Result<(), WriteFault>
     requires { state_of (W.view pen.old) ≡ InsideTag }
     ensures makes { Makes result (W.view pen.old) (K.view out.old) (calls.flag_calls outcome flag.now) (W.view pen.new) (K.view out.new) }
@@ -151,7 +191,7 @@ fn put_role<W: Writer, K: Sink>(
     pen: &mut W,
     out: &mut K,
     outcome: FindingKind,
-    role: &Option<Txt>,
+    role: &Option<Lent<'_>>,
 ) -> Result<(), WriteFault>
     requires { state_of (W.view pen.old) ≡ InsideTag }
     ensures makes { Makes result (W.view pen.old) (K.view out.old) (calls.role_calls outcome role.now) (W.view pen.new) (K.view out.new) }
@@ -202,7 +242,7 @@ fn put_given<W: Writer, K: Sink>(
     pen: &mut W,
     out: &mut K,
     name: &str,
-    value: &Option<Txt>,
+    value: &Option<Lent<'_>>,
 ) -> Result<(), WriteFault>
     requires { state_of (W.view pen.old) ≡ InsideTag }
     ensures makes { Makes result (W.view pen.old) (K.view out.old) (calls.given_calls name.now value.now) (W.view pen.new) (K.view out.new) }
@@ -218,7 +258,7 @@ fn put_attribute<W: Writer, K: Sink>(
     pen: &mut W,
     out: &mut K,
     name: &str,
-    value: &Txt,
+    value: &Lent<'_>,
 ) -> Result<(), WriteFault>
     requires { state_of (W.view pen.old) ≡ InsideTag }
     ensures makes { Makes result (W.view pen.old) (K.view out.old) (call_attribute name.now (encode_utf8_all value.now) ∷ []) (W.view pen.new) (K.view out.new) }

@@ -6,14 +6,14 @@ ghost use Rattle.schematron_findings.specs.declared.finding.Line.{Line};
 ghost use Rattle.svrl_report.specs.Plain as spec;
 
 use crate::tally::Tally;
-use inv_base::{Printer, Sink, Txt};
+use inv_base::{Printer, Sink, Str, Txt};
 use itoa::Buffer;
 use schematron_findings::{Finding, FindingKind, Findings, Level, Line};
 use xml_write::WriteFault;
 use xpath_items::code_of;
 
 /// Writes the plain report on what several rule files found. Behind a fault the sink has taken a front of it.
-pub fn write_plain<K: Sink>(findings: &[Findings], out: &mut K) -> Result<(), WriteFault>
+pub fn write_plain<K: Sink>(findings: &[Findings<'_>], out: &mut K) -> Result<(), WriteFault>
     ensures { Writes result (spec.plain_report findings.now) (K.view out.old) (K.view out.new) }
 {
     if print_report(findings, out) {
@@ -23,7 +23,7 @@ pub fn write_plain<K: Sink>(findings: &[Findings], out: &mut K) -> Result<(), Wr
 }
 
 /// Prints the report; answers whether a write failed.
-fn print_report<K: Sink>(findings: &[Findings], out: &mut K) -> bool
+fn print_report<K: Sink>(findings: &[Findings<'_>], out: &mut K) -> bool
     ensures { Printed result (spec.plain_report findings.now) (K.view out.old) (K.view out.new) }
 {
     let mut printer = Printer::new();
@@ -36,7 +36,12 @@ fn print_report<K: Sink>(findings: &[Findings], out: &mut K) -> bool
 }
 
 /// Prints the findings of a rule file, and counts them behind those that were counted before.
-fn print_lines<K: Sink>(lines: &[Line], tally: Tally, printer: &mut Printer, out: &mut K) -> Tally
+fn print_lines<K: Sink>(
+    lines: &[Line<'_>],
+    tally: Tally,
+    printer: &mut Printer,
+    out: &mut K,
+) -> Tally
     ensures prints { Prints (spec.lines_text lines.now) printer.old.failed printer.new.failed (K.view out.old) (K.view out.new) }
     ensures tally { (before : List Line) → tally ≡ spec.tally_of before → result ≡ spec.tally_of (before ++ lines.now) }
 {
@@ -48,7 +53,7 @@ fn print_lines<K: Sink>(lines: &[Line], tally: Tally, printer: &mut Printer, out
     tally
 }
 
-fn print_line<K: Sink>(line: &Line, printer: &mut Printer, out: &mut K)
+fn print_line<K: Sink>(line: &Line<'_>, printer: &mut Printer, out: &mut K)
     ensures { Prints (spec.line_text line.now) printer.old.failed printer.new.failed (K.view out.old) (K.view out.new) }
 {
     match line {
@@ -57,7 +62,7 @@ fn print_line<K: Sink>(line: &Line, printer: &mut Printer, out: &mut K)
     }
 }
 
-fn print_finding<K: Sink>(finding: &Finding, printer: &mut Printer, out: &mut K)
+fn print_finding<K: Sink>(finding: &Finding<'_>, printer: &mut Printer, out: &mut K)
     ensures { Prints (spec.finding_line finding.now) printer.old.failed printer.new.failed (K.view out.old) (K.view out.new) }
 {
     print_outcome(finding.outcome, finding.level, printer, out);
@@ -114,13 +119,19 @@ fn failed_word(level: Level) -> &'static str
 }
 
 /// Prints an id, or `-` where there is none.
-pub fn print_id<K: Sink>(id: &Option<Txt>, printer: &mut Printer, out: &mut K)
+pub fn print_id<K: Sink>(id: &Option<Str<'_>>, printer: &mut Printer, out: &mut K)
     ensures { Prints (spec.id_text id.now) printer.old.failed printer.new.failed (K.view out.old) (K.view out.new) }
 {
     match id {
         None => printer.put(out, b"-"),
-        Some(id) => print_text(id, printer, out),
+        Some(id) => print_given_id(id, printer, out),
     }
+}
+
+fn print_given_id<K: Sink>(id: &Str<'_>, printer: &mut Printer, out: &mut K)
+    ensures { Prints (encode_utf8_all id.now) printer.old.failed printer.new.failed (K.view out.old) (K.view out.new) }
+{
+    printer.put(out, id.as_str().as_bytes());
 }
 
 /// Prints how many findings there are of each sort, in one line.

@@ -14,7 +14,7 @@ const SVRL_URI: &str = "http://purl.oclc.org/dsdl/svrl";
 
 /// Writes the report in the Schematron Validation Report Language on what several rule files found. Behind a fault the
 /// sink has taken a front of it.
-pub fn write_svrl<K: Sink>(findings: &[Findings], out: &mut K) -> Result<(), WriteFault>
+pub fn write_svrl<K: Sink>(findings: &[Findings<'_>], out: &mut K) -> Result<(), WriteFault>
     ensures { Writes result (encode_utf8_all (spec.svrl_report findings.now)) (K.view out.old) (K.view out.new) }
 {
     calls_append_canonical_text();
@@ -27,7 +27,7 @@ pub fn write_svrl<K: Sink>(findings: &[Findings], out: &mut K) -> Result<(), Wri
 fn put_report<W: Writer, K: Sink>(
     pen: &mut W,
     out: &mut K,
-    findings: &[Findings],
+    findings: &[Findings<'_>],
 ) -> Result<(), WriteFault>
     ensures makes { Makes result (W.view pen.old) (K.view out.old) (calls.report_calls findings.now) (W.view pen.new) (K.view out.new) }
     ensures state { calls.IsPastOk result (state_of (W.view pen.new)) }
@@ -41,7 +41,7 @@ fn put_report<W: Writer, K: Sink>(
 fn put_files<W: Writer, K: Sink>(
     pen: &mut W,
     out: &mut K,
-    findings: &[Findings],
+    findings: &[Findings<'_>],
 ) -> Result<(), WriteFault>
     requires { state_of (W.view pen.old) ≢ Fresh }
     ensures makes { Makes result (W.view pen.old) (K.view out.old) (calls.files_calls findings.now) (W.view pen.new) (K.view out.new) }
@@ -53,7 +53,11 @@ fn put_files<W: Writer, K: Sink>(
     Ok(())
 }
 
-fn put_file<W: Writer, K: Sink>(pen: &mut W, out: &mut K, file: &Findings) -> Result<(), WriteFault>
+fn put_file<W: Writer, K: Sink>(
+    pen: &mut W,
+    out: &mut K,
+    file: &Findings<'_>,
+) -> Result<(), WriteFault>
     requires { state_of (W.view pen.old) ≢ Fresh }
     ensures makes { Makes result (W.view pen.old) (K.view out.old) (calls.lines_calls file.now) (W.view pen.new) (K.view out.new) }
     ensures state { state_of (W.view pen.new) ≢ Fresh }
@@ -61,7 +65,11 @@ fn put_file<W: Writer, K: Sink>(pen: &mut W, out: &mut K, file: &Findings) -> Re
     put_lines(pen, out, file.lines())
 }
 
-fn put_lines<W: Writer, K: Sink>(pen: &mut W, out: &mut K, lines: &[Line]) -> Result<(), WriteFault>
+fn put_lines<W: Writer, K: Sink>(
+    pen: &mut W,
+    out: &mut K,
+    lines: &[Line<'_>],
+) -> Result<(), WriteFault>
     requires { state_of (W.view pen.old) ≢ Fresh }
     ensures makes { Makes result (W.view pen.old) (K.view out.old) (calls.lines_calls lines.now) (W.view pen.new) (K.view out.new) }
     ensures state { state_of (W.view pen.new) ≢ Fresh }
@@ -72,7 +80,7 @@ fn put_lines<W: Writer, K: Sink>(pen: &mut W, out: &mut K, lines: &[Line]) -> Re
     Ok(())
 }
 
-fn put_line<W: Writer, K: Sink>(pen: &mut W, out: &mut K, line: &Line) -> Result<(), WriteFault>
+fn put_line<W: Writer, K: Sink>(pen: &mut W, out: &mut K, line: &Line<'_>) -> Result<(), WriteFault>
     ensures makes { Makes result (W.view pen.old) (K.view out.old) (calls.line_calls line.now) (W.view pen.new) (K.view out.new) }
     ensures state { state_of (W.view pen.new) ≢ Fresh }
 {

@@ -17,7 +17,7 @@ pub struct Tally {
 
 impl Tally {
     /// Of these lines.
-    pub fn of(lines: &[Line]) -> Tally
+    pub fn of(lines: &[Line<'_>]) -> Tally
         ensures { result ≡ spec.tally_of lines.now }
     {
         let mut tally = Tally::new();
@@ -40,7 +40,7 @@ impl Tally {
     }
 
     /// With one line more.
-    pub fn with(self, line: &Line) -> Tally
+    pub fn with(self, line: &Line<'_>) -> Tally
         ensures { (lines : List Line) → self ≡ spec.tally_of lines → result ≡ spec.tally_of (lines ++ line.now ∷ []) }
     {
         Tally {
@@ -52,7 +52,7 @@ impl Tally {
     }
 }
 
-fn is_failed(line: &Line) -> bool
+fn is_failed(line: &Line<'_>) -> bool
     ensures { result ≡ spec.is_failed line.now }
 {
     match line {
@@ -61,7 +61,7 @@ fn is_failed(line: &Line) -> bool
     }
 }
 
-fn is_failed_finding(finding: &Finding) -> bool
+fn is_failed_finding(finding: &Finding<'_>) -> bool
     ensures { result ≡ spec.is_failed_by finding.now.outcome finding.now.level }
 {
     match (finding.outcome, finding.level) {
@@ -70,7 +70,7 @@ fn is_failed_finding(finding: &Finding) -> bool
     }
 }
 
-fn is_reported(line: &Line) -> bool
+fn is_reported(line: &Line<'_>) -> bool
     ensures { result ≡ spec.is_reported line.now }
 {
     match line {
@@ -82,7 +82,7 @@ fn is_reported(line: &Line) -> bool
     }
 }
 
-fn is_error(line: &Line) -> bool
+fn is_error(line: &Line<'_>) -> bool
     ensures { result ≡ spec.is_error line.now }
 {
     match line {
@@ -94,7 +94,7 @@ fn is_error(line: &Line) -> bool
     }
 }
 
-fn is_minor(line: &Line) -> bool
+fn is_minor(line: &Line<'_>) -> bool
     ensures { result ≡ spec.is_minor line.now }
 {
     match line {
@@ -103,7 +103,7 @@ fn is_minor(line: &Line) -> bool
     }
 }
 
-fn is_minor_finding(finding: &Finding) -> bool
+fn is_minor_finding(finding: &Finding<'_>) -> bool
     ensures { result ≡ spec.is_minor_by finding.now.outcome finding.now.level }
 {
     match finding.outcome {

@@ -194,7 +194,7 @@ cii-carried n h =
 
 -- ---- by syntax
 
-ubl-target : (n : ℕ) → target (trial_entries n) syntaxes.Ubl ≡ which.Invoice
+pub ubl-target : (n : ℕ) → target (trial_entries n) syntaxes.Ubl ≡ which.Invoice
 unfolding trial_entries
 ubl-target n = refl
 

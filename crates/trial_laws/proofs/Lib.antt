@@ -6,3 +6,16 @@ pub mod Valid
 pub mod Known
 pub mod Carried
 pub mod Trials
+pub mod RuleText
+pub mod Compiled
+pub mod Numbered
+pub mod Finding
+pub mod Standing
+pub mod Tests
+pub mod Walks
+pub mod Lines
+pub mod Table
+pub mod LineTerms
+pub mod Figures
+pub mod Findings
+pub mod LastLine

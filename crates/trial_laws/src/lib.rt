@@ -14,12 +14,16 @@ ghost use Rattle.bind_carrying.specs.Tables.{target};
 ghost use Rattle.written_laws.specs.Texts.{text_in, exactly, AreReadAs};
 ghost use Rattle.trial_invoice.specs.Amounts.{sum_of_nets};
 ghost use Rattle.trial_invoice.specs.Generated.{amount, trial_entries};
-ghost use Rattle.trial_run.specs.Trials.{terms_of_ubl, terms_of_cii, trial_of};
+ghost use Rattle.svrl_report.specs.Plain.{tally_of};
+ghost use Rattle.trial_run.specs.Trials.{terms_of_ubl, terms_of_cii, trial_findings, trial_of, trial_rules, ubl_text};
+ghost use Rattle.trial_laws.specs.Rules.{the_ready};
 
 use inv_decimal::laws::printed_numbers_are_read;
 use inv_terms::push_refuses_what_makes_no_invoice;
 use trial_invoice::MOST_LINES;
-use written_laws::round_trip;
+use written_laws::{
+    carried_invoices_are_read_back, round_trip, shown_terms_make_a_document, tables_are_readable,
+};
 
 /// The generated entries are an invoice.
 pub fn trial_entries_are_an_invoice()
@@ -59,4 +63,26 @@ pub fn trials_keep_the_terms()
     ensures total { (lines steps : ℕ) → 1 ≤ lines → lines ≤ MOST_LINES → (trial_of lines steps).total ≡ Some (spelled (amount (120 * sum_of_nets lines))) }
 {
     trial_texts_are_read_back();
+}
+
+/// The built-in rules of a trial are compiled: these are the rules, and their only pattern is active.
+pub fn trial_rules_are_compiled()
+    ensures { trial_rules ≡ Some the_ready }
+{}
+
+/// What the built-in rules find in the UBL document of a trial of any number of lines: the last line is reported, no
+/// assertion fails, and there is no error.
+pub fn trials_find_one_report()
+    ensures found { (lines : ℕ) → 1 ≤ lines → lines ≤ MOST_LINES
+        → tally_of (trial_findings (ubl_text lines)) ≡ record { failed = 0; reported = 1; errors = 0; minor = 0 } }
+    ensures tally { (lines steps : ℕ) → 1 ≤ lines → lines ≤ MOST_LINES
+        → (trial_of lines steps).tally ≡ record { failed = 0; reported = 1; errors = 0; minor = 0 } }
+{
+    printed_numbers_are_read();
+    trial_entries_are_an_invoice();
+    trial_entries_are_valid();
+    trial_entries_are_carried();
+    tables_are_readable();
+    shown_terms_make_a_document();
+    carried_invoices_are_read_back();
 }

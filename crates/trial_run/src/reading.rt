@@ -1,9 +1,12 @@
 //! Invoices written to memory, and read from it.
 ghost use Rattle.std.specs.Prelude.{◌≡◌, IfOk, Some, option_map};
 ghost use Rattle.node_arena.specs.Moves.{tree_nodes};
+ghost use Rattle.bind_meaning.specs.Tables.{rows_of};
+ghost use Rattle.bind_carrying.specs.Tables as targets;
 ghost use Rattle.trial_run.specs.Memory as spec;
 
 use bind_run::{BindKind, Syntax, Tables, read_document, tables_are_laid, target, write};
+use bind_table::Binding;
 use bind_write::measure;
 use bumpalo::Bump;
 use code_lists::CodeLists;
@@ -31,9 +34,10 @@ impl Means {
     pub(crate) fn new(alloc: Global) -> Result<Means, AllocError>
         ensures { IfOk result (λ means. spec.AreBuiltIn means) }
     {
+        let lists = CodeLists::built_in(alloc)?;
         Ok(Means {
-            tables: Tables::built_in(alloc)?,
-            lists: CodeLists::built_in(alloc)?,
+            tables: Tables::built_in(),
+            lists,
         })
     }
 }
@@ -48,8 +52,22 @@ pub(crate) fn written(
     requires { spec.AreBuiltIn means.now }
     ensures { IfOk result (λ text. text.bytes ≡ spec.written syntax invoice.now) }
 {
+    let table = means.tables.table(alloc, target(invoice, syntax))?;
+    let text = written_by(alloc, invoice, syntax, table.as_ref());
+    drop(table);
+    text
+}
+
+fn written_by(
+    alloc: Global,
+    invoice: &Invoice,
+    syntax: Syntax,
+    table: &Binding,
+) -> Result<MemSink, AllocError>
+    requires { table.now ≡ rows_of (targets.target invoice.now syntax) }
+    ensures { IfOk result (λ text. text.bytes ≡ spec.written syntax invoice.now) }
+{
     tables_are_laid();
-    let table = means.tables.table(target(invoice, syntax));
     let sizes = measure(invoice, table);
     let mut text = MemSink::new(alloc, sizes.bytes as usize)?;
     match write(invoice, table, &mut text) {

@@ -214,7 +214,7 @@ fn report<L: Ledger, O: Sink>(
 }
 
 /// Writes a report; it takes no memory.
-fn write_report<O: Sink>(svrl: bool, validation: &Validation, out: &mut O) -> Status
+fn write_report<O: Sink>(svrl: bool, validation: &Validation<'_>, out: &mut O) -> Status
     ensures { (shelf : ShelfView) (err : SinkView) → Runs (ends (told_by svrl validation.now))
         (record { shelf = shelf; out = O.view out.old; err = err })
         (record { shelf = shelf; out = O.view out.new; err = err }) result }
@@ -226,7 +226,11 @@ fn write_report<O: Sink>(svrl: bool, validation: &Validation, out: &mut O) -> St
 }
 
 /// Writes the report in SVRL, or the plain one.
-fn write_text<O: Sink>(svrl: bool, validation: &Validation, out: &mut O) -> Result<(), WriteFault>
+fn write_text<O: Sink>(
+    svrl: bool,
+    validation: &Validation<'_>,
+    out: &mut O,
+) -> Result<(), WriteFault>
     ensures { Writes result (text_in svrl validation.now) (O.view out.old) (O.view out.new) }
 {
     if svrl {
@@ -237,7 +241,7 @@ fn write_text<O: Sink>(svrl: bool, validation: &Validation, out: &mut O) -> Resu
 }
 
 /// The status of a report that was written.
-fn status_of(validation: &Validation) -> Status
+fn status_of(validation: &Validation<'_>) -> Status
     ensures { result ≡ status_by validation.now.findings }
 {
     if validation.has_findings() {

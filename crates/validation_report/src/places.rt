@@ -93,7 +93,7 @@ pub(crate) fn push_fault_spots(
 /// The spots of the findings, in document order.
 pub(crate) fn push_ordered(
     scene: &Scene<'_, '_>,
-    found: &[Line],
+    found: &[Line<'_>],
     spots: &mut Vec<Spot>,
 ) -> Result<(), AllocError>
     requires ordinals { AreOrdinals scene.now.doc.now scene.now.ordinals.now }
@@ -115,7 +115,7 @@ fn sort_by_node(spots: &mut Vec<Spot>) -> Result<(), AllocError>
 /// The spots of the findings, in the order of their lines.
 fn push_spots(
     scene: &Scene<'_, '_>,
-    found: &[Line],
+    found: &[Line<'_>],
     spots: &mut Vec<Spot>,
 ) -> Result<(), AllocError>
     requires { AreOrdinals scene.now.doc.now scene.now.ordinals.now }
@@ -131,7 +131,7 @@ fn push_spots(
 }
 
 /// The node that is judged behind a line, where this one was judged before.
-fn node_behind(node: NodeId, line: &Line) -> NodeId
+fn node_behind(node: NodeId, line: &Line<'_>) -> NodeId
     ensures { result ≡ node_behind node line.now }
 {
     match line {
@@ -147,7 +147,7 @@ fn node_behind(node: NodeId, line: &Line) -> NodeId
 /// The spot of a line that tells a finding.
 fn push_spot(
     scene: &Scene<'_, '_>,
-    line: &Line,
+    line: &Line<'_>,
     node: NodeId,
     number: usize,
     spots: &mut Vec<Spot>,

@@ -1,5 +1,5 @@
 //! The report for a person.
-ghost use Rattle.std.specs.Prelude.{◌≡◌, ◌++◌, flat_map, length, List, ℕ};
+ghost use Rattle.std.specs.Prelude.{◌≡◌, ◌++◌, encode_utf8_all, flat_map, length, List, ℕ};
 ghost use Rattle.inv_base.specs.Printing.{Prints};
 ghost use Rattle.schematron_findings.specs.declared.finding.Finding.{Finding};
 ghost use Rattle.svrl_report.specs.Plain.{tally_of};
@@ -9,7 +9,7 @@ ghost use Rattle.validation_report.specs.Held.{line_text, spot_text, fault_word,
 use crate::places::{Passed, Spot};
 use inv_base::{Printer, Sink};
 use line_places::LinePlace;
-use schematron_findings::{Finding, Line};
+use schematron_findings::{Finding, Lent, Line};
 use svrl_report::{
     Tally, print_counts, print_id, print_message, print_number, print_outcome, print_text,
 };
@@ -20,7 +20,7 @@ pub(crate) trait Word {
     ghost word: { Finding → List ℕ };
 
     /// Prints it.
-    fn print<K: Sink>(finding: &Finding, printer: &mut Printer, out: &mut K)
+    fn print<K: Sink>(finding: &Finding<'_>, printer: &mut Printer, out: &mut K)
         ensures { Prints (word finding.now) printer.old.failed printer.new.failed (K.view out.old) (K.view out.new) };
 }
 
@@ -30,10 +30,16 @@ pub(crate) struct FaultWord;
 impl Word for FaultWord {
     ghost word = { fault_word };
 
-    fn print<K: Sink>(finding: &Finding, printer: &mut Printer, out: &mut K) {
+    fn print<K: Sink>(finding: &Finding<'_>, printer: &mut Printer, out: &mut K) {
         printer.put(out, b"fault ");
-        print_text(&finding.test, printer, out);
+        print_kind(&finding.test, printer, out);
     }
+}
+
+fn print_kind<K: Sink>(kind: &Lent<'_>, printer: &mut Printer, out: &mut K)
+    ensures { Prints (encode_utf8_all kind.now) printer.old.failed printer.new.failed (K.view out.old) (K.view out.new) }
+{
+    printer.put(out, kind.as_str().as_bytes());
 }
 
 /// The word of a finding of a rule.
@@ -42,14 +48,14 @@ pub(crate) struct OutcomeWord;
 impl Word for OutcomeWord {
     ghost word = { outcome_word };
 
-    fn print<K: Sink>(finding: &Finding, printer: &mut Printer, out: &mut K) {
+    fn print<K: Sink>(finding: &Finding<'_>, printer: &mut Printer, out: &mut K) {
         print_outcome(finding.outcome, finding.level, printer, out);
     }
 }
 
 /// Prints the findings at these spots, each of a line of these.
 pub(crate) fn print_spots<W: Word, K: Sink>(
-    lines: &[Line],
+    lines: &[Line<'_>],
     spots: &[Spot],
     printer: &mut Printer,
     out: &mut K,
@@ -61,7 +67,7 @@ pub(crate) fn print_spots<W: Word, K: Sink>(
     }
 }
 
-fn print_spot<W: Word, K: Sink>(lines: &[Line], spot: Spot, printer: &mut Printer, out: &mut K)
+fn print_spot<W: Word, K: Sink>(lines: &[Line<'_>], spot: Spot, printer: &mut Printer, out: &mut K)
     ensures { Prints (spot_text W.word lines.now spot) printer.old.failed printer.new.failed (K.view out.old) (K.view out.new) }
 {
     match lines.get(spot.line) {
@@ -70,7 +76,12 @@ fn print_spot<W: Word, K: Sink>(lines: &[Line], spot: Spot, printer: &mut Printe
     }
 }
 
-fn print_line<W: Word, K: Sink>(line: &Line, place: LinePlace, printer: &mut Printer, out: &mut K)
+fn print_line<W: Word, K: Sink>(
+    line: &Line<'_>,
+    place: LinePlace,
+    printer: &mut Printer,
+    out: &mut K,
+)
     ensures { Prints (line_text W.word place line.now) printer.old.failed printer.new.failed (K.view out.old) (K.view out.new) }
 {
     match line {
@@ -81,7 +92,7 @@ fn print_line<W: Word, K: Sink>(line: &Line, place: LinePlace, printer: &mut Pri
 
 /// Prints the line of a finding.
 fn print_finding<W: Word, K: Sink>(
-    finding: &Finding,
+    finding: &Finding<'_>,
     place: LinePlace,
     printer: &mut Printer,
     out: &mut K,

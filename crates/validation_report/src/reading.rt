@@ -4,22 +4,24 @@ ghost use Rattle.std.specs.List.{All};
 ghost use Rattle.node_locations.specs.Locations.{AreOrdinals};
 ghost use Rattle.bind_meaning.specs.declared.fault.BindFault.{BindFault};
 ghost use Rattle.schematron_findings.specs.declared.finding.Line.TheVariants as line;
-ghost use Rattle.validation_report.specs.Told.{fault_finding, fault_line, reading_lines};
+ghost use Rattle.validation_report.specs.Told.{fault_finding, fault_line, label, reading_lines, title};
 
 use crate::texts::{kind_of, label_of, location_of, plain_text, title_of};
 use bind_meaning::BindFault;
+use inv_base::{Str, Txt};
+use inv_terms::Name;
 use node_arena::{Doc, NodeId};
 use node_locations::Ordinals;
 use schematron_findings::{Finding, FindingKind, Findings, Level, Line};
 use std::alloc::{AllocError, Global};
 
 /// The reading as a pattern of its own: a rule that judges the document, and what it finds, the faults.
-pub(crate) fn reading_of(
+pub(crate) fn reading_of<'r>(
     alloc: Global,
     doc: &Doc<'_>,
     ordinals: &Ordinals,
     faults: &[BindFault],
-) -> Result<Findings, AllocError>
+) -> Result<Findings<'r>, AllocError>
     requires within { All (λ (fault : BindFault). fault.node < length doc.now.nodes) faults.now }
     requires ordinals { AreOrdinals doc.now ordinals.now }
     ensures { IfOk result (λ found. found ≡ reading_lines doc.now faults.now) }
@@ -40,27 +42,27 @@ fn push_reading(
     doc: &Doc<'_>,
     ordinals: &Ordinals,
     faults: &[BindFault],
-    found: &mut Findings,
+    found: &mut Findings<'_>,
 ) -> Result<(), AllocError>
     requires within { All (λ (fault : BindFault). fault.node < length doc.now.nodes) faults.now }
     requires ordinals { AreOrdinals doc.now ordinals.now }
     ensures { OnOk result (found.new ≡ found.old ++ reading_lines doc.now faults.now) }
 {
-    push_judged(alloc, doc.document(), found)?;
+    push_judged(doc.document(), found)?;
     push_faults(alloc, doc, ordinals, faults, found)
 }
 
 /// Adds the line of the pattern, and that of the document, which its rule judges.
-fn push_judged(alloc: Global, document: NodeId, found: &mut Findings) -> Result<(), AllocError>
+fn push_judged(document: NodeId, found: &mut Findings<'_>) -> Result<(), AllocError>
     ensures { OnOk result (found.new ≡ found.old ++ line.Pattern (Some (codes "reading")) ∷ line.Fired document 0 (codes "/") ∷ []) }
 {
-    let id = Some(plain_text(alloc, "reading")?);
-    found.push(Line::Pattern { id })?;
-    let context = plain_text(alloc, "/")?;
+    found.push(Line::Pattern {
+        id: Some(plain_text("reading")),
+    })?;
     found.push(Line::Fired {
         node: document,
         rule: 0,
-        context,
+        context: plain_text("/"),
     })
 }
 
@@ -70,7 +72,7 @@ fn push_faults(
     doc: &Doc<'_>,
     ordinals: &Ordinals,
     faults: &[BindFault],
-    found: &mut Findings,
+    found: &mut Findings<'_>,
 ) -> Result<(), AllocError>
     requires within { All (λ (fault : BindFault). fault.node < length doc.now.nodes) faults.now }
     requires ordinals { AreOrdinals doc.now ordinals.now }
@@ -84,29 +86,46 @@ fn push_faults(
 }
 
 /// A fault as a finding at its node.
-fn finding_of(
+fn finding_of<'r>(
     alloc: Global,
     doc: &Doc<'_>,
     ordinals: &Ordinals,
     fault: BindFault,
-) -> Result<Finding, AllocError>
+) -> Result<Finding<'r>, AllocError>
     requires within { fault.node < length doc.now.nodes }
     requires ordinals { AreOrdinals doc.now ordinals.now }
     ensures { IfOk result (λ finding. finding ≡ fault_finding doc.now fault) }
 {
     let location = location_of(alloc, doc, ordinals, fault.node)?;
-    let test = kind_of(alloc, fault.kind)?;
-    let message = title_of(alloc, fault.name)?;
-    let id = label_of(alloc, fault.name)?;
-    let flag = Some(plain_text(alloc, "fatal")?);
-    Ok(Finding {
-        outcome: FindingKind::Failed,
-        test,
-        location,
-        message,
-        id,
-        flag,
-        role: None,
-        level: Level::Fatal,
-    })
+    match message_and_id(alloc, fault.name) {
+        Ok((message, id)) => Ok(Finding {
+            outcome: FindingKind::Failed,
+            level: Level::Fatal,
+            test: kind_of(fault.kind),
+            location,
+            message,
+            id,
+            flag: Some(plain_text("fatal")),
+            role: None,
+        }),
+        Err(error) => {
+            drop(location);
+            Err(error)
+        }
+    }
+}
+
+/// The name of what a fault names, and its number.
+fn message_and_id<'r>(alloc: Global, name: Name) -> Result<(Txt, Option<Str<'r>>), AllocError>
+    ensures message { IfOk result (λ both. both.0 ≡ title name) }
+    ensures id { IfOk result (λ both. both.1 ≡ label name) }
+{
+    let message = title_of(alloc, name)?;
+    match label_of(alloc, name) {
+        Ok(id) => Ok((message, id)),
+        Err(error) => {
+            drop(message);
+            Err(error)
+        }
+    }
 }

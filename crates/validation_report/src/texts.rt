@@ -8,11 +8,12 @@ ghost use Rattle.node_locations.specs.Locations.{AreOrdinals, location};
 ghost use Rattle.validation_report.specs.Told.{kind_text, label, title};
 
 use bind_meaning::BindKind;
-use inv_base::Txt;
+use inv_base::{Str, Txt};
 use inv_terms::Name;
 use itoa::Buffer;
 use node_arena::{Doc, NodeId};
 use node_locations::{Ordinals, push_location};
+use schematron_findings::Lent;
 use std::alloc::{AllocError, Global};
 use term_table::{Term, term_name};
 
@@ -34,38 +35,38 @@ pub fn kind_name(kind: BindKind) -> &'static str
     }
 }
 
-/// A text of ASCII, whose bytes are its characters.
-pub(crate) fn plain_text(alloc: Global, text: &str) -> Result<Txt, AllocError>
+/// A text of the program of ASCII, whose bytes are its characters.
+pub(crate) fn plain_text(text: &str) -> Lent<'_>
     requires { IsAscii text.now }
-    ensures { IfOk result (λ copy. copy ≡ text.now) }
+    ensures { result ≡ text.now }
 {
-    Txt::of(alloc, text)
+    Lent::of(text)
 }
 
 /// The name of a kind as a text.
-pub(crate) fn kind_of(alloc: Global, kind: BindKind) -> Result<Txt, AllocError>
-    ensures { IfOk result (λ text. text ≡ kind_text kind) }
+pub(crate) fn kind_of<'r>(kind: BindKind) -> Lent<'r>
+    ensures { result ≡ kind_text kind }
 {
-    plain_text(alloc, kind_name(kind))
+    plain_text(kind_name(kind))
 }
 
-/// The number of a term or a group, where there is one.
-pub(crate) fn label_of(alloc: Global, name: Name) -> Result<Option<Txt>, AllocError>
+/// The number of a term or a group, where there is one. That of a group is a text of the program.
+pub(crate) fn label_of<'r>(alloc: Global, name: Name) -> Result<Option<Str<'r>>, AllocError>
     ensures { IfOk result (λ text. text ≡ label name) }
 {
     match name {
         Name::Term(term) => given(term_label(alloc, term)),
-        Name::Group(group) => given(Txt::of(alloc, group.label())),
+        Name::Group(group) => Ok(Some(Str::lent(group.label()))),
         Name::Nothing => Ok(None),
     }
 }
 
 /// A text that is there.
-fn given(text: Result<Txt, AllocError>) -> Result<Option<Txt>, AllocError>
+fn given<'r>(text: Result<Txt, AllocError>) -> Result<Option<Str<'r>>, AllocError>
     ensures { (characters : List ℕ) → IfOk text (λ text. text ≡ characters) → IfOk result (λ given. given ≡ Some characters) }
 {
     match text {
-        Ok(text) => Ok(Some(text)),
+        Ok(text) => Ok(Some(Str::own(text))),
         Err(fault) => Err(fault),
     }
 }
@@ -112,7 +113,7 @@ pub(crate) fn title_of(alloc: Global, name: Name) -> Result<Txt, AllocError>
     match name {
         Name::Term(term) => Txt::of(alloc, name_of(term)),
         Name::Group(group) => Txt::of(alloc, group.name()),
-        Name::Nothing => plain_text(alloc, ""),
+        Name::Nothing => Txt::of(alloc, ""),
     }
 }
 

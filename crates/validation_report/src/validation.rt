@@ -1,5 +1,5 @@
 //! A report, made whole before its first byte is written.
-ghost use Rattle.std.specs.Prelude.{◌≡◌, ◌<◌, ◌∷◌, [], ℕ, List, length, encode_utf8_all, IfOk, OnOk};
+ghost use Rattle.std.specs.Prelude.{◌≡◌, ◌<◌, ◌∷◌, [], ℕ, List, length, get_or, encode_utf8_all, IfOk, OnOk};
 ghost use Rattle.std.specs.List.{All};
 ghost use Rattle.inv_base.specs.Printing.{Printed, Prints};
 ghost use Rattle.inv_base.specs.Writing.{Writes};
@@ -47,14 +47,15 @@ impl Drop for Spots {
     }
 }
 
-/// The report of a validation: all that takes memory is made, and nothing is written yet. Contracts see what it tells.
-pub struct Validation {
+/// The report of a validation: all that takes memory is made, and nothing is written yet. Texts of the rules are lent from
+/// them. Contracts see what it tells.
+pub struct Validation<'r> {
     // What the reading finds, and behind it what rules find.
-    found: [Findings; 2],
+    found: Vec<Findings<'r>>,
     spots: Spots,
 }
 
-impl Drop for Validation {
+impl Drop for Validation<'_> {
     fn drop(self) {
         let Validation { found, spots } = self;
         drop(found);
@@ -62,16 +63,16 @@ impl Drop for Validation {
     }
 }
 
-impl Model for Validation {
+impl<'r> Model for Validation<'r> {
     ghost use Rattle.validation_report.specs.Validating.{Report};
     ghost use Rattle.validation_report.specs.Held.{held};
 
     ghost Value = { Report };
 
-    ghost view = { λ v. held v.found v.spots.faults.items v.spots.passed.items v.spots.findings.items };
+    ghost view = { λ v. held v.found.items v.spots.faults.items v.spots.passed.items v.spots.findings.items };
 }
 
-impl Validation {
+impl<'r> Validation<'r> {
     /// The report on a document whose bytes gave these starts of lines, with the faults of reading it, the elements that
     /// were passed over, and what rules find in it.
     pub fn new<'t>(
@@ -80,20 +81,15 @@ impl Validation {
         lines: &LineStarts,
         faults: &'t [BindFault],
         passed: &'t [NodeId],
-        findings: Findings,
-    ) -> Result<Validation, AllocError>
+        findings: Findings<'r>,
+    ) -> Result<Validation<'r>, AllocError>
         requires faults { All (λ (fault : BindFault). fault.node < length doc.now.nodes) faults.now }
         requires passed { All (λ (n : ℕ). n < length doc.now.nodes) passed.now }
         ensures { IfOk result (λ report. (content : List ℕ) → AreLinesOf lines.now content
-            → report ≡ report_of (record { content = content; document = doc.now; faults = faults.now; passed = passed.now; lines = findings })) }
+            → report ≡ report_of (record { content = content; document = doc.now; faults = faults.now; passed = passed.now; lines = findings.entry })) }
     {
-        let told = Told {
-            faults,
-            passed,
-            found: findings.lines(),
-        };
-        match prepared(alloc, doc, lines, &told) {
-            Ok(ready) => Ok(ready.with(findings)),
+        match prepared(alloc, doc, lines, faults, passed, findings.lines()) {
+            Ok(ready) => ready.with(alloc, findings),
             Err(fault) => {
                 drop(findings);
                 Err(fault)
@@ -125,19 +121,19 @@ impl Validation {
 
 /// What is told of a document: the faults of reading it, the elements that were passed over, and what rules find.
 #[derive(Clone, Copy)]
-struct Told<'t> {
+struct Told<'t, 'f, 'r> {
     faults: &'t [BindFault],
     passed: &'t [NodeId],
-    found: &'t [Line],
+    found: &'f [Line<'r>],
 }
 
 /// What a report is made of, but for what rules find.
-struct Ready {
-    reading: Findings,
+struct Ready<'r> {
+    reading: Findings<'r>,
     spots: Spots,
 }
 
-impl Drop for Ready {
+impl Drop for Ready<'_> {
     fn drop(self) {
         let Ready { reading, spots } = self;
         drop(reading);
@@ -145,26 +141,67 @@ impl Drop for Ready {
     }
 }
 
-impl Ready {
+impl<'r> Ready<'r> {
     /// With what rules find.
-    fn with(self, findings: Findings) -> Validation
-        ensures { result ≡ held (self.reading ∷ findings ∷ []) self.spots.faults.items self.spots.passed.items self.spots.findings.items }
+    fn with(self, alloc: Global, findings: Findings<'r>) -> Result<Validation<'r>, AllocError>
+        ensures { IfOk result (λ report. report ≡ held (self.entry.reading ∷ findings.entry ∷ [])
+            self.entry.spots.faults.items self.entry.spots.passed.items self.entry.spots.findings.items) }
     {
         let Ready { reading, spots } = self;
-        Validation {
-            found: [reading, findings],
-            spots,
+        match both(alloc, reading, findings) {
+            Ok(found) => Ok(Validation { found, spots }),
+            Err(fault) => {
+                drop(spots);
+                Err(fault)
+            }
         }
     }
 }
 
+/// What the reading finds, and behind it what rules find.
+fn both<'r>(
+    alloc: Global,
+    reading: Findings<'r>,
+    rules: Findings<'r>,
+) -> Result<Vec<Findings<'r>>, AllocError>
+    ensures { IfOk result (λ found. found.items ≡ reading.entry ∷ rules.entry ∷ []) }
+{
+    let mut found = Vec::new(alloc);
+    found.push(reading)?;
+    found.push(rules)?;
+    Ok(found)
+}
+
 /// All but what rules find.
-fn prepared<'s>(
+fn prepared<'r, 't>(
+    alloc: Global,
+    doc: &Doc<'_>,
+    lines: &LineStarts,
+    faults: &'t [BindFault],
+    passed: &'t [NodeId],
+    found: &[Line<'_>],
+) -> Result<Ready<'r>, AllocError>
+    requires faults { All (λ (fault : BindFault). fault.node < length doc.now.nodes) faults.now }
+    requires passed { All (λ (n : ℕ). n < length doc.now.nodes) passed.now }
+    ensures reading { IfOk result (λ ready. ready.reading ≡ reading_lines doc.now faults.now) }
+    ensures placed { IfOk result (λ ready. (content : List ℕ) → AreLinesOf lines.now content
+        → ArePlaced doc.now content faults.now passed.now found.now ready.spots.faults.items ready.spots.passed.items ready.spots.findings.items) }
+{
+    let told = Told {
+        faults,
+        passed,
+        found,
+    };
+    prepared_in(alloc, doc, lines, &told)
+}
+
+/// The same in a document.
+fn prepared_in<'r, 's>(
     alloc: Global,
     doc: &'s Doc<'_>,
     lines: &'s LineStarts,
-    told: &Told<'_>,
-) -> Result<Ready, AllocError>
+    told: &Told<'_, '_, '_>,
+) -> Result<Ready<'r>, AllocError>
     requires faults { All (λ (fault : BindFault). fault.node < length doc.now.nodes) told.now.faults.now }
     requires passed { All (λ (n : ℕ). n < length doc.now.nodes) told.now.passed.now }
     ensures reading { IfOk result (λ ready. ready.reading ≡ reading_lines doc.now told.now.faults.now) }
@@ -184,7 +221,11 @@ fn prepared<'s>(
 }
 
 /// The same by the ordinals of the document's nodes.
-fn prepared_by(alloc: Global, scene: &Scene<'_, '_>, told: &Told<'_>) -> Result<Ready, AllocError>
+fn prepared_by<'r>(
+    alloc: Global,
+    scene: &Scene<'_, '_>,
+    told: &Told<'_, '_, '_>,
+) -> Result<Ready<'r>, AllocError>
     requires faults { All (λ (fault : BindFault). fault.node < length scene.now.doc.now.nodes) told.now.faults.now }
     requires passed { All (λ (n : ℕ). n < length scene.now.doc.now.nodes) told.now.passed.now }
     requires ordinals { AreOrdinals scene.now.doc.now scene.now.ordinals.now }
@@ -204,7 +245,11 @@ fn prepared_by(alloc: Global, scene: &Scene<'_, '_>, told: &Told<'_>) -> Result<
 }
 
 /// Where stands what is told.
-fn spots_of(alloc: Global, scene: &Scene<'_, '_>, told: &Told<'_>) -> Result<Spots, AllocError>
+fn spots_of(
+    alloc: Global,
+    scene: &Scene<'_, '_>,
+    told: &Told<'_, '_, '_>,
+) -> Result<Spots, AllocError>
     requires faults { All (λ (fault : BindFault). fault.node < length scene.now.doc.now.nodes) told.now.faults.now }
     requires passed { All (λ (n : ℕ). n < length scene.now.doc.now.nodes) told.now.passed.now }
     requires ordinals { AreOrdinals scene.now.doc.now scene.now.ordinals.now }
@@ -230,7 +275,7 @@ fn spots_of(alloc: Global, scene: &Scene<'_, '_>, told: &Told<'_>) -> Result<Spo
 fn place_all(
     alloc: Global,
     scene: &Scene<'_, '_>,
-    told: &Told<'_>,
+    told: &Told<'_, '_, '_>,
     spots: &mut Spots,
 ) -> Result<(), AllocError>
     requires faults { All (λ (fault : BindFault). fault.node < length scene.now.doc.now.nodes) told.now.faults.now }
@@ -249,7 +294,7 @@ fn place_all(
 }
 
 /// Whether the reading or the rules found something that counts against the document.
-fn counts_against(found: &[Findings; 2], spots: &Spots) -> bool
+fn counts_against(found: &[Findings<'_>], spots: &Spots) -> bool
     ensures { result ≡ counts_against (length spots.now.faults.items) (tally_of (rules_in found.now)) }
 {
     let tally = Tally::of(rules_in(found));
@@ -258,7 +303,7 @@ fn counts_against(found: &[Findings; 2], spots: &Spots) -> bool
 
 /// Writes the report for a person.
 fn write_report<K: Sink>(
-    found: &[Findings; 2],
+    found: &[Findings<'_>],
     spots: &Spots,
     out: &mut K,
 ) -> Result<(), WriteFault>
@@ -272,7 +317,7 @@ fn write_report<K: Sink>(
 }
 
 /// Prints the report; answers whether a write failed.
-fn print_report<K: Sink>(found: &[Findings; 2], spots: &Spots, out: &mut K) -> bool
+fn print_report<K: Sink>(found: &[Findings<'_>], spots: &Spots, out: &mut K) -> bool
     ensures { Printed result (held_plain (reading_in found.now) (rules_in found.now) spots.now.faults.items spots.now.passed.items spots.now.findings.items)
         (K.view out.old) (K.view out.new) }
 {
@@ -282,23 +327,34 @@ fn print_report<K: Sink>(found: &[Findings; 2], spots: &Spots, out: &mut K) -> b
 }
 
 /// What the reading finds.
-fn reading_in(found: &[Findings; 2]) -> &[Line]
+fn reading_in<'f, 'r>(found: &'f [Findings<'r>]) -> &'f [Line<'r>]
     ensures { result.now ≡ reading_in found.now }
 {
-    found[0].lines()
+    lines_at(found, 0)
 }
 
 /// What rules find.
-fn rules_in(found: &[Findings; 2]) -> &[Line]
+fn rules_in<'f, 'r>(found: &'f [Findings<'r>]) -> &'f [Line<'r>]
     ensures { result.now ≡ rules_in found.now }
 {
-    found[1].lines()
+    lines_at(found, 1)
+}
+
+/// The lines of the k-th of these; none where there is none.
+fn lines_at<'f, 'r>(found: &'f [Findings<'r>], k: usize) -> &'f [Line<'r>]
+    ensures { result.now ≡ get_or found.now k [] }
+{
+    if k < found.len() {
+        found[k].lines()
+    } else {
+        &[]
+    }
 }
 
 /// Prints what is told of these lines.
 fn print_held<K: Sink>(
-    reading: &[Line],
-    rules: &[Line],
+    reading: &[Line<'_>],
+    rules: &[Line<'_>],
     spots: &Spots,
     printer: &mut Printer,
     out: &mut K,

@@ -15,12 +15,13 @@ use Rattle.xpath_plan.specs.declared.work.Simple.{Simple}
 use Rattle.xpath_plan.specs.declared.work.Simple.TheVariants as s
 use Rattle.xpath_plan.specs.declared.work.StepTest.{StepTest}
 use Rattle.xpath_plan.specs.declared.work.StepTest.TheVariants as t
-use Rattle.xpath_plan.specs.declared.work.Work.{Work, Work-F, fold-roll-Work}
+use Rattle.xpath_plan.specs.declared.work.Work.{Work}
 use Rattle.xpath_plan.specs.declared.work.Work.TheVariants as w
 use Rattle.xpath_plan.specs.Plans.{seen, made, simple_seen, test_seen}
 use Rattle.xpath_run.proofs.SeenLemmas.{seen-simple}
 use Rattle.xpath_run.specs.Contexts.{operands_of}
-use Rattle.xpath_marks.specs.FirstSteps.{name_of, name_on, child_name, name_within, step_name, filtered_name, is_found_by_first}
+use Rattle.xpath_run.specs.Named.{name_of, name_on, child_name, step_name}
+use Rattle.xpath_marks.specs.FirstSteps.{filtered_name, is_found_by_first}
 use Rattle.xpath_marks.specs.Marking.{is_first_part, is_filter, is_root}
 use Rattle.xpath_marks.specs.Shapes.{alone, child_test, is_downward, is_step}
 use Rattle.xpath_marks.proofs.TurnLemmas.{node_seen, first_part_is, no_step}
@@ -28,54 +29,7 @@ use Rattle.xpath_marks.proofs.TurnLemmas.{node_seen, first_part_is, no_step}
 none_some : {X : Type 0} (x : X) → ◌≡◌ {A = Option X} None (Some x) → ⊥
 none_some x e = cc
 
--- ---- which works are steps to children of a name
-
-name_is : (test : StepTest) (k : ℕ) → name_of test ≡ Some k → test ≡ t.Named k
-name_is (t.Named n) k e = ap t.Named (let same : n ≡ k = cc in same)
-name_is (t.InNamespace uri) k e = absurd (none_some k e)
-name_is (t.WithLocal local) k e = absurd (none_some k e)
-name_is t.AnyName k e = absurd (none_some k e)
-name_is (t.Kind kind) k e = absurd (none_some k e)
-
-on_child : (axis : Axis) (test : StepTest) (k : ℕ) → name_on axis test ≡ Some k → s.Step axis test ≡ s.Step a.Child (t.Named k)
-on_child a.Child test k e = ap (s.Step a.Child) (name_is test k e)
-on_child a.Descendant test k e = absurd (none_some k e)
-on_child a.DescendantOrSelf test k e = absurd (none_some k e)
-on_child a.Itself test k e = absurd (none_some k e)
-on_child a.Attribute test k e = absurd (none_some k e)
-on_child a.Parent test k e = absurd (none_some k e)
-on_child a.Ancestor test k e = absurd (none_some k e)
-on_child a.AncestorOrSelf test k e = absurd (none_some k e)
-on_child a.FollowingSibling test k e = absurd (none_some k e)
-on_child a.PrecedingSibling test k e = absurd (none_some k e)
-on_child a.Following test k e = absurd (none_some k e)
-on_child a.Preceding test k e = absurd (none_some k e)
-
-pub child_is : (simple : Simple) (k : ℕ) → child_name simple ≡ Some k → simple ≡ s.Step a.Child (t.Named k)
-child_is (s.Step axis test) k e = on_child axis test k e
-child_is (s.Text text) k e = absurd (none_some k e)
-child_is (s.Number number) k e = absurd (none_some k e)
-child_is s.Nothing k e = absurd (none_some k e)
-child_is s.Item k e = absurd (none_some k e)
-child_is s.Root k e = absurd (none_some k e)
-child_is (s.Variable height) k e = absurd (none_some k e)
-child_is (s.Outer name) k e = absurd (none_some k e)
-child_is (s.Called function) k e = absurd (none_some k e)
-
-pub child_some : (simple : Simple) (o : Option ℕ) → o ≡ child_name simple → IfSome o (λ k. simple ≡ s.Step a.Child (t.Named k))
-child_some simple None e = tt
-child_some simple (Some k) e = child_is simple k (sym e)
-
-pub work_some : (work : Work) (simple : Simple) (o : Option ℕ) → work ≡ w.Simple simple → IfSome o (λ k. simple ≡ s.Step a.Child (t.Named k))
-    → IfSome o (λ k. work ≡ w.Simple (s.Step a.Child (t.Named k)))
-work_some work simple None is h = tt
-work_some work simple (Some k) is h = is ∙ ap w.Simple h
-
-pub name-simple : (work : Work) (simple : Simple) → work ≡ w.Simple simple → step_name work ≡ child_name simple
-name-simple work simple e = ap step_name (e ∙ sym (w.rolls-Simple simple)) ∙ fold-roll-Work (Option ℕ) name_within (Work-F.Simple simple)
-
-pub name-node : (work : Work) (kind : Kind) (parts : List (Link × Work)) → work ≡ w.Node kind parts → step_name work ≡ None
-name-node work kind parts e = ap step_name (e ∙ sym (w.rolls-Node kind parts)) ∙ fold-roll-Work (Option ℕ) name_within (Work-F.Node kind parts)
+-- ---- the name that a first part goes to
 
 pub filtered_yes : (kind : Kind) (first : Work) → is_filter kind ≡ true → filtered_name kind first ≡ step_name first
 filtered_yes kind first h = ap (λ (b : Bool). elim b [ true ↦ step_name first | false ↦ None ]) h

@@ -23,17 +23,20 @@ use Rattle.xpath_plan.specs.declared.work.Work.{Work}
 use Rattle.xpath_plan.specs.declared.work.Work.TheVariants as w
 use Rattle.xpath_plan.specs.Plans.{seen, made, label_of, simple_seen, test_seen}
 use Rattle.xpath_run.proofs.SeenLemmas.{seen-simple}
+use Rattle.xpath_run.proofs.NamedLemmas.{chain_is}
 use Rattle.xpath_walks.specs.Walks.{IsWalked, node_numbers}
 use Rattle.xpath_walks.specs.Order.{AreNumbers}
 use Rattle.xpath_walks.proofs.FilterLemmas.{alike}
 use Rattle.xpath_walks.proofs.OrderLemmas.{rising}
 use Rattle.xpath_run.specs.declared.ground.Ground.{Ground}
 use Rattle.xpath_run.specs.Contexts.{operands_of}
+use Rattle.xpath_run.specs.Named.{is_chain}
+use Rattle.xpath_run.specs.Parts.{is_operator}
 use Rattle.xpath_marks.specs.declared.marking.Joining.{Joining}
 use Rattle.xpath_marks.specs.declared.marking.Joining.TheVariants as j
 use Rattle.xpath_marks.specs.Shapes.{is_step, is_pattern}
 use Rattle.xpath_marks.specs.Found.{is_found, all_found, all_reached}
-use Rattle.xpath_marks.specs.Marking.{FoundByStep, Reached, Marked, nodes_of, is_first_part, is_chain, is_root, is_operator, joined_by, joining_of, united_of}
+use Rattle.xpath_marks.specs.Marking.{FoundByStep, Reached, Marked, nodes_of, is_first_part, is_root, joined_by, joining_of, united_of}
 use Rattle.xpath_marks.specs.FirstSteps.{is_found_by_first}
 use Rattle.xpath_marks.proofs.ShapeLemmas.{step_pattern}
 use Rattle.xpath_marks.proofs.FoundLemmas.{path_found, bar_found, step_found}
@@ -218,39 +221,24 @@ module _ (base : Ground) (work : Work) (kind : Kind) (parts : List (Link × Work
 
   pub chain_marked : is_chain kind ≡ true → Marked base (chained (operands_of base.names.now parts)) found → Marked base (seen base.names.now work) found
   chain_marked c m = subst (λ e. Marked base e found) (sym (node_is ∙ ap (λ k. made k (operands_of base.names.now parts)) (chain_is kind c))) m
-    where
-      chain_is : (kind : Kind) → is_chain kind ≡ true → kind ≡ kd.Chain
-      chain_is kd.Chain c = refl
-      chain_is (kd.Bound binder) c = absurd (false≢true c)
-      chain_is kd.Conditional c = absurd (false≢true c)
-      chain_is (kd.Cast word function optional) c = absurd (false≢true c)
-      chain_is (kd.Signs signs) c = absurd (false≢true c)
-      chain_is kd.FilteredStep c = absurd (false≢true c)
-      chain_is kd.FreeStep c = absurd (false≢true c)
-      chain_is kd.Filtered c = absurd (false≢true c)
-      chain_is kd.Only c = absurd (false≢true c)
-      chain_is (kd.Once slot height) c = absurd (false≢true c)
-      chain_is (kd.Call function) c = absurd (false≢true c)
-      chain_is (kd.Matches pattern) c = absurd (false≢true c)
-      chain_is kd.Nothing c = absurd (false≢true c)
 
 -- ---- chains
 
-pub from_root : (base : Ground) (part : Link × Work) (others : List (Link × Work)) → is_operator part.0 ≡ true
+pub from_root : (base : Ground) (part : Link × Work) (others : List (Link × Work)) → is_operator (label_of part.0) ≡ true
     → chained (operands_of base.names.now (part ∷ others)) ≡ chained_on x.the_root (operands_of base.names.now (part ∷ others))
 from_root base part others h = go part.0 part.1 h
   where
-    go : (link : Link) (work : Work) → is_operator link ≡ true
+    go : (link : Link) (work : Work) → is_operator (label_of link) ≡ true
         → chained (operands_of base.names.now ((link, work) ∷ others)) ≡ chained_on x.the_root (operands_of base.names.now ((link, work) ∷ others))
     go (l.Operator operator) work h = refl
     go l.Comma work h = absurd (false≢true h)
     go l.Other work h = absurd (false≢true h)
 
-pub from_first : (base : Ground) (part : Link × Work) (others : List (Link × Work)) → is_operator part.0 ≡ false
+pub from_first : (base : Ground) (part : Link × Work) (others : List (Link × Work)) → is_operator (label_of part.0) ≡ false
     → chained (operands_of base.names.now (part ∷ others)) ≡ chained_on (seen base.names.now part.1) (operands_of base.names.now others)
 from_first base part others h = go part.0 part.1 h
   where
-    go : (link : Link) (work : Work) → is_operator link ≡ false
+    go : (link : Link) (work : Work) → is_operator (label_of link) ≡ false
         → chained (operands_of base.names.now ((link, work) ∷ others)) ≡ chained_on (seen base.names.now work) (operands_of base.names.now others)
     go (l.Operator operator) work h = absurd (true≢false h)
     go l.Comma work h = refl

@@ -3,7 +3,6 @@ use Rattle.std.specs.Prelude.{◌≡◌, ℕ, Bool, true, false, List, [], ◌�
 use Rattle.std.specs.List.{list_any}
 use Rattle.inv_base.specs.Tree.{Node, is_among}
 use Rattle.node_arena.specs.Moves.{parent}
-use Rattle.xpath_grammar.specs.declared.step.Axis.{Axis}
 use Rattle.xpath_grammar.specs.declared.step.Axis.TheVariants as a
 use Rattle.xpath_meaning.specs.Expressions.{Exp}
 use Rattle.xpath_meaning.specs.Resolving.{step_of}
@@ -11,38 +10,15 @@ use Rattle.xpath_meaning.specs.Patterns.{found_at}
 use Rattle.xpath_plan.specs.declared.work.Kind.{Kind}
 use Rattle.xpath_plan.specs.declared.work.Kind.TheVariants as k
 use Rattle.xpath_plan.specs.declared.work.Link.{Link}
-use Rattle.xpath_plan.specs.declared.work.StepTest.{StepTest}
 use Rattle.xpath_plan.specs.declared.work.StepTest.TheVariants as t
-use Rattle.xpath_plan.specs.declared.work.Simple.{Simple}
-use Rattle.xpath_plan.specs.declared.work.Simple.TheVariants as s
-use Rattle.xpath_plan.specs.declared.work.Work.{Work, fold-Work}
-use Rattle.xpath_plan.specs.declared.work.Work.TheOpen.{Work-F}
+use Rattle.xpath_plan.specs.declared.work.Work.{Work}
 use Rattle.xpath_plan.specs.Plans.{test_seen}
 use Rattle.xpath_run.specs.declared.ground.Ground.{Ground}
+use Rattle.xpath_run.specs.Named.{step_name}
 use Rattle.xpath_walks.specs.Walks.{axis_numbers, node_numbers}
 use Rattle.xpath_marks.specs.Marking.{nodes_of, is_first_part, is_filter}
 
-abbrev pub name_of : StepTest → Option ℕ
-name_of (t.Named n) = Some n
-name_of _ = None
-
-abbrev pub name_on : Axis → StepTest → Option ℕ
-name_on a.Child test = name_of test
-name_on _ test = None
-
--- the number of the full name, where it is a step to children of one
-abbrev pub child_name : Simple → Option ℕ
-child_name (s.Step axis test) = name_on axis test
-child_name _ = None
-
-abbrev pub name_within : Work-F (Option ℕ) → Option ℕ
-name_within (Work-F.Simple simple) = child_name simple
-name_within (Work-F.Node kind parts) = None
-
-abbrev pub step_name : Work → Option ℕ
-step_name = fold-Work (Option ℕ) name_within
-
--- the same of the first part, where the others are its predicates
+-- the number of the name that the first part goes to as a step to children, where the others are its predicates
 abbrev pub filtered_name : Kind → Work → Option ℕ
 filtered_name kind first = elim (is_filter kind) [ true ↦ step_name first | false ↦ None ]
 

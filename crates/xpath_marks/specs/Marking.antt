@@ -17,12 +17,14 @@ use Rattle.xpath_plan.specs.declared.work.Link.{Link}
 use Rattle.xpath_plan.specs.declared.work.Link.TheVariants as l
 use Rattle.xpath_plan.specs.declared.work.Simple.{Simple}
 use Rattle.xpath_plan.specs.declared.work.Simple.TheVariants as s
+use Rattle.xpath_plan.specs.Plans.{label_of}
 use Rattle.xpath_tokens.specs.declared.token.Operator.{Operator}
 use Rattle.xpath_tokens.specs.declared.token.Operator.TheVariants as o
 use Rattle.xpath_marks.specs.declared.marking.Joining.{Joining}
 use Rattle.xpath_marks.specs.declared.marking.Joining.TheVariants as j
 use Rattle.xpath_run.specs.declared.ground.Ground.{Ground}
 use Rattle.xpath_run.specs.Contexts.{count}
+use Rattle.xpath_run.specs.Parts.{is_operator}
 use Rattle.xpath_marks.specs.Shapes.{is_step, is_pattern}
 use Rattle.xpath_marks.specs.Found.{all_found, all_reached}
 
@@ -67,18 +69,13 @@ FoundByStep base e found = is_step e ≡ true → found ≡ all_found (nodes_of 
 abbrev pub united_of : Ground → List ℕ → List ℕ → List ℕ
 united_of base before other = node_numbers (filter (λ (node : Node). is_among node.number (before ++ other)) (nodes_of base))
 
--- an operator stands before the part
-abbrev pub is_operator : Link → Bool
-is_operator (l.Operator operator) = true
-is_operator _ = false
-
 -- what is made of the parts is the first part, where it is said whether it is the only one
 abbrev pub is_first_part : Kind → Link → Bool → Bool
 is_first_part k.Only link alone = true
 is_first_part (k.Once slot height) link alone = true
 is_first_part k.Filtered link alone = alone
 is_first_part (k.Bound binder) link alone = alone
-is_first_part k.Chain link alone = alone && not (is_operator link)
+is_first_part k.Chain link alone = alone && not (is_operator (label_of link))
 is_first_part _ link alone = false
 
 -- the first part is filtered by the others
@@ -108,10 +105,6 @@ GoesIn base around n next old new = GoesBy (is_covered (nodes_of base) around n)
 abbrev pub is_root : Simple → Bool
 is_root s.Root = true
 is_root _ = false
-
-abbrev pub is_chain : Kind → Bool
-is_chain k.Chain = true
-is_chain _ = false
 
 -- how what stands before a part of a pattern joins it
 abbrev pub joined_by : Operator → Joining

@@ -15,48 +15,8 @@ use std::alloc::AllocError;
 use std::sync::ledger::Ledger;
 use xpath_grammar::step::Axis;
 use xpath_plan::work::{Kind, Simple, StepTest, Work};
-use xpath_run::{Ground, Slots};
+use xpath_run::{Ground, Slots, step_name};
 use xpath_walks::{documents_are_walkable, in_order, named_nodes};
-
-fn name_of(test: &StepTest) -> Option<usize>
-    ensures { result ≡ spec.name_of test.now }
-{
-    match test {
-        StepTest::Named(k) => Some(*k),
-        _ => None,
-    }
-}
-
-fn name_on(axis: Axis, test: &StepTest) -> Option<usize>
-    ensures { result ≡ spec.name_on axis test.now }
-{
-    match axis {
-        Axis::Child => name_of(test),
-        _ => None,
-    }
-}
-
-/// Which of the plan's names the nodes have that it leads to, where it is a step to children of a name.
-pub(crate) fn child_name(simple: &Simple) -> Option<usize>
-    ensures name { result ≡ spec.child_name simple.now }
-    ensures step { IfSome result (λ k. simple.now ≡ Simple.Step Axis.Child (StepTest.Named k)) }
-{
-    match simple {
-        Simple::Step(axis, test) => name_on(*axis, test),
-        _ => None,
-    }
-}
-
-/// The same of any work. One with parts is no step alone.
-fn step_name(work: &Work) -> Option<usize>
-    ensures name { result ≡ spec.step_name work.now }
-    ensures step { IfSome result (λ k. work.now ≡ Work.Simple (Simple.Step Axis.Child (StepTest.Named k))) }
-{
-    match work {
-        Work::Simple(simple) => child_name(simple),
-        Work::Node(_, _) => None,
-    }
-}
 
 /// Which of the plan's names the children have that the first part goes to, where the others are its predicates.
 pub(crate) fn filtered_name(kind: &Kind, first: &Work) -> Option<usize>

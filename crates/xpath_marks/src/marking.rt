@@ -13,15 +13,15 @@ ghost use Rattle.xpath_marks.specs.Marking as spec;
 ghost use Rattle.xpath_marks.specs.Marking.{AreNodes, FoundByStep, Marked, nodes_of, united_of};
 ghost use Rattle.xpath_marks.specs.Shapes.{alone};
 
-use crate::first_steps::{all_of_name, child_name, filtered_name, from_around};
+use crate::first_steps::{all_of_name, filtered_name, from_around};
 use crate::inside::{all_inside, all_nodes};
-use crate::steps::{is_first_part, is_operator, reached};
+use crate::steps::{is_first_part, reached};
 use inv_base::Steps;
 use node_arena::NodeId;
 use std::alloc::AllocError;
 use std::sync::ledger::Ledger;
 use xpath_plan::work::{Kind, Link, Simple, Work};
-use xpath_run::{Ground, Slots};
+use xpath_run::{Ground, Slots, child_name, is_chain, is_operator};
 use xpath_tokens::token::Operator;
 use xpath_walks::{documents_are_walkable, in_order};
 
@@ -84,15 +84,6 @@ fn is_root(simple: &Simple) -> bool
 {
     match simple {
         Simple::Root => true,
-        _ => false,
-    }
-}
-
-fn is_chain(kind: &Kind) -> bool
-    ensures { result ≡ spec.is_chain kind.now }
-{
-    match kind {
-        Kind::Chain => true,
         _ => false,
     }
 }

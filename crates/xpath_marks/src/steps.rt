@@ -12,7 +12,7 @@ use node_arena::NodeId;
 use std::alloc::AllocError;
 use std::sync::ledger::Ledger;
 use xpath_plan::work::{Kind, Link, Simple, Work};
-use xpath_run::{Ground, Slots};
+use xpath_run::{Ground, Slots, is_operator};
 use xpath_walks::{Step, axis_nodes, documents_are_walkable, in_order};
 
 /// Puts what a step without predicates finds at the node behind the others.
@@ -77,15 +77,6 @@ pub(crate) fn is_first_part(kind: &Kind, link: Link, alone: bool) -> bool
         Kind::Filtered | Kind::Bound(_) => alone,
         Kind::Chain => alone && !is_operator(link),
         _ => false,
-    }
-}
-
-pub(crate) fn is_operator(link: Link) -> bool
-    ensures { result ≡ spec.is_operator link }
-{
-    match link {
-        Link::Operator(_) => true,
-        Link::Comma | Link::Other => false,
     }
 }
 

@@ -244,7 +244,7 @@ plain_chain (Some it) = refl
 pub plain-chain : (work : Work) (parts : List (Link × Work)) → work ≡ w.Node m.Chain parts → plain_walk work ≡ chain_walk (forms parts)
 plain-chain work parts is = ap plain_walk is ∙ (ap plain_of (form-node m.Chain parts) ∙ plain_chain (chain_walk (forms parts)))
 
-chain_is : (kind : Kind) → is_chain kind ≡ true → kind ≡ m.Chain
+pub chain_is : (kind : Kind) → is_chain kind ≡ true → kind ≡ m.Chain
 chain_is m.Chain h = refl
 chain_is (m.Once slot height) h = absurd (false≢true h)
 chain_is (m.Bound binder) h = absurd (false≢true h)

@@ -36,6 +36,7 @@ abbrev pub name_on : Axis → StepTest → Option ℕ
 name_on a.Child test = name_of test
 name_on _ test = None
 
+-- the number of the full name, where it is a step to children of one
 abbrev pub child_name : Simple → Option ℕ
 child_name (s.Step axis test) = name_on axis test
 child_name _ = None
@@ -116,6 +117,10 @@ form_step (Work-F.Node kind parts) = node_form kind parts
 
 abbrev pub form : Work → Form
 form = fold-Work Form form_step
+
+-- the number of the full name, where the work is a step to children of one
+abbrev pub step_name : Work → Option ℕ
+step_name work = child_of (form work)
 
 abbrev pub forms : List (Link × Work) → List (Link × Form)
 forms parts = map (λ part. (part.0, form part.1)) parts

@@ -22,6 +22,7 @@ abbrev pub IsOnly : List Operand → Exp → Type 0
 IsOnly (part ∷ []) x = part.1 ≡ x
 IsOnly _ x = ⊥
 
+-- an operator stands there
 abbrev pub is_operator : Label → Bool
 is_operator (k.Link operator) = true
 is_operator _ = false

@@ -19,7 +19,8 @@ mod whole;
 
 pub use evaluating::evaluate;
 pub use ground::Ground;
-pub use named::Walk;
+pub use named::{Walk, child_name, is_chain, step_name};
+pub use parts::is_operator;
 pub use run::Run;
 pub use slots::Slots;
 pub use xpath_steps::Env;

@@ -47,8 +47,8 @@ fn name_on(axis: Axis, test: &StepTest) -> Option<usize>
     }
 }
 
-/// The number of the name, of a step to children of a full name.
-fn child_name(simple: &Simple) -> Option<usize>
+/// Which of the plan's names the nodes have that it leads to, where it is a step to children of a full name.
+pub fn child_name(simple: &Simple) -> Option<usize>
     ensures name { result ≡ spec.child_name simple.now }
     ensures step { IfSome result (λ k. simple.now ≡ Simple.Step Axis.Child (StepTest.Named k)) }
 {
@@ -59,8 +59,8 @@ fn child_name(simple: &Simple) -> Option<usize>
 }
 
 /// The same of any work. One with parts is no step alone.
-fn step_name(work: &Work) -> Option<usize>
-    ensures form { result ≡ spec.child_of (spec.form work.now) }
+pub fn step_name(work: &Work) -> Option<usize>
+    ensures name { result ≡ spec.step_name work.now }
     ensures step { IfSome result (λ k. work.now ≡ w.Simple (Simple.Step Axis.Child (StepTest.Named k))) }
 {
     match work {
@@ -153,7 +153,8 @@ fn chain_walk(parts: &[(Link, Work)]) -> Option<Walk>
     }
 }
 
-fn is_chain(kind: &Kind) -> bool
+/// Whether its parts are operands with operators between them.
+pub fn is_chain(kind: &Kind) -> bool
     ensures { result ≡ spec.is_chain kind.now }
 {
     match kind {

@@ -56,7 +56,7 @@ pub(crate) fn child_test(work: &Work) -> Option<&StepTest>
 }
 
 /// Whether an operator stands there.
-pub(crate) fn is_operator(link: Link) -> bool
+pub fn is_operator(link: Link) -> bool
     ensures { result ≡ spec.is_operator (label_of link) }
 {
     match link {

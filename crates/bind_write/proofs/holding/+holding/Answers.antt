@@ -66,7 +66,7 @@ pub is_held_somewhere-returns-then-is_held : goal.is_held_somewhere-returns-then
 is_held_somewhere-returns-then-is_held t c cells plan h =
     let k = c.spots-test.true in
     let n = c.number_of-k-end.ensures in
-    let here = held-seen _ _ _ _ _ _ cells plan _ c.spot_at.ensures c.is_held.ensures h in
+    let here = held-seen _ _ _ _ _ _ cells plan _ c.spot_at.ensures c.is_held-in-spots.ensures h in
     let p : Context → Bool = trees.line_holds c.args.source.now.entries.now cells plan in
     one-holds p _ _ _ _ (c.spots.invariant cells plan h) (spots-next c.args.source.now.context c.spots_of-spots.result.group c.spots_of-spots.result.count c.spots.k (omega arith)) (sym here ∙ c.if-is_held.true) ∙ ap (list_any p) c.spots_of-spots.ensures
 
@@ -74,7 +74,7 @@ pub is_held_somewhere-spots-preserved : goal.is_held_somewhere-spots-preserved
 is_held_somewhere-spots-preserved t c cells plan h =
     let k = c.spots-test.true in
     let n = c.number_of-k-end.ensures in
-    let here = held-seen _ _ _ _ _ _ cells plan _ c.spot_at.ensures c.is_held.ensures h in
+    let here = held-seen _ _ _ _ _ _ cells plan _ c.spot_at.ensures c.is_held-in-spots.ensures h in
     let p : Context → Bool = trees.line_holds c.args.source.now.entries.now cells plan in
     one-fails p _ _ _ _ (c.spots.invariant cells plan h) (spots-next c.args.source.now.context c.spots_of-spots.result.group c.spots_of-spots.result.count c.spots.k (omega arith)) (sym here ∙ c.if-is_held.false)
 

@@ -1,16 +1,10 @@
-use Rattle.std.proofs.Common.{◌≡◌, Bool, true, false, List, map, Option, None, sym, ap, ◌∙◌, subst, inl, inr, ◌⊎◌}
-use Rattle.std.specs.Prelude.{is_some, not}
-use Rattle.term_table.specs.declared.contexts.Slot.{Slot}
+use Rattle.std.proofs.Common.{List, map, sym, subst}
 use Rattle.term_table.specs.Runs.{IsInOrder}
 use Rattle.inv_terms.specs.declared.entries.Entry.{Entry}
 use Rattle.inv_terms.specs.Listing.{seat_of}
 use Rattle.bind_write.specs.Sources.{HasSameValues}
-use Rattle.bind_write.proofs.SourceLemmas.{run_order, run_values}
+use Rattle.bind_write.proofs.SourceLemmas.{run_order, run_values, same_outer}
 use Rattle.bind_write.proofs.source.entries_for.Goals as goal
-
-same_outer : (d c : Option Slot) (r : Bool) → is_some d ≡ not r → r ≡ false → (d ≡ None) ⊎ (d ≡ c) → d ≡ c
-same_outer d c r e f (inl none) = absurd (let y : false ≡ true = ap is_some (sym none) ∙ (e ∙ ap not f) in cc)
-same_outer d c r e f (inr same) = same
 
 pub returns-else-is_none-clause-order : goal.returns-else-is_none-clause-order
 returns-else-is_none-clause-order c =

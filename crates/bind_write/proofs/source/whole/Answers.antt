@@ -1,5 +1,6 @@
 use Rattle.std.proofs.Common.{refl}
 use Rattle.bind_write.proofs.SourceLemmas.{whole_run}
+use Rattle.bind_write.proofs.PresenceLemmas.{known-any}
 use Rattle.bind_write.proofs.source.whole.Goals as goal
 
 pub returns : goal.returns
@@ -7,5 +8,5 @@ returns c = record {
   rows_are = refl;
   entries_are = refl;
   context_is = refl;
-  source = record { order = c.requires.order; run = whole_run c.args.entries.now; notes = c.requires.notes };
+  source = record { order = c.requires.order; run = whole_run c.args.entries.now; known = known-any _ c.of_any.ensures c.args.entries.now; notes = c.requires.notes };
 }

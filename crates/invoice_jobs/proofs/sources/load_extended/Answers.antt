@@ -1,4 +1,4 @@
-use Rattle.invoice_jobs.proofs.SourceLemmas.{no_terms_go_on, no_tables}
+use Rattle.invoice_jobs.proofs.SourceLemmas.{no_terms_go_on}
 use Rattle.invoice_jobs.proofs.sources.load_extended.Goals as goal
 
 pub returns-in-Some-clause-goes_on : goal.returns-in-Some-clause-goes_on
@@ -10,7 +10,3 @@ returns-in-Some-clause-fails g c = rw c.in-Some.is c.load_terms.ensures.fails
 pub returns-in-None-clause-goes_on : goal.returns-in-None-clause-goes_on
 returns-in-None-clause-goes_on g c = rw c.in-None.is
     (no_terms_go_on c.without_terms.result (g.S.Shelf.view c.args.shelf.now) (g.E.Sink.view c.args.err.now) c.without_terms.ensures.none)
-
-pub returns-in-None-clause-fails : goal.returns-in-None-clause-fails
-returns-in-None-clause-fails g c = rw c.in-None.is
-    (no_tables c.without_terms.result (g.S.Shelf.view c.args.shelf.now) (g.E.Sink.view c.args.err.now) c.without_terms.ensures.memory)

@@ -15,6 +15,6 @@ returns-clause-found g c =
     let old = c.args.findings.now in
     on_ok c.judge_inside.result
     (λ e. e ∙ (ap (λ lines. lines ++ told) c.in_ok-push.ensures.ok
-    ∙ (ap (λ context. (old ++ l.Fired c.args.n c.args.k context ∷ []) ++ told) c.in_ok-context.ensures
+    ∙ (ap (λ context. (old ++ l.Fired c.args.n c.args.k context ∷ []) ++ told) c.lent_text-context.ensures
     ∙ append_assoc old (l.Fired c.args.n c.args.k rule.source.now.context.text ∷ []) told)))
     c.judge_inside.ensures.found

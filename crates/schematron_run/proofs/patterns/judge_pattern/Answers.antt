@@ -22,7 +22,7 @@ returns-clause-found g c =
     ∙ (ap (λ v. c.push.new.self ++ flat_map (λ (node : Node). by_first nodes v node 0 (map seen_rule c.as_slice-2.result.now)) nodes) inside
     ∙ (ap (λ rules. c.push.new.self ++ flat_map (λ (node : Node). by_first nodes inner node 0 (map seen_rule rules)) nodes) c.as_slice-2.ensures
     ∙ (ap (λ lines. lines ++ told) c.in_ok-push.ensures.ok
-    ∙ (ap (λ id. (old ++ l.Pattern id ∷ []) ++ told) c.in_ok-id.ensures
+    ∙ (ap (λ id. (old ++ l.Pattern id ∷ []) ++ told) c.lent_label-id.ensures
     ∙ append_assoc old (l.Pattern pattern.id ∷ []) told))))
 
 pub returns-clause-env : goal.returns-clause-env

@@ -1,14 +1,6 @@
 use Rattle.std.proofs.Common.{ap, ◌∙◌}
-use Rattle.std.specs.Prelude.{encode_utf8_all}
-use Rattle.inv_base.specs.Memory.{Taken}
 use Rattle.bind_meaning.specs.Tables.{rows_of}
-use Rattle.bind_write.specs.Documents.{document_text}
-use Rattle.trial_run.proofs.MemoryLemmas.{written-kept}
 use Rattle.trial_run.proofs.reading.written.Goals as goal
 
-pub returns-in-Ok : goal.returns-in-Ok
-returns-in-Ok c =
-    let text = encode_utf8_all (document_text c.table-table.result.now c.args.invoice.now) in
-    written-kept c.args.syntax c.args.invoice.now text c.in_ok-text.text c.write.new.out
-    (ap (λ rows. encode_utf8_all (document_text rows c.args.invoice.now)) (c.table-table.ensures ∙ (c.requires.tables c.target.result ∙ ap rows_of c.target.ensures)))
-    (ap (λ (s : Taken). s.bytes) c.in_ok-text.ensures) c.in-Ok.ensures
+pub written_by-text-requires : goal.written_by-text-requires
+written_by-text-requires c = c.as_ref.ensures ∙ (c.in_ok-table.ensures ∙ (c.requires.tables c.target.result ∙ ap rows_of c.target.ensures))

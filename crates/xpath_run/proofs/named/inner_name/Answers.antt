@@ -4,7 +4,7 @@ use Rattle.xpath_run.proofs.NamedLemmas.{inner_yes, inner_no, inner_some}
 use Rattle.xpath_run.proofs.named.inner_name.Goals as goal
 
 pub returns-then-is_double_slash-clause-form : goal.returns-then-is_double_slash-clause-form
-returns-then-is_double_slash-clause-form c = c.step_name.ensures.form
+returns-then-is_double_slash-clause-form c = c.step_name.ensures.name
     ∙ sym (inner_yes c.args.part.now.0 (form c.args.part.now.1) (sym c.if-is_double_slash.ensures))
 
 pub returns-then-is_double_slash-clause-part : goal.returns-then-is_double_slash-clause-part

@@ -13,7 +13,7 @@ import sys
 import tempfile
 
 HOME = pathlib.Path(__file__).resolve().parent.parent
-TOLD = "einv: not the proved program: the same sources, built without proofs; this takes a minute or more\n"
+TOLD = "einv: not the proved program: the same sources, built without proofs; this takes two or three minutes\n"
 
 
 def answer(folder, words):

@@ -20,10 +20,12 @@ use Rattle.binding_laws.proofs.TreeLemmas.{Each}
 use Rattle.address_laws.specs.AddressTrees.{Leaf, inside, where_so}
 use Rattle.address_laws.specs.Addresses.{Turn, turns, or_once, group_turns, leaf_at, under, said_by, holder, is_some_of}
 use Rattle.address_laws.proofs.Orders.{In, each-in}
-use Rattle.address_laws.proofs.Items.{Item, tails, tail_of, tail_at, tail_by, HasLine, HasFirst, Of, made, plan_from, distinct-inside, distinct-rest, or-first, or-second, number-itself}
+use Rattle.address_laws.proofs.Items.{Item, tails, tail_of, tail_at, tail_by, HasLine, HasFirst, Of, made, plan_from, distinct-inside, distinct-rest, or-first}
+use Rattle.address_laws.proofs.Items.{or-second, number-itself}
 use Rattle.address_laws.proofs.Turns.{place_of}
 use Rattle.address_laws.proofs.Holding.{is_term, any-append, writes_below}
-use Rattle.address_laws.proofs.Walks.{own_along, own_said, told, told_along, told_said, told-inside, told-some, further, due, some-map, some-each, constant-silent}
+use Rattle.address_laws.proofs.Walks.{own_along, own_said, told, told_along, told_said, told-inside, told-some, further, due, some-map, some-each}
+use Rattle.address_laws.proofs.Walks.{constant-silent}
 
 -- ---- lists
 
@@ -53,7 +55,8 @@ pub in-behind : {A : Type 0} (x : A) (xs ys : List A) → In x ys → In x (xs +
 in-behind x [] ys k = k
 in-behind x (y ∷ xs) ys k = inr (in-behind x xs ys k)
 
-pub in-tails : (u : Step) (path : List Step) (cell : Cell) (items : List Item) → In (record { path = u ∷ path; cell = cell }) items → In (record { path = path; cell = cell }) (tails u.number items)
+pub in-tails : (u : Step) (path : List Step) (cell : Cell) (items : List Item) → In (record { path = u ∷ path; cell = cell }) items →
+    In (record { path = path; cell = cell }) (tails u.number items)
 in-tails u path cell [] k = elim k [ ]
 in-tails u path cell (i ∷ is) (inl e) =
     subst (λ (j : Item). In (record { path = path; cell = cell }) (tail_of u.number j ++ tails u.number is)) e
@@ -89,7 +92,8 @@ module _ (es : List Entry) where
   pub constant-writes : (row : Row) (c : Context) → IsConstant row → writes_entry row es c ≡ false
   constant-writes row c h = let k = constant-content row h in constant-silent es row k.0 c k.1
 
-  pub constant-says : (above here : Bool) (last : Option Step) (c : Context) (row : Row) → IsConstant row → is_some_of (own_said es row.content above here last c row) ≡ due row.leaf above here
+  pub constant-says : (above here : Bool) (last : Option Step) (c : Context) (row : Row) → IsConstant row →
+      is_some_of (own_said es row.content above here last c row) ≡ due row.leaf above here
   constant-says above here last c row h =
       let k = constant-content row h in
       ap (λ content. is_some_of (own_said es content above here last c row)) k.1 ∙ go (due row.leaf above here) (said_by row.leaf k.0)
@@ -117,43 +121,53 @@ module _ (es : List Entry) where
   told-none : (last : Option Step) (c : Context) (items : List Item) → list_any (writes_item c) items ≡ false → told es last c items ≡ []
   told-none last c items h = none-of (told es last c items) (told-some es last c items ∙ h)
 
-  pub tails-silent : (items : List Item) (u : Step) (c : Context) (t : Turn) → are_distinct (element_numbers (plan_from items)) ≡ true → HasLine u (plan_from items) → In t (turns es c u.group)
+  pub tails-silent : (items : List Item) (u : Step) (c : Context) (t : Turn) → are_distinct (element_numbers (plan_from items)) ≡ true →
+      HasLine u (plan_from items) → In t (turns es c u.group)
       → list_any (writes_item c) items ≡ false → list_any (writes_item t.context) (tails u.number items) ≡ false
   tails-silent items u c t d h k e =
       sym (told-some es (Some u) t.context (tails u.number items))
-      ∙ (ap is_some_of (sym (told-inside es c (plan_from items) d u h t k None items (made items d).first)) ∙ ap (λ l. is_some_of (inside (place_of u t) l)) (told-none None c items e))
+      ∙ (ap is_some_of (sym (told-inside es c (plan_from items) d u h t k None items (made items d).first)) ∙
+      ap (λ l. is_some_of (inside (place_of u t) l)) (told-none None c items e))
 
   further-none : (items : List Item) (u : Step) (t : Turn) → list_any (writes_item t.context) items ≡ false → further es items false u t ≡ false
-  further-none items u t e = ap (λ b. holder (list_any is_term items) b false) (told-some es (Some u) t.context items ∙ e) ∙ holder-false (list_any is_term items)
+  further-none items u t e = ap (λ b. holder (list_any is_term items) b false) (told-some es (Some u) t.context items ∙ e) ∙
+      holder-false (list_any is_term items)
 
   turns-none : (s : Step) (f : Turn → List Leaf) (ts : List Turn) → ((t : Turn) → In t ts → f t ≡ []) → flat_map (λ t. map (under s t) (f t)) ts ≡ []
   turns-none s f [] h = refl
   turns-none s f (t ∷ ts) h = ap (λ l. map (under s t) l ++ flat_map (λ t. map (under s t) (f t)) ts) (h t (inl refl)) ∙ turns-none s f ts (λ u k. h u (inr k))
 
-  has-line : (items : List Item) (u : Step) (path : List Step) (cell : Cell) → are_distinct (element_numbers (plan_from items)) ≡ true → In (record { path = u ∷ path; cell = cell }) items → HasLine u (plan_from items)
+  has-line : (items : List Item) (u : Step) (path : List Step) (cell : Cell) → are_distinct (element_numbers (plan_from items)) ≡ true →
+      In (record { path = u ∷ path; cell = cell }) items → HasLine u (plan_from items)
   has-line items u path cell d k = each-in (HasFirst (plan_from items)) items (record { path = u ∷ path; cell = cell }) (made items d).first k
 
   -- A constant doesn't stand where no holder holds an entry.
   pub unheld : (items : List Item) (last : Option Step) (c : Context) (path : List Step) (cell : Cell) → are_distinct (element_numbers (plan_from items)) ≡ true
-      → In (record { path = path; cell = cell }) items → list_any (writes_item c) items ≡ false → IsConstant cell.row → own_along es items false false last c path cell.row ≡ []
+      → In (record { path = path; cell = cell }) items → list_any (writes_item c) items ≡ false → IsConstant cell.row →
+      own_along es items false false last c path cell.row ≡ []
   unheld items last c [] cell d k e h =
       none-of (own_along es items false false last c [] cell.row)
-      (some-map (leaf_at []) (own_said es cell.row.content false false last c cell.row) ∙ (constant-says false false last c cell.row h ∙ due-false cell.row.leaf))
+      (some-map (leaf_at []) (own_said es cell.row.content false false last c cell.row) ∙
+      (constant-says false false last c cell.row h ∙ due-false cell.row.leaf))
   unheld items last c (u ∷ path) cell d k e h =
       let has = has-line items u path cell d k in
       let inner = tails-distinct items u d has in
-      turns-none u (λ t. own_along es (tails u.number items) false (further es (tails u.number items) false u t) (Some u) t.context path cell.row) (turns es c u.group) (λ t among.
+      turns-none u (λ t. own_along es (tails u.number items) false (further es (tails u.number items) false u t) (Some u) t.context path cell.row)
+      (turns es c u.group) (λ t among.
       let silent = tails-silent items u c t d has among e in
       ap (λ b. own_along es (tails u.number items) false b (Some u) t.context path cell.row) (further-none (tails u.number items) u t silent)
       ∙ unheld (tails u.number items) (Some u) t.context path cell inner (in-tails u path cell items k) silent h)
 
   -- the same below an element whose own holder doesn't, whatever is above
-  pub unheld-below : (items : List Item) (above : Bool) (last : Option Step) (c : Context) (u : Step) (path : List Step) (cell : Cell) → are_distinct (element_numbers (plan_from items)) ≡ true
-      → In (record { path = u ∷ path; cell = cell }) items → list_any (writes_item c) items ≡ false → IsConstant cell.row → own_along es items above false last c (u ∷ path) cell.row ≡ []
+  pub unheld-below : (items : List Item) (above : Bool) (last : Option Step) (c : Context) (u : Step) (path : List Step) (cell : Cell) →
+      are_distinct (element_numbers (plan_from items)) ≡ true
+      → In (record { path = u ∷ path; cell = cell }) items → list_any (writes_item c) items ≡ false → IsConstant cell.row →
+      own_along es items above false last c (u ∷ path) cell.row ≡ []
   unheld-below items above last c u path cell d k e h =
       let has = has-line items u path cell d k in
       let inner = tails-distinct items u d has in
-      turns-none u (λ t. own_along es (tails u.number items) false (further es (tails u.number items) false u t) (Some u) t.context path cell.row) (turns es c u.group) (λ t among.
+      turns-none u (λ t. own_along es (tails u.number items) false (further es (tails u.number items) false u t) (Some u) t.context path cell.row)
+      (turns es c u.group) (λ t among.
       let silent = tails-silent items u c t d has among e in
       ap (λ b. own_along es (tails u.number items) false b (Some u) t.context path cell.row) (further-none (tails u.number items) u t silent)
       ∙ unheld (tails u.number items) (Some u) t.context path cell inner (in-tails u path cell items k) silent h)
@@ -171,7 +185,8 @@ module _ (es : List Entry) where
   tails-terms n [] h = refl
   tails-terms n (i ∷ is) h =
       any-append is_term (tail_of n i) (tails n is)
-      ∙ (ap (λ b. b || list_any is_term (tails n is)) (tail-terms n i.path i.cell (or-first (is_term i) (list_any is_term is) h)) ∙ tails-terms n is (or-second (is_term i) (list_any is_term is) h))
+      ∙ (ap (λ b. b || list_any is_term (tails n is)) (tail-terms n i.path i.cell (or-first (is_term i) (list_any is_term is) h)) ∙
+      tails-terms n is (or-second (is_term i) (list_any is_term is) h))
 
   turns-some : (c : Context) (group : Option Group) → is_some_of (turns es c group) ≡ true
   turns-some c None = refl
@@ -191,8 +206,11 @@ module _ (es : List Entry) where
       some-map (leaf_at []) (own_said es cell.row.content true true last c cell.row) ∙ (constant-says true true last c cell.row h ∙ due-true cell.row.leaf)
   held items last c (u ∷ path) cell e h =
       let none = tails-terms u.number items e in
-      some-each (λ (t : Turn). map (under u t) (own_along es (tails u.number items) true (further es (tails u.number items) true u t) (Some u) t.context path cell.row)) (turns es c u.group)
-      ∙ any-first (λ (t : Turn). is_some_of (map (under u t) (own_along es (tails u.number items) true (further es (tails u.number items) true u t) (Some u) t.context path cell.row))) (turns es c u.group)
+      some-each (λ (t : Turn). map (under u t) (own_along es (tails u.number items) true (further es (tails u.number items) true u t)
+      (Some u) t.context path cell.row)) (turns es c u.group)
+      ∙ any-first (λ (t : Turn). is_some_of
+      (map (under u t) (own_along es (tails u.number items) true (further es (tails u.number items) true u t) (Some u) t.context path cell.row)))
+      (turns es c u.group)
       (turns-some c u.group) (λ t.
       some-map (under u t) (own_along es (tails u.number items) true (further es (tails u.number items) true u t) (Some u) t.context path cell.row)
       ∙ (ap (λ b. is_some_of (own_along es (tails u.number items) true b (Some u) t.context path cell.row))
@@ -205,14 +223,17 @@ module _ (es : List Entry) where
       → own_along es items above here last c path row ≡ told_along es last c path row
   own-told items above here last c [] row h = go row.content refl h
     where
-      go : (content : Content) → row.content ≡ content → is_some (term_in content) ≡ true → map (leaf_at []) (own_said es row.content above here last c row) ≡ map (leaf_at []) (told_said es row.content last c row)
+      go : (content : Content) → row.content ≡ content → is_some (term_in content) ≡ true →
+          map (leaf_at []) (own_said es row.content above here last c row) ≡ map (leaf_at []) (told_said es row.content last c row)
       go (contents.Term term) e h =
           ap (λ x. map (leaf_at []) (own_said es x above here last c row)) e ∙ sym (ap (λ x. map (leaf_at []) (told_said es x last c row)) e)
       go (contents.Constant text) e h = absurd (false≢true h)
   own-told items above here last c (s ∷ path) row h =
-      same (λ (t : Turn). own_along es (tails s.number items) here (further es (tails s.number items) here s t) (Some s) t.context path row) (λ (t : Turn). told_along es (Some s) t.context path row)
+      same (λ (t : Turn). own_along es (tails s.number items) here (further es (tails s.number items) here s t) (Some s) t.context path row)
+      (λ (t : Turn). told_along es (Some s) t.context path row)
       (λ t. own-told (tails s.number items) here (further es (tails s.number items) here s t) (Some s) t.context path row h) (turns es c s.group)
     where
-      same : (f g : Turn → List Leaf) → ((t : Turn) → f t ≡ g t) → (ts : List Turn) → flat_map (λ t. map (under s t) (f t)) ts ≡ flat_map (λ t. map (under s t) (g t)) ts
+      same : (f g : Turn → List Leaf) → ((t : Turn) → f t ≡ g t) → (ts : List Turn) →
+          flat_map (λ t. map (under s t) (f t)) ts ≡ flat_map (λ t. map (under s t) (g t)) ts
       same f g k [] = refl
       same f g k (t ∷ ts) = ap (λ l. map (under s t) l ++ flat_map (λ t. map (under s t) (f t)) ts) (k t) ∙ ap (λ l. map (under s t) (g t) ++ l) (same f g k ts)

@@ -1,5 +1,6 @@
 -- The document of an invoice is the tree of its leaves.
-use Rattle.std.proofs.Common.{◌≡◌, ℕ, suc, zero, ◌+◌, ◌≤◌, true, false, Option, None, List, [], ◌∷◌, ◌++◌, length, flat_map, max, inl, inr, refl, sym, ap, ◌∙◌, subst, arith}
+use Rattle.std.proofs.Common.{◌≡◌, ℕ, suc, zero, ◌+◌, ◌≤◌, true, false, Option, None, List, [], ◌∷◌, ◌++◌, length, flat_map, max, inl, inr, refl, sym, ap, ◌∙◌}
+use Rattle.std.proofs.Common.{subst, arith}
 use Rattle.std.specs.Prelude.{is_some}
 use Rattle.std.specs.List.{list_all}
 use Rattle.std.proofs.lemmas.Bool.{false≢true}
@@ -62,7 +63,8 @@ module _ (es : List Entry) (placed : list_all is_placed es ≡ true) where
 
   constant-untold : (row : Row) (text : List ℕ) → row.content ≡ contents.Constant text → (last : Option Step) (c : Context) (path : List Step)
       → told_along es last c path row ≡ []
-  constant-untold row text e last c path = none-of (told_along es last c path row) (told_along-some es last c path row ∙ constant-below es path row c (ap (λ x. is_some (term_in x)) e))
+  constant-untold row text e last c path = none-of (told_along es last c path row)
+      (told_along-some es last c path row ∙ constant-below es path row c (ap (λ x. is_some (term_in x)) e))
 
   one-told : (i : Item) → IsRow i → told_along es None root_context i.path i.cell.row ≡ told-with i.cell.row i.cell.row.content
   one-told i r = go i.cell.row.content refl
@@ -74,8 +76,10 @@ module _ (es : List Entry) (placed : list_all is_placed es ≡ true) where
 
   told-rows : (n : ℕ) (rows : List Row) → list_all row_fits rows ≡ true → told es None root_context (items_from n rows) ≡ told_leaves rows es
   told-rows n rows h =
-      flat_map-each (λ (i : Item). told_along es None root_context i.path i.cell.row) (λ (i : Item). told-with i.cell.row i.cell.row.content) (items_from n rows)
-      (each-with_in IsRow (λ i. told_along es None root_context i.path i.cell.row ≡ told-with i.cell.row i.cell.row.content) (items_from n rows) (items-rows n rows h) (λ i k r. one-told i r))
+      flat_map-each (λ (i : Item). told_along es None root_context i.path i.cell.row) (λ (i : Item). told-with i.cell.row i.cell.row.content)
+      (items_from n rows)
+      (each-with_in IsRow (λ i. told_along es None root_context i.path i.cell.row ≡ told-with i.cell.row i.cell.row.content) (items_from n rows)
+      (items-rows n rows h) (λ i k r. one-told i r))
       ∙ of-rows (λ row. told-with row row.content) n rows
 
   module _ (rows : List Row) (fit : list_all row_fits rows ≡ true) (distinct : are_distinct (element_numbers (plan_from (items_from 0 rows))) ≡ true) where
@@ -84,25 +88,32 @@ module _ (es : List Entry) (placed : list_all is_placed es ≡ true) where
 
     abbrev row-with : Row → Content → List Leaf
     row-with row (contents.Term term) = entry_leaves es row
-    row-with row (contents.Constant text) = flat_map (constant_leaf (paths_of_terms rows) (told_leaves rows es) row text) (ways (turns es) None root_context row.path)
+    row-with row (contents.Constant text) = flat_map (constant_leaf (paths_of_terms rows) (told_leaves rows es) row text)
+        (ways (turns es) None root_context row.path)
 
     one-row : (i : Item) → In i items → IsRow i → own_along es items false false None root_context i.path i.cell.row ≡ row-with i.cell.row i.cell.row.content
     one-row i k r = go i.cell.row.content refl
       where
-        go : (content : Content) → i.cell.row.content ≡ content → own_along es items false false None root_context i.path i.cell.row ≡ row-with i.cell.row i.cell.row.content
+        go : (content : Content) → i.cell.row.content ≡ content →
+            own_along es items false false None root_context i.path i.cell.row ≡ row-with i.cell.row i.cell.row.content
         go (contents.Term term) e =
             own-told es items false false None root_context i.path i.cell.row (ap (λ x. is_some (term_in x)) e)
             ∙ (ap (λ p. told_along es None root_context p i.cell.row) r.path ∙ (row-told es placed i.cell.row term e r.fits ∙ sym (ap (row-with i.cell.row) e)))
         go (contents.Constant text) e =
             constant-leaves es i.cell.row text e items None root_context i.path i.cell distinct k
-            ∙ (ap (λ p. flat_map (constant_leaf (term_paths items) (told es None root_context items) i.cell.row text) (ways (turns es) None root_context p)) r.path
-            ∙ (ap (λ x. flat_map (constant_leaf x (told es None root_context items) i.cell.row text) (ways (turns es) None root_context i.cell.row.path)) (paths-rows 0 rows)
-            ∙ (ap (λ x. flat_map (constant_leaf (paths_of_terms rows) x i.cell.row text) (ways (turns es) None root_context i.cell.row.path)) (told-rows 0 rows fit) ∙ sym (ap (row-with i.cell.row) e))))
+            ∙ (ap (λ p. flat_map (constant_leaf (term_paths items) (told es None root_context items) i.cell.row text) (ways (turns es) None root_context p))
+            r.path
+            ∙ (ap (λ x. flat_map (constant_leaf x (told es None root_context items) i.cell.row text) (ways (turns es) None root_context i.cell.row.path))
+            (paths-rows 0 rows)
+            ∙ (ap (λ x. flat_map (constant_leaf (paths_of_terms rows) x i.cell.row text) (ways (turns es) None root_context i.cell.row.path))
+            (told-rows 0 rows fit) ∙ sym (ap (row-with i.cell.row) e))))
 
     own-rows : own es items false false None root_context ≡ flat_map (row_leaves es (paths_of_terms rows) (told_leaves rows es)) rows
     own-rows =
-        flat_map-each (λ (i : Item). own_along es items false false None root_context i.path i.cell.row) (λ (i : Item). row-with i.cell.row i.cell.row.content) items
-        (each-with_in IsRow (λ i. own_along es items false false None root_context i.path i.cell.row ≡ row-with i.cell.row i.cell.row.content) items (items-rows 0 rows fit) one-row)
+        flat_map-each (λ (i : Item). own_along es items false false None root_context i.path i.cell.row)
+        (λ (i : Item). row-with i.cell.row i.cell.row.content) items
+        (each-with_in IsRow (λ i. own_along es items false false None root_context i.path i.cell.row ≡ row-with i.cell.row i.cell.row.content) items
+        (items-rows 0 rows fit) one-row)
         ∙ of-rows (λ row. row-with row row.content) 0 rows
 
     marks-rows : all_marked es items None root_context ≡ flat_map (λ (row : Row). marks es root_context row.path) rows
@@ -160,7 +171,8 @@ top-level es plan h = record {
   alone = λ e k q. absurd (false≢true q);
 }
 
-pub document-tree : (rows : List Row) (es : List Entry) → list_all is_placed es ≡ true → is_laid rows ≡ true → is_addressed rows ≡ true → document_of rows es ≡ tree_of (leaves_of rows es)
+pub document-tree : (rows : List Row) (es : List Entry) → list_all is_placed es ≡ true → is_laid rows ≡ true → is_addressed rows ≡ true →
+    document_of rows es ≡ tree_of (leaves_of rows es)
 unfolding document_of
 document-tree rows es placed laid addressed =
     let tests = both-true (list_all row_fits rows) (constants_fit true false (plan_of rows)) addressed in
@@ -170,6 +182,7 @@ document-tree rows es placed laid addressed =
     let fits : constants_fit true false (plan_from (items_from 0 rows)) ≡ true = subst (λ (p : Plan). constants_fit true false p ≡ true) plan-is tests.1 in
     let whole : List Leaf = all_leaves es (items_from 0 rows) false false None root_context in
     ap (λ (p : Plan). written_lines es p false root_context) plan-is
-    ∙ (sym (tree-written (depth whole) es (items_from 0 rows) true false false false None root_context distinct (top-level es (plan_from (items_from 0 rows)) fits)
+    ∙ (sym (tree-written (depth whole) es (items_from 0 rows) true false false false None root_context distinct
+    (top-level es (plan_from (items_from 0 rows)) fits)
     (shallow-depth (depth whole) whole (at-most-itself (depth whole))))
     ∙ ap tree_of (all-rows es placed rows tests.0 distinct))

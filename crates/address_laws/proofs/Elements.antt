@@ -1,5 +1,6 @@
 -- Lines beside one another are written as the elements of their leaves.
-use Rattle.std.proofs.Common.{◌≡◌, ℕ, suc, zero, ◌<◌, Bool, true, false, ◌&&◌, ◌||◌, Option, Some, None, List, [], ◌∷◌, ◌++◌, filter, flat_map, map, inl, inr, refl, sym, ap, ◌∙◌, subst, arith}
+use Rattle.std.proofs.Common.{◌≡◌, ℕ, suc, zero, ◌<◌, Bool, true, false, ◌&&◌, ◌||◌, Option, Some, None, List, [], ◌∷◌, ◌++◌, filter, flat_map, map, inl, inr}
+use Rattle.std.proofs.Common.{refl, sym, ap, ◌∙◌, subst, arith}
 use Rattle.std.specs.Prelude.{nat_lt, ◌==◌, if◌then◌else◌}
 use Rattle.std.specs.List.{list_any}
 use Rattle.std.proofs.lemmas.Bool.{false≢true}
@@ -13,13 +14,15 @@ use Rattle.bind_table.specs.Lines.{Plan, Cell, nothing, a_line}
 use Rattle.bind_table.specs.Laid.{element_numbers, are_distinct}
 use Rattle.bind_meaning.specs.Trees.{has_terms, written_lines, elements, is_emitted, holds_further, attributes, element_text, with_text, name_of}
 use Rattle.binding_laws.proofs.TreeLemmas.{Each, each-append, each-weaker}
-use Rattle.address_laws.specs.AddressTrees.{Place, Leaf, Said, a_mark, same_place, comes_before, in_order, firsts, first_of, first_at, calls_for, where_so, inside, behind, behind_at, siblings, element_of, tree, said_here, currency_in, attribute_in, text_in}
+use Rattle.address_laws.specs.AddressTrees.{Place, Leaf, Said, a_mark, same_place, comes_before, in_order, firsts, first_of, first_at, calls_for, where_so}
+use Rattle.address_laws.specs.AddressTrees.{inside, behind, behind_at, siblings, element_of, tree, said_here, currency_in, attribute_in, text_in}
 use Rattle.address_laws.specs.Addresses.{Turn, turns, leaf_at, under}
 use Rattle.address_laws.specs.Addressed.{have_terms}
 use Rattle.address_laws.proofs.Orders.{In, Rising, in_order-is}
 use Rattle.address_laws.proofs.Items.{Item, tails, plan_from, Of, LineOf, Rises, Higher, HasLine, FirstIn, HasFirst, made}
 use Rattle.address_laws.proofs.Turns.{place_of, turns-rising, turn-contexts}
-use Rattle.address_laws.proofs.Walks.{all_leaves, own, own_along, own_said, all_marked, marked, mark_of, further, all-inside, all-says, cell_says, present-is, calls}
+use Rattle.address_laws.proofs.Walks.{all_leaves, own, own_along, own_said, all_marked, marked, mark_of, further, all-inside, all-says, cell_says, present-is}
+use Rattle.address_laws.proofs.Walks.{calls}
 use Rattle.address_laws.proofs.Constants.{tails-distinct, each-of_in}
 use Rattle.address_laws.proofs.Emitted.{texts-said, attributes-said, called-emitted, holds-further, constants-due, Fits}
 use Rattle.address_laws.proofs.Levels.{Level, level-rest, level-inside, fits-here}
@@ -40,7 +43,8 @@ turns-above p s (t ∷ ts) l = (numbers-before p.step.number s.number p.occurren
 places-above : (es : List Entry) (c : Context) (p : Place) (plan : Plan) → Higher p.step.number plan → Each (λ q. comes_before p q ≡ true) (places es c plan)
 places-above es c p nothing h = tt
 places-above es c p (a_line s cells inside rest) h =
-    each-append (λ q. comes_before p q ≡ true) (map (place_of s) (turns es c s.group)) (places es c rest) (turns-above p s (turns es c s.group) h.0) (places-above es c p rest h.1)
+    each-append (λ q. comes_before p q ≡ true) (map (place_of s) (turns es c s.group)) (places es c rest) (turns-above p s (turns es c s.group) h.0)
+    (places-above es c p rest h.1)
 
 rising-append : (ps qs : List Place) → Rising ps → Rising qs → Each (λ p. Each (λ q. comes_before p q ≡ true) qs) ps → Rising (ps ++ qs)
 rising-append [] qs r k h = k
@@ -70,12 +74,14 @@ in-places s t [] k = elim k [ ]
 in-places s t (u ∷ ts) (inl e) = inl (ap (place_of s) e)
 in-places s t (u ∷ ts) (inr k) = inr (in-places s t ts k)
 
-line-places : (es : List Entry) (c : Context) (u : Step) (t : Turn) (plan : Plan) → HasLine u plan → In t (turns es c u.group) → In (place_of u t) (places es c plan)
+line-places : (es : List Entry) (c : Context) (u : Step) (t : Turn) (plan : Plan) → HasLine u plan → In t (turns es c u.group) →
+    In (place_of u t) (places es c plan)
 line-places es c u t nothing h k = elim h [ ]
 line-places es c u t (a_line s cells inside rest) (inl e) k =
     in-front (place_of u t) (map (place_of s) (turns es c s.group)) (places es c rest)
     (subst (λ (v : Step). In (place_of u t) (map (place_of v) (turns es c v.group))) e (in-places u t (turns es c u.group) k))
-line-places es c u t (a_line s cells inside rest) (inr h) k = in-back (place_of u t) (map (place_of s) (turns es c s.group)) (places es c rest) (line-places es c u t rest h k)
+line-places es c u t (a_line s cells inside rest) (inr h) k = in-back (place_of u t) (map (place_of s) (turns es c s.group)) (places es c rest)
+    (line-places es c u t rest h k)
 
 -- ---- the places with which leaves begin
 
@@ -115,27 +121,33 @@ module _ (P : Place → Type 0) where
   module _ (es : List Entry) (c : Context) (plan : Plan) (there : (u : Step) (t : Turn) → HasLine u plan → In t (turns es c u.group) → P (place_of u t)) where
     firsts-turns : (u : Step) (f : Turn → List Leaf) → HasLine u plan → Each P (firsts (flat_map (λ t. map (under u t) (f t)) (turns es c u.group)))
     firsts-turns u f h =
-        firsts-each (λ t. map (under u t) (f t)) (turns es c u.group) (each-of_in (λ t. Each P (firsts (map (under u t) (f t)))) (turns es c u.group) (λ t k. firsts-under u t (f t) (there u t h k)))
+        firsts-each (λ t. map (under u t) (f t)) (turns es c u.group)
+        (each-of_in (λ t. Each P (firsts (map (under u t) (f t)))) (turns es c u.group) (λ t k. firsts-under u t (f t) (there u t h k)))
 
-    firsts-own : (items : List Item) (above held : Bool) (last : Option Step) (path : List Step) (row : Row) → FirstIn plan path → Each P (firsts (own_along es items above held last c path row))
+    firsts-own : (items : List Item) (above held : Bool) (last : Option Step) (path : List Step) (row : Row) → FirstIn plan path →
+        Each P (firsts (own_along es items above held last c path row))
     firsts-own items above held last [] row h = firsts-here (own_said es row.content above held last c row)
-    firsts-own items above held last (u ∷ path) row h = firsts-turns u (λ t. own_along es (tails u.number items) held (further es (tails u.number items) held u t) (Some u) t.context path row) h
+    firsts-own items above held last (u ∷ path) row h =
+        firsts-turns u (λ t. own_along es (tails u.number items) held (further es (tails u.number items) held u t) (Some u) t.context path row) h
 
     firsts-marked : (last : Option Step) (path : List Step) → FirstIn plan path → Each P (firsts (marked es last c path))
     firsts-marked last [] h = firsts-mark last
     firsts-marked last (u ∷ path) h = firsts-append (mark_of last) _ (firsts-mark last) (firsts-turns u (λ t. marked es (Some u) t.context path) h)
 
-    pub firsts-all : (items : List Item) (above held : Bool) (last : Option Step) → Each (HasFirst plan) items → Each P (firsts (all_leaves es items above held last c))
+    pub firsts-all : (items : List Item) (above held : Bool) (last : Option Step) → Each (HasFirst plan) items →
+        Each P (firsts (all_leaves es items above held last c))
     firsts-all items above held last h =
         firsts-append (own es items above held last c) (all_marked es items last c)
         (firsts-each (λ (i : Item). own_along es items above held last c i.path i.cell.row) items
-        (each-weaker (HasFirst plan) (λ (i : Item). Each P (firsts (own_along es items above held last c i.path i.cell.row))) items (λ i k. firsts-own items above held last i.path i.cell.row k) h))
+        (each-weaker (HasFirst plan) (λ (i : Item). Each P (firsts (own_along es items above held last c i.path i.cell.row))) items
+        (λ i k. firsts-own items above held last i.path i.cell.row k) h))
         (firsts-each (λ (i : Item). marked es last c i.path) items
         (each-weaker (HasFirst plan) (λ (i : Item). Each P (firsts (marked es last c i.path))) items (λ i k. firsts-marked last i.path k) h))
 
 -- ---- elements
 
-module _ (es : List Entry) (items : List Item) (top above held : Bool) (last : Option Step) (c : Context) (distinct : are_distinct (element_numbers (plan_from items)) ≡ true)
+module _ (es : List Entry) (items : List Item) (top above held : Bool) (last : Option Step) (c : Context)
+    (distinct : are_distinct (element_numbers (plan_from items)) ≡ true)
     (deeper : List Leaf → Forest) where
   abbrev pub whole : List Leaf
   whole = all_leaves es items above held last c
@@ -148,12 +160,15 @@ module _ (es : List Entry) (items : List Item) (top above held : Bool) (last : O
 
   -- what is inside each element is written by its leaves
   abbrev pub Inside : Type 0
-  Inside = (p : Place) → present p ≡ true → (ts : List Item) (s : Step) (here : Bool) (d : Context) (beside : Bool) → inside p whole ≡ all_leaves es ts held here (Some s) d
-      → are_distinct (element_numbers (plan_from ts)) ≡ true → Level es false here beside (plan_from ts) d → deeper (all_leaves es ts held here (Some s) d) ≡ written_lines es (plan_from ts) here d
+  Inside = (p : Place) → present p ≡ true → (ts : List Item) (s : Step) (here : Bool) (d : Context) (beside : Bool) →
+      inside p whole ≡ all_leaves es ts held here (Some s) d
+      → are_distinct (element_numbers (plan_from ts)) ≡ true → Level es false here beside (plan_from ts) d →
+      deeper (all_leaves es ts held here (Some s) d) ≡ written_lines es (plan_from ts) here d
 
   abbrev written_element : Step → List Cell → Plan → Context → Forest → Forest
   written_element s cells within d rest =
-      an_element (name_of s.name) (attributes es s cells d) (with_text (element_text es cells d) (written_lines es within (holds_further es cells within held d) d)) rest
+      an_element (name_of s.name) (attributes es s cells d)
+      (with_text (element_text es cells d) (written_lines es within (holds_further es cells within held d) d)) rest
 
   module _ (ih : Inside) (beside : Bool) (s : Step) (cells : List Cell) (within rest : Plan) (k : Level es top held beside (a_line s cells within rest) c)
       (o : LineOf cells within (tails s.number items)) (has : HasLine s (plan_from items)) where
@@ -169,10 +184,12 @@ module _ (es : List Entry) (items : List Item) (top above held : Bool) (last : O
 
       pub present-emitted : present (place_of s t) ≡ is_emitted es s cells within held t.context
       present-emitted =
-          present-is (place_of s t) whole ∙ (ap (list_any calls) leaves-inside ∙ called-emitted es s cells within (tails s.number items) t held inner o.0 o.1.0 o.1.1 fits)
+          present-is (place_of s t) whole ∙ (ap (list_any calls) leaves-inside ∙
+          called-emitted es s cells within (tails s.number items) t held inner o.0 o.1.0 o.1.1 fits)
 
       inside-written : present (place_of s t) ≡ true
-          → deeper (all_leaves es (tails s.number items) held (further es (tails s.number items) held s t) (Some s) t.context) ≡ written_lines es within (holds_further es cells within held t.context) t.context
+          → deeper (all_leaves es (tails s.number items) held (further es (tails s.number items) held s t) (Some s) t.context) ≡ written_lines es within
+          (holds_further es cells within held t.context) t.context
       inside-written e =
           ih (place_of s t) e (tails s.number items) s (further es (tails s.number items) held s t) t.context (have_terms cells) leaves-inside inner
           (subst (λ (p : Plan). Level es false (further es (tails s.number items) held s t) (have_terms cells) p t.context) o.1.0
@@ -187,7 +204,8 @@ module _ (es : List Entry) (items : List Item) (top above held : Bool) (last : O
           all-says of es (tails s.number items) held (further es (tails s.number items) held s t) (Some s) t.context e
           ∙ ap (flat_map (cell_says of es (tails s.number items) held (further es (tails s.number items) held s t) (Some s) t.context)) (sym o.0)
 
-      pub make-written : (more : Forest) → is_emitted es s cells within held t.context ≡ true → make (place_of s t) more ≡ written_element s cells within t.context more
+      pub make-written : (more : Forest) → is_emitted es s cells within held t.context ≡ true →
+          make (place_of s t) more ≡ written_element s cells within t.context more
       make-written more e =
           let here = further es (tails s.number items) held s t in
           let ls = all_leaves es (tails s.number items) held here (Some s) t.context in
@@ -199,9 +217,11 @@ module _ (es : List Entry) (items : List Item) (top above held : Bool) (last : O
           ∙ attributes-said es s t.context held here (tails s.number items) cells dues))
           ∙ (ap (λ l. an_element (name_of s.name) (attributes es s cells t.context) (with_text l (deeper ls)) more)
           (says text_in refl ∙ texts-said es s t.context held here (tails s.number items) cells dues)
-          ∙ ap (λ f. an_element (name_of s.name) (attributes es s cells t.context) (with_text (element_text es cells t.context) f) more) (inside-written (present-emitted ∙ e))))
+          ∙ ap (λ f. an_element (name_of s.name) (attributes es s cells t.context) (with_text (element_text es cells t.context) f) more)
+          (inside-written (present-emitted ∙ e))))
 
-    turns-written : (us : List Turn) (qs : List Place) (more : Forest) → ((t : Turn) → In t us → In t (turns es c s.group)) → siblings make (filter present qs) ≡ more
+    turns-written : (us : List Turn) (qs : List Place) (more : Forest) → ((t : Turn) → In t us → In t (turns es c s.group)) →
+        siblings make (filter present qs) ≡ more
         → siblings make (filter present (map (place_of s) us ++ qs))
         ≡ elements (is_emitted es s cells within held) (written_element s cells within) (map (λ (t : Turn). t.context) us) more
     turns-written [] qs more h e = e
@@ -211,37 +231,44 @@ module _ (es : List Entry) (items : List Item) (top above held : Bool) (last : O
         among = h u (inl refl)
 
         chosen : Bool → Forest
-        chosen true = written_element s cells within u.context (elements (is_emitted es s cells within held) (written_element s cells within) (map (λ (t : Turn). t.context) us) more)
+        chosen true = written_element s cells within u.context
+            (elements (is_emitted es s cells within held) (written_element s cells within) (map (λ (t : Turn). t.context) us) more)
         chosen false = elements (is_emitted es s cells within held) (written_element s cells within) (map (λ (t : Turn). t.context) us) more
 
         go : (b : Bool) → present (place_of s u) ≡ b
-            → siblings make (filter present (map (place_of s) us ++ qs)) ≡ elements (is_emitted es s cells within held) (written_element s cells within) (map (λ (t : Turn). t.context) us) more
+            → siblings make (filter present (map (place_of s) us ++ qs)) ≡ elements (is_emitted es s cells within held) (written_element s cells within)
+            (map (λ (t : Turn). t.context) us) more
             → siblings make (filter present (map (place_of s) (u ∷ us) ++ qs))
             ≡ elements (is_emitted es s cells within held) (written_element s cells within) (map (λ (t : Turn). t.context) (u ∷ us)) more
         go true f r =
             ap (λ b. siblings make (if b then place_of s u ∷ filter present (map (place_of s) us ++ qs) else filter present (map (place_of s) us ++ qs))) f
             ∙ (ap (make (place_of s u)) r
-            ∙ (make-written u among (elements (is_emitted es s cells within held) (written_element s cells within) (map (λ (t : Turn). t.context) us) more) (sym (present-emitted u among) ∙ f)
+            ∙ (make-written u among (elements (is_emitted es s cells within held) (written_element s cells within) (map (λ (t : Turn). t.context) us) more)
+            (sym (present-emitted u among) ∙ f)
             ∙ ap chosen (sym (sym (present-emitted u among) ∙ f))))
         go false f r =
             ap (λ b. siblings make (if b then place_of s u ∷ filter present (map (place_of s) us ++ qs) else filter present (map (place_of s) us ++ qs))) f
             ∙ (r ∙ ap chosen (sym (sym (present-emitted u among) ∙ f)))
 
-  pub lines-written : Inside → (beside : Bool) (plan : Plan) → Of plan items → ((v : Step) → HasLine v plan → HasLine v (plan_from items)) → Level es top held beside plan c
+  pub lines-written : Inside → (beside : Bool) (plan : Plan) → Of plan items → ((v : Step) → HasLine v plan → HasLine v (plan_from items)) →
+      Level es top held beside plan c
       → siblings make (filter present (places es c plan)) ≡ written_lines es plan held c
   lines-written ih beside nothing o h k = refl
   lines-written ih beside (a_line s cells within rest) o h k =
       turns-written ih beside s cells within rest k o.0 (h s (inl refl)) (turns es c s.group) (places es c rest) (written_lines es rest held c) (λ t m. m)
-      (lines-written ih (beside || (have_terms cells || has_terms within)) rest o.1 (λ v m. h v (inr m)) (level-rest es top held beside s cells within rest c k))
+      (lines-written ih (beside || (have_terms cells || has_terms within)) rest o.1 (λ v m. h v (inr m))
+      (level-rest es top held beside s cells within rest c k))
       ∙ ap (λ cs. elements (is_emitted es s cells within held) (written_element s cells within) cs (written_lines es rest held c)) (turn-contexts es c s.group)
 
   -- the leaves' places in order are those of lines that are written
-  pub level-written : Inside → (beside : Bool) → Level es top held beside (plan_from items) c → siblings make (in_order (firsts whole)) ≡ written_lines es (plan_from items) held c
+  pub level-written : Inside → (beside : Bool) → Level es top held beside (plan_from items) c →
+      siblings make (in_order (firsts whole)) ≡ written_lines es (plan_from items) held c
   level-written ih beside k =
       let m = made items distinct in
       ap (siblings make)
       (in_order-is (firsts whole) (places es c (plan_from items)) (places-rising es c (plan_from items) m.rises)
-      (firsts-all (λ p. In p (places es c (plan_from items))) es c (plan_from items) (λ u t h a. line-places es c u t (plan_from items) h a) items above held last m.first))
+      (firsts-all (λ p. In p (places es c (plan_from items))) es c (plan_from items)
+      (λ u t h a. line-places es c u t (plan_from items) h a) items above held last m.first))
       ∙ lines-written ih beside (plan_from items) m.are (λ v h. h) k
 
 -- ---- as deep as leaves go
@@ -264,7 +291,8 @@ shallow-firsts (leaf ∷ ls) h = ap (λ l. l ++ firsts ls) (one leaf.address lea
 
 shallow-inside : (n : ℕ) (p : Place) (ls : List Leaf) → Shallow (suc n) ls → Shallow n (inside p ls)
 shallow-inside n p [] h = tt
-shallow-inside n p (leaf ∷ ls) h = each-append (λ (l : Leaf). Within n l.address) (behind p leaf) (inside p ls) (one leaf.address leaf.said h.0) (shallow-inside n p ls h.1)
+shallow-inside n p (leaf ∷ ls) h = each-append (λ (l : Leaf). Within n l.address) (behind p leaf) (inside p ls) (one leaf.address leaf.said h.0)
+    (shallow-inside n p ls h.1)
   where
     one : (address : List Place) (said : Said) → Within (suc n) address → Each (λ (l : Leaf). Within n l.address) (behind_at p address said)
     one [] said w = tt
@@ -275,8 +303,10 @@ shallow-inside n p (leaf ∷ ls) h = each-append (λ (l : Leaf). Within n l.addr
         go false = tt
 
 -- The lines of rows are written as the tree of the rows' leaves.
-pub tree-written : (n : ℕ) (es : List Entry) (items : List Item) (top above held beside : Bool) (last : Option Step) (c : Context) → are_distinct (element_numbers (plan_from items)) ≡ true
-    → Level es top held beside (plan_from items) c → Shallow n (all_leaves es items above held last c) → tree n (all_leaves es items above held last c) ≡ written_lines es (plan_from items) held c
+pub tree-written : (n : ℕ) (es : List Entry) (items : List Item) (top above held beside : Bool) (last : Option Step) (c : Context) →
+    are_distinct (element_numbers (plan_from items)) ≡ true
+    → Level es top held beside (plan_from items) c → Shallow n (all_leaves es items above held last c) →
+    tree n (all_leaves es items above held last c) ≡ written_lines es (plan_from items) held c
 tree-written zero es items top above held beside last c d k w =
     let none = shallow-firsts (all_leaves es items above held last c) w in
     sym (ap (λ l. siblings (make es items top above held last c d (λ ls. no_more)) (in_order l)) none)
@@ -284,4 +314,5 @@ tree-written zero es items top above held beside last c d k w =
     (λ p e ts s here x b i q l. absurd (false≢true (ap (list_any (same_place p)) (sym none) ∙ e))) beside k
 tree-written (suc n) es items top above held beside last c d k w =
     level-written es items top above held last c d (tree n)
-    (λ p e ts s here x b i q l. tree-written n es ts false held here b (Some s) x q l (subst (Shallow n) i (shallow-inside n p (all_leaves es items above held last c) w))) beside k
+    (λ p e ts s here x b i q l. tree-written n es ts false held here b (Some s) x q l
+    (subst (Shallow n) i (shallow-inside n p (all_leaves es items above held last c) w))) beside k

@@ -21,7 +21,8 @@ use Rattle.bind_table.specs.Lines.{Plan, Cell}
 use Rattle.bind_table.specs.Laid.{element_numbers, are_distinct}
 use Rattle.bind_meaning.specs.Picks.{has_any_term}
 use Rattle.bind_meaning.specs.Writing.{row_text}
-use Rattle.bind_meaning.specs.Trees.{has_constant, is_constant, is_emitted, holds_further, either, attribute, attributes, currency_of_cell, attribute_of_cell, text_of_cell, element_text, shows_currency, currency_attribute, is_at_element, spots}
+use Rattle.bind_meaning.specs.Trees.{has_constant, is_constant, is_emitted, holds_further, either, attribute, attributes, currency_of_cell, attribute_of_cell}
+use Rattle.bind_meaning.specs.Trees.{text_of_cell, element_text, shows_currency, currency_attribute, is_at_element, spots}
 use Rattle.binding_laws.proofs.TreeLemmas.{Each, each-weaker}
 use Rattle.binding_laws.proofs.ListLemmas.{append-nil, flat_map-each, flat_map-same}
 use Rattle.address_laws.specs.AddressTrees.{Said, a_string, an_attribute, a_currency, text_in, attribute_in, currency_in, where_so}
@@ -30,8 +31,10 @@ use Rattle.address_laws.specs.Addressed.{is_constant_element, is_constant_attrib
 use Rattle.address_laws.proofs.Orders.{In, each-in}
 use Rattle.address_laws.proofs.Items.{Item, ends_of, end_of, end_at, plan_from}
 use Rattle.address_laws.proofs.Holding.{is_term, any-append, any-flat_map, any-same, writes_below, line-holds, line-terms, or-false, or-true}
-use Rattle.address_laws.proofs.Walks.{own_along, own_said, own, all_leaves, all_marked, told-some, told_along-some, further, due, calls, own-calls, all_marked-calls, cell_says, some-map}
-use Rattle.address_laws.proofs.Constants.{IsConstant, writes_item, unheld, unheld-below, held, own-told, constant-writes, any-each, any-alike, each-of_in, constant-says}
+use Rattle.address_laws.proofs.Walks.{own_along, own_said, own, all_leaves, all_marked, told-some, told_along-some, further, due, calls, own-calls}
+use Rattle.address_laws.proofs.Walks.{all_marked-calls, cell_says, some-map}
+use Rattle.address_laws.proofs.Constants.{IsConstant, writes_item, unheld, unheld-below, held, own-told, constant-writes, any-each, any-alike, each-of_in}
+use Rattle.address_laws.proofs.Constants.{constant-says}
 
 -- ---- what a cell says
 
@@ -63,9 +66,20 @@ one-said : {A : Type 0} (of : Said → List A) (b : Bool) (said : Said) → b �
 one-said of true said e = append-nil (of said)
 one-said of false said e = absurd (false≢true e)
 
-module _ (es : List Entry) (s : Step) (d : Context) (above here : Bool) (n : ℕ) (path : List Step) (outer inner : Option Group) (form : Form) (repeats : Repeats) (written : Written) (check : Check) where
+module _ (es : List Entry) (s : Step) (d : Context) (above here : Bool) (n : ℕ) (path : List Step) (outer inner : Option Group) (form : Form)
+    (repeats : Repeats) (written : Written) (check : Check) where
   abbrev one_row : End → Content → Row
-  one_row leaf content = record { path = path; leaf = leaf; outer = outer; inner = inner; content = content; form = form; repeats = repeats; written = written; check = check }
+  one_row leaf content = record {
+    path = path;
+    leaf = leaf;
+    outer = outer;
+    inner = inner;
+    content = content;
+    form = form;
+    repeats = repeats;
+    written = written;
+    check = check;
+  }
 
   abbrev one_cell : End → Content → Cell
   one_cell leaf content = record { number = n; row = one_row leaf content }
@@ -74,14 +88,17 @@ module _ (es : List Entry) (s : Step) (d : Context) (above here : Bool) (n : ℕ
       → flat_map text_in (own_said es content above here (Some s) d (one_row leaf content)) ≡ text_of_cell es d (one_cell leaf content)
   text-said leaves.Element (contents.Term term) h = go (row_text (one_row leaves.Element (contents.Term term)) es d)
     where
-      go : (o : Option (List ℕ)) → flat_map text_in (said_with es (one_row leaves.Element (contents.Term term)) (Some s) o) ≡ (elim o [ None ↦ [] | Some text ↦ text ])
+      go : (o : Option (List ℕ)) → flat_map text_in
+          (said_with es (one_row leaves.Element (contents.Term term)) (Some s) o) ≡ (elim o [ None ↦ [] | Some text ↦ text ])
       go None = refl
-      go (Some text) = ap (λ l. text ++ l) (no-texts (shows_currency s (one_row leaves.Element (contents.Term term))) leaves.Element (currency_attribute es (one_row leaves.Element (contents.Term term)))) ∙ append-nil text
+      go (Some text) = ap (λ l. text ++ l) (no-texts (shows_currency s (one_row leaves.Element (contents.Term term))) leaves.Element
+          (currency_attribute es (one_row leaves.Element (contents.Term term)))) ∙ append-nil text
   text-said (leaves.Attribute local) (contents.Term term) h = go (row_text (one_row (leaves.Attribute local) (contents.Term term)) es d)
     where
       go : (o : Option (List ℕ)) → flat_map text_in (said_with es (one_row (leaves.Attribute local) (contents.Term term)) (Some s) o) ≡ []
       go None = refl
-      go (Some text) = no-texts (shows_currency s (one_row (leaves.Attribute local) (contents.Term term))) (leaves.Attribute local) (currency_attribute es (one_row (leaves.Attribute local) (contents.Term term)))
+      go (Some text) = no-texts (shows_currency s (one_row (leaves.Attribute local) (contents.Term term))) (leaves.Attribute local)
+          (currency_attribute es (one_row (leaves.Attribute local) (contents.Term term)))
   text-said leaves.Element (contents.Constant text) h = one-said text_in above (a_string text) (h refl)
   text-said (leaves.Attribute local) (contents.Constant text) h = none-said text_in here (an_attribute (attribute local text)) refl
 
@@ -91,19 +108,24 @@ module _ (es : List Entry) (s : Step) (d : Context) (above here : Bool) (n : ℕ
     where
       go : (o : Option (List ℕ)) → flat_map attribute_in (said_with es (one_row leaves.Element (contents.Term term)) (Some s) o) ≡ []
       go None = refl
-      go (Some text) = no-attributes (shows_currency s (one_row leaves.Element (contents.Term term))) leaves.Element (currency_attribute es (one_row leaves.Element (contents.Term term)))
+      go (Some text) = no-attributes (shows_currency s (one_row leaves.Element (contents.Term term))) leaves.Element
+          (currency_attribute es (one_row leaves.Element (contents.Term term)))
   attribute-said (leaves.Attribute local) (contents.Term term) h = go (row_text (one_row (leaves.Attribute local) (contents.Term term)) es d)
     where
       go : (o : Option (List ℕ)) → flat_map attribute_in (said_with es (one_row (leaves.Attribute local) (contents.Term term)) (Some s) o)
           ≡ (elim o [ None ↦ [] | Some text ↦ attribute local text ∷ [] ])
       go None = refl
-      go (Some text) = ap (λ l. attribute local text ∷ l) (no-attributes (shows_currency s (one_row (leaves.Attribute local) (contents.Term term))) (leaves.Attribute local) (currency_attribute es (one_row (leaves.Attribute local) (contents.Term term))))
+      go (Some text) = ap (λ l. attribute local text ∷ l)
+          (no-attributes (shows_currency s (one_row (leaves.Attribute local) (contents.Term term))) (leaves.Attribute local)
+          (currency_attribute es (one_row (leaves.Attribute local) (contents.Term term))))
   attribute-said leaves.Element (contents.Constant text) h = none-said attribute_in above (a_string text) refl
   attribute-said (leaves.Attribute local) (contents.Constant text) h = one-said attribute_in here (an_attribute (attribute local text)) (h refl)
 
-  currency-said : (leaf : End) (content : Content) → flat_map currency_in (own_said es content above here (Some s) d (one_row leaf content)) ≡ currency_of_cell es s d (one_cell leaf content)
+  currency-said : (leaf : End) (content : Content) → flat_map currency_in (own_said es content above here (Some s) d (one_row leaf content)) ≡ currency_of_cell
+      es s d (one_cell leaf content)
   currency-said leaves.Element (contents.Term term) =
-      go (shows_currency s (one_row leaves.Element (contents.Term term))) (row_text (one_row leaves.Element (contents.Term term)) es d) (currency_attribute es (one_row leaves.Element (contents.Term term)))
+      go (shows_currency s (one_row leaves.Element (contents.Term term))) (row_text (one_row leaves.Element (contents.Term term)) es d)
+      (currency_attribute es (one_row leaves.Element (contents.Term term)))
     where
       said-as : Bool → List Attribute → Option (List ℕ) → List Said
       said-as b xs None = []
@@ -118,24 +140,30 @@ module _ (es : List Entry) (s : Step) (d : Context) (above here : Bool) (n : ℕ
     where
       go : (o : Option (List ℕ)) → flat_map currency_in (said_with es (one_row (leaves.Attribute local) (contents.Term term)) (Some s) o) ≡ []
       go None = refl
-      go (Some text) = no-currencies (shows_currency s (one_row (leaves.Attribute local) (contents.Term term))) local (currency_attribute es (one_row (leaves.Attribute local) (contents.Term term)))
+      go (Some text) = no-currencies (shows_currency s (one_row (leaves.Attribute local) (contents.Term term))) local
+          (currency_attribute es (one_row (leaves.Attribute local) (contents.Term term)))
   currency-said leaves.Element (contents.Constant text) = none-said currency_in above (a_string text) refl
   currency-said (leaves.Attribute local) (contents.Constant text) = none-said currency_in here (an_attribute (attribute local text)) refl
 
 -- ---- what the cells of a line say
 
 module _ (es : List Entry) (s : Step) (d : Context) (above here : Bool) (items : List Item) where
-  one-text : (cell : Cell) → (has_any_term cell.row ≡ false → due cell.row.leaf above here ≡ true) → cell_says text_in es items above here (Some s) d cell ≡ text_of_cell es d cell
+  one-text : (cell : Cell) → (has_any_term cell.row ≡ false → due cell.row.leaf above here ≡ true) →
+      cell_says text_in es items above here (Some s) d cell ≡ text_of_cell es d cell
   one-text cell h =
-      text-said es s d above here cell.number cell.row.path cell.row.outer cell.row.inner cell.row.form cell.row.repeats cell.row.written cell.row.check cell.row.leaf cell.row.content h
+      text-said es s d above here cell.number cell.row.path cell.row.outer cell.row.inner cell.row.form cell.row.repeats cell.row.written cell.row.check
+      cell.row.leaf cell.row.content h
 
-  one-attribute : (cell : Cell) → (has_any_term cell.row ≡ false → due cell.row.leaf above here ≡ true) → cell_says attribute_in es items above here (Some s) d cell ≡ attribute_of_cell es d cell
+  one-attribute : (cell : Cell) → (has_any_term cell.row ≡ false → due cell.row.leaf above here ≡ true) →
+      cell_says attribute_in es items above here (Some s) d cell ≡ attribute_of_cell es d cell
   one-attribute cell h =
-      attribute-said es s d above here cell.number cell.row.path cell.row.outer cell.row.inner cell.row.form cell.row.repeats cell.row.written cell.row.check cell.row.leaf cell.row.content h
+      attribute-said es s d above here cell.number cell.row.path cell.row.outer cell.row.inner cell.row.form cell.row.repeats cell.row.written cell.row.check
+      cell.row.leaf cell.row.content h
 
   one-currency : (cell : Cell) → cell_says currency_in es items above here (Some s) d cell ≡ currency_of_cell es s d cell
   one-currency cell =
-      currency-said es s d above here cell.number cell.row.path cell.row.outer cell.row.inner cell.row.form cell.row.repeats cell.row.written cell.row.check cell.row.leaf cell.row.content
+      currency-said es s d above here cell.number cell.row.path cell.row.outer cell.row.inner cell.row.form cell.row.repeats cell.row.written cell.row.check
+      cell.row.leaf cell.row.content
 
   abbrev pub AreDue : List Cell → Type 0
   AreDue cells = Each (λ (cell : Cell). has_any_term cell.row ≡ false → due cell.row.leaf above here ≡ true) cells
@@ -143,15 +171,19 @@ module _ (es : List Entry) (s : Step) (d : Context) (above here : Bool) (items :
   pub texts-said : (cells : List Cell) → AreDue cells → flat_map (cell_says text_in es items above here (Some s) d) cells ≡ element_text es cells d
   texts-said cells h =
       flat_map-each (cell_says text_in es items above here (Some s) d) (text_of_cell es d) cells
-      (each-weaker (λ (cell : Cell). has_any_term cell.row ≡ false → due cell.row.leaf above here ≡ true) (λ cell. cell_says text_in es items above here (Some s) d cell ≡ text_of_cell es d cell) cells one-text h)
+      (each-weaker (λ (cell : Cell). has_any_term cell.row ≡ false → due cell.row.leaf above here ≡ true)
+      (λ cell. cell_says text_in es items above here (Some s) d cell ≡ text_of_cell es d cell) cells one-text h)
 
   pub attributes-said : (cells : List Cell) → AreDue cells
-      → flat_map (cell_says currency_in es items above here (Some s) d) cells ++ flat_map (cell_says attribute_in es items above here (Some s) d) cells ≡ attributes es s cells d
+      → flat_map (cell_says currency_in es items above here (Some s) d) cells ++
+      flat_map (cell_says attribute_in es items above here (Some s) d) cells ≡ attributes es s cells d
   attributes-said cells h =
-      ap (λ l. l ++ flat_map (cell_says attribute_in es items above here (Some s) d) cells) (flat_map-same (cell_says currency_in es items above here (Some s) d) (currency_of_cell es s d) one-currency cells)
+      ap (λ l. l ++ flat_map (cell_says attribute_in es items above here (Some s) d) cells)
+      (flat_map-same (cell_says currency_in es items above here (Some s) d) (currency_of_cell es s d) one-currency cells)
       ∙ ap (λ l. flat_map (currency_of_cell es s d) cells ++ l)
       (flat_map-each (cell_says attribute_in es items above here (Some s) d) (attribute_of_cell es d) cells
-      (each-weaker (λ (cell : Cell). has_any_term cell.row ≡ false → due cell.row.leaf above here ≡ true) (λ cell. cell_says attribute_in es items above here (Some s) d cell ≡ attribute_of_cell es d cell) cells
+      (each-weaker (λ (cell : Cell). has_any_term cell.row ≡ false → due cell.row.leaf above here ≡ true)
+      (λ cell. cell_says attribute_in es items above here (Some s) d cell ≡ attribute_of_cell es d cell) cells
       one-attribute h))
 
 -- ---- where an element is written
@@ -175,7 +207,8 @@ any-never (x ∷ xs) = any-never xs
 
 pub constant-below : (es : List Entry) (path : List Step) (row : Row) (c : Context) → IsConstant row → writes_below es path row c ≡ false
 constant-below es [] row c e = constant-writes es row c e
-constant-below es (u ∷ path) row c e = any-same (writes_below es path row) (λ d. false) (λ d. constant-below es path row d e) (spots es c u.group) ∙ any-never (spots es c u.group)
+constant-below es (u ∷ path) row c e = any-same (writes_below es path row) (λ d. false) (λ d. constant-below es path row d e) (spots es c u.group) ∙
+    any-never (spots es c u.group)
 
 pub has-either : (cells : List Cell) → has_constant cells ≡ (list_any is_constant_element cells || list_any is_constant_attribute cells)
 has-either [] = refl
@@ -188,7 +221,8 @@ has-either (cell ∷ cells) = ap (λ b. not (has_any_term cell.row) || b) (has-e
     go false e x y = refl
 
 module _ (es : List Entry) (s : Step) (cells : List Cell) (within : Plan) (ts : List Item) (t : Turn) (h : Bool)
-    (distinct : are_distinct (element_numbers (plan_from ts)) ≡ true) (cells-are : cells ≡ ends_of ts) (within-is : within ≡ plan_from ts) (some : ts ≡ [] → ⊥) where
+    (distinct : are_distinct (element_numbers (plan_from ts)) ≡ true) (cells-are : cells ≡ ends_of ts) (within-is : within ≡ plan_from ts)
+    (some : ts ≡ [] → ⊥) where
   abbrev pub writing : Bool
   writing = list_any (writes_item es t.context) ts
 
@@ -241,7 +275,8 @@ module _ (es : List Entry) (s : Step) (cells : List Cell) (within : Plan) (ts : 
 
   texts-held : writing ≡ false → list_any (own_some true false) ts ≡ list_any is_constant_element (ends_of ts)
   texts-held e =
-      any-alike (own_some true false) (λ i. list_any is_constant_element (end_of i)) ts (each-of_in (λ i. own_some true false i ≡ list_any is_constant_element (end_of i)) ts (λ i k. one i.path i.cell k))
+      any-alike (own_some true false) (λ i. list_any is_constant_element (end_of i)) ts
+      (each-of_in (λ i. own_some true false i ≡ list_any is_constant_element (end_of i)) ts (λ i k. one i.path i.cell k))
       ∙ sym (any-flat_map is_constant_element end_of ts)
     where
       term-ends : (path : List Step) (cell : Cell) → has_any_term cell.row ≡ true → list_any is_constant_element (end_at path cell) ≡ false
@@ -264,15 +299,18 @@ module _ (es : List Entry) (s : Step) (cells : List Cell) (within : Plan) (ts : 
           → is_some_of (own_along es ts true false (Some s) t.context path cell.row) ≡ list_any is_constant_element (end_at path cell)
       constant-ends [] cell k f =
           some-map _ (own_said es cell.row.content true false (Some s) t.context cell.row)
-          ∙ (constant-says es true false (Some s) t.context cell.row f ∙ (at-leaf cell cell.row.leaf refl ∙ (sym (or-false (is_at_element cell)) ∙ ap (λ b. (not b && is_at_element cell) || false) (sym f))))
+          ∙ (constant-says es true false (Some s) t.context cell.row f ∙
+          (at-leaf cell cell.row.leaf refl ∙ (sym (or-false (is_at_element cell)) ∙ ap (λ b. (not b && is_at_element cell) || false) (sym f))))
       constant-ends (u ∷ path) cell k f = ap is_some_of (unheld-below es ts true (Some s) t.context u path cell distinct k e f)
 
       one : (path : List Step) (cell : Cell) → In (record { path = path; cell = cell }) ts
           → is_some_of (own_along es ts true false (Some s) t.context path cell.row) ≡ list_any is_constant_element (end_at path cell)
       one path cell k = go (has_any_term cell.row) refl
         where
-          go : (b : Bool) → has_any_term cell.row ≡ b → is_some_of (own_along es ts true false (Some s) t.context path cell.row) ≡ list_any is_constant_element (end_at path cell)
-          go true f = term-some true false (record { path = path; cell = cell }) f ∙ (silent-item e (record { path = path; cell = cell }) k ∙ sym (term-ends path cell f))
+          go : (b : Bool) → has_any_term cell.row ≡ b → is_some_of (own_along es ts true false (Some s) t.context path cell.row) ≡ list_any is_constant_element
+              (end_at path cell)
+          go true f = term-some true false (record { path = path; cell = cell }) f ∙
+              (silent-item e (record { path = path; cell = cell }) k ∙ sym (term-ends path cell f))
           go false f = constant-ends path cell k f
 
   all-held : termed ≡ false → list_any (own_some true true) ts ≡ true
@@ -288,7 +326,8 @@ module _ (es : List Entry) (s : Step) (cells : List Cell) (within : Plan) (ts : 
 
   emitted-asked : is_emitted es s cells within h t.context ≡ asked writing h termed
   emitted-asked =
-      ap (λ b. either b (λ _. s.always || (h && (has_constant cells || is_constant cells within)))) (line-holds es cells within ts t.context cells-are within-is)
+      ap (λ b. either b (λ _. s.always || (h && (has_constant cells || is_constant cells within))))
+      (line-holds es cells within ts t.context cells-are within-is)
       ∙ ap (λ b. either writing (λ _. s.always || (h && (has_constant cells || not b)))) (line-terms cells within ts cells-are within-is)
 
   own-asked : Fits → (list_any (own_some h here) ts || s.always) ≡ asked writing h termed
@@ -327,9 +366,11 @@ module _ (es : List Entry) (s : Step) (cells : List Cell) (within : Plan) (ts : 
           end false false false g (here-is ∙ (ap (λ z. holder termed z h) e ∙ (ap (λ z. holder termed false z) g ∙ holder-none termed))) (none-held e)
           ∙ arrived false false m s.always e g k (or-false s.always)
       go false true true e g k =
-          end true false (list_any is_constant_element cells) g (here-is ∙ (ap (λ z. holder z writing h) k ∙ e)) (texts-held e ∙ ap (list_any is_constant_element) (sym cells-are))
+          end true false (list_any is_constant_element cells) g (here-is ∙ (ap (λ z. holder z writing h) k ∙ e))
+          (texts-held e ∙ ap (list_any is_constant_element) (sym cells-are))
           ∙ arrived false true true (list_any is_constant_element cells || s.always) e g k
-          (sym (shuffle (list_any is_constant_element cells) s.always (has_constant cells) (has-either cells ∙ ap (λ z. list_any is_constant_element cells || z) (no-attributes-here e g k))))
+          (sym (shuffle (list_any is_constant_element cells) s.always (has_constant cells)
+          (has-either cells ∙ ap (λ z. list_any is_constant_element cells || z) (no-attributes-here e g k))))
       go false true false e g k =
           end true true true g (here-is ∙ (ap (λ z. holder z writing h) k ∙ g)) (all-held k)
           ∙ arrived false true false true e g k (sym (hid s.always (has_constant cells)))
@@ -357,7 +398,8 @@ module _ (es : List Entry) (s : Step) (cells : List Cell) (within : Plan) (ts : 
       go false false false f = refl
 
   -- In an element that is written all its constants stand.
-  pub constants-due : Fits → is_emitted es s cells within h t.context ≡ true → Each (λ (cell : Cell). has_any_term cell.row ≡ false → due cell.row.leaf h here ≡ true) cells
+  pub constants-due : Fits → is_emitted es s cells within h t.context ≡ true →
+      Each (λ (cell : Cell). has_any_term cell.row ≡ false → due cell.row.leaf h here ≡ true) cells
   constants-due f e = each-of_in (λ (cell : Cell). has_any_term cell.row ≡ false → due cell.row.leaf h here ≡ true) cells one
     where
       held-else : (w a x c : Bool) → either w (λ _. a || (x && c)) ≡ true → a ≡ false → w ≡ false → x ≡ true
@@ -396,7 +438,8 @@ module _ (es : List Entry) (s : Step) (cells : List Cell) (within : Plan) (ts : 
               at_end : End → Bool
               at_end leaves.Element = true
               at_end (leaves.Attribute local) = false
-          by (leaves.Attribute local) r = attribute-held (any-has is_constant_attribute cell cells k (ap (λ b. not b && not (is_at_element cell)) q ∙ ap (λ z. not (at_end z)) r))
+          by (leaves.Attribute local) r = attribute-held
+              (any-has is_constant_attribute cell cells k (ap (λ b. not b && not (is_at_element cell)) q ∙ ap (λ z. not (at_end z)) r))
             where
               at_end : End → Bool
               at_end leaves.Element = true

@@ -1,5 +1,6 @@
 -- Each entry has its leaf: at the address that its slots give along the path of a row that isn't spread.
-use Rattle.std.proofs.Common.{◌≡◌, ℕ, suc, zero, ◌+◌, ◌<◌, ◌≤◌, Bool, true, false, ◌||◌, Option, Some, None, List, [], ◌∷◌, ◌++◌, flat_map, map, ◌⊎◌, inl, inr, refl, sym, ap, ◌∙◌, subst, arith}
+use Rattle.std.proofs.Common.{◌≡◌, ℕ, suc, zero, ◌+◌, ◌<◌, ◌≤◌, Bool, true, false, ◌||◌, Option, Some, None, List, [], ◌∷◌, ◌++◌, flat_map, map, ◌⊎◌, inl, inr}
+use Rattle.std.proofs.Common.{refl, sym, ap, ◌∙◌, subst, arith}
 use Rattle.std.specs.Prelude.{nat_lt, is_some, is_none}
 use Rattle.std.specs.List.{range_with_len}
 use Rattle.std.specs.Cmp.Lexicographic.{pointwise}
@@ -25,7 +26,8 @@ use Rattle.binding_laws.proofs.SeatLemmas.{outer-within, inner-within}
 use Rattle.binding_laws.proofs.PlainLemmas.{no-slot}
 use Rattle.binding_laws.proofs.ListLemmas.{both-true}
 use Rattle.address_laws.specs.AddressTrees.{Place, Said}
-use Rattle.address_laws.specs.Addresses.{Turn, group_turns, turn_of, how_often, is_own, foreign_turns, row_turns, Way, through, ways, leaf_at, leaves_at, entry_leaves, said_of_row}
+use Rattle.address_laws.specs.Addresses.{Turn, group_turns, turn_of, how_often, is_own, foreign_turns, row_turns, Way, through, ways, leaf_at, leaves_at}
+use Rattle.address_laws.specs.Addresses.{entry_leaves, said_of_row}
 use Rattle.address_laws.specs.Addressed.{is_own_way}
 use Rattle.address_laws.specs.EntryAddresses.{numbers_of, next_number, numbers_behind, address_along, address_in, last_step}
 use Rattle.address_laws.proofs.Holding.{or-true}
@@ -85,7 +87,8 @@ module _ (es : List Entry) (row : Row) where
 
   -- one element further
   further-way : (s : Step) (path : List Step) (t : Turn) (ts : List Turn) (address : List Place) (d : Context) (last : Option Step) → Among t ts
-      → Among (way address d last) (ways (row_turns es row) (Some s) t.context path) → Among (way (place_at s t.occurrence ∷ address) d last) (ways-on s path ts)
+      → Among (way address d last) (ways (row_turns es row) (Some s) t.context path) →
+      Among (way (place_at s t.occurrence ∷ address) d last) (ways-on s path ts)
   further-way s path t ts address d last k h =
       among-each (λ u. map (through s u) (ways (row_turns es row) (Some s) u.context path)) t ts (way (place_at s t.occurrence ∷ address) d last) k
       (among-map (through s t) (way address d last) (ways (row_turns es row) (Some s) t.context path) h)
@@ -97,52 +100,68 @@ module _ (es : List Entry) (row : Row) where
       row-by true = group_turns es c.outer g
       row-by false = foreign_turns es row.repeats c g
 
-  free-way : (last : Option Step) (c : Context) (path : List Step) (ns : List ℕ) → groups_of path ≡ [] → Among (way (address_along ns path) c (last_step last path)) (ways (row_turns es row) last c path)
+  free-way : (last : Option Step) (c : Context) (path : List Step) (ns : List ℕ) → groups_of path ≡ [] →
+      Among (way (address_along ns path) c (last_step last path)) (ways (row_turns es row) last c path)
   free-way last c [] ns e = inl refl
   free-way last c (s ∷ path) ns e = go s.group (λ k. free-way (Some s) c path ns k) e
     where
-      go : (group : Option Group) → (groups_of path ≡ [] → Among (way (address_along ns path) c (last_step (Some s) path)) (ways (row_turns es row) (Some s) c path))
+      go : (group : Option Group) → (groups_of path ≡ [] → Among (way (address_along ns path) c (last_step (Some s) path))
+          (ways (row_turns es row) (Some s) c path))
           → groups-by (groups_of path) group ≡ []
-          → Among (way (place_at s (next_number group ns) ∷ address_along (numbers_behind group ns) path) c (last_step (Some s) path)) (ways-on s path (row_turns es row c group))
-      go None ih e = further-way s path (record { occurrence = 1; context = c }) (row_turns es row c None) (address_along ns path) c (last_step (Some s) path) (inl refl) (ih e)
+          → Among (way (place_at s (next_number group ns) ∷ address_along (numbers_behind group ns) path) c (last_step (Some s) path))
+          (ways-on s path (row_turns es row c group))
+      go None ih e = further-way s path (record { occurrence = 1; context = c }) (row_turns es row c None) (address_along ns path) c (last_step (Some s) path)
+          (inl refl) (ih e)
       go (Some g) ih e = absurd (not-empty g (groups_of path) e)
 
-  one-way : (g : Group) (t : Turn) (last : Option Step) (c : Context) (path : List Step) (ns : List ℕ) → groups_of path ≡ g ∷ [] → is_own row g ≡ true → Among t (group_turns es c.outer g)
+  one-way : (g : Group) (t : Turn) (last : Option Step) (c : Context) (path : List Step) (ns : List ℕ) → groups_of path ≡ g ∷ [] → is_own row g ≡ true →
+      Among t (group_turns es c.outer g)
       → Among (way (address_along (t.occurrence ∷ ns) path) t.context (last_step last path)) (ways (row_turns es row) last c path)
   one-way g t last c [] ns e o k = absurd (not-empty g [] (sym e))
   one-way g t last c (s ∷ path) ns e o k = go s.group (λ m. one-way g t (Some s) c path ns m o k) e
     where
       go : (group : Option Group)
-          → (groups_of path ≡ g ∷ [] → Among (way (address_along (t.occurrence ∷ ns) path) t.context (last_step (Some s) path)) (ways (row_turns es row) (Some s) c path))
+          → (groups_of path ≡ g ∷ [] → Among (way (address_along (t.occurrence ∷ ns) path) t.context (last_step (Some s) path))
+          (ways (row_turns es row) (Some s) c path))
           → groups-by (groups_of path) group ≡ g ∷ []
-          → Among (way (place_at s (next_number group (t.occurrence ∷ ns)) ∷ address_along (numbers_behind group (t.occurrence ∷ ns)) path) t.context (last_step (Some s) path))
+          → Among (way (place_at s (next_number group (t.occurrence ∷ ns)) ∷ address_along (numbers_behind group (t.occurrence ∷ ns)) path) t.context
+          (last_step (Some s) path))
           (ways-on s path (row_turns es row c group))
       go None ih e =
-          further-way s path (record { occurrence = 1; context = c }) (row_turns es row c None) (address_along (t.occurrence ∷ ns) path) t.context (last_step (Some s) path) (inl refl) (ih e)
+          further-way s path (record { occurrence = 1; context = c }) (row_turns es row c None) (address_along (t.occurrence ∷ ns) path) t.context
+          (last_step (Some s) path) (inl refl) (ih e)
       go (Some f) ih e =
-          subst (λ x. Among (way (place_at s t.occurrence ∷ address_along ns path) t.context (last_step (Some s) path)) (ways-on s path (row_turns es row c (Some x))))
+          subst (λ x. Among (way (place_at s t.occurrence ∷ address_along ns path) t.context (last_step (Some s) path))
+          (ways-on s path (row_turns es row c (Some x))))
           (sym (first-is f g (groups_of path) [] e))
-          (subst (λ ts. Among (way (place_at s t.occurrence ∷ address_along ns path) t.context (last_step (Some s) path)) (ways-on s path ts)) (sym (own-turns c g o))
+          (subst (λ ts. Among (way (place_at s t.occurrence ∷ address_along ns path) t.context (last_step (Some s) path)) (ways-on s path ts))
+          (sym (own-turns c g o))
           (further-way s path t (group_turns es c.outer g) (address_along ns path) t.context (last_step (Some s) path) k
           (free-way (Some s) t.context path ns (others-are f g (groups_of path) [] e))))
 
-  two-ways : (f g : Group) (t u : Turn) (last : Option Step) (c : Context) (path : List Step) → groups_of path ≡ f ∷ (g ∷ []) → is_own row f ≡ true → is_own row g ≡ true
+  two-ways : (f g : Group) (t u : Turn) (last : Option Step) (c : Context) (path : List Step) → groups_of path ≡ f ∷ (g ∷ []) → is_own row f ≡ true →
+      is_own row g ≡ true
       → Among t (group_turns es c.outer f) → Among u (group_turns es t.context.outer g)
       → Among (way (address_along (t.occurrence ∷ (u.occurrence ∷ [])) path) u.context (last_step last path)) (ways (row_turns es row) last c path)
   two-ways f g t u last c [] e o q k m = absurd (not-empty f (g ∷ []) (sym e))
   two-ways f g t u last c (s ∷ path) e o q k m = go s.group (λ n. two-ways f g t u (Some s) c path n o q k m) e
     where
       go : (group : Option Group)
-          → (groups_of path ≡ f ∷ (g ∷ []) → Among (way (address_along (t.occurrence ∷ (u.occurrence ∷ [])) path) u.context (last_step (Some s) path)) (ways (row_turns es row) (Some s) c path))
+          → (groups_of path ≡ f ∷ (g ∷ []) → Among (way (address_along (t.occurrence ∷ (u.occurrence ∷ [])) path) u.context (last_step (Some s) path))
+          (ways (row_turns es row) (Some s) c path))
           → groups-by (groups_of path) group ≡ f ∷ (g ∷ [])
-          → Among (way (place_at s (next_number group (t.occurrence ∷ (u.occurrence ∷ []))) ∷ address_along (numbers_behind group (t.occurrence ∷ (u.occurrence ∷ []))) path) u.context (last_step (Some s) path))
+          → Among (way (place_at s (next_number group (t.occurrence ∷ (u.occurrence ∷ []))) ∷ address_along
+          (numbers_behind group (t.occurrence ∷ (u.occurrence ∷ []))) path) u.context (last_step (Some s) path))
           (ways-on s path (row_turns es row c group))
       go None ih e =
-          further-way s path (record { occurrence = 1; context = c }) (row_turns es row c None) (address_along (t.occurrence ∷ (u.occurrence ∷ [])) path) u.context (last_step (Some s) path) (inl refl) (ih e)
+          further-way s path (record { occurrence = 1; context = c }) (row_turns es row c None)
+          (address_along (t.occurrence ∷ (u.occurrence ∷ [])) path) u.context (last_step (Some s) path) (inl refl) (ih e)
       go (Some x) ih e =
-          subst (λ y. Among (way (place_at s t.occurrence ∷ address_along (u.occurrence ∷ []) path) u.context (last_step (Some s) path)) (ways-on s path (row_turns es row c (Some y))))
+          subst (λ y. Among (way (place_at s t.occurrence ∷ address_along (u.occurrence ∷ []) path) u.context (last_step (Some s) path))
+          (ways-on s path (row_turns es row c (Some y))))
           (sym (first-is x f (groups_of path) (g ∷ []) e))
-          (subst (λ ts. Among (way (place_at s t.occurrence ∷ address_along (u.occurrence ∷ []) path) u.context (last_step (Some s) path)) (ways-on s path ts)) (sym (own-turns c f o))
+          (subst (λ ts. Among (way (place_at s t.occurrence ∷ address_along (u.occurrence ∷ []) path) u.context (last_step (Some s) path)) (ways-on s path ts))
+          (sym (own-turns c f o))
           (further-way s path t (group_turns es c.outer f) (address_along (u.occurrence ∷ []) path) u.context (last_step (Some s) path) k
           (one-way g u (Some s) t.context path [] (others-are x f (groups_of path) (g ∷ []) e) q m)))
 
@@ -156,13 +175,16 @@ slot-is (Some slot) g e = (slot.index, ap (λ (x : Group). Some (record { group 
 module _ (es : List Entry) (numbered : is_numbered es ≡ true) (row : Row) (term : Term) (fits : is_own_way row term ≡ true) (e : Entry) (among : Among e es)
     (outer : slot_group e.context.outer ≡ row.outer) (inner : slot_group e.context.inner ≡ row.inner) where
   own-outer : (f : Group) → row.outer ≡ Some f → is_own row f ≡ true
-  own-outer f o = ap (λ x. same_or_none x (Some f) || same_or_none row.inner (Some f)) o ∙ ap (λ b. b || same_or_none row.inner (Some f)) (group-itself (Some f))
+  own-outer f o = ap (λ x. same_or_none x (Some f) || same_or_none row.inner (Some f)) o ∙
+      ap (λ b. b || same_or_none row.inner (Some f)) (group-itself (Some f))
 
   own-inner : (g : Group) → row.inner ≡ Some g → is_own row g ≡ true
-  own-inner g i = ap (λ x. same_or_none row.outer (Some g) || same_or_none x (Some g)) i ∙ (ap (λ b. same_or_none row.outer (Some g) || b) (group-itself (Some g)) ∙ or-true (same_or_none row.outer (Some g)))
+  own-inner g i = ap (λ x. same_or_none row.outer (Some g) || same_or_none x (Some g)) i ∙
+      (ap (λ b. same_or_none row.outer (Some g) || b) (group-itself (Some g)) ∙ or-true (same_or_none row.outer (Some g)))
 
   abbrev WayOf : Context → Type 0
-  WayOf d = Among (record { address = address_along (numbers_of d) row.path; context = d; last = last_step None row.path }) (ways (row_turns es row) None root_context row.path)
+  WayOf d = Among (record { address = address_along (numbers_of d) row.path; context = d; last = last_step None row.path })
+      (ways (row_turns es row) None root_context row.path)
 
   entry-way : WayOf e.context
   entry-way =
@@ -195,8 +217,10 @@ module _ (es : List Entry) (numbered : is_numbered es ≡ true) (row : Row) (ter
           (among-map (turn_of (Some slot) g) y.0 (range_with_len 1 (how_often es (Some slot) g)) (range-among 1 (inner_count es slot g) y.0 v.0 v.1)))
 
   -- what the row says of the entry's context is a leaf at the entry's address
-  pub entry-leaf : (said : Said) → Among said (said_of_row es row e.context (last_step None row.path)) → Among (leaf_at (address_in e.context row.path) said) (entry_leaves es row)
+  pub entry-leaf : (said : Said) → Among said (said_of_row es row e.context (last_step None row.path)) →
+      Among (leaf_at (address_in e.context row.path) said) (entry_leaves es row)
   entry-leaf said k =
-      among-each (leaves_at es row) (record { address = address_in e.context row.path; context = e.context; last = last_step None row.path }) (ways (row_turns es row) None root_context row.path)
+      among-each (leaves_at es row) (record { address = address_in e.context row.path; context = e.context; last = last_step None row.path })
+      (ways (row_turns es row) None root_context row.path)
       (leaf_at (address_in e.context row.path) said) entry-way
       (among-map (leaf_at (address_in e.context row.path)) said (said_of_row es row e.context (last_step None row.path)) k)

@@ -77,13 +77,16 @@ module _ (es : List Entry) where
   writes_inside [] row c = false
   writes_inside (s ∷ path) row c = writes_below (s ∷ path) row c
 
-  own_hold : (path : List Step) (cell : Cell) (cells : List Cell) (inside : Plan) (c : Context) → holds es (add path cell inside) c ≡ (holds es inside c || writes_inside path cell.row c)
+  own_hold : (path : List Step) (cell : Cell) (cells : List Cell) (inside : Plan) (c : Context) →
+      holds es (add path cell inside) c ≡ (holds es inside c || writes_inside path cell.row c)
       → either (cells_hold es (own_cells path cell cells) c) (λ _. holds es (add path cell inside) c)
       ≡ (either (cells_hold es cells c) (λ _. holds es inside c) || writes_below path cell.row c)
   own_hold [] cell cells inside c e =
       either-or (cells_hold es (cells ++ cell ∷ []) c) (holds es inside c)
-      ∙ (ap (λ b. b || holds es inside c) (any-append (λ (x : Cell). writes_entry x.row es c) cells (cell ∷ []) ∙ ap (λ b. cells_hold es cells c || b) (or-false (writes_entry cell.row es c)))
-      ∙ (or-last (cells_hold es cells c) (writes_entry cell.row es c) (holds es inside c) ∙ ap (λ b. b || writes_entry cell.row es c) (sym (either-or (cells_hold es cells c) (holds es inside c)))))
+      ∙ (ap (λ b. b || holds es inside c) (any-append (λ (x : Cell). writes_entry x.row es c) cells (cell ∷ []) ∙
+      ap (λ b. cells_hold es cells c || b) (or-false (writes_entry cell.row es c)))
+      ∙ (or-last (cells_hold es cells c) (writes_entry cell.row es c) (holds es inside c) ∙
+      ap (λ b. b || writes_entry cell.row es c) (sym (either-or (cells_hold es cells c) (holds es inside c)))))
   own_hold (s ∷ path) cell cells inside c e =
       either-or (cells_hold es cells c) (holds es (add (s ∷ path) cell inside) c)
       ∙ (ap (λ b. cells_hold es cells c || b) e
@@ -104,7 +107,8 @@ module _ (es : List Entry) where
       (λ d. either (cells_hold es cells d) (λ _. holds es inside d) || writes_below path cell.row d) (λ d. own_hold path cell cells inside d (h d)) ds
       ∙ any-or (λ d. either (cells_hold es cells d) (λ _. holds es inside d)) (writes_below path cell.row) ds
 
-  spots-new : (path : List Step) (cell : Cell) (ds : List Context) → ((d : Context) → holds es (add path cell nothing) d ≡ (holds es nothing d || writes_inside path cell.row d))
+  spots-new : (path : List Step) (cell : Cell) (ds : List Context) →
+      ((d : Context) → holds es (add path cell nothing) d ≡ (holds es nothing d || writes_inside path cell.row d))
       → spots_hold (own_cells path cell []) (add path cell nothing) ds ≡ list_any (writes_below path cell.row) ds
   spots-new path cell ds h = spots-more path cell [] nothing ds h ∙ ap (λ b. b || list_any (writes_below path cell.row) ds) (none ds)
     where
@@ -112,7 +116,8 @@ module _ (es : List Entry) where
       none [] = refl
       none (d ∷ ds) = none ds
 
-  into-holds : (u : Step) (path : List Step) (cell : Cell) (c : Context) → ((plan : Plan) (d : Context) → holds es (add path cell plan) d ≡ (holds es plan d || writes_inside path cell.row d))
+  into-holds : (u : Step) (path : List Step) (cell : Cell) (c : Context) →
+      ((plan : Plan) (d : Context) → holds es (add path cell plan) d ≡ (holds es plan d || writes_inside path cell.row d))
       → (plan : Plan) → holds es (into u (own_cells path cell) (add path cell) plan) c ≡ (holds es plan c || writes_below (u ∷ path) cell.row c)
   into-holds u path cell c h nothing =
       either-or (spots_hold (own_cells path cell []) (add path cell nothing) (spots es c u.group)) false
@@ -122,9 +127,11 @@ module _ (es : List Entry) where
       old : Bool
       old = spots_hold cells inside (spots es c t.group)
 
-      go : (a b : Bool) → (a ≡ true → u ≡ t) → holds es (into u (own_cells path cell) (add path cell) rest) c ≡ (holds es rest c || writes_below (u ∷ path) cell.row c)
+      go : (a b : Bool) → (a ≡ true → u ≡ t) → holds es (into u (own_cells path cell) (add path cell) rest) c ≡ (holds es rest c ||
+          writes_below (u ∷ path) cell.row c)
           → holds es (choose a (λ _. a_line t (own_cells path cell cells) (add path cell inside) rest)
-          (λ _. choose b (λ _. a_line u (own_cells path cell []) (add path cell nothing) (a_line t cells inside rest)) (λ _. a_line t cells inside (into u (own_cells path cell) (add path cell) rest)))) c
+          (λ _. choose b (λ _. a_line u (own_cells path cell []) (add path cell nothing) (a_line t cells inside rest))
+          (λ _. a_line t cells inside (into u (own_cells path cell) (add path cell) rest)))) c
           ≡ (holds es (a_line t cells inside rest) c || writes_below (u ∷ path) cell.row c)
       go true b k i =
           either-or (spots_hold (own_cells path cell cells) (add path cell inside) (spots es c t.group)) (holds es rest c)
@@ -142,11 +149,13 @@ module _ (es : List Entry) where
           ∙ (sym (or-assoc (spots_hold cells inside (spots es c t.group)) (holds es rest c) (writes_below (u ∷ path) cell.row c))
           ∙ ap (λ b. b || writes_below (u ∷ path) cell.row c) (sym (either-or (spots_hold cells inside (spots es c t.group)) (holds es rest c)))))
 
-  add-holds : (path : List Step) (cell : Cell) (plan : Plan) (c : Context) → holds es (add path cell plan) c ≡ (holds es plan c || writes_inside path cell.row c)
+  add-holds : (path : List Step) (cell : Cell) (plan : Plan) (c : Context) →
+      holds es (add path cell plan) c ≡ (holds es plan c || writes_inside path cell.row c)
   add-holds [] cell plan c = sym (or-false (holds es plan c))
   add-holds (s ∷ path) cell plan c = into-holds s path cell c (add-holds path cell) plan
 
-  grow-holds : (plan : Plan) (items : List Item) (c : Context) → holds es (grow plan items) c ≡ (holds es plan c || list_any (λ (i : Item). writes_inside i.path i.cell.row c) items)
+  grow-holds : (plan : Plan) (items : List Item) (c : Context) →
+      holds es (grow plan items) c ≡ (holds es plan c || list_any (λ (i : Item). writes_inside i.path i.cell.row c) items)
   grow-holds plan [] c = sym (or-false (holds es plan c))
   grow-holds plan (i ∷ is) c =
       grow-holds (add i.path i.cell plan) is c
@@ -157,9 +166,12 @@ module _ (es : List Entry) where
       ≡ list_any (λ (i : Item). writes_below i.path i.cell.row c) items
   ends-hold [] c = refl
   ends-hold (i ∷ is) c =
-      ap (λ b. b || (writes_inside i.path i.cell.row c || list_any (λ (j : Item). writes_inside j.path j.cell.row c) is)) (any-append (λ (x : Cell). writes_entry x.row es c) (end_of i) (ends_of is))
-      ∙ (or-inner (cells_hold es (end_of i) c) (cells_hold es (ends_of is) c) (writes_inside i.path i.cell.row c) (list_any (λ (j : Item). writes_inside j.path j.cell.row c) is)
-      ∙ (ap (λ b. b || (cells_hold es (ends_of is) c || list_any (λ (j : Item). writes_inside j.path j.cell.row c) is)) (one i.path i.cell) ∙ ap (λ b. writes_below i.path i.cell.row c || b) (ends-hold is c)))
+      ap (λ b. b || (writes_inside i.path i.cell.row c || list_any (λ (j : Item). writes_inside j.path j.cell.row c) is))
+      (any-append (λ (x : Cell). writes_entry x.row es c) (end_of i) (ends_of is))
+      ∙ (or-inner (cells_hold es (end_of i) c) (cells_hold es (ends_of is) c) (writes_inside i.path i.cell.row c)
+      (list_any (λ (j : Item). writes_inside j.path j.cell.row c) is)
+      ∙ (ap (λ b. b || (cells_hold es (ends_of is) c || list_any (λ (j : Item). writes_inside j.path j.cell.row c) is)) (one i.path i.cell) ∙
+      ap (λ b. writes_below i.path i.cell.row c || b) (ends-hold is c)))
     where
       one : (path : List Step) (cell : Cell) → (cells_hold es (end_at path cell) c || writes_inside path cell.row c) ≡ writes_below path cell.row c
       one [] cell = or-false (writes_entry cell.row es c || false) ∙ or-false (writes_entry cell.row es c)
@@ -185,10 +197,12 @@ term_inside (s ∷ path) row = has_any_term row
 abbrev cells_have : List Cell → Bool
 cells_have cells = list_any (λ (cell : Cell). has_any_term cell.row) cells
 
-own-terms : (path : List Step) (cell : Cell) (cells : List Cell) (inside : Plan) → has_terms (add path cell inside) ≡ (has_terms inside || term_inside path cell.row)
+own-terms : (path : List Step) (cell : Cell) (cells : List Cell) (inside : Plan) →
+    has_terms (add path cell inside) ≡ (has_terms inside || term_inside path cell.row)
     → (cells_have (own_cells path cell cells) || has_terms (add path cell inside)) ≡ ((cells_have cells || has_terms inside) || has_any_term cell.row)
 own-terms [] cell cells inside e =
-    ap (λ b. b || has_terms inside) (any-append (λ (x : Cell). has_any_term x.row) cells (cell ∷ []) ∙ ap (λ b. cells_have cells || b) (or-false (has_any_term cell.row)))
+    ap (λ b. b || has_terms inside) (any-append (λ (x : Cell). has_any_term x.row) cells (cell ∷ []) ∙
+    ap (λ b. cells_have cells || b) (or-false (has_any_term cell.row)))
     ∙ or-last (cells_have cells) (has_any_term cell.row) (has_terms inside)
 own-terms (s ∷ path) cell cells inside e = ap (λ b. cells_have cells || b) e ∙ sym (or-assoc (cells_have cells) (has_terms inside) (has_any_term cell.row))
 
@@ -200,7 +214,8 @@ into-terms u path cell h (a_line t cells inside rest) = go (same_step u t) (nat_
   where
     go : (a b : Bool) → has_terms (into u (own_cells path cell) (add path cell) rest) ≡ (has_terms rest || has_any_term cell.row)
         → has_terms (choose a (λ _. a_line t (own_cells path cell cells) (add path cell inside) rest)
-        (λ _. choose b (λ _. a_line u (own_cells path cell []) (add path cell nothing) (a_line t cells inside rest)) (λ _. a_line t cells inside (into u (own_cells path cell) (add path cell) rest))))
+        (λ _. choose b (λ _. a_line u (own_cells path cell []) (add path cell nothing) (a_line t cells inside rest))
+        (λ _. a_line t cells inside (into u (own_cells path cell) (add path cell) rest))))
         ≡ (has_terms (a_line t cells inside rest) || has_any_term cell.row)
     go true b i =
         sym (or-assoc (cells_have (own_cells path cell cells)) (has_terms (add path cell inside)) (has_terms rest))
@@ -209,7 +224,8 @@ into-terms u path cell h (a_line t cells inside rest) = go (same_step u t) (nat_
         ∙ ap (λ b. b || has_any_term cell.row) (or-assoc (cells_have cells) (has_terms inside) (has_terms rest))))
     go false true i =
         sym (or-assoc (cells_have (own_cells path cell [])) (has_terms (add path cell nothing)) (has_terms (a_line t cells inside rest)))
-        ∙ (ap (λ b. b || has_terms (a_line t cells inside rest)) (own-terms path cell [] nothing (h nothing)) ∙ or-swap (has_any_term cell.row) (has_terms (a_line t cells inside rest)))
+        ∙ (ap (λ b. b || has_terms (a_line t cells inside rest)) (own-terms path cell [] nothing (h nothing)) ∙
+        or-swap (has_any_term cell.row) (has_terms (a_line t cells inside rest)))
     go false false i =
         ap (λ b. cells_have cells || (has_terms inside || b)) i
         ∙ (ap (λ b. cells_have cells || b) (sym (or-assoc (has_terms inside) (has_terms rest) (has_any_term cell.row)))
@@ -229,9 +245,11 @@ grow-terms plan (i ∷ is) =
 ends-terms : (items : List Item) → (cells_have (ends_of items) || list_any (λ (i : Item). term_inside i.path i.cell.row) items) ≡ list_any is_term items
 ends-terms [] = refl
 ends-terms (i ∷ is) =
-    ap (λ b. b || (term_inside i.path i.cell.row || list_any (λ (j : Item). term_inside j.path j.cell.row) is)) (any-append (λ (x : Cell). has_any_term x.row) (end_of i) (ends_of is))
+    ap (λ b. b || (term_inside i.path i.cell.row || list_any (λ (j : Item). term_inside j.path j.cell.row) is))
+    (any-append (λ (x : Cell). has_any_term x.row) (end_of i) (ends_of is))
     ∙ (or-inner (cells_have (end_of i)) (cells_have (ends_of is)) (term_inside i.path i.cell.row) (list_any (λ (j : Item). term_inside j.path j.cell.row) is)
-    ∙ (ap (λ b. b || (cells_have (ends_of is) || list_any (λ (j : Item). term_inside j.path j.cell.row) is)) (one i.path i.cell) ∙ ap (λ b. is_term i || b) (ends-terms is)))
+    ∙ (ap (λ b. b || (cells_have (ends_of is) || list_any (λ (j : Item). term_inside j.path j.cell.row) is)) (one i.path i.cell) ∙
+    ap (λ b. is_term i || b) (ends-terms is)))
   where
     one : (path : List Step) (cell : Cell) → (cells_have (end_at path cell) || term_inside path cell.row) ≡ has_any_term cell.row
     one [] cell = or-false (has_any_term cell.row || false) ∙ or-false (has_any_term cell.row)
@@ -240,4 +258,5 @@ ends-terms (i ∷ is) =
 -- a term stands at a line or below it where one of its rows has one
 pub line-terms : (cells : List Cell) (inside : Plan) (items : List Item) → cells ≡ ends_of items → inside ≡ plan_from items
     → (list_any (λ (cell : Cell). has_any_term cell.row) cells || has_terms inside) ≡ list_any is_term items
-line-terms cells inside items e f = ap (λ b. b || has_terms inside) (ap cells_have e) ∙ (ap (λ b. cells_have (ends_of items) || b) (ap has_terms f ∙ grow-terms nothing items) ∙ ends-terms items)
+line-terms cells inside items e f = ap (λ b. b || has_terms inside) (ap cells_have e) ∙
+    (ap (λ b. cells_have (ends_of items) || b) (ap has_terms f ∙ grow-terms nothing items) ∙ ends-terms items)

@@ -1,6 +1,7 @@
 -- Rows below an element by the steps that are left of their paths, and the lines that they make: each line has the rows that end at it, and what is
 -- inside it is made of those that go on through it.
-use Rattle.std.proofs.Common.{◌≡◌, ℕ, ◌+◌, ◌<◌, Bool, true, false, ◌&&◌, ◌||◌, not, List, [], ◌∷◌, ◌++◌, flat_map, ◌⊎◌, inl, inr, refl, sym, ap, ◌∙◌, subst, append_assoc, arith}
+use Rattle.std.proofs.Common.{◌≡◌, ℕ, ◌+◌, ◌<◌, Bool, true, false, ◌&&◌, ◌||◌, not, List, [], ◌∷◌, ◌++◌, flat_map, ◌⊎◌, inl, inr, refl, sym, ap, ◌∙◌, subst}
+use Rattle.std.proofs.Common.{append_assoc, arith}
 use Rattle.std.specs.Prelude.{◌==◌, nat_lt}
 use Rattle.std.specs.List.{list_any}
 use Rattle.std.proofs.lemmas.Bool.{false≢true}
@@ -166,10 +167,12 @@ distinct-front (x ∷ xs) ys h =
     go true b e f = absurd (false≢true (sym e))
     go false b e f = f
 
-pub distinct-inside : (s : Step) (cells : List Cell) (inside rest : Plan) → are_distinct (element_numbers (a_line s cells inside rest)) ≡ true → are_distinct (element_numbers inside) ≡ true
+pub distinct-inside : (s : Step) (cells : List Cell) (inside rest : Plan) → are_distinct (element_numbers (a_line s cells inside rest)) ≡ true →
+    are_distinct (element_numbers inside) ≡ true
 distinct-inside s cells inside rest h = distinct-front (element_numbers inside) (element_numbers rest) (both-true (not (list_any (λ m. s.number == m) _)) _ h).1
 
-pub distinct-rest : (s : Step) (cells : List Cell) (inside rest : Plan) → are_distinct (element_numbers (a_line s cells inside rest)) ≡ true → are_distinct (element_numbers rest) ≡ true
+pub distinct-rest : (s : Step) (cells : List Cell) (inside rest : Plan) → are_distinct (element_numbers (a_line s cells inside rest)) ≡ true →
+    are_distinct (element_numbers rest) ≡ true
 distinct-rest s cells inside rest h = distinct-behind (element_numbers inside) (element_numbers rest) (both-true (not (list_any (λ m. s.number == m) _)) _ h).1
 
 number-back : (m n : ℕ) → (m == n) ≡ false → (n == m) ≡ false
@@ -180,7 +183,8 @@ number-back m n h = grind (arith, nat_tests)
 abbrev step_by : Step → Step → Bool → Bool
 step_by u v b = choose b (λ _. same_rest_of_step u v) (λ _. false)
 
-told-by_numbers : (plan : Plan) (u v : Step) → are_distinct (element_numbers plan) ≡ true → HasLine u plan → HasLine v plan → same_step u v ≡ (u.number == v.number)
+told-by_numbers : (plan : Plan) (u v : Step) → are_distinct (element_numbers plan) ≡ true → HasLine u plan → HasLine v plan →
+    same_step u v ≡ (u.number == v.number)
 told-by_numbers nothing u v d h k = elim h [ ]
 told-by_numbers (a_line s cells inside rest) u v d (inl e) (inl f) =
     subst (λ (x : Step). same_step x v ≡ (x.number == v.number)) (sym e)
@@ -189,7 +193,8 @@ told-by_numbers (a_line s cells inside rest) u v d (inl e) (inr k) =
     let n = line-number s.number v rest k (none-of-any (λ m. s.number == m) (element_numbers inside) (element_numbers rest) (distinct-here s.number _ d)) in
     subst (λ (x : Step). same_step x v ≡ (x.number == v.number)) (sym e) (ap (step_by s v) n ∙ sym n)
 told-by_numbers (a_line s cells inside rest) u v d (inr h) (inl f) =
-    let n = number-back s.number u.number (line-number s.number u rest h (none-of-any (λ m. s.number == m) (element_numbers inside) (element_numbers rest) (distinct-here s.number _ d))) in
+    let n = number-back s.number u.number (line-number s.number u rest h
+    (none-of-any (λ m. s.number == m) (element_numbers inside) (element_numbers rest) (distinct-here s.number _ d))) in
     subst (λ (y : Step). same_step u y ≡ (u.number == y.number)) (sym f) (ap (step_by u s) n ∙ sym n)
 told-by_numbers (a_line s cells inside rest) u v d (inr h) (inr k) = told-by_numbers rest u v (distinct-rest s cells inside rest d) h k
 
@@ -197,7 +202,8 @@ told-by_numbers (a_line s cells inside rest) u v d (inr h) (inr k) = told-by_num
 pub one-line : (plan : Plan) (u v : Step) → are_distinct (element_numbers plan) ≡ true → HasLine u plan → HasLine v plan → (u.number == v.number) ≡ true → u ≡ v
 one-line plan u v d h k e = step-sound u v (told-by_numbers plan u v d h k ∙ e)
 
-apart-from : (whole : Plan) (u : Step) (plan : Plan) → are_distinct (element_numbers whole) ≡ true → HasLine u whole → ((v : Step) → HasLine v plan → HasLine v whole) → Apart u plan
+apart-from : (whole : Plan) (u : Step) (plan : Plan) → are_distinct (element_numbers whole) ≡ true → HasLine u whole →
+    ((v : Step) → HasLine v plan → HasLine v whole) → Apart u plan
 apart-from whole u nothing d h k = tt
 apart-from whole u (a_line s cells inside rest) d h k =
     (told-by_numbers whole u s d h (k s (inl refl)), apart-from whole u rest d h (λ v x. k v (inr x)))
@@ -258,7 +264,8 @@ module _ (u : Step) (own : List Cell → List Cell) (deeper : Plan → Plan) whe
   into-rises : (plan : Plan) → Rises plan → Apart u plan → Rises (into u own deeper plan)
   into-rises nothing r a = (tt, tt)
   into-rises (a_line t cells inside rest) r a =
-      go (same_step u t) (nat_lt u.number t.number) (into-rises rest r.1 a.1) (λ e f. greater-than u.number t.number (sym a.0 ∙ e) f) (less-than u.number t.number)
+      go (same_step u t) (nat_lt u.number t.number) (into-rises rest r.1 a.1) (λ e f. greater-than u.number t.number (sym a.0 ∙ e) f)
+      (less-than u.number t.number)
     where
       go : (x y : Bool) → Rises (into u own deeper rest) → (x ≡ false → y ≡ false → t.number < u.number) → (y ≡ true → u.number < t.number)
           → Rises (choose x (λ _. a_line t (own cells) (deeper inside) rest)
@@ -314,12 +321,14 @@ module _ (u : Step) (path : List Step) (cell : Cell) (items : List Item) where
   tails-one : (n : ℕ) → (u.number == n) ≡ true → tails n more_items ≡ tails n items ++ record { path = path; cell = cell } ∷ []
   tails-one n e = tails-snoc n items one_item ∙ ap (λ b. tails n items ++ tail_by b path cell) e
 
-  line-other : (n : ℕ) (cells : List Cell) (inside : Plan) → (u.number == n) ≡ false → LineOf cells inside (tails n items) → LineOf cells inside (tails n more_items)
+  line-other : (n : ℕ) (cells : List Cell) (inside : Plan) → (u.number == n) ≡ false → LineOf cells inside (tails n items) →
+      LineOf cells inside (tails n more_items)
   line-other n cells inside e h = subst (LineOf cells inside) (sym (tails-other n e)) h
 
   line-one : (n : ℕ) (cells : List Cell) (inside : Plan) → (u.number == n) ≡ true → cells ≡ ends_of (tails n items) → inside ≡ plan_from (tails n items)
       → LineOf (own_cells path cell cells) (add path cell inside) (tails n more_items)
-  line-one n cells inside e f g = subst (LineOf (own_cells path cell cells) (add path cell inside)) (sym (tails-one n e)) (line-more path cell cells inside (tails n items) f g)
+  line-one n cells inside e f g = subst (LineOf (own_cells path cell cells) (add path cell inside)) (sym (tails-one n e))
+      (line-more path cell cells inside (tails n items) f g)
 
   of-higher : (plan : Plan) → Higher u.number plan → Of plan items → Of plan more_items
   of-higher nothing h o = tt
@@ -349,7 +358,8 @@ module _ (u : Step) (path : List Step) (cell : Cell) (items : List Item) where
   new-line : tails u.number items ≡ [] → LineOf (own_cells path cell []) (add path cell nothing) (tails u.number more_items)
   new-line e = line-one u.number [] nothing (number-itself u.number) (ap ends_of (sym e)) (ap plan_from (sym e))
 
-  into-of : (plan : Plan) → Rises plan → Apart u plan → Of plan items → (Missing plan → tails u.number items ≡ []) → Of (into u (own_cells path cell) (add path cell) plan) more_items
+  into-of : (plan : Plan) → Rises plan → Apart u plan → Of plan items → (Missing plan → tails u.number items ≡ []) →
+      Of (into u (own_cells path cell) (add path cell) plan) more_items
   into-of nothing r a o m = (new-line (m tt), tt)
   into-of (a_line t cells inside rest) r a o m =
       go (same_step u t) (nat_lt u.number t.number) (sym a.0) (less-than u.number t.number)
@@ -360,7 +370,10 @@ module _ (u : Step) (path : List Step) (cell : Cell) (items : List Item) where
           → Of (choose x (λ _. a_line t (own_cells path cell cells) (add path cell inside) rest)
           (λ _. choose y (λ _. a_line u (own_cells path cell []) (add path cell nothing) (a_line t cells inside rest))
           (λ _. a_line t cells inside (into u (own_cells path cell) (add path cell) rest)))) more_items
-      go true y e l f = (line-one t.number cells inside e o.0.0 o.0.1.0, of-higher rest (subst (λ n. Higher n rest) (sym (same-numbers u.number t.number e)) r.0) o.1)
+      go true y e l f = (
+        line-one t.number cells inside e o.0.0 o.0.1.0,
+        of-higher rest (subst (λ n. Higher n rest) (sym (same-numbers u.number t.number e)) r.0) o.1,
+      )
       go false true e l f =
           let above = higher-more u.number t.number rest (l refl) r.0 in
           (new-line (m (e, missing-higher rest above)), (line-other t.number cells inside e o.0, of-higher rest above o.1))
@@ -387,9 +400,11 @@ firsts-kept : (plan more : Plan) (is : List Item) → ((v : Step) → HasLine v 
 firsts-kept plan more is k h = each-weaker (HasFirst plan) (HasFirst more) is (λ i. first-kept plan more i.path k) h
 
 made-one : (whole plan : Plan) (done : List Item) (path : List Step) (cell : Cell) (is : List Item) → are_distinct (element_numbers whole) ≡ true
-    → grow plan (record { path = path; cell = cell } ∷ is) ≡ whole → Made plan done → Made (add path cell plan) (done ++ record { path = path; cell = cell } ∷ [])
+    → grow plan (record { path = path; cell = cell } ∷ is) ≡ whole → Made plan done →
+    Made (add path cell plan) (done ++ record { path = path; cell = cell } ∷ [])
 made-one whole plan done [] cell is d e m = record {
-  are = of-same plan done (done ++ record { path = []; cell = cell } ∷ []) (λ n. tails-snoc n done (record { path = []; cell = cell }) ∙ append-nil (tails n done)) m.are;
+  are = of-same plan done (done ++ record { path = []; cell = cell } ∷ []) (λ n. tails-snoc n done (record { path = []; cell = cell }) ∙
+      append-nil (tails n done)) m.are;
   rises = m.rises;
   first = each-append (HasFirst plan) done (record { path = []; cell = cell } ∷ []) m.first (tt, tt);
 }
@@ -401,13 +416,16 @@ made-one whole plan done (u ∷ path) cell is d e m =
       are = into-of u path cell done plan m.rises a m.are (λ k. tails-none u path cell done plan done k m.first);
       rises = into-rises u (own_cells path cell) (add path cell) plan m.rises a;
       first = each-append (HasFirst more) done (record { path = u ∷ path; cell = cell } ∷ [])
-          (firsts-kept plan more done (λ v. into-keeps u (own_cells path cell) (add path cell) v plan) m.first) (into-has u (own_cells path cell) (add path cell) plan, tt);
+          (firsts-kept plan more done (λ v. into-keeps u (own_cells path cell) (add path cell) v plan) m.first)
+          (into-has u (own_cells path cell) (add path cell) plan, tt);
     }
 
-made-grow : (whole : Plan) (plan : Plan) (done is : List Item) → are_distinct (element_numbers whole) ≡ true → grow plan is ≡ whole → Made plan done → Made whole (done ++ is)
+made-grow : (whole : Plan) (plan : Plan) (done is : List Item) → are_distinct (element_numbers whole) ≡ true → grow plan is ≡ whole → Made plan done →
+    Made whole (done ++ is)
 made-grow whole plan done [] d e m = subst (λ (p : Plan). Made p (done ++ [])) e (subst (Made plan) (sym (append-nil done)) m)
 made-grow whole plan done (i ∷ is) d e m =
-    subst (Made whole) (append_assoc done (i ∷ []) is) (made-grow whole (add i.path i.cell plan) (done ++ i ∷ []) is d e (made-one whole plan done i.path i.cell is d e m))
+    subst (Made whole) (append_assoc done (i ∷ []) is)
+    (made-grow whole (add i.path i.cell plan) (done ++ i ∷ []) is d e (made-one whole plan done i.path i.cell is d e m))
 
 -- the lines of rows whose numbers are each one element
 pub made : (items : List Item) → are_distinct (element_numbers (plan_from items)) ≡ true → Made (plan_from items) items

@@ -27,7 +27,8 @@ module _ (es : List Entry) where
   cells-silent : (cells : List Cell) (c : Context) → have_terms cells ≡ false → cells_hold es cells c ≡ false
   cells-silent [] c h = refl
   cells-silent (cell ∷ cells) c h =
-      ap (λ b. b || cells_hold es cells c) (constant-writes es cell.row c (or-first (has_any_term cell.row) (have_terms cells) h)) ∙ cells-silent cells c (or-second (has_any_term cell.row) (have_terms cells) h)
+      ap (λ b. b || cells_hold es cells c) (constant-writes es cell.row c (or-first (has_any_term cell.row) (have_terms cells) h)) ∙
+      cells-silent cells c (or-second (has_any_term cell.row) (have_terms cells) h)
 
   plan-silent : (plan : Plan) (c : Context) → has_terms plan ≡ false → holds es plan c ≡ false
   plan-silent nothing c h = refl
@@ -37,7 +38,8 @@ module _ (es : List Entry) where
       ∙ (ap (λ b. b || holds es rest c)
       (any-same (λ d. either (cells_hold es cells d) (λ _. holds es inside d)) (λ d. false)
       (λ d. either-or (cells_hold es cells d) (holds es inside d)
-      ∙ (ap (λ b. b || holds es inside d) (cells-silent cells d (or-first (have_terms cells) (has_terms inside || has_terms rest) h)) ∙ plan-silent inside d (or-first (has_terms inside) (has_terms rest) more))) (spots es c s.group)
+      ∙ (ap (λ b. b || holds es inside d) (cells-silent cells d (or-first (have_terms cells) (has_terms inside || has_terms rest) h)) ∙
+      plan-silent inside d (or-first (has_terms inside) (has_terms rest) more))) (spots es c s.group)
       ∙ any-never (spots es c s.group))
       ∙ plan-silent rest c (or-second (has_terms inside) (has_terms rest) more))
 
@@ -77,14 +79,17 @@ module _ (es : List Entry) where
   or-later true b h = refl
   or-later false b h = h
 
-  spots-silent : (cells : List Cell) (inside : Plan) (ds : List Context) → (have_terms cells || has_terms inside) ≡ false → list_any (λ d. either (cells_hold es cells d) (λ _. holds es inside d)) ds ≡ false
+  spots-silent : (cells : List Cell) (inside : Plan) (ds : List Context) → (have_terms cells || has_terms inside) ≡ false →
+      list_any (λ d. either (cells_hold es cells d) (λ _. holds es inside d)) ds ≡ false
   spots-silent cells inside ds h =
       any-same (λ d. either (cells_hold es cells d) (λ _. holds es inside d)) (λ d. false)
       (λ d. either-or (cells_hold es cells d) (holds es inside d)
-      ∙ (ap (λ b. b || holds es inside d) (cells-silent cells d (or-first (have_terms cells) (has_terms inside) h)) ∙ plan-silent inside d (or-second (have_terms cells) (has_terms inside) h))) ds
+      ∙ (ap (λ b. b || holds es inside d) (cells-silent cells d (or-first (have_terms cells) (has_terms inside) h)) ∙
+      plan-silent inside d (or-second (have_terms cells) (has_terms inside) h))) ds
       ∙ any-never ds
 
-  module _ (top held beside : Bool) (s : Step) (cells : List Cell) (inside rest : Plan) (c : Context) (k : Level top held beside (a_line s cells inside rest) c) where
+  module _ (top held beside : Bool) (s : Step) (cells : List Cell) (inside rest : Plan) (c : Context)
+      (k : Level top held beside (a_line s cells inside rest) c) where
     fit-here : line_fits top (beside || has_terms rest) s cells inside ≡ true
     fit-here = (both-true (line_fits top (beside || has_terms rest) s cells inside) _ k.fits).0
 
@@ -95,28 +100,35 @@ module _ (es : List Entry) where
     level-rest = record {
       fits = (both-true (constants_fit false (have_terms cells) inside) _ fit-further).1;
       outside = k.outside;
-      above = λ e h. k.above e (either-later (list_any (λ d. either (cells_hold es cells d) (λ _. holds es inside d)) (spots es c s.group)) (holds es rest c) h);
+      above = λ e h. k.above e (either-later (list_any (λ d. either (cells_hold es cells d) (λ _. holds es inside d)) (spots es c s.group))
+          (holds es rest c) h);
       alone = λ e h q.
           let none = or-second beside (have_terms cells || has_terms inside) e in
           either-second (list_any (λ d. either (cells_hold es cells d) (λ _. holds es inside d)) (spots es c s.group)) (holds es rest c)
-          (k.alone (or-first beside (have_terms cells || has_terms inside) e) (or-later (have_terms cells) (has_terms inside || has_terms rest) (or-later (has_terms inside) (has_terms rest) h)) q)
+          (k.alone (or-first beside (have_terms cells || has_terms inside) e)
+          (or-later (have_terms cells) (has_terms inside || has_terms rest) (or-later (has_terms inside) (has_terms rest) h)) q)
           (spots-silent cells inside (spots es c s.group) none);
     }
 
-    module _ (ts : List Item) (t : Turn) (cells-are : cells ≡ ends_of ts) (inside-is : inside ≡ plan_from ts) (distinct : are_distinct (element_numbers (plan_from ts)) ≡ true)
+    module _ (ts : List Item) (t : Turn) (cells-are : cells ≡ ends_of ts) (inside-is : inside ≡ plan_from ts)
+        (distinct : are_distinct (element_numbers (plan_from ts)) ≡ true)
         (some : ts ≡ [] → ⊥) (among : In t (turns es c s.group)) where
-      line-writes : either (cells_hold es cells t.context) (λ _. holds es inside t.context) ≡ writing es s cells inside ts t held distinct cells-are inside-is some
+      line-writes : either (cells_hold es cells t.context) (λ _. holds es inside t.context) ≡ writing es s cells inside ts t held distinct cells-are inside-is
+          some
       line-writes = line-holds es cells inside ts t.context cells-are inside-is
 
       line-termed : (have_terms cells || has_terms inside) ≡ termed es s cells inside ts t held distinct cells-are inside-is some
       line-termed = line-terms cells inside ts cells-are inside-is
 
-      here-held : writing es s cells inside ts t held distinct cells-are inside-is some ≡ true → here es s cells inside ts t held distinct cells-are inside-is some ≡ true
+      here-held : writing es s cells inside ts t held distinct cells-are inside-is some ≡ true →
+          here es s cells inside ts t held distinct cells-are inside-is some ≡ true
       here-held e =
           here-is es s cells inside ts t held distinct cells-are inside-is some
-          ∙ (ap (λ b. holder b (writing es s cells inside ts t held distinct cells-are inside-is some) held) (writing-termed es s cells inside ts t held distinct cells-are inside-is some e) ∙ e)
+          ∙ (ap (λ b. holder b (writing es s cells inside ts t held distinct cells-are inside-is some) held)
+          (writing-termed es s cells inside ts t held distinct cells-are inside-is some e) ∙ e)
 
-      here-writes : termed es s cells inside ts t held distinct cells-are inside-is some ≡ true → here es s cells inside ts t held distinct cells-are inside-is some ≡ true
+      here-writes : termed es s cells inside ts t held distinct cells-are inside-is some ≡ true →
+          here es s cells inside ts t held distinct cells-are inside-is some ≡ true
           → writing es s cells inside ts t held distinct cells-are inside-is some ≡ true
       here-writes e h =
           sym (here-is es s cells inside ts t held distinct cells-are inside-is some
@@ -146,7 +158,8 @@ module _ (es : List Entry) where
           (any-has (λ d. either (cells_hold es cells d) (λ _. holds es inside d)) t.context (spots es c s.group) spot (line-writes ∙ e))
 
       fit-constants : has_constant cells ≡ true → (not s.always && (not (top && list_any is_constant_element cells)
-          && (not (list_any is_constant_attribute cells && (have_terms cells || has_terms inside)) || (top || (not (beside || has_terms rest) && is_none s.group))))) ≡ true
+          && (not (list_any is_constant_attribute cells && (have_terms cells || has_terms inside)) ||
+          (top || (not (beside || has_terms rest) && is_none s.group))))) ≡ true
       fit-constants e = by (has_constant cells) e fit-here
         where
           by : (b : Bool) {r : Bool} → b ≡ true → (not b || r) ≡ true → r ≡ true
@@ -156,10 +169,12 @@ module _ (es : List Entry) where
       termed-here : termed es s cells inside ts t held distinct cells-are inside-is some ≡ true → (have_terms cells || has_terms inside) ≡ true
       termed-here e = line-termed ∙ e
 
-      single : (group : Option Group) → is_none group ≡ true → In t (turns es c group) → list_any (λ d. either (cells_hold es cells d) (λ _. holds es inside d)) (spots es c group) ≡ true
+      single : (group : Option Group) → is_none group ≡ true → In t (turns es c group) →
+          list_any (λ d. either (cells_hold es cells d) (λ _. holds es inside d)) (spots es c group) ≡ true
           → either (cells_hold es cells t.context) (λ _. holds es inside t.context) ≡ true
       single None e (inl m) h =
-          subst (λ (u : Turn). either (cells_hold es cells u.context) (λ _. holds es inside u.context) ≡ true) (sym m) (sym (or-false (either (cells_hold es cells c) (λ _. holds es inside c))) ∙ h)
+          subst (λ (u : Turn). either (cells_hold es cells u.context) (λ _. holds es inside u.context) ≡ true) (sym m)
+          (sym (or-false (either (cells_hold es cells c) (λ _. holds es inside c))) ∙ h)
       single None e (inr m) h = elim m [ ]
       single (Some group) e m h = absurd (false≢true e)
 
@@ -184,21 +199,28 @@ module _ (es : List Entry) where
       }
         where
           parts : has_constant cells ≡ true → (not (top && list_any is_constant_element cells)
-              && (not (list_any is_constant_attribute cells && (have_terms cells || has_terms inside)) || (top || (not (beside || has_terms rest) && is_none s.group)))) ≡ true
+              && (not (list_any is_constant_attribute cells && (have_terms cells || has_terms inside)) ||
+              (top || (not (beside || has_terms rest) && is_none s.group)))) ≡ true
           parts e = (both-true (not s.always) _ (fit-constants e)).1
 
-          text-held : (n : Bool) → top ≡ n → list_any is_constant_element cells ≡ true → writing es s cells inside ts t held distinct cells-are inside-is some ≡ true → held ≡ true
+          text-held : (n : Bool) → top ≡ n → list_any is_constant_element cells ≡ true →
+              writing es s cells inside ts t held distinct cells-are inside-is some ≡ true → held ≡ true
           text-held true p e w =
               absurd (text-parts top (list_any is_constant_element cells)
-              (both-true (not (top && list_any is_constant_element cells)) _ (parts (has-either cells ∙ or-now (list_any is_constant_element cells) _ e))).0 p e)
+              (both-true (not (top && list_any is_constant_element cells)) _ (parts (has-either cells ∙ or-now (list_any is_constant_element cells) _ e))).0 p
+              e)
           text-held false p e w = k.above p (whole-holds w)
 
-          alone-held : (n : Bool) → top ≡ n → list_any is_constant_attribute cells ≡ true → termed es s cells inside ts t held distinct cells-are inside-is some ≡ true → held ≡ true
+          alone-held : (n : Bool) → top ≡ n → list_any is_constant_attribute cells ≡ true →
+              termed es s cells inside ts t held distinct cells-are inside-is some ≡ true → held ≡ true
               → writing es s cells inside ts t held distinct cells-are inside-is some ≡ true
           alone-held true p e m h = absurd (false≢true (sym (k.outside p) ∙ h))
           alone-held false p e m h =
               let q = alone-parts (list_any is_constant_attribute cells) (have_terms cells || has_terms inside) top (beside || has_terms rest) (is_none s.group)
-              (both-true (not (top && list_any is_constant_element cells)) _ (parts (has-either cells ∙ or-later (list_any is_constant_element cells) _ e))).1 e (termed-here m) p in
-              let all = k.alone (or-first beside (has_terms rest) q.0) (sym (or-assoc (have_terms cells) (has_terms inside) (has_terms rest)) ∙ or-now (have_terms cells || has_terms inside) (has_terms rest) (termed-here m)) h in
-              sym line-writes ∙ single s.group q.1 among (either-else (list_any (λ d. either (cells_hold es cells d) (λ _. holds es inside d)) (spots es c s.group)) (holds es rest c) all
+              (both-true (not (top && list_any is_constant_element cells)) _ (parts (has-either cells ∙ or-later (list_any is_constant_element cells) _ e))).1 e
+              (termed-here m) p in
+              let all = k.alone (or-first beside (has_terms rest) q.0) (sym (or-assoc (have_terms cells) (has_terms inside) (has_terms rest)) ∙
+              or-now (have_terms cells || has_terms inside) (has_terms rest) (termed-here m)) h in
+              sym line-writes ∙ single s.group q.1 among
+              (either-else (list_any (λ d. either (cells_hold es cells d) (λ _. holds es inside d)) (spots es c s.group)) (holds es rest c) all
               (plan-silent rest c (or-second beside (has_terms rest) q.0)))

@@ -43,7 +43,8 @@ turns-past : (p : Place) (s : Step) (f : Turn → List Leaf) (ts : List Turn) �
 turns-past p s f [] h = refl
 turns-past p s f (t ∷ ts) h =
     inside-append p (map (under s t) (f t)) (flat_map (λ t. map (under s t) (f t)) ts)
-    ∙ (ap (λ l. l ++ inside p (flat_map (λ t. map (under s t) (f t)) ts)) (outside-under p s t (f t) (before-apart p (place_of s t) h.0)) ∙ turns-past p s f ts h.1)
+    ∙ (ap (λ l. l ++ inside p (flat_map (λ t. map (under s t) (f t)) ts)) (outside-under p s t (f t) (before-apart p (place_of s t) h.0)) ∙
+    turns-past p s f ts h.1)
 
 in-map : (s : Step) (t : Turn) (ts : List Turn) → In t ts → In (place_of s t) (map (place_of s) ts)
 in-map s t [] k = elim k [ ]
@@ -60,13 +61,15 @@ turns-inside s t f (u ∷ ts) r (inl e) = subst (λ (v : Turn). inside (place_of
 turns-inside s t f (u ∷ ts) r (inr k) =
     inside-append (place_of s t) (map (under s u) (f u)) (flat_map (λ w. map (under s w) (f w)) ts)
     ∙ (ap (λ l. l ++ inside (place_of s t) (flat_map (λ w. map (under s w) (f w)) ts))
-    (outside-under (place_of s t) s u (f u) (before-back (place_of s u) (place_of s t) (each-in (λ q. comes_before (place_of s u) q ≡ true) (map (place_of s) ts) (place_of s t) r.0 (in-map s t ts k))))
+    (outside-under (place_of s t) s u (f u) (before-back (place_of s u) (place_of s t)
+    (each-in (λ q. comes_before (place_of s u) q ≡ true) (map (place_of s) ts) (place_of s t) r.0 (in-map s t ts k))))
     ∙ turns-inside s t f ts r.1 k)
 
 numbers-other : (m n k j : ℕ) → (n == m) ≡ false → ((m == n) && (k == j)) ≡ false
 numbers-other m n k j h = grind (arith, nat_tests)
 
-turns-other : (s u : Step) (t : Turn) (f : Turn → List Leaf) (ts : List Turn) → (u.number == s.number) ≡ false → inside (place_of s t) (flat_map (λ v. map (under u v) (f v)) ts) ≡ []
+turns-other : (s u : Step) (t : Turn) (f : Turn → List Leaf) (ts : List Turn) → (u.number == s.number) ≡ false →
+    inside (place_of s t) (flat_map (λ v. map (under u v) (f v)) ts) ≡ []
 turns-other s u t f [] e = refl
 turns-other s u t f (v ∷ ts) e =
     inside-append (place_of s t) (map (under u v) (f v)) (flat_map (λ w. map (under u w) (f w)) ts)
@@ -75,38 +78,47 @@ turns-other s u t f (v ∷ ts) e =
 
 -- ---- rows that go on
 
-module _ (es : List Entry) (c : Context) (plan : Plan) (distinct : are_distinct (element_numbers plan) ≡ true) (s : Step) (has : HasLine s plan) (t : Turn) (among : In t (turns es c s.group)) where
+module _ (es : List Entry) (c : Context) (plan : Plan) (distinct : are_distinct (element_numbers plan) ≡ true) (s : Step) (has : HasLine s plan) (t : Turn)
+    (among : In t (turns es c s.group)) where
   -- of a row whose next element is u: what `next` makes of it behind an occurrence of u
   step-inside : (next : Step → Turn → List Step → Cell → List Leaf) (u : Step) (path : List Step) (cell : Cell) → HasLine u plan
-      → inside (place_of s t) (flat_map (λ v. map (under u v) (next u v path cell)) (turns es c u.group)) ≡ flat_map (λ (j : Item). next s t j.path j.cell) (tail_by (u.number == s.number) path cell)
+      → inside (place_of s t) (flat_map (λ v. map (under u v) (next u v path cell)) (turns es c u.group)) ≡ flat_map (λ (j : Item). next s t j.path j.cell)
+      (tail_by (u.number == s.number) path cell)
   step-inside next u path cell h = go (u.number == s.number) refl
     where
       go : (b : Bool) → (u.number == s.number) ≡ b
-          → inside (place_of s t) (flat_map (λ v. map (under u v) (next u v path cell)) (turns es c u.group)) ≡ flat_map (λ (j : Item). next s t j.path j.cell) (tail_by b path cell)
-      go true e = subst (λ (w : Step). inside (place_of s t) (flat_map (λ v. map (under w v) (next w v path cell)) (turns es c w.group)) ≡ next s t path cell ++ [])
-          (sym (one-line plan u s distinct h has e)) (turns-inside s t (λ v. next s v path cell) (turns es c s.group) (turns-rising es s c s.group) among ∙ sym (append-nil (next s t path cell)))
+          → inside (place_of s t) (flat_map (λ v. map (under u v) (next u v path cell)) (turns es c u.group)) ≡ flat_map (λ (j : Item). next s t j.path j.cell)
+          (tail_by b path cell)
+      go true e = subst (λ (w : Step). inside (place_of s t) (flat_map (λ v. map (under w v) (next w v path cell)) (turns es c w.group)) ≡ next s t path cell ++
+          [])
+          (sym (one-line plan u s distinct h has e)) (turns-inside s t (λ v. next s v path cell) (turns es c s.group) (turns-rising es s c s.group) among ∙
+          sym (append-nil (next s t path cell)))
       go false e = turns-other s u t (λ v. next u v path cell) (turns es c u.group) e
 
   -- of many rows: `here` is what a row says before it goes on
   pub items-inside : (front : List Step → Cell → List Leaf) (next : Step → Turn → List Step → Cell → List Leaf) (whole : List Step → Cell → List Leaf)
       → ((path : List Step) (cell : Cell) → inside (place_of s t) (front path cell) ≡ [])
       → ((cell : Cell) → whole [] cell ≡ front [] cell)
-      → ((u : Step) (path : List Step) (cell : Cell) → whole (u ∷ path) cell ≡ front (u ∷ path) cell ++ flat_map (λ v. map (under u v) (next u v path cell)) (turns es c u.group))
+      → ((u : Step) (path : List Step) (cell : Cell) → whole (u ∷ path) cell ≡ front (u ∷ path) cell ++
+      flat_map (λ v. map (under u v) (next u v path cell)) (turns es c u.group))
       → (items : List Item) → Each (HasFirst plan) items
       → inside (place_of s t) (flat_map (λ (i : Item). whole i.path i.cell) items) ≡ flat_map (λ (j : Item). next s t j.path j.cell) (tails s.number items)
   items-inside front next whole empty ending going items first =
       inside-each (place_of s t) (λ (i : Item). whole i.path i.cell) items
       ∙ (each items first ∙ sym (flat_map-flat_map (λ (j : Item). next s t j.path j.cell) (tail_of s.number) items))
     where
-      one : (path : List Step) (cell : Cell) → FirstIn plan path → inside (place_of s t) (whole path cell) ≡ flat_map (λ (j : Item). next s t j.path j.cell) (tail_at s.number path cell)
+      one : (path : List Step) (cell : Cell) → FirstIn plan path → inside (place_of s t) (whole path cell) ≡ flat_map (λ (j : Item). next s t j.path j.cell)
+          (tail_at s.number path cell)
       one [] cell h = ap (inside (place_of s t)) (ending cell) ∙ empty [] cell
       one (u ∷ path) cell h =
           ap (inside (place_of s t)) (going u path cell)
           ∙ (inside-append (place_of s t) (front (u ∷ path) cell) (flat_map (λ v. map (under u v) (next u v path cell)) (turns es c u.group))
-          ∙ (ap (λ l. l ++ inside (place_of s t) (flat_map (λ v. map (under u v) (next u v path cell)) (turns es c u.group))) (empty (u ∷ path) cell) ∙ step-inside next u path cell h))
+          ∙ (ap (λ l. l ++ inside (place_of s t) (flat_map (λ v. map (under u v) (next u v path cell)) (turns es c u.group))) (empty (u ∷ path) cell) ∙
+          step-inside next u path cell h))
 
       each : (is : List Item) → Each (HasFirst plan) is
-          → flat_map (λ (i : Item). inside (place_of s t) (whole i.path i.cell)) is ≡ flat_map (λ (i : Item). flat_map (λ (j : Item). next s t j.path j.cell) (tail_of s.number i)) is
+          → flat_map (λ (i : Item). inside (place_of s t) (whole i.path i.cell)) is ≡ flat_map
+          (λ (i : Item). flat_map (λ (j : Item). next s t j.path j.cell) (tail_of s.number i)) is
       each [] h = refl
       each (i ∷ is) h = ap (λ l. l ++ flat_map (λ (i : Item). inside (place_of s t) (whole i.path i.cell)) is) (one i.path i.cell h.0)
           ∙ ap (λ l. flat_map (λ (j : Item). next s t j.path j.cell) (tail_of s.number i) ++ l) (each is h.1)

@@ -62,7 +62,8 @@ each-filter P q (p ∷ ps) h = go (q p) (each-filter P q ps h.1)
 filter-one_more : (q : Place → Bool) (x : Place) (ps : List Place) → Each (λ p. comes_before x p ≡ true) ps → filter (one_more q x) ps ≡ filter q ps
 filter-one_more q x [] h = refl
 filter-one_more q x (p ∷ ps) h =
-    ap (λ b. if b || q p then p ∷ filter (one_more q x) ps else filter (one_more q x) ps) (before-back x p h.0) ∙ ap (λ l. if q p then p ∷ l else l) (filter-one_more q x ps h.1)
+    ap (λ b. if b || q p then p ∷ filter (one_more q x) ps else filter (one_more q x) ps) (before-back x p h.0) ∙
+    ap (λ l. if q p then p ∷ l else l) (filter-one_more q x ps h.1)
 
 put-first : (x : Place) (ps : List Place) → Each (λ p. comes_before x p ≡ true) ps → put x ps ≡ x ∷ ps
 put-first x [] h = refl
@@ -78,8 +79,10 @@ put-past x p ps h =
     ap (λ b. elim b [ true ↦ p ∷ ps | false ↦ elim (comes_before x p) [ true ↦ x ∷ (p ∷ ps) | false ↦ p ∷ put x ps ] ]) (before-back p x h)
     ∙ ap (λ b. elim b [ true ↦ x ∷ (p ∷ ps) | false ↦ p ∷ put x ps ]) (before-behind p x h)
 
-put-here : (q : Place → Bool) (x : Place) (ps : List Place) → Each (λ p. comes_before x p ≡ true) ps → put x (filter q (x ∷ ps)) ≡ filter (one_more q x) (x ∷ ps)
-put-here q x ps h = go (q x) ∙ sym (ap (λ b. if b || q x then x ∷ filter (one_more q x) ps else filter (one_more q x) ps) (same-itself x) ∙ ap (λ l. x ∷ l) (filter-one_more q x ps h))
+put-here : (q : Place → Bool) (x : Place) (ps : List Place) → Each (λ p. comes_before x p ≡ true) ps →
+    put x (filter q (x ∷ ps)) ≡ filter (one_more q x) (x ∷ ps)
+put-here q x ps h = go (q x) ∙ sym (ap (λ b. if b || q x then x ∷ filter (one_more q x) ps else filter (one_more q x) ps) (same-itself x) ∙
+    ap (λ l. x ∷ l) (filter-one_more q x ps h))
   where
     go : (b : Bool) → put x (if b then x ∷ filter q ps else filter q ps) ≡ x ∷ filter q ps
     go true = put-same x (filter q ps)

@@ -1,5 +1,6 @@
 -- The leaves of a row by its own occurrences are those by all spots of its path's elements: at spots outside its groups it writes nothing.
-use Rattle.std.proofs.Common.{◌≡◌, ℕ, Bool, true, false, ◌&&◌, ◌||◌, Option, Some, None, List, [], ◌∷◌, ◌++◌, flat_map, map, ◌⊎◌, inl, inr, refl, sym, ap, ◌∙◌, subst}
+use Rattle.std.proofs.Common.{◌≡◌, ℕ, Bool, true, false, ◌&&◌, ◌||◌, Option, Some, None, List, [], ◌∷◌, ◌++◌, flat_map, map, ◌⊎◌, inl, inr, refl, sym, ap, ◌∙◌}
+use Rattle.std.proofs.Common.{subst}
 use Rattle.std.specs.Prelude.{is_some, is_none, option_and_then}
 use Rattle.std.specs.List.{list_any, list_all, range_with_len}
 use Rattle.std.specs.Cmp.Lexicographic.{pointwise}
@@ -36,7 +37,8 @@ use Rattle.binding_laws.proofs.PlainLemmas.{IsAtGroups, IsReachable, context-the
 use Rattle.binding_laws.proofs.ReachLemmas.{Among}
 use Rattle.binding_laws.proofs.ListLemmas.{append-nil, both-true, or-either, flat_map-each, flat_map-same, map-map}
 use Rattle.address_laws.specs.AddressTrees.{Leaf}
-use Rattle.address_laws.specs.Addresses.{Turn, turns, or_once, group_turns, turn_of, how_often, is_own, foreign_turns, row_turns, Way, through, ways, leaf_at, under, leaves_at, entry_leaves, said_of_row}
+use Rattle.address_laws.specs.Addresses.{Turn, turns, or_once, group_turns, turn_of, how_often, is_own, foreign_turns, row_turns, Way, through, ways, leaf_at}
+use Rattle.address_laws.specs.Addresses.{under, leaves_at, entry_leaves, said_of_row}
 use Rattle.address_laws.specs.Addressed.{is_spread_over, is_own_way, is_filler_kept, is_spread, row_fits}
 use Rattle.address_laws.proofs.Orders.{In}
 use Rattle.address_laws.proofs.Ways.{ways-step}
@@ -59,7 +61,8 @@ all-among q x (e ∷ es) h (inr a) = all-among q x es (both-true (q e) (list_all
 
 module _ (es : List Entry) (placed : list_all is_placed es ≡ true) where
   -- A term that has no other of these contexts has no value in them.
-  value-none : (term : Term) (o i : Option Group) (c : Context) → stands_nowhere_else term o i ≡ true → IsReachable o i c → (IsAtGroups o i c → ⊥) → value_in es term c ≡ None
+  value-none : (term : Term) (o i : Option Group) (c : Context) → stands_nowhere_else term o i ≡ true → IsReachable o i c → (IsAtGroups o i c → ⊥) →
+      value_in es term c ≡ None
   value-none term o i c there reach never = go (value_in es term c) refl
     where
       go : (v : Option Value) → value_in es term c ≡ v → value_in es term c ≡ None
@@ -68,9 +71,11 @@ module _ (es : List Entry) (placed : list_all is_placed es ≡ true) where
           let w = found-value (is_at term c) es v h in
           let k = both-true (same_term w.entry.term term) (same_context w.entry.context c) w.passes in
           let at = same_context_is w.entry.context c k.1 in
-          absurd (never (subst (IsAtGroups o i) at (context-there w.entry term o i (same_term_is w.entry.term term k.0) (all-among is_placed w.entry es placed w.among) there (subst (IsReachable o i) (sym at) reach))))
+          absurd (never (subst (IsAtGroups o i) at (context-there w.entry term o i (same_term_is w.entry.term term k.0)
+          (all-among is_placed w.entry es placed w.among) there (subst (IsReachable o i) (sym at) reach))))
 
-  filled-none : (row : Row) (w : Written) (c : Context) → is_filler_kept row w ≡ true → IsReachable row.outer row.inner c → (IsAtGroups row.outer row.inner c → ⊥) → filled w es c ≡ None
+  filled-none : (row : Row) (w : Written) (c : Context) → is_filler_kept row w ≡ true → IsReachable row.outer row.inner c →
+      (IsAtGroups row.outer row.inner c → ⊥) → filled w es c ≡ None
   filled-none row written.Always c h reach never = refl
   filled-none row written.Never c h reach never = refl
   filled-none row written.IfIban c h reach never = refl
@@ -82,12 +87,14 @@ module _ (es : List Entry) (placed : list_all is_placed es ≡ true) where
   filled-none row written.VatTotal c h reach never = refl
   filled-none row written.AccountingVatTotal c h reach never = refl
 
-  row-silent : (row : Row) (term : Term) (c : Context) → row.content ≡ contents.Term term → is_kept_apart row term ≡ true → is_filler_kept row row.written ≡ true
+  row-silent : (row : Row) (term : Term) (c : Context) → row.content ≡ contents.Term term → is_kept_apart row term ≡ true →
+      is_filler_kept row row.written ≡ true
       → context_for row c ≡ c → IsReachable row.outer row.inner c → (IsAtGroups row.outer row.inner c → ⊥) → writes_entry row es c ≡ false
   row-silent row term c content apart filler own reach never =
       ap (λ x. is_some (text-by x)) content
       ∙ (ap (λ d. is_some (term_text row es term d)) own
-      ∙ (ap (λ v. is_some (text-with v)) (unvalued (is_typed (form_for row.form term)) refl apart) ∙ ap is_some (filled-none row row.written c filler reach never)))
+      ∙ (ap (λ v. is_some (text-with v)) (unvalued (is_typed (form_for row.form term)) refl apart) ∙
+      ap is_some (filled-none row row.written c filler reach never)))
     where
       text-by : Content → Option (List ℕ)
       text-by (contents.Term t) = term_text row es t (context_for row c)
@@ -103,7 +110,8 @@ module _ (es : List Entry) (placed : list_all is_placed es ≡ true) where
       slotless true h = absurd (never (slots-at row.outer row.inner c h reach))
       slotless false h = ap (λ b. valued true b (value_in es term c)) h
 
-      unvalued : (typed : Bool) → is_typed (form_for row.form term) ≡ typed → (is_typed (form_for row.form term) || stands_nowhere_else term row.outer row.inner) ≡ true → value_for row es term c ≡ None
+      unvalued : (typed : Bool) → is_typed (form_for row.form term) ≡ typed →
+          (is_typed (form_for row.form term) || stands_nowhere_else term row.outer row.inner) ≡ true → value_for row es term c ≡ None
       unvalued true h k = ap (λ b. valued b (has_slots row c) (value_in es term c)) h ∙ slotless (has_slots row c) refl
       unvalued false h k =
           ap (λ b. valued b (has_slots row c) (value_in es term c)) h
@@ -124,27 +132,32 @@ module _ (es : List Entry) (row : Row) (term : Term) (content : row.content ≡ 
   row-step : (last : Option Step) (c : Context) (s : Step) (path : List Step)
       → flat_map (leaves_at es row) (ways (row_turns es row) last c (s ∷ path))
       ≡ flat_map (λ (t : Turn). map (under s t) (flat_map (leaves_at es row) (ways (row_turns es row) (Some s) t.context path))) (row_turns es row c s.group)
-  row-step last c s path = ways-step (leaves_at es row) s (λ t. ways (row_turns es row) (Some s) t.context path) (λ t w. leaves-step es row s t w) (row_turns es row c s.group)
+  row-step last c s path = ways-step (leaves_at es row) s (λ t. ways (row_turns es row) (Some s) t.context path) (λ t w. leaves-step es row s t w)
+      (row_turns es row c s.group)
 
   -- a row that is spread goes wherever its elements are written
   pub told-spread : ((c : Context) (group : Option Group) → turns es c group ≡ row_turns es row c group) → (last : Option Step) (c : Context) (path : List Step)
       → told_along es last c path row ≡ flat_map (leaves_at es row) (ways (row_turns es row) last c path)
   told-spread same last c [] = told-here last c
   told-spread same last c (s ∷ path) =
-      flat_map-same (λ (t : Turn). map (under s t) (told_along es (Some s) t.context path row)) (λ (t : Turn). map (under s t) (flat_map (leaves_at es row) (ways (row_turns es row) (Some s) t.context path)))
+      flat_map-same (λ (t : Turn). map (under s t) (told_along es (Some s) t.context path row))
+      (λ (t : Turn). map (under s t) (flat_map (leaves_at es row) (ways (row_turns es row) (Some s) t.context path)))
       (λ t. ap (map (under s t)) (told-spread same (Some s) t.context path)) (turns es c s.group)
-      ∙ (ap (flat_map (λ (t : Turn). map (under s t) (flat_map (leaves_at es row) (ways (row_turns es row) (Some s) t.context path)))) (same c s.group) ∙ sym (row-step last c s path))
+      ∙ (ap (flat_map (λ (t : Turn). map (under s t) (flat_map (leaves_at es row) (ways (row_turns es row) (Some s) t.context path)))) (same c s.group) ∙
+      sym (row-step last c s path))
 
   -- Where a group of the row's stands nowhere in a context, the row writes nothing below it.
   abbrev HushBy : Option Group → Context → Bool → (Context → Type 0) → Type 0
   HushBy None c w further = further c
-  HushBy (Some f) c w further = (is_own row f ≡ true) × ((group_turns es c.outer f ≡ [] → w ≡ false) × ((t : Turn) → In t (group_turns es c.outer f) → further t.context))
+  HushBy (Some f) c w further = (is_own row f ≡ true) ×
+      ((group_turns es c.outer f ≡ [] → w ≡ false) × ((t : Turn) → In t (group_turns es c.outer f) → further t.context))
 
   abbrev Hush : List Step → Context → Type 0
   Hush [] c = Unit {0}
   Hush (s ∷ path) c = HushBy s.group c (writes_below es path row c) (λ d. Hush path d)
 
-  pub told-own : (last : Option Step) (c : Context) (path : List Step) → Hush path c → told_along es last c path row ≡ flat_map (leaves_at es row) (ways (row_turns es row) last c path)
+  pub told-own : (last : Option Step) (c : Context) (path : List Step) → Hush path c →
+      told_along es last c path row ≡ flat_map (leaves_at es row) (ways (row_turns es row) last c path)
   told-own last c [] h = told-here last c
   told-own last c (s ∷ path) h = go s.group (λ d k. told-own (Some s) d path k) h ∙ sym (row-step last c s path)
     where
@@ -154,14 +167,16 @@ module _ (es : List Entry) (row : Row) (term : Term) (content : row.content ≡ 
       new : Turn → List Leaf
       new t = map (under s t) (flat_map (leaves_at es row) (ways (row_turns es row) (Some s) t.context path))
 
-      go : (group : Option Group) → ((d : Context) → Hush path d → told_along es (Some s) d path row ≡ flat_map (leaves_at es row) (ways (row_turns es row) (Some s) d path))
+      go : (group : Option Group) → ((d : Context) → Hush path d →
+          told_along es (Some s) d path row ≡ flat_map (leaves_at es row) (ways (row_turns es row) (Some s) d path))
           → HushBy group c (writes_below es path row c) (λ d. Hush path d)
           → flat_map (λ (t : Turn). map (under s t) (told_along es (Some s) t.context path row)) (turns es c group)
           ≡ flat_map (λ (t : Turn). map (under s t) (flat_map (leaves_at es row) (ways (row_turns es row) (Some s) t.context path))) (row_turns es row c group)
       go None ih h = ap (λ l. map (under s (record { occurrence = 1; context = c })) l ++ []) (ih c h)
       go (Some f) ih h =
           by (group_turns es c.outer f) refl
-          ∙ ap (λ b. flat_map (λ (t : Turn). map (under s t) (flat_map (leaves_at es row) (ways (row_turns es row) (Some s) t.context path))) (row-by b)) (sym h.0)
+          ∙ ap (λ b. flat_map (λ (t : Turn). map (under s t) (flat_map (leaves_at es row) (ways (row_turns es row) (Some s) t.context path))) (row-by b))
+          (sym h.0)
         where
           row-by : Bool → List Turn
           row-by true = group_turns es c.outer f
@@ -169,16 +184,19 @@ module _ (es : List Entry) (row : Row) (term : Term) (content : row.content ≡ 
 
           by : (ts : List Turn) → group_turns es c.outer f ≡ ts
               → flat_map (λ (t : Turn). map (under s t) (told_along es (Some s) t.context path row)) (or_once c (group_turns es c.outer f))
-              ≡ flat_map (λ (t : Turn). map (under s t) (flat_map (leaves_at es row) (ways (row_turns es row) (Some s) t.context path))) (group_turns es c.outer f)
+              ≡ flat_map (λ (t : Turn). map (under s t) (flat_map (leaves_at es row) (ways (row_turns es row) (Some s) t.context path)))
+              (group_turns es c.outer f)
           by [] e =
               ap (λ ts. flat_map (λ (t : Turn). map (under s t) (told_along es (Some s) t.context path row)) (or_once c ts)) e
-              ∙ (ap (λ l. map (under s (record { occurrence = 1; context = c })) l ++ []) (none-of (told_along es (Some s) c path row) (told_along-some es (Some s) c path row ∙ h.1.0 e))
+              ∙ (ap (λ l. map (under s (record { occurrence = 1; context = c })) l ++ [])
+              (none-of (told_along es (Some s) c path row) (told_along-some es (Some s) c path row ∙ h.1.0 e))
               ∙ ap (flat_map (λ (t : Turn). map (under s t) (flat_map (leaves_at es row) (ways (row_turns es row) (Some s) t.context path)))) (sym e))
           by (t ∷ ts) e =
               ap (λ us. flat_map (λ (t : Turn). map (under s t) (told_along es (Some s) t.context path row)) (or_once c us)) e
               ∙ (flat_map-each (λ (t : Turn). map (under s t) (told_along es (Some s) t.context path row))
               (λ (t : Turn). map (under s t) (flat_map (leaves_at es row) (ways (row_turns es row) (Some s) t.context path))) (t ∷ ts)
-              (each-of_in (λ (u : Turn). map (under s u) (told_along es (Some s) u.context path row) ≡ map (under s u) (flat_map (leaves_at es row) (ways (row_turns es row) (Some s) u.context path))) (t ∷ ts)
+              (each-of_in (λ (u : Turn). map (under s u) (told_along es (Some s) u.context path row) ≡ map (under s u)
+              (flat_map (leaves_at es row) (ways (row_turns es row) (Some s) u.context path))) (t ∷ ts)
               (λ u k. ap (map (under s u)) (ih u.context (h.1.1 u (subst (In u) (sym e) k)))))
               ∙ ap (flat_map (λ (t : Turn). map (under s t) (flat_map (leaves_at es row) (ways (row_turns es row) (Some s) t.context path)))) (sym e))
 
@@ -229,7 +247,8 @@ module _ (es : List Entry) (row : Row) (term : Term) (content : row.content ≡ 
       go None ih e = ih c e
       go (Some g) ih e = absurd (not-empty g (groups_of path) e)
 
-  below-one : (g : Group) (path : List Step) (c : Context) → groups_of path ≡ g ∷ [] → ((d : Context) → In d (spots es c (Some g)) → writes_entry row es d ≡ false) → writes_below es path row c ≡ false
+  below-one : (g : Group) (path : List Step) (c : Context) → groups_of path ≡ g ∷ [] →
+      ((d : Context) → In d (spots es c (Some g)) → writes_entry row es d ≡ false) → writes_below es path row c ≡ false
   below-one g [] c e h = absurd (not-empty g [] (sym e))
   below-one g (s ∷ path) c e h = go s.group (λ k. below-one g path c k h) e
     where
@@ -242,7 +261,8 @@ module _ (es : List Entry) (row : Row) (term : Term) (content : row.content ≡ 
           any-alike (writes_below es path row) (λ d. false) (spots es c (Some f)) (each-of_in (λ d. writes_below es path row d ≡ false) (spots es c (Some f))
           (λ d k. free-writes path d free ∙ h d (subst (λ x. In d (spots es c (Some x))) same k))) ∙ any-never (spots es c (Some f))
 
-  one-hush : (f : Group) (path : List Step) (c : Context) → groups_of path ≡ f ∷ [] → is_own row f ≡ true → writes_entry row es c ≡ false → Hush es row term content path c
+  one-hush : (f : Group) (path : List Step) (c : Context) → groups_of path ≡ f ∷ [] → is_own row f ≡ true → writes_entry row es c ≡ false →
+      Hush es row term content path c
   one-hush f [] c e o h = tt
   one-hush f (s ∷ path) c e o h = go s.group (λ k. one-hush f path c k o h) e
     where
@@ -255,7 +275,8 @@ module _ (es : List Entry) (row : Row) (term : Term) (content : row.content ≡ 
           (subst (λ x. is_own row x ≡ true) (sym same) o, ((λ k. free-writes path c free ∙ h), (λ t k. free-hush path t.context free)))
 
   two-hush : (f g : Group) (path : List Step) (c : Context) → groups_of path ≡ f ∷ (g ∷ []) → is_own row f ≡ true → is_own row g ≡ true
-      → ((d : Context) → In d (spots es c (Some g)) → writes_entry row es d ≡ false) → ((t : Turn) → In t (group_turns es c.outer f) → writes_entry row es t.context ≡ false)
+      → ((d : Context) → In d (spots es c (Some g)) → writes_entry row es d ≡ false) →
+      ((t : Turn) → In t (group_turns es c.outer f) → writes_entry row es t.context ≡ false)
       → Hush es row term content path c
   two-hush f g [] c e o q h k = tt
   two-hush f g (s ∷ path) c e o q h k = go s.group (λ m. two-hush f g path c m o q h k) e
@@ -272,7 +293,8 @@ module _ (es : List Entry) (row : Row) (term : Term) (content : row.content ≡ 
 
 -- ---- rows that fit
 
-module _ (es : List Entry) (placed : list_all is_placed es ≡ true) (row : Row) (term : Term) (content : row.content ≡ contents.Term term) (apart : is_kept_apart row term ≡ true)
+module _ (es : List Entry) (placed : list_all is_placed es ≡ true) (row : Row) (term : Term) (content : row.content ≡ contents.Term term)
+    (apart : is_kept_apart row term ≡ true)
     (filler : is_filler_kept row row.written ≡ true) where
   silent : (c : Context) → context_for row c ≡ c → IsReachable row.outer row.inner c → (IsAtGroups row.outer row.inner c → ⊥) → writes_entry row es c ≡ false
   silent c own reach never = row-silent es placed row term c content apart filler own reach never
@@ -291,17 +313,22 @@ module _ (es : List Entry) (placed : list_all is_placed es ≡ true) (row : Row)
   silent-outer : (f g : Group) (slot : Slot) → row.outer ≡ Some f → row.inner ≡ Some g → slot_group (Some slot) ≡ row.outer ⊎ slot_group (Some slot) ≡ row.inner
       → writes_entry row es (record { outer = Some slot; inner = None }) ≡ false
   silent-outer f g slot o i (inl e) =
-      silent (record { outer = Some slot; inner = None }) (λ z. record { outer = slot_for (o z) (Some slot); inner = slot_for (i z) None }) (inr (inr (inl (e, refl)))) (λ at. no-slot g row.inner at.1 i)
+      silent (record { outer = Some slot; inner = None }) (λ z. record { outer = slot_for (o z) (Some slot); inner = slot_for (i z) None })
+      (inr (inr (inl (e, refl)))) (λ at. no-slot g row.inner at.1 i)
   silent-outer f g slot o i (inr e) =
-      silent (record { outer = Some slot; inner = None }) (λ z. record { outer = slot_for (o z) (Some slot); inner = slot_for (i z) None }) (inr (inr (inr (e, refl)))) (λ at. no-slot g row.inner at.1 i)
+      silent (record { outer = Some slot; inner = None }) (λ z. record { outer = slot_for (o z) (Some slot); inner = slot_for (i z) None })
+      (inr (inr (inr (e, refl)))) (λ at. no-slot g row.inner at.1 i)
 
   own-outer : (f : Group) → row.outer ≡ Some f → is_own row f ≡ true
-  own-outer f o = ap (λ x. same_or_none x (Some f) || same_or_none row.inner (Some f)) o ∙ ap (λ b. b || same_or_none row.inner (Some f)) (group-itself (Some f))
+  own-outer f o = ap (λ x. same_or_none x (Some f) || same_or_none row.inner (Some f)) o ∙
+      ap (λ b. b || same_or_none row.inner (Some f)) (group-itself (Some f))
 
   own-inner : (g : Group) → row.inner ≡ Some g → is_own row g ≡ true
-  own-inner g i = ap (λ x. same_or_none row.outer (Some g) || same_or_none x (Some g)) i ∙ (ap (λ b. same_or_none row.outer (Some g) || b) (group-itself (Some g)) ∙ or-true (same_or_none row.outer (Some g)))
+  own-inner g i = ap (λ x. same_or_none row.outer (Some g) || same_or_none x (Some g)) i ∙
+      (ap (λ b. same_or_none row.outer (Some g) || b) (group-itself (Some g)) ∙ or-true (same_or_none row.outer (Some g)))
 
-  own-hush : (o i : Option Group) → row.outer ≡ o → row.inner ≡ i → groups_of row.path ≡ listed o ++ listed i → (is_some o || is_none i) ≡ true → Hush es row term content row.path root_context
+  own-hush : (o i : Option Group) → row.outer ≡ o → row.inner ≡ i → groups_of row.path ≡ listed o ++ listed i → (is_some o || is_none i) ≡ true →
+      Hush es row term content row.path root_context
   own-hush None None o i e n = free-hush es row term content row.path root_context e
   own-hush None (Some g) o i e n = absurd (false≢true n)
   own-hush (Some f) None o i e n = one-hush es row term content f row.path root_context e (own-outer f o) (silent-root f o)
@@ -313,7 +340,8 @@ module _ (es : List Entry) (placed : list_all is_placed es ≡ true) (row : Row)
           by : (d ≡ root_context) ⊎ In d (outer_spots g (outer_count es g)) → writes_entry row es d ≡ false
           by (inl q) = ap (writes_entry row es) q ∙ silent-root f o
           by (inr q) =
-              let w = in-map-is (λ (k : ℕ). record { outer = Some (record { group = g; index = k }); inner = None }) d (range_with_len 1 (outer_count es g)) q in
+              let w = in-map-is (λ (k : ℕ). record { outer = Some (record { group = g; index = k }); inner = None }) d
+              (range_with_len 1 (outer_count es g)) q in
               ap (writes_entry row es) w.1 ∙ silent-outer f g (record { group = g; index = w.0 }) o i (inr (sym i))
 
       turned : (t : Turn) → In t (group_turns es None f) → writes_entry row es t.context ≡ false
@@ -358,4 +386,5 @@ row-told es placed row term content h = by (or-either (is_spread_over row) (is_o
         let b = both-true (is_some row.outer || is_none row.inner) _ a.1 in
         let k = both-true (is_kept_apart row term) (is_filler_kept row row.written) b.1 in
         told-own es row term content None root_context row.path
-        (own-hush es placed row term content k.0 k.1 row.outer row.inner refl refl (pointwise-sound same_group group-sound (groups_of row.path) (listed row.outer ++ listed row.inner) a.0) b.0)
+        (own-hush es placed row term content k.0 k.1 row.outer row.inner refl refl
+        (pointwise-sound same_group group-sound (groups_of row.path) (listed row.outer ++ listed row.inner) a.0) b.0)

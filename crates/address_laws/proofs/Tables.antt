@@ -43,7 +43,8 @@ both false b e f = e
 
 pub addressed : (which : Which) → is_addressed (rows_of which) ≡ true
 addressed variants.Invoice = both (list_all row_fits invoice_rows) (constants_fit true false (plan_of invoice_rows)) invoice-rows invoice-constants
-addressed variants.CreditNote = both (list_all row_fits credit_note_rows) (constants_fit true false (plan_of credit_note_rows)) credit_note-rows credit_note-constants
+addressed variants.CreditNote = both (list_all row_fits credit_note_rows)
+    (constants_fit true false (plan_of credit_note_rows)) credit_note-rows credit_note-constants
 addressed variants.Cii = both (list_all row_fits cii_rows) (constants_fit true false (plan_of cii_rows)) cii-rows cii-constants
 
 pub laid : is_laid invoice_rows ≡ true → is_laid credit_note_rows ≡ true → is_laid cii_rows ≡ true → (which : Which) → is_laid (rows_of which) ≡ true

@@ -31,9 +31,11 @@ abbrev by_outer : List Entry → Group → Option Slot → List Context
 by_outer es group None = outer_spots group (outer_count es group)
 by_outer es group (Some outer) = inner_spots outer group (inner_count es outer group)
 
-group-contexts : (es : List Entry) (outer : Option Slot) (c : Context) (group : Group) → c.outer ≡ outer → map context_of (group_turns es outer group) ≡ spots_of es c group
+group-contexts : (es : List Entry) (outer : Option Slot) (c : Context) (group : Group) → c.outer ≡ outer →
+    map context_of (group_turns es outer group) ≡ spots_of es c group
 group-contexts es None c group e = map-map context_of (turn_of None group) (range_with_len 1 (outer_count es group)) ∙ ap (by_outer es group) (sym e)
-group-contexts es (Some outer) c group e = map-map context_of (turn_of (Some outer) group) (range_with_len 1 (inner_count es outer group)) ∙ ap (by_outer es group) (sym e)
+group-contexts es (Some outer) c group e = map-map context_of (turn_of (Some outer) group) (range_with_len 1 (inner_count es outer group)) ∙
+    ap (by_outer es group) (sym e)
 
 pub turn-contexts : (es : List Entry) (c : Context) (group : Option Group) → map context_of (turns es c group) ≡ spots es c group
 turn-contexts es c None = refl

@@ -18,7 +18,8 @@ use Rattle.bind_table.specs.Laid.{element_numbers, are_distinct}
 use Rattle.bind_meaning.specs.Writing.{row_text, term_text, context_for, writes_entry}
 use Rattle.binding_laws.proofs.TreeLemmas.{Each, each-append}
 use Rattle.binding_laws.proofs.ListLemmas.{append-nil, flat_map-flat_map}
-use Rattle.address_laws.specs.AddressTrees.{Place, Leaf, Said, a_currency, a_mark, same_place, inside, behind_at, firsts, first_at, first_of, calls_for, where_so, said_here, said_at_end}
+use Rattle.address_laws.specs.AddressTrees.{Place, Leaf, Said, a_currency, a_mark, same_place, inside, behind_at, firsts, first_at, first_of, calls_for}
+use Rattle.address_laws.specs.AddressTrees.{where_so, said_here, said_at_end}
 use Rattle.address_laws.specs.Addresses.{Turn, turns, leaf_at, under, said_of_row, said_with, said_by, currencies_of, currencies_at, holder, is_some_of}
 use Rattle.address_laws.proofs.Orders.{In}
 use Rattle.address_laws.proofs.Items.{Item, tails, HasLine, HasFirst, ends_of, end_of, end_at}
@@ -59,7 +60,8 @@ module _ (es : List Entry) where
   abbrev pub own_along : List Item → Bool → Bool → Option Step → Context → List Step → Row → List Leaf
   own_along items above here last c [] row = map (leaf_at []) (own_said row.content above here last c row)
   own_along items above here last c (s ∷ path) row =
-      flat_map (λ (t : Turn). map (under s t) (own_along (tails s.number items) here (further (tails s.number items) here s t) (Some s) t.context path row)) (turns es c s.group)
+      flat_map (λ (t : Turn). map (under s t) (own_along (tails s.number items) here (further (tails s.number items) here s t) (Some s) t.context path row))
+      (turns es c s.group)
 
   abbrev pub marked : Option Step → Context → List Step → List Leaf
   marked last c [] = mark_of last
@@ -92,9 +94,12 @@ module _ (es : List Entry) where
       go true = refl
       go false = refl
 
-  module _ (c : Context) (plan : Plan) (distinct : are_distinct (element_numbers plan) ≡ true) (s : Step) (has : HasLine s plan) (t : Turn) (among : In t (turns es c s.group)) where
-    pub told-inside : (last : Option Step) (items : List Item) → Each (HasFirst plan) items → inside (place_of s t) (told last c items) ≡ told (Some s) t.context (tails s.number items)
-    told-inside last items first = items-inside es c plan distinct s has t among (told_front last c) (λ v r path cell. told_along (Some v) r.context path cell.row)
+  module _ (c : Context) (plan : Plan) (distinct : are_distinct (element_numbers plan) ≡ true) (s : Step) (has : HasLine s plan) (t : Turn)
+      (among : In t (turns es c s.group)) where
+    pub told-inside : (last : Option Step) (items : List Item) → Each (HasFirst plan) items →
+        inside (place_of s t) (told last c items) ≡ told (Some s) t.context (tails s.number items)
+    told-inside last items first = items-inside es c plan distinct s has t among (told_front last c)
+        (λ v r path cell. told_along (Some v) r.context path cell.row)
         (λ path cell. told_along last c path cell.row) (λ path cell. empty path cell) (λ cell. refl) (λ u path cell. refl) items first
       where
         empty : (path : List Step) (cell : Cell) → inside (place_of s t) (told_front last c path cell) ≡ []
@@ -111,12 +116,14 @@ module _ (es : List Entry) where
         empty [] cell = inside-here (place_of s t) (own_said cell.row.content above here last c cell.row)
         empty (u ∷ path) cell = refl
 
-    marked-inside : (last : Option Step) (items : List Item) → Each (HasFirst plan) items → inside (place_of s t) (all_marked items last c) ≡ all_marked (tails s.number items) (Some s) t.context
+    marked-inside : (last : Option Step) (items : List Item) → Each (HasFirst plan) items →
+        inside (place_of s t) (all_marked items last c) ≡ all_marked (tails s.number items) (Some s) t.context
     marked-inside last items first = items-inside es c plan distinct s has t among (λ path cell. mark_of last) (λ v r path cell. marked (Some v) r.context path)
         (λ path cell. marked last c path) (λ path cell. mark-outside (place_of s t) last) (λ cell. refl) (λ u path cell. refl) items first
 
     pub all-inside : (above here : Bool) (last : Option Step) (items : List Item) → Each (HasFirst plan) items
-        → inside (place_of s t) (all_leaves items above here last c) ≡ all_leaves (tails s.number items) here (further (tails s.number items) here s t) (Some s) t.context
+        → inside (place_of s t) (all_leaves items above here last c) ≡ all_leaves (tails s.number items) here (further (tails s.number items) here s t)
+        (Some s) t.context
     all-inside above here last items first =
         inside-append (place_of s t) (own items above here last c) (all_marked items last c)
         ∙ (ap (λ l. l ++ inside (place_of s t) (all_marked items last c)) (own-inside above here last items first)
@@ -149,16 +156,19 @@ module _ {A : Type 0} (of : Said → List A) where
     abbrev pub cell_says : Cell → List A
     cell_says cell = flat_map of (own_said es cell.row.content above here last c cell.row)
 
-    own-says : (is : List Item) → said_here of (flat_map (λ (i : Item). own_along es items above here last c i.path i.cell.row) is) ≡ flat_map cell_says (ends_of is)
+    own-says : (is : List Item) → said_here of (flat_map (λ (i : Item). own_along es items above here last c i.path i.cell.row) is) ≡ flat_map cell_says
+        (ends_of is)
     own-says [] = refl
     own-says (i ∷ is) =
-        said-append (own_along es items above here last c i.path i.cell.row) (flat_map (λ (j : Item). own_along es items above here last c j.path j.cell.row) is)
+        said-append (own_along es items above here last c i.path i.cell.row)
+        (flat_map (λ (j : Item). own_along es items above here last c j.path j.cell.row) is)
         ∙ (ap (λ l. l ++ said_here of (flat_map (λ (j : Item). own_along es items above here last c j.path j.cell.row) is)) (one i.path i.cell)
         ∙ (ap (λ l. flat_map cell_says (end_of i) ++ l) (own-says is) ∙ sym (flat_map-append cell_says (end_of i) (ends_of is))))
       where
         one : (path : List Step) (cell : Cell) → said_here of (own_along es items above here last c path cell.row) ≡ flat_map cell_says (end_at path cell)
         one [] cell = said-leaves (own_said es cell.row.content above here last c cell.row) ∙ sym (append-nil (cell_says cell))
-        one (s ∷ path) cell = said-turns s (λ t. own_along es (tails s.number items) here (further es (tails s.number items) here s t) (Some s) t.context path cell.row) (turns es c s.group)
+        one (s ∷ path) cell = said-turns s (λ t. own_along es (tails s.number items) here (further es (tails s.number items) here s t)
+            (Some s) t.context path cell.row) (turns es c s.group)
 
     mark-says : of a_mark ≡ [] → (last' : Option Step) → said_here of (mark_of last') ≡ []
     mark-says e None = refl
@@ -184,7 +194,8 @@ module _ {A : Type 0} (of : Said → List A) where
     pub all-says : of a_mark ≡ [] → said_here of (all_leaves es items above here last c) ≡ flat_map cell_says (ends_of items)
     all-says e =
         said-append (own es items above here last c) (all_marked es items last c)
-        ∙ (ap (λ l. said_here of (own es items above here last c) ++ l) (all_marked-says e items) ∙ (append-nil (said_here of (own es items above here last c)) ∙ own-says items))
+        ∙ (ap (λ l. said_here of (own es items above here last c) ++ l) (all_marked-says e items) ∙
+        (append-nil (said_here of (own es items above here last c)) ∙ own-says items))
 
 -- ---- which elements are called for
 
@@ -196,9 +207,11 @@ present-is p [] = refl
 present-is p (leaf ∷ ls) =
     any-append (same_place p) (first_of leaf) (firsts ls)
     ∙ (ap (λ b. b || list_any (same_place p) (firsts ls)) (one leaf.address leaf.said)
-    ∙ (ap (λ b. list_any calls (behind_at p leaf.address leaf.said) || b) (present-is p ls) ∙ sym (any-append calls (behind_at p leaf.address leaf.said) (inside p ls))))
+    ∙ (ap (λ b. list_any calls (behind_at p leaf.address leaf.said) || b) (present-is p ls) ∙
+    sym (any-append calls (behind_at p leaf.address leaf.said) (inside p ls))))
   where
-    both : (a b : Bool) (q : Place) (rest : List Place) (said : Said) → calls_for said rest ≡ a → same_place p q ≡ b → list_any (same_place p) (where_so a q) ≡ list_any calls (where_so b (record { address = rest; said = said }))
+    both : (a b : Bool) (q : Place) (rest : List Place) (said : Said) → calls_for said rest ≡ a → same_place p q ≡ b →
+        list_any (same_place p) (where_so a q) ≡ list_any calls (where_so b (record { address = rest; said = said }))
     both true true q rest said e f = ap (λ x. x || false) (f ∙ sym e)
     both true false q rest said e f = ap (λ x. x || false) f
     both false true q rest said e f = sym (ap (λ x. x || false) e)
@@ -224,7 +237,8 @@ each-flat_map : {A B : Type 0} (P : B → Type 0) (f : A → List B) (xs : List 
 each-flat_map P f [] h = tt
 each-flat_map P f (x ∷ xs) h = each-append P (f x) (flat_map f xs) (h x) (each-flat_map P f xs h)
 
-each-under : (P : Said → Type 0) (s : Step) (t : Turn) (ls : List Leaf) → Each (λ (leaf : Leaf). P leaf.said) ls → Each (λ (leaf : Leaf). P leaf.said) (map (under s t) ls)
+each-under : (P : Said → Type 0) (s : Step) (t : Turn) (ls : List Leaf) → Each (λ (leaf : Leaf). P leaf.said) ls →
+    Each (λ (leaf : Leaf). P leaf.said) (map (under s t) ls)
 each-under P s t [] h = tt
 each-under P s t (leaf ∷ ls) h = (h.0, each-under P s t ls h.1)
 
@@ -270,17 +284,21 @@ module _ (es : List Entry) where
       go true = (by-firm row.leaf text, tt)
       go false = tt
 
-  own-firm : (items : List Item) (above here : Bool) (last : Option Step) (c : Context) (path : List Step) (row : Row) → Each (λ (leaf : Leaf). Firm leaf.said) (own_along es items above here last c path row)
+  own-firm : (items : List Item) (above here : Bool) (last : Option Step) (c : Context) (path : List Step) (row : Row) →
+      Each (λ (leaf : Leaf). Firm leaf.said) (own_along es items above here last c path row)
   own-firm items above here last c [] row = each-here Firm (own_said es row.content above here last c row) (said-firm row.content above here last c row)
   own-firm items above here last c (s ∷ path) row =
-      each-flat_map (λ (leaf : Leaf). Firm leaf.said) (λ (t : Turn). map (under s t) (own_along es (tails s.number items) here (further es (tails s.number items) here s t) (Some s) t.context path row))
-      (turns es c s.group) (λ t. each-under Firm s t _ (own-firm (tails s.number items) here (further es (tails s.number items) here s t) (Some s) t.context path row))
+      each-flat_map (λ (leaf : Leaf). Firm leaf.said)
+      (λ (t : Turn). map (under s t) (own_along es (tails s.number items) here (further es (tails s.number items) here s t) (Some s) t.context path row))
+      (turns es c s.group) (λ t. each-under Firm s t _ (own-firm (tails s.number items) here (further es (tails s.number items) here s t)
+      (Some s) t.context path row))
 
   pub own-calls : (items : List Item) (above here : Bool) (last : Option Step) (c : Context)
       → list_any calls (own es items above here last c) ≡ list_any (λ (i : Item). is_some_of (own_along es items above here last c i.path i.cell.row)) items
   own-calls items above here last c =
       any-flat_map calls (λ (i : Item). own_along es items above here last c i.path i.cell.row) items
-      ∙ any-same (λ (i : Item). list_any calls (own_along es items above here last c i.path i.cell.row)) (λ (i : Item). is_some_of (own_along es items above here last c i.path i.cell.row))
+      ∙ any-same (λ (i : Item). list_any calls (own_along es items above here last c i.path i.cell.row))
+      (λ (i : Item). is_some_of (own_along es items above here last c i.path i.cell.row))
       (λ i. calls-firm (own_along es items above here last c i.path i.cell.row) (own-firm items above here last c i.path i.cell.row)) items
 
   -- marks
@@ -307,7 +325,8 @@ module _ (es : List Entry) where
   under-silent s t [] h = refl
   under-silent s t (leaf ∷ ls) h = ap (λ x. calls_for x (place_of s t ∷ leaf.address) || list_any calls (map (under s t) ls)) h.0 ∙ under-silent s t ls h.1
 
-  turns-silent : (s : Step) (f : Turn → List Leaf) (ts : List Turn) → ((t : Turn) → Each (λ (leaf : Leaf). leaf.said ≡ a_mark) (f t)) → list_any calls (flat_map (λ t. map (under s t) (f t)) ts) ≡ false
+  turns-silent : (s : Step) (f : Turn → List Leaf) (ts : List Turn) → ((t : Turn) → Each (λ (leaf : Leaf). leaf.said ≡ a_mark) (f t)) →
+      list_any calls (flat_map (λ t. map (under s t) (f t)) ts) ≡ false
   turns-silent s f [] h = refl
   turns-silent s f (t ∷ ts) h =
       any-append calls (map (under s t) (f t)) (flat_map (λ t. map (under s t) (f t)) ts)
@@ -317,7 +336,8 @@ module _ (es : List Entry) where
   marked-calls last c [] = refl
   marked-calls last c (s ∷ path) =
       any-append calls (mark_of last) (flat_map (λ (t : Turn). map (under s t) (marked es (Some s) t.context path)) (turns es c s.group))
-      ∙ (ap (λ b. list_any calls (mark_of last) || b) (turns-silent s (λ t. marked es (Some s) t.context path) (turns es c s.group) (λ t. marked-marks (Some s) t.context path))
+      ∙ (ap (λ b. list_any calls (mark_of last) || b) (turns-silent s (λ t. marked es (Some s) t.context path) (turns es c s.group)
+      (λ t. marked-marks (Some s) t.context path))
       ∙ or-false (list_any calls (mark_of last)))
 
   one-mark : (s : Step) → list_any calls (mark_of (Some s)) ≡ s.always
@@ -339,7 +359,8 @@ module _ (es : List Entry) where
   pub all_marked-calls : (s : Step) (c : Context) (items : List Item) → (items ≡ [] → ⊥) → list_any calls (all_marked es items (Some s) c) ≡ s.always
   all_marked-calls s c items h =
       any-flat_map calls (λ (i : Item). marked es (Some s) c i.path) items
-      ∙ (any-same (λ (i : Item). list_any calls (marked es (Some s) c i.path)) (λ (i : Item). s.always) (λ i. marked-calls (Some s) c i.path ∙ one-mark s) items ∙ all_of s.always items h)
+      ∙ (any-same (λ (i : Item). list_any calls (marked es (Some s) c i.path)) (λ (i : Item). s.always) (λ i. marked-calls (Some s) c i.path ∙ one-mark s) items
+      ∙ all_of s.always items h)
 
   -- ---- leaves of terms
 
@@ -365,15 +386,19 @@ module _ (es : List Entry) where
       go (contents.Term term) e = with-some row last (row_text row es c)
       go (contents.Constant text) e = sym (constant-silent row text c e)
 
-  pub told_along-some : (last : Option Step) (c : Context) (path : List Step) (row : Row) → is_some_of (told_along es last c path row) ≡ writes_below es path row c
+  pub told_along-some : (last : Option Step) (c : Context) (path : List Step) (row : Row) →
+      is_some_of (told_along es last c path row) ≡ writes_below es path row c
   told_along-some last c [] row = some-map (leaf_at []) (told_said es row.content last c row) ∙ said-some last c row
   told_along-some last c (s ∷ path) row =
       some-each (λ (t : Turn). map (under s t) (told_along es (Some s) t.context path row)) (turns es c s.group)
       ∙ (any-same (λ (t : Turn). is_some_of (map (under s t) (told_along es (Some s) t.context path row))) (λ (t : Turn). writes_below es path row t.context)
       (λ t. some-map (under s t) (told_along es (Some s) t.context path row) ∙ told_along-some (Some s) t.context path row) (turns es c s.group)
-      ∙ (sym (any-map (writes_below es path row) (λ (t : Turn). t.context) (turns es c s.group)) ∙ ap (list_any (writes_below es path row)) (turn-contexts es c s.group)))
+      ∙ (sym (any-map (writes_below es path row) (λ (t : Turn). t.context) (turns es c s.group)) ∙
+      ap (list_any (writes_below es path row)) (turn-contexts es c s.group)))
 
-  pub told-some : (last : Option Step) (c : Context) (items : List Item) → is_some_of (told es last c items) ≡ list_any (λ (i : Item). writes_below es i.path i.cell.row c) items
+  pub told-some : (last : Option Step) (c : Context) (items : List Item) →
+      is_some_of (told es last c items) ≡ list_any (λ (i : Item). writes_below es i.path i.cell.row c) items
   told-some last c items =
       some-each (λ (i : Item). told_along es last c i.path i.cell.row) items
-      ∙ any-same (λ (i : Item). is_some_of (told_along es last c i.path i.cell.row)) (λ (i : Item). writes_below es i.path i.cell.row c) (λ i. told_along-some last c i.path i.cell.row) items
+      ∙ any-same (λ (i : Item). is_some_of (told_along es last c i.path i.cell.row)) (λ (i : Item). writes_below es i.path i.cell.row c)
+      (λ i. told_along-some last c i.path i.cell.row) items

@@ -143,7 +143,8 @@ holder false here above = above
 -- entry where a leaf of one is in it.
 abbrev pub is_held : List (List Step) → List Leaf → Bool → List Place → Bool
 is_held paths told held [] = held
-is_held paths told held (p ∷ rest) = is_held (beyond p.step.number paths) (inside p told) (holder (is_some_of (beyond p.step.number paths)) (is_some_of (inside p told)) held) rest
+is_held paths told held (p ∷ rest) = is_held (beyond p.step.number paths) (inside p told)
+    (holder (is_some_of (beyond p.step.number paths)) (is_some_of (inside p told)) held) rest
 
 abbrev pub but_last : List Place → List Place
 but_last [] = []

@@ -22,7 +22,13 @@ use Rattle.bind_rows.specs.declared.rows.Check.TheVariants as checks
 -- ---- elements
 
 abbrev pub a_step : ℕ → List ℕ → Bool → Option Group → Step
-a_step number local always group = record { name = record { namespace = spaces.UblInvoice; local = local }; number = number; always = always; group = group; guards = [] }
+a_step number local always group = record {
+  name = record { namespace = spaces.UblInvoice; local = local };
+  number = number;
+  always = always;
+  group = group;
+  guards = [];
+}
 
 abbrev pub plain : ℕ → List ℕ → Step
 plain number local = a_step number local false None
@@ -49,7 +55,18 @@ bt number = contents.Term (record { number = number; part = 0 })
 
 abbrev pub a_row : List Step → End → Option Group → Option Group → Content → Repeats → Row
 a_row path leaf outer inner content repeats =
-    record { path = path; leaf = leaf; outer = outer; inner = inner; content = content; form = forms.Model; repeats = repeats; written = written.Always; check = checks.Nothing }
+    record {
+      path = path;
+      leaf = leaf;
+      outer = outer;
+      inner = inner;
+      content = content;
+      form = forms.Model;
+      repeats = repeats;
+      written = written.Always;
+      check =
+          checks.Nothing;
+    }
 
 -- ---- entries
 
@@ -69,15 +86,19 @@ a_table =
     a_row (the_root ∷ plain 2 (codes "ID") ∷ []) leaves.Element None None (bt 1) repeat.Once
     ∷ a_row (the_root ∷ a_tax ∷ plain 5 (codes "Date") ∷ []) leaves.Element None None (bt 7) repeat.Spread
     ∷ a_row (the_root ∷ a_tax ∷ plain 6 (codes "Rate") ∷ []) leaves.Element (Some groups.VatBreakdown) None (bt 119) repeat.Once
-    ∷ a_row (the_root ∷ a_line ∷ a_charge ∷ plain 11 (codes "Reason") ∷ []) leaves.Element (Some groups.InvoiceLine) (Some groups.LineCharge) (bt 144) repeat.Once
-    ∷ a_row (the_root ∷ a_line ∷ a_charge ∷ plain 10 (codes "Indicator") ∷ []) leaves.Element (Some groups.InvoiceLine) (Some groups.LineCharge) (contents.Constant (codes "true")) repeat.Once
+    ∷ a_row (the_root ∷ a_line ∷ a_charge ∷ plain 11 (codes "Reason") ∷ []) leaves.Element (Some groups.InvoiceLine) (Some groups.LineCharge)
+    (bt 144) repeat.Once
+    ∷ a_row (the_root ∷ a_line ∷ a_charge ∷ plain 10 (codes "Indicator") ∷ []) leaves.Element (Some groups.InvoiceLine) (Some groups.LineCharge)
+    (contents.Constant (codes "true")) repeat.Once
     ∷ a_row (the_root ∷ a_line ∷ plain 8 (codes "ID") ∷ []) leaves.Element (Some groups.InvoiceLine) None (bt 126) repeat.Once
-    ∷ a_row (the_root ∷ a_step 3 (codes "Trade") true None ∷ plain 12 (codes "Agent") ∷ []) (leaves.Attribute (codes "kind")) None None (contents.Constant (codes "A")) repeat.Once
+    ∷ a_row (the_root ∷ a_step 3 (codes "Trade") true None ∷ plain 12 (codes "Agent") ∷ []) (leaves.Attribute (codes "kind")) None None
+    (contents.Constant (codes "A")) repeat.Once
     ∷ a_row (the_root ∷ a_step 3 (codes "Trade") true None ∷ plain 12 (codes "Agent") ∷ []) leaves.Element None None (bt 2) repeat.Once ∷ []
 
 abbrev pub an_invoice : List Entry
 an_invoice =
-    an_entry root_context 1 (codes "A") ∷ an_entry root_context 7 (codes "day") ∷ an_entry (outer_at groups.VatBreakdown 1) 119 (codes "20") ∷ an_entry (outer_at groups.VatBreakdown 2) 119 (codes "7")
+    an_entry root_context 1 (codes "A") ∷ an_entry root_context 7 (codes "day") ∷ an_entry (outer_at groups.VatBreakdown 1) 119 (codes "20") ∷ an_entry
+    (outer_at groups.VatBreakdown 2) 119 (codes "7")
     ∷ an_entry (outer_at groups.InvoiceLine 1) 126 (codes "l1") ∷ an_entry (inner_at groups.InvoiceLine 1 groups.LineCharge 1) 144 (codes "why")
     ∷ an_entry (inner_at groups.InvoiceLine 1 groups.LineCharge 2) 144 (codes "so") ∷ an_entry (outer_at groups.InvoiceLine 2) 126 (codes "l2") ∷ []
 
@@ -89,7 +110,8 @@ a_row_through_a_group repeats =
     ∷ a_row (the_root ∷ a_tax ∷ plain 6 (codes "Rate") ∷ []) leaves.Element (Some groups.VatBreakdown) None (bt 119) repeat.Once ∷ []
 
 abbrev pub two_rates : List Entry
-two_rates = an_entry root_context 7 (codes "day") ∷ an_entry (outer_at groups.VatBreakdown 1) 119 (codes "20") ∷ an_entry (outer_at groups.VatBreakdown 2) 119 (codes "7") ∷ []
+two_rates = an_entry root_context 7 (codes "day") ∷ an_entry (outer_at groups.VatBreakdown 1) 119 (codes "20") ∷ an_entry (outer_at groups.VatBreakdown 2) 119
+    (codes "7") ∷ []
 
 -- ---- a constant attribute of an element with a term in it, beside which another term stands
 

@@ -26,14 +26,16 @@ use ubl_binding::{credit_note_is_laid, invoice_is_laid};
 /// the address that the entry and the table's row give, the constants whose holders hold an entry, and the elements that are
 /// always written.
 pub fn documents_are_trees_of_leaves()
-    ensures { (rows : List Row) (es : List Entry) → IsInvoice es → is_laid rows ≡ true → is_addressed rows ≡ true → document_of rows es ≡ tree_of (leaves_of rows es) }
+    ensures { (rows : List Row) (es : List Entry) → IsInvoice es → is_laid rows ≡ true → is_addressed rows ≡ true →
+        document_of rows es ≡ tree_of (leaves_of rows es) }
 {}
 
 /// Each entry has its leaves: along a row that isn't spread, in whose groups it stands, what the row says of its context is a
 /// leaf at the address that its slots give.
 pub fn entries_have_their_leaves()
     ensures { (es : List Entry) (row : Row) (term : Term) (e : Entry) (said : Said) → IsInvoice es → is_own_way row term ≡ true → Contains es e
-        → slot_group e.context.outer ≡ row.outer → slot_group e.context.inner ≡ row.inner → Contains (said_of_row es row e.context (last_step None row.path)) said
+        → slot_group e.context.outer ≡ row.outer → slot_group e.context.inner ≡ row.inner →
+        Contains (said_of_row es row e.context (last_step None row.path)) said
         → Contains (entry_leaves es row) (leaf_at (address_in e.context row.path) said) }
 {}
 
@@ -60,8 +62,10 @@ pub fn other_tables_may_differ()
         × ((is_addressed (samples.a_row_through_a_group repeat.Once) ≡ false)
         × ((size (document_of (samples.a_row_through_a_group repeat.Once) samples.two_rates) ≡ 11)
         × (size (tree_of (leaves_of (samples.a_row_through_a_group repeat.Once) samples.two_rates)) ≡ 9)))) }
-    ensures constant { (first_fault samples.a_constant_attribute ≡ Ok tt) × ((is_laid samples.a_constant_attribute ≡ true) × ((is_addressed samples.a_constant_attribute ≡ false)
-        × ((size (document_of samples.a_constant_attribute samples.an_identifier) ≡ 5) × (size (tree_of (leaves_of samples.a_constant_attribute samples.an_identifier)) ≡ 3)))) }
+    ensures constant { (first_fault samples.a_constant_attribute ≡ Ok tt) ×
+        ((is_laid samples.a_constant_attribute ≡ true) × ((is_addressed samples.a_constant_attribute ≡ false)
+        × ((size (document_of samples.a_constant_attribute samples.an_identifier) ≡ 5) ×
+        (size (tree_of (leaves_of samples.a_constant_attribute samples.an_identifier)) ≡ 3)))) }
 {}
 
 /// A table with a group inside another one, a spread term, constants and an element that is always written, by which both
@@ -69,5 +73,6 @@ pub fn other_tables_may_differ()
 pub fn samples_are_trees_of_leaves()
     ensures table { (is_addressed samples.a_table ≡ true) × (size (document_of samples.a_table samples.an_invoice) ≡ 30) }
     ensures full { document_of samples.a_table samples.an_invoice ≡ tree_of (leaves_of samples.a_table samples.an_invoice) }
-    ensures spread { document_of (samples.a_row_through_a_group repeat.Spread) samples.two_rates ≡ tree_of (leaves_of (samples.a_row_through_a_group repeat.Spread) samples.two_rates) }
+    ensures spread { document_of (samples.a_row_through_a_group repeat.Spread) samples.two_rates ≡ tree_of
+        (leaves_of (samples.a_row_through_a_group repeat.Spread) samples.two_rates) }
 {}

@@ -46,8 +46,10 @@ subject-whole (a ∷ (b ∷ [])) = ends2 (is_subject_character a) (is_subject_ch
 subject-whole (a ∷ (b ∷ (c ∷ []))) = whole3 (is_subject_character a) (is_subject_character b) (is_subject_character c)
 subject-whole (a ∷ (b ∷ (c ∷ (d ∷ text)))) = ends3 (is_subject_character a) (is_subject_character b) (is_subject_character c)
 
-pub subject-turn : (text : List ℕ) (n c place : ℕ) → (n < length text) × (c ≡ get_or text n c) → subject_from place (drop n text) ≡ (fits_subject place c && subject_from (place + 1) (drop (n + 1) text))
-subject-turn text n c place h = at_drop_more (subject_from place) text n c h.0 ∙ ap (λ x. fits_subject place x && subject_from (place + 1) (drop (n + 1) text)) (sym h.1)
+pub subject-turn : (text : List ℕ) (n c place : ℕ) → (n < length text) × (c ≡ get_or text n c) →
+    subject_from place (drop n text) ≡ (fits_subject place c && subject_from (place + 1) (drop (n + 1) text))
+subject-turn text n c place h = at_drop_more (subject_from place) text n c h.0 ∙ ap (λ x. fits_subject place x && subject_from (place + 1) (drop (n + 1) text))
+    (sym h.1)
 
 pub subject-end : (text : List ℕ) (n place : ℕ) → length text ≤ n → subject_from place (drop n text) ≡ (place == 3)
 subject-end text n place h = at_drop_all (subject_from place) text n h
@@ -91,7 +93,8 @@ note-whole (f ∷ (a ∷ (b ∷ (c ∷ (l ∷ text))))) =
 pub note-turn : (text : List ℕ) (n c place : ℕ) (full : Bool) → (n < length text) × (c ≡ get_or text n c)
     → note_from place full (drop n text) ≡ (fits_note place c && note_from (next_place place) (full_at place full c) (drop (n + 1) text))
 note-turn text n c place full h =
-    at_drop_more (note_from place full) text n c h.0 ∙ ap (λ x. fits_note place x && note_from (next_place place) (full_at place full x) (drop (n + 1) text)) (sym h.1)
+    at_drop_more (note_from place full) text n c h.0 ∙ ap (λ x. fits_note place x && note_from (next_place place) (full_at place full x) (drop (n + 1) text))
+    (sym h.1)
 
 pub note-end : (text : List ℕ) (n place : ℕ) (full : Bool) → length text ≤ n → note_from place full (drop n text) ≡ full
 note-end text n place full h = at_drop_all (note_from place full) text n h

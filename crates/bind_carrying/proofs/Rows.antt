@@ -96,103 +96,331 @@ abbrev carried : List Row → Syntax → List ℕ → List ℕ
 carried table syntax bytes = elim (document limits bytes) [ Ok d ↦ by_target carrying syntax (read_by table d) | Err f ↦ [] ]
 
 -- row17-condition
-row1 : judged cii_rows syntaxes.Ubl (codes "<rsm:CrossIndustryInvoice xmlns:rsm=" ++ ((34 ∷ []) ++ (codes "urn:un:unece:uncefact:data:standard:CrossIndustryInvoice:100" ++ ((34 ∷ []) ++ (codes " xmlns:ram=" ++ ((34 ∷ []) ++ (codes "urn:un:unece:uncefact:data:standard:ReusableAggregateBusinessInformationEntity:100" ++ ((34 ∷ []) ++ (codes " xmlns:udt=" ++ ((34 ∷ []) ++ (codes "urn:un:unece:uncefact:data:standard:UnqualifiedDataType:100" ++ ((34 ∷ []) ++ (codes " xmlns:qdt=" ++ ((34 ∷ []) ++ (codes "urn:un:unece:uncefact:data:standard:QualifiedDataType:100" ++ ((34 ∷ []) ++ (codes "><rsm:ExchangedDocumentContext><ram:GuidelineSpecifiedDocumentContextParameter><ram:ID>urn:cen.eu:en16931:2017</ram:ID></ram:GuidelineSpecifiedDocumentContextParameter></rsm:ExchangedDocumentContext><rsm:ExchangedDocument><ram:ID>A1</ram:ID><ram:TypeCode>381</ram:TypeCode><ram:IssueDateTime><udt:DateTimeString format=" ++ ((34 ∷ []) ++ (codes "102" ++ ((34 ∷ []) ++ (codes ">20240501</udt:DateTimeString></ram:IssueDateTime></rsm:ExchangedDocument><rsm:SupplyChainTradeTransaction><ram:IncludedSupplyChainTradeLineItem><ram:AssociatedDocumentLineDocument><ram:LineID>1</ram:LineID></ram:AssociatedDocumentLineDocument><ram:SpecifiedTradeProduct><ram:Name>Pen</ram:Name></ram:SpecifiedTradeProduct><ram:SpecifiedLineTradeAgreement><ram:NetPriceProductTradePrice><ram:ChargeAmount>10.00</ram:ChargeAmount></ram:NetPriceProductTradePrice></ram:SpecifiedLineTradeAgreement><ram:SpecifiedLineTradeDelivery><ram:BilledQuantity unitCode=" ++ ((34 ∷ []) ++ (codes "C62" ++ ((34 ∷ []) ++ (codes ">1</ram:BilledQuantity></ram:SpecifiedLineTradeDelivery><ram:SpecifiedLineTradeSettlement><ram:ApplicableTradeTax><ram:TypeCode>VAT</ram:TypeCode><ram:CategoryCode>S</ram:CategoryCode></ram:ApplicableTradeTax><ram:SpecifiedTradeSettlementLineMonetarySummation><ram:LineTotalAmount>10.00</ram:LineTotalAmount></ram:SpecifiedTradeSettlementLineMonetarySummation></ram:SpecifiedLineTradeSettlement></ram:IncludedSupplyChainTradeLineItem><ram:ApplicableHeaderTradeAgreement><ram:SellerTradeParty><ram:Name>Seller</ram:Name><ram:PostalTradeAddress><ram:CountryID>DE</ram:CountryID></ram:PostalTradeAddress></ram:SellerTradeParty><ram:BuyerTradeParty><ram:Name>Buyer</ram:Name><ram:PostalTradeAddress><ram:CountryID>FR</ram:CountryID></ram:PostalTradeAddress></ram:BuyerTradeParty></ram:ApplicableHeaderTradeAgreement><ram:ApplicableHeaderTradeDelivery/><ram:ApplicableHeaderTradeSettlement><ram:InvoiceCurrencyCode>EUR</ram:InvoiceCurrencyCode><ram:ApplicableTradeTax><ram:CalculatedAmount>2.00</ram:CalculatedAmount><ram:TypeCode>VAT</ram:TypeCode><ram:BasisAmount>10.00</ram:BasisAmount><ram:CategoryCode>S</ram:CategoryCode></ram:ApplicableTradeTax><ram:SpecifiedTradePaymentTerms><ram:DueDateDateTime><udt:DateTimeString format=" ++ ((34 ∷ []) ++ (codes "102" ++ ((34 ∷ []) ++ (codes ">20240601</udt:DateTimeString></ram:DueDateDateTime></ram:SpecifiedTradePaymentTerms><ram:SpecifiedTradeSettlementHeaderMonetarySummation><ram:LineTotalAmount>10.00</ram:LineTotalAmount><ram:TaxBasisTotalAmount>10.00</ram:TaxBasisTotalAmount><ram:GrandTotalAmount>12.00</ram:GrandTotalAmount><ram:DuePayableAmount>12.00</ram:DuePayableAmount></ram:SpecifiedTradeSettlementHeaderMonetarySummation></ram:ApplicableHeaderTradeSettlement></rsm:SupplyChainTradeTransaction></rsm:CrossIndustryInvoice>"))))))))))))))))))))))))))))) ≡ codes "condition 6 BT-9"
-unfolding document first_fault beginning extent character_at referred reference_at is_qname comment section is_declaration instruction attribute_at tag_inside value_in_tag start_tag end_tag state_behind events_of fault_of read resume is_utf8 chars encode_utf8 is_char is_white_space is_name_start is_name_char tree_of_events read_scaled read_decimal scaled_text decimal_text read_dashed_day read_plain_day dashed_day_text value_of terms_of terms extension_rows listing_rows occurrence_of parent_of day_from first_row invoice_rows credit_note_rows cii_rows invoice_listing credit_note_listing cii_listing written_units digits last_digits
+row1 : judged cii_rows syntaxes.Ubl (codes "<rsm:CrossIndustryInvoice xmlns:rsm=" ++
+    ((34 ∷ []) ++ (codes "urn:un:unece:uncefact:data:standard:CrossIndustryInvoice:100" ++
+    ((34 ∷ []) ++ (codes " xmlns:ram=" ++
+    ((34 ∷ []) ++ (codes "urn:un:unece:uncefact:data:standard:ReusableAggregateBusinessInformationEntity:100" ++
+    ((34 ∷ []) ++ (codes " xmlns:udt=" ++
+    ((34 ∷ []) ++ (codes "urn:un:unece:uncefact:data:standard:UnqualifiedDataType:100" ++
+    ((34 ∷ []) ++ (codes " xmlns:qdt=" ++
+    ((34 ∷ []) ++ (codes "urn:un:unece:uncefact:data:standard:QualifiedDataType:100" ++
+    ((34 ∷ []) ++ (codes "><rsm:ExchangedDocumentContext><ram:GuidelineSpecifiedDocumentContextParameter><ram:ID>urn:cen.eu:en16931:2017</ram:ID></ram:GuidelineSpecifiedDocumentContextParameter></rsm:ExchangedDocumentContext><rsm:ExchangedDocument><ram:ID>A1</ram:ID><ram:TypeCode>381</ram:TypeCode><ram:IssueDateTime><udt:DateTimeString format=" ++ ((34 ∷ []) ++ (codes "102" ++ ((34 ∷ []) ++ (codes ">20240501</udt:DateTimeString></ram:IssueDateTime></rsm:ExchangedDocument><rsm:SupplyChainTradeTransaction><ram:IncludedSupplyChainTradeLineItem><ram:AssociatedDocumentLineDocument><ram:LineID>1</ram:LineID></ram:AssociatedDocumentLineDocument><ram:SpecifiedTradeProduct><ram:Name>Pen</ram:Name></ram:SpecifiedTradeProduct><ram:SpecifiedLineTradeAgreement><ram:NetPriceProductTradePrice><ram:ChargeAmount>10.00</ram:ChargeAmount></ram:NetPriceProductTradePrice></ram:SpecifiedLineTradeAgreement><ram:SpecifiedLineTradeDelivery><ram:BilledQuantity unitCode=" ++ ((34 ∷ []) ++ (codes "C62" ++ ((34 ∷ []) ++ (codes ">1</ram:BilledQuantity></ram:SpecifiedLineTradeDelivery><ram:SpecifiedLineTradeSettlement><ram:ApplicableTradeTax><ram:TypeCode>VAT</ram:TypeCode><ram:CategoryCode>S</ram:CategoryCode></ram:ApplicableTradeTax><ram:SpecifiedTradeSettlementLineMonetarySummation><ram:LineTotalAmount>10.00</ram:LineTotalAmount></ram:SpecifiedTradeSettlementLineMonetarySummation></ram:SpecifiedLineTradeSettlement></ram:IncludedSupplyChainTradeLineItem><ram:ApplicableHeaderTradeAgreement><ram:SellerTradeParty><ram:Name>Seller</ram:Name><ram:PostalTradeAddress><ram:CountryID>DE</ram:CountryID></ram:PostalTradeAddress></ram:SellerTradeParty><ram:BuyerTradeParty><ram:Name>Buyer</ram:Name><ram:PostalTradeAddress><ram:CountryID>FR</ram:CountryID></ram:PostalTradeAddress></ram:BuyerTradeParty></ram:ApplicableHeaderTradeAgreement><ram:ApplicableHeaderTradeDelivery/><ram:ApplicableHeaderTradeSettlement><ram:InvoiceCurrencyCode>EUR</ram:InvoiceCurrencyCode><ram:ApplicableTradeTax><ram:CalculatedAmount>2.00</ram:CalculatedAmount><ram:TypeCode>VAT</ram:TypeCode><ram:BasisAmount>10.00</ram:BasisAmount><ram:CategoryCode>S</ram:CategoryCode></ram:ApplicableTradeTax><ram:SpecifiedTradePaymentTerms><ram:DueDateDateTime><udt:DateTimeString format=" ++ ((34 ∷ []) ++ (codes "102" ++ ((34 ∷ []) ++ (codes ">20240601</udt:DateTimeString></ram:DueDateDateTime></ram:SpecifiedTradePaymentTerms><ram:SpecifiedTradeSettlementHeaderMonetarySummation><ram:LineTotalAmount>10.00</ram:LineTotalAmount><ram:TaxBasisTotalAmount>10.00</ram:TaxBasisTotalAmount><ram:GrandTotalAmount>12.00</ram:GrandTotalAmount><ram:DuePayableAmount>12.00</ram:DuePayableAmount></ram:SpecifiedTradeSettlementHeaderMonetarySummation></ram:ApplicableHeaderTradeSettlement></rsm:SupplyChainTradeTransaction></rsm:CrossIndustryInvoice>"))))))))))))))))))))))))))))) ≡ codes "condition 6 BT-9"
+unfolding document first_fault beginning extent character_at referred reference_at is_qname comment section is_declaration instruction attribute_at tag_inside
+    value_in_tag start_tag end_tag state_behind events_of fault_of read resume is_utf8 chars encode_utf8 is_char is_white_space is_name_start is_name_char
+    tree_of_events read_scaled read_decimal scaled_text decimal_text read_dashed_day read_plain_day dashed_day_text value_of terms_of terms extension_rows
+    listing_rows occurrence_of parent_of day_from first_row invoice_rows credit_note_rows cii_rows invoice_listing credit_note_listing cii_listing written_units
+    digits last_digits
 row1 = refl
 
 -- row18
-row2 : judged cii_rows syntaxes.Ubl (codes "<rsm:CrossIndustryInvoice xmlns:rsm=" ++ ((34 ∷ []) ++ (codes "urn:un:unece:uncefact:data:standard:CrossIndustryInvoice:100" ++ ((34 ∷ []) ++ (codes " xmlns:ram=" ++ ((34 ∷ []) ++ (codes "urn:un:unece:uncefact:data:standard:ReusableAggregateBusinessInformationEntity:100" ++ ((34 ∷ []) ++ (codes " xmlns:udt=" ++ ((34 ∷ []) ++ (codes "urn:un:unece:uncefact:data:standard:UnqualifiedDataType:100" ++ ((34 ∷ []) ++ (codes " xmlns:qdt=" ++ ((34 ∷ []) ++ (codes "urn:un:unece:uncefact:data:standard:QualifiedDataType:100" ++ ((34 ∷ []) ++ (codes "><rsm:ExchangedDocumentContext><ram:GuidelineSpecifiedDocumentContextParameter><ram:ID>urn:cen.eu:en16931:2017</ram:ID></ram:GuidelineSpecifiedDocumentContextParameter></rsm:ExchangedDocumentContext><rsm:ExchangedDocument><ram:ID>A1</ram:ID><ram:TypeCode>380</ram:TypeCode><ram:IssueDateTime><udt:DateTimeString format=" ++ ((34 ∷ []) ++ (codes "102" ++ ((34 ∷ []) ++ (codes ">20240501</udt:DateTimeString></ram:IssueDateTime><ram:IncludedNote><ram:Content>#AAI#x</ram:Content></ram:IncludedNote></rsm:ExchangedDocument><rsm:SupplyChainTradeTransaction><ram:IncludedSupplyChainTradeLineItem><ram:AssociatedDocumentLineDocument><ram:LineID>1</ram:LineID></ram:AssociatedDocumentLineDocument><ram:SpecifiedTradeProduct><ram:Name>Pen</ram:Name></ram:SpecifiedTradeProduct><ram:SpecifiedLineTradeAgreement><ram:NetPriceProductTradePrice><ram:ChargeAmount>10.00</ram:ChargeAmount></ram:NetPriceProductTradePrice></ram:SpecifiedLineTradeAgreement><ram:SpecifiedLineTradeDelivery><ram:BilledQuantity unitCode=" ++ ((34 ∷ []) ++ (codes "C62" ++ ((34 ∷ []) ++ (codes ">1</ram:BilledQuantity></ram:SpecifiedLineTradeDelivery><ram:SpecifiedLineTradeSettlement><ram:ApplicableTradeTax><ram:TypeCode>VAT</ram:TypeCode><ram:CategoryCode>S</ram:CategoryCode></ram:ApplicableTradeTax><ram:SpecifiedTradeSettlementLineMonetarySummation><ram:LineTotalAmount>10.00</ram:LineTotalAmount></ram:SpecifiedTradeSettlementLineMonetarySummation></ram:SpecifiedLineTradeSettlement></ram:IncludedSupplyChainTradeLineItem><ram:ApplicableHeaderTradeAgreement><ram:SellerTradeParty><ram:Name>Seller</ram:Name><ram:PostalTradeAddress><ram:CountryID>DE</ram:CountryID></ram:PostalTradeAddress></ram:SellerTradeParty><ram:BuyerTradeParty><ram:Name>Buyer</ram:Name><ram:PostalTradeAddress><ram:CountryID>FR</ram:CountryID></ram:PostalTradeAddress></ram:BuyerTradeParty></ram:ApplicableHeaderTradeAgreement><ram:ApplicableHeaderTradeDelivery/><ram:ApplicableHeaderTradeSettlement><ram:InvoiceCurrencyCode>EUR</ram:InvoiceCurrencyCode><ram:ApplicableTradeTax><ram:CalculatedAmount>2.00</ram:CalculatedAmount><ram:TypeCode>VAT</ram:TypeCode><ram:BasisAmount>10.00</ram:BasisAmount><ram:CategoryCode>S</ram:CategoryCode></ram:ApplicableTradeTax><ram:SpecifiedTradeSettlementHeaderMonetarySummation><ram:LineTotalAmount>10.00</ram:LineTotalAmount><ram:TaxBasisTotalAmount>10.00</ram:TaxBasisTotalAmount><ram:GrandTotalAmount>12.00</ram:GrandTotalAmount><ram:DuePayableAmount>12.00</ram:DuePayableAmount></ram:SpecifiedTradeSettlementHeaderMonetarySummation></ram:ApplicableHeaderTradeSettlement></rsm:SupplyChainTradeTransaction></rsm:CrossIndustryInvoice>"))))))))))))))))))))))))) ≡ codes "condition 4 BT-22"
-unfolding document first_fault beginning extent character_at referred reference_at is_qname comment section is_declaration instruction attribute_at tag_inside value_in_tag start_tag end_tag state_behind events_of fault_of read resume is_utf8 chars encode_utf8 is_char is_white_space is_name_start is_name_char tree_of_events read_scaled read_decimal scaled_text decimal_text read_dashed_day read_plain_day dashed_day_text value_of terms_of terms extension_rows listing_rows occurrence_of parent_of day_from first_row invoice_rows credit_note_rows cii_rows invoice_listing credit_note_listing cii_listing written_units digits last_digits
+row2 : judged cii_rows syntaxes.Ubl (codes "<rsm:CrossIndustryInvoice xmlns:rsm=" ++
+    ((34 ∷ []) ++ (codes "urn:un:unece:uncefact:data:standard:CrossIndustryInvoice:100" ++
+    ((34 ∷ []) ++ (codes " xmlns:ram=" ++
+    ((34 ∷ []) ++ (codes "urn:un:unece:uncefact:data:standard:ReusableAggregateBusinessInformationEntity:100" ++
+    ((34 ∷ []) ++ (codes " xmlns:udt=" ++
+    ((34 ∷ []) ++ (codes "urn:un:unece:uncefact:data:standard:UnqualifiedDataType:100" ++
+    ((34 ∷ []) ++ (codes " xmlns:qdt=" ++
+    ((34 ∷ []) ++ (codes "urn:un:unece:uncefact:data:standard:QualifiedDataType:100" ++
+    ((34 ∷ []) ++ (codes "><rsm:ExchangedDocumentContext><ram:GuidelineSpecifiedDocumentContextParameter><ram:ID>urn:cen.eu:en16931:2017</ram:ID></ram:GuidelineSpecifiedDocumentContextParameter></rsm:ExchangedDocumentContext><rsm:ExchangedDocument><ram:ID>A1</ram:ID><ram:TypeCode>380</ram:TypeCode><ram:IssueDateTime><udt:DateTimeString format=" ++ ((34 ∷ []) ++ (codes "102" ++ ((34 ∷ []) ++ (codes ">20240501</udt:DateTimeString></ram:IssueDateTime><ram:IncludedNote><ram:Content>#AAI#x</ram:Content></ram:IncludedNote></rsm:ExchangedDocument><rsm:SupplyChainTradeTransaction><ram:IncludedSupplyChainTradeLineItem><ram:AssociatedDocumentLineDocument><ram:LineID>1</ram:LineID></ram:AssociatedDocumentLineDocument><ram:SpecifiedTradeProduct><ram:Name>Pen</ram:Name></ram:SpecifiedTradeProduct><ram:SpecifiedLineTradeAgreement><ram:NetPriceProductTradePrice><ram:ChargeAmount>10.00</ram:ChargeAmount></ram:NetPriceProductTradePrice></ram:SpecifiedLineTradeAgreement><ram:SpecifiedLineTradeDelivery><ram:BilledQuantity unitCode=" ++ ((34 ∷ []) ++ (codes "C62" ++ ((34 ∷ []) ++ (codes ">1</ram:BilledQuantity></ram:SpecifiedLineTradeDelivery><ram:SpecifiedLineTradeSettlement><ram:ApplicableTradeTax><ram:TypeCode>VAT</ram:TypeCode><ram:CategoryCode>S</ram:CategoryCode></ram:ApplicableTradeTax><ram:SpecifiedTradeSettlementLineMonetarySummation><ram:LineTotalAmount>10.00</ram:LineTotalAmount></ram:SpecifiedTradeSettlementLineMonetarySummation></ram:SpecifiedLineTradeSettlement></ram:IncludedSupplyChainTradeLineItem><ram:ApplicableHeaderTradeAgreement><ram:SellerTradeParty><ram:Name>Seller</ram:Name><ram:PostalTradeAddress><ram:CountryID>DE</ram:CountryID></ram:PostalTradeAddress></ram:SellerTradeParty><ram:BuyerTradeParty><ram:Name>Buyer</ram:Name><ram:PostalTradeAddress><ram:CountryID>FR</ram:CountryID></ram:PostalTradeAddress></ram:BuyerTradeParty></ram:ApplicableHeaderTradeAgreement><ram:ApplicableHeaderTradeDelivery/><ram:ApplicableHeaderTradeSettlement><ram:InvoiceCurrencyCode>EUR</ram:InvoiceCurrencyCode><ram:ApplicableTradeTax><ram:CalculatedAmount>2.00</ram:CalculatedAmount><ram:TypeCode>VAT</ram:TypeCode><ram:BasisAmount>10.00</ram:BasisAmount><ram:CategoryCode>S</ram:CategoryCode></ram:ApplicableTradeTax><ram:SpecifiedTradeSettlementHeaderMonetarySummation><ram:LineTotalAmount>10.00</ram:LineTotalAmount><ram:TaxBasisTotalAmount>10.00</ram:TaxBasisTotalAmount><ram:GrandTotalAmount>12.00</ram:GrandTotalAmount><ram:DuePayableAmount>12.00</ram:DuePayableAmount></ram:SpecifiedTradeSettlementHeaderMonetarySummation></ram:ApplicableHeaderTradeSettlement></rsm:SupplyChainTradeTransaction></rsm:CrossIndustryInvoice>"))))))))))))))))))))))))) ≡ codes "condition 4 BT-22"
+unfolding document first_fault beginning extent character_at referred reference_at is_qname comment section is_declaration instruction attribute_at tag_inside
+    value_in_tag start_tag end_tag state_behind events_of fault_of read resume is_utf8 chars encode_utf8 is_char is_white_space is_name_start is_name_char
+    tree_of_events read_scaled read_decimal scaled_text decimal_text read_dashed_day read_plain_day dashed_day_text value_of terms_of terms extension_rows
+    listing_rows occurrence_of parent_of day_from first_row invoice_rows credit_note_rows cii_rows invoice_listing credit_note_listing cii_listing written_units
+    digits last_digits
 row2 = refl
 
 -- cnote-code-four
-row3 : judged cii_rows syntaxes.Ubl (codes "<rsm:CrossIndustryInvoice xmlns:rsm=" ++ ((34 ∷ []) ++ (codes "urn:un:unece:uncefact:data:standard:CrossIndustryInvoice:100" ++ ((34 ∷ []) ++ (codes " xmlns:ram=" ++ ((34 ∷ []) ++ (codes "urn:un:unece:uncefact:data:standard:ReusableAggregateBusinessInformationEntity:100" ++ ((34 ∷ []) ++ (codes " xmlns:udt=" ++ ((34 ∷ []) ++ (codes "urn:un:unece:uncefact:data:standard:UnqualifiedDataType:100" ++ ((34 ∷ []) ++ (codes " xmlns:qdt=" ++ ((34 ∷ []) ++ (codes "urn:un:unece:uncefact:data:standard:QualifiedDataType:100" ++ ((34 ∷ []) ++ (codes "><rsm:ExchangedDocumentContext><ram:GuidelineSpecifiedDocumentContextParameter><ram:ID>urn:cen.eu:en16931:2017</ram:ID></ram:GuidelineSpecifiedDocumentContextParameter></rsm:ExchangedDocumentContext><rsm:ExchangedDocument><ram:ID>A1</ram:ID><ram:TypeCode>380</ram:TypeCode><ram:IssueDateTime><udt:DateTimeString format=" ++ ((34 ∷ []) ++ (codes "102" ++ ((34 ∷ []) ++ (codes ">20240501</udt:DateTimeString></ram:IssueDateTime><ram:IncludedNote><ram:Content>x</ram:Content><ram:SubjectCode>AAIB</ram:SubjectCode></ram:IncludedNote></rsm:ExchangedDocument><rsm:SupplyChainTradeTransaction><ram:IncludedSupplyChainTradeLineItem><ram:AssociatedDocumentLineDocument><ram:LineID>1</ram:LineID></ram:AssociatedDocumentLineDocument><ram:SpecifiedTradeProduct><ram:Name>Pen</ram:Name></ram:SpecifiedTradeProduct><ram:SpecifiedLineTradeAgreement><ram:NetPriceProductTradePrice><ram:ChargeAmount>10.00</ram:ChargeAmount></ram:NetPriceProductTradePrice></ram:SpecifiedLineTradeAgreement><ram:SpecifiedLineTradeDelivery><ram:BilledQuantity unitCode=" ++ ((34 ∷ []) ++ (codes "C62" ++ ((34 ∷ []) ++ (codes ">1</ram:BilledQuantity></ram:SpecifiedLineTradeDelivery><ram:SpecifiedLineTradeSettlement><ram:ApplicableTradeTax><ram:TypeCode>VAT</ram:TypeCode><ram:CategoryCode>S</ram:CategoryCode></ram:ApplicableTradeTax><ram:SpecifiedTradeSettlementLineMonetarySummation><ram:LineTotalAmount>10.00</ram:LineTotalAmount></ram:SpecifiedTradeSettlementLineMonetarySummation></ram:SpecifiedLineTradeSettlement></ram:IncludedSupplyChainTradeLineItem><ram:ApplicableHeaderTradeAgreement><ram:SellerTradeParty><ram:Name>Seller</ram:Name><ram:PostalTradeAddress><ram:CountryID>DE</ram:CountryID></ram:PostalTradeAddress></ram:SellerTradeParty><ram:BuyerTradeParty><ram:Name>Buyer</ram:Name><ram:PostalTradeAddress><ram:CountryID>FR</ram:CountryID></ram:PostalTradeAddress></ram:BuyerTradeParty></ram:ApplicableHeaderTradeAgreement><ram:ApplicableHeaderTradeDelivery/><ram:ApplicableHeaderTradeSettlement><ram:InvoiceCurrencyCode>EUR</ram:InvoiceCurrencyCode><ram:ApplicableTradeTax><ram:CalculatedAmount>2.00</ram:CalculatedAmount><ram:TypeCode>VAT</ram:TypeCode><ram:BasisAmount>10.00</ram:BasisAmount><ram:CategoryCode>S</ram:CategoryCode></ram:ApplicableTradeTax><ram:SpecifiedTradeSettlementHeaderMonetarySummation><ram:LineTotalAmount>10.00</ram:LineTotalAmount><ram:TaxBasisTotalAmount>10.00</ram:TaxBasisTotalAmount><ram:GrandTotalAmount>12.00</ram:GrandTotalAmount><ram:DuePayableAmount>12.00</ram:DuePayableAmount></ram:SpecifiedTradeSettlementHeaderMonetarySummation></ram:ApplicableHeaderTradeSettlement></rsm:SupplyChainTradeTransaction></rsm:CrossIndustryInvoice>"))))))))))))))))))))))))) ≡ codes "condition 4 BT-21"
-unfolding document first_fault beginning extent character_at referred reference_at is_qname comment section is_declaration instruction attribute_at tag_inside value_in_tag start_tag end_tag state_behind events_of fault_of read resume is_utf8 chars encode_utf8 is_char is_white_space is_name_start is_name_char tree_of_events read_scaled read_decimal scaled_text decimal_text read_dashed_day read_plain_day dashed_day_text value_of terms_of terms extension_rows listing_rows occurrence_of parent_of day_from first_row invoice_rows credit_note_rows cii_rows invoice_listing credit_note_listing cii_listing written_units digits last_digits
+row3 : judged cii_rows syntaxes.Ubl (codes "<rsm:CrossIndustryInvoice xmlns:rsm=" ++
+    ((34 ∷ []) ++ (codes "urn:un:unece:uncefact:data:standard:CrossIndustryInvoice:100" ++
+    ((34 ∷ []) ++ (codes " xmlns:ram=" ++
+    ((34 ∷ []) ++ (codes "urn:un:unece:uncefact:data:standard:ReusableAggregateBusinessInformationEntity:100" ++
+    ((34 ∷ []) ++ (codes " xmlns:udt=" ++
+    ((34 ∷ []) ++ (codes "urn:un:unece:uncefact:data:standard:UnqualifiedDataType:100" ++
+    ((34 ∷ []) ++ (codes " xmlns:qdt=" ++
+    ((34 ∷ []) ++ (codes "urn:un:unece:uncefact:data:standard:QualifiedDataType:100" ++
+    ((34 ∷ []) ++ (codes "><rsm:ExchangedDocumentContext><ram:GuidelineSpecifiedDocumentContextParameter><ram:ID>urn:cen.eu:en16931:2017</ram:ID></ram:GuidelineSpecifiedDocumentContextParameter></rsm:ExchangedDocumentContext><rsm:ExchangedDocument><ram:ID>A1</ram:ID><ram:TypeCode>380</ram:TypeCode><ram:IssueDateTime><udt:DateTimeString format=" ++ ((34 ∷ []) ++ (codes "102" ++ ((34 ∷ []) ++ (codes ">20240501</udt:DateTimeString></ram:IssueDateTime><ram:IncludedNote><ram:Content>x</ram:Content><ram:SubjectCode>AAIB</ram:SubjectCode></ram:IncludedNote></rsm:ExchangedDocument><rsm:SupplyChainTradeTransaction><ram:IncludedSupplyChainTradeLineItem><ram:AssociatedDocumentLineDocument><ram:LineID>1</ram:LineID></ram:AssociatedDocumentLineDocument><ram:SpecifiedTradeProduct><ram:Name>Pen</ram:Name></ram:SpecifiedTradeProduct><ram:SpecifiedLineTradeAgreement><ram:NetPriceProductTradePrice><ram:ChargeAmount>10.00</ram:ChargeAmount></ram:NetPriceProductTradePrice></ram:SpecifiedLineTradeAgreement><ram:SpecifiedLineTradeDelivery><ram:BilledQuantity unitCode=" ++ ((34 ∷ []) ++ (codes "C62" ++ ((34 ∷ []) ++ (codes ">1</ram:BilledQuantity></ram:SpecifiedLineTradeDelivery><ram:SpecifiedLineTradeSettlement><ram:ApplicableTradeTax><ram:TypeCode>VAT</ram:TypeCode><ram:CategoryCode>S</ram:CategoryCode></ram:ApplicableTradeTax><ram:SpecifiedTradeSettlementLineMonetarySummation><ram:LineTotalAmount>10.00</ram:LineTotalAmount></ram:SpecifiedTradeSettlementLineMonetarySummation></ram:SpecifiedLineTradeSettlement></ram:IncludedSupplyChainTradeLineItem><ram:ApplicableHeaderTradeAgreement><ram:SellerTradeParty><ram:Name>Seller</ram:Name><ram:PostalTradeAddress><ram:CountryID>DE</ram:CountryID></ram:PostalTradeAddress></ram:SellerTradeParty><ram:BuyerTradeParty><ram:Name>Buyer</ram:Name><ram:PostalTradeAddress><ram:CountryID>FR</ram:CountryID></ram:PostalTradeAddress></ram:BuyerTradeParty></ram:ApplicableHeaderTradeAgreement><ram:ApplicableHeaderTradeDelivery/><ram:ApplicableHeaderTradeSettlement><ram:InvoiceCurrencyCode>EUR</ram:InvoiceCurrencyCode><ram:ApplicableTradeTax><ram:CalculatedAmount>2.00</ram:CalculatedAmount><ram:TypeCode>VAT</ram:TypeCode><ram:BasisAmount>10.00</ram:BasisAmount><ram:CategoryCode>S</ram:CategoryCode></ram:ApplicableTradeTax><ram:SpecifiedTradeSettlementHeaderMonetarySummation><ram:LineTotalAmount>10.00</ram:LineTotalAmount><ram:TaxBasisTotalAmount>10.00</ram:TaxBasisTotalAmount><ram:GrandTotalAmount>12.00</ram:GrandTotalAmount><ram:DuePayableAmount>12.00</ram:DuePayableAmount></ram:SpecifiedTradeSettlementHeaderMonetarySummation></ram:ApplicableHeaderTradeSettlement></rsm:SupplyChainTradeTransaction></rsm:CrossIndustryInvoice>"))))))))))))))))))))))))) ≡ codes "condition 4 BT-21"
+unfolding document first_fault beginning extent character_at referred reference_at is_qname comment section is_declaration instruction attribute_at tag_inside
+    value_in_tag start_tag end_tag state_behind events_of fault_of read resume is_utf8 chars encode_utf8 is_char is_white_space is_name_start is_name_char
+    tree_of_events read_scaled read_decimal scaled_text decimal_text read_dashed_day read_plain_day dashed_day_text value_of terms_of terms extension_rows
+    listing_rows occurrence_of parent_of day_from first_row invoice_rows credit_note_rows cii_rows invoice_listing credit_note_listing cii_listing written_units
+    digits last_digits
 row3 = refl
 
 -- corder-na
-row4 : judged cii_rows syntaxes.Ubl (codes "<rsm:CrossIndustryInvoice xmlns:rsm=" ++ ((34 ∷ []) ++ (codes "urn:un:unece:uncefact:data:standard:CrossIndustryInvoice:100" ++ ((34 ∷ []) ++ (codes " xmlns:ram=" ++ ((34 ∷ []) ++ (codes "urn:un:unece:uncefact:data:standard:ReusableAggregateBusinessInformationEntity:100" ++ ((34 ∷ []) ++ (codes " xmlns:udt=" ++ ((34 ∷ []) ++ (codes "urn:un:unece:uncefact:data:standard:UnqualifiedDataType:100" ++ ((34 ∷ []) ++ (codes " xmlns:qdt=" ++ ((34 ∷ []) ++ (codes "urn:un:unece:uncefact:data:standard:QualifiedDataType:100" ++ ((34 ∷ []) ++ (codes "><rsm:ExchangedDocumentContext><ram:GuidelineSpecifiedDocumentContextParameter><ram:ID>urn:cen.eu:en16931:2017</ram:ID></ram:GuidelineSpecifiedDocumentContextParameter></rsm:ExchangedDocumentContext><rsm:ExchangedDocument><ram:ID>A1</ram:ID><ram:TypeCode>380</ram:TypeCode><ram:IssueDateTime><udt:DateTimeString format=" ++ ((34 ∷ []) ++ (codes "102" ++ ((34 ∷ []) ++ (codes ">20240501</udt:DateTimeString></ram:IssueDateTime></rsm:ExchangedDocument><rsm:SupplyChainTradeTransaction><ram:IncludedSupplyChainTradeLineItem><ram:AssociatedDocumentLineDocument><ram:LineID>1</ram:LineID></ram:AssociatedDocumentLineDocument><ram:SpecifiedTradeProduct><ram:Name>Pen</ram:Name></ram:SpecifiedTradeProduct><ram:SpecifiedLineTradeAgreement><ram:NetPriceProductTradePrice><ram:ChargeAmount>10.00</ram:ChargeAmount></ram:NetPriceProductTradePrice></ram:SpecifiedLineTradeAgreement><ram:SpecifiedLineTradeDelivery><ram:BilledQuantity unitCode=" ++ ((34 ∷ []) ++ (codes "C62" ++ ((34 ∷ []) ++ (codes ">1</ram:BilledQuantity></ram:SpecifiedLineTradeDelivery><ram:SpecifiedLineTradeSettlement><ram:ApplicableTradeTax><ram:TypeCode>VAT</ram:TypeCode><ram:CategoryCode>S</ram:CategoryCode></ram:ApplicableTradeTax><ram:SpecifiedTradeSettlementLineMonetarySummation><ram:LineTotalAmount>10.00</ram:LineTotalAmount></ram:SpecifiedTradeSettlementLineMonetarySummation></ram:SpecifiedLineTradeSettlement></ram:IncludedSupplyChainTradeLineItem><ram:ApplicableHeaderTradeAgreement><ram:SellerTradeParty><ram:Name>Seller</ram:Name><ram:PostalTradeAddress><ram:CountryID>DE</ram:CountryID></ram:PostalTradeAddress></ram:SellerTradeParty><ram:BuyerTradeParty><ram:Name>Buyer</ram:Name><ram:PostalTradeAddress><ram:CountryID>FR</ram:CountryID></ram:PostalTradeAddress></ram:BuyerTradeParty><ram:SellerOrderReferencedDocument><ram:IssuerAssignedID>7</ram:IssuerAssignedID></ram:SellerOrderReferencedDocument><ram:BuyerOrderReferencedDocument><ram:IssuerAssignedID>NA</ram:IssuerAssignedID></ram:BuyerOrderReferencedDocument></ram:ApplicableHeaderTradeAgreement><ram:ApplicableHeaderTradeDelivery/><ram:ApplicableHeaderTradeSettlement><ram:InvoiceCurrencyCode>EUR</ram:InvoiceCurrencyCode><ram:ApplicableTradeTax><ram:CalculatedAmount>2.00</ram:CalculatedAmount><ram:TypeCode>VAT</ram:TypeCode><ram:BasisAmount>10.00</ram:BasisAmount><ram:CategoryCode>S</ram:CategoryCode></ram:ApplicableTradeTax><ram:SpecifiedTradeSettlementHeaderMonetarySummation><ram:LineTotalAmount>10.00</ram:LineTotalAmount><ram:TaxBasisTotalAmount>10.00</ram:TaxBasisTotalAmount><ram:GrandTotalAmount>12.00</ram:GrandTotalAmount><ram:DuePayableAmount>12.00</ram:DuePayableAmount></ram:SpecifiedTradeSettlementHeaderMonetarySummation></ram:ApplicableHeaderTradeSettlement></rsm:SupplyChainTradeTransaction></rsm:CrossIndustryInvoice>"))))))))))))))))))))))))) ≡ codes "condition 3 BT-13"
-unfolding document first_fault beginning extent character_at referred reference_at is_qname comment section is_declaration instruction attribute_at tag_inside value_in_tag start_tag end_tag state_behind events_of fault_of read resume is_utf8 chars encode_utf8 is_char is_white_space is_name_start is_name_char tree_of_events read_scaled read_decimal scaled_text decimal_text read_dashed_day read_plain_day dashed_day_text value_of terms_of terms extension_rows listing_rows occurrence_of parent_of day_from first_row invoice_rows credit_note_rows cii_rows invoice_listing credit_note_listing cii_listing written_units digits last_digits
+row4 : judged cii_rows syntaxes.Ubl (codes "<rsm:CrossIndustryInvoice xmlns:rsm=" ++
+    ((34 ∷ []) ++ (codes "urn:un:unece:uncefact:data:standard:CrossIndustryInvoice:100" ++
+    ((34 ∷ []) ++ (codes " xmlns:ram=" ++
+    ((34 ∷ []) ++ (codes "urn:un:unece:uncefact:data:standard:ReusableAggregateBusinessInformationEntity:100" ++
+    ((34 ∷ []) ++ (codes " xmlns:udt=" ++
+    ((34 ∷ []) ++ (codes "urn:un:unece:uncefact:data:standard:UnqualifiedDataType:100" ++
+    ((34 ∷ []) ++ (codes " xmlns:qdt=" ++
+    ((34 ∷ []) ++ (codes "urn:un:unece:uncefact:data:standard:QualifiedDataType:100" ++
+    ((34 ∷ []) ++ (codes "><rsm:ExchangedDocumentContext><ram:GuidelineSpecifiedDocumentContextParameter><ram:ID>urn:cen.eu:en16931:2017</ram:ID></ram:GuidelineSpecifiedDocumentContextParameter></rsm:ExchangedDocumentContext><rsm:ExchangedDocument><ram:ID>A1</ram:ID><ram:TypeCode>380</ram:TypeCode><ram:IssueDateTime><udt:DateTimeString format=" ++ ((34 ∷ []) ++ (codes "102" ++ ((34 ∷ []) ++ (codes ">20240501</udt:DateTimeString></ram:IssueDateTime></rsm:ExchangedDocument><rsm:SupplyChainTradeTransaction><ram:IncludedSupplyChainTradeLineItem><ram:AssociatedDocumentLineDocument><ram:LineID>1</ram:LineID></ram:AssociatedDocumentLineDocument><ram:SpecifiedTradeProduct><ram:Name>Pen</ram:Name></ram:SpecifiedTradeProduct><ram:SpecifiedLineTradeAgreement><ram:NetPriceProductTradePrice><ram:ChargeAmount>10.00</ram:ChargeAmount></ram:NetPriceProductTradePrice></ram:SpecifiedLineTradeAgreement><ram:SpecifiedLineTradeDelivery><ram:BilledQuantity unitCode=" ++ ((34 ∷ []) ++ (codes "C62" ++ ((34 ∷ []) ++ (codes ">1</ram:BilledQuantity></ram:SpecifiedLineTradeDelivery><ram:SpecifiedLineTradeSettlement><ram:ApplicableTradeTax><ram:TypeCode>VAT</ram:TypeCode><ram:CategoryCode>S</ram:CategoryCode></ram:ApplicableTradeTax><ram:SpecifiedTradeSettlementLineMonetarySummation><ram:LineTotalAmount>10.00</ram:LineTotalAmount></ram:SpecifiedTradeSettlementLineMonetarySummation></ram:SpecifiedLineTradeSettlement></ram:IncludedSupplyChainTradeLineItem><ram:ApplicableHeaderTradeAgreement><ram:SellerTradeParty><ram:Name>Seller</ram:Name><ram:PostalTradeAddress><ram:CountryID>DE</ram:CountryID></ram:PostalTradeAddress></ram:SellerTradeParty><ram:BuyerTradeParty><ram:Name>Buyer</ram:Name><ram:PostalTradeAddress><ram:CountryID>FR</ram:CountryID></ram:PostalTradeAddress></ram:BuyerTradeParty><ram:SellerOrderReferencedDocument><ram:IssuerAssignedID>7</ram:IssuerAssignedID></ram:SellerOrderReferencedDocument><ram:BuyerOrderReferencedDocument><ram:IssuerAssignedID>NA</ram:IssuerAssignedID></ram:BuyerOrderReferencedDocument></ram:ApplicableHeaderTradeAgreement><ram:ApplicableHeaderTradeDelivery/><ram:ApplicableHeaderTradeSettlement><ram:InvoiceCurrencyCode>EUR</ram:InvoiceCurrencyCode><ram:ApplicableTradeTax><ram:CalculatedAmount>2.00</ram:CalculatedAmount><ram:TypeCode>VAT</ram:TypeCode><ram:BasisAmount>10.00</ram:BasisAmount><ram:CategoryCode>S</ram:CategoryCode></ram:ApplicableTradeTax><ram:SpecifiedTradeSettlementHeaderMonetarySummation><ram:LineTotalAmount>10.00</ram:LineTotalAmount><ram:TaxBasisTotalAmount>10.00</ram:TaxBasisTotalAmount><ram:GrandTotalAmount>12.00</ram:GrandTotalAmount><ram:DuePayableAmount>12.00</ram:DuePayableAmount></ram:SpecifiedTradeSettlementHeaderMonetarySummation></ram:ApplicableHeaderTradeSettlement></rsm:SupplyChainTradeTransaction></rsm:CrossIndustryInvoice>"))))))))))))))))))))))))) ≡ codes "condition 3 BT-13"
+unfolding document first_fault beginning extent character_at referred reference_at is_qname comment section is_declaration instruction attribute_at tag_inside
+    value_in_tag start_tag end_tag state_behind events_of fault_of read resume is_utf8 chars encode_utf8 is_char is_white_space is_name_start is_name_char
+    tree_of_events read_scaled read_decimal scaled_text decimal_text read_dashed_day read_plain_day dashed_day_text value_of terms_of terms extension_rows
+    listing_rows occurrence_of parent_of day_from first_row invoice_rows credit_note_rows cii_rows invoice_listing credit_note_listing cii_listing written_units
+    digits last_digits
 row4 = refl
 
 -- sepa-global
-row5 : judged cii_rows syntaxes.Ubl (codes "<rsm:CrossIndustryInvoice xmlns:rsm=" ++ ((34 ∷ []) ++ (codes "urn:un:unece:uncefact:data:standard:CrossIndustryInvoice:100" ++ ((34 ∷ []) ++ (codes " xmlns:ram=" ++ ((34 ∷ []) ++ (codes "urn:un:unece:uncefact:data:standard:ReusableAggregateBusinessInformationEntity:100" ++ ((34 ∷ []) ++ (codes " xmlns:udt=" ++ ((34 ∷ []) ++ (codes "urn:un:unece:uncefact:data:standard:UnqualifiedDataType:100" ++ ((34 ∷ []) ++ (codes " xmlns:qdt=" ++ ((34 ∷ []) ++ (codes "urn:un:unece:uncefact:data:standard:QualifiedDataType:100" ++ ((34 ∷ []) ++ (codes "><rsm:ExchangedDocumentContext><ram:GuidelineSpecifiedDocumentContextParameter><ram:ID>urn:cen.eu:en16931:2017</ram:ID></ram:GuidelineSpecifiedDocumentContextParameter></rsm:ExchangedDocumentContext><rsm:ExchangedDocument><ram:ID>A1</ram:ID><ram:TypeCode>380</ram:TypeCode><ram:IssueDateTime><udt:DateTimeString format=" ++ ((34 ∷ []) ++ (codes "102" ++ ((34 ∷ []) ++ (codes ">20240501</udt:DateTimeString></ram:IssueDateTime></rsm:ExchangedDocument><rsm:SupplyChainTradeTransaction><ram:IncludedSupplyChainTradeLineItem><ram:AssociatedDocumentLineDocument><ram:LineID>1</ram:LineID></ram:AssociatedDocumentLineDocument><ram:SpecifiedTradeProduct><ram:Name>Pen</ram:Name></ram:SpecifiedTradeProduct><ram:SpecifiedLineTradeAgreement><ram:NetPriceProductTradePrice><ram:ChargeAmount>10.00</ram:ChargeAmount></ram:NetPriceProductTradePrice></ram:SpecifiedLineTradeAgreement><ram:SpecifiedLineTradeDelivery><ram:BilledQuantity unitCode=" ++ ((34 ∷ []) ++ (codes "C62" ++ ((34 ∷ []) ++ (codes ">1</ram:BilledQuantity></ram:SpecifiedLineTradeDelivery><ram:SpecifiedLineTradeSettlement><ram:ApplicableTradeTax><ram:TypeCode>VAT</ram:TypeCode><ram:CategoryCode>S</ram:CategoryCode></ram:ApplicableTradeTax><ram:SpecifiedTradeSettlementLineMonetarySummation><ram:LineTotalAmount>10.00</ram:LineTotalAmount></ram:SpecifiedTradeSettlementLineMonetarySummation></ram:SpecifiedLineTradeSettlement></ram:IncludedSupplyChainTradeLineItem><ram:ApplicableHeaderTradeAgreement><ram:SellerTradeParty><ram:GlobalID schemeID=" ++ ((34 ∷ []) ++ (codes "SEPA" ++ ((34 ∷ []) ++ (codes ">6</ram:GlobalID><ram:Name>Seller</ram:Name><ram:PostalTradeAddress><ram:CountryID>DE</ram:CountryID></ram:PostalTradeAddress></ram:SellerTradeParty><ram:BuyerTradeParty><ram:Name>Buyer</ram:Name><ram:PostalTradeAddress><ram:CountryID>FR</ram:CountryID></ram:PostalTradeAddress></ram:BuyerTradeParty></ram:ApplicableHeaderTradeAgreement><ram:ApplicableHeaderTradeDelivery/><ram:ApplicableHeaderTradeSettlement><ram:InvoiceCurrencyCode>EUR</ram:InvoiceCurrencyCode><ram:ApplicableTradeTax><ram:CalculatedAmount>2.00</ram:CalculatedAmount><ram:TypeCode>VAT</ram:TypeCode><ram:BasisAmount>10.00</ram:BasisAmount><ram:CategoryCode>S</ram:CategoryCode></ram:ApplicableTradeTax><ram:SpecifiedTradeSettlementHeaderMonetarySummation><ram:LineTotalAmount>10.00</ram:LineTotalAmount><ram:TaxBasisTotalAmount>10.00</ram:TaxBasisTotalAmount><ram:GrandTotalAmount>12.00</ram:GrandTotalAmount><ram:DuePayableAmount>12.00</ram:DuePayableAmount></ram:SpecifiedTradeSettlementHeaderMonetarySummation></ram:ApplicableHeaderTradeSettlement></rsm:SupplyChainTradeTransaction></rsm:CrossIndustryInvoice>"))))))))))))))))))))))))))))) ≡ codes "condition 2 BT-29-1"
-unfolding document first_fault beginning extent character_at referred reference_at is_qname comment section is_declaration instruction attribute_at tag_inside value_in_tag start_tag end_tag state_behind events_of fault_of read resume is_utf8 chars encode_utf8 is_char is_white_space is_name_start is_name_char tree_of_events read_scaled read_decimal scaled_text decimal_text read_dashed_day read_plain_day dashed_day_text value_of terms_of terms extension_rows listing_rows occurrence_of parent_of day_from first_row invoice_rows credit_note_rows cii_rows invoice_listing credit_note_listing cii_listing written_units digits last_digits
+row5 : judged cii_rows syntaxes.Ubl (codes "<rsm:CrossIndustryInvoice xmlns:rsm=" ++
+    ((34 ∷ []) ++ (codes "urn:un:unece:uncefact:data:standard:CrossIndustryInvoice:100" ++
+    ((34 ∷ []) ++ (codes " xmlns:ram=" ++
+    ((34 ∷ []) ++ (codes "urn:un:unece:uncefact:data:standard:ReusableAggregateBusinessInformationEntity:100" ++
+    ((34 ∷ []) ++ (codes " xmlns:udt=" ++
+    ((34 ∷ []) ++ (codes "urn:un:unece:uncefact:data:standard:UnqualifiedDataType:100" ++
+    ((34 ∷ []) ++ (codes " xmlns:qdt=" ++
+    ((34 ∷ []) ++ (codes "urn:un:unece:uncefact:data:standard:QualifiedDataType:100" ++
+    ((34 ∷ []) ++ (codes "><rsm:ExchangedDocumentContext><ram:GuidelineSpecifiedDocumentContextParameter><ram:ID>urn:cen.eu:en16931:2017</ram:ID></ram:GuidelineSpecifiedDocumentContextParameter></rsm:ExchangedDocumentContext><rsm:ExchangedDocument><ram:ID>A1</ram:ID><ram:TypeCode>380</ram:TypeCode><ram:IssueDateTime><udt:DateTimeString format=" ++ ((34 ∷ []) ++ (codes "102" ++ ((34 ∷ []) ++ (codes ">20240501</udt:DateTimeString></ram:IssueDateTime></rsm:ExchangedDocument><rsm:SupplyChainTradeTransaction><ram:IncludedSupplyChainTradeLineItem><ram:AssociatedDocumentLineDocument><ram:LineID>1</ram:LineID></ram:AssociatedDocumentLineDocument><ram:SpecifiedTradeProduct><ram:Name>Pen</ram:Name></ram:SpecifiedTradeProduct><ram:SpecifiedLineTradeAgreement><ram:NetPriceProductTradePrice><ram:ChargeAmount>10.00</ram:ChargeAmount></ram:NetPriceProductTradePrice></ram:SpecifiedLineTradeAgreement><ram:SpecifiedLineTradeDelivery><ram:BilledQuantity unitCode=" ++ ((34 ∷ []) ++ (codes "C62" ++ ((34 ∷ []) ++ (codes ">1</ram:BilledQuantity></ram:SpecifiedLineTradeDelivery><ram:SpecifiedLineTradeSettlement><ram:ApplicableTradeTax><ram:TypeCode>VAT</ram:TypeCode><ram:CategoryCode>S</ram:CategoryCode></ram:ApplicableTradeTax><ram:SpecifiedTradeSettlementLineMonetarySummation><ram:LineTotalAmount>10.00</ram:LineTotalAmount></ram:SpecifiedTradeSettlementLineMonetarySummation></ram:SpecifiedLineTradeSettlement></ram:IncludedSupplyChainTradeLineItem><ram:ApplicableHeaderTradeAgreement><ram:SellerTradeParty><ram:GlobalID schemeID=" ++ ((34 ∷ []) ++ (codes "SEPA" ++ ((34 ∷ []) ++ (codes ">6</ram:GlobalID><ram:Name>Seller</ram:Name><ram:PostalTradeAddress><ram:CountryID>DE</ram:CountryID></ram:PostalTradeAddress></ram:SellerTradeParty><ram:BuyerTradeParty><ram:Name>Buyer</ram:Name><ram:PostalTradeAddress><ram:CountryID>FR</ram:CountryID></ram:PostalTradeAddress></ram:BuyerTradeParty></ram:ApplicableHeaderTradeAgreement><ram:ApplicableHeaderTradeDelivery/><ram:ApplicableHeaderTradeSettlement><ram:InvoiceCurrencyCode>EUR</ram:InvoiceCurrencyCode><ram:ApplicableTradeTax><ram:CalculatedAmount>2.00</ram:CalculatedAmount><ram:TypeCode>VAT</ram:TypeCode><ram:BasisAmount>10.00</ram:BasisAmount><ram:CategoryCode>S</ram:CategoryCode></ram:ApplicableTradeTax><ram:SpecifiedTradeSettlementHeaderMonetarySummation><ram:LineTotalAmount>10.00</ram:LineTotalAmount><ram:TaxBasisTotalAmount>10.00</ram:TaxBasisTotalAmount><ram:GrandTotalAmount>12.00</ram:GrandTotalAmount><ram:DuePayableAmount>12.00</ram:DuePayableAmount></ram:SpecifiedTradeSettlementHeaderMonetarySummation></ram:ApplicableHeaderTradeSettlement></rsm:SupplyChainTradeTransaction></rsm:CrossIndustryInvoice>"))))))))))))))))))))))))))))) ≡ codes "condition 2 BT-29-1"
+unfolding document first_fault beginning extent character_at referred reference_at is_qname comment section is_declaration instruction attribute_at tag_inside
+    value_in_tag start_tag end_tag state_behind events_of fault_of read resume is_utf8 chars encode_utf8 is_char is_white_space is_name_start is_name_char
+    tree_of_events read_scaled read_decimal scaled_text decimal_text read_dashed_day read_plain_day dashed_day_text value_of terms_of terms extension_rows
+    listing_rows occurrence_of parent_of day_from first_row invoice_rows credit_note_rows cii_rows invoice_listing credit_note_listing cii_listing written_units
+    digits last_digits
 row5 = refl
 
 -- sepa-payee-global
-row6 : judged cii_rows syntaxes.Ubl (codes "<rsm:CrossIndustryInvoice xmlns:rsm=" ++ ((34 ∷ []) ++ (codes "urn:un:unece:uncefact:data:standard:CrossIndustryInvoice:100" ++ ((34 ∷ []) ++ (codes " xmlns:ram=" ++ ((34 ∷ []) ++ (codes "urn:un:unece:uncefact:data:standard:ReusableAggregateBusinessInformationEntity:100" ++ ((34 ∷ []) ++ (codes " xmlns:udt=" ++ ((34 ∷ []) ++ (codes "urn:un:unece:uncefact:data:standard:UnqualifiedDataType:100" ++ ((34 ∷ []) ++ (codes " xmlns:qdt=" ++ ((34 ∷ []) ++ (codes "urn:un:unece:uncefact:data:standard:QualifiedDataType:100" ++ ((34 ∷ []) ++ (codes "><rsm:ExchangedDocumentContext><ram:GuidelineSpecifiedDocumentContextParameter><ram:ID>urn:cen.eu:en16931:2017</ram:ID></ram:GuidelineSpecifiedDocumentContextParameter></rsm:ExchangedDocumentContext><rsm:ExchangedDocument><ram:ID>A1</ram:ID><ram:TypeCode>380</ram:TypeCode><ram:IssueDateTime><udt:DateTimeString format=" ++ ((34 ∷ []) ++ (codes "102" ++ ((34 ∷ []) ++ (codes ">20240501</udt:DateTimeString></ram:IssueDateTime></rsm:ExchangedDocument><rsm:SupplyChainTradeTransaction><ram:IncludedSupplyChainTradeLineItem><ram:AssociatedDocumentLineDocument><ram:LineID>1</ram:LineID></ram:AssociatedDocumentLineDocument><ram:SpecifiedTradeProduct><ram:Name>Pen</ram:Name></ram:SpecifiedTradeProduct><ram:SpecifiedLineTradeAgreement><ram:NetPriceProductTradePrice><ram:ChargeAmount>10.00</ram:ChargeAmount></ram:NetPriceProductTradePrice></ram:SpecifiedLineTradeAgreement><ram:SpecifiedLineTradeDelivery><ram:BilledQuantity unitCode=" ++ ((34 ∷ []) ++ (codes "C62" ++ ((34 ∷ []) ++ (codes ">1</ram:BilledQuantity></ram:SpecifiedLineTradeDelivery><ram:SpecifiedLineTradeSettlement><ram:ApplicableTradeTax><ram:TypeCode>VAT</ram:TypeCode><ram:CategoryCode>S</ram:CategoryCode></ram:ApplicableTradeTax><ram:SpecifiedTradeSettlementLineMonetarySummation><ram:LineTotalAmount>10.00</ram:LineTotalAmount></ram:SpecifiedTradeSettlementLineMonetarySummation></ram:SpecifiedLineTradeSettlement></ram:IncludedSupplyChainTradeLineItem><ram:ApplicableHeaderTradeAgreement><ram:SellerTradeParty><ram:Name>Seller</ram:Name><ram:PostalTradeAddress><ram:CountryID>DE</ram:CountryID></ram:PostalTradeAddress></ram:SellerTradeParty><ram:BuyerTradeParty><ram:Name>Buyer</ram:Name><ram:PostalTradeAddress><ram:CountryID>FR</ram:CountryID></ram:PostalTradeAddress></ram:BuyerTradeParty></ram:ApplicableHeaderTradeAgreement><ram:ApplicableHeaderTradeDelivery/><ram:ApplicableHeaderTradeSettlement><ram:InvoiceCurrencyCode>EUR</ram:InvoiceCurrencyCode><ram:PayeeTradeParty><ram:GlobalID schemeID=" ++ ((34 ∷ []) ++ (codes "SEPA" ++ ((34 ∷ []) ++ (codes ">6</ram:GlobalID><ram:Name>P</ram:Name></ram:PayeeTradeParty><ram:ApplicableTradeTax><ram:CalculatedAmount>2.00</ram:CalculatedAmount><ram:TypeCode>VAT</ram:TypeCode><ram:BasisAmount>10.00</ram:BasisAmount><ram:CategoryCode>S</ram:CategoryCode></ram:ApplicableTradeTax><ram:SpecifiedTradeSettlementHeaderMonetarySummation><ram:LineTotalAmount>10.00</ram:LineTotalAmount><ram:TaxBasisTotalAmount>10.00</ram:TaxBasisTotalAmount><ram:GrandTotalAmount>12.00</ram:GrandTotalAmount><ram:DuePayableAmount>12.00</ram:DuePayableAmount></ram:SpecifiedTradeSettlementHeaderMonetarySummation></ram:ApplicableHeaderTradeSettlement></rsm:SupplyChainTradeTransaction></rsm:CrossIndustryInvoice>"))))))))))))))))))))))))))))) ≡ codes "condition 2 BT-60-1"
-unfolding document first_fault beginning extent character_at referred reference_at is_qname comment section is_declaration instruction attribute_at tag_inside value_in_tag start_tag end_tag state_behind events_of fault_of read resume is_utf8 chars encode_utf8 is_char is_white_space is_name_start is_name_char tree_of_events read_scaled read_decimal scaled_text decimal_text read_dashed_day read_plain_day dashed_day_text value_of terms_of terms extension_rows listing_rows occurrence_of parent_of day_from first_row invoice_rows credit_note_rows cii_rows invoice_listing credit_note_listing cii_listing written_units digits last_digits
+row6 : judged cii_rows syntaxes.Ubl (codes "<rsm:CrossIndustryInvoice xmlns:rsm=" ++
+    ((34 ∷ []) ++ (codes "urn:un:unece:uncefact:data:standard:CrossIndustryInvoice:100" ++
+    ((34 ∷ []) ++ (codes " xmlns:ram=" ++
+    ((34 ∷ []) ++ (codes "urn:un:unece:uncefact:data:standard:ReusableAggregateBusinessInformationEntity:100" ++
+    ((34 ∷ []) ++ (codes " xmlns:udt=" ++
+    ((34 ∷ []) ++ (codes "urn:un:unece:uncefact:data:standard:UnqualifiedDataType:100" ++
+    ((34 ∷ []) ++ (codes " xmlns:qdt=" ++
+    ((34 ∷ []) ++ (codes "urn:un:unece:uncefact:data:standard:QualifiedDataType:100" ++
+    ((34 ∷ []) ++ (codes "><rsm:ExchangedDocumentContext><ram:GuidelineSpecifiedDocumentContextParameter><ram:ID>urn:cen.eu:en16931:2017</ram:ID></ram:GuidelineSpecifiedDocumentContextParameter></rsm:ExchangedDocumentContext><rsm:ExchangedDocument><ram:ID>A1</ram:ID><ram:TypeCode>380</ram:TypeCode><ram:IssueDateTime><udt:DateTimeString format=" ++ ((34 ∷ []) ++ (codes "102" ++ ((34 ∷ []) ++ (codes ">20240501</udt:DateTimeString></ram:IssueDateTime></rsm:ExchangedDocument><rsm:SupplyChainTradeTransaction><ram:IncludedSupplyChainTradeLineItem><ram:AssociatedDocumentLineDocument><ram:LineID>1</ram:LineID></ram:AssociatedDocumentLineDocument><ram:SpecifiedTradeProduct><ram:Name>Pen</ram:Name></ram:SpecifiedTradeProduct><ram:SpecifiedLineTradeAgreement><ram:NetPriceProductTradePrice><ram:ChargeAmount>10.00</ram:ChargeAmount></ram:NetPriceProductTradePrice></ram:SpecifiedLineTradeAgreement><ram:SpecifiedLineTradeDelivery><ram:BilledQuantity unitCode=" ++ ((34 ∷ []) ++ (codes "C62" ++ ((34 ∷ []) ++ (codes ">1</ram:BilledQuantity></ram:SpecifiedLineTradeDelivery><ram:SpecifiedLineTradeSettlement><ram:ApplicableTradeTax><ram:TypeCode>VAT</ram:TypeCode><ram:CategoryCode>S</ram:CategoryCode></ram:ApplicableTradeTax><ram:SpecifiedTradeSettlementLineMonetarySummation><ram:LineTotalAmount>10.00</ram:LineTotalAmount></ram:SpecifiedTradeSettlementLineMonetarySummation></ram:SpecifiedLineTradeSettlement></ram:IncludedSupplyChainTradeLineItem><ram:ApplicableHeaderTradeAgreement><ram:SellerTradeParty><ram:Name>Seller</ram:Name><ram:PostalTradeAddress><ram:CountryID>DE</ram:CountryID></ram:PostalTradeAddress></ram:SellerTradeParty><ram:BuyerTradeParty><ram:Name>Buyer</ram:Name><ram:PostalTradeAddress><ram:CountryID>FR</ram:CountryID></ram:PostalTradeAddress></ram:BuyerTradeParty></ram:ApplicableHeaderTradeAgreement><ram:ApplicableHeaderTradeDelivery/><ram:ApplicableHeaderTradeSettlement><ram:InvoiceCurrencyCode>EUR</ram:InvoiceCurrencyCode><ram:PayeeTradeParty><ram:GlobalID schemeID=" ++ ((34 ∷ []) ++ (codes "SEPA" ++ ((34 ∷ []) ++ (codes ">6</ram:GlobalID><ram:Name>P</ram:Name></ram:PayeeTradeParty><ram:ApplicableTradeTax><ram:CalculatedAmount>2.00</ram:CalculatedAmount><ram:TypeCode>VAT</ram:TypeCode><ram:BasisAmount>10.00</ram:BasisAmount><ram:CategoryCode>S</ram:CategoryCode></ram:ApplicableTradeTax><ram:SpecifiedTradeSettlementHeaderMonetarySummation><ram:LineTotalAmount>10.00</ram:LineTotalAmount><ram:TaxBasisTotalAmount>10.00</ram:TaxBasisTotalAmount><ram:GrandTotalAmount>12.00</ram:GrandTotalAmount><ram:DuePayableAmount>12.00</ram:DuePayableAmount></ram:SpecifiedTradeSettlementHeaderMonetarySummation></ram:ApplicableHeaderTradeSettlement></rsm:SupplyChainTradeTransaction></rsm:CrossIndustryInvoice>"))))))))))))))))))))))))))))) ≡ codes "condition 2 BT-60-1"
+unfolding document first_fault beginning extent character_at referred reference_at is_qname comment section is_declaration instruction attribute_at tag_inside
+    value_in_tag start_tag end_tag state_behind events_of fault_of read resume is_utf8 chars encode_utf8 is_char is_white_space is_name_start is_name_char
+    tree_of_events read_scaled read_decimal scaled_text decimal_text read_dashed_day read_plain_day dashed_day_text value_of terms_of terms extension_rows
+    listing_rows occurrence_of parent_of day_from first_row invoice_rows credit_note_rows cii_rows invoice_listing credit_note_listing cii_listing written_units
+    digits last_digits
 row6 = refl
 
 -- means-only-83-ubl
-row7 : judged invoice_rows syntaxes.Ubl (codes "<Invoice xmlns=" ++ ((34 ∷ []) ++ (codes "urn:oasis:names:specification:ubl:schema:xsd:Invoice-2" ++ ((34 ∷ []) ++ (codes " xmlns:cac=" ++ ((34 ∷ []) ++ (codes "urn:oasis:names:specification:ubl:schema:xsd:CommonAggregateComponents-2" ++ ((34 ∷ []) ++ (codes " xmlns:cbc=" ++ ((34 ∷ []) ++ (codes "urn:oasis:names:specification:ubl:schema:xsd:CommonBasicComponents-2" ++ ((34 ∷ []) ++ (codes "><cbc:CustomizationID>urn:cen.eu:en16931:2017</cbc:CustomizationID><cbc:ID>A1</cbc:ID><cbc:IssueDate>2024-05-01</cbc:IssueDate><cbc:InvoiceTypeCode>380</cbc:InvoiceTypeCode><cbc:DocumentCurrencyCode>EUR</cbc:DocumentCurrencyCode><cac:AccountingSupplierParty><cac:Party><cac:PostalAddress><cac:Country><cbc:IdentificationCode>DE</cbc:IdentificationCode></cac:Country></cac:PostalAddress><cac:PartyLegalEntity><cbc:RegistrationName>Seller</cbc:RegistrationName></cac:PartyLegalEntity></cac:Party></cac:AccountingSupplierParty><cac:AccountingCustomerParty><cac:Party><cac:PostalAddress><cac:Country><cbc:IdentificationCode>FR</cbc:IdentificationCode></cac:Country></cac:PostalAddress><cac:PartyLegalEntity><cbc:RegistrationName>Buyer</cbc:RegistrationName></cac:PartyLegalEntity></cac:Party></cac:AccountingCustomerParty><cac:PaymentMeans><cbc:PaymentID>R</cbc:PaymentID></cac:PaymentMeans><cac:TaxTotal><cac:TaxSubtotal><cbc:TaxableAmount currencyID=" ++ ((34 ∷ []) ++ (codes "EUR" ++ ((34 ∷ []) ++ (codes ">10.00</cbc:TaxableAmount><cbc:TaxAmount currencyID=" ++ ((34 ∷ []) ++ (codes "EUR" ++ ((34 ∷ []) ++ (codes ">2.00</cbc:TaxAmount><cac:TaxCategory><cbc:ID>S</cbc:ID><cac:TaxScheme><cbc:ID>VAT</cbc:ID></cac:TaxScheme></cac:TaxCategory></cac:TaxSubtotal></cac:TaxTotal><cac:LegalMonetaryTotal><cbc:LineExtensionAmount currencyID=" ++ ((34 ∷ []) ++ (codes "EUR" ++ ((34 ∷ []) ++ (codes ">10.00</cbc:LineExtensionAmount><cbc:TaxExclusiveAmount currencyID=" ++ ((34 ∷ []) ++ (codes "EUR" ++ ((34 ∷ []) ++ (codes ">10.00</cbc:TaxExclusiveAmount><cbc:TaxInclusiveAmount currencyID=" ++ ((34 ∷ []) ++ (codes "EUR" ++ ((34 ∷ []) ++ (codes ">12.00</cbc:TaxInclusiveAmount><cbc:PayableAmount currencyID=" ++ ((34 ∷ []) ++ (codes "EUR" ++ ((34 ∷ []) ++ (codes ">12.00</cbc:PayableAmount></cac:LegalMonetaryTotal><cac:InvoiceLine><cbc:ID>1</cbc:ID><cbc:InvoicedQuantity unitCode=" ++ ((34 ∷ []) ++ (codes "C62" ++ ((34 ∷ []) ++ (codes ">1</cbc:InvoicedQuantity><cbc:LineExtensionAmount currencyID=" ++ ((34 ∷ []) ++ (codes "EUR" ++ ((34 ∷ []) ++ (codes ">10.00</cbc:LineExtensionAmount><cac:Item><cbc:Name>Pen</cbc:Name><cac:ClassifiedTaxCategory><cbc:ID>S</cbc:ID><cac:TaxScheme><cbc:ID>VAT</cbc:ID></cac:TaxScheme></cac:ClassifiedTaxCategory></cac:Item><cac:Price><cbc:PriceAmount currencyID=" ++ ((34 ∷ []) ++ (codes "EUR" ++ ((34 ∷ []) ++ (codes ">10.00</cbc:PriceAmount></cac:Price></cac:InvoiceLine></Invoice>"))))))))))))))))))))))))))))))))))))))))))))))))) ≡ codes "condition 6 BT-83"
-unfolding document first_fault beginning extent character_at referred reference_at is_qname comment section is_declaration instruction attribute_at tag_inside value_in_tag start_tag end_tag state_behind events_of fault_of read resume is_utf8 chars encode_utf8 is_char is_white_space is_name_start is_name_char tree_of_events read_scaled read_decimal scaled_text decimal_text read_dashed_day read_plain_day dashed_day_text value_of terms_of terms extension_rows listing_rows occurrence_of parent_of day_from first_row invoice_rows credit_note_rows cii_rows invoice_listing credit_note_listing cii_listing written_units digits last_digits
+row7 : judged invoice_rows syntaxes.Ubl (codes "<Invoice xmlns=" ++
+    ((34 ∷ []) ++ (codes "urn:oasis:names:specification:ubl:schema:xsd:Invoice-2" ++
+    ((34 ∷ []) ++ (codes " xmlns:cac=" ++
+    ((34 ∷ []) ++ (codes "urn:oasis:names:specification:ubl:schema:xsd:CommonAggregateComponents-2" ++
+    ((34 ∷ []) ++ (codes " xmlns:cbc=" ++
+    ((34 ∷ []) ++ (codes "urn:oasis:names:specification:ubl:schema:xsd:CommonBasicComponents-2" ++
+    ((34 ∷ []) ++ (codes "><cbc:CustomizationID>urn:cen.eu:en16931:2017</cbc:CustomizationID><cbc:ID>A1</cbc:ID><cbc:IssueDate>2024-05-01</cbc:IssueDate><cbc:InvoiceTypeCode>380</cbc:InvoiceTypeCode><cbc:DocumentCurrencyCode>EUR</cbc:DocumentCurrencyCode><cac:AccountingSupplierParty><cac:Party><cac:PostalAddress><cac:Country><cbc:IdentificationCode>DE</cbc:IdentificationCode></cac:Country></cac:PostalAddress><cac:PartyLegalEntity><cbc:RegistrationName>Seller</cbc:RegistrationName></cac:PartyLegalEntity></cac:Party></cac:AccountingSupplierParty><cac:AccountingCustomerParty><cac:Party><cac:PostalAddress><cac:Country><cbc:IdentificationCode>FR</cbc:IdentificationCode></cac:Country></cac:PostalAddress><cac:PartyLegalEntity><cbc:RegistrationName>Buyer</cbc:RegistrationName></cac:PartyLegalEntity></cac:Party></cac:AccountingCustomerParty><cac:PaymentMeans><cbc:PaymentID>R</cbc:PaymentID></cac:PaymentMeans><cac:TaxTotal><cac:TaxSubtotal><cbc:TaxableAmount currencyID=" ++ ((34 ∷ []) ++ (codes "EUR" ++ ((34 ∷ []) ++ (codes ">10.00</cbc:TaxableAmount><cbc:TaxAmount currencyID=" ++ ((34 ∷ []) ++ (codes "EUR" ++ ((34 ∷ []) ++ (codes ">2.00</cbc:TaxAmount><cac:TaxCategory><cbc:ID>S</cbc:ID><cac:TaxScheme><cbc:ID>VAT</cbc:ID></cac:TaxScheme></cac:TaxCategory></cac:TaxSubtotal></cac:TaxTotal><cac:LegalMonetaryTotal><cbc:LineExtensionAmount currencyID=" ++ ((34 ∷ []) ++ (codes "EUR" ++ ((34 ∷ []) ++ (codes ">10.00</cbc:LineExtensionAmount><cbc:TaxExclusiveAmount currencyID=" ++ ((34 ∷ []) ++ (codes "EUR" ++ ((34 ∷ []) ++ (codes ">10.00</cbc:TaxExclusiveAmount><cbc:TaxInclusiveAmount currencyID=" ++ ((34 ∷ []) ++ (codes "EUR" ++ ((34 ∷ []) ++ (codes ">12.00</cbc:TaxInclusiveAmount><cbc:PayableAmount currencyID=" ++ ((34 ∷ []) ++ (codes "EUR" ++ ((34 ∷ []) ++ (codes ">12.00</cbc:PayableAmount></cac:LegalMonetaryTotal><cac:InvoiceLine><cbc:ID>1</cbc:ID><cbc:InvoicedQuantity unitCode=" ++ ((34 ∷ []) ++ (codes "C62" ++ ((34 ∷ []) ++ (codes ">1</cbc:InvoicedQuantity><cbc:LineExtensionAmount currencyID=" ++ ((34 ∷ []) ++ (codes "EUR" ++ ((34 ∷ []) ++ (codes ">10.00</cbc:LineExtensionAmount><cac:Item><cbc:Name>Pen</cbc:Name><cac:ClassifiedTaxCategory><cbc:ID>S</cbc:ID><cac:TaxScheme><cbc:ID>VAT</cbc:ID></cac:TaxScheme></cac:ClassifiedTaxCategory></cac:Item><cac:Price><cbc:PriceAmount currencyID=" ++ ((34 ∷ []) ++ (codes "EUR" ++ ((34 ∷ []) ++ (codes ">10.00</cbc:PriceAmount></cac:Price></cac:InvoiceLine></Invoice>"))))))))))))))))))))))))))))))))))))))))))))))))) ≡ codes "condition 6 BT-83"
+unfolding document first_fault beginning extent character_at referred reference_at is_qname comment section is_declaration instruction attribute_at tag_inside
+    value_in_tag start_tag end_tag state_behind events_of fault_of read resume is_utf8 chars encode_utf8 is_char is_white_space is_name_start is_name_char
+    tree_of_events read_scaled read_decimal scaled_text decimal_text read_dashed_day read_plain_day dashed_day_text value_of terms_of terms extension_rows
+    listing_rows occurrence_of parent_of day_from first_row invoice_rows credit_note_rows cii_rows invoice_listing credit_note_listing cii_listing written_units
+    digits last_digits
 row7 = refl
 
 -- means-83-89
-row8 : judged invoice_rows syntaxes.Ubl (codes "<Invoice xmlns=" ++ ((34 ∷ []) ++ (codes "urn:oasis:names:specification:ubl:schema:xsd:Invoice-2" ++ ((34 ∷ []) ++ (codes " xmlns:cac=" ++ ((34 ∷ []) ++ (codes "urn:oasis:names:specification:ubl:schema:xsd:CommonAggregateComponents-2" ++ ((34 ∷ []) ++ (codes " xmlns:cbc=" ++ ((34 ∷ []) ++ (codes "urn:oasis:names:specification:ubl:schema:xsd:CommonBasicComponents-2" ++ ((34 ∷ []) ++ (codes "><cbc:CustomizationID>urn:cen.eu:en16931:2017</cbc:CustomizationID><cbc:ID>A1</cbc:ID><cbc:IssueDate>2024-05-01</cbc:IssueDate><cbc:InvoiceTypeCode>380</cbc:InvoiceTypeCode><cbc:DocumentCurrencyCode>EUR</cbc:DocumentCurrencyCode><cac:AccountingSupplierParty><cac:Party><cac:PostalAddress><cac:Country><cbc:IdentificationCode>DE</cbc:IdentificationCode></cac:Country></cac:PostalAddress><cac:PartyLegalEntity><cbc:RegistrationName>Seller</cbc:RegistrationName></cac:PartyLegalEntity></cac:Party></cac:AccountingSupplierParty><cac:AccountingCustomerParty><cac:Party><cac:PostalAddress><cac:Country><cbc:IdentificationCode>FR</cbc:IdentificationCode></cac:Country></cac:PostalAddress><cac:PartyLegalEntity><cbc:RegistrationName>Buyer</cbc:RegistrationName></cac:PartyLegalEntity></cac:Party></cac:AccountingCustomerParty><cac:PaymentMeans><cbc:PaymentID>R</cbc:PaymentID><cac:PaymentMandate><cbc:ID>M</cbc:ID></cac:PaymentMandate></cac:PaymentMeans><cac:TaxTotal><cac:TaxSubtotal><cbc:TaxableAmount currencyID=" ++ ((34 ∷ []) ++ (codes "EUR" ++ ((34 ∷ []) ++ (codes ">10.00</cbc:TaxableAmount><cbc:TaxAmount currencyID=" ++ ((34 ∷ []) ++ (codes "EUR" ++ ((34 ∷ []) ++ (codes ">2.00</cbc:TaxAmount><cac:TaxCategory><cbc:ID>S</cbc:ID><cac:TaxScheme><cbc:ID>VAT</cbc:ID></cac:TaxScheme></cac:TaxCategory></cac:TaxSubtotal></cac:TaxTotal><cac:LegalMonetaryTotal><cbc:LineExtensionAmount currencyID=" ++ ((34 ∷ []) ++ (codes "EUR" ++ ((34 ∷ []) ++ (codes ">10.00</cbc:LineExtensionAmount><cbc:TaxExclusiveAmount currencyID=" ++ ((34 ∷ []) ++ (codes "EUR" ++ ((34 ∷ []) ++ (codes ">10.00</cbc:TaxExclusiveAmount><cbc:TaxInclusiveAmount currencyID=" ++ ((34 ∷ []) ++ (codes "EUR" ++ ((34 ∷ []) ++ (codes ">12.00</cbc:TaxInclusiveAmount><cbc:PayableAmount currencyID=" ++ ((34 ∷ []) ++ (codes "EUR" ++ ((34 ∷ []) ++ (codes ">12.00</cbc:PayableAmount></cac:LegalMonetaryTotal><cac:InvoiceLine><cbc:ID>1</cbc:ID><cbc:InvoicedQuantity unitCode=" ++ ((34 ∷ []) ++ (codes "C62" ++ ((34 ∷ []) ++ (codes ">1</cbc:InvoicedQuantity><cbc:LineExtensionAmount currencyID=" ++ ((34 ∷ []) ++ (codes "EUR" ++ ((34 ∷ []) ++ (codes ">10.00</cbc:LineExtensionAmount><cac:Item><cbc:Name>Pen</cbc:Name><cac:ClassifiedTaxCategory><cbc:ID>S</cbc:ID><cac:TaxScheme><cbc:ID>VAT</cbc:ID></cac:TaxScheme></cac:ClassifiedTaxCategory></cac:Item><cac:Price><cbc:PriceAmount currencyID=" ++ ((34 ∷ []) ++ (codes "EUR" ++ ((34 ∷ []) ++ (codes ">10.00</cbc:PriceAmount></cac:Price></cac:InvoiceLine></Invoice>"))))))))))))))))))))))))))))))))))))))))))))))))) ≡ codes "condition 6 BT-83"
-unfolding document first_fault beginning extent character_at referred reference_at is_qname comment section is_declaration instruction attribute_at tag_inside value_in_tag start_tag end_tag state_behind events_of fault_of read resume is_utf8 chars encode_utf8 is_char is_white_space is_name_start is_name_char tree_of_events read_scaled read_decimal scaled_text decimal_text read_dashed_day read_plain_day dashed_day_text value_of terms_of terms extension_rows listing_rows occurrence_of parent_of day_from first_row invoice_rows credit_note_rows cii_rows invoice_listing credit_note_listing cii_listing written_units digits last_digits
+row8 : judged invoice_rows syntaxes.Ubl (codes "<Invoice xmlns=" ++
+    ((34 ∷ []) ++ (codes "urn:oasis:names:specification:ubl:schema:xsd:Invoice-2" ++
+    ((34 ∷ []) ++ (codes " xmlns:cac=" ++
+    ((34 ∷ []) ++ (codes "urn:oasis:names:specification:ubl:schema:xsd:CommonAggregateComponents-2" ++
+    ((34 ∷ []) ++ (codes " xmlns:cbc=" ++
+    ((34 ∷ []) ++ (codes "urn:oasis:names:specification:ubl:schema:xsd:CommonBasicComponents-2" ++
+    ((34 ∷ []) ++ (codes "><cbc:CustomizationID>urn:cen.eu:en16931:2017</cbc:CustomizationID><cbc:ID>A1</cbc:ID><cbc:IssueDate>2024-05-01</cbc:IssueDate><cbc:InvoiceTypeCode>380</cbc:InvoiceTypeCode><cbc:DocumentCurrencyCode>EUR</cbc:DocumentCurrencyCode><cac:AccountingSupplierParty><cac:Party><cac:PostalAddress><cac:Country><cbc:IdentificationCode>DE</cbc:IdentificationCode></cac:Country></cac:PostalAddress><cac:PartyLegalEntity><cbc:RegistrationName>Seller</cbc:RegistrationName></cac:PartyLegalEntity></cac:Party></cac:AccountingSupplierParty><cac:AccountingCustomerParty><cac:Party><cac:PostalAddress><cac:Country><cbc:IdentificationCode>FR</cbc:IdentificationCode></cac:Country></cac:PostalAddress><cac:PartyLegalEntity><cbc:RegistrationName>Buyer</cbc:RegistrationName></cac:PartyLegalEntity></cac:Party></cac:AccountingCustomerParty><cac:PaymentMeans><cbc:PaymentID>R</cbc:PaymentID><cac:PaymentMandate><cbc:ID>M</cbc:ID></cac:PaymentMandate></cac:PaymentMeans><cac:TaxTotal><cac:TaxSubtotal><cbc:TaxableAmount currencyID=" ++ ((34 ∷ []) ++ (codes "EUR" ++ ((34 ∷ []) ++ (codes ">10.00</cbc:TaxableAmount><cbc:TaxAmount currencyID=" ++ ((34 ∷ []) ++ (codes "EUR" ++ ((34 ∷ []) ++ (codes ">2.00</cbc:TaxAmount><cac:TaxCategory><cbc:ID>S</cbc:ID><cac:TaxScheme><cbc:ID>VAT</cbc:ID></cac:TaxScheme></cac:TaxCategory></cac:TaxSubtotal></cac:TaxTotal><cac:LegalMonetaryTotal><cbc:LineExtensionAmount currencyID=" ++ ((34 ∷ []) ++ (codes "EUR" ++ ((34 ∷ []) ++ (codes ">10.00</cbc:LineExtensionAmount><cbc:TaxExclusiveAmount currencyID=" ++ ((34 ∷ []) ++ (codes "EUR" ++ ((34 ∷ []) ++ (codes ">10.00</cbc:TaxExclusiveAmount><cbc:TaxInclusiveAmount currencyID=" ++ ((34 ∷ []) ++ (codes "EUR" ++ ((34 ∷ []) ++ (codes ">12.00</cbc:TaxInclusiveAmount><cbc:PayableAmount currencyID=" ++ ((34 ∷ []) ++ (codes "EUR" ++ ((34 ∷ []) ++ (codes ">12.00</cbc:PayableAmount></cac:LegalMonetaryTotal><cac:InvoiceLine><cbc:ID>1</cbc:ID><cbc:InvoicedQuantity unitCode=" ++ ((34 ∷ []) ++ (codes "C62" ++ ((34 ∷ []) ++ (codes ">1</cbc:InvoicedQuantity><cbc:LineExtensionAmount currencyID=" ++ ((34 ∷ []) ++ (codes "EUR" ++ ((34 ∷ []) ++ (codes ">10.00</cbc:LineExtensionAmount><cac:Item><cbc:Name>Pen</cbc:Name><cac:ClassifiedTaxCategory><cbc:ID>S</cbc:ID><cac:TaxScheme><cbc:ID>VAT</cbc:ID></cac:TaxScheme></cac:ClassifiedTaxCategory></cac:Item><cac:Price><cbc:PriceAmount currencyID=" ++ ((34 ∷ []) ++ (codes "EUR" ++ ((34 ∷ []) ++ (codes ">10.00</cbc:PriceAmount></cac:Price></cac:InvoiceLine></Invoice>"))))))))))))))))))))))))))))))))))))))))))))))))) ≡ codes "condition 6 BT-83"
+unfolding document first_fault beginning extent character_at referred reference_at is_qname comment section is_declaration instruction attribute_at tag_inside
+    value_in_tag start_tag end_tag state_behind events_of fault_of read resume is_utf8 chars encode_utf8 is_char is_white_space is_name_start is_name_char
+    tree_of_events read_scaled read_decimal scaled_text decimal_text read_dashed_day read_plain_day dashed_day_text value_of terms_of terms extension_rows
+    listing_rows occurrence_of parent_of day_from first_row invoice_rows credit_note_rows cii_rows invoice_listing credit_note_listing cii_listing written_units
+    digits last_digits
 row8 = refl
 
 -- c89-ubl
-row9 : judged cii_rows syntaxes.Ubl (codes "<rsm:CrossIndustryInvoice xmlns:rsm=" ++ ((34 ∷ []) ++ (codes "urn:un:unece:uncefact:data:standard:CrossIndustryInvoice:100" ++ ((34 ∷ []) ++ (codes " xmlns:ram=" ++ ((34 ∷ []) ++ (codes "urn:un:unece:uncefact:data:standard:ReusableAggregateBusinessInformationEntity:100" ++ ((34 ∷ []) ++ (codes " xmlns:udt=" ++ ((34 ∷ []) ++ (codes "urn:un:unece:uncefact:data:standard:UnqualifiedDataType:100" ++ ((34 ∷ []) ++ (codes " xmlns:qdt=" ++ ((34 ∷ []) ++ (codes "urn:un:unece:uncefact:data:standard:QualifiedDataType:100" ++ ((34 ∷ []) ++ (codes "><rsm:ExchangedDocumentContext><ram:GuidelineSpecifiedDocumentContextParameter><ram:ID>urn:cen.eu:en16931:2017</ram:ID></ram:GuidelineSpecifiedDocumentContextParameter></rsm:ExchangedDocumentContext><rsm:ExchangedDocument><ram:ID>A1</ram:ID><ram:TypeCode>380</ram:TypeCode><ram:IssueDateTime><udt:DateTimeString format=" ++ ((34 ∷ []) ++ (codes "102" ++ ((34 ∷ []) ++ (codes ">20240501</udt:DateTimeString></ram:IssueDateTime></rsm:ExchangedDocument><rsm:SupplyChainTradeTransaction><ram:IncludedSupplyChainTradeLineItem><ram:AssociatedDocumentLineDocument><ram:LineID>1</ram:LineID></ram:AssociatedDocumentLineDocument><ram:SpecifiedTradeProduct><ram:Name>Pen</ram:Name></ram:SpecifiedTradeProduct><ram:SpecifiedLineTradeAgreement><ram:NetPriceProductTradePrice><ram:ChargeAmount>10.00</ram:ChargeAmount></ram:NetPriceProductTradePrice></ram:SpecifiedLineTradeAgreement><ram:SpecifiedLineTradeDelivery><ram:BilledQuantity unitCode=" ++ ((34 ∷ []) ++ (codes "C62" ++ ((34 ∷ []) ++ (codes ">1</ram:BilledQuantity></ram:SpecifiedLineTradeDelivery><ram:SpecifiedLineTradeSettlement><ram:ApplicableTradeTax><ram:TypeCode>VAT</ram:TypeCode><ram:CategoryCode>S</ram:CategoryCode></ram:ApplicableTradeTax><ram:SpecifiedTradeSettlementLineMonetarySummation><ram:LineTotalAmount>10.00</ram:LineTotalAmount></ram:SpecifiedTradeSettlementLineMonetarySummation></ram:SpecifiedLineTradeSettlement></ram:IncludedSupplyChainTradeLineItem><ram:ApplicableHeaderTradeAgreement><ram:SellerTradeParty><ram:Name>Seller</ram:Name><ram:PostalTradeAddress><ram:CountryID>DE</ram:CountryID></ram:PostalTradeAddress></ram:SellerTradeParty><ram:BuyerTradeParty><ram:Name>Buyer</ram:Name><ram:PostalTradeAddress><ram:CountryID>FR</ram:CountryID></ram:PostalTradeAddress></ram:BuyerTradeParty></ram:ApplicableHeaderTradeAgreement><ram:ApplicableHeaderTradeDelivery/><ram:ApplicableHeaderTradeSettlement><ram:InvoiceCurrencyCode>EUR</ram:InvoiceCurrencyCode><ram:ApplicableTradeTax><ram:CalculatedAmount>2.00</ram:CalculatedAmount><ram:TypeCode>VAT</ram:TypeCode><ram:BasisAmount>10.00</ram:BasisAmount><ram:CategoryCode>S</ram:CategoryCode></ram:ApplicableTradeTax><ram:SpecifiedTradePaymentTerms><ram:DirectDebitMandateID>M</ram:DirectDebitMandateID></ram:SpecifiedTradePaymentTerms><ram:SpecifiedTradeSettlementHeaderMonetarySummation><ram:LineTotalAmount>10.00</ram:LineTotalAmount><ram:TaxBasisTotalAmount>10.00</ram:TaxBasisTotalAmount><ram:GrandTotalAmount>12.00</ram:GrandTotalAmount><ram:DuePayableAmount>12.00</ram:DuePayableAmount></ram:SpecifiedTradeSettlementHeaderMonetarySummation></ram:ApplicableHeaderTradeSettlement></rsm:SupplyChainTradeTransaction></rsm:CrossIndustryInvoice>"))))))))))))))))))))))))) ≡ codes "condition 6 BT-89"
-unfolding document first_fault beginning extent character_at referred reference_at is_qname comment section is_declaration instruction attribute_at tag_inside value_in_tag start_tag end_tag state_behind events_of fault_of read resume is_utf8 chars encode_utf8 is_char is_white_space is_name_start is_name_char tree_of_events read_scaled read_decimal scaled_text decimal_text read_dashed_day read_plain_day dashed_day_text value_of terms_of terms extension_rows listing_rows occurrence_of parent_of day_from first_row invoice_rows credit_note_rows cii_rows invoice_listing credit_note_listing cii_listing written_units digits last_digits
+row9 : judged cii_rows syntaxes.Ubl (codes "<rsm:CrossIndustryInvoice xmlns:rsm=" ++
+    ((34 ∷ []) ++ (codes "urn:un:unece:uncefact:data:standard:CrossIndustryInvoice:100" ++
+    ((34 ∷ []) ++ (codes " xmlns:ram=" ++
+    ((34 ∷ []) ++ (codes "urn:un:unece:uncefact:data:standard:ReusableAggregateBusinessInformationEntity:100" ++
+    ((34 ∷ []) ++ (codes " xmlns:udt=" ++
+    ((34 ∷ []) ++ (codes "urn:un:unece:uncefact:data:standard:UnqualifiedDataType:100" ++
+    ((34 ∷ []) ++ (codes " xmlns:qdt=" ++
+    ((34 ∷ []) ++ (codes "urn:un:unece:uncefact:data:standard:QualifiedDataType:100" ++
+    ((34 ∷ []) ++ (codes "><rsm:ExchangedDocumentContext><ram:GuidelineSpecifiedDocumentContextParameter><ram:ID>urn:cen.eu:en16931:2017</ram:ID></ram:GuidelineSpecifiedDocumentContextParameter></rsm:ExchangedDocumentContext><rsm:ExchangedDocument><ram:ID>A1</ram:ID><ram:TypeCode>380</ram:TypeCode><ram:IssueDateTime><udt:DateTimeString format=" ++ ((34 ∷ []) ++ (codes "102" ++ ((34 ∷ []) ++ (codes ">20240501</udt:DateTimeString></ram:IssueDateTime></rsm:ExchangedDocument><rsm:SupplyChainTradeTransaction><ram:IncludedSupplyChainTradeLineItem><ram:AssociatedDocumentLineDocument><ram:LineID>1</ram:LineID></ram:AssociatedDocumentLineDocument><ram:SpecifiedTradeProduct><ram:Name>Pen</ram:Name></ram:SpecifiedTradeProduct><ram:SpecifiedLineTradeAgreement><ram:NetPriceProductTradePrice><ram:ChargeAmount>10.00</ram:ChargeAmount></ram:NetPriceProductTradePrice></ram:SpecifiedLineTradeAgreement><ram:SpecifiedLineTradeDelivery><ram:BilledQuantity unitCode=" ++ ((34 ∷ []) ++ (codes "C62" ++ ((34 ∷ []) ++ (codes ">1</ram:BilledQuantity></ram:SpecifiedLineTradeDelivery><ram:SpecifiedLineTradeSettlement><ram:ApplicableTradeTax><ram:TypeCode>VAT</ram:TypeCode><ram:CategoryCode>S</ram:CategoryCode></ram:ApplicableTradeTax><ram:SpecifiedTradeSettlementLineMonetarySummation><ram:LineTotalAmount>10.00</ram:LineTotalAmount></ram:SpecifiedTradeSettlementLineMonetarySummation></ram:SpecifiedLineTradeSettlement></ram:IncludedSupplyChainTradeLineItem><ram:ApplicableHeaderTradeAgreement><ram:SellerTradeParty><ram:Name>Seller</ram:Name><ram:PostalTradeAddress><ram:CountryID>DE</ram:CountryID></ram:PostalTradeAddress></ram:SellerTradeParty><ram:BuyerTradeParty><ram:Name>Buyer</ram:Name><ram:PostalTradeAddress><ram:CountryID>FR</ram:CountryID></ram:PostalTradeAddress></ram:BuyerTradeParty></ram:ApplicableHeaderTradeAgreement><ram:ApplicableHeaderTradeDelivery/><ram:ApplicableHeaderTradeSettlement><ram:InvoiceCurrencyCode>EUR</ram:InvoiceCurrencyCode><ram:ApplicableTradeTax><ram:CalculatedAmount>2.00</ram:CalculatedAmount><ram:TypeCode>VAT</ram:TypeCode><ram:BasisAmount>10.00</ram:BasisAmount><ram:CategoryCode>S</ram:CategoryCode></ram:ApplicableTradeTax><ram:SpecifiedTradePaymentTerms><ram:DirectDebitMandateID>M</ram:DirectDebitMandateID></ram:SpecifiedTradePaymentTerms><ram:SpecifiedTradeSettlementHeaderMonetarySummation><ram:LineTotalAmount>10.00</ram:LineTotalAmount><ram:TaxBasisTotalAmount>10.00</ram:TaxBasisTotalAmount><ram:GrandTotalAmount>12.00</ram:GrandTotalAmount><ram:DuePayableAmount>12.00</ram:DuePayableAmount></ram:SpecifiedTradeSettlementHeaderMonetarySummation></ram:ApplicableHeaderTradeSettlement></rsm:SupplyChainTradeTransaction></rsm:CrossIndustryInvoice>"))))))))))))))))))))))))) ≡ codes "condition 6 BT-89"
+unfolding document first_fault beginning extent character_at referred reference_at is_qname comment section is_declaration instruction attribute_at tag_inside
+    value_in_tag start_tag end_tag state_behind events_of fault_of read resume is_utf8 chars encode_utf8 is_char is_white_space is_name_start is_name_char
+    tree_of_events read_scaled read_decimal scaled_text decimal_text read_dashed_day read_plain_day dashed_day_text value_of terms_of terms extension_rows
+    listing_rows occurrence_of parent_of day_from first_row invoice_rows credit_note_rows cii_rows invoice_listing credit_note_listing cii_listing written_units
+    digits last_digits
 row9 = refl
 
 -- cref-line-scheme-alone
-row10 : judged cii_rows syntaxes.Ubl (codes "<rsm:CrossIndustryInvoice xmlns:rsm=" ++ ((34 ∷ []) ++ (codes "urn:un:unece:uncefact:data:standard:CrossIndustryInvoice:100" ++ ((34 ∷ []) ++ (codes " xmlns:ram=" ++ ((34 ∷ []) ++ (codes "urn:un:unece:uncefact:data:standard:ReusableAggregateBusinessInformationEntity:100" ++ ((34 ∷ []) ++ (codes " xmlns:udt=" ++ ((34 ∷ []) ++ (codes "urn:un:unece:uncefact:data:standard:UnqualifiedDataType:100" ++ ((34 ∷ []) ++ (codes " xmlns:qdt=" ++ ((34 ∷ []) ++ (codes "urn:un:unece:uncefact:data:standard:QualifiedDataType:100" ++ ((34 ∷ []) ++ (codes "><rsm:ExchangedDocumentContext><ram:GuidelineSpecifiedDocumentContextParameter><ram:ID>urn:cen.eu:en16931:2017</ram:ID></ram:GuidelineSpecifiedDocumentContextParameter></rsm:ExchangedDocumentContext><rsm:ExchangedDocument><ram:ID>A1</ram:ID><ram:TypeCode>380</ram:TypeCode><ram:IssueDateTime><udt:DateTimeString format=" ++ ((34 ∷ []) ++ (codes "102" ++ ((34 ∷ []) ++ (codes ">20240501</udt:DateTimeString></ram:IssueDateTime></rsm:ExchangedDocument><rsm:SupplyChainTradeTransaction><ram:IncludedSupplyChainTradeLineItem><ram:AssociatedDocumentLineDocument><ram:LineID>1</ram:LineID></ram:AssociatedDocumentLineDocument><ram:SpecifiedTradeProduct><ram:Name>Pen</ram:Name></ram:SpecifiedTradeProduct><ram:SpecifiedLineTradeAgreement><ram:NetPriceProductTradePrice><ram:ChargeAmount>10.00</ram:ChargeAmount></ram:NetPriceProductTradePrice></ram:SpecifiedLineTradeAgreement><ram:SpecifiedLineTradeDelivery><ram:BilledQuantity unitCode=" ++ ((34 ∷ []) ++ (codes "C62" ++ ((34 ∷ []) ++ (codes ">1</ram:BilledQuantity></ram:SpecifiedLineTradeDelivery><ram:SpecifiedLineTradeSettlement><ram:ApplicableTradeTax><ram:TypeCode>VAT</ram:TypeCode><ram:CategoryCode>S</ram:CategoryCode></ram:ApplicableTradeTax><ram:SpecifiedTradeSettlementLineMonetarySummation><ram:LineTotalAmount>10.00</ram:LineTotalAmount></ram:SpecifiedTradeSettlementLineMonetarySummation><ram:AdditionalReferencedDocument><ram:TypeCode>130</ram:TypeCode><ram:ReferenceTypeCode>ABT</ram:ReferenceTypeCode></ram:AdditionalReferencedDocument></ram:SpecifiedLineTradeSettlement></ram:IncludedSupplyChainTradeLineItem><ram:ApplicableHeaderTradeAgreement><ram:SellerTradeParty><ram:Name>Seller</ram:Name><ram:PostalTradeAddress><ram:CountryID>DE</ram:CountryID></ram:PostalTradeAddress></ram:SellerTradeParty><ram:BuyerTradeParty><ram:Name>Buyer</ram:Name><ram:PostalTradeAddress><ram:CountryID>FR</ram:CountryID></ram:PostalTradeAddress></ram:BuyerTradeParty></ram:ApplicableHeaderTradeAgreement><ram:ApplicableHeaderTradeDelivery/><ram:ApplicableHeaderTradeSettlement><ram:InvoiceCurrencyCode>EUR</ram:InvoiceCurrencyCode><ram:ApplicableTradeTax><ram:CalculatedAmount>2.00</ram:CalculatedAmount><ram:TypeCode>VAT</ram:TypeCode><ram:BasisAmount>10.00</ram:BasisAmount><ram:CategoryCode>S</ram:CategoryCode></ram:ApplicableTradeTax><ram:SpecifiedTradeSettlementHeaderMonetarySummation><ram:LineTotalAmount>10.00</ram:LineTotalAmount><ram:TaxBasisTotalAmount>10.00</ram:TaxBasisTotalAmount><ram:GrandTotalAmount>12.00</ram:GrandTotalAmount><ram:DuePayableAmount>12.00</ram:DuePayableAmount></ram:SpecifiedTradeSettlementHeaderMonetarySummation></ram:ApplicableHeaderTradeSettlement></rsm:SupplyChainTradeTransaction></rsm:CrossIndustryInvoice>"))))))))))))))))))))))))) ≡ codes "condition 1 BT-128-1"
-unfolding document first_fault beginning extent character_at referred reference_at is_qname comment section is_declaration instruction attribute_at tag_inside value_in_tag start_tag end_tag state_behind events_of fault_of read resume is_utf8 chars encode_utf8 is_char is_white_space is_name_start is_name_char tree_of_events read_scaled read_decimal scaled_text decimal_text read_dashed_day read_plain_day dashed_day_text value_of terms_of terms extension_rows listing_rows occurrence_of parent_of day_from first_row invoice_rows credit_note_rows cii_rows invoice_listing credit_note_listing cii_listing written_units digits last_digits
+row10 : judged cii_rows syntaxes.Ubl (codes "<rsm:CrossIndustryInvoice xmlns:rsm=" ++
+    ((34 ∷ []) ++ (codes "urn:un:unece:uncefact:data:standard:CrossIndustryInvoice:100" ++
+    ((34 ∷ []) ++ (codes " xmlns:ram=" ++
+    ((34 ∷ []) ++ (codes "urn:un:unece:uncefact:data:standard:ReusableAggregateBusinessInformationEntity:100" ++
+    ((34 ∷ []) ++ (codes " xmlns:udt=" ++
+    ((34 ∷ []) ++ (codes "urn:un:unece:uncefact:data:standard:UnqualifiedDataType:100" ++
+    ((34 ∷ []) ++ (codes " xmlns:qdt=" ++
+    ((34 ∷ []) ++ (codes "urn:un:unece:uncefact:data:standard:QualifiedDataType:100" ++
+    ((34 ∷ []) ++ (codes "><rsm:ExchangedDocumentContext><ram:GuidelineSpecifiedDocumentContextParameter><ram:ID>urn:cen.eu:en16931:2017</ram:ID></ram:GuidelineSpecifiedDocumentContextParameter></rsm:ExchangedDocumentContext><rsm:ExchangedDocument><ram:ID>A1</ram:ID><ram:TypeCode>380</ram:TypeCode><ram:IssueDateTime><udt:DateTimeString format=" ++ ((34 ∷ []) ++ (codes "102" ++ ((34 ∷ []) ++ (codes ">20240501</udt:DateTimeString></ram:IssueDateTime></rsm:ExchangedDocument><rsm:SupplyChainTradeTransaction><ram:IncludedSupplyChainTradeLineItem><ram:AssociatedDocumentLineDocument><ram:LineID>1</ram:LineID></ram:AssociatedDocumentLineDocument><ram:SpecifiedTradeProduct><ram:Name>Pen</ram:Name></ram:SpecifiedTradeProduct><ram:SpecifiedLineTradeAgreement><ram:NetPriceProductTradePrice><ram:ChargeAmount>10.00</ram:ChargeAmount></ram:NetPriceProductTradePrice></ram:SpecifiedLineTradeAgreement><ram:SpecifiedLineTradeDelivery><ram:BilledQuantity unitCode=" ++ ((34 ∷ []) ++ (codes "C62" ++ ((34 ∷ []) ++ (codes ">1</ram:BilledQuantity></ram:SpecifiedLineTradeDelivery><ram:SpecifiedLineTradeSettlement><ram:ApplicableTradeTax><ram:TypeCode>VAT</ram:TypeCode><ram:CategoryCode>S</ram:CategoryCode></ram:ApplicableTradeTax><ram:SpecifiedTradeSettlementLineMonetarySummation><ram:LineTotalAmount>10.00</ram:LineTotalAmount></ram:SpecifiedTradeSettlementLineMonetarySummation><ram:AdditionalReferencedDocument><ram:TypeCode>130</ram:TypeCode><ram:ReferenceTypeCode>ABT</ram:ReferenceTypeCode></ram:AdditionalReferencedDocument></ram:SpecifiedLineTradeSettlement></ram:IncludedSupplyChainTradeLineItem><ram:ApplicableHeaderTradeAgreement><ram:SellerTradeParty><ram:Name>Seller</ram:Name><ram:PostalTradeAddress><ram:CountryID>DE</ram:CountryID></ram:PostalTradeAddress></ram:SellerTradeParty><ram:BuyerTradeParty><ram:Name>Buyer</ram:Name><ram:PostalTradeAddress><ram:CountryID>FR</ram:CountryID></ram:PostalTradeAddress></ram:BuyerTradeParty></ram:ApplicableHeaderTradeAgreement><ram:ApplicableHeaderTradeDelivery/><ram:ApplicableHeaderTradeSettlement><ram:InvoiceCurrencyCode>EUR</ram:InvoiceCurrencyCode><ram:ApplicableTradeTax><ram:CalculatedAmount>2.00</ram:CalculatedAmount><ram:TypeCode>VAT</ram:TypeCode><ram:BasisAmount>10.00</ram:BasisAmount><ram:CategoryCode>S</ram:CategoryCode></ram:ApplicableTradeTax><ram:SpecifiedTradeSettlementHeaderMonetarySummation><ram:LineTotalAmount>10.00</ram:LineTotalAmount><ram:TaxBasisTotalAmount>10.00</ram:TaxBasisTotalAmount><ram:GrandTotalAmount>12.00</ram:GrandTotalAmount><ram:DuePayableAmount>12.00</ram:DuePayableAmount></ram:SpecifiedTradeSettlementHeaderMonetarySummation></ram:ApplicableHeaderTradeSettlement></rsm:SupplyChainTradeTransaction></rsm:CrossIndustryInvoice>"))))))))))))))))))))))))) ≡ codes "condition 1 BT-128-1"
+unfolding document first_fault beginning extent character_at referred reference_at is_qname comment section is_declaration instruction attribute_at tag_inside
+    value_in_tag start_tag end_tag state_behind events_of fault_of read resume is_utf8 chars encode_utf8 is_char is_white_space is_name_start is_name_char
+    tree_of_events read_scaled read_decimal scaled_text decimal_text read_dashed_day read_plain_day dashed_day_text value_of terms_of terms extension_rows
+    listing_rows occurrence_of parent_of day_from first_row invoice_rows credit_note_rows cii_rows invoice_listing credit_note_listing cii_listing written_units
+    digits last_digits
 row10 = refl
 
 -- cond-2-before-4
-row11 : judged cii_rows syntaxes.Ubl (codes "<rsm:CrossIndustryInvoice xmlns:rsm=" ++ ((34 ∷ []) ++ (codes "urn:un:unece:uncefact:data:standard:CrossIndustryInvoice:100" ++ ((34 ∷ []) ++ (codes " xmlns:ram=" ++ ((34 ∷ []) ++ (codes "urn:un:unece:uncefact:data:standard:ReusableAggregateBusinessInformationEntity:100" ++ ((34 ∷ []) ++ (codes " xmlns:udt=" ++ ((34 ∷ []) ++ (codes "urn:un:unece:uncefact:data:standard:UnqualifiedDataType:100" ++ ((34 ∷ []) ++ (codes " xmlns:qdt=" ++ ((34 ∷ []) ++ (codes "urn:un:unece:uncefact:data:standard:QualifiedDataType:100" ++ ((34 ∷ []) ++ (codes "><rsm:ExchangedDocumentContext><ram:GuidelineSpecifiedDocumentContextParameter><ram:ID>urn:cen.eu:en16931:2017</ram:ID></ram:GuidelineSpecifiedDocumentContextParameter></rsm:ExchangedDocumentContext><rsm:ExchangedDocument><ram:ID>A1</ram:ID><ram:TypeCode>380</ram:TypeCode><ram:IssueDateTime><udt:DateTimeString format=" ++ ((34 ∷ []) ++ (codes "102" ++ ((34 ∷ []) ++ (codes ">20240501</udt:DateTimeString></ram:IssueDateTime><ram:IncludedNote><ram:Content>#AAI#x</ram:Content></ram:IncludedNote></rsm:ExchangedDocument><rsm:SupplyChainTradeTransaction><ram:IncludedSupplyChainTradeLineItem><ram:AssociatedDocumentLineDocument><ram:LineID>1</ram:LineID></ram:AssociatedDocumentLineDocument><ram:SpecifiedTradeProduct><ram:Name>Pen</ram:Name></ram:SpecifiedTradeProduct><ram:SpecifiedLineTradeAgreement><ram:NetPriceProductTradePrice><ram:ChargeAmount>10.00</ram:ChargeAmount></ram:NetPriceProductTradePrice></ram:SpecifiedLineTradeAgreement><ram:SpecifiedLineTradeDelivery><ram:BilledQuantity unitCode=" ++ ((34 ∷ []) ++ (codes "C62" ++ ((34 ∷ []) ++ (codes ">1</ram:BilledQuantity></ram:SpecifiedLineTradeDelivery><ram:SpecifiedLineTradeSettlement><ram:ApplicableTradeTax><ram:TypeCode>VAT</ram:TypeCode><ram:CategoryCode>S</ram:CategoryCode></ram:ApplicableTradeTax><ram:SpecifiedTradeSettlementLineMonetarySummation><ram:LineTotalAmount>10.00</ram:LineTotalAmount></ram:SpecifiedTradeSettlementLineMonetarySummation></ram:SpecifiedLineTradeSettlement></ram:IncludedSupplyChainTradeLineItem><ram:ApplicableHeaderTradeAgreement><ram:SellerTradeParty><ram:GlobalID schemeID=" ++ ((34 ∷ []) ++ (codes "SEPA" ++ ((34 ∷ []) ++ (codes ">6</ram:GlobalID><ram:Name>Seller</ram:Name><ram:PostalTradeAddress><ram:CountryID>DE</ram:CountryID></ram:PostalTradeAddress></ram:SellerTradeParty><ram:BuyerTradeParty><ram:Name>Buyer</ram:Name><ram:PostalTradeAddress><ram:CountryID>FR</ram:CountryID></ram:PostalTradeAddress></ram:BuyerTradeParty></ram:ApplicableHeaderTradeAgreement><ram:ApplicableHeaderTradeDelivery/><ram:ApplicableHeaderTradeSettlement><ram:PaymentReference>R</ram:PaymentReference><ram:InvoiceCurrencyCode>EUR</ram:InvoiceCurrencyCode><ram:ApplicableTradeTax><ram:CalculatedAmount>2.00</ram:CalculatedAmount><ram:TypeCode>VAT</ram:TypeCode><ram:BasisAmount>10.00</ram:BasisAmount><ram:CategoryCode>S</ram:CategoryCode></ram:ApplicableTradeTax><ram:SpecifiedTradeSettlementHeaderMonetarySummation><ram:LineTotalAmount>10.00</ram:LineTotalAmount><ram:TaxBasisTotalAmount>10.00</ram:TaxBasisTotalAmount><ram:GrandTotalAmount>12.00</ram:GrandTotalAmount><ram:DuePayableAmount>12.00</ram:DuePayableAmount></ram:SpecifiedTradeSettlementHeaderMonetarySummation></ram:ApplicableHeaderTradeSettlement></rsm:SupplyChainTradeTransaction></rsm:CrossIndustryInvoice>"))))))))))))))))))))))))))))) ≡ codes "condition 2 BT-29-1"
-unfolding document first_fault beginning extent character_at referred reference_at is_qname comment section is_declaration instruction attribute_at tag_inside value_in_tag start_tag end_tag state_behind events_of fault_of read resume is_utf8 chars encode_utf8 is_char is_white_space is_name_start is_name_char tree_of_events read_scaled read_decimal scaled_text decimal_text read_dashed_day read_plain_day dashed_day_text value_of terms_of terms extension_rows listing_rows occurrence_of parent_of day_from first_row invoice_rows credit_note_rows cii_rows invoice_listing credit_note_listing cii_listing written_units digits last_digits
+row11 : judged cii_rows syntaxes.Ubl (codes "<rsm:CrossIndustryInvoice xmlns:rsm=" ++
+    ((34 ∷ []) ++ (codes "urn:un:unece:uncefact:data:standard:CrossIndustryInvoice:100" ++
+    ((34 ∷ []) ++ (codes " xmlns:ram=" ++
+    ((34 ∷ []) ++ (codes "urn:un:unece:uncefact:data:standard:ReusableAggregateBusinessInformationEntity:100" ++
+    ((34 ∷ []) ++ (codes " xmlns:udt=" ++
+    ((34 ∷ []) ++ (codes "urn:un:unece:uncefact:data:standard:UnqualifiedDataType:100" ++
+    ((34 ∷ []) ++ (codes " xmlns:qdt=" ++
+    ((34 ∷ []) ++ (codes "urn:un:unece:uncefact:data:standard:QualifiedDataType:100" ++
+    ((34 ∷ []) ++ (codes "><rsm:ExchangedDocumentContext><ram:GuidelineSpecifiedDocumentContextParameter><ram:ID>urn:cen.eu:en16931:2017</ram:ID></ram:GuidelineSpecifiedDocumentContextParameter></rsm:ExchangedDocumentContext><rsm:ExchangedDocument><ram:ID>A1</ram:ID><ram:TypeCode>380</ram:TypeCode><ram:IssueDateTime><udt:DateTimeString format=" ++ ((34 ∷ []) ++ (codes "102" ++ ((34 ∷ []) ++ (codes ">20240501</udt:DateTimeString></ram:IssueDateTime><ram:IncludedNote><ram:Content>#AAI#x</ram:Content></ram:IncludedNote></rsm:ExchangedDocument><rsm:SupplyChainTradeTransaction><ram:IncludedSupplyChainTradeLineItem><ram:AssociatedDocumentLineDocument><ram:LineID>1</ram:LineID></ram:AssociatedDocumentLineDocument><ram:SpecifiedTradeProduct><ram:Name>Pen</ram:Name></ram:SpecifiedTradeProduct><ram:SpecifiedLineTradeAgreement><ram:NetPriceProductTradePrice><ram:ChargeAmount>10.00</ram:ChargeAmount></ram:NetPriceProductTradePrice></ram:SpecifiedLineTradeAgreement><ram:SpecifiedLineTradeDelivery><ram:BilledQuantity unitCode=" ++ ((34 ∷ []) ++ (codes "C62" ++ ((34 ∷ []) ++ (codes ">1</ram:BilledQuantity></ram:SpecifiedLineTradeDelivery><ram:SpecifiedLineTradeSettlement><ram:ApplicableTradeTax><ram:TypeCode>VAT</ram:TypeCode><ram:CategoryCode>S</ram:CategoryCode></ram:ApplicableTradeTax><ram:SpecifiedTradeSettlementLineMonetarySummation><ram:LineTotalAmount>10.00</ram:LineTotalAmount></ram:SpecifiedTradeSettlementLineMonetarySummation></ram:SpecifiedLineTradeSettlement></ram:IncludedSupplyChainTradeLineItem><ram:ApplicableHeaderTradeAgreement><ram:SellerTradeParty><ram:GlobalID schemeID=" ++ ((34 ∷ []) ++ (codes "SEPA" ++ ((34 ∷ []) ++ (codes ">6</ram:GlobalID><ram:Name>Seller</ram:Name><ram:PostalTradeAddress><ram:CountryID>DE</ram:CountryID></ram:PostalTradeAddress></ram:SellerTradeParty><ram:BuyerTradeParty><ram:Name>Buyer</ram:Name><ram:PostalTradeAddress><ram:CountryID>FR</ram:CountryID></ram:PostalTradeAddress></ram:BuyerTradeParty></ram:ApplicableHeaderTradeAgreement><ram:ApplicableHeaderTradeDelivery/><ram:ApplicableHeaderTradeSettlement><ram:PaymentReference>R</ram:PaymentReference><ram:InvoiceCurrencyCode>EUR</ram:InvoiceCurrencyCode><ram:ApplicableTradeTax><ram:CalculatedAmount>2.00</ram:CalculatedAmount><ram:TypeCode>VAT</ram:TypeCode><ram:BasisAmount>10.00</ram:BasisAmount><ram:CategoryCode>S</ram:CategoryCode></ram:ApplicableTradeTax><ram:SpecifiedTradeSettlementHeaderMonetarySummation><ram:LineTotalAmount>10.00</ram:LineTotalAmount><ram:TaxBasisTotalAmount>10.00</ram:TaxBasisTotalAmount><ram:GrandTotalAmount>12.00</ram:GrandTotalAmount><ram:DuePayableAmount>12.00</ram:DuePayableAmount></ram:SpecifiedTradeSettlementHeaderMonetarySummation></ram:ApplicableHeaderTradeSettlement></rsm:SupplyChainTradeTransaction></rsm:CrossIndustryInvoice>"))))))))))))))))))))))))))))) ≡ codes "condition 2 BT-29-1"
+unfolding document first_fault beginning extent character_at referred reference_at is_qname comment section is_declaration instruction attribute_at tag_inside
+    value_in_tag start_tag end_tag state_behind events_of fault_of read resume is_utf8 chars encode_utf8 is_char is_white_space is_name_start is_name_char
+    tree_of_events read_scaled read_decimal scaled_text decimal_text read_dashed_day read_plain_day dashed_day_text value_of terms_of terms extension_rows
+    listing_rows occurrence_of parent_of day_from first_row invoice_rows credit_note_rows cii_rows invoice_listing credit_note_listing cii_listing written_units
+    digits last_digits
 row11 = refl
 
 -- cond-4-before-6
-row12 : judged cii_rows syntaxes.Ubl (codes "<rsm:CrossIndustryInvoice xmlns:rsm=" ++ ((34 ∷ []) ++ (codes "urn:un:unece:uncefact:data:standard:CrossIndustryInvoice:100" ++ ((34 ∷ []) ++ (codes " xmlns:ram=" ++ ((34 ∷ []) ++ (codes "urn:un:unece:uncefact:data:standard:ReusableAggregateBusinessInformationEntity:100" ++ ((34 ∷ []) ++ (codes " xmlns:udt=" ++ ((34 ∷ []) ++ (codes "urn:un:unece:uncefact:data:standard:UnqualifiedDataType:100" ++ ((34 ∷ []) ++ (codes " xmlns:qdt=" ++ ((34 ∷ []) ++ (codes "urn:un:unece:uncefact:data:standard:QualifiedDataType:100" ++ ((34 ∷ []) ++ (codes "><rsm:ExchangedDocumentContext><ram:GuidelineSpecifiedDocumentContextParameter><ram:ID>urn:cen.eu:en16931:2017</ram:ID></ram:GuidelineSpecifiedDocumentContextParameter></rsm:ExchangedDocumentContext><rsm:ExchangedDocument><ram:ID>A1</ram:ID><ram:TypeCode>380</ram:TypeCode><ram:IssueDateTime><udt:DateTimeString format=" ++ ((34 ∷ []) ++ (codes "102" ++ ((34 ∷ []) ++ (codes ">20240501</udt:DateTimeString></ram:IssueDateTime><ram:IncludedNote><ram:Content>#AAI#x</ram:Content></ram:IncludedNote></rsm:ExchangedDocument><rsm:SupplyChainTradeTransaction><ram:IncludedSupplyChainTradeLineItem><ram:AssociatedDocumentLineDocument><ram:LineID>1</ram:LineID></ram:AssociatedDocumentLineDocument><ram:SpecifiedTradeProduct><ram:Name>Pen</ram:Name></ram:SpecifiedTradeProduct><ram:SpecifiedLineTradeAgreement><ram:NetPriceProductTradePrice><ram:ChargeAmount>10.00</ram:ChargeAmount></ram:NetPriceProductTradePrice></ram:SpecifiedLineTradeAgreement><ram:SpecifiedLineTradeDelivery><ram:BilledQuantity unitCode=" ++ ((34 ∷ []) ++ (codes "C62" ++ ((34 ∷ []) ++ (codes ">1</ram:BilledQuantity></ram:SpecifiedLineTradeDelivery><ram:SpecifiedLineTradeSettlement><ram:ApplicableTradeTax><ram:TypeCode>VAT</ram:TypeCode><ram:CategoryCode>S</ram:CategoryCode></ram:ApplicableTradeTax><ram:SpecifiedTradeSettlementLineMonetarySummation><ram:LineTotalAmount>10.00</ram:LineTotalAmount></ram:SpecifiedTradeSettlementLineMonetarySummation></ram:SpecifiedLineTradeSettlement></ram:IncludedSupplyChainTradeLineItem><ram:ApplicableHeaderTradeAgreement><ram:SellerTradeParty><ram:Name>Seller</ram:Name><ram:PostalTradeAddress><ram:CountryID>DE</ram:CountryID></ram:PostalTradeAddress></ram:SellerTradeParty><ram:BuyerTradeParty><ram:Name>Buyer</ram:Name><ram:PostalTradeAddress><ram:CountryID>FR</ram:CountryID></ram:PostalTradeAddress></ram:BuyerTradeParty></ram:ApplicableHeaderTradeAgreement><ram:ApplicableHeaderTradeDelivery/><ram:ApplicableHeaderTradeSettlement><ram:PaymentReference>R</ram:PaymentReference><ram:InvoiceCurrencyCode>EUR</ram:InvoiceCurrencyCode><ram:ApplicableTradeTax><ram:CalculatedAmount>2.00</ram:CalculatedAmount><ram:TypeCode>VAT</ram:TypeCode><ram:BasisAmount>10.00</ram:BasisAmount><ram:CategoryCode>S</ram:CategoryCode></ram:ApplicableTradeTax><ram:SpecifiedTradeSettlementHeaderMonetarySummation><ram:LineTotalAmount>10.00</ram:LineTotalAmount><ram:TaxBasisTotalAmount>10.00</ram:TaxBasisTotalAmount><ram:GrandTotalAmount>12.00</ram:GrandTotalAmount><ram:DuePayableAmount>12.00</ram:DuePayableAmount></ram:SpecifiedTradeSettlementHeaderMonetarySummation></ram:ApplicableHeaderTradeSettlement></rsm:SupplyChainTradeTransaction></rsm:CrossIndustryInvoice>"))))))))))))))))))))))))) ≡ codes "condition 4 BT-22"
-unfolding document first_fault beginning extent character_at referred reference_at is_qname comment section is_declaration instruction attribute_at tag_inside value_in_tag start_tag end_tag state_behind events_of fault_of read resume is_utf8 chars encode_utf8 is_char is_white_space is_name_start is_name_char tree_of_events read_scaled read_decimal scaled_text decimal_text read_dashed_day read_plain_day dashed_day_text value_of terms_of terms extension_rows listing_rows occurrence_of parent_of day_from first_row invoice_rows credit_note_rows cii_rows invoice_listing credit_note_listing cii_listing written_units digits last_digits
+row12 : judged cii_rows syntaxes.Ubl (codes "<rsm:CrossIndustryInvoice xmlns:rsm=" ++
+    ((34 ∷ []) ++ (codes "urn:un:unece:uncefact:data:standard:CrossIndustryInvoice:100" ++
+    ((34 ∷ []) ++ (codes " xmlns:ram=" ++
+    ((34 ∷ []) ++ (codes "urn:un:unece:uncefact:data:standard:ReusableAggregateBusinessInformationEntity:100" ++
+    ((34 ∷ []) ++ (codes " xmlns:udt=" ++
+    ((34 ∷ []) ++ (codes "urn:un:unece:uncefact:data:standard:UnqualifiedDataType:100" ++
+    ((34 ∷ []) ++ (codes " xmlns:qdt=" ++
+    ((34 ∷ []) ++ (codes "urn:un:unece:uncefact:data:standard:QualifiedDataType:100" ++
+    ((34 ∷ []) ++ (codes "><rsm:ExchangedDocumentContext><ram:GuidelineSpecifiedDocumentContextParameter><ram:ID>urn:cen.eu:en16931:2017</ram:ID></ram:GuidelineSpecifiedDocumentContextParameter></rsm:ExchangedDocumentContext><rsm:ExchangedDocument><ram:ID>A1</ram:ID><ram:TypeCode>380</ram:TypeCode><ram:IssueDateTime><udt:DateTimeString format=" ++ ((34 ∷ []) ++ (codes "102" ++ ((34 ∷ []) ++ (codes ">20240501</udt:DateTimeString></ram:IssueDateTime><ram:IncludedNote><ram:Content>#AAI#x</ram:Content></ram:IncludedNote></rsm:ExchangedDocument><rsm:SupplyChainTradeTransaction><ram:IncludedSupplyChainTradeLineItem><ram:AssociatedDocumentLineDocument><ram:LineID>1</ram:LineID></ram:AssociatedDocumentLineDocument><ram:SpecifiedTradeProduct><ram:Name>Pen</ram:Name></ram:SpecifiedTradeProduct><ram:SpecifiedLineTradeAgreement><ram:NetPriceProductTradePrice><ram:ChargeAmount>10.00</ram:ChargeAmount></ram:NetPriceProductTradePrice></ram:SpecifiedLineTradeAgreement><ram:SpecifiedLineTradeDelivery><ram:BilledQuantity unitCode=" ++ ((34 ∷ []) ++ (codes "C62" ++ ((34 ∷ []) ++ (codes ">1</ram:BilledQuantity></ram:SpecifiedLineTradeDelivery><ram:SpecifiedLineTradeSettlement><ram:ApplicableTradeTax><ram:TypeCode>VAT</ram:TypeCode><ram:CategoryCode>S</ram:CategoryCode></ram:ApplicableTradeTax><ram:SpecifiedTradeSettlementLineMonetarySummation><ram:LineTotalAmount>10.00</ram:LineTotalAmount></ram:SpecifiedTradeSettlementLineMonetarySummation></ram:SpecifiedLineTradeSettlement></ram:IncludedSupplyChainTradeLineItem><ram:ApplicableHeaderTradeAgreement><ram:SellerTradeParty><ram:Name>Seller</ram:Name><ram:PostalTradeAddress><ram:CountryID>DE</ram:CountryID></ram:PostalTradeAddress></ram:SellerTradeParty><ram:BuyerTradeParty><ram:Name>Buyer</ram:Name><ram:PostalTradeAddress><ram:CountryID>FR</ram:CountryID></ram:PostalTradeAddress></ram:BuyerTradeParty></ram:ApplicableHeaderTradeAgreement><ram:ApplicableHeaderTradeDelivery/><ram:ApplicableHeaderTradeSettlement><ram:PaymentReference>R</ram:PaymentReference><ram:InvoiceCurrencyCode>EUR</ram:InvoiceCurrencyCode><ram:ApplicableTradeTax><ram:CalculatedAmount>2.00</ram:CalculatedAmount><ram:TypeCode>VAT</ram:TypeCode><ram:BasisAmount>10.00</ram:BasisAmount><ram:CategoryCode>S</ram:CategoryCode></ram:ApplicableTradeTax><ram:SpecifiedTradeSettlementHeaderMonetarySummation><ram:LineTotalAmount>10.00</ram:LineTotalAmount><ram:TaxBasisTotalAmount>10.00</ram:TaxBasisTotalAmount><ram:GrandTotalAmount>12.00</ram:GrandTotalAmount><ram:DuePayableAmount>12.00</ram:DuePayableAmount></ram:SpecifiedTradeSettlementHeaderMonetarySummation></ram:ApplicableHeaderTradeSettlement></rsm:SupplyChainTradeTransaction></rsm:CrossIndustryInvoice>"))))))))))))))))))))))))) ≡ codes "condition 4 BT-22"
+unfolding document first_fault beginning extent character_at referred reference_at is_qname comment section is_declaration instruction attribute_at tag_inside
+    value_in_tag start_tag end_tag state_behind events_of fault_of read resume is_utf8 chars encode_utf8 is_char is_white_space is_name_start is_name_char
+    tree_of_events read_scaled read_decimal scaled_text decimal_text read_dashed_day read_plain_day dashed_day_text value_of terms_of terms extension_rows
+    listing_rows occurrence_of parent_of day_from first_row invoice_rows credit_note_rows cii_rows invoice_listing credit_note_listing cii_listing written_units
+    digits last_digits
 row12 = refl
 
 -- cond-1-before-2
-row13 : judged cii_rows syntaxes.Ubl (codes "<rsm:CrossIndustryInvoice xmlns:rsm=" ++ ((34 ∷ []) ++ (codes "urn:un:unece:uncefact:data:standard:CrossIndustryInvoice:100" ++ ((34 ∷ []) ++ (codes " xmlns:ram=" ++ ((34 ∷ []) ++ (codes "urn:un:unece:uncefact:data:standard:ReusableAggregateBusinessInformationEntity:100" ++ ((34 ∷ []) ++ (codes " xmlns:udt=" ++ ((34 ∷ []) ++ (codes "urn:un:unece:uncefact:data:standard:UnqualifiedDataType:100" ++ ((34 ∷ []) ++ (codes " xmlns:qdt=" ++ ((34 ∷ []) ++ (codes "urn:un:unece:uncefact:data:standard:QualifiedDataType:100" ++ ((34 ∷ []) ++ (codes "><rsm:ExchangedDocumentContext><ram:GuidelineSpecifiedDocumentContextParameter><ram:ID>urn:cen.eu:en16931:2017</ram:ID></ram:GuidelineSpecifiedDocumentContextParameter></rsm:ExchangedDocumentContext><rsm:ExchangedDocument><ram:ID>A1</ram:ID><ram:TypeCode>380</ram:TypeCode><ram:IssueDateTime><udt:DateTimeString format=" ++ ((34 ∷ []) ++ (codes "102" ++ ((34 ∷ []) ++ (codes ">20240501</udt:DateTimeString></ram:IssueDateTime></rsm:ExchangedDocument><rsm:SupplyChainTradeTransaction><ram:IncludedSupplyChainTradeLineItem><ram:AssociatedDocumentLineDocument><ram:LineID>1</ram:LineID></ram:AssociatedDocumentLineDocument><ram:SpecifiedTradeProduct><ram:Name>Pen</ram:Name></ram:SpecifiedTradeProduct><ram:SpecifiedLineTradeAgreement><ram:NetPriceProductTradePrice><ram:ChargeAmount>10.00</ram:ChargeAmount></ram:NetPriceProductTradePrice></ram:SpecifiedLineTradeAgreement><ram:SpecifiedLineTradeDelivery><ram:BilledQuantity unitCode=" ++ ((34 ∷ []) ++ (codes "C62" ++ ((34 ∷ []) ++ (codes ">1</ram:BilledQuantity></ram:SpecifiedLineTradeDelivery><ram:SpecifiedLineTradeSettlement><ram:ApplicableTradeTax><ram:TypeCode>VAT</ram:TypeCode><ram:CategoryCode>S</ram:CategoryCode></ram:ApplicableTradeTax><ram:SpecifiedTradeSettlementLineMonetarySummation><ram:LineTotalAmount>10.00</ram:LineTotalAmount></ram:SpecifiedTradeSettlementLineMonetarySummation></ram:SpecifiedLineTradeSettlement></ram:IncludedSupplyChainTradeLineItem><ram:ApplicableHeaderTradeAgreement><ram:SellerTradeParty><ram:GlobalID schemeID=" ++ ((34 ∷ []) ++ (codes "SEPA" ++ ((34 ∷ []) ++ (codes ">6</ram:GlobalID><ram:Name>Seller</ram:Name><ram:PostalTradeAddress><ram:CountryID>DE</ram:CountryID></ram:PostalTradeAddress></ram:SellerTradeParty><ram:BuyerTradeParty><ram:Name>Buyer</ram:Name><ram:PostalTradeAddress><ram:CountryID>FR</ram:CountryID></ram:PostalTradeAddress></ram:BuyerTradeParty><ram:AdditionalReferencedDocument><ram:TypeCode>130</ram:TypeCode><ram:ReferenceTypeCode>ABT</ram:ReferenceTypeCode></ram:AdditionalReferencedDocument></ram:ApplicableHeaderTradeAgreement><ram:ApplicableHeaderTradeDelivery/><ram:ApplicableHeaderTradeSettlement><ram:InvoiceCurrencyCode>EUR</ram:InvoiceCurrencyCode><ram:ApplicableTradeTax><ram:CalculatedAmount>2.00</ram:CalculatedAmount><ram:TypeCode>VAT</ram:TypeCode><ram:BasisAmount>10.00</ram:BasisAmount><ram:CategoryCode>S</ram:CategoryCode></ram:ApplicableTradeTax><ram:SpecifiedTradeSettlementHeaderMonetarySummation><ram:LineTotalAmount>10.00</ram:LineTotalAmount><ram:TaxBasisTotalAmount>10.00</ram:TaxBasisTotalAmount><ram:GrandTotalAmount>12.00</ram:GrandTotalAmount><ram:DuePayableAmount>12.00</ram:DuePayableAmount></ram:SpecifiedTradeSettlementHeaderMonetarySummation></ram:ApplicableHeaderTradeSettlement></rsm:SupplyChainTradeTransaction></rsm:CrossIndustryInvoice>"))))))))))))))))))))))))))))) ≡ codes "condition 1 BT-18-1"
-unfolding document first_fault beginning extent character_at referred reference_at is_qname comment section is_declaration instruction attribute_at tag_inside value_in_tag start_tag end_tag state_behind events_of fault_of read resume is_utf8 chars encode_utf8 is_char is_white_space is_name_start is_name_char tree_of_events read_scaled read_decimal scaled_text decimal_text read_dashed_day read_plain_day dashed_day_text value_of terms_of terms extension_rows listing_rows occurrence_of parent_of day_from first_row invoice_rows credit_note_rows cii_rows invoice_listing credit_note_listing cii_listing written_units digits last_digits
+row13 : judged cii_rows syntaxes.Ubl (codes "<rsm:CrossIndustryInvoice xmlns:rsm=" ++
+    ((34 ∷ []) ++ (codes "urn:un:unece:uncefact:data:standard:CrossIndustryInvoice:100" ++
+    ((34 ∷ []) ++ (codes " xmlns:ram=" ++
+    ((34 ∷ []) ++ (codes "urn:un:unece:uncefact:data:standard:ReusableAggregateBusinessInformationEntity:100" ++
+    ((34 ∷ []) ++ (codes " xmlns:udt=" ++
+    ((34 ∷ []) ++ (codes "urn:un:unece:uncefact:data:standard:UnqualifiedDataType:100" ++
+    ((34 ∷ []) ++ (codes " xmlns:qdt=" ++
+    ((34 ∷ []) ++ (codes "urn:un:unece:uncefact:data:standard:QualifiedDataType:100" ++
+    ((34 ∷ []) ++ (codes "><rsm:ExchangedDocumentContext><ram:GuidelineSpecifiedDocumentContextParameter><ram:ID>urn:cen.eu:en16931:2017</ram:ID></ram:GuidelineSpecifiedDocumentContextParameter></rsm:ExchangedDocumentContext><rsm:ExchangedDocument><ram:ID>A1</ram:ID><ram:TypeCode>380</ram:TypeCode><ram:IssueDateTime><udt:DateTimeString format=" ++ ((34 ∷ []) ++ (codes "102" ++ ((34 ∷ []) ++ (codes ">20240501</udt:DateTimeString></ram:IssueDateTime></rsm:ExchangedDocument><rsm:SupplyChainTradeTransaction><ram:IncludedSupplyChainTradeLineItem><ram:AssociatedDocumentLineDocument><ram:LineID>1</ram:LineID></ram:AssociatedDocumentLineDocument><ram:SpecifiedTradeProduct><ram:Name>Pen</ram:Name></ram:SpecifiedTradeProduct><ram:SpecifiedLineTradeAgreement><ram:NetPriceProductTradePrice><ram:ChargeAmount>10.00</ram:ChargeAmount></ram:NetPriceProductTradePrice></ram:SpecifiedLineTradeAgreement><ram:SpecifiedLineTradeDelivery><ram:BilledQuantity unitCode=" ++ ((34 ∷ []) ++ (codes "C62" ++ ((34 ∷ []) ++ (codes ">1</ram:BilledQuantity></ram:SpecifiedLineTradeDelivery><ram:SpecifiedLineTradeSettlement><ram:ApplicableTradeTax><ram:TypeCode>VAT</ram:TypeCode><ram:CategoryCode>S</ram:CategoryCode></ram:ApplicableTradeTax><ram:SpecifiedTradeSettlementLineMonetarySummation><ram:LineTotalAmount>10.00</ram:LineTotalAmount></ram:SpecifiedTradeSettlementLineMonetarySummation></ram:SpecifiedLineTradeSettlement></ram:IncludedSupplyChainTradeLineItem><ram:ApplicableHeaderTradeAgreement><ram:SellerTradeParty><ram:GlobalID schemeID=" ++ ((34 ∷ []) ++ (codes "SEPA" ++ ((34 ∷ []) ++ (codes ">6</ram:GlobalID><ram:Name>Seller</ram:Name><ram:PostalTradeAddress><ram:CountryID>DE</ram:CountryID></ram:PostalTradeAddress></ram:SellerTradeParty><ram:BuyerTradeParty><ram:Name>Buyer</ram:Name><ram:PostalTradeAddress><ram:CountryID>FR</ram:CountryID></ram:PostalTradeAddress></ram:BuyerTradeParty><ram:AdditionalReferencedDocument><ram:TypeCode>130</ram:TypeCode><ram:ReferenceTypeCode>ABT</ram:ReferenceTypeCode></ram:AdditionalReferencedDocument></ram:ApplicableHeaderTradeAgreement><ram:ApplicableHeaderTradeDelivery/><ram:ApplicableHeaderTradeSettlement><ram:InvoiceCurrencyCode>EUR</ram:InvoiceCurrencyCode><ram:ApplicableTradeTax><ram:CalculatedAmount>2.00</ram:CalculatedAmount><ram:TypeCode>VAT</ram:TypeCode><ram:BasisAmount>10.00</ram:BasisAmount><ram:CategoryCode>S</ram:CategoryCode></ram:ApplicableTradeTax><ram:SpecifiedTradeSettlementHeaderMonetarySummation><ram:LineTotalAmount>10.00</ram:LineTotalAmount><ram:TaxBasisTotalAmount>10.00</ram:TaxBasisTotalAmount><ram:GrandTotalAmount>12.00</ram:GrandTotalAmount><ram:DuePayableAmount>12.00</ram:DuePayableAmount></ram:SpecifiedTradeSettlementHeaderMonetarySummation></ram:ApplicableHeaderTradeSettlement></rsm:SupplyChainTradeTransaction></rsm:CrossIndustryInvoice>"))))))))))))))))))))))))))))) ≡ codes "condition 1 BT-18-1"
+unfolding document first_fault beginning extent character_at referred reference_at is_qname comment section is_declaration instruction attribute_at tag_inside
+    value_in_tag start_tag end_tag state_behind events_of fault_of read resume is_utf8 chars encode_utf8 is_char is_white_space is_name_start is_name_char
+    tree_of_events read_scaled read_decimal scaled_text decimal_text read_dashed_day read_plain_day dashed_day_text value_of terms_of terms extension_rows
+    listing_rows occurrence_of parent_of day_from first_row invoice_rows credit_note_rows cii_rows invoice_listing credit_note_listing cii_listing written_units
+    digits last_digits
 row13 = refl
 
 -- cond-2-before-3
-row14 : judged cii_rows syntaxes.Ubl (codes "<rsm:CrossIndustryInvoice xmlns:rsm=" ++ ((34 ∷ []) ++ (codes "urn:un:unece:uncefact:data:standard:CrossIndustryInvoice:100" ++ ((34 ∷ []) ++ (codes " xmlns:ram=" ++ ((34 ∷ []) ++ (codes "urn:un:unece:uncefact:data:standard:ReusableAggregateBusinessInformationEntity:100" ++ ((34 ∷ []) ++ (codes " xmlns:udt=" ++ ((34 ∷ []) ++ (codes "urn:un:unece:uncefact:data:standard:UnqualifiedDataType:100" ++ ((34 ∷ []) ++ (codes " xmlns:qdt=" ++ ((34 ∷ []) ++ (codes "urn:un:unece:uncefact:data:standard:QualifiedDataType:100" ++ ((34 ∷ []) ++ (codes "><rsm:ExchangedDocumentContext><ram:GuidelineSpecifiedDocumentContextParameter><ram:ID>urn:cen.eu:en16931:2017</ram:ID></ram:GuidelineSpecifiedDocumentContextParameter></rsm:ExchangedDocumentContext><rsm:ExchangedDocument><ram:ID>A1</ram:ID><ram:TypeCode>380</ram:TypeCode><ram:IssueDateTime><udt:DateTimeString format=" ++ ((34 ∷ []) ++ (codes "102" ++ ((34 ∷ []) ++ (codes ">20240501</udt:DateTimeString></ram:IssueDateTime></rsm:ExchangedDocument><rsm:SupplyChainTradeTransaction><ram:IncludedSupplyChainTradeLineItem><ram:AssociatedDocumentLineDocument><ram:LineID>1</ram:LineID></ram:AssociatedDocumentLineDocument><ram:SpecifiedTradeProduct><ram:Name>Pen</ram:Name></ram:SpecifiedTradeProduct><ram:SpecifiedLineTradeAgreement><ram:NetPriceProductTradePrice><ram:ChargeAmount>10.00</ram:ChargeAmount></ram:NetPriceProductTradePrice></ram:SpecifiedLineTradeAgreement><ram:SpecifiedLineTradeDelivery><ram:BilledQuantity unitCode=" ++ ((34 ∷ []) ++ (codes "C62" ++ ((34 ∷ []) ++ (codes ">1</ram:BilledQuantity></ram:SpecifiedLineTradeDelivery><ram:SpecifiedLineTradeSettlement><ram:ApplicableTradeTax><ram:TypeCode>VAT</ram:TypeCode><ram:CategoryCode>S</ram:CategoryCode></ram:ApplicableTradeTax><ram:SpecifiedTradeSettlementLineMonetarySummation><ram:LineTotalAmount>10.00</ram:LineTotalAmount></ram:SpecifiedTradeSettlementLineMonetarySummation></ram:SpecifiedLineTradeSettlement></ram:IncludedSupplyChainTradeLineItem><ram:ApplicableHeaderTradeAgreement><ram:SellerTradeParty><ram:GlobalID schemeID=" ++ ((34 ∷ []) ++ (codes "SEPA" ++ ((34 ∷ []) ++ (codes ">6</ram:GlobalID><ram:Name>Seller</ram:Name><ram:PostalTradeAddress><ram:CountryID>DE</ram:CountryID></ram:PostalTradeAddress></ram:SellerTradeParty><ram:BuyerTradeParty><ram:Name>Buyer</ram:Name><ram:PostalTradeAddress><ram:CountryID>FR</ram:CountryID></ram:PostalTradeAddress></ram:BuyerTradeParty><ram:SellerOrderReferencedDocument><ram:IssuerAssignedID>7</ram:IssuerAssignedID></ram:SellerOrderReferencedDocument><ram:BuyerOrderReferencedDocument><ram:IssuerAssignedID>NA</ram:IssuerAssignedID></ram:BuyerOrderReferencedDocument></ram:ApplicableHeaderTradeAgreement><ram:ApplicableHeaderTradeDelivery/><ram:ApplicableHeaderTradeSettlement><ram:InvoiceCurrencyCode>EUR</ram:InvoiceCurrencyCode><ram:ApplicableTradeTax><ram:CalculatedAmount>2.00</ram:CalculatedAmount><ram:TypeCode>VAT</ram:TypeCode><ram:BasisAmount>10.00</ram:BasisAmount><ram:CategoryCode>S</ram:CategoryCode></ram:ApplicableTradeTax><ram:SpecifiedTradeSettlementHeaderMonetarySummation><ram:LineTotalAmount>10.00</ram:LineTotalAmount><ram:TaxBasisTotalAmount>10.00</ram:TaxBasisTotalAmount><ram:GrandTotalAmount>12.00</ram:GrandTotalAmount><ram:DuePayableAmount>12.00</ram:DuePayableAmount></ram:SpecifiedTradeSettlementHeaderMonetarySummation></ram:ApplicableHeaderTradeSettlement></rsm:SupplyChainTradeTransaction></rsm:CrossIndustryInvoice>"))))))))))))))))))))))))))))) ≡ codes "condition 2 BT-29-1"
-unfolding document first_fault beginning extent character_at referred reference_at is_qname comment section is_declaration instruction attribute_at tag_inside value_in_tag start_tag end_tag state_behind events_of fault_of read resume is_utf8 chars encode_utf8 is_char is_white_space is_name_start is_name_char tree_of_events read_scaled read_decimal scaled_text decimal_text read_dashed_day read_plain_day dashed_day_text value_of terms_of terms extension_rows listing_rows occurrence_of parent_of day_from first_row invoice_rows credit_note_rows cii_rows invoice_listing credit_note_listing cii_listing written_units digits last_digits
+row14 : judged cii_rows syntaxes.Ubl (codes "<rsm:CrossIndustryInvoice xmlns:rsm=" ++
+    ((34 ∷ []) ++ (codes "urn:un:unece:uncefact:data:standard:CrossIndustryInvoice:100" ++
+    ((34 ∷ []) ++ (codes " xmlns:ram=" ++
+    ((34 ∷ []) ++ (codes "urn:un:unece:uncefact:data:standard:ReusableAggregateBusinessInformationEntity:100" ++
+    ((34 ∷ []) ++ (codes " xmlns:udt=" ++
+    ((34 ∷ []) ++ (codes "urn:un:unece:uncefact:data:standard:UnqualifiedDataType:100" ++
+    ((34 ∷ []) ++ (codes " xmlns:qdt=" ++
+    ((34 ∷ []) ++ (codes "urn:un:unece:uncefact:data:standard:QualifiedDataType:100" ++
+    ((34 ∷ []) ++ (codes "><rsm:ExchangedDocumentContext><ram:GuidelineSpecifiedDocumentContextParameter><ram:ID>urn:cen.eu:en16931:2017</ram:ID></ram:GuidelineSpecifiedDocumentContextParameter></rsm:ExchangedDocumentContext><rsm:ExchangedDocument><ram:ID>A1</ram:ID><ram:TypeCode>380</ram:TypeCode><ram:IssueDateTime><udt:DateTimeString format=" ++ ((34 ∷ []) ++ (codes "102" ++ ((34 ∷ []) ++ (codes ">20240501</udt:DateTimeString></ram:IssueDateTime></rsm:ExchangedDocument><rsm:SupplyChainTradeTransaction><ram:IncludedSupplyChainTradeLineItem><ram:AssociatedDocumentLineDocument><ram:LineID>1</ram:LineID></ram:AssociatedDocumentLineDocument><ram:SpecifiedTradeProduct><ram:Name>Pen</ram:Name></ram:SpecifiedTradeProduct><ram:SpecifiedLineTradeAgreement><ram:NetPriceProductTradePrice><ram:ChargeAmount>10.00</ram:ChargeAmount></ram:NetPriceProductTradePrice></ram:SpecifiedLineTradeAgreement><ram:SpecifiedLineTradeDelivery><ram:BilledQuantity unitCode=" ++ ((34 ∷ []) ++ (codes "C62" ++ ((34 ∷ []) ++ (codes ">1</ram:BilledQuantity></ram:SpecifiedLineTradeDelivery><ram:SpecifiedLineTradeSettlement><ram:ApplicableTradeTax><ram:TypeCode>VAT</ram:TypeCode><ram:CategoryCode>S</ram:CategoryCode></ram:ApplicableTradeTax><ram:SpecifiedTradeSettlementLineMonetarySummation><ram:LineTotalAmount>10.00</ram:LineTotalAmount></ram:SpecifiedTradeSettlementLineMonetarySummation></ram:SpecifiedLineTradeSettlement></ram:IncludedSupplyChainTradeLineItem><ram:ApplicableHeaderTradeAgreement><ram:SellerTradeParty><ram:GlobalID schemeID=" ++ ((34 ∷ []) ++ (codes "SEPA" ++ ((34 ∷ []) ++ (codes ">6</ram:GlobalID><ram:Name>Seller</ram:Name><ram:PostalTradeAddress><ram:CountryID>DE</ram:CountryID></ram:PostalTradeAddress></ram:SellerTradeParty><ram:BuyerTradeParty><ram:Name>Buyer</ram:Name><ram:PostalTradeAddress><ram:CountryID>FR</ram:CountryID></ram:PostalTradeAddress></ram:BuyerTradeParty><ram:SellerOrderReferencedDocument><ram:IssuerAssignedID>7</ram:IssuerAssignedID></ram:SellerOrderReferencedDocument><ram:BuyerOrderReferencedDocument><ram:IssuerAssignedID>NA</ram:IssuerAssignedID></ram:BuyerOrderReferencedDocument></ram:ApplicableHeaderTradeAgreement><ram:ApplicableHeaderTradeDelivery/><ram:ApplicableHeaderTradeSettlement><ram:InvoiceCurrencyCode>EUR</ram:InvoiceCurrencyCode><ram:ApplicableTradeTax><ram:CalculatedAmount>2.00</ram:CalculatedAmount><ram:TypeCode>VAT</ram:TypeCode><ram:BasisAmount>10.00</ram:BasisAmount><ram:CategoryCode>S</ram:CategoryCode></ram:ApplicableTradeTax><ram:SpecifiedTradeSettlementHeaderMonetarySummation><ram:LineTotalAmount>10.00</ram:LineTotalAmount><ram:TaxBasisTotalAmount>10.00</ram:TaxBasisTotalAmount><ram:GrandTotalAmount>12.00</ram:GrandTotalAmount><ram:DuePayableAmount>12.00</ram:DuePayableAmount></ram:SpecifiedTradeSettlementHeaderMonetarySummation></ram:ApplicableHeaderTradeSettlement></rsm:SupplyChainTradeTransaction></rsm:CrossIndustryInvoice>"))))))))))))))))))))))))))))) ≡ codes "condition 2 BT-29-1"
+unfolding document first_fault beginning extent character_at referred reference_at is_qname comment section is_declaration instruction attribute_at tag_inside
+    value_in_tag start_tag end_tag state_behind events_of fault_of read resume is_utf8 chars encode_utf8 is_char is_white_space is_name_start is_name_char
+    tree_of_events read_scaled read_decimal scaled_text decimal_text read_dashed_day read_plain_day dashed_day_text value_of terms_of terms extension_rows
+    listing_rows occurrence_of parent_of day_from first_row invoice_rows credit_note_rows cii_rows invoice_listing credit_note_listing cii_listing written_units
+    digits last_digits
 row14 = refl
 
 -- cond-4-first-entry
-row15 : judged cii_rows syntaxes.Ubl (codes "<rsm:CrossIndustryInvoice xmlns:rsm=" ++ ((34 ∷ []) ++ (codes "urn:un:unece:uncefact:data:standard:CrossIndustryInvoice:100" ++ ((34 ∷ []) ++ (codes " xmlns:ram=" ++ ((34 ∷ []) ++ (codes "urn:un:unece:uncefact:data:standard:ReusableAggregateBusinessInformationEntity:100" ++ ((34 ∷ []) ++ (codes " xmlns:udt=" ++ ((34 ∷ []) ++ (codes "urn:un:unece:uncefact:data:standard:UnqualifiedDataType:100" ++ ((34 ∷ []) ++ (codes " xmlns:qdt=" ++ ((34 ∷ []) ++ (codes "urn:un:unece:uncefact:data:standard:QualifiedDataType:100" ++ ((34 ∷ []) ++ (codes "><rsm:ExchangedDocumentContext><ram:GuidelineSpecifiedDocumentContextParameter><ram:ID>urn:cen.eu:en16931:2017</ram:ID></ram:GuidelineSpecifiedDocumentContextParameter></rsm:ExchangedDocumentContext><rsm:ExchangedDocument><ram:ID>A1</ram:ID><ram:TypeCode>380</ram:TypeCode><ram:IssueDateTime><udt:DateTimeString format=" ++ ((34 ∷ []) ++ (codes "102" ++ ((34 ∷ []) ++ (codes ">20240501</udt:DateTimeString></ram:IssueDateTime><ram:IncludedNote><ram:Content>#AAI#x</ram:Content></ram:IncludedNote><ram:IncludedNote><ram:Content>y</ram:Content><ram:SubjectCode>toolong</ram:SubjectCode></ram:IncludedNote></rsm:ExchangedDocument><rsm:SupplyChainTradeTransaction><ram:IncludedSupplyChainTradeLineItem><ram:AssociatedDocumentLineDocument><ram:LineID>1</ram:LineID></ram:AssociatedDocumentLineDocument><ram:SpecifiedTradeProduct><ram:Name>Pen</ram:Name></ram:SpecifiedTradeProduct><ram:SpecifiedLineTradeAgreement><ram:NetPriceProductTradePrice><ram:ChargeAmount>10.00</ram:ChargeAmount></ram:NetPriceProductTradePrice></ram:SpecifiedLineTradeAgreement><ram:SpecifiedLineTradeDelivery><ram:BilledQuantity unitCode=" ++ ((34 ∷ []) ++ (codes "C62" ++ ((34 ∷ []) ++ (codes ">1</ram:BilledQuantity></ram:SpecifiedLineTradeDelivery><ram:SpecifiedLineTradeSettlement><ram:ApplicableTradeTax><ram:TypeCode>VAT</ram:TypeCode><ram:CategoryCode>S</ram:CategoryCode></ram:ApplicableTradeTax><ram:SpecifiedTradeSettlementLineMonetarySummation><ram:LineTotalAmount>10.00</ram:LineTotalAmount></ram:SpecifiedTradeSettlementLineMonetarySummation></ram:SpecifiedLineTradeSettlement></ram:IncludedSupplyChainTradeLineItem><ram:ApplicableHeaderTradeAgreement><ram:SellerTradeParty><ram:Name>Seller</ram:Name><ram:PostalTradeAddress><ram:CountryID>DE</ram:CountryID></ram:PostalTradeAddress></ram:SellerTradeParty><ram:BuyerTradeParty><ram:Name>Buyer</ram:Name><ram:PostalTradeAddress><ram:CountryID>FR</ram:CountryID></ram:PostalTradeAddress></ram:BuyerTradeParty></ram:ApplicableHeaderTradeAgreement><ram:ApplicableHeaderTradeDelivery/><ram:ApplicableHeaderTradeSettlement><ram:InvoiceCurrencyCode>EUR</ram:InvoiceCurrencyCode><ram:ApplicableTradeTax><ram:CalculatedAmount>2.00</ram:CalculatedAmount><ram:TypeCode>VAT</ram:TypeCode><ram:BasisAmount>10.00</ram:BasisAmount><ram:CategoryCode>S</ram:CategoryCode></ram:ApplicableTradeTax><ram:SpecifiedTradeSettlementHeaderMonetarySummation><ram:LineTotalAmount>10.00</ram:LineTotalAmount><ram:TaxBasisTotalAmount>10.00</ram:TaxBasisTotalAmount><ram:GrandTotalAmount>12.00</ram:GrandTotalAmount><ram:DuePayableAmount>12.00</ram:DuePayableAmount></ram:SpecifiedTradeSettlementHeaderMonetarySummation></ram:ApplicableHeaderTradeSettlement></rsm:SupplyChainTradeTransaction></rsm:CrossIndustryInvoice>"))))))))))))))))))))))))) ≡ codes "condition 4 BT-22"
-unfolding document first_fault beginning extent character_at referred reference_at is_qname comment section is_declaration instruction attribute_at tag_inside value_in_tag start_tag end_tag state_behind events_of fault_of read resume is_utf8 chars encode_utf8 is_char is_white_space is_name_start is_name_char tree_of_events read_scaled read_decimal scaled_text decimal_text read_dashed_day read_plain_day dashed_day_text value_of terms_of terms extension_rows listing_rows occurrence_of parent_of day_from first_row invoice_rows credit_note_rows cii_rows invoice_listing credit_note_listing cii_listing written_units digits last_digits
+row15 : judged cii_rows syntaxes.Ubl (codes "<rsm:CrossIndustryInvoice xmlns:rsm=" ++
+    ((34 ∷ []) ++ (codes "urn:un:unece:uncefact:data:standard:CrossIndustryInvoice:100" ++
+    ((34 ∷ []) ++ (codes " xmlns:ram=" ++
+    ((34 ∷ []) ++ (codes "urn:un:unece:uncefact:data:standard:ReusableAggregateBusinessInformationEntity:100" ++
+    ((34 ∷ []) ++ (codes " xmlns:udt=" ++
+    ((34 ∷ []) ++ (codes "urn:un:unece:uncefact:data:standard:UnqualifiedDataType:100" ++
+    ((34 ∷ []) ++ (codes " xmlns:qdt=" ++
+    ((34 ∷ []) ++ (codes "urn:un:unece:uncefact:data:standard:QualifiedDataType:100" ++
+    ((34 ∷ []) ++ (codes "><rsm:ExchangedDocumentContext><ram:GuidelineSpecifiedDocumentContextParameter><ram:ID>urn:cen.eu:en16931:2017</ram:ID></ram:GuidelineSpecifiedDocumentContextParameter></rsm:ExchangedDocumentContext><rsm:ExchangedDocument><ram:ID>A1</ram:ID><ram:TypeCode>380</ram:TypeCode><ram:IssueDateTime><udt:DateTimeString format=" ++ ((34 ∷ []) ++ (codes "102" ++ ((34 ∷ []) ++ (codes ">20240501</udt:DateTimeString></ram:IssueDateTime><ram:IncludedNote><ram:Content>#AAI#x</ram:Content></ram:IncludedNote><ram:IncludedNote><ram:Content>y</ram:Content><ram:SubjectCode>toolong</ram:SubjectCode></ram:IncludedNote></rsm:ExchangedDocument><rsm:SupplyChainTradeTransaction><ram:IncludedSupplyChainTradeLineItem><ram:AssociatedDocumentLineDocument><ram:LineID>1</ram:LineID></ram:AssociatedDocumentLineDocument><ram:SpecifiedTradeProduct><ram:Name>Pen</ram:Name></ram:SpecifiedTradeProduct><ram:SpecifiedLineTradeAgreement><ram:NetPriceProductTradePrice><ram:ChargeAmount>10.00</ram:ChargeAmount></ram:NetPriceProductTradePrice></ram:SpecifiedLineTradeAgreement><ram:SpecifiedLineTradeDelivery><ram:BilledQuantity unitCode=" ++ ((34 ∷ []) ++ (codes "C62" ++ ((34 ∷ []) ++ (codes ">1</ram:BilledQuantity></ram:SpecifiedLineTradeDelivery><ram:SpecifiedLineTradeSettlement><ram:ApplicableTradeTax><ram:TypeCode>VAT</ram:TypeCode><ram:CategoryCode>S</ram:CategoryCode></ram:ApplicableTradeTax><ram:SpecifiedTradeSettlementLineMonetarySummation><ram:LineTotalAmount>10.00</ram:LineTotalAmount></ram:SpecifiedTradeSettlementLineMonetarySummation></ram:SpecifiedLineTradeSettlement></ram:IncludedSupplyChainTradeLineItem><ram:ApplicableHeaderTradeAgreement><ram:SellerTradeParty><ram:Name>Seller</ram:Name><ram:PostalTradeAddress><ram:CountryID>DE</ram:CountryID></ram:PostalTradeAddress></ram:SellerTradeParty><ram:BuyerTradeParty><ram:Name>Buyer</ram:Name><ram:PostalTradeAddress><ram:CountryID>FR</ram:CountryID></ram:PostalTradeAddress></ram:BuyerTradeParty></ram:ApplicableHeaderTradeAgreement><ram:ApplicableHeaderTradeDelivery/><ram:ApplicableHeaderTradeSettlement><ram:InvoiceCurrencyCode>EUR</ram:InvoiceCurrencyCode><ram:ApplicableTradeTax><ram:CalculatedAmount>2.00</ram:CalculatedAmount><ram:TypeCode>VAT</ram:TypeCode><ram:BasisAmount>10.00</ram:BasisAmount><ram:CategoryCode>S</ram:CategoryCode></ram:ApplicableTradeTax><ram:SpecifiedTradeSettlementHeaderMonetarySummation><ram:LineTotalAmount>10.00</ram:LineTotalAmount><ram:TaxBasisTotalAmount>10.00</ram:TaxBasisTotalAmount><ram:GrandTotalAmount>12.00</ram:GrandTotalAmount><ram:DuePayableAmount>12.00</ram:DuePayableAmount></ram:SpecifiedTradeSettlementHeaderMonetarySummation></ram:ApplicableHeaderTradeSettlement></rsm:SupplyChainTradeTransaction></rsm:CrossIndustryInvoice>"))))))))))))))))))))))))) ≡ codes "condition 4 BT-22"
+unfolding document first_fault beginning extent character_at referred reference_at is_qname comment section is_declaration instruction attribute_at tag_inside
+    value_in_tag start_tag end_tag state_behind events_of fault_of read resume is_utf8 chars encode_utf8 is_char is_white_space is_name_start is_name_char
+    tree_of_events read_scaled read_decimal scaled_text decimal_text read_dashed_day read_plain_day dashed_day_text value_of terms_of terms extension_rows
+    listing_rows occurrence_of parent_of day_from first_row invoice_rows credit_note_rows cii_rows invoice_listing credit_note_listing cii_listing written_units
+    digits last_digits
 row15 = refl
 
 -- cond-4-first-entry-21
-row16 : judged cii_rows syntaxes.Ubl (codes "<rsm:CrossIndustryInvoice xmlns:rsm=" ++ ((34 ∷ []) ++ (codes "urn:un:unece:uncefact:data:standard:CrossIndustryInvoice:100" ++ ((34 ∷ []) ++ (codes " xmlns:ram=" ++ ((34 ∷ []) ++ (codes "urn:un:unece:uncefact:data:standard:ReusableAggregateBusinessInformationEntity:100" ++ ((34 ∷ []) ++ (codes " xmlns:udt=" ++ ((34 ∷ []) ++ (codes "urn:un:unece:uncefact:data:standard:UnqualifiedDataType:100" ++ ((34 ∷ []) ++ (codes " xmlns:qdt=" ++ ((34 ∷ []) ++ (codes "urn:un:unece:uncefact:data:standard:QualifiedDataType:100" ++ ((34 ∷ []) ++ (codes "><rsm:ExchangedDocumentContext><ram:GuidelineSpecifiedDocumentContextParameter><ram:ID>urn:cen.eu:en16931:2017</ram:ID></ram:GuidelineSpecifiedDocumentContextParameter></rsm:ExchangedDocumentContext><rsm:ExchangedDocument><ram:ID>A1</ram:ID><ram:TypeCode>380</ram:TypeCode><ram:IssueDateTime><udt:DateTimeString format=" ++ ((34 ∷ []) ++ (codes "102" ++ ((34 ∷ []) ++ (codes ">20240501</udt:DateTimeString></ram:IssueDateTime><ram:IncludedNote><ram:Content>y</ram:Content><ram:SubjectCode>toolong</ram:SubjectCode></ram:IncludedNote><ram:IncludedNote><ram:Content>#AAI#x</ram:Content></ram:IncludedNote></rsm:ExchangedDocument><rsm:SupplyChainTradeTransaction><ram:IncludedSupplyChainTradeLineItem><ram:AssociatedDocumentLineDocument><ram:LineID>1</ram:LineID></ram:AssociatedDocumentLineDocument><ram:SpecifiedTradeProduct><ram:Name>Pen</ram:Name></ram:SpecifiedTradeProduct><ram:SpecifiedLineTradeAgreement><ram:NetPriceProductTradePrice><ram:ChargeAmount>10.00</ram:ChargeAmount></ram:NetPriceProductTradePrice></ram:SpecifiedLineTradeAgreement><ram:SpecifiedLineTradeDelivery><ram:BilledQuantity unitCode=" ++ ((34 ∷ []) ++ (codes "C62" ++ ((34 ∷ []) ++ (codes ">1</ram:BilledQuantity></ram:SpecifiedLineTradeDelivery><ram:SpecifiedLineTradeSettlement><ram:ApplicableTradeTax><ram:TypeCode>VAT</ram:TypeCode><ram:CategoryCode>S</ram:CategoryCode></ram:ApplicableTradeTax><ram:SpecifiedTradeSettlementLineMonetarySummation><ram:LineTotalAmount>10.00</ram:LineTotalAmount></ram:SpecifiedTradeSettlementLineMonetarySummation></ram:SpecifiedLineTradeSettlement></ram:IncludedSupplyChainTradeLineItem><ram:ApplicableHeaderTradeAgreement><ram:SellerTradeParty><ram:Name>Seller</ram:Name><ram:PostalTradeAddress><ram:CountryID>DE</ram:CountryID></ram:PostalTradeAddress></ram:SellerTradeParty><ram:BuyerTradeParty><ram:Name>Buyer</ram:Name><ram:PostalTradeAddress><ram:CountryID>FR</ram:CountryID></ram:PostalTradeAddress></ram:BuyerTradeParty></ram:ApplicableHeaderTradeAgreement><ram:ApplicableHeaderTradeDelivery/><ram:ApplicableHeaderTradeSettlement><ram:InvoiceCurrencyCode>EUR</ram:InvoiceCurrencyCode><ram:ApplicableTradeTax><ram:CalculatedAmount>2.00</ram:CalculatedAmount><ram:TypeCode>VAT</ram:TypeCode><ram:BasisAmount>10.00</ram:BasisAmount><ram:CategoryCode>S</ram:CategoryCode></ram:ApplicableTradeTax><ram:SpecifiedTradeSettlementHeaderMonetarySummation><ram:LineTotalAmount>10.00</ram:LineTotalAmount><ram:TaxBasisTotalAmount>10.00</ram:TaxBasisTotalAmount><ram:GrandTotalAmount>12.00</ram:GrandTotalAmount><ram:DuePayableAmount>12.00</ram:DuePayableAmount></ram:SpecifiedTradeSettlementHeaderMonetarySummation></ram:ApplicableHeaderTradeSettlement></rsm:SupplyChainTradeTransaction></rsm:CrossIndustryInvoice>"))))))))))))))))))))))))) ≡ codes "condition 4 BT-21"
-unfolding document first_fault beginning extent character_at referred reference_at is_qname comment section is_declaration instruction attribute_at tag_inside value_in_tag start_tag end_tag state_behind events_of fault_of read resume is_utf8 chars encode_utf8 is_char is_white_space is_name_start is_name_char tree_of_events read_scaled read_decimal scaled_text decimal_text read_dashed_day read_plain_day dashed_day_text value_of terms_of terms extension_rows listing_rows occurrence_of parent_of day_from first_row invoice_rows credit_note_rows cii_rows invoice_listing credit_note_listing cii_listing written_units digits last_digits
+row16 : judged cii_rows syntaxes.Ubl (codes "<rsm:CrossIndustryInvoice xmlns:rsm=" ++
+    ((34 ∷ []) ++ (codes "urn:un:unece:uncefact:data:standard:CrossIndustryInvoice:100" ++
+    ((34 ∷ []) ++ (codes " xmlns:ram=" ++
+    ((34 ∷ []) ++ (codes "urn:un:unece:uncefact:data:standard:ReusableAggregateBusinessInformationEntity:100" ++
+    ((34 ∷ []) ++ (codes " xmlns:udt=" ++
+    ((34 ∷ []) ++ (codes "urn:un:unece:uncefact:data:standard:UnqualifiedDataType:100" ++
+    ((34 ∷ []) ++ (codes " xmlns:qdt=" ++
+    ((34 ∷ []) ++ (codes "urn:un:unece:uncefact:data:standard:QualifiedDataType:100" ++
+    ((34 ∷ []) ++ (codes "><rsm:ExchangedDocumentContext><ram:GuidelineSpecifiedDocumentContextParameter><ram:ID>urn:cen.eu:en16931:2017</ram:ID></ram:GuidelineSpecifiedDocumentContextParameter></rsm:ExchangedDocumentContext><rsm:ExchangedDocument><ram:ID>A1</ram:ID><ram:TypeCode>380</ram:TypeCode><ram:IssueDateTime><udt:DateTimeString format=" ++ ((34 ∷ []) ++ (codes "102" ++ ((34 ∷ []) ++ (codes ">20240501</udt:DateTimeString></ram:IssueDateTime><ram:IncludedNote><ram:Content>y</ram:Content><ram:SubjectCode>toolong</ram:SubjectCode></ram:IncludedNote><ram:IncludedNote><ram:Content>#AAI#x</ram:Content></ram:IncludedNote></rsm:ExchangedDocument><rsm:SupplyChainTradeTransaction><ram:IncludedSupplyChainTradeLineItem><ram:AssociatedDocumentLineDocument><ram:LineID>1</ram:LineID></ram:AssociatedDocumentLineDocument><ram:SpecifiedTradeProduct><ram:Name>Pen</ram:Name></ram:SpecifiedTradeProduct><ram:SpecifiedLineTradeAgreement><ram:NetPriceProductTradePrice><ram:ChargeAmount>10.00</ram:ChargeAmount></ram:NetPriceProductTradePrice></ram:SpecifiedLineTradeAgreement><ram:SpecifiedLineTradeDelivery><ram:BilledQuantity unitCode=" ++ ((34 ∷ []) ++ (codes "C62" ++ ((34 ∷ []) ++ (codes ">1</ram:BilledQuantity></ram:SpecifiedLineTradeDelivery><ram:SpecifiedLineTradeSettlement><ram:ApplicableTradeTax><ram:TypeCode>VAT</ram:TypeCode><ram:CategoryCode>S</ram:CategoryCode></ram:ApplicableTradeTax><ram:SpecifiedTradeSettlementLineMonetarySummation><ram:LineTotalAmount>10.00</ram:LineTotalAmount></ram:SpecifiedTradeSettlementLineMonetarySummation></ram:SpecifiedLineTradeSettlement></ram:IncludedSupplyChainTradeLineItem><ram:ApplicableHeaderTradeAgreement><ram:SellerTradeParty><ram:Name>Seller</ram:Name><ram:PostalTradeAddress><ram:CountryID>DE</ram:CountryID></ram:PostalTradeAddress></ram:SellerTradeParty><ram:BuyerTradeParty><ram:Name>Buyer</ram:Name><ram:PostalTradeAddress><ram:CountryID>FR</ram:CountryID></ram:PostalTradeAddress></ram:BuyerTradeParty></ram:ApplicableHeaderTradeAgreement><ram:ApplicableHeaderTradeDelivery/><ram:ApplicableHeaderTradeSettlement><ram:InvoiceCurrencyCode>EUR</ram:InvoiceCurrencyCode><ram:ApplicableTradeTax><ram:CalculatedAmount>2.00</ram:CalculatedAmount><ram:TypeCode>VAT</ram:TypeCode><ram:BasisAmount>10.00</ram:BasisAmount><ram:CategoryCode>S</ram:CategoryCode></ram:ApplicableTradeTax><ram:SpecifiedTradeSettlementHeaderMonetarySummation><ram:LineTotalAmount>10.00</ram:LineTotalAmount><ram:TaxBasisTotalAmount>10.00</ram:TaxBasisTotalAmount><ram:GrandTotalAmount>12.00</ram:GrandTotalAmount><ram:DuePayableAmount>12.00</ram:DuePayableAmount></ram:SpecifiedTradeSettlementHeaderMonetarySummation></ram:ApplicableHeaderTradeSettlement></rsm:SupplyChainTradeTransaction></rsm:CrossIndustryInvoice>"))))))))))))))))))))))))) ≡ codes "condition 4 BT-21"
+unfolding document first_fault beginning extent character_at referred reference_at is_qname comment section is_declaration instruction attribute_at tag_inside
+    value_in_tag start_tag end_tag state_behind events_of fault_of read resume is_utf8 chars encode_utf8 is_char is_white_space is_name_start is_name_char
+    tree_of_events read_scaled read_decimal scaled_text decimal_text read_dashed_day read_plain_day dashed_day_text value_of terms_of terms extension_rows
+    listing_rows occurrence_of parent_of day_from first_row invoice_rows credit_note_rows cii_rows invoice_listing credit_note_listing cii_listing written_units
+    digits last_digits
 row16 = refl
 
 -- row5-convert
-row17 : carried invoice_rows syntaxes.Ubl (codes "<Invoice xmlns=" ++ ((34 ∷ []) ++ (codes "urn:oasis:names:specification:ubl:schema:xsd:Invoice-2" ++ ((34 ∷ []) ++ (codes " xmlns:cac=" ++ ((34 ∷ []) ++ (codes "urn:oasis:names:specification:ubl:schema:xsd:CommonAggregateComponents-2" ++ ((34 ∷ []) ++ (codes " xmlns:cbc=" ++ ((34 ∷ []) ++ (codes "urn:oasis:names:specification:ubl:schema:xsd:CommonBasicComponents-2" ++ ((34 ∷ []) ++ (codes "><cbc:CustomizationID>urn:cen.eu:en16931:2017</cbc:CustomizationID><cbc:ID>A1</cbc:ID><cbc:IssueDate>2024-05-01</cbc:IssueDate><cbc:InvoiceTypeCode>380</cbc:InvoiceTypeCode><cbc:DocumentCurrencyCode>EUR</cbc:DocumentCurrencyCode><cac:AccountingSupplierParty><cac:Party><cac:PostalAddress><cac:Country><cbc:IdentificationCode>DE</cbc:IdentificationCode></cac:Country></cac:PostalAddress><cac:PartyLegalEntity><cbc:RegistrationName>Seller</cbc:RegistrationName></cac:PartyLegalEntity></cac:Party></cac:AccountingSupplierParty><cac:AccountingCustomerParty><cac:Party><cac:PostalAddress><cac:Country><cbc:IdentificationCode>FR</cbc:IdentificationCode></cac:Country></cac:PostalAddress><cac:PartyLegalEntity><cbc:RegistrationName>Buyer</cbc:RegistrationName></cac:PartyLegalEntity></cac:Party></cac:AccountingCustomerParty><cac:TaxTotal><cac:TaxSubtotal><cbc:TaxableAmount currencyID=" ++ ((34 ∷ []) ++ (codes "EUR" ++ ((34 ∷ []) ++ (codes ">10.00</cbc:TaxableAmount><cbc:TaxAmount currencyID=" ++ ((34 ∷ []) ++ (codes "EUR" ++ ((34 ∷ []) ++ (codes ">2.00</cbc:TaxAmount><cac:TaxCategory><cbc:ID>S</cbc:ID><cac:TaxScheme><cbc:ID>VAT</cbc:ID></cac:TaxScheme></cac:TaxCategory></cac:TaxSubtotal></cac:TaxTotal><cac:LegalMonetaryTotal><cbc:LineExtensionAmount currencyID=" ++ ((34 ∷ []) ++ (codes "EUR" ++ ((34 ∷ []) ++ (codes ">10.00</cbc:LineExtensionAmount><cbc:TaxExclusiveAmount currencyID=" ++ ((34 ∷ []) ++ (codes "EUR" ++ ((34 ∷ []) ++ (codes ">10.00</cbc:TaxExclusiveAmount><cbc:TaxInclusiveAmount currencyID=" ++ ((34 ∷ []) ++ (codes "EUR" ++ ((34 ∷ []) ++ (codes ">12.00</cbc:TaxInclusiveAmount><cbc:PayableAmount currencyID=" ++ ((34 ∷ []) ++ (codes "EUR" ++ ((34 ∷ []) ++ (codes ">12.00</cbc:PayableAmount></cac:LegalMonetaryTotal><cac:InvoiceLine><cbc:ID>1</cbc:ID><cbc:InvoicedQuantity unitCode=" ++ ((34 ∷ []) ++ (codes "C62" ++ ((34 ∷ []) ++ (codes ">1</cbc:InvoicedQuantity><cbc:LineExtensionAmount currencyID=" ++ ((34 ∷ []) ++ (codes "EUR" ++ ((34 ∷ []) ++ (codes ">10.00</cbc:LineExtensionAmount><cac:Item><cbc:Name>Pen</cbc:Name><cac:ClassifiedTaxCategory><cbc:ID>S</cbc:ID><cac:TaxScheme><cbc:ID>VAT</cbc:ID></cac:TaxScheme></cac:ClassifiedTaxCategory></cac:Item><cac:Price><cbc:PriceAmount currencyID=" ++ ((34 ∷ []) ++ (codes "EUR" ++ ((34 ∷ []) ++ (codes ">10.00</cbc:PriceAmount></cac:Price></cac:InvoiceLine></Invoice>"))))))))))))))))))))))))))))))))))))))))))))))))) ≡ codes "carried"
-unfolding document first_fault beginning extent character_at referred reference_at is_qname comment section is_declaration instruction attribute_at tag_inside value_in_tag start_tag end_tag state_behind events_of fault_of read resume is_utf8 chars encode_utf8 is_char is_white_space is_name_start is_name_char tree_of_events read_scaled read_decimal scaled_text decimal_text read_dashed_day read_plain_day dashed_day_text value_of terms_of terms extension_rows listing_rows occurrence_of parent_of day_from first_row invoice_rows credit_note_rows cii_rows invoice_listing credit_note_listing cii_listing written_units digits last_digits document_of document_text declaration_line in_value in_text plain_day_text
+row17 : carried invoice_rows syntaxes.Ubl (codes "<Invoice xmlns=" ++
+    ((34 ∷ []) ++ (codes "urn:oasis:names:specification:ubl:schema:xsd:Invoice-2" ++
+    ((34 ∷ []) ++ (codes " xmlns:cac=" ++
+    ((34 ∷ []) ++ (codes "urn:oasis:names:specification:ubl:schema:xsd:CommonAggregateComponents-2" ++
+    ((34 ∷ []) ++ (codes " xmlns:cbc=" ++
+    ((34 ∷ []) ++ (codes "urn:oasis:names:specification:ubl:schema:xsd:CommonBasicComponents-2" ++
+    ((34 ∷ []) ++ (codes "><cbc:CustomizationID>urn:cen.eu:en16931:2017</cbc:CustomizationID><cbc:ID>A1</cbc:ID><cbc:IssueDate>2024-05-01</cbc:IssueDate><cbc:InvoiceTypeCode>380</cbc:InvoiceTypeCode><cbc:DocumentCurrencyCode>EUR</cbc:DocumentCurrencyCode><cac:AccountingSupplierParty><cac:Party><cac:PostalAddress><cac:Country><cbc:IdentificationCode>DE</cbc:IdentificationCode></cac:Country></cac:PostalAddress><cac:PartyLegalEntity><cbc:RegistrationName>Seller</cbc:RegistrationName></cac:PartyLegalEntity></cac:Party></cac:AccountingSupplierParty><cac:AccountingCustomerParty><cac:Party><cac:PostalAddress><cac:Country><cbc:IdentificationCode>FR</cbc:IdentificationCode></cac:Country></cac:PostalAddress><cac:PartyLegalEntity><cbc:RegistrationName>Buyer</cbc:RegistrationName></cac:PartyLegalEntity></cac:Party></cac:AccountingCustomerParty><cac:TaxTotal><cac:TaxSubtotal><cbc:TaxableAmount currencyID=" ++ ((34 ∷ []) ++ (codes "EUR" ++ ((34 ∷ []) ++ (codes ">10.00</cbc:TaxableAmount><cbc:TaxAmount currencyID=" ++ ((34 ∷ []) ++ (codes "EUR" ++ ((34 ∷ []) ++ (codes ">2.00</cbc:TaxAmount><cac:TaxCategory><cbc:ID>S</cbc:ID><cac:TaxScheme><cbc:ID>VAT</cbc:ID></cac:TaxScheme></cac:TaxCategory></cac:TaxSubtotal></cac:TaxTotal><cac:LegalMonetaryTotal><cbc:LineExtensionAmount currencyID=" ++ ((34 ∷ []) ++ (codes "EUR" ++ ((34 ∷ []) ++ (codes ">10.00</cbc:LineExtensionAmount><cbc:TaxExclusiveAmount currencyID=" ++ ((34 ∷ []) ++ (codes "EUR" ++ ((34 ∷ []) ++ (codes ">10.00</cbc:TaxExclusiveAmount><cbc:TaxInclusiveAmount currencyID=" ++ ((34 ∷ []) ++ (codes "EUR" ++ ((34 ∷ []) ++ (codes ">12.00</cbc:TaxInclusiveAmount><cbc:PayableAmount currencyID=" ++ ((34 ∷ []) ++ (codes "EUR" ++ ((34 ∷ []) ++ (codes ">12.00</cbc:PayableAmount></cac:LegalMonetaryTotal><cac:InvoiceLine><cbc:ID>1</cbc:ID><cbc:InvoicedQuantity unitCode=" ++ ((34 ∷ []) ++ (codes "C62" ++ ((34 ∷ []) ++ (codes ">1</cbc:InvoicedQuantity><cbc:LineExtensionAmount currencyID=" ++ ((34 ∷ []) ++ (codes "EUR" ++ ((34 ∷ []) ++ (codes ">10.00</cbc:LineExtensionAmount><cac:Item><cbc:Name>Pen</cbc:Name><cac:ClassifiedTaxCategory><cbc:ID>S</cbc:ID><cac:TaxScheme><cbc:ID>VAT</cbc:ID></cac:TaxScheme></cac:ClassifiedTaxCategory></cac:Item><cac:Price><cbc:PriceAmount currencyID=" ++ ((34 ∷ []) ++ (codes "EUR" ++ ((34 ∷ []) ++ (codes ">10.00</cbc:PriceAmount></cac:Price></cac:InvoiceLine></Invoice>"))))))))))))))))))))))))))))))))))))))))))))))))) ≡ codes "carried"
+unfolding document first_fault beginning extent character_at referred reference_at is_qname comment section is_declaration instruction attribute_at tag_inside
+    value_in_tag start_tag end_tag state_behind events_of fault_of read resume is_utf8 chars encode_utf8 is_char is_white_space is_name_start is_name_char
+    tree_of_events read_scaled read_decimal scaled_text decimal_text read_dashed_day read_plain_day dashed_day_text value_of terms_of terms extension_rows
+    listing_rows occurrence_of parent_of day_from first_row invoice_rows credit_note_rows cii_rows invoice_listing credit_note_listing cii_listing written_units
+    digits last_digits document_of document_text declaration_line in_value in_text plain_day_text
 row17 = refl
 
 -- means-only-83-cii
-row18 : carried invoice_rows syntaxes.Cii (codes "<Invoice xmlns=" ++ ((34 ∷ []) ++ (codes "urn:oasis:names:specification:ubl:schema:xsd:Invoice-2" ++ ((34 ∷ []) ++ (codes " xmlns:cac=" ++ ((34 ∷ []) ++ (codes "urn:oasis:names:specification:ubl:schema:xsd:CommonAggregateComponents-2" ++ ((34 ∷ []) ++ (codes " xmlns:cbc=" ++ ((34 ∷ []) ++ (codes "urn:oasis:names:specification:ubl:schema:xsd:CommonBasicComponents-2" ++ ((34 ∷ []) ++ (codes "><cbc:CustomizationID>urn:cen.eu:en16931:2017</cbc:CustomizationID><cbc:ID>A1</cbc:ID><cbc:IssueDate>2024-05-01</cbc:IssueDate><cbc:InvoiceTypeCode>380</cbc:InvoiceTypeCode><cbc:DocumentCurrencyCode>EUR</cbc:DocumentCurrencyCode><cac:AccountingSupplierParty><cac:Party><cac:PostalAddress><cac:Country><cbc:IdentificationCode>DE</cbc:IdentificationCode></cac:Country></cac:PostalAddress><cac:PartyLegalEntity><cbc:RegistrationName>Seller</cbc:RegistrationName></cac:PartyLegalEntity></cac:Party></cac:AccountingSupplierParty><cac:AccountingCustomerParty><cac:Party><cac:PostalAddress><cac:Country><cbc:IdentificationCode>FR</cbc:IdentificationCode></cac:Country></cac:PostalAddress><cac:PartyLegalEntity><cbc:RegistrationName>Buyer</cbc:RegistrationName></cac:PartyLegalEntity></cac:Party></cac:AccountingCustomerParty><cac:PaymentMeans><cbc:PaymentID>R</cbc:PaymentID></cac:PaymentMeans><cac:TaxTotal><cac:TaxSubtotal><cbc:TaxableAmount currencyID=" ++ ((34 ∷ []) ++ (codes "EUR" ++ ((34 ∷ []) ++ (codes ">10.00</cbc:TaxableAmount><cbc:TaxAmount currencyID=" ++ ((34 ∷ []) ++ (codes "EUR" ++ ((34 ∷ []) ++ (codes ">2.00</cbc:TaxAmount><cac:TaxCategory><cbc:ID>S</cbc:ID><cac:TaxScheme><cbc:ID>VAT</cbc:ID></cac:TaxScheme></cac:TaxCategory></cac:TaxSubtotal></cac:TaxTotal><cac:LegalMonetaryTotal><cbc:LineExtensionAmount currencyID=" ++ ((34 ∷ []) ++ (codes "EUR" ++ ((34 ∷ []) ++ (codes ">10.00</cbc:LineExtensionAmount><cbc:TaxExclusiveAmount currencyID=" ++ ((34 ∷ []) ++ (codes "EUR" ++ ((34 ∷ []) ++ (codes ">10.00</cbc:TaxExclusiveAmount><cbc:TaxInclusiveAmount currencyID=" ++ ((34 ∷ []) ++ (codes "EUR" ++ ((34 ∷ []) ++ (codes ">12.00</cbc:TaxInclusiveAmount><cbc:PayableAmount currencyID=" ++ ((34 ∷ []) ++ (codes "EUR" ++ ((34 ∷ []) ++ (codes ">12.00</cbc:PayableAmount></cac:LegalMonetaryTotal><cac:InvoiceLine><cbc:ID>1</cbc:ID><cbc:InvoicedQuantity unitCode=" ++ ((34 ∷ []) ++ (codes "C62" ++ ((34 ∷ []) ++ (codes ">1</cbc:InvoicedQuantity><cbc:LineExtensionAmount currencyID=" ++ ((34 ∷ []) ++ (codes "EUR" ++ ((34 ∷ []) ++ (codes ">10.00</cbc:LineExtensionAmount><cac:Item><cbc:Name>Pen</cbc:Name><cac:ClassifiedTaxCategory><cbc:ID>S</cbc:ID><cac:TaxScheme><cbc:ID>VAT</cbc:ID></cac:TaxScheme></cac:ClassifiedTaxCategory></cac:Item><cac:Price><cbc:PriceAmount currencyID=" ++ ((34 ∷ []) ++ (codes "EUR" ++ ((34 ∷ []) ++ (codes ">10.00</cbc:PriceAmount></cac:Price></cac:InvoiceLine></Invoice>"))))))))))))))))))))))))))))))))))))))))))))))))) ≡ codes "carried"
-unfolding document first_fault beginning extent character_at referred reference_at is_qname comment section is_declaration instruction attribute_at tag_inside value_in_tag start_tag end_tag state_behind events_of fault_of read resume is_utf8 chars encode_utf8 is_char is_white_space is_name_start is_name_char tree_of_events read_scaled read_decimal scaled_text decimal_text read_dashed_day read_plain_day dashed_day_text value_of terms_of terms extension_rows listing_rows occurrence_of parent_of day_from first_row invoice_rows credit_note_rows cii_rows invoice_listing credit_note_listing cii_listing written_units digits last_digits document_of document_text declaration_line in_value in_text plain_day_text
+row18 : carried invoice_rows syntaxes.Cii (codes "<Invoice xmlns=" ++
+    ((34 ∷ []) ++ (codes "urn:oasis:names:specification:ubl:schema:xsd:Invoice-2" ++
+    ((34 ∷ []) ++ (codes " xmlns:cac=" ++
+    ((34 ∷ []) ++ (codes "urn:oasis:names:specification:ubl:schema:xsd:CommonAggregateComponents-2" ++
+    ((34 ∷ []) ++ (codes " xmlns:cbc=" ++
+    ((34 ∷ []) ++ (codes "urn:oasis:names:specification:ubl:schema:xsd:CommonBasicComponents-2" ++
+    ((34 ∷ []) ++ (codes "><cbc:CustomizationID>urn:cen.eu:en16931:2017</cbc:CustomizationID><cbc:ID>A1</cbc:ID><cbc:IssueDate>2024-05-01</cbc:IssueDate><cbc:InvoiceTypeCode>380</cbc:InvoiceTypeCode><cbc:DocumentCurrencyCode>EUR</cbc:DocumentCurrencyCode><cac:AccountingSupplierParty><cac:Party><cac:PostalAddress><cac:Country><cbc:IdentificationCode>DE</cbc:IdentificationCode></cac:Country></cac:PostalAddress><cac:PartyLegalEntity><cbc:RegistrationName>Seller</cbc:RegistrationName></cac:PartyLegalEntity></cac:Party></cac:AccountingSupplierParty><cac:AccountingCustomerParty><cac:Party><cac:PostalAddress><cac:Country><cbc:IdentificationCode>FR</cbc:IdentificationCode></cac:Country></cac:PostalAddress><cac:PartyLegalEntity><cbc:RegistrationName>Buyer</cbc:RegistrationName></cac:PartyLegalEntity></cac:Party></cac:AccountingCustomerParty><cac:PaymentMeans><cbc:PaymentID>R</cbc:PaymentID></cac:PaymentMeans><cac:TaxTotal><cac:TaxSubtotal><cbc:TaxableAmount currencyID=" ++ ((34 ∷ []) ++ (codes "EUR" ++ ((34 ∷ []) ++ (codes ">10.00</cbc:TaxableAmount><cbc:TaxAmount currencyID=" ++ ((34 ∷ []) ++ (codes "EUR" ++ ((34 ∷ []) ++ (codes ">2.00</cbc:TaxAmount><cac:TaxCategory><cbc:ID>S</cbc:ID><cac:TaxScheme><cbc:ID>VAT</cbc:ID></cac:TaxScheme></cac:TaxCategory></cac:TaxSubtotal></cac:TaxTotal><cac:LegalMonetaryTotal><cbc:LineExtensionAmount currencyID=" ++ ((34 ∷ []) ++ (codes "EUR" ++ ((34 ∷ []) ++ (codes ">10.00</cbc:LineExtensionAmount><cbc:TaxExclusiveAmount currencyID=" ++ ((34 ∷ []) ++ (codes "EUR" ++ ((34 ∷ []) ++ (codes ">10.00</cbc:TaxExclusiveAmount><cbc:TaxInclusiveAmount currencyID=" ++ ((34 ∷ []) ++ (codes "EUR" ++ ((34 ∷ []) ++ (codes ">12.00</cbc:TaxInclusiveAmount><cbc:PayableAmount currencyID=" ++ ((34 ∷ []) ++ (codes "EUR" ++ ((34 ∷ []) ++ (codes ">12.00</cbc:PayableAmount></cac:LegalMonetaryTotal><cac:InvoiceLine><cbc:ID>1</cbc:ID><cbc:InvoicedQuantity unitCode=" ++ ((34 ∷ []) ++ (codes "C62" ++ ((34 ∷ []) ++ (codes ">1</cbc:InvoicedQuantity><cbc:LineExtensionAmount currencyID=" ++ ((34 ∷ []) ++ (codes "EUR" ++ ((34 ∷ []) ++ (codes ">10.00</cbc:LineExtensionAmount><cac:Item><cbc:Name>Pen</cbc:Name><cac:ClassifiedTaxCategory><cbc:ID>S</cbc:ID><cac:TaxScheme><cbc:ID>VAT</cbc:ID></cac:TaxScheme></cac:ClassifiedTaxCategory></cac:Item><cac:Price><cbc:PriceAmount currencyID=" ++ ((34 ∷ []) ++ (codes "EUR" ++ ((34 ∷ []) ++ (codes ">10.00</cbc:PriceAmount></cac:Price></cac:InvoiceLine></Invoice>"))))))))))))))))))))))))))))))))))))))))))))))))) ≡ codes "carried"
+unfolding document first_fault beginning extent character_at referred reference_at is_qname comment section is_declaration instruction attribute_at tag_inside
+    value_in_tag start_tag end_tag state_behind events_of fault_of read resume is_utf8 chars encode_utf8 is_char is_white_space is_name_start is_name_char
+    tree_of_events read_scaled read_decimal scaled_text decimal_text read_dashed_day read_plain_day dashed_day_text value_of terms_of terms extension_rows
+    listing_rows occurrence_of parent_of day_from first_row invoice_rows credit_note_rows cii_rows invoice_listing credit_note_listing cii_listing written_units
+    digits last_digits document_of document_text declaration_line in_value in_text plain_day_text
 row18 = refl
 
 -- row17-cii
-row19 : carried credit_note_rows syntaxes.Cii (codes "<CreditNote xmlns=" ++ ((34 ∷ []) ++ (codes "urn:oasis:names:specification:ubl:schema:xsd:CreditNote-2" ++ ((34 ∷ []) ++ (codes " xmlns:cac=" ++ ((34 ∷ []) ++ (codes "urn:oasis:names:specification:ubl:schema:xsd:CommonAggregateComponents-2" ++ ((34 ∷ []) ++ (codes " xmlns:cbc=" ++ ((34 ∷ []) ++ (codes "urn:oasis:names:specification:ubl:schema:xsd:CommonBasicComponents-2" ++ ((34 ∷ []) ++ (codes "><cbc:CustomizationID>urn:cen.eu:en16931:2017</cbc:CustomizationID><cbc:ID>A1</cbc:ID><cbc:IssueDate>2024-05-01</cbc:IssueDate><cbc:CreditNoteTypeCode>381</cbc:CreditNoteTypeCode><cbc:DocumentCurrencyCode>EUR</cbc:DocumentCurrencyCode><cac:AccountingSupplierParty><cac:Party><cac:PostalAddress><cac:Country><cbc:IdentificationCode>DE</cbc:IdentificationCode></cac:Country></cac:PostalAddress><cac:PartyLegalEntity><cbc:RegistrationName>Seller</cbc:RegistrationName></cac:PartyLegalEntity></cac:Party></cac:AccountingSupplierParty><cac:AccountingCustomerParty><cac:Party><cac:PostalAddress><cac:Country><cbc:IdentificationCode>FR</cbc:IdentificationCode></cac:Country></cac:PostalAddress><cac:PartyLegalEntity><cbc:RegistrationName>Buyer</cbc:RegistrationName></cac:PartyLegalEntity></cac:Party></cac:AccountingCustomerParty><cac:PaymentMeans><cbc:PaymentMeansCode>30</cbc:PaymentMeansCode><cbc:PaymentDueDate>2024-06-01</cbc:PaymentDueDate></cac:PaymentMeans><cac:TaxTotal><cac:TaxSubtotal><cbc:TaxableAmount currencyID=" ++ ((34 ∷ []) ++ (codes "EUR" ++ ((34 ∷ []) ++ (codes ">10.00</cbc:TaxableAmount><cbc:TaxAmount currencyID=" ++ ((34 ∷ []) ++ (codes "EUR" ++ ((34 ∷ []) ++ (codes ">2.00</cbc:TaxAmount><cac:TaxCategory><cbc:ID>S</cbc:ID><cac:TaxScheme><cbc:ID>VAT</cbc:ID></cac:TaxScheme></cac:TaxCategory></cac:TaxSubtotal></cac:TaxTotal><cac:LegalMonetaryTotal><cbc:LineExtensionAmount currencyID=" ++ ((34 ∷ []) ++ (codes "EUR" ++ ((34 ∷ []) ++ (codes ">10.00</cbc:LineExtensionAmount><cbc:TaxExclusiveAmount currencyID=" ++ ((34 ∷ []) ++ (codes "EUR" ++ ((34 ∷ []) ++ (codes ">10.00</cbc:TaxExclusiveAmount><cbc:TaxInclusiveAmount currencyID=" ++ ((34 ∷ []) ++ (codes "EUR" ++ ((34 ∷ []) ++ (codes ">12.00</cbc:TaxInclusiveAmount><cbc:PayableAmount currencyID=" ++ ((34 ∷ []) ++ (codes "EUR" ++ ((34 ∷ []) ++ (codes ">12.00</cbc:PayableAmount></cac:LegalMonetaryTotal><cac:CreditNoteLine><cbc:ID>1</cbc:ID><cbc:CreditedQuantity unitCode=" ++ ((34 ∷ []) ++ (codes "C62" ++ ((34 ∷ []) ++ (codes ">1</cbc:CreditedQuantity><cbc:LineExtensionAmount currencyID=" ++ ((34 ∷ []) ++ (codes "EUR" ++ ((34 ∷ []) ++ (codes ">10.00</cbc:LineExtensionAmount><cac:Item><cbc:Name>Pen</cbc:Name><cac:ClassifiedTaxCategory><cbc:ID>S</cbc:ID><cac:TaxScheme><cbc:ID>VAT</cbc:ID></cac:TaxScheme></cac:ClassifiedTaxCategory></cac:Item><cac:Price><cbc:PriceAmount currencyID=" ++ ((34 ∷ []) ++ (codes "EUR" ++ ((34 ∷ []) ++ (codes ">10.00</cbc:PriceAmount></cac:Price></cac:CreditNoteLine></CreditNote>"))))))))))))))))))))))))))))))))))))))))))))))))) ≡ codes "carried"
-unfolding document first_fault beginning extent character_at referred reference_at is_qname comment section is_declaration instruction attribute_at tag_inside value_in_tag start_tag end_tag state_behind events_of fault_of read resume is_utf8 chars encode_utf8 is_char is_white_space is_name_start is_name_char tree_of_events read_scaled read_decimal scaled_text decimal_text read_dashed_day read_plain_day dashed_day_text value_of terms_of terms extension_rows listing_rows occurrence_of parent_of day_from first_row invoice_rows credit_note_rows cii_rows invoice_listing credit_note_listing cii_listing written_units digits last_digits document_of document_text declaration_line in_value in_text plain_day_text
+row19 : carried credit_note_rows syntaxes.Cii (codes "<CreditNote xmlns=" ++
+    ((34 ∷ []) ++ (codes "urn:oasis:names:specification:ubl:schema:xsd:CreditNote-2" ++
+    ((34 ∷ []) ++ (codes " xmlns:cac=" ++
+    ((34 ∷ []) ++ (codes "urn:oasis:names:specification:ubl:schema:xsd:CommonAggregateComponents-2" ++
+    ((34 ∷ []) ++ (codes " xmlns:cbc=" ++
+    ((34 ∷ []) ++ (codes "urn:oasis:names:specification:ubl:schema:xsd:CommonBasicComponents-2" ++
+    ((34 ∷ []) ++ (codes "><cbc:CustomizationID>urn:cen.eu:en16931:2017</cbc:CustomizationID><cbc:ID>A1</cbc:ID><cbc:IssueDate>2024-05-01</cbc:IssueDate><cbc:CreditNoteTypeCode>381</cbc:CreditNoteTypeCode><cbc:DocumentCurrencyCode>EUR</cbc:DocumentCurrencyCode><cac:AccountingSupplierParty><cac:Party><cac:PostalAddress><cac:Country><cbc:IdentificationCode>DE</cbc:IdentificationCode></cac:Country></cac:PostalAddress><cac:PartyLegalEntity><cbc:RegistrationName>Seller</cbc:RegistrationName></cac:PartyLegalEntity></cac:Party></cac:AccountingSupplierParty><cac:AccountingCustomerParty><cac:Party><cac:PostalAddress><cac:Country><cbc:IdentificationCode>FR</cbc:IdentificationCode></cac:Country></cac:PostalAddress><cac:PartyLegalEntity><cbc:RegistrationName>Buyer</cbc:RegistrationName></cac:PartyLegalEntity></cac:Party></cac:AccountingCustomerParty><cac:PaymentMeans><cbc:PaymentMeansCode>30</cbc:PaymentMeansCode><cbc:PaymentDueDate>2024-06-01</cbc:PaymentDueDate></cac:PaymentMeans><cac:TaxTotal><cac:TaxSubtotal><cbc:TaxableAmount currencyID=" ++ ((34 ∷ []) ++ (codes "EUR" ++ ((34 ∷ []) ++ (codes ">10.00</cbc:TaxableAmount><cbc:TaxAmount currencyID=" ++ ((34 ∷ []) ++ (codes "EUR" ++ ((34 ∷ []) ++ (codes ">2.00</cbc:TaxAmount><cac:TaxCategory><cbc:ID>S</cbc:ID><cac:TaxScheme><cbc:ID>VAT</cbc:ID></cac:TaxScheme></cac:TaxCategory></cac:TaxSubtotal></cac:TaxTotal><cac:LegalMonetaryTotal><cbc:LineExtensionAmount currencyID=" ++ ((34 ∷ []) ++ (codes "EUR" ++ ((34 ∷ []) ++ (codes ">10.00</cbc:LineExtensionAmount><cbc:TaxExclusiveAmount currencyID=" ++ ((34 ∷ []) ++ (codes "EUR" ++ ((34 ∷ []) ++ (codes ">10.00</cbc:TaxExclusiveAmount><cbc:TaxInclusiveAmount currencyID=" ++ ((34 ∷ []) ++ (codes "EUR" ++ ((34 ∷ []) ++ (codes ">12.00</cbc:TaxInclusiveAmount><cbc:PayableAmount currencyID=" ++ ((34 ∷ []) ++ (codes "EUR" ++ ((34 ∷ []) ++ (codes ">12.00</cbc:PayableAmount></cac:LegalMonetaryTotal><cac:CreditNoteLine><cbc:ID>1</cbc:ID><cbc:CreditedQuantity unitCode=" ++ ((34 ∷ []) ++ (codes "C62" ++ ((34 ∷ []) ++ (codes ">1</cbc:CreditedQuantity><cbc:LineExtensionAmount currencyID=" ++ ((34 ∷ []) ++ (codes "EUR" ++ ((34 ∷ []) ++ (codes ">10.00</cbc:LineExtensionAmount><cac:Item><cbc:Name>Pen</cbc:Name><cac:ClassifiedTaxCategory><cbc:ID>S</cbc:ID><cac:TaxScheme><cbc:ID>VAT</cbc:ID></cac:TaxScheme></cac:ClassifiedTaxCategory></cac:Item><cac:Price><cbc:PriceAmount currencyID=" ++ ((34 ∷ []) ++ (codes "EUR" ++ ((34 ∷ []) ++ (codes ">10.00</cbc:PriceAmount></cac:Price></cac:CreditNoteLine></CreditNote>"))))))))))))))))))))))))))))))))))))))))))))))))) ≡ codes "carried"
+unfolding document first_fault beginning extent character_at referred reference_at is_qname comment section is_declaration instruction attribute_at tag_inside
+    value_in_tag start_tag end_tag state_behind events_of fault_of read resume is_utf8 chars encode_utf8 is_char is_white_space is_name_start is_name_char
+    tree_of_events read_scaled read_decimal scaled_text decimal_text read_dashed_day read_plain_day dashed_day_text value_of terms_of terms extension_rows
+    listing_rows occurrence_of parent_of day_from first_row invoice_rows credit_note_rows cii_rows invoice_listing credit_note_listing cii_listing written_units
+    digits last_digits document_of document_text declaration_line in_value in_text plain_day_text
 row19 = refl
 
 -- r5-381-later
-row20 : carried invoice_rows syntaxes.Ubl (codes "<Invoice xmlns=" ++ ((34 ∷ []) ++ (codes "urn:oasis:names:specification:ubl:schema:xsd:Invoice-2" ++ ((34 ∷ []) ++ (codes " xmlns:cac=" ++ ((34 ∷ []) ++ (codes "urn:oasis:names:specification:ubl:schema:xsd:CommonAggregateComponents-2" ++ ((34 ∷ []) ++ (codes " xmlns:cbc=" ++ ((34 ∷ []) ++ (codes "urn:oasis:names:specification:ubl:schema:xsd:CommonBasicComponents-2" ++ ((34 ∷ []) ++ (codes "><cbc:CustomizationID>urn:cen.eu:en16931:2017</cbc:CustomizationID><cbc:ID>A1</cbc:ID><cbc:IssueDate>2024-05-01</cbc:IssueDate><cbc:InvoiceTypeCode>381</cbc:InvoiceTypeCode><cbc:DocumentCurrencyCode>EUR</cbc:DocumentCurrencyCode><cac:AccountingSupplierParty><cac:Party><cac:PostalAddress><cac:Country><cbc:IdentificationCode>DE</cbc:IdentificationCode></cac:Country></cac:PostalAddress><cac:PartyLegalEntity><cbc:RegistrationName>Seller</cbc:RegistrationName></cac:PartyLegalEntity></cac:Party></cac:AccountingSupplierParty><cac:AccountingCustomerParty><cac:Party><cac:PostalAddress><cac:Country><cbc:IdentificationCode>FR</cbc:IdentificationCode></cac:Country></cac:PostalAddress><cac:PartyLegalEntity><cbc:RegistrationName>Buyer</cbc:RegistrationName></cac:PartyLegalEntity></cac:Party></cac:AccountingCustomerParty><cac:TaxTotal><cac:TaxSubtotal><cbc:TaxableAmount currencyID=" ++ ((34 ∷ []) ++ (codes "EUR" ++ ((34 ∷ []) ++ (codes ">10.00</cbc:TaxableAmount><cbc:TaxAmount currencyID=" ++ ((34 ∷ []) ++ (codes "EUR" ++ ((34 ∷ []) ++ (codes ">2.00</cbc:TaxAmount><cac:TaxCategory><cbc:ID>S</cbc:ID><cac:TaxScheme><cbc:ID>VAT</cbc:ID></cac:TaxScheme></cac:TaxCategory></cac:TaxSubtotal></cac:TaxTotal><cac:LegalMonetaryTotal><cbc:LineExtensionAmount currencyID=" ++ ((34 ∷ []) ++ (codes "EUR" ++ ((34 ∷ []) ++ (codes ">10.00</cbc:LineExtensionAmount><cbc:TaxExclusiveAmount currencyID=" ++ ((34 ∷ []) ++ (codes "EUR" ++ ((34 ∷ []) ++ (codes ">10.00</cbc:TaxExclusiveAmount><cbc:TaxInclusiveAmount currencyID=" ++ ((34 ∷ []) ++ (codes "EUR" ++ ((34 ∷ []) ++ (codes ">12.00</cbc:TaxInclusiveAmount><cbc:PayableAmount currencyID=" ++ ((34 ∷ []) ++ (codes "EUR" ++ ((34 ∷ []) ++ (codes ">12.00</cbc:PayableAmount></cac:LegalMonetaryTotal><cac:InvoiceLine><cbc:ID>1</cbc:ID><cbc:InvoicedQuantity unitCode=" ++ ((34 ∷ []) ++ (codes "C62" ++ ((34 ∷ []) ++ (codes ">1</cbc:InvoicedQuantity><cbc:LineExtensionAmount currencyID=" ++ ((34 ∷ []) ++ (codes "EUR" ++ ((34 ∷ []) ++ (codes ">10.00</cbc:LineExtensionAmount><cac:Item><cbc:Name>Pen</cbc:Name><cac:ClassifiedTaxCategory><cbc:ID>S</cbc:ID><cac:TaxScheme><cbc:ID>VAT</cbc:ID></cac:TaxScheme></cac:ClassifiedTaxCategory></cac:Item><cac:Price><cbc:PriceAmount currencyID=" ++ ((34 ∷ []) ++ (codes "EUR" ++ ((34 ∷ []) ++ (codes ">10.00</cbc:PriceAmount></cac:Price></cac:InvoiceLine></Invoice>"))))))))))))))))))))))))))))))))))))))))))))))))) ≡ codes "carried"
-unfolding document first_fault beginning extent character_at referred reference_at is_qname comment section is_declaration instruction attribute_at tag_inside value_in_tag start_tag end_tag state_behind events_of fault_of read resume is_utf8 chars encode_utf8 is_char is_white_space is_name_start is_name_char tree_of_events read_scaled read_decimal scaled_text decimal_text read_dashed_day read_plain_day dashed_day_text value_of terms_of terms extension_rows listing_rows occurrence_of parent_of day_from first_row invoice_rows credit_note_rows cii_rows invoice_listing credit_note_listing cii_listing written_units digits last_digits document_of document_text declaration_line in_value in_text plain_day_text
+row20 : carried invoice_rows syntaxes.Ubl (codes "<Invoice xmlns=" ++
+    ((34 ∷ []) ++ (codes "urn:oasis:names:specification:ubl:schema:xsd:Invoice-2" ++
+    ((34 ∷ []) ++ (codes " xmlns:cac=" ++
+    ((34 ∷ []) ++ (codes "urn:oasis:names:specification:ubl:schema:xsd:CommonAggregateComponents-2" ++
+    ((34 ∷ []) ++ (codes " xmlns:cbc=" ++
+    ((34 ∷ []) ++ (codes "urn:oasis:names:specification:ubl:schema:xsd:CommonBasicComponents-2" ++
+    ((34 ∷ []) ++ (codes "><cbc:CustomizationID>urn:cen.eu:en16931:2017</cbc:CustomizationID><cbc:ID>A1</cbc:ID><cbc:IssueDate>2024-05-01</cbc:IssueDate><cbc:InvoiceTypeCode>381</cbc:InvoiceTypeCode><cbc:DocumentCurrencyCode>EUR</cbc:DocumentCurrencyCode><cac:AccountingSupplierParty><cac:Party><cac:PostalAddress><cac:Country><cbc:IdentificationCode>DE</cbc:IdentificationCode></cac:Country></cac:PostalAddress><cac:PartyLegalEntity><cbc:RegistrationName>Seller</cbc:RegistrationName></cac:PartyLegalEntity></cac:Party></cac:AccountingSupplierParty><cac:AccountingCustomerParty><cac:Party><cac:PostalAddress><cac:Country><cbc:IdentificationCode>FR</cbc:IdentificationCode></cac:Country></cac:PostalAddress><cac:PartyLegalEntity><cbc:RegistrationName>Buyer</cbc:RegistrationName></cac:PartyLegalEntity></cac:Party></cac:AccountingCustomerParty><cac:TaxTotal><cac:TaxSubtotal><cbc:TaxableAmount currencyID=" ++ ((34 ∷ []) ++ (codes "EUR" ++ ((34 ∷ []) ++ (codes ">10.00</cbc:TaxableAmount><cbc:TaxAmount currencyID=" ++ ((34 ∷ []) ++ (codes "EUR" ++ ((34 ∷ []) ++ (codes ">2.00</cbc:TaxAmount><cac:TaxCategory><cbc:ID>S</cbc:ID><cac:TaxScheme><cbc:ID>VAT</cbc:ID></cac:TaxScheme></cac:TaxCategory></cac:TaxSubtotal></cac:TaxTotal><cac:LegalMonetaryTotal><cbc:LineExtensionAmount currencyID=" ++ ((34 ∷ []) ++ (codes "EUR" ++ ((34 ∷ []) ++ (codes ">10.00</cbc:LineExtensionAmount><cbc:TaxExclusiveAmount currencyID=" ++ ((34 ∷ []) ++ (codes "EUR" ++ ((34 ∷ []) ++ (codes ">10.00</cbc:TaxExclusiveAmount><cbc:TaxInclusiveAmount currencyID=" ++ ((34 ∷ []) ++ (codes "EUR" ++ ((34 ∷ []) ++ (codes ">12.00</cbc:TaxInclusiveAmount><cbc:PayableAmount currencyID=" ++ ((34 ∷ []) ++ (codes "EUR" ++ ((34 ∷ []) ++ (codes ">12.00</cbc:PayableAmount></cac:LegalMonetaryTotal><cac:InvoiceLine><cbc:ID>1</cbc:ID><cbc:InvoicedQuantity unitCode=" ++ ((34 ∷ []) ++ (codes "C62" ++ ((34 ∷ []) ++ (codes ">1</cbc:InvoicedQuantity><cbc:LineExtensionAmount currencyID=" ++ ((34 ∷ []) ++ (codes "EUR" ++ ((34 ∷ []) ++ (codes ">10.00</cbc:LineExtensionAmount><cac:Item><cbc:Name>Pen</cbc:Name><cac:ClassifiedTaxCategory><cbc:ID>S</cbc:ID><cac:TaxScheme><cbc:ID>VAT</cbc:ID></cac:TaxScheme></cac:ClassifiedTaxCategory></cac:Item><cac:Price><cbc:PriceAmount currencyID=" ++ ((34 ∷ []) ++ (codes "EUR" ++ ((34 ∷ []) ++ (codes ">10.00</cbc:PriceAmount></cac:Price></cac:InvoiceLine></Invoice>"))))))))))))))))))))))))))))))))))))))))))))))))) ≡ codes "carried"
+unfolding document first_fault beginning extent character_at referred reference_at is_qname comment section is_declaration instruction attribute_at tag_inside
+    value_in_tag start_tag end_tag state_behind events_of fault_of read resume is_utf8 chars encode_utf8 is_char is_white_space is_name_start is_name_char
+    tree_of_events read_scaled read_decimal scaled_text decimal_text read_dashed_day read_plain_day dashed_day_text value_of terms_of terms extension_rows
+    listing_rows occurrence_of parent_of day_from first_row invoice_rows credit_note_rows cii_rows invoice_listing credit_note_listing cii_listing written_units
+    digits last_digits document_of document_text declaration_line in_value in_text plain_day_text
 row20 = refl
 
 -- ---- a term that a user added: EXT-1 is 1001
@@ -242,7 +470,8 @@ own_carried : entries_carried (cii_rows ++ (own_row None letters.T ∷ [])) (ent
 unfolding entry_at entry own_row cii_rows cii_listing
 own_carried = refl
 
-own_of_another : entries_carried (cii_rows ++ (own_row None letters.T ∷ [])) (entry 1001 ∷ entry 1002 ∷ []) ≡ Err (record { condition = 9; term = Some (record { number = 1002; part = 0 }) })
+own_of_another : entries_carried (cii_rows ++ (own_row None letters.T ∷ [])) (entry 1001 ∷ entry 1002 ∷ []) ≡ Err
+    (record { condition = 9; term = Some (record { number = 1002; part = 0 }) })
 unfolding entry_at entry own_row cii_rows cii_listing
 own_of_another = refl
 

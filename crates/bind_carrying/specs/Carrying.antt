@@ -1,6 +1,7 @@
 -- Whether a table can carry an invoice: the least of nine conditions that fails, and the first entry in listing order at which it does. Reading the
 -- document back isn't spoken of.
-use Rattle.std.specs.Prelude.{ℕ, ◌+◌, ◌==◌, nat_lt, Bool, true, false, not, ◌&&◌, ◌||◌, List, [], ◌∷◌, codes, bytes_eq, encode_utf8_all, find, length, Option, Some, None, is_some, is_none, option_map, Result, Ok, Err, if◌then◌else◌}
+use Rattle.std.specs.Prelude.{ℕ, ◌+◌, ◌==◌, nat_lt, Bool, true, false, not, ◌&&◌, ◌||◌, List, [], ◌∷◌, codes, bytes_eq, encode_utf8_all, find, length, Option}
+use Rattle.std.specs.Prelude.{Some, None, is_some, is_none, option_map, Result, Ok, Err, if◌then◌else◌}
 use Rattle.std.specs.List.{list_any}
 use Rattle.xml_tokens.specs.Beginnings.{greatest_tag}
 use Rattle.xml_state.specs.Sizes.{document_limits}
@@ -86,7 +87,8 @@ is_coded_note _ = false
 
 abbrev pub is_misread_note : List Entry → Entry → Bool
 is_misread_note es e =
-    (is_bt 21 0 e.term && not (is_subject (spelled e.value))) || (is_bt 22 0 e.term && (is_none (value_in es (bt 21) e.context) && is_coded_note (spelled e.value)))
+    (is_bt 21 0 e.term && not (is_subject (spelled e.value))) ||
+    (is_bt 22 0 e.term && (is_none (value_in es (bt 21) e.context) && is_coded_note (spelled e.value)))
 
 abbrev pub is_bad_note : Which → List Entry → Entry → Bool
 is_bad_note table es e = is_ubl table && is_misread_note es e
@@ -133,7 +135,8 @@ has_no_currency es e =
 abbrev pub is_too_large : List Row → List Entry → Bool
 is_too_large rows es =
     nat_lt document_limits.bytes (length (encode_utf8_all (document_text rows es)))
-    || (nat_lt greatest_tag (longest (canonical_tags (declarations_for rows) (document_of rows es))) || nat_lt document_limits.nodes (node_count (document_of rows es)))
+    || (nat_lt greatest_tag (longest (canonical_tags (declarations_for rows) (document_of rows es))) ||
+    nat_lt document_limits.nodes (node_count (document_of rows es)))
 
 -- ---- 9: a term that a user added, of which the table has no row of its context's groups and its value's type
 

@@ -49,7 +49,10 @@ is_some_text (Some a) text = bytes_eq a text
 
 -- The amount is in the accounting currency, which isn't that of the invoice. Where the invoice names no currency, no amount is.
 abbrev pub is_accounting_in : Currencies → List ℕ → Bool
-is_accounting_in c text = elim c.invoice [ None ↦ false | Some invoice ↦ elim (bytes_eq invoice text) [ true ↦ false | false ↦ is_some_text c.accounting text ] ]
+is_accounting_in c text = elim c.invoice [
+  | None ↦ false
+  | Some invoice ↦ elim (bytes_eq invoice text) [ true ↦ false | false ↦ is_some_text c.accounting text ]
+]
 
 abbrev pub is_accounting : Currencies → Option (List ℕ) → Bool
 is_accounting c None = false

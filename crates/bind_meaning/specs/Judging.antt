@@ -1,5 +1,6 @@
 -- The faults of a document as an invoice of a table, and where they stand.
-use Rattle.std.specs.Prelude.{ℕ, ◌-◌, Bool, true, false, not, ◌&&◌, ◌||◌, List, [], ◌∷◌, ◌++◌, codes, filter, map, Option, Some, None, option_and_then, is_none, is_some}
+use Rattle.std.specs.Prelude.{ℕ, ◌-◌, Bool, true, false, not, ◌&&◌, ◌||◌, List, [], ◌∷◌, ◌++◌, codes, filter, map, Option, Some, None, option_and_then, is_none}
+use Rattle.std.specs.Prelude.{is_some}
 use Rattle.std.specs.List.{list_any}
 use Rattle.std.specs.Ordering.{nat_cmp, is_lt}
 use Rattle.std.specs.Cmp.Lexicographic.{slice_cmp}
@@ -79,7 +80,8 @@ abbrev pub has_attribute : List Node → List ℕ → ℕ → Bool
 has_attribute nodes local n = list_any (λ m. not (is_blank_at nodes m)) (attributes_named nodes local n)
 
 abbrev pub is_other_format : List Node → ℕ → Bool
-is_other_format nodes n = list_any (λ m. not (is_blank_at nodes m) && not (bytes_eq (trimmed (string_at nodes m)) (codes "102"))) (attributes_named nodes (codes "format") n)
+is_other_format nodes n = list_any (λ m. not (is_blank_at nodes m) && not (bytes_eq (trimmed (string_at nodes m)) (codes "102")))
+    (attributes_named nodes (codes "format") n)
 
 abbrev pub breaks : List Node → Check → ℕ → Bool
 breaks nodes checks.Nothing n = false
@@ -171,7 +173,10 @@ words = codes "true" ∷ (codes "false" ∷ (codes "1" ∷ (codes "0" ∷ [])))
 
 abbrev pub wrong_word : List Node → Pick → List Found
 wrong_word nodes pick = elim pick.row.check [
-  | (checks.Indicator term) ↦ elim (is_one_of words (trimmed (string_at nodes pick.node))) [ true ↦ [] | false ↦ found (place_at pick kinds.BadValue) kinds.BadValue (names.Term term) pick.node ∷ [] ]
+  | (checks.Indicator term) ↦ elim (is_one_of words (trimmed (string_at nodes pick.node))) [
+    | true ↦ []
+    | false ↦ found (place_at pick kinds.BadValue) kinds.BadValue (names.Term term) pick.node ∷ []
+  ]
   | _ ↦ []
 ]
 

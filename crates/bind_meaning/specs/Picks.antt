@@ -89,7 +89,8 @@ around_last (n ∷ (m ∷ ns)) = n ∷ around_last (m ∷ ns)
 
 -- The pick is a filler: it has the filler's text, and the term beside it stands in the same element.
 abbrev pub stands_beside : List Pick → Filler → Pick → Bool
-stands_beside picks filler pick = list_any (λ (other : Pick). has_term filler.beside other.row && bytes_eq (around_last other.elements) (around_last pick.elements)) picks
+stands_beside picks filler pick = list_any (λ (other : Pick). has_term filler.beside other.row &&
+    bytes_eq (around_last other.elements) (around_last pick.elements)) picks
 
 abbrev pub is_filler : List Node → List Pick → Pick → Bool
 is_filler nodes picks pick = elim pick.row.written [

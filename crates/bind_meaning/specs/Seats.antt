@@ -31,7 +31,8 @@ abbrev pub is_inside_of : Group → ℕ → Pick → Bool
 is_inside_of group n pick = is_among n (listed (carrier_in pick group))
 
 abbrev pub inner_elements : List Pick → Group → ℕ → Group → List ℕ
-inner_elements picks outer n group = flat_map (λ pick. listed (carrier_in pick group)) (filter (λ pick. is_of_inner group pick && is_inside_of outer n pick) picks)
+inner_elements picks outer n group = flat_map (λ pick. listed (carrier_in pick group))
+    (filter (λ pick. is_of_inner group pick && is_inside_of outer n pick) picks)
 
 -- the number of an element among others, from 1
 abbrev pub place_among : List Node → List ℕ → ℕ → ℕ

@@ -40,7 +40,8 @@ abbrev pub outer_count : List Entry → Group → ℕ
 outer_count es group = fold max 0 (map (λ (e : Entry). index_in group e.context.outer) es)
 
 abbrev pub inner_count : List Entry → Slot → Group → ℕ
-inner_count es outer group = fold max 0 (map (λ (e : Entry). elim (same_slot e.context.outer (Some outer)) [ true ↦ index_in group e.context.inner | false ↦ 0 ]) es)
+inner_count es outer group = fold max 0
+    (map (λ (e : Entry). elim (same_slot e.context.outer (Some outer)) [ true ↦ index_in group e.context.inner | false ↦ 0 ]) es)
 
 abbrev pub outer_spots : Group → ℕ → List Context
 outer_spots group n = map (λ k. record { outer = Some (record { group = group; index = k }); inner = None }) (range_with_len 1 n)
@@ -117,7 +118,8 @@ abbrev pub is_at_element : Cell → Bool
 is_at_element cell = elim cell.row.leaf [ leaves.Element ↦ true | (leaves.Attribute local) ↦ false ]
 
 abbrev pub currency_of_cell : List Entry → Step → Context → Cell → List Attribute
-currency_of_cell es s c cell = elim (is_at_element cell && (shows_currency s cell.row && is_some (row_text cell.row es c))) [ true ↦ currency_attribute es cell.row | false ↦ [] ]
+currency_of_cell es s c cell = elim (is_at_element cell && (shows_currency s cell.row && is_some (row_text cell.row es c)))
+    [ true ↦ currency_attribute es cell.row | false ↦ [] ]
 
 abbrev pub constant_or_text : List Entry → Context → Row → Option (List ℕ)
 constant_or_text es c row = elim row.content [ (contents.Constant text) ↦ Some text | (contents.Term term) ↦ row_text row es c ]
@@ -172,7 +174,8 @@ abbrev pub written_lines : List Entry → Plan → Bool → Context → Forest
 written_lines es nothing held c = no_more
 written_lines es (a_line s cells inside rest) held c =
     elements (is_emitted es s cells inside held)
-    (λ d. an_element (name_of s.name) (attributes es s cells d) (with_text (element_text es cells d) (written_lines es inside (holds_further es cells inside held d) d)))
+    (λ d. an_element (name_of s.name) (attributes es s cells d)
+    (with_text (element_text es cells d) (written_lines es inside (holds_further es cells inside held d) d)))
     (spots es c s.group)
     (written_lines es rest held c)
 

@@ -41,7 +41,11 @@ pub record Image : Type 0 where
   pub code : List ℕ
 
 abbrev pub images : List Image
-images = record { written = codes "5"; code = codes "3" } ∷ record { written = codes "29"; code = codes "35" } ∷ record { written = codes "72"; code = codes "432" } ∷ []
+images = record { written = codes "5"; code = codes "3" } ∷ record { written = codes "29"; code = codes "35" } ∷ record {
+  written = codes "72";
+  code =
+      codes "432";
+} ∷ []
 
 abbrev pub image_among : List Image → List ℕ → Option Value
 image_among [] string = None

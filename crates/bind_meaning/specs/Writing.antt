@@ -74,7 +74,8 @@ is_digit c = is_within 48 57 c
 -- an IBAN by its form (ISO 13616): two letters, two digits, then 11 to 30 letters and digits
 abbrev pub is_iban : List ℕ → Bool
 is_iban (a ∷ (b ∷ (c ∷ (d ∷ rest)))) =
-    (is_upper a && is_upper b) && ((is_digit c && is_digit d) && (list_all (λ e. is_upper e || is_digit e) rest && (nat_le 11 (length rest) && nat_le (length rest) 30)))
+    (is_upper a && is_upper b) && ((is_digit c && is_digit d) &&
+    (list_all (λ e. is_upper e || is_digit e) rest && (nat_le 11 (length rest) && nat_le (length rest) 30)))
 is_iban _ = false
 
 abbrev pub scheme_of : Term → Term

@@ -26,7 +26,8 @@ same-test (contents.Constant text) (checks.Indicator term) = refl
 
 pub same-indicators : (nodes : List Node) (rows : List Row)
     → all_kept (in_order nodes (all_picked nodes (rows_where walk.is_indicator rows))) ≡ all_kept (in_order nodes (terms.indicator_picks nodes rows))
-same-indicators nodes rows = λ i. all_kept (in_order nodes (all_picked nodes (filter (λ (r : Numbered). same-test r.row.content r.row.check i) (numbered 1 rows))))
+same-indicators nodes rows = λ i. all_kept
+    (in_order nodes (all_picked nodes (filter (λ (r : Numbered). same-test r.row.content r.row.check i) (numbered 1 rows))))
 
 pub known-ok : (o : Option Which) (table : Which) → known o ≡ Ok table → o ≡ Some table
 known-ok None table e = cc

@@ -22,7 +22,8 @@ pub is-word : (word text : List ℕ) → is_ascii word ≡ true → IsUtf8 text 
 is-word word text h u =
     let a = ascii word h in
     same_from_decides _ _ (bytes_eq-Decides text word)
-    (Decides-like _ (λ e. sym (encodes-chars text u) ∙ (ap encodes (sym e) ∙ encodes-IsAscii word a)) (λ e. sym (chars-IsAscii word a) ∙ ap chars (sym e)) (bytes_eq-Decides word (chars text)))
+    (Decides-like _ (λ e. sym (encodes-chars text u) ∙ (ap encodes (sym e) ∙ encodes-IsAscii word a)) (λ e. sym (chars-IsAscii word a) ∙ ap chars (sym e))
+    (bytes_eq-Decides word (chars text)))
 
 pub uris-ascii : (namespace : Namespace) → is_ascii (uri_of namespace) ≡ true
 uris-ascii spaces.UblInvoice = refl

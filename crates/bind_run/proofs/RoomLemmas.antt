@@ -1,6 +1,7 @@
 -- A user's terms have room behind the rows of each of the three tables: there are 99 at most, each with 20 names at most
 -- below an element that 3 names lead to.
-use Rattle.std.proofs.Common.{◌≡◌, ℕ, ◌+◌, ◌*◌, ◌<◌, ◌≤◌, ◌^◌, Bool, true, false, not, ◌&&◌, List, [], ◌∷◌, ◌++◌, length, map, All, Option, Some, None, refl, sym, ap, ◌∙◌, subst, arith, le-leb}
+use Rattle.std.proofs.Common.{◌≡◌, ℕ, ◌+◌, ◌*◌, ◌<◌, ◌≤◌, ◌^◌, Bool, true, false, not, ◌&&◌, List, [], ◌∷◌, ◌++◌, length, map, All, Option, Some, None, refl}
+use Rattle.std.proofs.Common.{sym, ap, ◌∙◌, subst, arith, le-leb}
 use Rattle.std.specs.Prelude.{◌==◌, if◌then◌else◌, fold, max, nat_lt, nat_le}
 use Rattle.std.specs.List.{list_all, cons_option}
 use Rattle.std.specs.Option.{option_map}
@@ -28,7 +29,8 @@ use Rattle.extension_files.specs.declared.terms.Paths.{Paths}
 use Rattle.extension_files.specs.Extensions.{is_name, is_path_or_none, are_paths, are_terms, is_extension}
 use Rattle.extension_files.specs.TermTables.{ubl_spaces, cii_spaces, has_path}
 use Rattle.bind_table.specs.declared.extending.AddedTerm.{AddedTerm}
-use Rattle.bind_table.specs.Extending.{at_names, first_of, first_at, greatest_on, greatest, step_for, top_behind, path_of, context_path, names_for, form_of_type, added_term, added_row}
+use Rattle.bind_table.specs.Extending.{at_names, first_of, first_at, greatest_on, greatest, step_for, top_behind, path_of, context_path, names_for}
+use Rattle.bind_table.specs.Extending.{form_of_type, added_term, added_row}
 use Rattle.bind_table.specs.Limits.{HasSteps, HasSmallNumbers, HasRooms}
 use Rattle.bind_table.proofs.SoundLemmas.{both}
 use Rattle.ubl_binding.specs.Tables.{invoice_listing, invoice_rows, credit_note_listing, credit_note_rows}
@@ -73,7 +75,8 @@ path-there table paths h =
     let n = both (is_path_or_none ubl_spaces paths.credit_note) _ u.1 in
     by table u.0 n.0 (both (is_path_or_none cii_spaces paths.cii) (has_path paths) n.1).0
   where
-    by : (table : Which) → is_path_or_none ubl_spaces paths.ubl ≡ true → is_path_or_none ubl_spaces paths.credit_note ≡ true → is_path_or_none cii_spaces paths.cii ≡ true
+    by : (table : Which) → is_path_or_none ubl_spaces paths.ubl ≡ true → is_path_or_none ubl_spaces paths.credit_note ≡ true →
+        is_path_or_none cii_spaces paths.cii ≡ true
         → is_path_or_none (spaces_for table) (path_for table paths) ≡ true
     by which.Invoice u n c = u
     by which.CreditNote u n c = n
@@ -83,7 +86,8 @@ abbrev made : ExtTerm → List ElementName → AddedTerm
 made term names = record { number = term.number; outer = outer_of term.place; inner = None; letter = term.letter; names = names }
 
 rising-more : (table : Which) (before : ℕ) (term : ExtTerm) (o : Option (List ElementName)) (terms : List AddedTerm) → before < term.number → term.number ≤ 99
-    → not (is_base64 term.letter) ≡ true → is_path_or_none (spaces_for table) o ≡ true → Rising table term.number terms → Rising table before (cons_option (option_map (made term) o) terms)
+    → not (is_base64 term.letter) ≡ true → is_path_or_none (spaces_for table) o ≡ true → Rising table term.number terms →
+    Rising table before (cons_option (option_map (made term) o) terms)
 rising-more table before term None terms low high letter path r = rising-lower table before term.number terms (omega (arith, low)) r
 rising-more table before term (Some names) terms low high letter path r =
     let s = both (nat_le 1 (length names)) _ path in
@@ -162,7 +166,8 @@ stands-there table a file = (λ i. is_root_or_line (file.outer i) (file.inner i)
 
 pub added-is : (table : Which) (rows : List Row) (a : AddedTerm) → IsOfFile table a → is_added (added_row table rows a) ≡ true
 added-is table rows a file =
-    ap (λ b. choose b (λ _. is_root_or_line a.outer a.inner && is_unmarked (added_row table rows a)) (λ _. false)) (extension-term a.number file.least file.most)
+    ap (λ b. choose b (λ _. is_root_or_line a.outer a.inner && is_unmarked (added_row table rows a)) (λ _. false))
+    (extension-term a.number file.least file.most)
     ∙ and-so (is_root_or_line a.outer a.inner) (is_unmarked (added_row table rows a)) (stands-there table a file)
     (and-so (list_all is_unguarded (path_of rows (greatest rows) [] (names_for (built rows) a))) (is_added_type (letter_of_form (form_of_type table a.letter)))
     (free-path rows (greatest rows) [] (names_for (built rows) a)) (ap is_added_type (letter-kept table a.letter) ∙ file.letter))
@@ -185,10 +190,12 @@ length-both : {X : Type 0} (xs ys : List X) → length (xs ++ ys) ≡ length xs 
 length-both [] ys = omega arith
 length-both (x ∷ xs) ys = let e = length-both xs ys in omega (arith, e)
 
-pub few-names : (table : Which) (own : List Row) (a : AddedTerm) → AreShort own → IsOfFile table a → (1 ≤ length (names_for own a)) × (length (names_for own a) ≤ 23)
+pub few-names : (table : Which) (own : List Row) (a : AddedTerm) → AreShort own → IsOfFile table a → (1 ≤ length (names_for own a)) ×
+    (length (names_for own a) ≤ 23)
 few-names table own a short file =
     let path = context_path own a.outer a.inner in
-    let low : length (context_path own a.outer a.inner) ≤ 3 = subst (λ n. n ≤ 3) (sym (λ i. length (context_path own (file.outer i) (file.inner i)))) (short file.place) in
+    let low : length (context_path own a.outer a.inner) ≤ 3 = subst (λ n. n ≤ 3) (sym (λ i. length (context_path own (file.outer i) (file.inner i))))
+    (short file.place) in
     let is = length-both (map (λ (s : Step). s.name) path) a.names in
     let same = length-map path (λ (s : Step). s.name) in
     let some = file.some in
@@ -208,13 +215,15 @@ grows-rows m (row ∷ rows) =
     let h = grows-rows (greatest_on m row) rows in
     omega (arith, g, h)
 
-at-small : (names : List ElementName) (path : List Step) (s : Step) (m : ℕ) → at_names names path ≡ Some s → s.number ≤ fold max m (map (λ (t : Step). t.number) path)
+at-small : (names : List ElementName) (path : List Step) (s : Step) (m : ℕ) → at_names names path ≡ Some s →
+    s.number ≤ fold max m (map (λ (t : Step). t.number) path)
 at-small [] path s m e = cc
 at-small (n ∷ names) [] s m e = cc
 at-small (n ∷ names) (t ∷ path) s m e = by (same_name n t.name) (length names == 0) e (at-small names path s (max m t.number))
   where
     by : (a b : Bool) → choose a (λ _. choose b (λ _. Some t) (λ _. at_names names path)) (λ _. None) ≡ Some s
-        → (at_names names path ≡ Some s → s.number ≤ fold max (max m t.number) (map (λ (t : Step). t.number) path)) → s.number ≤ fold max (max m t.number) (map (λ (t : Step). t.number) path)
+        → (at_names names path ≡ Some s → s.number ≤ fold max (max m t.number) (map (λ (t : Step). t.number) path)) →
+        s.number ≤ fold max (max m t.number) (map (λ (t : Step). t.number) path)
     by true true e f =
         let h = grows (max m t.number) path in
         let n = ap (λ (r : Step). r.number) (same_Some _ _ e) in
@@ -238,7 +247,8 @@ first-small names (row ∷ rows) s m e = by (at_names names row.path) refl e (fi
 pub found-small : (names : List ElementName) (rows : List Row) (s : Step) → first_at names rows ≡ Some s → s.number ≤ greatest rows
 found-small names rows s e = first-small names rows s 0 e
 
-step-low : (rows : List Row) (o : Option Step) (n : ElementName) (top : ℕ) → greatest rows ≤ top → ((s : Step) → o ≡ Some s → s.number ≤ greatest rows) → (step_for o n top).number ≤ top + 1
+step-low : (rows : List Row) (o : Option Step) (n : ElementName) (top : ℕ) → greatest rows ≤ top → ((s : Step) → o ≡ Some s → s.number ≤ greatest rows) →
+    (step_for o n top).number ≤ top + 1
 step-low rows None n top l f = omega arith
 step-low rows (Some s) n top l f = let h = f s refl in omega (arith, h, l)
 
@@ -246,7 +256,8 @@ behind-low : (o : Option Step) (top : ℕ) → (top ≤ top_behind o top) × (to
 behind-low None top = (omega arith, omega arith)
 behind-low (Some s) top = (omega arith, omega arith)
 
-path-low : (rows : List Row) (m top : ℕ) (before names : List ElementName) → greatest rows ≤ top → fold max m (map (λ (s : Step). s.number) (path_of rows top before names)) ≤ max m (top + length names)
+path-low : (rows : List Row) (m top : ℕ) (before names : List ElementName) → greatest rows ≤ top →
+    fold max m (map (λ (s : Step). s.number) (path_of rows top before names)) ≤ max m (top + length names)
 path-low rows m top before [] l = omega arith
 path-low rows m top before (n ∷ names) l =
     let o = first_at (before ++ n ∷ []) rows in
@@ -261,7 +272,8 @@ greatest-more : (m : ℕ) (rows : List Row) (row : Row) → fold greatest_on m (
 greatest-more m [] row = refl
 greatest-more m (r ∷ rows) row = greatest-more (greatest_on m r) rows row
 
-pub greatest-behind : (table : Which) (rows : List Row) (a : AddedTerm) → greatest (rows ++ added_row table rows a ∷ []) ≤ greatest rows + length (names_for (built rows) a)
+pub greatest-behind : (table : Which) (rows : List Row) (a : AddedTerm) →
+    greatest (rows ++ added_row table rows a ∷ []) ≤ greatest rows + length (names_for (built rows) a)
 greatest-behind table rows a =
     let e = greatest-more 0 rows (added_row table rows a) in
     let h = path-low rows (greatest rows) (greatest rows) [] (names_for (built rows) a) (omega arith) in
@@ -272,7 +284,8 @@ greatest-behind table rows a =
 one-more : (rows : List Row) (row : Row) → length (rows ++ row ∷ []) ≡ length rows + 1
 one-more rows row = length-both rows (row ∷ [])
 
-pub rooms : (table : Which) (own : List Row) → AreShort own → (terms : List AddedTerm) (before : ℕ) → Rising table before terms → (rows : List Row) → built rows ≡ own
+pub rooms : (table : Which) (own : List Row) → AreShort own → (terms : List AddedTerm) (before : ℕ) → Rising table before terms → (rows : List Row) →
+    built rows ≡ own
     → length rows + length terms < 2 ^ 31 → greatest rows + 23 * length terms < 2 ^ 31 → HasRooms table rows terms
 rooms table own short [] before r rows e few low = tt
 rooms table own short (a ∷ terms) before r rows e few low =
@@ -285,7 +298,8 @@ rooms table own short (a ∷ terms) before r rows e few low =
       omega (arith, few),
       (
         (omega (arith, n0), omega (arith, n1, low)),
-        rooms table own short terms a.number r.1.1 (rows ++ added_row table rows a ∷ []) (built-more table rows a file ∙ e) (omega (arith, few, count)) (omega (arith, low, most, n1)),
+        rooms table own short terms a.number r.1.1 (rows ++ added_row table rows a ∷ []) (built-more table rows a file ∙ e) (omega (arith, few, count))
+            (omega (arith, low, most, n1)),
       ),
     )
 
@@ -350,7 +364,8 @@ short-cii = refl
 by-short : (own : List Row) → are_short own ≡ true → AreShort own
 by-short own h places.Root = leb-true (length (context_path own None None)) 3 (both (nat_le (length (context_path own None None)) 3) _ h).0
 by-short own h places.Line =
-    leb-true (length (context_path own (Some groups.InvoiceLine) None)) 3 (both (nat_le (length (context_path own None None)) 3) (nat_le (length (context_path own (Some groups.InvoiceLine) None)) 3) h).1
+    leb-true (length (context_path own (Some groups.InvoiceLine) None)) 3
+    (both (nat_le (length (context_path own None None)) 3) (nat_le (length (context_path own (Some groups.InvoiceLine) None)) 3) h).1
 
 pub short-each : (table : Which) → AreShort (rows_of table)
 short-each which.Invoice = by-short invoice_rows short-invoice
@@ -368,7 +383,8 @@ rows-small : (table : Which) → list_all is_small_row (rows_of table) ≡ true
 rows-small table = (both (nat_le (greatest (rows_of table)) 1000) _ (both (nat_le (length (rows_of table)) 1000) _ (small-each table)).1).1
 
 pub steps-each : (table : Which) → All HasSteps (rows_of table)
-steps-each table = all-by HasSteps is_small_row (λ row h. ltb-true 0 (length row.path) (both (nat_lt 0 (length row.path)) _ h).0) (rows_of table) (rows-small table)
+steps-each table = all-by HasSteps is_small_row (λ row h. ltb-true 0 (length row.path) (both (nat_lt 0 (length row.path)) _ h).0) (rows_of table)
+    (rows-small table)
 
 pub numbers-each : (table : Which) → All HasSmallNumbers (rows_of table)
 numbers-each table = all-by HasSmallNumbers is_small_row (λ row h. numbers row (both (nat_lt 0 (length row.path)) _ h).1) (rows_of table) (rows-small table)
@@ -386,4 +402,5 @@ rooms-each table e h =
     let s = both (nat_le (length (rows_of table)) 1000) _ (small-each table) in
     let rows = leb-true (length (rows_of table)) 1000 s.0 in
     let most = leb-true (greatest (rows_of table)) 1000 (both (nat_le (greatest (rows_of table)) 1000) _ s.1).0 in
-    rooms table (rows_of table) (short-each table) (terms_for table e) 0 r (rows_of table) (own-each table) (omega (arith, few, rows)) (omega (arith, few, most))
+    rooms table (rows_of table) (short-each table) (terms_for table e) 0 r (rows_of table) (own-each table) (omega (arith, few, rows))
+    (omega (arith, few, most))

@@ -12,9 +12,11 @@ use Rattle.bind_meaning.specs.Terms.{Read, terms_of}
 use Rattle.bind_run.specs.Reading.{by_root, invoice_of}
 use Rattle.bind_run.specs.Roots.{which_of, unknown_root}
 
-pub root-read : ((table : Which) (document : Document) (lists : Lists) (read : Read) → IsOfATree document → terms_of (tree_nodes document) (rows_of table) lists ≡ Ok read
+pub root-read : ((table : Which) (document : Document) (lists : Lists) (read : Read) → IsOfATree document →
+    terms_of (tree_nodes document) (rows_of table) lists ≡ Ok read
     → IsInvoice read.entries × IsValid read.entries lists)
-    → (document : Document) (lists : Lists) (read : Read) → IsOfATree document → invoice_of (tree_nodes document) lists ≡ Ok read → IsInvoice read.entries × IsValid read.entries lists
+    → (document : Document) (lists : Lists) (read : Read) → IsOfATree document → invoice_of (tree_nodes document) lists ≡ Ok read → IsInvoice read.entries ×
+    IsValid read.entries lists
 root-read valid document lists read tree h = go (which_of (tree_nodes document)) h
   where
     go : (o : Option Which) → by_root rows_of (tree_nodes document) lists o ≡ Ok read → IsInvoice read.entries × IsValid read.entries lists

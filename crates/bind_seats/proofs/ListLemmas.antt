@@ -1,5 +1,6 @@
 -- Lists, their tests and their numbers.
-use Rattle.std.proofs.Common.{◌≡◌, ℕ, ◌<◌, Bool, true, false, ◌&&◌, ◌||◌, List, [], ◌∷◌, ◌++◌, get_or, Option, Some, None, refl, sym, ap, ◌∙◌, cond, inl, inr, arith}
+use Rattle.std.proofs.Common.{◌≡◌, ℕ, ◌<◌, Bool, true, false, ◌&&◌, ◌||◌, List, [], ◌∷◌, ◌++◌, get_or, Option, Some, None, refl, sym, ap, ◌∙◌, cond, inl, inr}
+use Rattle.std.proofs.Common.{arith}
 use Rattle.std.specs.Prelude.{◌==◌, filter, map, flat_map, find, filter_map, option_map}
 use Rattle.std.specs.List.{list_any, All, AllByRecursion, cons_option}
 use Rattle.std.proofs.lemmas.Bool.{false≢true, cases_Bool, cases_order, eqb-true}

@@ -1,5 +1,6 @@
 -- In a well-formed table the path of an added row parts from each other row's by a name.
-use Rattle.std.proofs.Common.{◌≡◌, ℕ, zero, suc, ◌+◌, ◌<◌, Bool, true, false, ◌&&◌, ◌||◌, List, [], ◌∷◌, length, Option, Some, None, Ok, refl, sym, ap, ◌∙◌, subst, arith}
+use Rattle.std.proofs.Common.{◌≡◌, ℕ, zero, suc, ◌+◌, ◌<◌, Bool, true, false, ◌&&◌, ◌||◌, List, [], ◌∷◌, length, Option, Some, None, Ok, refl, sym, ap, ◌∙◌}
+use Rattle.std.proofs.Common.{subst, arith}
 use Rattle.std.specs.Prelude.{◌==◌, nat_lt, slice_get}
 use Rattle.std.proofs.lemmas.Bool.{eqb-true, ltb-true, false≢true}
 use Rattle.std.proofs.lemmas.Option.{same_Some}
@@ -54,7 +55,9 @@ clear-at row k (r ∷ others) n (suc j) other h at differ =
 parts-true : (rows own : List Row) (k : ℕ) (row : Row) → added_fault rows own k row ≡ None → parts_from rows 0 k row ≡ true
 parts-true rows own k row h = by (is_in_context own row) (parts_from rows 0 k row) h
   where
-    by : (a b : Bool) → choose {A = Option TableKind} a (λ _. choose b (λ _. choose (is_held own row) (λ _. None) (λ _. Some kinds.Ambiguous)) (λ _. Some kinds.Ambiguous)) (λ _. Some kinds.OutsideContext) ≡ None → b ≡ true
+    by : (a b : Bool) → choose {A = Option TableKind} a
+        (λ _. choose b (λ _. choose (is_held own row) (λ _. None) (λ _. Some kinds.Ambiguous)) (λ _. Some kinds.Ambiguous))
+        (λ _. Some kinds.OutsideContext) ≡ None → b ≡ true
     by true true h = refl
     by true false h = cc
     by false b h = cc

@@ -4,7 +4,8 @@ use Rattle.std.specs.Prelude.{nat_lt, All, map}
 use Rattle.std.specs.List.Sorted.{IsPermutation}
 use Rattle.std.proofs.lemmas.List.{append-nil, map-append}
 use Rattle.std.proofs.lemmas.List.Elements.{All-head, All-tail}
-use Rattle.std.proofs.lemmas.List.Sorted.{IsPermutation-refl, IsPermutation-sym, IsPermutation-trans, IsPermutation-append, IsPermutation-append_comm, IsPermutation-append_left, IsPermutation-append_right}
+use Rattle.std.proofs.lemmas.List.Sorted.{IsPermutation-refl, IsPermutation-sym, IsPermutation-trans, IsPermutation-append, IsPermutation-append_comm}
+use Rattle.std.proofs.lemmas.List.Sorted.{IsPermutation-append_left, IsPermutation-append_right}
 use Rattle.bind_rows.specs.declared.rows.Row.{Row}
 use Rattle.bind_rows.specs.declared.rows.Step.{Step}
 use Rattle.bind_rows.specs.Same.{same_step, choose}
@@ -49,7 +50,8 @@ module _ (cell : Cell) (steps : List Step) (deeper-more : (above : List Step) (p
       (end_at (above ++ (s ∷ steps)) cell ∷ ends above rest)
   new-ends above s rest =
       let up = above ++ s ∷ [] in
-      IsPermutation-trans _ _ _ (same-perm _ _ (sym (append_assoc (map (end_at up) (own_cells steps cell [])) (ends up (add steps cell nothing)) (ends above rest))))
+      IsPermutation-trans _ _ _
+      (same-perm _ _ (sym (append_assoc (map (end_at up) (own_cells steps cell [])) (ends up (add steps cell nothing)) (ends above rest))))
       (IsPermutation-append_left (ends above rest) _ _ (line-ends above s [] nothing))
 
   same-ends : (above : List Step) (s t : Step) (cells : List Cell) (inside rest : Plan) → s ≡ t
@@ -60,7 +62,8 @@ module _ (cell : Cell) (steps : List Step) (deeper-more : (above : List Step) (p
       let P : Step → Type 0 = λ r. IsPermutation (ends above (a_line t (own_cells steps cell cells) (add steps cell inside) rest))
       (end_at (above ++ (r ∷ steps)) cell ∷ ends above (a_line t cells inside rest)) in
       subst P (sym e)
-      (IsPermutation-trans _ _ _ (same-perm _ _ (sym (append_assoc (map (end_at up) (own_cells steps cell cells)) (ends up (add steps cell inside)) (ends above rest))))
+      (IsPermutation-trans _ _ _
+      (same-perm _ _ (sym (append_assoc (map (end_at up) (own_cells steps cell cells)) (ends up (add steps cell inside)) (ends above rest))))
       (IsPermutation-trans _ _ _ (IsPermutation-append_left (ends above rest) _ _ (line-ends above t cells inside))
       (same-perm _ _ (ap (λ zs. end_at (above ++ (t ∷ steps)) cell ∷ zs) (append_assoc (map (end_at up) cells) (ends up inside) (ends above rest))))))
 
@@ -71,7 +74,8 @@ module _ (cell : Cell) (steps : List Step) (deeper-more : (above : List Step) (p
   past-ends above s t cells inside rest h =
       let up = above ++ t ∷ [] in
       let line = map (end_at up) cells ++ ends up inside in
-      IsPermutation-trans _ _ _ (same-perm _ _ (sym (append_assoc (map (end_at up) cells) (ends up inside) (ends above (into s (own_cells steps cell) (add steps cell) rest)))))
+      IsPermutation-trans _ _ _
+      (same-perm _ _ (sym (append_assoc (map (end_at up) cells) (ends up inside) (ends above (into s (own_cells steps cell) (add steps cell) rest)))))
       (IsPermutation-trans _ _ _ (IsPermutation-append_right line _ _ h)
       (IsPermutation-trans _ _ _ (between line (end_at (above ++ (s ∷ steps)) cell ∷ []) (ends above rest))
       (same-perm _ _ (ap (λ zs. end_at (above ++ (s ∷ steps)) cell ∷ zs) (append_assoc (map (end_at up) cells) (ends up inside) (ends above rest))))))

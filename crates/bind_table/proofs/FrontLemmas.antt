@@ -1,5 +1,6 @@
 -- In a well-formed table one element carries a group, and rows have terms of the semantic model.
-use Rattle.std.proofs.Common.{◌≡◌, ℕ, zero, suc, ◌+◌, ◌<◌, Bool, true, false, not, ◌&&◌, ◌||◌, ◌⊎◌, inl, inr, List, [], ◌∷◌, ◌++◌, length, take, Option, Some, None, Result, Ok, Err, refl, sym, ap, ◌∙◌, subst, arith, append_assoc}
+use Rattle.std.proofs.Common.{◌≡◌, ℕ, zero, suc, ◌+◌, ◌<◌, Bool, true, false, not, ◌&&◌, ◌||◌, ◌⊎◌, inl, inr, List, [], ◌∷◌, ◌++◌, length, take, Option, Some}
+use Rattle.std.proofs.Common.{None, Result, Ok, Err, refl, sym, ap, ◌∙◌, subst, arith, append_assoc}
 use Rattle.std.specs.Prelude.{nat_lt, slice_get, is_none}
 use Rattle.std.specs.List.{list_all}
 use Rattle.std.proofs.lemmas.Bool.{lt-ltb, ltb-true}
@@ -16,7 +17,8 @@ use Rattle.bind_rows.specs.Same.{same_step, choose}
 use Rattle.bind_table.specs.declared.judging.TableKind.{TableKind}
 use Rattle.bind_table.specs.declared.judging.TableKind.TheVariants as kinds
 use Rattle.bind_table.specs.declared.judging.TableFault.{TableFault}
-use Rattle.bind_table.specs.WellFormed.{carries, carriers, same_path, depth_of, is_carried, first_carrier, all_are, is_carried_once, is_placed, is_nested, is_rooted, is_outside, is_ambiguous, is_unknown, fault_of, told, first_fault_from, first_fault}
+use Rattle.bind_table.specs.WellFormed.{carries, carriers, same_path, depth_of, is_carried, first_carrier, all_are, is_carried_once, is_placed, is_nested}
+use Rattle.bind_table.specs.WellFormed.{is_rooted, is_outside, is_ambiguous, is_unknown, fault_of, told, first_fault_from, first_fault}
 use Rattle.bind_table.specs.Fronts.{HasGroup, front_of}
 use Rattle.bind_table.specs.Sound.{IsSoundRow}
 use Rattle.bind_table.proofs.SameLemmas.{pointwise-sound, step-sound}

@@ -1,5 +1,6 @@
 -- A row is added to lines that are kept in preorder.
-use Rattle.std.proofs.Common.{◌≡◌, ℕ, suc, Some, ◌&&◌, ◌==◌, not, IsTrue, set, ◌+◌, ◌<◌, ◌≤◌, Bool, true, false, List, [], ◌∷◌, ◌++◌, length, get_or, take, drop, refl, sym, ap, ◌∙◌, subst, arith, append_assoc, length-append}
+use Rattle.std.proofs.Common.{◌≡◌, ℕ, suc, Some, ◌&&◌, ◌==◌, not, IsTrue, set, ◌+◌, ◌<◌, ◌≤◌, Bool, true, false, List, [], ◌∷◌, ◌++◌, length, get_or, take}
+use Rattle.std.proofs.Common.{drop, refl, sym, ap, ◌∙◌, subst, arith, append_assoc, length-append}
 use Rattle.std.specs.Prelude.{nat_lt, ◌||◌, slice_get}
 use Rattle.std.proofs.lemmas.Bool.{lt-ltb, ltb-true, eqb-true}
 use Rattle.std.proofs.lemmas.Option.{same_Some}
@@ -49,7 +50,8 @@ line_there lines at to front back (a_line s cells inside rest) x w below read =
 -- what stands behind a line and its inside
 pub behind_line : (lines : List Line) (at to : ℕ) (front back : List Line) (s : Step) (cells : List Cell) (inside rest : Plan)
     → IsWithin lines at to front back (a_line s cells inside rest)
-    → IsWithin lines (at + (1 + length (flat inside))) to (front ++ (record { step = s; rows = numbers cells; size = length (flat inside) } ∷ flat inside)) back rest
+    → IsWithin lines (at + (1 + length (flat inside))) to (front ++ (record { step = s; rows = numbers cells; size = length (flat inside) } ∷ flat inside)) back
+    rest
 behind_line lines at to front back s cells inside rest w =
     let line : Line = record { step = s; rows = numbers cells; size = length (flat inside) } in
     record {
@@ -260,7 +262,9 @@ got_line : (lines : List Line) (at to : ℕ) (front back : List Line) (t : Step)
     → IsWithin lines at to front back (a_line t cells inside rest)
     → slice_get lines at ≡ Some (record { step = t; rows = numbers cells; size = length (flat inside) })
 got_line lines at to front back t cells inside rest w =
-    ap (λ ls. slice_get ls at) w.is ∙ (ap (λ n. slice_get (front ++ (record { step = t; rows = numbers cells; size = length (flat inside) } ∷ ((flat inside ++ flat rest) ++ back))) n) (sym w.begins)
+    ap (λ ls. slice_get ls at) w.is ∙
+    (ap (λ n. slice_get (front ++ (record { step = t; rows = numbers cells; size = length (flat inside) } ∷ ((flat inside ++ flat rest) ++ back))) n)
+    (sym w.begins)
     ∙ slice_get-seam front (record { step = t; rows = numbers cells; size = length (flat inside) }) ((flat inside ++ flat rest) ++ back))
 
 or-left : (a b : Bool) → (a || b) ≡ true → b ≡ false → a ≡ true
@@ -374,7 +378,8 @@ pub record Stands (lines : List Line) (to at : ℕ) (s : Step) (front back : Lis
   pub below : at + (1 + line.size) ≤ to
   pub was : flat plan ≡ flat passed ++ (line ∷ (flat inside ++ flat rest))
   pub added : (own : List Cell → List Cell) (deeper : Plan → Plan)
-      → flat (into s own deeper plan) ≡ flat passed ++ (record { step = line.step; rows = numbers (own cells); size = length (flat (deeper inside)) } ∷ (flat (deeper inside) ++ flat rest))
+      → flat (into s own deeper plan) ≡ flat passed ++
+      (record { step = line.step; rows = numbers (own cells); size = length (flat (deeper inside)) } ∷ (flat (deeper inside) ++ flat rest))
 
 both : (a b : Bool) → (a && b) ≡ true → (a ≡ true) × (b ≡ true)
 both true b e = (refl, e)

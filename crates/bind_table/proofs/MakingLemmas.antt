@@ -1,5 +1,6 @@
 -- What can be made, item by item.
-use Rattle.std.proofs.Common.{◌≡◌, ℕ, suc, ◌+◌, ◌-◌, ◌<◌, Bool, true, false, ◌&&◌, nat_lt, List, [], ◌∷◌, ◌++◌, length, take, drop, get_or, slice_index_or, All, IsTrue, Bor, refl, sym, ap, ◌∙◌, subst, arith, add-one, drop-cons, length-append, length-take}
+use Rattle.std.proofs.Common.{◌≡◌, ℕ, suc, ◌+◌, ◌-◌, ◌<◌, Bool, true, false, ◌&&◌, nat_lt, List, [], ◌∷◌, ◌++◌, length, take, drop, get_or, slice_index_or, All}
+use Rattle.std.proofs.Common.{IsTrue, Bor, refl, sym, ap, ◌∙◌, subst, arith, add-one, drop-cons, length-append, length-take}
 use Rattle.std.proofs.lemmas.List.Elements.{All-push, All-take}
 use Rattle.bind_rows.specs.declared.rows.Step.{Step}
 use Rattle.bind_table.specs.declared.items.TableItem.{TableItem}

@@ -1,5 +1,6 @@
 -- No two lines of a table have one path.
-use Rattle.std.proofs.Common.{◌≡◌, ℕ, zero, suc, ◌+◌, ◌<◌, ◌≤◌, Bool, true, false, List, [], ◌∷◌, ◌++◌, Option, Some, None, refl, sym, ap, ◌∙◌, subst, arith, append_assoc}
+use Rattle.std.proofs.Common.{◌≡◌, ℕ, zero, suc, ◌+◌, ◌<◌, ◌≤◌, Bool, true, false, List, [], ◌∷◌, ◌++◌, Option, Some, None, refl, sym, ap, ◌∙◌, subst, arith}
+use Rattle.std.proofs.Common.{append_assoc}
 use Rattle.std.specs.Prelude.{nat_lt, slice_get}
 use Rattle.std.specs.Cmp.Lexicographic.{pointwise}
 use Rattle.std.specs.Str.{bytes_eq}
@@ -56,7 +57,8 @@ group-itself (Some a) = eq-eqb (terms.number_of a) (terms.number_of a) refl
 pub step-itself : (a : Step) → same_step a a ≡ true
 step-itself a =
     ap (λ b. choose b (λ _. same_rest_of_step a a) (λ _. false)) (eq-eqb a.number a.number refl)
-    ∙ and_from _ _ (name-itself a.name) (and_from _ _ (flag-itself a.always) (and_from _ _ (group-itself a.group) (each-itself same_guard guard-itself a.guards)))
+    ∙ and_from _ _ (name-itself a.name) (and_from _ _ (flag-itself a.always)
+    (and_from _ _ (group-itself a.group) (each-itself same_guard guard-itself a.guards)))
 
 -- ---- lines beside one another differ
 

@@ -1,12 +1,14 @@
 -- What rows pick, each by itself, is what the walk over lines picks.
-use Rattle.std.proofs.Common.{◌≡◌, ℕ, ◌+◌, ◌<◌, Bool, true, false, List, [], ◌∷◌, ◌++◌, length, Option, Some, None, refl, sym, ap, ◌∙◌, subst, arith, append_assoc}
+use Rattle.std.proofs.Common.{◌≡◌, ℕ, ◌+◌, ◌<◌, Bool, true, false, List, [], ◌∷◌, ◌++◌, length, Option, Some, None, refl, sym, ap, ◌∙◌, subst, arith}
+use Rattle.std.proofs.Common.{append_assoc}
 use Rattle.std.specs.Prelude.{nat_lt, All}
 use Rattle.std.specs.List.{flat_map}
 use Rattle.std.specs.List.Sorted.{IsPermutation}
 use Rattle.std.proofs.lemmas.List.{append-nil}
 use Rattle.std.proofs.lemmas.List.Concat.{flat_map-append}
 use Rattle.std.proofs.lemmas.List.Elements.{All-head, All-tail}
-use Rattle.std.proofs.lemmas.List.Sorted.{IsPermutation-refl, IsPermutation-sym, IsPermutation-trans, IsPermutation-append, IsPermutation-append_comm, IsPermutation-append_left, IsPermutation-append_right}
+use Rattle.std.proofs.lemmas.List.Sorted.{IsPermutation-refl, IsPermutation-sym, IsPermutation-trans, IsPermutation-append, IsPermutation-append_comm}
+use Rattle.std.proofs.lemmas.List.Sorted.{IsPermutation-append_left, IsPermutation-append_right}
 use Rattle.term_table.specs.declared.groups.Group.{Group}
 use Rattle.bind_rows.specs.declared.rows.Row.{Row}
 use Rattle.bind_rows.specs.declared.rows.Step.{Step}
@@ -88,7 +90,8 @@ module _ {X C P : Type 0} (see : Sight X C P) where
 
     by : (s t : Step) (cells : List Cell) (inside rest : Plan) (c : C) (x : X) (a b : Bool) → (a ≡ true → s ≡ t)
         → IsPermutation (walked see (into s own deeper rest) c x) (through see all_more s.group c (see.met s x) ++ walked see rest c x)
-        → IsPermutation (walked see (choose a (λ _. a_line t (own cells) (deeper inside) rest) (λ _. choose b (λ _. a_line s (own []) (deeper nothing) (a_line t cells inside rest)) (λ _. a_line t cells inside (into s own deeper rest)))) c x)
+        → IsPermutation (walked see (choose a (λ _. a_line t (own cells) (deeper inside) rest)
+        (λ _. choose b (λ _. a_line s (own []) (deeper nothing) (a_line t cells inside rest)) (λ _. a_line t cells inside (into s own deeper rest)))) c x)
         (through see all_more s.group c (see.met s x) ++ walked see (a_line t cells inside rest) c x)
     by s t cells inside rest c x true b sound others = same_line s t cells inside rest c x (sound refl)
     by s t cells inside rest c x false true sound others = IsPermutation-append_left (walked see (a_line t cells inside rest) c x) _ _
@@ -151,7 +154,8 @@ module _ {X C P : Type 0} (see : Sight X C P) where
       IsPermutation-trans _ _ _ (same-perm _ _ (append_assoc one others (walked see plan c x)))
       (IsPermutation-trans _ _ _ (between one others (walked see plan c x))
       (IsPermutation-trans _ _ _
-      (IsPermutation-append_right others _ _ (IsPermutation-sym _ _ (path-more cell row.path plan c x (All-head (λ (r : Row). 0 < length r.path) row rows long))))
+      (IsPermutation-append_right others _ _
+      (IsPermutation-sym _ _ (path-more cell row.path plan c x (All-head (λ (r : Row). 0 < length r.path) row rows long))))
       (grown-more (add row.path cell plan) (n + 1) rows c x (All-tail (λ (r : Row). 0 < length r.path) row rows long))))
 
   pub rows-and-lines : (rows : List Row) (c : C) (x : X) → All (λ (r : Row). 0 < length r.path) rows

@@ -18,7 +18,8 @@ use Rattle.bind_rows.specs.declared.guards.Test.{Test}
 use Rattle.bind_rows.specs.declared.guards.Test.TheVariants as tests
 use Rattle.bind_rows.specs.declared.guards.Guard.{Guard}
 use Rattle.bind_rows.specs.declared.rows.Step.{Step}
-use Rattle.bind_rows.specs.Same.{number_of, choose, same_namespace, same_name, same_leaf, same_place, same_test, same_guard, same_group, same_or_none, same_flag, same_rest_of_step, same_step}
+use Rattle.bind_rows.specs.Same.{number_of, choose, same_namespace, same_name, same_leaf, same_place, same_test, same_guard, same_group, same_or_none}
+use Rattle.bind_rows.specs.Same.{same_flag, same_rest_of_step, same_step}
 
 both : (a b : Bool) → (a && b) ≡ true → (a ≡ true) × (b ≡ true)
 both true b e = (refl, e)
@@ -36,7 +37,8 @@ text-sound : (a b : List ℕ) → bytes_eq a b ≡ true → a ≡ b
 text-sound a b e = (bytes_eq-Decides a b).0 e
 
 spaces_all : List Namespace
-spaces_all = spaces.UblInvoice ∷ spaces.UblCreditNote ∷ spaces.UblAggregate ∷ spaces.UblBasic ∷ spaces.CiiInvoice ∷ spaces.CiiAggregate ∷ spaces.CiiUnqualified ∷ spaces.CiiQualified ∷ []
+spaces_all = spaces.UblInvoice ∷ spaces.UblCreditNote ∷ spaces.UblAggregate ∷ spaces.UblBasic ∷ spaces.CiiInvoice ∷ spaces.CiiAggregate ∷ spaces.CiiUnqualified
+    ∷ spaces.CiiQualified ∷ []
 
 space_at : ℕ → Option Namespace
 space_at n = find (λ s. number_of s == n) spaces_all
@@ -56,7 +58,12 @@ namespace-sound : (a b : Namespace) → same_namespace a b ≡ true → a ≡ b
 namespace-sound a b e = same_Some _ _ (sym (space_at-number_of a) ∙ (ap space_at (eqb-true (number_of a) (number_of b) e) ∙ space_at-number_of b))
 
 groups_all : List Group
-groups_all = groups.Root ∷ groups.InvoiceNote ∷ groups.ProcessControl ∷ groups.PrecedingInvoice ∷ groups.Seller ∷ groups.SellerAddress ∷ groups.SellerContact ∷ groups.Buyer ∷ groups.BuyerAddress ∷ groups.BuyerContact ∷ groups.Payee ∷ groups.TaxRepresentative ∷ groups.TaxRepresentativeAddress ∷ groups.Delivery ∷ groups.InvoicingPeriod ∷ groups.DeliveryAddress ∷ groups.PaymentInstructions ∷ groups.CreditTransfer ∷ groups.PaymentCard ∷ groups.DirectDebit ∷ groups.DocumentAllowance ∷ groups.DocumentCharge ∷ groups.DocumentTotals ∷ groups.VatBreakdown ∷ groups.SupportingDocument ∷ groups.InvoiceLine ∷ groups.LinePeriod ∷ groups.LineAllowance ∷ groups.LineCharge ∷ groups.PriceDetails ∷ groups.LineVat ∷ groups.ItemInformation ∷ groups.ItemAttribute ∷ groups.SellerIdentifier ∷ groups.SellerSchemedIdentifier ∷ groups.ItemClassification ∷ []
+groups_all = groups.Root ∷ groups.InvoiceNote ∷ groups.ProcessControl ∷ groups.PrecedingInvoice ∷ groups.Seller ∷ groups.SellerAddress ∷ groups.SellerContact ∷
+    groups.Buyer ∷ groups.BuyerAddress ∷ groups.BuyerContact ∷ groups.Payee ∷ groups.TaxRepresentative ∷ groups.TaxRepresentativeAddress ∷ groups.Delivery ∷
+    groups.InvoicingPeriod ∷ groups.DeliveryAddress ∷ groups.PaymentInstructions ∷ groups.CreditTransfer ∷ groups.PaymentCard ∷ groups.DirectDebit ∷
+    groups.DocumentAllowance ∷ groups.DocumentCharge ∷ groups.DocumentTotals ∷ groups.VatBreakdown ∷ groups.SupportingDocument ∷ groups.InvoiceLine ∷
+    groups.LinePeriod ∷ groups.LineAllowance ∷ groups.LineCharge ∷ groups.PriceDetails ∷ groups.LineVat ∷ groups.ItemInformation ∷ groups.ItemAttribute ∷
+    groups.SellerIdentifier ∷ groups.SellerSchemedIdentifier ∷ groups.ItemClassification ∷ []
 
 group_at : ℕ → Option Group
 group_at n = find (λ g. terms.number_of g == n) groups_all

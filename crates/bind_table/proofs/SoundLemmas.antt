@@ -1,6 +1,7 @@
 -- What a well-formed table says of each of its rows. The built-in part is judged by itself; added rows carry its own
 -- elements and no others that carry a group, so what it says of groups holds over all rows.
-use Rattle.std.proofs.Common.{◌≡◌, ℕ, zero, suc, ◌+◌, ◌<◌, Bool, true, false, not, ◌&&◌, ◌||◌, ◌⊎◌, inl, inr, List, [], ◌∷◌, ◌++◌, length, take, Option, Some, None, Result, Ok, Err, refl, sym, ap, ◌∙◌, subst, arith, append_assoc}
+use Rattle.std.proofs.Common.{◌≡◌, ℕ, zero, suc, ◌+◌, ◌<◌, Bool, true, false, not, ◌&&◌, ◌||◌, ◌⊎◌, inl, inr, List, [], ◌∷◌, ◌++◌, length, take, Option, Some}
+use Rattle.std.proofs.Common.{None, Result, Ok, Err, refl, sym, ap, ◌∙◌, subst, arith, append_assoc}
 use Rattle.std.specs.Prelude.{if◌then◌else◌, nat_lt, slice_get, is_none, flat_map, All}
 use Rattle.std.specs.List.{list_all, AllByRecursion}
 use Rattle.std.specs.Cmp.Lexicographic.{pointwise}
@@ -27,7 +28,9 @@ use Rattle.bind_table.specs.declared.judging.TableFault.{TableFault}
 use Rattle.bind_table.specs.Crossings.{passes_no_group}
 use Rattle.bind_table.specs.Fronts.{front_of}
 use Rattle.bind_table.specs.Sound.{is_unplaced, IsSoundRow}
-use Rattle.bind_table.specs.WellFormed.{is_ambiguous, is_unknown, carries, carriers, same_path, depth_of, is_carried, first_carrier, all_are, is_carried_once, is_placed, is_nested, is_root, has_root, is_rooted, is_outside, listed, groups_of, carries_only, begins_with, begins_there, is_in_context, parts_from, is_held, added_fault, own_fault, fault_of, told, first_fault_from, first_fault}
+use Rattle.bind_table.specs.WellFormed.{is_ambiguous, is_unknown, carries, carriers, same_path, depth_of, is_carried, first_carrier, all_are, is_carried_once}
+use Rattle.bind_table.specs.WellFormed.{is_placed, is_nested, is_root, has_root, is_rooted, is_outside, listed, groups_of, carries_only, begins_with}
+use Rattle.bind_table.specs.WellFormed.{begins_there, is_in_context, parts_from, is_held, added_fault, own_fault, fault_of, told, first_fault_from, first_fault}
 use Rattle.bind_table.proofs.PathLemmas.{name-itself, step-itself, each-itself, group-itself}
 use Rattle.bind_table.proofs.SameLemmas.{pointwise-sound, name-sound, step-sound, group-sound}
 
@@ -50,10 +53,12 @@ none-at rows own k [] j row fine at = cc
 none-at rows own k (r ∷ left) zero row fine at =
     let P : Row → Type 0 = λ r. fault_of rows own k r ≡ None in
     let e : k ≡ k + 0 = omega arith in
-    subst (λ n. fault_of rows own n row ≡ None) e (subst P (same_Some _ _ at) (told-ok k (fault_of rows own k r) (first_fault_from rows own (k + 1) left) fine).0)
+    subst (λ n. fault_of rows own n row ≡ None) e
+    (subst P (same_Some _ _ at) (told-ok k (fault_of rows own k r) (first_fault_from rows own (k + 1) left) fine).0)
 none-at rows own k (r ∷ left) (suc j) row fine at =
     let e : k + 1 + j ≡ k + suc j = omega arith in
-    subst (λ n. fault_of rows own n row ≡ None) e (none-at rows own (k + 1) left j row (told-ok k (fault_of rows own k r) (first_fault_from rows own (k + 1) left) fine).1 at)
+    subst (λ n. fault_of rows own n row ≡ None) e
+    (none-at rows own (k + 1) left j row (told-ok k (fault_of rows own k r) (first_fault_from rows own (k + 1) left) fine).1 at)
 
 -- ---- a row without a fault
 

@@ -149,7 +149,17 @@ seat_of path repeat.Agreeing = seat_in path
 abbrev pub row_of : List Step → Leaf → Cell → Row
 row_of path leaf cell =
     let seat = seat_of path (repeats_of cell) in
-    record { path = path; leaf = leaf; outer = seat.outer; inner = seat.inner; content = content_of cell; form = form_of cell; repeats = repeats_of cell; written = written_of cell; check = check_of cell }
+    record {
+      path = path;
+      leaf = leaf;
+      outer = seat.outer;
+      inner = seat.inner;
+      content = content_of cell;
+      form = form_of cell;
+      repeats = repeats_of cell;
+      written = written_of cell;
+      check = check_of cell;
+    }
 
 -- ---- a table
 

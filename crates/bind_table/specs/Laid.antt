@@ -47,7 +47,8 @@ is_declared spaces.UblInvoice other = same_namespace other spaces.UblInvoice
 is_declared spaces.UblCreditNote other = same_namespace other spaces.UblCreditNote
     || (same_namespace other spaces.UblAggregate || same_namespace other spaces.UblBasic)
 is_declared spaces.CiiInvoice other =
-    same_namespace other spaces.CiiInvoice || (same_namespace other spaces.CiiAggregate || (same_namespace other spaces.CiiUnqualified || same_namespace other spaces.CiiQualified))
+    same_namespace other spaces.CiiInvoice || (same_namespace other spaces.CiiAggregate ||
+    (same_namespace other spaces.CiiUnqualified || same_namespace other spaces.CiiQualified))
 is_declared _ other = false
 
 abbrev pub is_writable_leaf : Leaf → Bool

@@ -2,7 +2,8 @@
 -- or stands outside its context. The built-in part is judged by itself, and rows that users add against it and one
 -- another. A row with one of EXT-1 to EXT-99 that isn't such a row has an unknown term, though it has a place in the
 -- listing order.
-use Rattle.std.specs.Prelude.{ℕ, ◌+◌, ◌==◌, nat_lt, Bool, true, false, not, ◌&&◌, ◌||◌, List, [], ◌∷◌, ◌++◌, length, take, map, filter, flat_map, fold, max, Option, Some, None, Result, Ok, Err, is_none, codes, bytes_eq}
+use Rattle.std.specs.Prelude.{ℕ, ◌+◌, ◌==◌, nat_lt, Bool, true, false, not, ◌&&◌, ◌||◌, List, [], ◌∷◌, ◌++◌, length, take, map, filter, flat_map, fold, max}
+use Rattle.std.specs.Prelude.{Option, Some, None, Result, Ok, Err, is_none, codes, bytes_eq}
 use Rattle.std.specs.List.{list_all}
 use Rattle.std.specs.Cmp.Lexicographic.{pointwise}
 use Rattle.term_table.specs.declared.groups.Group.{Group}

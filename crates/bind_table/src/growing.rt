@@ -1,4 +1,5 @@
-ghost use Rattle.std.specs.Prelude.{◌≡◌, ◌||◌, ◌&&◌, ◌^◌, nat_lt, slice_get, slice_set, Some, ℕ, ◌<◌, ◌≤◌, ◌+◌, ◌++◌, [], ◌∷◌, length, take, drop, IfOk, IsTrue, OnOk, OnErr, vec_len};
+ghost use Rattle.std.specs.Prelude.{◌≡◌, ◌||◌, ◌&&◌, ◌^◌, nat_lt, slice_get, slice_set, Some, ℕ, ◌<◌, ◌≤◌, ◌+◌, ◌++◌, [], ◌∷◌, length, take, drop, IfOk};
+ghost use Rattle.std.specs.Prelude.{IsTrue, OnOk, OnErr, vec_len};
 ghost use Rattle.bind_rows.specs.Same.{same_step};
 ghost use Rattle.bind_table.specs.Lines.{Plan, Cell, flat, add, nothing};
 ghost use Rattle.bind_table.specs.Growing as spec;
@@ -78,7 +79,8 @@ fn end_of(lines: &[Line], at: usize) -> usize
 /// Notes that the row ends at the line.
 fn note_row(lines: &mut Vec<Line>, at: usize, row: usize) -> Result<(), AllocError>
     requires { at < vec_len lines.old }
-    ensures ok { OnOk result ((x : Line) → slice_get lines.old.items at ≡ Some x → lines.new.items ≡ slice_set lines.old.items at (record x { rows = x.rows ++ row ∷ [] })) }
+    ensures ok { OnOk result ((x : Line) → slice_get lines.old.items at ≡ Some x →
+        lines.new.items ≡ slice_set lines.old.items at (record x { rows = x.rows ++ row ∷ [] })) }
     ensures err { OnErr result (lines.new.items ≡ lines.old.items) }
 {
     let line = &mut lines[at];
@@ -126,7 +128,8 @@ fn insert(
     row: usize,
 ) -> Result<usize, AllocError>
     requires { at ≤ vec_len lines.old }
-    ensures ok { IfOk result (λ more. (more ≡ length path.now) × (lines.new.items ≡ take at lines.old.items ++ (spec.chain path.now row ++ drop at lines.old.items))) }
+    ensures ok { IfOk result (λ more. (more ≡ length path.now) ×
+        (lines.new.items ≡ take at lines.old.items ++ (spec.chain path.now row ++ drop at lines.old.items))) }
     ensures err { OnErr result (lines.new.items ≡ lines.old.items) }
 {
     let mut fresh = chain(alloc, path, row)?;

@@ -1,5 +1,6 @@
 -- What the passes leave is the invoice that the document is, or its first fault.
-use Rattle.std.proofs.Common.{◌≡◌, ℕ, zero, suc, ◌<◌, Bool, true, false, ◌||◌, List, [], ◌∷◌, ◌++◌, length, map, flat_map, All, Option, Some, None, is_some, Ok, Err, refl, sym, ap, ◌∙◌, subst, append_assoc, arith}
+use Rattle.std.proofs.Common.{◌≡◌, ℕ, zero, suc, ◌<◌, Bool, true, false, ◌||◌, List, [], ◌∷◌, ◌++◌, length, map, flat_map, All, Option, Some, None, is_some, Ok}
+use Rattle.std.proofs.Common.{Err, refl, sym, ap, ◌∙◌, subst, append_assoc, arith}
 use Rattle.std.specs.Prelude.{is_none}
 use Rattle.std.specs.List.{list_any, AllPairs, AllByRecursion}
 use Rattle.std.specs.List.Sorted.{IsStrictlySortedBy}
@@ -27,7 +28,8 @@ use Rattle.bind_meaning.specs.Picks.{Pick, numbered}
 use Rattle.bind_meaning.specs.declared.fault.BindFault.{BindFault}
 use Rattle.bind_meaning.specs.Faults.{lacks_in, every_fault, put_faults, in_fault_order, faults_in}
 use Rattle.bind_meaning.specs.Seats.{Placed, rooms}
-use Rattle.bind_meaning.specs.Judging.{Found, Told, seat_of, first_before, Cause, first_cause, causes, fault_of, faults_behind, wrong_word, least, least_from, is_bad, is_excess, is_not_listed, is_foreign, is_disagreeing, breaks}
+use Rattle.bind_meaning.specs.Judging.{Found, Told, seat_of, first_before, Cause, first_cause, causes, fault_of, faults_behind, wrong_word, least, least_from}
+use Rattle.bind_meaning.specs.Judging.{is_bad, is_excess, is_not_listed, is_foreign, is_disagreeing, breaks}
 use Rattle.bind_meaning.specs.Elements.{has_element_inside}
 use Rattle.bind_meaning.specs.Terms.{in_order, constant_picks, term_picks, all_faults, entries, passed_over, terms_of}
 use Rattle.node_arena.proofs.FoundLemmas.{AreInOrder}

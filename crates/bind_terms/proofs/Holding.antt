@@ -1,5 +1,6 @@
 -- What is kept of what was told stands for it, one after another.
-use Rattle.std.proofs.Common.{◌≡◌, ℕ, Bool, true, false, ◌||◌, cond, List, [], ◌∷◌, ◌++◌, All, Option, Some, None, option_map, is_some, inl, inr, refl, sym, ap, ◌∙◌, subst, Ordering}
+use Rattle.std.proofs.Common.{◌≡◌, ℕ, Bool, true, false, ◌||◌, cond, List, [], ◌∷◌, ◌++◌, All, Option, Some, None, option_map, is_some, inl, inr, refl, sym, ap}
+use Rattle.std.proofs.Common.{◌∙◌, subst, Ordering}
 use Rattle.std.specs.Prelude.{unwrap_or}
 use Rattle.std.specs.List.{list_any}
 use Rattle.std.specs.Ordering.{nat_cmp, is_eq, is_lt, ordering_reverse, match_ordering}
@@ -25,7 +26,8 @@ use Rattle.bind_terms.specs.Faults.{Puts}
 use Rattle.bind_terms.specs.Telling.{seat_of_first, first_of, Entries, kept_at, told_place, arranged, is_placed, IsAtItsPlace, Holds}
 use Rattle.bind_terms.specs.Steps.{put_entry, kept_behind}
 use Rattle.reading_laws.proofs.SeatLemmas.{told-seat, seat-told}
-use Rattle.bind_terms.proofs.Tolds.{bool_cases, or_else, first-append, first-same, one-true, other-more, known-more, append-nil, kept_if, firsts-more, faults-more, any-first}
+use Rattle.bind_terms.proofs.Tolds.{bool_cases, or_else, first-append, first-same, one-true, other-more, known-more, append-nil, kept_if, firsts-more}
+use Rattle.bind_terms.proofs.Tolds.{faults-more, any-first}
 
 abbrev order : List ℕ → List ℕ → Ordering
 order = slice_cmp nat_cmp

@@ -1,5 +1,6 @@
 -- Walks over the nodes of a document are filters and tests over all of them.
-use Rattle.std.proofs.Common.{◌≡◌, ℕ, zero, suc, ◌+◌, ◌-◌, ◌<◌, ◌≤◌, Bool, true, false, ◌&&◌, List, [], ◌∷◌, ◌++◌, length, drop, map, filter, Option, Some, None, option_map, ◌⊎◌, inl, inr, refl, sym, ap, ◌∙◌, arith, append_assoc, drop-cons}
+use Rattle.std.proofs.Common.{◌≡◌, ℕ, zero, suc, ◌+◌, ◌-◌, ◌<◌, ◌≤◌, Bool, true, false, ◌&&◌, List, [], ◌∷◌, ◌++◌, length, drop, map, filter, Option, Some}
+use Rattle.std.proofs.Common.{None, option_map, ◌⊎◌, inl, inr, refl, sym, ap, ◌∙◌, arith, append_assoc, drop-cons}
 use Rattle.std.specs.List.{list_any}
 use Rattle.std.proofs.lemmas.Bool.{false≢true}
 use Rattle.std.proofs.lemmas.List.{get_or-map, length-map}
@@ -9,7 +10,8 @@ use Rattle.std.specs.Prelude.{if◌then◌else◌}
 use Rattle.inv_base.specs.declared.tree.Kind.TheVariants as kinds
 use Rattle.inv_base.specs.Tree.{Name, Node, is_among}
 use Rattle.node_arena.specs.Document.{Placed, Document, document_node, node_at, AreNumbered}
-use Rattle.node_arena.specs.Moves.{node_of, tree_nodes, tree_node, first_that, is_nearest, nearest, is_attribute, is_attribute_of, is_inside, is_between, first_attribute, next_attribute}
+use Rattle.node_arena.specs.Moves.{node_of, tree_nodes, tree_node, first_that, is_nearest, nearest, is_attribute, is_attribute_of, is_inside, is_between}
+use Rattle.node_arena.specs.Moves.{first_attribute, next_attribute}
 use Rattle.node_arena.proofs.FoundLemmas.{AreInOrder, first_from, none_from}
 use Rattle.bind_meaning.specs.Elements.{number, is_element, both, has_element_inside}
 use Rattle.bind_meaning.specs.Names.{is_named, has_plain_name}

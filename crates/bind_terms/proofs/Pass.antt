@@ -1,5 +1,6 @@
 -- The steps of the pass over the picks.
-use Rattle.std.proofs.Common.{◌≡◌, ℕ, zero, suc, ◌+◌, ◌<◌, ◌≤◌, List, [], ◌∷◌, ◌++◌, length, get_or, take, map, All, Option, Some, None, is_some, true, option_map, Result, refl, sym, ap, ◌∙◌, subst, append_assoc, arith}
+use Rattle.std.proofs.Common.{◌≡◌, ℕ, zero, suc, ◌+◌, ◌<◌, ◌≤◌, List, [], ◌∷◌, ◌++◌, length, get_or, take, map, All, Option, Some, None, is_some, true}
+use Rattle.std.proofs.Common.{option_map, Result, refl, sym, ap, ◌∙◌, subst, append_assoc, arith}
 use Rattle.std.specs.Prelude.{unwrap_or}
 use Rattle.std.specs.Result.{OnOk}
 use Rattle.std.proofs.lemmas.Result.{on_ok_weaker}
@@ -33,7 +34,8 @@ use Rattle.bind_terms.specs.Kinds.{kind_of}
 use Rattle.bind_terms.specs.declared.firsts.First.{First}
 use Rattle.bind_terms.specs.Faults.{Puts}
 use Rattle.bind_terms.specs.Telling.{first_of, said_first, context_in, Entries, kept_at, Holds}
-use Rattle.bind_terms.specs.Steps.{row_numbered, IsOfRow, ArePlaced, said_by_row, told_at, put_entry, kept_behind, faults_at, Tells, TellsPick, TellsOf, TellsAll}
+use Rattle.bind_terms.specs.Steps.{row_numbered, IsOfRow, ArePlaced, said_by_row, told_at, put_entry, kept_behind, faults_at, Tells, TellsPick, TellsOf}
+use Rattle.bind_terms.specs.Steps.{TellsAll}
 use Rattle.bind_terms.proofs.Tolds.{append-nil, puts-same}
 use Rattle.bind_terms.proofs.Holding.{holds-none, holds-more}
 
@@ -55,7 +57,8 @@ pub tells-one : (nodes : List Node) (lists : Lists) (invoice : Option (List ℕ)
     → first ≡ kept_at (row_place listed context) old
     → kind ≡ kind_of nodes lists invoice row pick.node (context_in pick) (option_map said_first first) (said_of one)
     → new ≡ put_entry old (row_place listed context) (record { context = context; row = listed; term = one.term; value = one.value })
-    → ((q : List ℕ) → kept_at q new ≡ kept_behind q old (row_place listed context) (record { context = context; row = listed; term = one.term; value = one.value }))
+    → ((q : List ℕ) → kept_at q new ≡ kept_behind q old (row_place listed context)
+    (record { context = context; row = listed; term = one.term; value = one.value }))
     → Puts was is (faults_at kind pick.node pick.row one.term) → Tells nodes lists invoice pick row (said_of one ∷ []) old was new is
 tells-one nodes lists invoice row pick one context listed kind first old new was is in_pick in_row firsts cause put looked fault before p c same_invoice
     same_pick same_row h =

@@ -1,5 +1,6 @@
 -- Each fault of a document as an invoice stands at one of its nodes, and none is want of memory.
-use Rattle.std.proofs.Common.{◌≡◌, ℕ, ◌<◌, Bool, true, false, not, List, [], ◌∷◌, ◌++◌, length, map, filter, flat_map, All, Option, Some, None, Err, refl, sym, subst, arith, Ordering}
+use Rattle.std.proofs.Common.{◌≡◌, ℕ, ◌<◌, Bool, true, false, not, List, [], ◌∷◌, ◌++◌, length, map, filter, flat_map, All, Option, Some, None, Err, refl, sym}
+use Rattle.std.proofs.Common.{subst, arith, Ordering}
 use Rattle.std.specs.Prelude.{◌≢◌, slice_get}
 use Rattle.std.specs.declared.cmp.Ordering.TheVariants.{Less, Equal, Greater}
 use Rattle.std.specs.Option.{ForSome}
@@ -33,7 +34,8 @@ use Rattle.bind_meaning.specs.Currencies.{Currencies, currencies}
 use Rattle.bind_meaning.specs.Kept.{kept_placed}
 use Rattle.bind_meaning.specs.Seats.{Placed, Room, whole, outer_room, inner_room, each_once, rooms, context_of}
 use Rattle.bind_meaning.specs.Values.{Said}
-use Rattle.bind_meaning.specs.Judging.{Found, found, Told, told_by, said_by, first_before, Cause, first_cause, causes, place_at, fault_of, faults_behind, words, wrong_word, seat_of, earlier}
+use Rattle.bind_meaning.specs.Judging.{Found, found, Told, told_by, said_by, first_before, Cause, first_cause, causes, place_at, fault_of, faults_behind, words}
+use Rattle.bind_meaning.specs.Judging.{wrong_word, seat_of, earlier}
 use Rattle.bind_meaning.specs.Faults.{lack_found, lacks_in, every_fault_with, spot, put_fault, put_faults, in_fault_order, faults_in}
 use Rattle.term_table.specs.Contexts.{is_inside}
 use Rattle.bind_meaning.specs.Terms.{term_picks, constant_picks, place_all, told, terms_of}

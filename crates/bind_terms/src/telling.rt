@@ -7,7 +7,8 @@ ghost use Rattle.bind_terms.specs.Sayings.{said_of, all_said};
 ghost use Rattle.bind_terms.specs.Faults.{found_of, Puts};
 ghost use Rattle.bind_terms.specs.Scenes.{nodes_of, count, rows_of, lists_of, currency_of};
 ghost use Rattle.bind_terms.specs.Telling.{context_in, place_of_first, kept_at};
-ghost use Rattle.bind_terms.specs.Steps.{IsWithin, ArePlaced, said_by_row, SaysPlaced, Tells, TellsPick, TellsOf, TellsAll, HasRow, row_numbered, put_entry, kept_behind, faults_at, fault_at};
+ghost use Rattle.bind_terms.specs.Steps.{IsWithin, ArePlaced, said_by_row, SaysPlaced, Tells, TellsPick, TellsOf, TellsAll, HasRow, row_numbered, put_entry};
+ghost use Rattle.bind_terms.specs.Steps.{kept_behind, faults_at, fault_at};
 
 use crate::causes::first_cause;
 use crate::firsts::{First, Firsts};

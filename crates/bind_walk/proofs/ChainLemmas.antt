@@ -1,12 +1,14 @@
 -- Moves to a first node and to the next lead through the nodes of a sort.
-use Rattle.std.proofs.Common.{◌≡◌, ℕ, ◌+◌, ◌-◌, ◌<◌, Bool, true, false, cond, List, [], ◌∷◌, length, map, drop, get_or, Option, Some, None, refl, ap, sym, ◌∙◌, subst, arith, zero, suc}
+use Rattle.std.proofs.Common.{◌≡◌, ℕ, ◌+◌, ◌-◌, ◌<◌, Bool, true, false, cond, List, [], ◌∷◌, length, map, drop, get_or, Option, Some, None, refl, ap, sym, ◌∙◌}
+use Rattle.std.proofs.Common.{subst, arith, zero, suc}
 use Rattle.std.specs.Prelude.{filter, find, option_map, not}
 use Rattle.std.proofs.lemmas.Bool.{and_parts, eqb-true, not-true}
 use Rattle.std.proofs.lemmas.List.{drop_more, drop-drop, get_or-drop, length-drop, length-map}
 use Rattle.inv_base.specs.declared.tree.Kind.TheVariants as kinds
 use Rattle.inv_base.specs.Tree.{Name, Node}
 use Rattle.node_arena.specs.Document.{Placed, Document, AreNumbered}
-use Rattle.node_arena.specs.Moves.{node_of, tree_nodes, tree_node, behind, is_attribute, nearest, is_nearest, is_child, is_attribute_of, first_that, parent, first_child, next_sibling, first_attribute, next_attribute}
+use Rattle.node_arena.specs.Moves.{node_of, tree_nodes, tree_node, behind, is_attribute, nearest, is_nearest, is_child, is_attribute_of, first_that, parent}
+use Rattle.node_arena.specs.Moves.{first_child, next_sibling, first_attribute, next_attribute}
 use Rattle.bind_walk.specs.Chains.{number, numbers_from, IsAt, Leading, IsChained}
 
 abbrev none : Node

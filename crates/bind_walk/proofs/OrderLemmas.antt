@@ -1,5 +1,6 @@
 -- Picks in document order: what stands there, how often, and in which order.
-use Rattle.std.proofs.Common.{◌≡◌, ℕ, ◌+◌, ◌<◌, ◌≤◌, Bool, true, false, cond, ◌==◌, List, [], ◌∷◌, ◌++◌, length, map, Option, Some, None, refl, ap, sym, ◌∙◌, subst, arith, append_assoc, inl, inr, Ordering}
+use Rattle.std.proofs.Common.{◌≡◌, ℕ, ◌+◌, ◌<◌, ◌≤◌, Bool, true, false, cond, ◌==◌, List, [], ◌∷◌, ◌++◌, length, map, Option, Some, None, refl, ap, sym, ◌∙◌}
+use Rattle.std.proofs.Common.{subst, arith, append_assoc, inl, inr, Ordering}
 use Rattle.std.specs.Prelude.{filter, reverse, not}
 use Rattle.std.specs.List.{sum_by}
 use Rattle.std.specs.Cmp.{IsTotalOrder}
@@ -25,7 +26,8 @@ use Rattle.bind_meaning.specs.Picks.{Pick, ways, last_of, filled, leaves_of, pic
 use Rattle.bind_meaning.specs.Kept.{kept}
 use Rattle.bind_meaning.specs.Terms.{in_order, turned}
 use Rattle.bind_walk.specs.Sorting.{order}
-use Rattle.bind_walk.proofs.SortLemmas.{Every, Up, every-weaker, every-append, every-filter, every-map, every-flat_map, up-any, up-append, up-filter, up-flat_map, up-weaker}
+use Rattle.bind_walk.proofs.SortLemmas.{Every, Up, every-weaker, every-append, every-filter, every-map, every-flat_map, up-any, up-append, up-filter}
+use Rattle.bind_walk.proofs.SortLemmas.{up-flat_map, up-weaker}
 use Rattle.bind_walk.proofs.LinkLemmas.{IsRead, IsMember, members}
 
 -- ---- the order of picks

@@ -1,8 +1,10 @@
 -- Where names lead along the lines of a table is where they lead along its rows.
-use Rattle.std.proofs.Common.{◌≡◌, ℕ, zero, suc, ◌+◌, ◌<◌, ◌≤◌, Bool, true, false, cond, List, [], ◌∷◌, ◌++◌, length, take, drop, get_or, Some, None, refl, ap, sym, ◌∙◌, subst, arith, append_assoc, length-append, length-drop, ⊎_elim}
+use Rattle.std.proofs.Common.{◌≡◌, ℕ, zero, suc, ◌+◌, ◌<◌, ◌≤◌, Bool, true, false, cond, List, [], ◌∷◌, ◌++◌, length, take, drop, get_or, Some, None, refl, ap}
+use Rattle.std.proofs.Common.{sym, ◌∙◌, subst, arith, append_assoc, length-append, length-drop, ⊎_elim}
 use Rattle.std.specs.Prelude.{filter, map, not, ◌&&◌, ◌||◌, nat_lt}
 use Rattle.std.specs.List.{All, list_any}
-use Rattle.std.proofs.lemmas.List.{append-nil, map-append, drop_more, drop_all, take_more, take_all, take-append-le, get_or-map, get_or-take, get_or_append_left, get_or_at, length_push, length-map, length-take, length-take-le}
+use Rattle.std.proofs.lemmas.List.{append-nil, map-append, drop_more, drop_all, take_more, take_all, take-append-le, get_or-map, get_or-take}
+use Rattle.std.proofs.lemmas.List.{get_or_append_left, get_or_at, length_push, length-map, length-take, length-take-le}
 use Rattle.std.proofs.lemmas.List.Elements.{All-append, All-cons, All-nil, filter-append, filter_agree}
 use Rattle.std.proofs.lemmas.Bool.{cases_lt, lt-ltb, le-ltb}
 use Rattle.std.proofs.lemmas.List.Folds.{list_any-append}
@@ -26,7 +28,9 @@ use Rattle.bind_walk.specs.Lines.{lined}
 use Rattle.bind_walk.specs.Found.{found_element, is_same_number}
 use Rattle.bind_walk.specs.Walks.{line_of}
 use Rattle.bind_walk.proofs.NumberLemmas.{number-says, none-found}
-use Rattle.bind_walk.specs.Passing.{inside_named, insides, led, some_plan, path_of, state, is_passed, roots_of, IsSpan, IsSomeSpan, SpansOf, AreSpans, AddsNamed, part, LeadsInside, IsPart, no_part, Reaches, AreReached, IsReached, some_of, is_left, Begins, one_if, LeadsThrough}
+use Rattle.bind_walk.specs.Passing.{inside_named, insides, led, some_plan, path_of, state, is_passed, roots_of, IsSpan, IsSomeSpan, SpansOf, AreSpans}
+use Rattle.bind_walk.specs.Passing.{AddsNamed, part, LeadsInside, IsPart, no_part, Reaches, AreReached, IsReached, some_of, is_left, Begins, one_if}
+use Rattle.bind_walk.specs.Passing.{LeadsThrough}
 
 -- ---- tests
 

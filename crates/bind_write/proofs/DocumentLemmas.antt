@@ -44,13 +44,17 @@ none-root : (source : Source) (s : Step) (cs : List Cell) (plan : Plan) (found :
 none-root source s cs plan None i = refl
 none-root source s cs plan (Some rooted) i = absurd i
 
-module _ (rs rows : List Row) (xs es : List Entry) (source : Source) (lines : List Line) (r : OneRoot rows) (s : Sees rs xs root_context source) (rows_are : rs ≡ rows) (entries_are : xs ≡ es) (lines_are : lines ≡ flat (plan_of rows)) where
+module _ (rs rows : List Row) (xs es : List Entry) (source : Source) (lines : List Line) (r : OneRoot rows) (s : Sees rs xs root_context source)
+    (rows_are : rs ≡ rows) (entries_are : xs ≡ es) (lines_are : lines ≡ flat (plan_of rows)) where
   plan : IsPlanOf source.rows.now lines (a_line r.s r.cs r.inside nothing)
-  plan = let P : List Row → Type 0 = λ x. IsPlanOf x lines (a_line r.s r.cs r.inside nothing) in subst P (sym (s.rows_are ∙ rows_are)) (root_plan rows lines r lines_are)
+  plan = let P : List Row → Type 0 = λ x. IsPlanOf x lines (a_line r.s r.cs r.inside nothing) in
+      subst P (sym (s.rows_are ∙ rows_are)) (root_plan rows lines r lines_are)
 
-  same_first : first_root source.entries.now r.s r.cs r.inside (spots source.entries.now source.context r.s.group) ≡ first_root es r.s r.cs r.inside (spots es root_context r.s.group)
+  same_first : first_root source.entries.now r.s r.cs r.inside (spots source.entries.now source.context r.s.group) ≡ first_root es r.s r.cs r.inside
+      (spots es root_context r.s.group)
   same_first =
-      ap (λ x. first_root x r.s r.cs r.inside (spots x source.context r.s.group)) (s.entries_are ∙ entries_are) ∙ ap (λ c. first_root es r.s r.cs r.inside (spots es c r.s.group)) s.context_is
+      ap (λ x. first_root x r.s r.cs r.inside (spots x source.context r.s.group)) (s.entries_are ∙ entries_are) ∙
+      ap (λ c. first_root es r.s r.cs r.inside (spots es c r.s.group)) s.context_is
 
   pub found-some : (root : Root) → FindsRoot source lines (Some root) → Found rows es r source root
   found-some root f =
@@ -65,7 +69,8 @@ module _ (rs rows : List Row) (xs es : List Entry) (source : Source) (lines : Li
   root-line root f = let P : List Row → Type 0 = λ x. IsLineOf x root.line.now root.inside.now r.cs r.inside in subst P (sym f.is.rows_are) f.is.line_is
 
   pub same_calls : (root : Root) → (f : Found rows es r source root)
-      → root_calls root.source.entries.now root.line.now.step r.cs r.inside root.held root.source.context ≡ root_calls es r.s r.cs r.inside f.rooted.held f.rooted.context
+      → root_calls root.source.entries.now root.line.now.step r.cs r.inside root.held root.source.context ≡ root_calls es r.s r.cs r.inside f.rooted.held
+      f.rooted.context
   same_calls root f =
       ap (λ x. root_calls x root.line.now.step r.cs r.inside root.held root.source.context) (f.is.entries_are ∙ (s.entries_are ∙ entries_are))
       ∙ (ap (λ x. root_calls es x r.cs r.inside root.held root.source.context) f.is.step_is
@@ -74,35 +79,42 @@ module _ (rs rows : List Row) (xs es : List Entry) (source : Source) (lines : Li
 -- ---- what is written
 
 abbrev Law : Type 0
-Law = (declarations : List Declaration) (document : Forest) → appended_by_all Fresh (map encoded (calls_of declarations document)) ≡ encode_utf8_all (canonical_text declarations document)
+Law = (declarations : List Declaration) (document : Forest) → appended_by_all Fresh (map encoded (calls_of declarations document)) ≡ encode_utf8_all
+    (canonical_text declarations document)
 
-text-is : (rows : List Row) (es : List Entry) (calls : List Call) → Law → map encoded (calls_of (declarations_for rows) (document_of rows es)) ≡ calls ++ call_close ∷ []
+text-is : (rows : List Row) (es : List Entry) (calls : List Call) → Law → map encoded (calls_of (declarations_for rows) (document_of rows es)) ≡ calls ++
+    call_close ∷ []
     → appended_by_all Fresh calls ++ (0xA ∷ []) ≡ encode_utf8_all (document_text rows es)
 unfolding document_text
 text-is rows es calls law e =
     sym (appended_by_all-append Fresh calls (call_close ∷ [])) ∙ (ap (appended_by_all Fresh) (sym e) ∙ law (declarations_for rows) (document_of rows es))
 
-no-text : (rows : List Row) (es : List Entry) (r : OneRoot rows) → first_root es r.s r.cs r.inside (spots es root_context r.s.group) ≡ None → [] ≡ encode_utf8_all (document_text rows es)
+no-text : (rows : List Row) (es : List Entry) (r : OneRoot rows) → first_root es r.s r.cs r.inside (spots es root_context r.s.group) ≡ None →
+    [] ≡ encode_utf8_all (document_text rows es)
 unfolding document_text
 no-text rows es r e = ap (λ x. encode_utf8_all (canonical_text (declarations_for rows) x)) (sym (no-document rows es r e))
 
-pub nothing-written : (rows : List Row) (es : List Entry) (r : OneRoot rows) (out : SinkView) → first_root es r.s r.cs r.inside (spots es root_context r.s.group) ≡ None
+pub nothing-written : (rows : List Row) (es : List Entry) (r : OneRoot rows) (out : SinkView) →
+    first_root es r.s r.cs r.inside (spots es root_context r.s.group) ≡ None
     → WritesAll (encode_utf8_all (document_text rows es)) out out
 nothing-written rows es r out e = let P : List ℕ → Type 0 = λ x. WritesAll x out out in subst P (no-text rows es r e) (WritesAll-nil out)
 
-module _ (rows : List Row) (es : List Entry) (r : OneRoot rows) (rooted : Rooted) (first : first_root es r.s r.cs r.inside (spots es root_context r.s.group) ≡ Some rooted) (law : Law)
+module _ (rows : List Row) (es : List Entry) (r : OneRoot rows) (rooted : Rooted)
+    (first : first_root es r.s r.cs r.inside (spots es root_context r.s.group) ≡ Some rooted) (law : Law)
     (calls : List Call) (calls_are : calls ≡ root_calls es r.s r.cs r.inside rooted.held rooted.context) (pen : PenState) (fresh : pen ≡ Fresh) where
   whole-text : appended_by_all pen calls ++ (0xA ∷ []) ≡ encode_utf8_all (document_text rows es)
   whole-text =
       ap (λ x. appended_by_all x calls ++ (0xA ∷ [])) fresh
       ∙ text-is rows es calls law (document-calls rows es r rooted first ∙ ap (λ x. x ++ call_close ∷ []) (sym calls_are))
 
-  pub root-broke : {T E : Type 0} (result : Result T E) (before after : SinkView) → Broke (writing pen) before calls after → IsErr result → Writes result (encode_utf8_all (document_text rows es)) before after
+  pub root-broke : {T E : Type 0} (result : Result T E) (before after : SinkView) → Broke (writing pen) before calls after → IsErr result →
+      Writes result (encode_utf8_all (document_text rows es)) before after
   root-broke result before after b i =
       let P : List ℕ → Type 0 = λ x. Writes result x before after in
       subst P whole-text (Writes-at_err result _ _ _ i (WritesFront-more (appended_by_all pen calls) (0xA ∷ []) before after b))
 
-  pub root-written : {T E : Type 0} (result : Result T E) (v : WriterView) (before between after : SinkView) → Made (writing pen) before calls v between → Writes result (0xA ∷ []) between after
+  pub root-written : {T E : Type 0} (result : Result T E) (v : WriterView) (before between after : SinkView) → Made (writing pen) before calls v between →
+      Writes result (0xA ∷ []) between after
       → Writes result (encode_utf8_all (document_text rows es)) before after
   root-written result v before between after m c =
       let P : List ℕ → Type 0 = λ x. Writes result x before after in

@@ -20,24 +20,29 @@ cells-append : (rows : List Row) (cells : List Cell) (cell : Cell) → AreCellsO
 cells-append rows [] cell a i = (i, tt)
 cells-append rows (c ∷ cells) cell a i = (a.0, cells-append rows cells cell a.1 i)
 
-into-rows : (rows : List Row) (s : Step) (own : List Cell → List Cell) (deeper : Plan → Plan) → ((cells : List Cell) → AreCellsOf rows cells → AreCellsOf rows (own cells))
+into-rows : (rows : List Row) (s : Step) (own : List Cell → List Cell) (deeper : Plan → Plan) →
+    ((cells : List Cell) → AreCellsOf rows cells → AreCellsOf rows (own cells))
     → ((plan : Plan) → HasRows rows plan → HasRows rows (deeper plan)) → (plan : Plan) → HasRows rows plan → HasRows rows (into s own deeper plan)
 into-rows rows s own deeper o d nothing h = (o [] tt, (d nothing tt, tt))
 into-rows rows s own deeper o d (a_line t cells inside rest) h =
     either_way (HasRows rows) (same_step s t) (λ _. a_line t (own cells) (deeper inside) rest)
-    (λ _. choose (nat_lt s.number t.number) (λ _. a_line s (own []) (deeper nothing) (a_line t cells inside rest)) (λ _. a_line t cells inside (into s own deeper rest)))
+    (λ _. choose (nat_lt s.number t.number) (λ _. a_line s (own []) (deeper nothing) (a_line t cells inside rest))
+    (λ _. a_line t cells inside (into s own deeper rest)))
     (o cells h.0, (d inside h.1.0, h.1.1))
-    (either_way (HasRows rows) (nat_lt s.number t.number) (λ _. a_line s (own []) (deeper nothing) (a_line t cells inside rest)) (λ _. a_line t cells inside (into s own deeper rest))
+    (either_way (HasRows rows) (nat_lt s.number t.number) (λ _. a_line s (own []) (deeper nothing) (a_line t cells inside rest))
+    (λ _. a_line t cells inside (into s own deeper rest))
     (o [] tt, (d nothing tt, h))
     (h.0, (h.1.0, into-rows rows s own deeper o d rest h.1.1)))
 
-own-rows : (rows : List Row) (steps : List Step) (cell : Cell) → IsCellOf rows cell → (cells : List Cell) → AreCellsOf rows cells → AreCellsOf rows (own_cells steps cell cells)
+own-rows : (rows : List Row) (steps : List Step) (cell : Cell) → IsCellOf rows cell → (cells : List Cell) → AreCellsOf rows cells →
+    AreCellsOf rows (own_cells steps cell cells)
 own-rows rows [] cell i cells a = cells-append rows cells cell a i
 own-rows rows (s ∷ steps) cell i cells a = a
 
 add-rows : (rows : List Row) (steps : List Step) (cell : Cell) → IsCellOf rows cell → (plan : Plan) → HasRows rows plan → HasRows rows (add steps cell plan)
 add-rows rows [] cell i plan h = h
-add-rows rows (s ∷ steps) cell i plan h = into-rows rows s (own_cells steps cell) (add steps cell) (own-rows rows steps cell i) (add-rows rows steps cell i) plan h
+add-rows rows (s ∷ steps) cell i plan h = into-rows rows s (own_cells steps cell) (add steps cell) (own-rows rows steps cell i)
+    (add-rows rows steps cell i) plan h
 
 got-behind : (front rows : List Row) (row : Row) → slice_get (front ++ row ∷ rows) (length front) ≡ Some row
 got-behind [] rows row = refl
@@ -46,8 +51,10 @@ got-behind (x ∷ front) rows row = got-behind front rows row
 grown-rows : (all front rows : List Row) (n : ℕ) (plan : Plan) → all ≡ front ++ rows → n ≡ length front → HasRows all plan → HasRows all (grown plan n rows)
 grown-rows all front [] n plan e m h = h
 grown-rows all front (row ∷ rows) n plan e m h =
-    grown-rows all (front ++ row ∷ []) rows (n + 1) (add row.path (record { number = n; row = row }) plan) (e ∙ sym (append_assoc front (row ∷ []) rows)) (grind (arith, common_steps))
-    (add-rows all row.path (record { number = n; row = row }) (ap (λ k. slice_get all k) m ∙ (ap (λ l. slice_get l (length front)) e ∙ got-behind front rows row)) plan h)
+    grown-rows all (front ++ row ∷ []) rows (n + 1) (add row.path (record { number = n; row = row }) plan) (e ∙ sym (append_assoc front (row ∷ []) rows))
+    (grind (arith, common_steps))
+    (add-rows all row.path (record { number = n; row = row })
+    (ap (λ k. slice_get all k) m ∙ (ap (λ l. slice_get l (length front)) e ∙ got-behind front rows row)) plan h)
 
 pub table_rows : (rows : List Row) → HasRows rows (plan_of rows)
 table_rows rows = grown-rows rows [] rows 0 nothing refl refl tt
@@ -75,7 +82,8 @@ take-front xs ys n h = grind (arith, common_steps)
 drop-front : {A : Type 0} (xs ys : List A) (n : ℕ) → n ≡ length xs → drop n (xs ++ ys) ≡ ys
 drop-front xs ys n h = grind (arith, common_steps)
 
-pub opened : (rows : List Row) (lines : List Line) (line : Line) (behind inside further : List Line) (plan : Plan) → lines ≡ line ∷ behind → inside ≡ take line.size behind → further ≡ drop line.size behind
+pub opened : (rows : List Row) (lines : List Line) (line : Line) (behind inside further : List Line) (plan : Plan) → lines ≡ line ∷ behind →
+    inside ≡ take line.size behind → further ≡ drop line.size behind
     → IsPlanOf rows lines plan → Opened rows line inside further plan
 opened rows lines line behind inside further nothing e i f p = let x = p.lines_are in cc
 opened rows lines line behind inside further (a_line s cells within rest) e i f p =

@@ -1,5 +1,6 @@
 -- A term that can't stand among entries has no value there.
-use Rattle.std.proofs.Common.{◌≡◌, ℕ, zero, suc, replicate, ◌==◌, ◌&&◌, Bool, true, false, List, [], ◌∷◌, Option, Some, None, refl, ap, sym, ◌∙◌, subst, arith, inl, inr}
+use Rattle.std.proofs.Common.{◌≡◌, ℕ, zero, suc, replicate, ◌==◌, ◌&&◌, Bool, true, false, List, [], ◌∷◌, Option, Some, None, refl, ap, sym, ◌∙◌, subst, arith}
+use Rattle.std.proofs.Common.{inl, inr}
 use Rattle.std.specs.Prelude.{◌%◌, ◌<◌, ◌+◌, slice_set, take, length, find, get_or, option_map, option_and_then}
 use Rattle.std.proofs.lemmas.Bool.{false≢true, cases_Bool}
 use Rattle.std.proofs.lemmas.Bool.Decides.{nat_tests}
@@ -59,19 +60,22 @@ same-number : (m n : ℕ) → (m == n) ≡ true → m ≡ n
 same-number m n e = grind (arith, nat_tests)
 
 -- an entry of another number isn't of the term
-other : (presence : Presence) (term : Term) (c : Context) (e : Entry) → may_have presence term ≡ false → may_have presence e.term ≡ true → is_at term c e ≡ false
+other : (presence : Presence) (term : Term) (c : Context) (e : Entry) → may_have presence term ≡ false → may_have presence e.term ≡ true →
+    is_at term c e ≡ false
 other presence term c e none has = elim (cases_Bool (e.term.number == term.number)) [
   | inl same ↦ absurd (false≢true (sym none ∙ (ap (λ n. get_or presence.numbers (n % 64) true) (sym (same-number e.term.number term.number same)) ∙ has)))
   | inr differs ↦ ap (λ b. (b && (e.term.part == term.part)) && same_context e.context c) differs
 ]
 
-found-none : (presence : Presence) (term : Term) (c : Context) → may_have presence term ≡ false → (es : List Entry) → AreKnown presence es → find (is_at term c) es ≡ None
+found-none : (presence : Presence) (term : Term) (c : Context) → may_have presence term ≡ false → (es : List Entry) → AreKnown presence es →
+    find (is_at term c) es ≡ None
 found-none presence term c none [] known = refl
 found-none presence term c none (e ∷ es) known =
     rw (other presence term c e none (All-head (λ (x : Entry). may_have presence x.term ≡ true) e es known))
     (found-none presence term c none es (All-tail (λ (x : Entry). may_have presence x.term ≡ true) e es known))
 
-pub no-value : (presence : Presence) (term : Term) (c : Context) → may_have presence term ≡ false → (es : List Entry) → AreKnown presence es → value_in es term c ≡ None
+pub no-value : (presence : Presence) (term : Term) (c : Context) → may_have presence term ≡ false → (es : List Entry) → AreKnown presence es →
+    value_in es term c ≡ None
 no-value presence term c none es known = ap (option_map (λ (e : Entry). e.value)) (found-none presence term c none es known)
 
 -- nothing is written then
@@ -93,7 +97,8 @@ untyped true true of o e = ap (option_and_then of) e
 untyped true false of o e = refl
 untyped false slots of o e = e
 
-pub no-text : (row : Row) (es : List Entry) (term : Term) (c : Context) → value_in es term c ≡ None → has_filler row.written ≡ false → term_text row es term c ≡ None
+pub no-text : (row : Row) (es : List Entry) (term : Term) (c : Context) → value_in es term c ≡ None → has_filler row.written ≡ false →
+    term_text row es term c ≡ None
 no-text row es term c none plain =
     ap (λ o. elim o [ None ↦ filled row.written es c | Some value ↦ if_due row.written es term c (formed (form_for row.form term) es c value) ])
     (untyped (is_typed (form_for row.form term)) (has_slots row c) (of_form (form_for row.form term)) (value_in es term c) none)

@@ -1,5 +1,6 @@
 -- The sizes of a document are those of the calls of its root and of its end.
-use Rattle.std.proofs.Common.{◌≡◌, ℕ, zero, suc, ◌+◌, Bool, true, false, not, ◌&&◌, List, [], ◌∷◌, ◌++◌, length, map, Option, Some, None, refl, ap, sym, ◌∙◌, subst, inl, inr, ◌⊎◌, arith}
+use Rattle.std.proofs.Common.{◌≡◌, ℕ, zero, suc, ◌+◌, Bool, true, false, not, ◌&&◌, List, [], ◌∷◌, ◌++◌, length, map, Option, Some, None, refl, ap, sym, ◌∙◌}
+use Rattle.std.proofs.Common.{subst, inl, inr, ◌⊎◌, arith}
 use Rattle.std.specs.Prelude.{◌==◌, encode_utf8_all}
 use Rattle.std.proofs.lemmas.Bool.Decides.{nat_tests}
 use Rattle.inv_base.specs.Tree.{Forest, no_more, a_text, an_element, IsDocument, is_joined, begins_with_text, size}
@@ -28,7 +29,8 @@ record Plain (f : Forest) : Type 0 where
 both_true : (a b : Bool) → a ≡ true → b ≡ true → (a && b) ≡ true
 both_true a b p q = rw p q
 
-elements-plain : (is_there : Context → Bool) (make : Context → Forest → Forest) → ((c : Context) (f : Forest) → Plain f → Plain (make c f)) → (cs : List Context) (rest : Forest) → Plain rest
+elements-plain : (is_there : Context → Bool) (make : Context → Forest → Forest) → ((c : Context) (f : Forest) → Plain f → Plain (make c f)) →
+    (cs : List Context) (rest : Forest) → Plain rest
     → Plain (trees.elements is_there make cs rest)
 elements-plain is_there make made [] rest p = p
 elements-plain is_there make made (c ∷ cs) rest p = go (is_there c) (elements-plain is_there make made cs rest p)
@@ -100,7 +102,8 @@ module _ (rows : List Row) (es : List Entry) (laws : Laws) where
   abbrev ds : List Declaration
   ds = declarations_for rows
 
-  sizes-of : (calls : List Call) → map encoded (calls_of ds (document_of rows es)) ≡ calls ++ call_close ∷ [] → HasSizes rows es (gauged_by_all unmeasured (calls ++ call_close ∷ []))
+  sizes-of : (calls : List Call) → map encoded (calls_of ds (document_of rows es)) ≡ calls ++ call_close ∷ [] →
+      HasSizes rows es (gauged_by_all unmeasured (calls ++ call_close ∷ []))
   unfolding document_text
   sizes-of calls e = record {
     bytes = ap (λ x. (gauged_by_all unmeasured x).bytes) (sym e) ∙ laws.bytes ds (document_of rows es);
@@ -108,9 +111,11 @@ module _ (rows : List Row) (es : List Entry) (laws : Laws) where
     nodes = go (alone (document_of rows es) (document-plain rows es));
   }
     where
-      go : (document_of rows es ≡ no_more) ⊎ IsDocument (root_alone (document_of rows es)) → (gauged_by_all unmeasured (calls ++ call_close ∷ [])).nodes ≡ stopped (node_count (document_of rows es))
+      go : (document_of rows es ≡ no_more) ⊎ IsDocument (root_alone (document_of rows es)) →
+          (gauged_by_all unmeasured (calls ++ call_close ∷ [])).nodes ≡ stopped (node_count (document_of rows es))
       go (inl none) = absurd (no_calls calls (ap (λ f. map encoded (calls_of ds f)) (sym none) ∙ e))
-      go (inr is) = ap (λ x. (gauged_by_all unmeasured x).nodes) (sym (ap (map encoded) (alone-calls ds (document_of rows es)) ∙ e)) ∙ laws.nodes ds (root_alone (document_of rows es)) is
+      go (inr is) = ap (λ x. (gauged_by_all unmeasured x).nodes) (sym (ap (map encoded) (alone-calls ds (document_of rows es)) ∙ e)) ∙
+          laws.nodes ds (root_alone (document_of rows es)) is
 
   module _ (r : OneRoot rows) where
     pub sizes-none : first_root es r.s r.cs r.inside (trees.spots es root_context r.s.group) ≡ None → HasSizes rows es unmeasured
@@ -123,11 +128,14 @@ module _ (rows : List Row) (es : List Entry) (laws : Laws) where
           nodes = ap (λ f. stopped (node_count f)) e;
         }
 
-    pub sizes-some : (rooted : Rooted) (calls : List Call) (g closed : Gauge) → first_root es r.s r.cs r.inside (trees.spots es root_context r.s.group) ≡ Some rooted
-        → calls ≡ root_calls es r.s r.cs r.inside rooted.held rooted.context → g ≡ gauged_by_all unmeasured calls → closed ≡ gauged g call_close → HasSizes rows es closed
+    pub sizes-some : (rooted : Rooted) (calls : List Call) (g closed : Gauge) →
+        first_root es r.s r.cs r.inside (trees.spots es root_context r.s.group) ≡ Some rooted
+        → calls ≡ root_calls es r.s r.cs r.inside rooted.held rooted.context → g ≡ gauged_by_all unmeasured calls → closed ≡ gauged g call_close →
+        HasSizes rows es closed
     sizes-some rooted calls g closed first calls_are measured is =
         let all = document-calls rows es r rooted first ∙ ap (λ x. x ++ call_close ∷ []) (sym calls_are) in
-        let whole : closed ≡ gauged_by_all unmeasured (calls ++ call_close ∷ []) = is ∙ (ap (λ x. gauged x call_close) measured ∙ sym (gauged-last unmeasured calls call_close)) in
+        let whole : closed ≡ gauged_by_all unmeasured (calls ++ call_close ∷ []) = is ∙
+        (ap (λ x. gauged x call_close) measured ∙ sym (gauged-last unmeasured calls call_close)) in
         subst (HasSizes rows es) (sym whole) (sizes-of calls all)
 
 -- A gauge behind calls, as the writer that it is.

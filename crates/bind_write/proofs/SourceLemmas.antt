@@ -1,5 +1,6 @@
 -- What is looked up among the entries of one occurrence is what all entries have.
-use Rattle.std.proofs.Common.{◌⊎◌, inl, inr, ◌≡◌, ℕ, ◌+◌, ◌==◌, Bool, true, false, ◌&&◌, ◌||◌, cond, List, [], ◌∷◌, Option, Some, None, refl, ap, sym, ◌∙◌, subst, arith, fold, max, map, length, suc, ◌<◌, ◌≤◌, get_or, drop, drop-cons, add-one}
+use Rattle.std.proofs.Common.{◌⊎◌, inl, inr, ◌≡◌, ℕ, ◌+◌, ◌==◌, Bool, true, false, ◌&&◌, ◌||◌, cond, List, [], ◌∷◌, Option, Some, None, refl, ap, sym, ◌∙◌}
+use Rattle.std.proofs.Common.{subst, arith, fold, max, map, length, suc, ◌<◌, ◌≤◌, get_or, drop, drop-cons, add-one}
 use Rattle.std.specs.Prelude.{filter, find, option_map, option_and_then, is_none, is_some, not, nat_eq, if◌then◌else◌}
 use Rattle.std.proofs.lemmas.Bool.Decides.{nat_tests}
 use Rattle.std.proofs.lemmas.Grind.{common_steps}
@@ -60,7 +61,8 @@ not_it : {A : Type 0} (b : Bool) → (b ≡ true → false ≡ true) → (a c : 
 not_it true g a c = let h = g refl in cc
 not_it false g a c = refl
 
-find-kept : {X : Type 0} (q : X → Bool) (b : Bool) (x : X) (xs ys : List X) → (q x ≡ true → b ≡ true) → find q xs ≡ find q ys → find q (kept_or b x xs) ≡ cond (q x) (Some x) (find q ys)
+find-kept : {X : Type 0} (q : X → Bool) (b : Bool) (x : X) (xs ys : List X) → (q x ≡ true → b ≡ true) → find q xs ≡ find q ys →
+    find q (kept_or b x xs) ≡ cond (q x) (Some x) (find q ys)
 find-kept q true x xs ys h e = ap (λ z. cond (q x) (Some x) z) e
 find-kept q false x xs ys h e = e ∙ sym (not_it (q x) h (Some x) (find q ys))
 
@@ -119,11 +121,13 @@ same_outer d c r e f (inr same) = same
 
 pub run_values : (es : List Entry) (c d : Context) → d.outer ≡ c.outer → HasSameValues es (run_of es c) d
 run_values es c d same = λ term.
-    ap (option_map (λ (e : Entry). e.value)) (find-filter (is_at term d) (λ (e : Entry). is_inside (outer_context c) e.context) (λ e at. in_run c d e term same at) es)
+    ap (option_map (λ (e : Entry). e.value)) (find-filter (is_at term d) (λ (e : Entry). is_inside (outer_context c) e.context)
+    (λ e at. in_run c d e term same at) es)
 
 -- ---- occurrences
 
-max-kept : (n v : ℕ) (b : Bool) (g : Entry → ℕ) (e : Entry) (es : List Entry) → (b ≡ true → v ≡ g e) → (b ≡ false → v ≡ 0) → fold max n (map g (kept_or b e es)) ≡ fold max (max n v) (map g es)
+max-kept : (n v : ℕ) (b : Bool) (g : Entry → ℕ) (e : Entry) (es : List Entry) → (b ≡ true → v ≡ g e) → (b ≡ false → v ≡ 0) →
+    fold max n (map g (kept_or b e es)) ≡ fold max (max n v) (map g es)
 max-kept n v true g e es h k = ap (λ x. fold max (max n x) (map g es)) (sym (h refl))
 max-kept n v false g e es h k = ap (λ x. fold max x (map g es)) (let z : n ≡ max n v = omega (arith, k refl) in z)
 
@@ -139,17 +143,21 @@ not_true : (b : Bool) → (b ≡ true → ⊥) → b ≡ false
 not_true true h = absurd (h refl)
 not_true false h = refl
 
-from_run : (c : Context) (outer : Slot) (x : Entry) → c.outer ≡ Some outer → is_inside (outer_context c) x.context ≡ true → same_slot (Some outer) x.context.outer ≡ true
+from_run : (c : Context) (outer : Slot) (x : Entry) → c.outer ≡ Some outer → is_inside (outer_context c) x.context ≡ true →
+    same_slot (Some outer) x.context.outer ≡ true
 from_run c outer x e p =
     let P : Option Slot → Type 0 = λ y. ((is_none y || same_slot y x.context.outer) && true) ≡ true in
     (both (same_slot (Some outer) x.context.outer) true (subst P e p)).0
 
-pub inner_counts : (es : List Entry) (outer : Slot) (c : Context) (group : Group) → c.outer ≡ Some outer → inner_count es outer group ≡ inner_count_of (run_of es c) group
+pub inner_counts : (es : List Entry) (outer : Slot) (c : Context) (group : Group) → c.outer ≡ Some outer →
+    inner_count es outer group ≡ inner_count_of (run_of es c) group
 inner_counts es outer c group e =
     let here : Entry → Bool = λ x. same_slot x.context.outer (Some outer) in
     let run : Entry → Bool = λ x. is_inside (outer_context c) x.context in
     let back : (x : Entry) → run x ≡ true → here x ≡ true = λ x p. same_slot-sym (Some outer) x.context.outer (from_run c outer x e p) in
-    let forth : (x : Entry) → here x ≡ true → run x ≡ true = λ x p. or_true (is_none c.outer) (same_slot c.outer x.context.outer) (ap (λ y. same_slot y x.context.outer) e ∙ same_slot-sym x.context.outer (Some outer) p) in
+    let forth : (x : Entry) → here x ≡ true → run x ≡ true =
+    λ x p. or_true (is_none c.outer) (same_slot c.outer x.context.outer) (ap (λ y. same_slot y x.context.outer) e ∙
+    same_slot-sym x.context.outer (Some outer) p) in
     max-filter (λ x. inner_index group x.context.inner (here x)) (λ x. index_in group x.context.inner) run
     (λ x p. ap (inner_index group x.context.inner) (back x p))
     (λ x p. ap (inner_index group x.context.inner) (not_true (here x) (λ t. let q = forth x t in cc)))
@@ -214,15 +222,21 @@ module _ (es run : List Entry) (c : Context) (same : HasSameValues es run c) whe
   pub text-same : (row : Row) (term : Term) → term_text row run term c ≡ term_text row es term c
   text-same row term =
       go (value_for row run term c)
-      ∙ ap (λ o. elim o [ None ↦ filled row.written es c | Some value ↦ if_due row.written es term c (formed (form_for row.form term) es c value) ]) (value-same row term)
+      ∙ ap (λ o. elim o [ None ↦ filled row.written es c | Some value ↦ if_due row.written es term c (formed (form_for row.form term) es c value) ])
+      (value-same row term)
     where
       go : (o : Option Value)
-          → ◌≡◌ {A = Option (List ℕ)} (elim o [ None ↦ filled row.written run c | Some value ↦ if_due row.written run term c (formed (form_for row.form term) run c value) ])
+          → ◌≡◌ {A = Option (List ℕ)} (elim o [
+            | None ↦ filled row.written run c
+            | Some value ↦ if_due row.written run term c (formed (form_for row.form term) run c value)
+          ])
           (elim o [ None ↦ filled row.written es c | Some value ↦ if_due row.written es term c (formed (form_for row.form term) es c value) ])
       go None = filled-same row.written
-      go (Some value) = due-same row.written term (formed (form_for row.form term) run c value) ∙ ap (if_due row.written es term c) (formed-same (form_for row.form term) value)
+      go (Some value) = due-same row.written term (formed (form_for row.form term) run c value) ∙
+          ap (if_due row.written es term c) (formed-same (form_for row.form term) value)
 
-  pub writes-same : {A : Type 0} (f : A → List ℕ) (w : Option A) (row : Row) (term : Term) → option_map f w ≡ term_text row run term c → is_some w ≡ is_some (term_text row es term c)
+  pub writes-same : {A : Type 0} (f : A → List ℕ) (w : Option A) (row : Row) (term : Term) → option_map f w ≡ term_text row run term c →
+      is_some w ≡ is_some (term_text row es term c)
   writes-same {A = A} f w row term e = mapped w ∙ ap is_some (e ∙ text-same row term)
     where
       mapped : (o : Option A) → is_some o ≡ is_some (option_map f o)
@@ -231,8 +245,10 @@ module _ (es run : List Entry) (c : Context) (same : HasSameValues es run c) whe
 
 -- ---- what a row with a term writes
 
-pub row-said : (es : List Entry) (c d : Context) (row : Row) (term : Term) → row.content ≡ contents.Term term → d ≡ context_for row c → term_text row es term d ≡ row_text row es c
-row-said es c d row term is e = ap (term_text row es term) e ∙ ap (λ x. elim x [ (contents.Term t) ↦ term_text row es t (context_for row c) | (contents.Constant text) ↦ None ]) (sym is)
+pub row-said : (es : List Entry) (c d : Context) (row : Row) (term : Term) → row.content ≡ contents.Term term → d ≡ context_for row c →
+    term_text row es term d ≡ row_text row es c
+row-said es c d row term is e = ap (term_text row es term) e ∙
+    ap (λ x. elim x [ (contents.Term t) ↦ term_text row es t (context_for row c) | (contents.Constant text) ↦ None ]) (sym is)
 
 pub row-written : (es : List Entry) (c : Context) (row : Row) (term : Term) → row.content ≡ contents.Term term → row_text row es c ≡ constant_or_text es c row
 row-written es c row term is = ap (λ x. elim x [ (contents.Constant text) ↦ Some text | (contents.Term t) ↦ row_text row es c ]) (sym is)

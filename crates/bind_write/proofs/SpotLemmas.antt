@@ -1,5 +1,6 @@
 -- Where a line is written, spot by spot.
-use Rattle.std.proofs.Common.{◌≡◌, ℕ, suc, zero, ◌+◌, ◌<◌, ◌≤◌, ◌==◌, false, List, [], ◌∷◌, Option, Some, None, length, drop, map, max, refl, ap, sym, ◌∙◌, subst, arith, cond}
+use Rattle.std.proofs.Common.{◌≡◌, ℕ, suc, zero, ◌+◌, ◌<◌, ◌≤◌, ◌==◌, false, List, [], ◌∷◌, Option, Some, None, length, drop, map, max, refl, ap, sym, ◌∙◌}
+use Rattle.std.proofs.Common.{subst, arith, cond}
 use Rattle.std.specs.List.{range_with_len}
 use Rattle.std.proofs.lemmas.Grind.{common_steps}
 use Rattle.std.proofs.lemmas.Bool.Decides.{nat_tests}
@@ -16,9 +17,11 @@ use Rattle.bind_write.proofs.SourceLemmas.{inner_counts}
 -- ---- how many there are
 
 pub count-none : (es : List Entry) (c : Context) (group : Group) → c.outer ≡ None → outer_count es group ≡ count_in es c group
-count-none es c group e = let P : Option Slot → Type 0 = λ o. outer_count es group ≡ elim o [ None ↦ outer_count es group | Some outer ↦ inner_count es outer group ] in subst P (sym e) refl
+count-none es c group e = let P : Option Slot → Type 0 =
+    λ o. outer_count es group ≡ elim o [ None ↦ outer_count es group | Some outer ↦ inner_count es outer group ] in subst P (sym e) refl
 
-pub count-some : (es run : List Entry) (c : Context) (outer : Slot) (group : Group) → c.outer ≡ Some outer → run ≡ run_of es c → inner_count_of run group ≡ count_in es c group
+pub count-some : (es run : List Entry) (c : Context) (outer : Slot) (group : Group) → c.outer ≡ Some outer → run ≡ run_of es c →
+    inner_count_of run group ≡ count_in es c group
 count-some es run c outer group e r =
     let P : Option Slot → Type 0 = λ o. inner_count es outer group ≡ elim o [ None ↦ outer_count es group | Some x ↦ inner_count es x group ] in
     ap (λ x. inner_count_of x group) r ∙ (sym (inner_counts es outer c group e) ∙ subst P (sym e) refl)
@@ -37,12 +40,14 @@ range-next : {A : Type 0} (f : ℕ → A) (a n k : ℕ) → k < n → drop k (ma
 range-next f a zero k h = absurd (omega arith)
 range-next f a (suc n) zero h = ap (λ x. f x ∷ map f (range_with_len (a + 1) n)) (let e : a ≡ a + 0 = omega arith in e)
 range-next f a (suc n) (suc k) h =
-    range-next f (a + 1) n k (omega arith) ∙ ap (λ x. f x ∷ drop (suc k) (map f (range_with_len (a + 1) n))) (let e : (a + 1) + k ≡ a + suc k = omega arith in e)
+    range-next f (a + 1) n k (omega arith) ∙ ap (λ x. f x ∷ drop (suc k) (map f (range_with_len (a + 1) n))) (let e : (a + 1) + k ≡ a + suc k = omega arith in
+    e)
 
 not_none : (n : ℕ) → (suc n == 0) ≡ false
 not_none n = grind (arith, nat_tests)
 
-pub spots-next : (c : Context) (group : Group) (count k : ℕ) → k < max count 1 → drop k (spots_by c group count) ≡ nth_spot c group count k ∷ drop (k + 1) (spots_by c group count)
+pub spots-next : (c : Context) (group : Group) (count k : ℕ) → k < max count 1 →
+    drop k (spots_by c group count) ≡ nth_spot c group count k ∷ drop (k + 1) (spots_by c group count)
 spots-next c group zero zero h = refl
 spots-next c group zero (suc k) h = absurd (omega arith)
 spots-next c group (suc n) k h =

@@ -35,11 +35,14 @@ after_hash cs = ap (λ x. x ++ encode_utf8_all cs) (encode_ascii 35 (omega arith
 
 pub subject-bytes : (code : Value) → (35 ∷ []) ++ (encode_utf8_all (spelled code) ++ (35 ∷ [])) ≡ encode_utf8_all (subject_text code)
 subject-bytes code =
-    sym (after_hash (spelled code ++ 35 ∷ []) ∙ ap (λ x. (35 ∷ []) ++ x) (encodes-append (spelled code) (35 ∷ []) ∙ ap (λ x. encode_utf8_all (spelled code) ++ x) hash))
+    sym (after_hash (spelled code ++ 35 ∷ []) ∙ ap (λ x. (35 ∷ []) ++ x) (encodes-append (spelled code) (35 ∷ []) ∙
+    ap (λ x. encode_utf8_all (spelled code) ++ x) hash))
 
-pub note-bytes : (subject : Option Value) (code : Value) (text : List ℕ) → subject ≡ Some code → encode_utf8_all (subject_text code) ++ encode_utf8_all text ≡ encode_utf8_all (coded_note subject text)
+pub note-bytes : (subject : Option Value) (code : Value) (text : List ℕ) → subject ≡ Some code → encode_utf8_all (subject_text code) ++
+    encode_utf8_all text ≡ encode_utf8_all (coded_note subject text)
 note-bytes subject code text e =
-    sym (encodes-append (subject_text code) text) ∙ (ap (λ x. encode_utf8_all (35 ∷ x)) (append_assoc (spelled code) (35 ∷ []) text) ∙ ap (λ x. encode_utf8_all (coded_note x text)) (sym e))
+    sym (encodes-append (subject_text code) text) ∙ (ap (λ x. encode_utf8_all (35 ∷ x)) (append_assoc (spelled code) (35 ∷ []) text) ∙
+    ap (λ x. encode_utf8_all (coded_note x text)) (sym e))
 
 pub plain-note : (subject : Option Value) (text : List ℕ) → subject ≡ None → text ≡ coded_note subject text
 plain-note subject text e = ap (λ x. coded_note x text) (sym e)
@@ -66,7 +69,8 @@ plain_form local forms.CodedNote e = cc
 plain_form local (forms.Typed letter) e = refl
 plain_form local forms.TypedPlainDate e = refl
 
-pub row-plain : (rows : List Row) (k : ℕ) (row : Row) (local : List ℕ) → list_all has_plain_attribute rows ≡ true → Some row ≡ slice_get rows k → row.leaf ≡ leaves.Attribute local → is_note row.form ≡ false
+pub row-plain : (rows : List Row) (k : ℕ) (row : Row) (local : List ℕ) → list_all has_plain_attribute rows ≡ true → Some row ≡ slice_get rows k →
+    row.leaf ≡ leaves.Attribute local → is_note row.form ≡ false
 row-plain rows k row local a e l = plain_form local row.form (ap (λ x. is_plain_leaf x row.form) (sym l) ∙ all-at has_plain_attribute rows k row a (sym e))
 
 -- ---- names
@@ -84,7 +88,8 @@ prefix-ascii spaces.CiiQualified = encodes-IsAscii (codes "qdt") (ascii (codes "
 pub name-is : (space : Namespace) (prefix local cs : List ℕ) → prefix ≡ prefix_of space → IsUtf8 local → chars local ≡ cs
     → qualified prefix local ≡ encode_utf8_all (qualified (prefix_of space) cs)
 name-is space prefix local cs p u e =
-    ap (λ x. qualified x local) (p ∙ sym (prefix-ascii space)) ∙ (ap (qualified (encode_utf8_all (prefix_of space))) (text-bytes local cs u e) ∙ sym (encodes-qualified (prefix_of space) cs))
+    ap (λ x. qualified x local) (p ∙ sym (prefix-ascii space)) ∙
+    (ap (qualified (encode_utf8_all (prefix_of space))) (text-bytes local cs u e) ∙ sym (encodes-qualified (prefix_of space) cs))
 
 uri-ascii : (space : Namespace) → list_all (λ b. nat_lt b 128) (uri_of space) ≡ true
 uri-ascii spaces.UblInvoice = refl
@@ -96,7 +101,8 @@ uri-ascii spaces.CiiAggregate = refl
 uri-ascii spaces.CiiUnqualified = refl
 uri-ascii spaces.CiiQualified = refl
 
-pub declaration-is : (space : Namespace) (prefix uri : List ℕ) → prefix ≡ prefix_of space → uri ≡ uri_of space → call_declare prefix uri ∷ [] ≡ encoded (call_declare (prefix_of space) (uri_of space)) ∷ []
+pub declaration-is : (space : Namespace) (prefix uri : List ℕ) → prefix ≡ prefix_of space → uri ≡ uri_of space →
+    call_declare prefix uri ∷ [] ≡ encoded (call_declare (prefix_of space) (uri_of space)) ∷ []
 declaration-is space prefix uri p u =
     ap (λ x. call_declare x uri ∷ []) (p ∙ sym (prefix-ascii space))
     ∙ ap (λ x. call_declare (encode_utf8_all (prefix_of space)) x ∷ []) (u ∙ sym (encodes-IsAscii (uri_of space) (ascii (uri_of space) (uri-ascii space))))

@@ -52,10 +52,12 @@ IsRootOrNone source s cells plan (Some rooted) None = ⊥
 IsRootOrNone source s cells plan (Some rooted) (Some root) = IsRoot source s cells plan rooted root
 
 abbrev pub IsRootOf : Source → Step → List Cell → Plan → Option Root → Type 0
-IsRootOf source s cells plan root = IsRootOrNone source s cells plan (first_root source.entries.now s cells plan (spots source.entries.now source.context s.group)) root
+IsRootOf source s cells plan root = IsRootOrNone source s cells plan
+    (first_root source.entries.now s cells plan (spots source.entries.now source.context s.group)) root
 
 abbrev pub FindsRoot : Source → List Line → Option Root → Type 0
-FindsRoot source lines root = (s : Step) (cells : List Cell) (inside rest : Plan) → IsPlanOf source.rows.now lines (a_line s cells inside rest) → IsRootOf source s cells inside root
+FindsRoot source lines root = (s : Step) (cells : List Cell) (inside rest : Plan) → IsPlanOf source.rows.now lines (a_line s cells inside rest) →
+    IsRootOf source s cells inside root
 
 -- ---- the calls
 

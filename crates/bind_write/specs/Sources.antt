@@ -77,7 +77,10 @@ abbrev pub in_inner : Option Slot → Slot → Context
 in_inner outer slot = record { outer = outer; inner = Some slot }
 
 abbrev pub spot_of : Context → Group → ℕ → Context
-spot_of c group k = elim c.outer [ None ↦ in_outer (record { group = group; index = k }) | Some outer ↦ in_inner (Some outer) (record { group = group; index = k }) ]
+spot_of c group k = elim c.outer [
+  | None ↦ in_outer (record { group = group; index = k })
+  | Some outer ↦ in_inner (Some outer) (record { group = group; index = k })
+]
 
 -- in each of so many occurrences of the group, or once in the context
 abbrev pub spots_by : Context → Group → ℕ → List Context

@@ -29,7 +29,8 @@ IsPlain w = IfSome w (λ x. x.subject ≡ None)
 
 -- An IBAN may have the character at the place, from 0.
 abbrev pub fits_iban : ℕ → ℕ → Bool
-fits_iban place c = if nat_lt place 2 then is_upper c else (if nat_lt place 4 then is_digit c else (if nat_lt place 34 then is_upper c || is_digit c else false))
+fits_iban place c = if nat_lt place 2 then is_upper c else
+    (if nat_lt place 4 then is_digit c else (if nat_lt place 34 then is_upper c || is_digit c else false))
 
 -- the characters from a place on may be those of an IBAN
 abbrev pub iban_from : ℕ → List ℕ → Bool

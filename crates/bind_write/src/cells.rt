@@ -96,7 +96,8 @@ fn put_value<W: Writer, K: Sink>(
     value: &Value,
 ) -> Result<(), WriteFault>
     requires { state_of (W.view pen.old) ≡ InsideTag }
-    ensures makes { Makes result (W.view pen.old) (K.view out.old) (call_attribute name.now (encode_utf8_all (spelled value.now)) ∷ []) (W.view pen.new) (K.view out.new) }
+    ensures makes { Makes result (W.view pen.old) (K.view out.old) (call_attribute name.now (encode_utf8_all (spelled value.now)) ∷ []) (W.view pen.new)
+        (K.view out.new) }
     ensures state { state_of (W.view pen.new) ≡ InsideTag }
 {
     let mut buf = [0; 40];
@@ -130,7 +131,8 @@ fn put_currency<W: Writer, K: Sink>(
 ) -> Result<(), WriteFault>
     requires state { state_of (W.view pen.old) ≡ InsideTag }
     requires source { sources.IsSource source.now }
-    ensures makes { Makes result (W.view pen.old) (K.view out.old) (spec.currency_calls source.now.rows.now source.now.entries.now step.now source.now.context number) (W.view pen.new) (K.view out.new) }
+    ensures makes { Makes result (W.view pen.old) (K.view out.old)
+        (spec.currency_calls source.now.rows.now source.now.entries.now step.now source.now.context number) (W.view pen.new) (K.view out.new) }
     ensures state { state_of (W.view pen.new) ≡ InsideTag }
 {
     match row_at(source.rows, number) {
@@ -155,7 +157,8 @@ fn put_currencies<W: Writer, K: Sink>(
     requires state { state_of (W.view pen.old) ≡ InsideTag }
     requires source { sources.IsSource source.now }
     ensures makes { Makes result (W.view pen.old) (K.view out.old)
-        (flat_map (spec.currency_calls source.now.rows.now source.now.entries.now line.now.step source.now.context) line.now.rows) (W.view pen.new) (K.view out.new) }
+        (flat_map (spec.currency_calls source.now.rows.now source.now.entries.now line.now.step source.now.context) line.now.rows) (W.view pen.new)
+        (K.view out.new) }
     ensures state { state_of (W.view pen.new) ≡ InsideTag }
 {
     let numbers = line.rows.as_slice();
@@ -174,7 +177,8 @@ fn put_wording<W: Writer, K: Sink>(
 ) -> Result<(), WriteFault>
     requires state { state_of (W.view pen.old) ≡ InsideTag }
     requires plain { wording.now.subject ≡ None }
-    ensures makes { Makes result (W.view pen.old) (K.view out.old) (spec.attribute_with name.now (wordings.wording_text wording.now)) (W.view pen.new) (K.view out.new) }
+    ensures makes { Makes result (W.view pen.old) (K.view out.old) (spec.attribute_with name.now (wordings.wording_text wording.now)) (W.view pen.new)
+        (K.view out.new) }
     ensures state { state_of (W.view pen.new) ≡ InsideTag }
 {
     let mut buf = [0; 40];
@@ -191,7 +195,8 @@ fn put_row_attribute<W: Writer, K: Sink>(
     requires state { state_of (W.view pen.old) ≡ InsideTag }
     requires source { sources.IsSource source.now }
     requires plain { sources.is_note row.now.form ≡ false }
-    ensures makes { Makes result (W.view pen.old) (K.view out.old) (spec.attribute_if name.now (trees.constant_or_text source.now.entries.now source.now.context row.now)) (W.view pen.new) (K.view out.new) }
+    ensures makes { Makes result (W.view pen.old) (K.view out.old)
+        (spec.attribute_if name.now (trees.constant_or_text source.now.entries.now source.now.context row.now)) (W.view pen.new) (K.view out.new) }
     ensures state { state_of (W.view pen.new) ≡ InsideTag }
 {
     match wording_of(source, row) {
@@ -208,7 +213,8 @@ fn put_attribute<W: Writer, K: Sink>(
 ) -> Result<(), WriteFault>
     requires state { state_of (W.view pen.old) ≡ InsideTag }
     requires source { sources.IsSource source.now }
-    ensures makes { Makes result (W.view pen.old) (K.view out.old) (spec.attribute_calls source.now.rows.now source.now.entries.now source.now.context number) (W.view pen.new) (K.view out.new) }
+    ensures makes { Makes result (W.view pen.old) (K.view out.old) (spec.attribute_calls source.now.rows.now source.now.entries.now source.now.context number)
+        (W.view pen.new) (K.view out.new) }
     ensures state { state_of (W.view pen.new) ≡ InsideTag }
 {
     match row_at(source.rows, number) {
@@ -294,7 +300,8 @@ fn put_text_of<W: Writer, K: Sink>(
     wording: &Wording<'_>,
 ) -> Result<(), WriteFault>
     requires { state_of (W.view pen.old) ≢ Fresh }
-    ensures makes { spec.GoesOn result (W.view pen.old) (K.view out.old) (encode_utf8_all (wordings.wording_text wording.now)) (W.view pen.new) (K.view out.new) }
+    ensures makes { spec.GoesOn result (W.view pen.old) (K.view out.old) (encode_utf8_all (wordings.wording_text wording.now)) (W.view pen.new)
+        (K.view out.new) }
     ensures state { state_of (W.view pen.new) ≢ Fresh }
 {
     match wording.subject {
@@ -314,7 +321,8 @@ fn put_row_text<W: Writer, K: Sink>(
 ) -> Result<(), WriteFault>
     requires state { state_of (W.view pen.old) ≢ Fresh }
     requires source { sources.IsSource source.now }
-    ensures makes { spec.GoesOn result (W.view pen.old) (K.view out.old) (spec.row_bytes source.now.entries.now source.now.context row.now) (W.view pen.new) (K.view out.new) }
+    ensures makes { spec.GoesOn result (W.view pen.old) (K.view out.old) (spec.row_bytes source.now.entries.now source.now.context row.now) (W.view pen.new)
+        (K.view out.new) }
     ensures state { state_of (W.view pen.new) ≢ Fresh }
 {
     match wording_of(source, row) {
@@ -331,7 +339,8 @@ fn put_text<W: Writer, K: Sink>(
 ) -> Result<(), WriteFault>
     requires state { state_of (W.view pen.old) ≢ Fresh }
     requires source { sources.IsSource source.now }
-    ensures makes { spec.GoesOn result (W.view pen.old) (K.view out.old) (spec.text_at source.now.rows.now source.now.entries.now source.now.context number) (W.view pen.new) (K.view out.new) }
+    ensures makes { spec.GoesOn result (W.view pen.old) (K.view out.old) (spec.text_at source.now.rows.now source.now.entries.now source.now.context number)
+        (W.view pen.new) (K.view out.new) }
     ensures state { state_of (W.view pen.new) ≢ Fresh }
 {
     match row_at(source.rows, number) {
@@ -356,7 +365,8 @@ fn put_texts<W: Writer, K: Sink>(
     requires state { state_of (W.view pen.old) ≢ Fresh }
     requires source { sources.IsSource source.now }
     ensures makes { Makes result (W.view pen.old) (K.view out.old)
-        (spec.text_calls (flat_map (spec.text_at source.now.rows.now source.now.entries.now source.now.context) line.now.rows)) (W.view pen.new) (K.view out.new) }
+        (spec.text_calls (flat_map (spec.text_at source.now.rows.now source.now.entries.now source.now.context) line.now.rows)) (W.view pen.new)
+        (K.view out.new) }
     ensures state { state_of (W.view pen.new) ≢ Fresh }
 {
     let numbers = line.rows.as_slice();
@@ -375,7 +385,8 @@ pub(crate) fn put_cells<W: Writer, K: Sink>(
 ) -> Result<(), WriteFault>
     requires state { state_of (W.view pen.old) ≡ InsideTag }
     requires source { sources.IsSource source.now }
-    ensures makes { Makes result (W.view pen.old) (K.view out.old) (spec.cell_calls source.now.rows.now source.now.entries.now line.now source.now.context) (W.view pen.new) (K.view out.new) }
+    ensures makes { Makes result (W.view pen.old) (K.view out.old) (spec.cell_calls source.now.rows.now source.now.entries.now line.now source.now.context)
+        (W.view pen.new) (K.view out.new) }
     ensures state { state_of (W.view pen.new) ≢ Fresh }
 {
     put_currencies(pen, out, source, line)?;

@@ -47,7 +47,8 @@ pub(crate) fn root_of<'a>(source: &Source<'a>, lines: &'a [Line]) -> Option<Root
 fn root_at<'a>(source: &Source<'a>, line: &'a Line, inside: &'a [Line]) -> Option<Root<'a>>
     requires source { sources.IsSource source.now }
     requires lines { AreLines inside.now }
-    ensures { (cells : List Cell) (plan : Plan) → holding.IsLineOf source.now.rows.now line.now inside.now cells plan → spec.IsRootOf source.now line.now.step cells plan result }
+    ensures { (cells : List Cell) (plan : Plan) → holding.IsLineOf source.now.rows.now line.now inside.now cells plan →
+        spec.IsRootOf source.now line.now.step cells plan result }
 {
     let spots = spots_of(source, line.step.group);
     'spots: for k in 0..number_of(spots) {
@@ -104,7 +105,8 @@ fn put_root_start<W: Writer, K: Sink>(
     line: &Line,
 ) -> Result<(), WriteFault>
     requires { sources.IsSource source.now }
-    ensures makes { Makes result (W.view pen.old) (K.view out.old) (spec.root_start source.now.rows.now source.now.entries.now line.now source.now.context) (W.view pen.new) (K.view out.new) }
+    ensures makes { Makes result (W.view pen.old) (K.view out.old) (spec.root_start source.now.rows.now source.now.entries.now line.now source.now.context)
+        (W.view pen.new) (K.view out.new) }
     ensures state { state_of (W.view pen.new) ≢ Fresh }
 {
     put_start(pen, out, &line.step)?;
@@ -121,7 +123,9 @@ pub(crate) fn put_root<W: Writer, K: Sink>(
     requires source { sources.IsSource root.now.source }
     requires lines { AreLines root.now.inside.now }
     ensures makes { (cells : List Cell) (plan : Plan) → holding.IsLineOf root.now.source.rows.now root.now.line.now root.now.inside.now cells plan
-        → Makes result (W.view pen.old) (K.view out.old) (spec.root_calls root.now.source.entries.now root.now.line.now.step cells plan root.now.held root.now.source.context) (W.view pen.new) (K.view out.new) }
+        → Makes result (W.view pen.old) (K.view out.old)
+        (spec.root_calls root.now.source.entries.now root.now.line.now.step cells plan root.now.held root.now.source.context) (W.view pen.new)
+        (K.view out.new) }
     ensures state { spec.IsPastOk result (state_of (W.view pen.new)) }
 {
     put_root_start(pen, out, &root.source, root.line)?;

@@ -63,7 +63,8 @@ pub(crate) fn put_lines<W: Writer, K: Sink>(
     requires source { sources.IsSource source.now }
     requires lines { AreLines lines.now }
     ensures makes { (plan : Plan) → holding.IsPlanOf source.now.rows.now lines.now plan
-        → Makes result (W.view pen.old) (K.view out.old) (spec.plan_calls source.now.entries.now plan held source.now.context) (W.view pen.new) (K.view out.new) }
+        → Makes result (W.view pen.old) (K.view out.old) (spec.plan_calls source.now.entries.now plan held source.now.context) (W.view pen.new)
+        (K.view out.new) }
     ensures state { state_of (W.view pen.new) ≢ Fresh }
 {
     let mut rest = lines;
@@ -90,7 +91,8 @@ fn put_line<W: Writer, K: Sink>(
     requires lines { AreLines inside.now }
     ensures makes { (cells : List Cell) (plan : Plan) → holding.IsLineOf source.now.rows.now line.now inside.now cells plan
         → Makes result (W.view pen.old) (K.view out.old)
-        (flat_map (spec.element_calls source.now.entries.now line.now.step cells plan held) (trees.spots source.now.entries.now source.now.context line.now.step.group)) (W.view pen.new) (K.view out.new) }
+        (flat_map (spec.element_calls source.now.entries.now line.now.step cells plan held)
+        (trees.spots source.now.entries.now source.now.context line.now.step.group)) (W.view pen.new) (K.view out.new) }
     ensures state { state_of (W.view pen.new) ≢ Fresh }
 {
     if line.step.group.is_none() {
@@ -117,7 +119,8 @@ fn put_element<W: Writer, K: Sink>(
     requires source { sources.IsSource source.now }
     requires lines { AreLines inside.now }
     ensures makes { (cells : List Cell) (plan : Plan) → holding.IsLineOf source.now.rows.now line.now inside.now cells plan
-        → Makes result (W.view pen.old) (K.view out.old) (spec.element_calls source.now.entries.now line.now.step cells plan held source.now.context) (W.view pen.new) (K.view out.new) }
+        → Makes result (W.view pen.old) (K.view out.old) (spec.element_calls source.now.entries.now line.now.step cells plan held source.now.context)
+        (W.view pen.new) (K.view out.new) }
     ensures state { state_of (W.view pen.new) ≢ Fresh }
 {
     match standing(source, line, inside, held) {

@@ -1,4 +1,5 @@
-ghost use Rattle.std.specs.Prelude.{◌≡◌, ◌&&◌, ◌||◌, Option, Some, None, map, option_map, option_copied, take, chars, codes, bytes_eq, is_some, is_none, not, nat_le, length, false};
+ghost use Rattle.std.specs.Prelude.{◌≡◌, ◌&&◌, ◌||◌, Option, Some, None, map, option_map, option_copied, take, chars, codes, bytes_eq, is_some, is_none, not};
+ghost use Rattle.std.specs.Prelude.{nat_le, length, false};
 ghost use Rattle.std.specs.List.{list_all};
 ghost use Rattle.inv_decimal.specs.CivilDay.{IsDay};
 ghost use Rattle.inv_decimal.specs.WrittenDay.{plain_day_text};
@@ -293,7 +294,8 @@ fn value_wording<'a>(
     value: &'a Value,
 ) -> Option<Wording<'a>>
     requires { IsInOrder (map listing.seat_of entries.now) }
-    ensures text { option_map spec.wording_text result ≡ writing.if_due row.now.written entries.now term context (writing.formed (meaning.form_for row.now.form term) entries.now context value.now) }
+    ensures text { option_map spec.wording_text result ≡ writing.if_due row.now.written entries.now term context
+        (writing.formed (meaning.form_for row.now.form term) entries.now context value.now) }
     ensures plain { sources.is_note row.now.form ≡ false → spec.IsPlain result }
 {
     let wording = formed(form_for(row.form, term), entries, context, value);

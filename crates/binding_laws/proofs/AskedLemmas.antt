@@ -1,5 +1,6 @@
 -- What is asked of an invoice so that values tell rows apart is known of it, where its entries are as asked.
-use Rattle.std.proofs.Common.{◌≡◌, ℕ, Bool, true, false, not, ◌&&◌, ◌||◌, List, [], ◌∷◌, map, flat_map, Option, Some, None, inl, inr, refl, sym, ap, ◌∙◌, subst, arith}
+use Rattle.std.proofs.Common.{◌≡◌, ℕ, Bool, true, false, not, ◌&&◌, ◌||◌, List, [], ◌∷◌, map, flat_map, Option, Some, None, inl, inr, refl, sym, ap, ◌∙◌, subst}
+use Rattle.std.proofs.Common.{arith}
 use Rattle.std.specs.Prelude.{is_some}
 use Rattle.std.specs.Str.{bytes_eq}
 use Rattle.std.specs.Cmp.Lexicographic.{pointwise}
@@ -28,7 +29,8 @@ use Rattle.bind_meaning.specs.Elements.{is_full}
 use Rattle.bind_meaning.specs.Trees.{spots}
 use Rattle.binding_laws.specs.Apart.{Unlike, Together, is_of_group}
 use Rattle.binding_laws.specs.Plain.{is_element, stands_nowhere_else}
-use Rattle.binding_laws.specs.Known.{is_trimmed, is_presence_asked, texts_asked, unlike_of, is_main_of, together_by, together_of, at_attributes, known_of, is_other_value, has_parts, is_as_known}
+use Rattle.binding_laws.specs.Known.{is_trimmed, is_presence_asked, texts_asked, unlike_of, is_main_of, together_by, together_of, at_attributes, known_of}
+use Rattle.binding_laws.specs.Known.{is_other_value, has_parts, is_as_known}
 use Rattle.binding_laws.proofs.ListLemmas.{both-true, not-true}
 use Rattle.binding_laws.proofs.ReachLemmas.{Among, all-is}
 use Rattle.binding_laws.proofs.GoneLemmas.{none-of-none}
@@ -48,12 +50,16 @@ record IsOfAttribute {X : Type 0} (f : Row → Term → List ℕ → List X) (ro
 of-attributes : {X : Type 0} (f : Row → Term → List ℕ → List X) (row : Row) (x : X) → Among x (at_attributes f row) → IsOfAttribute f row x
 of-attributes {X} f row x a = go row.content row.leaf a
   where
-    by-letter : (term : Term) (local : List ℕ) (b : Bool) → is_trimmed (letter_of term) ≡ b → Among x (elim b [ true ↦ f row term local | false ↦ [] ]) → IsOfAttribute f row x
+    by-letter : (term : Term) (local : List ℕ) (b : Bool) → is_trimmed (letter_of term) ≡ b → Among x (elim b [ true ↦ f row term local | false ↦ [] ]) →
+        IsOfAttribute f row x
     by-letter term local true e m = record { term = term; local = local; letter = e; among = m }
     by-letter term local false e m = absurd m
 
     go : (content : Content) (leaf : Leaf) → Among x (elim content [
-      | (contents.Term term) ↦ elim leaf [ leaves.Element ↦ [] | (leaves.Attribute local) ↦ elim (is_trimmed (letter_of term)) [ true ↦ f row term local | false ↦ [] ] ]
+      | (contents.Term term) ↦ elim leaf [
+        | leaves.Element ↦ []
+        | (leaves.Attribute local) ↦ elim (is_trimmed (letter_of term)) [ true ↦ f row term local | false ↦ [] ]
+      ]
       | (contents.Constant text) ↦ []
     ])
         → IsOfAttribute f row x
@@ -88,7 +94,8 @@ together-is rows x a =
     by-main row group part letter main (contents.Constant text) m = absurd m
     by-main row group part letter main (contents.Term term) m = go (is_main_of row group main term) refl m
       where
-        go : (b : Bool) → is_main_of row group main term ≡ b → Among x (elim b [ true ↦ record { group = group; term = term; part = part } ∷ [] | false ↦ [] ]) → IsTogether x
+        go : (b : Bool) → is_main_of row group main term ≡ b → Among x (elim b [ true ↦ record { group = group; term = term; part = part } ∷ [] | false ↦ [] ])
+            → IsTogether x
         go false e k = absurd k
         go true e (inr z) = absurd z
         go true e (inl same) =
@@ -97,7 +104,8 @@ together-is rows x a =
             let d = both-true (pointwise same_step main.path row.path) (stands_nowhere_else term (Some group) None) b.1 in
             subst IsTogether same (record { letter = letter; nowhere = d.1 })
 
-    by-test : (row : Row) (group : Group) (part : Term) → is_trimmed (letter_of part) ≡ true → (b : Bool) → Among x (elim b [ true ↦ flat_map (together_by row group part) rows | false ↦ [] ]) → IsTogether x
+    by-test : (row : Row) (group : Group) (part : Term) → is_trimmed (letter_of part) ≡ true → (b : Bool) →
+        Among x (elim b [ true ↦ flat_map (together_by row group part) rows | false ↦ [] ]) → IsTogether x
     by-test row group part letter false m = absurd m
     by-test row group part letter true m = let w = of-flat_map (together_by row group part) x rows m in by-main row group part letter w.0 w.0.content w.1.1
 
@@ -124,7 +132,8 @@ outer-reach g d (inr (inl k)) = inr (inl (k.0, refl))
 outer-reach g d (inr (inr (inl k))) = inr (inr (inl (k.0, refl)))
 outer-reach g d (inr (inr (inr k))) = inr (inr (inr (k.0, refl)))
 
-module _ (law : Laws) (rows : List Row) (es : List Entry) (invoice : IsInvoice es) (as_known : (e : Entry) → Among e es → is_as_known (known_of rows) es e ≡ true) where
+module _ (law : Laws) (rows : List Row) (es : List Entry) (invoice : IsInvoice es)
+    (as_known : (e : Entry) → Among e es → is_as_known (known_of rows) es e ≡ true) where
   known-entry : (term : Term) (d : Context) (v : Value) → value_in es term d ≡ Some v → Among (record { context = d; term = term; value = v }) es
   known-entry term d v at = at-value law es invoice term d v at
 
@@ -137,20 +146,26 @@ module _ (law : Laws) (rows : List Row) (es : List Entry) (invoice : IsInvoice e
       let none = all-is (λ (x : Unlike). not (same_term u.term x.term && bytes_eq x.text (spelled v))) (known_of rows).unlike u
       (both-true (is_other_value (known_of rows) e) (has_parts (known_of rows) es e) (as_known e (known-entry u.term d v at))).0 a in
       let text : u.text ≡ spelled v = sym same ∙ trimmed-as-it-is law u.term v (unlike-letter rows u a) (fits u.term d v at) in
-      false≢true (sym (not-true (same_term u.term u.term && bytes_eq u.text (spelled v)) none) ∙ (λ i. same-term-itself u.term i && (bytes_eq-Decides u.text (spelled v)).1 text i))
+      false≢true (sym (not-true (same_term u.term u.term && bytes_eq u.text (spelled v)) none) ∙
+      (λ i. same-term-itself u.term i && (bytes_eq-Decides u.text (spelled v)).1 text i))
 
-  full-part : (x : Together) → Among x (known_of rows).together → (d : Context) (v : Value) → value_in es x.part d ≡ Some v → is_full (trimmed (spelled v)) ≡ true
+  full-part : (x : Together) → Among x (known_of rows).together → (d : Context) (v : Value) → value_in es x.part d ≡ Some v →
+      is_full (trimmed (spelled v)) ≡ true
   full-part x a d v at =
       let f = fits x.part d v at in
-      ap is_full (trimmed-as-it-is law x.part v (together-is rows x a).letter f) ∙ back-full law forms.Model x.part es d v (whole-back es forms.Model d v refl refl) f
+      ap is_full (trimmed-as-it-is law x.part v (together-is rows x a).letter f) ∙
+      back-full law forms.Model x.part es d v (whole-back es forms.Model d v refl refl) f
 
-  part-with : (x : Together) → Among x (known_of rows).together → (d : Context) → Among d (spots es root_context (Some x.group)) → (v : Value) → value_in es x.term (outer_context d) ≡ Some v
+  part-with : (x : Together) → Among x (known_of rows).together → (d : Context) → Among d (spots es root_context (Some x.group)) → (v : Value) →
+      value_in es x.term (outer_context d) ≡ Some v
       → (w : Value) × (value_in es x.part (outer_context d) ≡ Some w)
   part-with x a d there v at =
       let e : Entry = record { context = outer_context d; term = x.term; value = v } in
       let known = known-entry x.term (outer_context d) v at in
-      let groups = context-there e x.term (Some x.group) None refl (placed-at law es invoice x.term e known) (together-is rows x a).nowhere (outer-reach x.group d (spots-reach es x.group d there)) in
-      let here = all-is (λ (y : Together). not (same_term x.term y.term && same_groups (slot_group d.outer) (Some y.group)) || is_some (value_in es y.part (outer_context d))) (known_of rows).together x
+      let groups = context-there e x.term (Some x.group) None refl (placed-at law es invoice x.term e known) (together-is rows x a).nowhere
+      (outer-reach x.group d (spots-reach es x.group d there)) in
+      let here = all-is (λ (y : Together). not (same_term x.term y.term && same_groups (slot_group d.outer) (Some y.group)) ||
+      is_some (value_in es y.part (outer_context d))) (known_of rows).together x
       (both-true (is_other_value (known_of rows) e) (has_parts (known_of rows) es e) (as_known e known)).1 a in
       some-of (value_in es x.part (outer_context d))
       (sym ((λ i. not (same-term-itself x.term i && same_groups (groups.0 i) (Some x.group)) || is_some (value_in es x.part (outer_context d)))

@@ -1,5 +1,6 @@
 -- The rows of the two VAT totals cover their terms: the currency beside an amount says whose it is.
-use Rattle.std.proofs.Common.{◌≡◌, ℕ, ◌<◌, Bool, true, false, not, ◌&&◌, ◌||◌, List, [], ◌∷◌, ◌++◌, length, flat_map, Option, Some, None, ◌⊎◌, inl, inr, All, refl, sym, ap, ◌∙◌, subst, arith}
+use Rattle.std.proofs.Common.{◌≡◌, ℕ, ◌<◌, Bool, true, false, not, ◌&&◌, ◌||◌, List, [], ◌∷◌, ◌++◌, length, flat_map, Option, Some, None, ◌⊎◌, inl, inr, All}
+use Rattle.std.proofs.Common.{refl, sym, ap, ◌∙◌, subst, arith}
 use Rattle.std.specs.Prelude.{is_some, option_map}
 use Rattle.std.specs.List.{list_all, list_any}
 use Rattle.std.proofs.lemmas.Bool.{false≢true}
@@ -30,7 +31,8 @@ use Rattle.bind_meaning.specs.Writing.{context_for, formed, if_due, row_text, te
 use Rattle.bind_meaning.specs.Trees.{is_amount, attribute, document_of, constant_or_text, is_at_element, is_vat_total}
 use Rattle.binding_laws.specs.Apart.{is_at_attribute, holds_none}
 use Rattle.binding_laws.specs.Plain.{is_whole, is_of_one_term, has_content, rows_at}
-use Rattle.binding_laws.specs.Covered.{is_or_filler, beside_filler, is_accounting_rule, accounting_terms_of, accounting_terms, are_pair, is_of_pair, is_pair_in, currency_text, is_other_text}
+use Rattle.binding_laws.specs.Covered.{is_or_filler, beside_filler, is_accounting_rule, accounting_terms_of, accounting_terms, are_pair, is_of_pair, is_pair_in}
+use Rattle.binding_laws.specs.Covered.{currency_text, is_other_text}
 use Rattle.binding_laws.specs.Faultless.{is_in_invoice_currency, is_no_row}
 use Rattle.binding_laws.specs.Written.{Spot, values_named}
 use Rattle.binding_laws.proofs.TreeLemmas.{Each}
@@ -42,7 +44,8 @@ use Rattle.binding_laws.proofs.TakenLemmas.{one-untyped, as-modelled}
 use Rattle.binding_laws.proofs.RowLemmas.{Place, places_at, ArePlaced}
 use Rattle.binding_laws.proofs.PlainLemmas.{at-value}
 use Rattle.binding_laws.proofs.PlacedLemmas.{IsTotalThere, IsPair, test-behind, pair-by-test}
-use Rattle.binding_laws.proofs.CurrencyLemmas.{IsCurrency, IsOwnCurrency, AreNamed, AreOwn, currency_at, is_in, in-accounting, accounting-first, accounting-shown, first-currency, not-accounting, currencies-shown}
+use Rattle.binding_laws.proofs.CurrencyLemmas.{IsCurrency, IsOwnCurrency, AreNamed, AreOwn, currency_at, is_in, in-accounting, accounting-first}
+use Rattle.binding_laws.proofs.CurrencyLemmas.{accounting-shown, first-currency, not-accounting, currencies-shown}
 use Rattle.binding_laws.proofs.TwinLemmas.{placed-twins, placed-second}
 use Rattle.binding_laws.proofs.CoverLemmas.{Absent, IsTotal, IsSpreadHere, fact-at, full-string, row-at}
 
@@ -87,10 +90,13 @@ unfolding terms
 no-accounting-amount form = ap (λ f. elim (type_of f accounting_currency) [ Some letters.A ↦ true | _ ↦ false ]) (accounting-form form)
 
 -- a currency is no amount
-no-money : (row : Row) (term : Term) → row.content ≡ contents.Term term → is_amount row ≡ true → (has_term invoice_currency row || has_term accounting_currency row) ≡ false
+no-money : (row : Row) (term : Term) → row.content ≡ contents.Term term → is_amount row ≡ true →
+    (has_term invoice_currency row || has_term accounting_currency row) ≡ false
 no-money row term content amount =
-    (λ i. (elim (term_in (content i)) [ None ↦ false | Some t ↦ same_term t invoice_currency ]) || (elim (term_in (content i)) [ None ↦ false | Some t ↦ same_term t accounting_currency ]))
-    ∙ (λ i. not-this invoice_currency (no-amount row.form) (same_term term invoice_currency) refl i || not-this accounting_currency (no-accounting-amount row.form) (same_term term accounting_currency) refl i)
+    (λ i. (elim (term_in (content i)) [ None ↦ false | Some t ↦ same_term t invoice_currency ]) ||
+    (elim (term_in (content i)) [ None ↦ false | Some t ↦ same_term t accounting_currency ]))
+    ∙ (λ i. not-this invoice_currency (no-amount row.form) (same_term term invoice_currency) refl i ||
+    not-this accounting_currency (no-accounting-amount row.form) (same_term term accounting_currency) refl i)
   where
     own : is_amount_as row.form term ≡ true
     own = sym (ap (λ x. elim (term_in x) [ None ↦ false | Some t ↦ is_amount_as row.form t ]) content) ∙ amount
@@ -108,20 +114,25 @@ mapped-text (Some v) text h = (v, refl)
 
 module _ (law : Laws) (rows : List Row) (es : List Entry) (invoice : IsInvoice es) where
   -- beside the amounts of the VAT total the currency of the invoice stands
-  pub total-currencies : (row : Row) → rows_at is_at_element (plan_of rows) row.path ≡ row ∷ [] → is_no_row (rows_at (is_at_attribute currency_id) (plan_of rows) row.path) ≡ true → row.written ≡ written.VatTotal → (place : Place)
+  pub total-currencies : (row : Row) → rows_at is_at_element (plan_of rows) row.path ≡ row ∷ [] →
+      is_no_row (rows_at (is_at_attribute currency_id) (plan_of rows) row.path) ≡ true → row.written ≡ written.VatTotal → (place : Place)
       → Among place (places_at rows es row.path) → Each (IsCurrency es) (values_named currency_id place.spot.attributes)
   total-currencies row alone free rule place a =
       fact-at law rows es invoice row.path (λ (spot : Spot). Each (IsCurrency es) (values_named currency_id spot.attributes))
-      (currencies-shown es (plan_of rows) row.path false root_context (ap (list_all (λ (r : Row). is_in_invoice_currency r.written)) alone ∙ ap (λ x. is_in_invoice_currency x && true) rule) free) place a
+      (currencies-shown es (plan_of rows) row.path false root_context (ap (list_all (λ (r : Row). is_in_invoice_currency r.written)) alone ∙
+      ap (λ x. is_in_invoice_currency x && true) rule) free) place a
 
-  total-shown : (row : Row) → rows_at is_at_element (plan_of rows) row.path ≡ row ∷ [] → is_no_row (rows_at (is_at_attribute currency_id) (plan_of rows) row.path) ≡ true → row.written ≡ written.VatTotal → (place : Place)
+  total-shown : (row : Row) → rows_at is_at_element (plan_of rows) row.path ≡ row ∷ [] →
+      is_no_row (rows_at (is_at_attribute currency_id) (plan_of rows) row.path) ≡ true → row.written ≡ written.VatTotal → (place : Place)
       → Among place (places_at rows es row.path) → IsOwnCurrency es (currency_at place.spot)
   total-shown row alone free rule place a = first-currency es (values_named currency_id place.spot.attributes) (total-currencies row alone free rule place a)
 
-  pub own-total : (row : Row) (others : List Term) (term : Term) → row.written ≡ written.VatTotal → IsTotalThere rows others row term → IsTotal law rows es invoice row
+  pub own-total : (row : Row) (others : List Term) (term : Term) → row.written ≡ written.VatTotal → IsTotalThere rows others row term →
+      IsTotal law rows es invoice row
   own-total row others term rule p = record {
     leaf = p.leaf;
-    own = λ c own place a full. ap (λ x. is_in c x (currency_at place.spot)) rule ∙ ap not (not-accounting es c own.0 (currency_at place.spot) (total-shown row p.own p.free rule place a));
+    own = λ c own place a full. ap (λ x. is_in c x (currency_at place.spot)) rule ∙
+        ap not (not-accounting es c own.0 (currency_at place.spot) (total-shown row p.own p.free rule place a));
     shown = λ other place a. total-shown row p.own p.free rule place a;
   }
 
@@ -129,17 +140,22 @@ module _ (law : Laws) (rows : List Row) (es : List Entry) (invoice : IsInvoice e
   no-filled row none filler e = absurd (false≢true (sym none ∙ ap is_or_filler e))
 
   -- what stands at the elements of the VAT total in accounting currency, is in that currency
-  module _ (differ : holds_none (accounting_terms rows) es ≡ false → is_other_text (currency_text es invoice_currency) (currency_text es accounting_currency) ≡ true) (main twin : Row) (p : IsPair rows main twin) (known : Among twin rows) where
+  module _ (differ : holds_none (accounting_terms rows) es ≡ false →
+      is_other_text (currency_text es invoice_currency) (currency_text es accounting_currency) ≡ true) (main twin : Row) (p : IsPair rows main twin)
+      (known : Among twin rows) where
     -- its term is that of a VAT total in accounting currency
     an-accounting-term : Among p.second.term (accounting_terms rows)
     an-accounting-term =
         among-flat_map accounting_terms_of twin p.second.term rows known
-        (subst (Among p.second.term) (sym ((λ i. elim (is_accounting_rule (p.twin_rule i)) [ true ↦ elim (p.second.there.content i) [ (contents.Term term) ↦ term ∷ [] | (contents.Constant text) ↦ [] ] | false ↦ [] ]))) (inl refl))
+        (subst (Among p.second.term)
+        (sym ((λ i. elim (is_accounting_rule (p.twin_rule i))
+        [ true ↦ elim (p.second.there.content i) [ (contents.Term term) ↦ term ∷ [] | (contents.Constant text) ↦ [] ] | false ↦ [] ]))) (inl refl))
 
     -- where it writes something, its term stands in the invoice
     some-text : (d : Context) → is_full (own_text es d twin) ≡ true → is_some (row_text twin es d) ≡ true
     some-text d full =
-        let says : constant_or_text es d twin ≡ row_text twin es d = ap (λ content. elim content [ (contents.Constant t) ↦ Some t | (contents.Term term) ↦ row_text twin es d ]) p.second.there.content in
+        let says : constant_or_text es d twin ≡ row_text twin es d =
+        ap (λ content. elim content [ (contents.Constant t) ↦ Some t | (contents.Term term) ↦ row_text twin es d ]) p.second.there.content in
         go (row_text twin es d) (sym (ap (λ o. is_full (elim o [ None ↦ [] | Some t ↦ t ])) says) ∙ full)
       where
         go : (o : Option (List ℕ)) → is_full (elim o [ None ↦ [] | Some t ↦ t ]) ≡ true → is_some o ≡ true
@@ -154,7 +170,8 @@ module _ (law : Laws) (rows : List Row) (es : List Entry) (invoice : IsInvoice e
           | Some value ↦ if_due twin.written es p.second.term (context_for twin d) (formed (form_for twin.form p.second.term) es (context_for twin d) value)
         ])
         says =
-            ap (λ content. elim content [ (contents.Term term) ↦ term_text twin es term (context_for twin d) | (contents.Constant t) ↦ None ]) p.second.there.content
+            ap (λ content. elim content [ (contents.Term term) ↦ term_text twin es term (context_for twin d) | (contents.Constant t) ↦ None ])
+            p.second.there.content
             ∙ (ap (λ o. elim o [
               | None ↦ filled_text twin.written es (context_for twin d)
               | Some value ↦ if_due twin.written es p.second.term (context_for twin d) (formed (form_for twin.form p.second.term) es (context_for twin d) value)
@@ -168,8 +185,10 @@ module _ (law : Laws) (rows : List Row) (es : List Entry) (invoice : IsInvoice e
         held-so false e v k = refl
         held-so true e v k =
             let x : Entry = record { context = context_for twin d; term = p.second.term; value = v } in
-            let none = all-is (λ (y : Entry). not (list_any (same_term y.term) (accounting_terms rows))) es x e (at-value law es invoice p.second.term (context_for twin d) v k) in
-            absurd (false≢true (sym (none-is (same_term p.second.term) (accounting_terms rows) p.second.term (not-true (list_any (same_term p.second.term) (accounting_terms rows)) none) an-accounting-term)
+            let none = all-is (λ (y : Entry). not (list_any (same_term y.term) (accounting_terms rows))) es x e
+            (at-value law es invoice p.second.term (context_for twin d) v k) in
+            absurd (false≢true (sym (none-is (same_term p.second.term) (accounting_terms rows) p.second.term
+            (not-true (list_any (same_term p.second.term) (accounting_terms rows)) none) an-accounting-term)
             ∙ same-term-itself p.second.term))
           where
             same-term-itself : (u : Term) → same_term u u ≡ true
@@ -183,14 +202,17 @@ module _ (law : Laws) (rows : List Row) (es : List Entry) (invoice : IsInvoice e
         go None e k = absurd (false≢true k)
         go (Some v) e k = held-so (holds_none (accounting_terms rows) es) refl v e
 
-    accounting-there : (place : Place) → Among place (places_at rows es twin.path) → is_full place.spot.text ≡ true → (c : Currencies) → AreOwn rows es c → is_accounting c (currency_at place.spot) ≡ true
+    accounting-there : (place : Place) → Among place (places_at rows es twin.path) → is_full place.spot.text ≡ true → (c : Currencies) → AreOwn rows es c →
+        is_accounting c (currency_at place.spot) ≡ true
     accounting-there place a full c own =
         let text : place.spot.text ≡ own_text es place.spot.context twin =
-        fact-at law rows es invoice twin.path (λ (spot : Spot). spot.text ≡ own_text es spot.context twin) (own-texts es twin (plan_of rows) twin.path false root_context p.second.there.own) place a in
+        fact-at law rows es invoice twin.path (λ (spot : Spot). spot.text ≡ own_text es spot.context twin)
+        (own-texts es twin (plan_of rows) twin.path false root_context p.second.there.own) place a in
         let some : is_some (row_text twin es place.spot.context) ≡ true = some-text place.spot.context (ap is_full (sym text) ∙ full) in
         go some (not-none place.spot.context some) own.1
       where
-        go : is_some (row_text twin es place.spot.context) ≡ true → holds_none (accounting_terms rows) es ≡ false → (holds_none (accounting_terms rows) es ≡ true) ⊎ AreNamed es c → is_accounting c (currency_at place.spot) ≡ true
+        go : is_some (row_text twin es place.spot.context) ≡ true → holds_none (accounting_terms rows) es ≡ false →
+            (holds_none (accounting_terms rows) es ≡ true) ⊎ AreNamed es c → is_accounting c (currency_at place.spot) ≡ true
         go some held_some (inl none) = absurd (false≢true (sym held_some ∙ none))
         go some held_some (inr n) =
             let v = mapped-text (value_in es accounting_currency root_context) n.second n.second_is in
@@ -198,16 +220,20 @@ module _ (law : Laws) (rows : List Row) (es : List Entry) (invoice : IsInvoice e
             let form = accounting-form twin.form in
             let black : is_full (spelled v.0) ≡ true =
             ap (λ f. is_full (formed f es root_context v.0)) (sym form)
-            ∙ full-string law rows es invoice twin accounting_currency x (at-value law es invoice accounting_currency root_context v.0 v.1) refl (whole-back es (form_for twin.form accounting_currency) root_context v.0 (ap is_whole form) (ap is_of_one_term form)) in
+            ∙ full-string law rows es invoice twin accounting_currency x (at-value law es invoice accounting_currency root_context v.0 v.1) refl
+            (whole-back es (form_for twin.form accounting_currency) root_context v.0 (ap is_whole form) (ap is_of_one_term form)) in
             let shown = fact-at law rows es invoice twin.path
             (λ (spot : Spot). is_some (row_text twin es spot.context) ≡ true
-            → values_named currency_id spot.attributes ≡ values_named currency_id (elim (value_in es accounting_currency root_context) [ None ↦ [] | Some value ↦ attribute currency_id (spelled value) ∷ [] ]))
-            (accounting-shown es twin p.twin_rule p.second.amount (plan_of rows) twin.path false root_context p.second.there.own p.second.there.free) place a some in
+            → values_named currency_id spot.attributes ≡ values_named currency_id
+            (elim (value_in es accounting_currency root_context) [ None ↦ [] | Some value ↦ attribute currency_id (spelled value) ∷ [] ]))
+            (accounting-shown es twin p.twin_rule p.second.amount (plan_of rows) twin.path false root_context p.second.there.own p.second.there.free) place a
+            some in
             in-accounting es c n (differ held_some) (currency_at place.spot)
             (accounting-first es (values_named currency_id place.spot.attributes) v.0 v.1 (not-true (is_blank (spelled v.0)) black)
             (shown ∙ ap (λ o. values_named currency_id (elim o [ None ↦ [] | Some value ↦ attribute currency_id (spelled value) ∷ [] ])) v.1))
 
-    beside-none : (row : Row) → list_any (λ t. has_term t row) (flat_map beside_filler rows) ≡ false → (term : Term) → Among term (flat_map beside_filler rows) → has_term term row ≡ false
+    beside-none : (row : Row) → list_any (λ t. has_term t row) (flat_map beside_filler rows) ≡ false → (term : Term) → Among term (flat_map beside_filler rows)
+        → has_term term row ≡ false
     beside-none row none term a = none-is (λ t. has_term t row) (flat_map beside_filler rows) term none a
 
     -- each of the two is spread, but for the elements of the other
@@ -240,7 +266,8 @@ module _ (law : Laws) (rows : List Row) (es : List Entry) (invoice : IsInvoice e
     second-here = record {
       front = places_at rows es main.path;
       back = [];
-      placed = subst (λ l. ArePlaced (document_nodes (document_of rows es)) es twin.path (places_at rows es main.path ++ l)) (sym (append-nil (places_at rows es twin.path)))
+      placed = subst (λ l. ArePlaced (document_nodes (document_of rows es)) es twin.path (places_at rows es main.path ++ l))
+          (sym (append-nil (places_at rows es twin.path)))
           (placed-second rows es main.path twin.path p.way p.twins);
       strange = λ place a. elim a [
         | inl b ↦ record {
@@ -272,9 +299,11 @@ module _ (law : Laws) (rows : List Row) (es : List Entry) (invoice : IsInvoice e
     term : Term
     here : IsSpreadHere law rows es invoice row term
 
-  pair-here : (holds_none (accounting_terms rows) es ≡ false → is_other_text (currency_text es invoice_currency) (currency_text es accounting_currency) ≡ true) → All (λ (r : Row). 0 < length r.path) rows → (row : Row) → Among row rows → is_of_pair (plan_of rows) rows row ≡ true → IsHere row
+  pair-here : (holds_none (accounting_terms rows) es ≡ false → is_other_text (currency_text es invoice_currency) (currency_text es accounting_currency) ≡ true)
+      → All (λ (r : Row). 0 < length r.path) rows → (row : Row) → Among row rows → is_of_pair (plan_of rows) rows row ≡ true → IsHere row
   pair-here differ long_paths row a h =
-      let w = test-behind (is_vat_total row.written) (list_any (λ other. are_pair (plan_of rows) rows row other || are_pair (plan_of rows) rows other row) rows) h in
+      let w = test-behind (is_vat_total row.written) (list_any (λ other. are_pair (plan_of rows) rows row other || are_pair (plan_of rows) rows other row) rows)
+      h in
       let v = any-is (λ other. are_pair (plan_of rows) rows row other || are_pair (plan_of rows) rows other row) rows w.1 in
       let i = row-at rows row a in
       let j = row-at rows v.0 v.1.0 in
@@ -284,7 +313,9 @@ module _ (law : Laws) (rows : List Row) (es : List Entry) (invoice : IsInvoice e
       ]
 
   -- the same, of a term that it has
-  pub pair-of-term : (holds_none (accounting_terms rows) es ≡ false → is_other_text (currency_text es invoice_currency) (currency_text es accounting_currency) ≡ true) → All (λ (r : Row). 0 < length r.path) rows → (row : Row) → Among row rows → (term : Term) → is_pair_in (plan_of rows) rows row term ≡ true → IsSpreadHere law rows es invoice row term
+  pub pair-of-term : (holds_none (accounting_terms rows) es ≡ false →
+      is_other_text (currency_text es invoice_currency) (currency_text es accounting_currency) ≡ true) → All (λ (r : Row). 0 < length r.path) rows → (row : Row)
+      → Among row rows → (term : Term) → is_pair_in (plan_of rows) rows row term ≡ true → IsSpreadHere law rows es invoice row term
   pair-of-term differ long_paths row a term h =
       let w = test-behind (is_of_pair (plan_of rows) rows row) (has_content term row.content) h in
       let k = pair-here differ long_paths row a w.0 in

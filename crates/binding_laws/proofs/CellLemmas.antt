@@ -17,7 +17,8 @@ use Rattle.bind_table.specs.Lines.{Cell}
 use Rattle.bind_meaning.specs.Names.{is_spelled}
 use Rattle.bind_meaning.specs.Currencies.{currency_id}
 use Rattle.bind_meaning.specs.Writing.{row_text}
-use Rattle.bind_meaning.specs.Trees.{attribute, currency_term, currency_attribute, currency_of_cell, constant_or_text, attribute_of_cell, attributes, element_text, is_at_element, shows_currency}
+use Rattle.bind_meaning.specs.Trees.{attribute, currency_term, currency_attribute, currency_of_cell, constant_or_text, attribute_of_cell, attributes}
+use Rattle.bind_meaning.specs.Trees.{element_text, is_at_element, shows_currency}
 use Rattle.binding_laws.specs.Apart.{is_attribute_named}
 use Rattle.binding_laws.specs.Written.{values_named}
 
@@ -27,7 +28,8 @@ use Rattle.binding_laws.specs.Written.{values_named}
 abbrev pub own_text : List Entry → Context → Row → List ℕ
 own_text es c row = elim (constant_or_text es c row) [ None ↦ [] | Some text ↦ text ]
 
-pub text-by-rows : (es : List Entry) (c : Context) (cells : List Cell) → element_text es cells c ≡ flat_map (own_text es c) (map (λ (cell : Cell). cell.row) (filter is_at_element cells))
+pub text-by-rows : (es : List Entry) (c : Context) (cells : List Cell) →
+    element_text es cells c ≡ flat_map (own_text es c) (map (λ (cell : Cell). cell.row) (filter is_at_element cells))
 text-by-rows es c [] = refl
 text-by-rows es c (cell ∷ cells) = go (is_at_element cell) (text-by-rows es c cells)
   where
@@ -50,7 +52,8 @@ pub named-append : (local : List ℕ) (xs ys : List Attribute) → values_named 
 named-append local [] ys = refl
 named-append local (a ∷ xs) ys = go (named-append local xs ys) (is_spelled [] local a.name)
   where
-    go : values_named local (xs ++ ys) ≡ values_named local xs ++ values_named local ys → (b : Bool) → (elim b [ true ↦ a.value ∷ values_named local (xs ++ ys) | false ↦ values_named local (xs ++ ys) ])
+    go : values_named local (xs ++ ys) ≡ values_named local xs ++ values_named local ys → (b : Bool) →
+        (elim b [ true ↦ a.value ∷ values_named local (xs ++ ys) | false ↦ values_named local (xs ++ ys) ])
         ≡ (elim b [ true ↦ a.value ∷ values_named local xs | false ↦ values_named local xs ]) ++ values_named local ys
     go later true = ap (λ l. a.value ∷ l) later
     go later false = later
@@ -65,11 +68,13 @@ kept_value b value = elim b [ true ↦ value ∷ [] | false ↦ [] ]
 no-currency : (local : List ℕ) → bytes_eq local currency_id ≡ false → (value : List ℕ) → values_named local (attribute currency_id value ∷ []) ≡ []
 no-currency local h value = ap (λ b. kept_value (truth b) value) h
 
-no-currencies : (local : List ℕ) → bytes_eq local currency_id ≡ false → (es : List Entry) (t : Step) (d : Context) (cells : List Cell) → values_named local (flat_map (currency_of_cell es t d) cells) ≡ []
+no-currencies : (local : List ℕ) → bytes_eq local currency_id ≡ false → (es : List Entry) (t : Step) (d : Context) (cells : List Cell) →
+    values_named local (flat_map (currency_of_cell es t d) cells) ≡ []
 no-currencies local h es t d [] = refl
 no-currencies local h es t d (cell ∷ cells) =
     named-append local (currency_of_cell es t d cell) (flat_map (currency_of_cell es t d) cells)
-    ∙ (ap (λ l. l ++ values_named local (flat_map (currency_of_cell es t d) cells)) (one (is_at_element cell && (shows_currency t cell.row && is_some (row_text cell.row es d)))) ∙ no-currencies local h es t d cells)
+    ∙ (ap (λ l. l ++ values_named local (flat_map (currency_of_cell es t d) cells))
+    (one (is_at_element cell && (shows_currency t cell.row && is_some (row_text cell.row es d)))) ∙ no-currencies local h es t d cells)
   where
     shown : (o : Option Value) → values_named local (elim o [ None ↦ [] | Some value ↦ attribute currency_id (spelled value) ∷ [] ]) ≡ []
     shown None = refl
@@ -80,7 +85,10 @@ no-currencies local h es t d (cell ∷ cells) =
     one false = refl
 
 cell-values : (local : List ℕ) (es : List Entry) (d : Context) (row : Row) (leaf : Leaf)
-    → values_named local (elim leaf [ leaves.Element ↦ [] | (leaves.Attribute other) ↦ elim (constant_or_text es d row) [ None ↦ [] | Some text ↦ attribute other text ∷ [] ] ])
+    → values_named local (elim leaf [
+      | leaves.Element ↦ []
+      | (leaves.Attribute other) ↦ elim (constant_or_text es d row) [ None ↦ [] | Some text ↦ attribute other text ∷ [] ]
+    ])
     ≡ (if is_attribute_named local leaf then own_strings es d row else [])
 cell-values local es d row leaves.Element = refl
 cell-values local es d row (leaves.Attribute other) = go (constant_or_text es d row)
@@ -93,7 +101,8 @@ cell-values local es d row (leaves.Attribute other) = go (constant_or_text es d 
     none true = refl
     none false = refl
 
-    go : (o : Option (List ℕ)) → values_named local (elim o [ None ↦ [] | Some text ↦ attribute other text ∷ [] ]) ≡ (if bytes_eq local other then (elim o [ None ↦ [] | Some text ↦ text ∷ [] ]) else [])
+    go : (o : Option (List ℕ)) → values_named local (elim o [ None ↦ [] | Some text ↦ attribute other text ∷ [] ]) ≡ (if bytes_eq local other then
+        (elim o [ None ↦ [] | Some text ↦ text ∷ [] ]) else [])
     go None = none (bytes_eq local other)
     go (Some text) = choice (bytes_eq local other) text
 
@@ -106,14 +115,18 @@ cells-values local es d (cell ∷ cells) =
     ∙ (ap (λ l. l ++ values_named local (flat_map (attribute_of_cell es d) cells)) (cell-values local es d cell.row cell.row.leaf)
     ∙ go (is_attribute_named local cell.row.leaf) (cells-values local es d cells))
   where
-    go : (b : Bool) → values_named local (flat_map (attribute_of_cell es d) cells) ≡ flat_map (own_strings es d) (map (λ (x : Cell). x.row) (filter (λ (x : Cell). is_attribute_named local x.row.leaf) cells))
+    go : (b : Bool) → values_named local (flat_map (attribute_of_cell es d) cells) ≡ flat_map (own_strings es d)
+        (map (λ (x : Cell). x.row) (filter (λ (x : Cell). is_attribute_named local x.row.leaf) cells))
         → (if b then own_strings es d cell.row else []) ++ values_named local (flat_map (attribute_of_cell es d) cells)
-        ≡ flat_map (own_strings es d) (map (λ (x : Cell). x.row) (if b then cell ∷ filter (λ (x : Cell). is_attribute_named local x.row.leaf) cells else filter (λ (x : Cell). is_attribute_named local x.row.leaf) cells))
+        ≡ flat_map (own_strings es d) (map (λ (x : Cell). x.row)
+        (if b then cell ∷ filter (λ (x : Cell). is_attribute_named local x.row.leaf) cells else filter
+        (λ (x : Cell). is_attribute_named local x.row.leaf) cells))
     go true e = ap (λ l. own_strings es d cell.row ++ l) e
     go false e = e
 
 pub line-values : (local : List ℕ) → bytes_eq local currency_id ≡ false → (es : List Entry) (t : Step) (cells : List Cell) (d : Context)
-    → values_named local (attributes es t cells d) ≡ flat_map (own_strings es d) (map (λ (cell : Cell). cell.row) (filter (λ (cell : Cell). is_attribute_named local cell.row.leaf) cells))
+    → values_named local (attributes es t cells d) ≡ flat_map (own_strings es d)
+    (map (λ (cell : Cell). cell.row) (filter (λ (cell : Cell). is_attribute_named local cell.row.leaf) cells))
 line-values local h es t cells d =
     named-append local (flat_map (currency_of_cell es t d) cells) (flat_map (attribute_of_cell es d) cells)
     ∙ (ap (λ l. l ++ values_named local (flat_map (attribute_of_cell es d) cells)) (no-currencies local h es t d cells) ∙ cells-values local es d cells)

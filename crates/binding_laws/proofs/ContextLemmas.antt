@@ -1,5 +1,6 @@
 -- The contexts in which a line is written, in their order.
-use Rattle.std.proofs.Common.{◌≡◌, ℕ, zero, suc, ◌+◌, ◌<◌, Bool, true, false, List, [], ◌∷◌, ◌++◌, map, filter, flat_map, Option, Some, None, ◌⊎◌, inl, inr, refl, sym, ap, ◌∙◌, subst, arith}
+use Rattle.std.proofs.Common.{◌≡◌, ℕ, zero, suc, ◌+◌, ◌<◌, Bool, true, false, List, [], ◌∷◌, ◌++◌, map, filter, flat_map, Option, Some, None, ◌⊎◌, inl, inr}
+use Rattle.std.proofs.Common.{refl, sym, ap, ◌∙◌, subst, arith}
 use Rattle.std.specs.Prelude.{if◌then◌else◌}
 use Rattle.std.specs.List.{range_with_len}
 use Rattle.term_table.specs.declared.groups.Group.{Group}
@@ -11,7 +12,8 @@ use Rattle.bind_rows.specs.declared.rows.Step.{Step}
 use Rattle.bind_rows.specs.Same.{same_step}
 use Rattle.bind_table.specs.Lines.{Cell, Plan, nothing, a_line}
 use Rattle.bind_table.proofs.SameLemmas.{step-sound}
-use Rattle.bind_meaning.specs.Trees.{spots, spots_of, outer_spots, inner_spots, outer_count, inner_count, or_here, is_emitted, holds_further, attributes, element_text}
+use Rattle.bind_meaning.specs.Trees.{spots, spots_of, outer_spots, inner_spots, outer_count, inner_count, or_here, is_emitted, holds_further, attributes}
+use Rattle.bind_meaning.specs.Trees.{element_text}
 use Rattle.binding_laws.specs.Written.{Spot, emitted, at_end, spots_below}
 use Rattle.binding_laws.specs.Plain.{groups_of}
 use Rattle.binding_laws.proofs.TreeLemmas.{Each, each-weaker, each-append}
@@ -78,14 +80,16 @@ each-both P Q [] h k = tt
 each-both P Q (x ∷ xs) h k = ((h.0, k.0), each-both P Q xs h.1 k.1)
 
 -- the elements of one are before those of the others, where their origins are
-pub rising-flat_map : {X Y : Type 0} (R : X → X → Type 0) (S : Y → Y → Type 0) (from : X → Y → Type 0) (f : X → List Y) → ((a b : X) (x y : Y) → R a b → from a x → from b y → S x y)
+pub rising-flat_map : {X Y : Type 0} (R : X → X → Type 0) (S : Y → Y → Type 0) (from : X → Y → Type 0) (f : X → List Y) →
+    ((a b : X) (x y : Y) → R a b → from a x → from b y → S x y)
     → (xs : List X) → Rising R xs → Each (λ a. Rising S (f a) × Each (from a) (f a)) xs → Rising S (flat_map f xs)
 rising-flat_map R S from f later [] h k = tt
 rising-flat_map R S from f later (a ∷ xs) h k =
     rising-append S (f a) (flat_map f xs) k.0.0 (rising-flat_map R S from f later xs h.1 k.1)
     (each-weaker (from a) (λ x. Each (S x) (flat_map f xs)) (f a) (λ x is. each-flat_map (S x) f xs
     (each-weaker (λ b. R a b × Each (from b) (f b)) (λ b. Each (S x) (f b)) xs (λ b w. each-weaker (from b) (S x) (f b) (λ y k. later a b x y w.0 is k) w.1)
-    (each-both (R a) (λ b. Each (from b) (f b)) xs h.0 (each-weaker (λ b. Rising S (f b) × Each (from b) (f b)) (λ b. Each (from b) (f b)) xs (λ b w. w.1) k.1)))) k.0.1)
+    (each-both (R a) (λ b. Each (from b) (f b)) xs h.0 (each-weaker (λ b. Rising S (f b) × Each (from b) (f b)) (λ b. Each (from b) (f b)) xs
+    (λ b w. w.1) k.1)))) k.0.1)
 
 -- ---- occurrences of a group, in their order
 
@@ -93,23 +97,44 @@ outer-behind : (group : Group) (j k n : ℕ) → j < k → Each (Later (record {
     (map (λ i. record { outer = Some (record { group = group; index = i }); inner = None }) (range_with_len k n))
 outer-behind group j k zero l = tt
 outer-behind group j k (suc n) l = (
-  inl (record { first = record { group = group; index = j }; second = record { group = group; index = k }; first_is = refl; second_is = refl; same = refl; less = l }),
+  inl (record {
+    first = record { group = group; index = j };
+    second = record { group = group; index = k };
+    first_is = refl;
+    second_is = refl;
+    same = refl;
+    less = l;
+  }),
   outer-behind group j (k + 1) n (omega (arith, l)),
 )
 
-outer-rising : (group : Group) (k n : ℕ) → Rising Later (map (λ i. record { outer = Some (record { group = group; index = i }); inner = None }) (range_with_len k n))
+outer-rising : (group : Group) (k n : ℕ) → Rising Later (map (λ i. record { outer = Some (record { group = group; index = i }); inner = None })
+    (range_with_len k n))
 outer-rising group k zero = tt
 outer-rising group k (suc n) = (outer-behind group k (k + 1) n (omega arith), outer-rising group (k + 1) n)
 
-inner-behind : (outer : Slot) (group : Group) (j k n : ℕ) → j < k → Each (Later (record { outer = Some outer; inner = Some (record { group = group; index = j }) }))
+inner-behind : (outer : Slot) (group : Group) (j k n : ℕ) → j < k →
+    Each (Later (record { outer = Some outer; inner = Some (record { group = group; index = j }) }))
     (map (λ i. record { outer = Some outer; inner = Some (record { group = group; index = i }) }) (range_with_len k n))
 inner-behind outer group j k zero l = tt
 inner-behind outer group j k (suc n) l = (
-  inr (record { around = outer; first = record { group = group; index = j }; second = record { group = group; index = k }; around_first = refl; around_second = refl; first_is = refl; second_is = refl; same = refl; less = l }),
+  inr (record {
+    around = outer;
+    first = record { group = group; index = j };
+    second = record { group = group; index = k };
+    around_first = refl;
+    around_second =
+        refl;
+    first_is = refl;
+    second_is = refl;
+    same = refl;
+    less = l;
+  }),
   inner-behind outer group j (k + 1) n (omega (arith, l)),
 )
 
-inner-rising : (outer : Slot) (group : Group) (k n : ℕ) → Rising Later (map (λ i. record { outer = Some outer; inner = Some (record { group = group; index = i }) }) (range_with_len k n))
+inner-rising : (outer : Slot) (group : Group) (k n : ℕ) →
+    Rising Later (map (λ i. record { outer = Some outer; inner = Some (record { group = group; index = i }) }) (range_with_len k n))
 inner-rising outer group k zero = tt
 inner-rising outer group k (suc n) = (inner-behind outer group k (k + 1) n (omega arith), inner-rising outer group (k + 1) n)
 
@@ -130,7 +155,8 @@ IsOuter spot = spot.context.inner ≡ None
 pub no-groups : (s : Step) (path : List Step) → groups_of (s ∷ path) ≡ [] → (s.group ≡ None) × (groups_of path ≡ [])
 no-groups s path h = go s.group refl h
   where
-    go : (o : Option Group) → s.group ≡ o → ◌≡◌ {A = List Group} (elim o [ None ↦ groups_of path | Some group ↦ group ∷ groups_of path ]) [] → (s.group ≡ None) × (groups_of path ≡ [])
+    go : (o : Option Group) → s.group ≡ o → ◌≡◌ {A = List Group} (elim o [ None ↦ groups_of path | Some group ↦ group ∷ groups_of path ]) [] → (s.group ≡ None)
+        × (groups_of path ≡ [])
     go None e k = (e, k)
     go (Some g) e k = absurd (let z : g ∷ groups_of path ≡ [] = k in cc)
 
@@ -145,7 +171,8 @@ some-group s path g gs h = go s.group refl h
 
 module _ (es : List Entry) where
   abbrev spots-here : Step → List Cell → Plan → List Step → Bool → Context → Context → List Spot
-  spots-here t cells inside path held c d = at_end path (record { context = d; attributes = attributes es t cells d; text = element_text es cells d }) (spots_below es inside path (holds_further es cells inside held d) d)
+  spots-here t cells inside path held c d = at_end path (record { context = d; attributes = attributes es t cells d; text = element_text es cells d })
+      (spots_below es inside path (holds_further es cells inside held d) d)
 
   -- a step with no group
   alone-each : (P : Spot → Type 0) (p : Context → Bool) (f : Context → List Spot) (c : Context) → Each P (f c) → Each P (flat_map f (filter p (c ∷ [])))
@@ -163,30 +190,41 @@ module _ (es : List Entry) where
       go false = tt
 
   -- what is written in one context alone
-  pub in-one : (plan : Plan) (path : List Step) (held : Bool) (c : Context) → groups_of path ≡ [] → Each (IsIn c) (spots_below es plan path held c) × Rising LaterSpot (spots_below es plan path held c)
+  pub in-one : (plan : Plan) (path : List Step) (held : Bool) (c : Context) → groups_of path ≡ [] → Each (IsIn c) (spots_below es plan path held c) ×
+      Rising LaterSpot (spots_below es plan path held c)
   in-one nothing path held c h = (tt, tt)
   in-one (a_line t cells inside rest) [] held c h = (tt, tt)
-  in-one (a_line t cells inside rest) (s ∷ path) held c h = go (λ q. in-one inside q (holds_further es cells inside held c) c) (in-one rest (s ∷ path) held c h) (same_step s t) refl
+  in-one (a_line t cells inside rest) (s ∷ path) held c h = go (λ q. in-one inside q (holds_further es cells inside held c) c) (in-one rest (s ∷ path) held c h)
+      (same_step s t) refl
     where
       parts : (s.group ≡ None) × (groups_of path ≡ [])
       parts = no-groups s path h
 
-      own : ((q : List Step) → groups_of q ≡ [] → Each (IsIn c) (spots_below es inside q (holds_further es cells inside held c) c) × Rising LaterSpot (spots_below es inside q (holds_further es cells inside held c) c))
+      own : ((q : List Step) → groups_of q ≡ [] → Each (IsIn c) (spots_below es inside q (holds_further es cells inside held c) c) ×
+          Rising LaterSpot (spots_below es inside q (holds_further es cells inside held c) c))
           → (q : List Step) → groups_of q ≡ [] → Each (IsIn c) (spots-here t cells inside q held c c) × Rising LaterSpot (spots-here t cells inside q held c c)
       own inner [] k = ((refl, tt), (tt, tt))
       own inner (u ∷ us) k = inner (u ∷ us) k
 
-      go : ((q : List Step) → groups_of q ≡ [] → Each (IsIn c) (spots_below es inside q (holds_further es cells inside held c) c) × Rising LaterSpot (spots_below es inside q (holds_further es cells inside held c) c))
+      go : ((q : List Step) → groups_of q ≡ [] → Each (IsIn c) (spots_below es inside q (holds_further es cells inside held c) c) ×
+          Rising LaterSpot (spots_below es inside q (holds_further es cells inside held c) c))
           → Each (IsIn c) (spots_below es rest (s ∷ path) held c) × Rising LaterSpot (spots_below es rest (s ∷ path) held c)
           → (b : Bool) → same_step s t ≡ b
-          → Each (IsIn c) (elim b [ true ↦ flat_map (spots-here t cells inside path held c) (emitted es t cells inside held c) | false ↦ spots_below es rest (s ∷ path) held c ])
-          × Rising LaterSpot (elim b [ true ↦ flat_map (spots-here t cells inside path held c) (emitted es t cells inside held c) | false ↦ spots_below es rest (s ∷ path) held c ])
+          → Each (IsIn c) (elim b [
+            | true ↦ flat_map (spots-here t cells inside path held c) (emitted es t cells inside held c)
+            | false ↦ spots_below es rest (s ∷ path) held c
+          ])
+          × Rising LaterSpot (elim b [
+            | true ↦ flat_map (spots-here t cells inside path held c) (emitted es t cells inside held c)
+            | false ↦ spots_below es rest (s ∷ path) held c
+          ])
       go inner later true e =
           let none : t.group ≡ None = ap (λ (x : Step). x.group) (sym (step-sound s t e)) ∙ parts.0 in
           let both = own inner path parts.1 in (
             subst (λ o. Each (IsIn c) (flat_map (spots-here t cells inside path held c) (filter (is_emitted es t cells inside held) (spots es c o)))) (sym none)
                 (alone-each (IsIn c) (is_emitted es t cells inside held) (spots-here t cells inside path held c) c both.0),
-            subst (λ o. Rising LaterSpot (flat_map (spots-here t cells inside path held c) (filter (is_emitted es t cells inside held) (spots es c o)))) (sym none)
+            subst (λ o. Rising LaterSpot (flat_map (spots-here t cells inside path held c) (filter (is_emitted es t cells inside held) (spots es c o))))
+                (sym none)
                 (alone-rising (is_emitted es t cells inside held) (spots-here t cells inside path held c) c both.1),
           )
       go inner later false e = later
@@ -216,36 +254,49 @@ module _ (es : List Entry) where
       go (Some outer) = inner-rising outer g 1 (inner_count es outer g)
 
   -- what is written in the occurrences of one group
-  pub in-group : (plan : Plan) (path : List Step) (held : Bool) (c : Context) (g : Group) → groups_of path ≡ g ∷ [] → Rising LaterSpot (spots_below es plan path held c)
+  pub in-group : (plan : Plan) (path : List Step) (held : Bool) (c : Context) (g : Group) → groups_of path ≡ g ∷ [] →
+      Rising LaterSpot (spots_below es plan path held c)
   in-group nothing path held c g h = tt
   in-group (a_line t cells inside rest) [] held c g h = tt
-  in-group (a_line t cells inside rest) (s ∷ path) held c g h = go (λ q. in-group inside q (holds_further es cells inside held c) c g) (in-group rest (s ∷ path) held c g h) (same_step s t) refl
+  in-group (a_line t cells inside rest) (s ∷ path) held c g h =
+      go (λ q. in-group inside q (holds_further es cells inside held c) c g) (in-group rest (s ∷ path) held c g h) (same_step s t) refl
     where
       own : ((q : List Step) → groups_of q ≡ g ∷ [] → Rising LaterSpot (spots_below es inside q (holds_further es cells inside held c) c))
           → (q : List Step) → groups_of q ≡ g ∷ [] → Rising LaterSpot (spots-here t cells inside q held c c)
       own inner [] k = absurd (let z : ◌≡◌ {A = List Group} [] (g ∷ []) = k in cc)
       own inner (u ∷ us) k = inner (u ∷ us) k
 
-      each : groups_of path ≡ [] → Rising LaterSpot (flat_map (spots-here t cells inside path held c) (filter (is_emitted es t cells inside held) (spots es c (Some g))))
+      each : groups_of path ≡ [] → Rising LaterSpot
+          (flat_map (spots-here t cells inside path held c) (filter (is_emitted es t cells inside held) (spots es c (Some g))))
       each k =
-          rising-flat_map Later LaterSpot IsIn (spots-here t cells inside path held c) later-in (filter (is_emitted es t cells inside held) (spots es c (Some g)))
+          rising-flat_map Later LaterSpot IsIn (spots-here t cells inside path held c) later-in
+          (filter (is_emitted es t cells inside held) (spots es c (Some g)))
           (rising-filter Later (is_emitted es t cells inside held) (spots es c (Some g)) (group-rising c g))
-          (all-each (λ d. Rising LaterSpot (spots-here t cells inside path held c d) × Each (IsIn d) (spots-here t cells inside path held c d)) (filter (is_emitted es t cells inside held) (spots es c (Some g)))
+          (all-each (λ d. Rising LaterSpot (spots-here t cells inside path held c d) × Each (IsIn d) (spots-here t cells inside path held c d))
+          (filter (is_emitted es t cells inside held) (spots es c (Some g)))
           (λ d. own-one t cells inside path held c d k))
 
-      go : ((q : List Step) → groups_of q ≡ g ∷ [] → Rising LaterSpot (spots_below es inside q (holds_further es cells inside held c) c)) → Rising LaterSpot (spots_below es rest (s ∷ path) held c)
-          → (b : Bool) → same_step s t ≡ b → Rising LaterSpot (elim b [ true ↦ flat_map (spots-here t cells inside path held c) (emitted es t cells inside held c) | false ↦ spots_below es rest (s ∷ path) held c ])
+      go : ((q : List Step) → groups_of q ≡ g ∷ [] → Rising LaterSpot (spots_below es inside q (holds_further es cells inside held c) c)) →
+          Rising LaterSpot (spots_below es rest (s ∷ path) held c)
+          → (b : Bool) → same_step s t ≡ b → Rising LaterSpot
+          (elim b [
+            | true ↦ flat_map (spots-here t cells inside path held c) (emitted es t cells inside held c)
+            | false ↦ spots_below es rest (s ∷ path) held c
+          ])
       go inner later true e =
           let same : s.group ≡ t.group = ap (λ (x : Step). x.group) (step-sound s t e) in
           elim (some-group s path g [] h) [
-            | inl w ↦ subst (λ o. Rising LaterSpot (flat_map (spots-here t cells inside path held c) (filter (is_emitted es t cells inside held) (spots es c o)))) (sym w.0 ∙ same)
+            | inl w ↦ subst (λ o. Rising LaterSpot
+                (flat_map (spots-here t cells inside path held c) (filter (is_emitted es t cells inside held) (spots es c o)))) (sym w.0 ∙ same)
                 (alone-rising (is_emitted es t cells inside held) (spots-here t cells inside path held c) c (own inner path w.1))
-            | inr w ↦ subst (λ o. Rising LaterSpot (flat_map (spots-here t cells inside path held c) (filter (is_emitted es t cells inside held) (spots es c o)))) (sym w.0 ∙ same) (each w.1)
+            | inr w ↦ subst (λ o. Rising LaterSpot
+                (flat_map (spots-here t cells inside path held c) (filter (is_emitted es t cells inside held) (spots es c o)))) (sym w.0 ∙ same) (each w.1)
           ]
       go inner later false e = later
 
   -- what holds of all occurrences of one group, holds of what is written in them
-  pub in-each : (P : Context → Type 0) (plan : Plan) (path : List Step) (held : Bool) (c : Context) (g : Group) → groups_of path ≡ g ∷ [] → Each P (spots es c (Some g))
+  pub in-each : (P : Context → Type 0) (plan : Plan) (path : List Step) (held : Bool) (c : Context) (g : Group) → groups_of path ≡ g ∷ [] →
+      Each P (spots es c (Some g))
       → Each (λ (x : Spot). P x.context) (spots_below es plan path held c)
   in-each P nothing path held c g h all = tt
   in-each P (a_line t cells inside rest) [] held c g h all = tt
@@ -257,42 +308,54 @@ module _ (es : List Entry) where
       own inner [] k = absurd (let z : ◌≡◌ {A = List Group} [] (g ∷ []) = k in cc)
       own inner (u ∷ us) k = inner (u ∷ us) k
 
-      each : groups_of path ≡ [] → Each (λ (x : Spot). P x.context) (flat_map (spots-here t cells inside path held c) (filter (is_emitted es t cells inside held) (spots es c (Some g))))
+      each : groups_of path ≡ [] → Each (λ (x : Spot). P x.context)
+          (flat_map (spots-here t cells inside path held c) (filter (is_emitted es t cells inside held) (spots es c (Some g))))
       each k =
           each-flat_map (λ (x : Spot). P x.context) (spots-here t cells inside path held c) (filter (is_emitted es t cells inside held) (spots es c (Some g)))
-          (each-weaker P (λ d. Each (λ (x : Spot). P x.context) (spots-here t cells inside path held c d)) (filter (is_emitted es t cells inside held) (spots es c (Some g)))
-          (λ d p. each-weaker (IsIn d) (λ (x : Spot). P x.context) (spots-here t cells inside path held c d) (λ x e. subst P (sym e) p) (own-one t cells inside path held c d k).1)
+          (each-weaker P (λ d. Each (λ (x : Spot). P x.context) (spots-here t cells inside path held c d))
+          (filter (is_emitted es t cells inside held) (spots es c (Some g)))
+          (λ d p. each-weaker (IsIn d) (λ (x : Spot). P x.context) (spots-here t cells inside path held c d) (λ x e. subst P (sym e) p)
+          (own-one t cells inside path held c d k).1)
           (each-filter P (is_emitted es t cells inside held) (spots es c (Some g)) all))
 
       go : ((q : List Step) → groups_of q ≡ g ∷ [] → Each (λ (x : Spot). P x.context) (spots_below es inside q (holds_further es cells inside held c) c))
           → Each (λ (x : Spot). P x.context) (spots_below es rest (s ∷ path) held c)
           → (b : Bool) → same_step s t ≡ b
-          → Each (λ (x : Spot). P x.context) (elim b [ true ↦ flat_map (spots-here t cells inside path held c) (emitted es t cells inside held c) | false ↦ spots_below es rest (s ∷ path) held c ])
+          → Each (λ (x : Spot). P x.context) (elim b [
+            | true ↦ flat_map (spots-here t cells inside path held c) (emitted es t cells inside held c)
+            | false ↦ spots_below es rest (s ∷ path) held c
+          ])
       go inner later true e =
           let same : s.group ≡ t.group = ap (λ (x : Step). x.group) (step-sound s t e) in
           elim (some-group s path g [] h) [
-            | inl w ↦ subst (λ o. Each (λ (x : Spot). P x.context) (flat_map (spots-here t cells inside path held c) (filter (is_emitted es t cells inside held) (spots es c o)))) (sym w.0 ∙ same)
+            | inl w ↦ subst (λ o. Each (λ (x : Spot). P x.context)
+                (flat_map (spots-here t cells inside path held c) (filter (is_emitted es t cells inside held) (spots es c o)))) (sym w.0 ∙ same)
                 (alone-each (λ (x : Spot). P x.context) (is_emitted es t cells inside held) (spots-here t cells inside path held c) c (own inner path w.1))
-            | inr w ↦ subst (λ o. Each (λ (x : Spot). P x.context) (flat_map (spots-here t cells inside path held c) (filter (is_emitted es t cells inside held) (spots es c o)))) (sym w.0 ∙ same) (each w.1)
+            | inr w ↦ subst (λ o. Each (λ (x : Spot). P x.context)
+                (flat_map (spots-here t cells inside path held c) (filter (is_emitted es t cells inside held) (spots es c o)))) (sym w.0 ∙ same) (each w.1)
           ]
       go inner later false e = later
 
-  inner-under : (o : Slot) (g : Group) (k n : ℕ) → Each (λ (d : Context). d.outer ≡ Some o) (map (λ i. record { outer = Some o; inner = Some (record { group = g; index = i }) }) (range_with_len k n))
+  inner-under : (o : Slot) (g : Group) (k n : ℕ) → Each (λ (d : Context). d.outer ≡ Some o)
+      (map (λ i. record { outer = Some o; inner = Some (record { group = g; index = i }) }) (range_with_len k n))
   inner-under o g k zero = tt
   inner-under o g k (suc n) = (refl, inner-under o g (k + 1) n)
 
   under-all : (c : Context) (o : Slot) (g : Group) → c.outer ≡ Some o → Each (λ (d : Context). d.outer ≡ Some o) (spots es c (Some g))
   under-all c o g e =
       or-each (λ (d : Context). d.outer ≡ Some o) c (spots_of es c g) e
-      (subst (λ x. Each (λ (d : Context). d.outer ≡ Some o) (elim x [ None ↦ outer_spots g (outer_count es g) | Some outer ↦ inner_spots outer g (inner_count es outer g) ])) (sym e)
+      (subst (λ x. Each (λ (d : Context). d.outer ≡ Some o)
+      (elim x [ None ↦ outer_spots g (outer_count es g) | Some outer ↦ inner_spots outer g (inner_count es outer g) ])) (sym e)
       (inner-under o g 1 (inner_count es o g)))
 
-  outer-alone : (g : Group) (k n : ℕ) → Each (λ (d : Context). d.inner ≡ None) (map (λ i. record { outer = Some (record { group = g; index = i }); inner = None }) (range_with_len k n))
+  outer-alone : (g : Group) (k n : ℕ) → Each (λ (d : Context). d.inner ≡ None)
+      (map (λ i. record { outer = Some (record { group = g; index = i }); inner = None }) (range_with_len k n))
   outer-alone g k zero = tt
   outer-alone g k (suc n) = (refl, outer-alone g (k + 1) n)
 
   -- in occurrences of a group of the invoice nothing further is written in an inner one
-  pub in-outer : (plan : Plan) (path : List Step) (held : Bool) (g : Group) → groups_of path ≡ g ∷ [] → Each IsOuter (spots_below es plan path held root_context)
+  pub in-outer : (plan : Plan) (path : List Step) (held : Bool) (g : Group) → groups_of path ≡ g ∷ [] →
+      Each IsOuter (spots_below es plan path held root_context)
   in-outer plan path held g h =
       in-each (λ (d : Context). d.inner ≡ None) plan path held root_context g h
       (or-each (λ (d : Context). d.inner ≡ None) root_context (outer_spots g (outer_count es g)) refl (outer-alone g 1 (outer_count es g)))
@@ -303,7 +366,14 @@ module _ (es : List Entry) where
   IsOf d x = (o : Slot) → d.outer ≡ Some o → x.context.outer ≡ Some o
 
   pub later-of : (a b : Context) (x y : Spot) → LaterOuter a b → IsOf a x → IsOf b y → LaterSpot x y
-  later-of a b x y l p q = inl (record { first = l.first; second = l.second; first_is = p l.first l.first_is; second_is = q l.second l.second_is; same = l.same; less = l.less })
+  later-of a b x y l p q = inl (record {
+    first = l.first;
+    second = l.second;
+    first_is = p l.first l.first_is;
+    second_is = q l.second l.second_is;
+    same = l.same;
+    less = l.less;
+  })
 
   outers-behind : (g : Group) (j k n : ℕ) → j < k → Each (LaterOuter (record { outer = Some (record { group = g; index = j }); inner = None }))
       (map (λ i. record { outer = Some (record { group = g; index = i }); inner = None }) (range_with_len k n))
@@ -313,7 +383,8 @@ module _ (es : List Entry) where
     outers-behind g j (k + 1) n (omega (arith, l)),
   )
 
-  outers-rising : (g : Group) (k n : ℕ) → Rising LaterOuter (map (λ i. record { outer = Some (record { group = g; index = i }); inner = None }) (range_with_len k n))
+  outers-rising : (g : Group) (k n : ℕ) → Rising LaterOuter
+      (map (λ i. record { outer = Some (record { group = g; index = i }); inner = None }) (range_with_len k n))
   outers-rising g k zero = tt
   outers-rising g k (suc n) = (outers-behind g k (k + 1) n (omega arith), outers-rising g (k + 1) n)
 
@@ -321,21 +392,28 @@ module _ (es : List Entry) where
   or-outers [] h = (tt, tt)
   or-outers (d ∷ ds) h = h
 
-  of-one : (inside : Plan) (u : Step) (us : List Step) (held : Bool) (d : Context) (g : Group) → groups_of (u ∷ us) ≡ g ∷ [] → Each (IsOf d) (spots_below es inside (u ∷ us) held d)
+  of-one : (inside : Plan) (u : Step) (us : List Step) (held : Bool) (d : Context) (g : Group) → groups_of (u ∷ us) ≡ g ∷ [] →
+      Each (IsOf d) (spots_below es inside (u ∷ us) held d)
   of-one inside u us held d g h = go d.outer refl
     where
-      go : (x : Option Slot) → d.outer ≡ x → Each (λ (y : Spot). (o : Slot) → d.outer ≡ Some o → y.context.outer ≡ Some o) (spots_below es inside (u ∷ us) held d)
-      go None e = all-each (λ (y : Spot). (o : Slot) → d.outer ≡ Some o → y.context.outer ≡ Some o) (spots_below es inside (u ∷ us) held d) (λ y o k. absurd (let z : ◌≡◌ {A = Option Slot} None (Some o) = sym e ∙ k in cc))
+      go : (x : Option Slot) → d.outer ≡ x → Each (λ (y : Spot). (o : Slot) → d.outer ≡ Some o → y.context.outer ≡ Some o)
+          (spots_below es inside (u ∷ us) held d)
+      go None e = all-each (λ (y : Spot). (o : Slot) → d.outer ≡ Some o → y.context.outer ≡ Some o) (spots_below es inside (u ∷ us) held d)
+          (λ y o k. absurd (let z : ◌≡◌ {A = Option Slot} None (Some o) = sym e ∙ k in cc))
       go (Some q) e =
-          each-weaker (λ (y : Spot). y.context.outer ≡ Some q) (λ (y : Spot). (o : Slot) → d.outer ≡ Some o → y.context.outer ≡ Some o) (spots_below es inside (u ∷ us) held d)
+          each-weaker (λ (y : Spot). y.context.outer ≡ Some q) (λ (y : Spot). (o : Slot) → d.outer ≡ Some o → y.context.outer ≡ Some o)
+          (spots_below es inside (u ∷ us) held d)
           (λ y is o k. is ∙ (sym e ∙ k)) (in-each (λ (z : Context). z.outer ≡ Some q) inside (u ∷ us) held d g h (under-all d q g e))
 
-  pub in-groups : (plan : Plan) (path : List Step) (held : Bool) (g i : Group) → groups_of path ≡ g ∷ (i ∷ []) → Rising LaterSpot (spots_below es plan path held root_context)
+  pub in-groups : (plan : Plan) (path : List Step) (held : Bool) (g i : Group) → groups_of path ≡ g ∷ (i ∷ []) →
+      Rising LaterSpot (spots_below es plan path held root_context)
   in-groups nothing path held g i h = tt
   in-groups (a_line t cells inside rest) [] held g i h = tt
-  in-groups (a_line t cells inside rest) (s ∷ path) held g i h = go (λ q. in-groups inside q (holds_further es cells inside held root_context) g i) (in-groups rest (s ∷ path) held g i h) (same_step s t) refl
+  in-groups (a_line t cells inside rest) (s ∷ path) held g i h = go (λ q. in-groups inside q (holds_further es cells inside held root_context) g i)
+      (in-groups rest (s ∷ path) held g i h) (same_step s t) refl
     where
-      own : ((q : List Step) → groups_of q ≡ g ∷ (i ∷ []) → Rising LaterSpot (spots_below es inside q (holds_further es cells inside held root_context) root_context))
+      own : ((q : List Step) → groups_of q ≡ g ∷ (i ∷ []) →
+          Rising LaterSpot (spots_below es inside q (holds_further es cells inside held root_context) root_context))
           → (q : List Step) → groups_of q ≡ g ∷ (i ∷ []) → Rising LaterSpot (spots-here t cells inside q held root_context root_context)
       own inner [] k = absurd (let z : ◌≡◌ {A = List Group} [] (g ∷ (i ∷ [])) = k in cc)
       own inner (u ∷ us) k = inner (u ∷ us) k
@@ -343,24 +421,37 @@ module _ (es : List Entry) where
       one : (path : List Step) (d : Context) → groups_of path ≡ i ∷ []
           → Rising LaterSpot (spots-here t cells inside path held root_context d) × Each (IsOf d) (spots-here t cells inside path held root_context d)
       one [] d k = absurd (let z : ◌≡◌ {A = List Group} [] (i ∷ []) = k in cc)
-      one (u ∷ us) d k = (in-group inside (u ∷ us) (holds_further es cells inside held d) d i k, of-one inside u us (holds_further es cells inside held d) d i k)
+      one (u ∷ us) d k = (
+        in-group inside (u ∷ us) (holds_further es cells inside held d) d i k,
+        of-one inside u us (holds_further es cells inside held d) d i k,
+      )
 
-      each : groups_of path ≡ i ∷ [] → Rising LaterSpot (flat_map (spots-here t cells inside path held root_context) (filter (is_emitted es t cells inside held) (spots es root_context (Some g))))
+      each : groups_of path ≡ i ∷ [] → Rising LaterSpot
+          (flat_map (spots-here t cells inside path held root_context) (filter (is_emitted es t cells inside held) (spots es root_context (Some g))))
       each k =
-          rising-flat_map LaterOuter LaterSpot IsOf (spots-here t cells inside path held root_context) later-of (filter (is_emitted es t cells inside held) (spots es root_context (Some g)))
-          (rising-filter LaterOuter (is_emitted es t cells inside held) (spots es root_context (Some g)) (or-outers (outer_spots g (outer_count es g)) (outers-rising g 1 (outer_count es g))))
-          (all-each (λ d. Rising LaterSpot (spots-here t cells inside path held root_context d) × Each (IsOf d) (spots-here t cells inside path held root_context d))
+          rising-flat_map LaterOuter LaterSpot IsOf (spots-here t cells inside path held root_context) later-of
+          (filter (is_emitted es t cells inside held) (spots es root_context (Some g)))
+          (rising-filter LaterOuter (is_emitted es t cells inside held) (spots es root_context (Some g))
+          (or-outers (outer_spots g (outer_count es g)) (outers-rising g 1 (outer_count es g))))
+          (all-each (λ d. Rising LaterSpot (spots-here t cells inside path held root_context d) ×
+          Each (IsOf d) (spots-here t cells inside path held root_context d))
           (filter (is_emitted es t cells inside held) (spots es root_context (Some g))) (λ d. one path d k))
 
-      go : ((q : List Step) → groups_of q ≡ g ∷ (i ∷ []) → Rising LaterSpot (spots_below es inside q (holds_further es cells inside held root_context) root_context))
+      go : ((q : List Step) → groups_of q ≡ g ∷ (i ∷ []) →
+          Rising LaterSpot (spots_below es inside q (holds_further es cells inside held root_context) root_context))
           → Rising LaterSpot (spots_below es rest (s ∷ path) held root_context)
           → (b : Bool) → same_step s t ≡ b
-          → Rising LaterSpot (elim b [ true ↦ flat_map (spots-here t cells inside path held root_context) (emitted es t cells inside held root_context) | false ↦ spots_below es rest (s ∷ path) held root_context ])
+          → Rising LaterSpot (elim b [
+            | true ↦ flat_map (spots-here t cells inside path held root_context) (emitted es t cells inside held root_context)
+            | false ↦ spots_below es rest (s ∷ path) held root_context
+          ])
       go inner later true e =
           let same : s.group ≡ t.group = ap (λ (x : Step). x.group) (step-sound s t e) in
           elim (some-group s path g (i ∷ []) h) [
-            | inl w ↦ subst (λ o. Rising LaterSpot (flat_map (spots-here t cells inside path held root_context) (filter (is_emitted es t cells inside held) (spots es root_context o)))) (sym w.0 ∙ same)
+            | inl w ↦ subst (λ o. Rising LaterSpot (flat_map (spots-here t cells inside path held root_context)
+                (filter (is_emitted es t cells inside held) (spots es root_context o)))) (sym w.0 ∙ same)
                 (alone-rising (is_emitted es t cells inside held) (spots-here t cells inside path held root_context) root_context (own inner path w.1))
-            | inr w ↦ subst (λ o. Rising LaterSpot (flat_map (spots-here t cells inside path held root_context) (filter (is_emitted es t cells inside held) (spots es root_context o)))) (sym w.0 ∙ same) (each w.1)
+            | inr w ↦ subst (λ o. Rising LaterSpot (flat_map (spots-here t cells inside path held root_context)
+                (filter (is_emitted es t cells inside held) (spots es root_context o)))) (sym w.0 ∙ same) (each w.1)
           ]
       go inner later false e = later

@@ -1,5 +1,6 @@
 -- The number of an occurrence among others: how many of the nodes before its element are elements of others.
-use Rattle.std.proofs.Common.{◌≡◌, ℕ, zero, suc, ◌+◌, ◌<◌, ◌≤◌, Bool, true, false, ◌&&◌, ◌||◌, List, [], ◌∷◌, length, map, filter, ◌⊎◌, inl, inr, refl, sym, ap, ◌∙◌, subst, arith}
+use Rattle.std.proofs.Common.{◌≡◌, ℕ, zero, suc, ◌+◌, ◌<◌, ◌≤◌, Bool, true, false, ◌&&◌, ◌||◌, List, [], ◌∷◌, length, map, filter, ◌⊎◌, inl, inr, refl, sym, ap}
+use Rattle.std.proofs.Common.{◌∙◌, subst, arith}
 use Rattle.std.specs.Prelude.{◌==◌, nat_lt, if◌then◌else◌}
 use Rattle.std.specs.List.{range_with_len}
 use Rattle.std.proofs.lemmas.Bool.{false≢true}
@@ -55,7 +56,11 @@ range-from a k (suc n) l = (l, range-from a (k + 1) n (omega (arith, l)))
 
 pub range-rising : (k n : ℕ) → Rising Below (range_with_len k n)
 range-rising k zero = tt
-range-rising k (suc n) = (each-weaker (λ m. k + 1 ≤ m) (Below k) (range_with_len (k + 1) n) (λ m l. omega (arith, l)) (range-from (k + 1) (k + 1) n (omega arith)), range-rising (k + 1) n)
+range-rising k (suc n) = (
+  each-weaker (λ m. k + 1 ≤ m) (Below k) (range_with_len (k + 1) n) (λ m l. omega (arith, l))
+      (range-from (k + 1) (k + 1) n (omega arith)),
+  range-rising (k + 1) n,
+)
 
 pub of-range : (k n m : ℕ) → Among m (range_with_len k n) → (k ≤ m) × (m < k + n)
 of-range k zero m a = absurd a
@@ -104,19 +109,24 @@ not-among : (m : ℕ) (ms : List ℕ) → Each (λ k. m < k) ms → is_among m m
 not-among m [] h = refl
 not-among m (k ∷ ms) h = rw (other-is m k (inl h.0)) (not-among m ms h.1)
 
-in-range : (t : ℕ → Bool) (a n : ℕ) (ms : List ℕ) → Rising Below ms → Each (λ m. a ≤ m) ms → Each (λ m. m < a + n) ms → filter (λ k. t k && is_among k ms) (range_with_len a n) ≡ filter t ms
+in-range : (t : ℕ → Bool) (a n : ℕ) (ms : List ℕ) → Rising Below ms → Each (λ m. a ≤ m) ms → Each (λ m. m < a + n) ms →
+    filter (λ k. t k && is_among k ms) (range_with_len a n) ≡ filter t ms
 in-range t a zero [] h l r = refl
 in-range t a zero (m ∷ ms) h l r = let x = l.0 in let y = r.0 in absurd (omega (arith, x, y))
 in-range t a (suc n) [] h l r =
-    ap (λ b. if b then a ∷ filter (λ k. t k && false) (range_with_len (a + 1) n) else filter (λ k. t k && false) (range_with_len (a + 1) n)) (and-false (t a)) ∙ in-range t (a + 1) n [] tt tt tt
+    ap (λ b. if b then a ∷ filter (λ k. t k && false) (range_with_len (a + 1) n) else filter (λ k. t k && false) (range_with_len (a + 1) n)) (and-false (t a)) ∙
+    in-range t (a + 1) n [] tt tt tt
 in-range t a (suc n) (m ∷ ms) h l r = go (λ ks. in-range t (a + 1) n ks) (nat_lt a m) refl
   where
-    go : ((ks : List ℕ) → Rising Below ks → Each (λ m. a + 1 ≤ m) ks → Each (λ m. m < a + 1 + n) ks → filter (λ k. t k && is_among k ks) (range_with_len (a + 1) n) ≡ filter t ks)
+    go : ((ks : List ℕ) → Rising Below ks → Each (λ m. a + 1 ≤ m) ks → Each (λ m. m < a + 1 + n) ks →
+        filter (λ k. t k && is_among k ks) (range_with_len (a + 1) n) ≡ filter t ks)
         → (b : Bool) → nat_lt a m ≡ b → filter (λ k. t k && is_among k (m ∷ ms)) (range_with_len a (suc n)) ≡ filter t (m ∷ ms)
     go further true e =
         let z : a < m = grind (arith, nat_tests, e) in
-        let none : (t a && is_among a (m ∷ ms)) ≡ false = ap (λ b. t a && b) (not-among a (m ∷ ms) (z, each-weaker (Below m) (λ k. a < k) ms (λ k q. omega (arith, z, q)) h.0)) ∙ and-false (t a) in
-        ap (λ b. if b then a ∷ filter (λ k. t k && is_among k (m ∷ ms)) (range_with_len (a + 1) n) else filter (λ k. t k && is_among k (m ∷ ms)) (range_with_len (a + 1) n)) none
+        let none : (t a && is_among a (m ∷ ms)) ≡ false =
+        ap (λ b. t a && b) (not-among a (m ∷ ms) (z, each-weaker (Below m) (λ k. a < k) ms (λ k q. omega (arith, z, q)) h.0)) ∙ and-false (t a) in
+        ap (λ b. if b then a ∷ filter (λ k. t k && is_among k (m ∷ ms)) (range_with_len (a + 1) n) else filter (λ k. t k && is_among k (m ∷ ms))
+        (range_with_len (a + 1) n)) none
         ∙ further (m ∷ ms) h (omega (arith, z), each-weaker (Below m) (λ k. a + 1 ≤ k) ms (λ k q. omega (arith, z, q)) h.0)
         (each-weaker (λ k. k < a + suc n) (λ k. k < a + 1 + n) (m ∷ ms) (λ k q. omega (arith, q)) r)
     go further false e =
@@ -131,7 +141,8 @@ in-range t a (suc n) (m ∷ ms) h l r = go (λ ks. in-range t (a + 1) n ks) (nat
         (λ k q. ap (λ b. t k && (b || is_among k ms)) (other-is k m (inr (omega (arith, q, same))))) (range-from (a + 1) (a + 1) n (omega arith)))
         ∙ further ms h.1 (each-weaker (Below m) (λ k. a + 1 ≤ k) ms (λ k q. omega (arith, same, q)) h.0)
         (each-weaker (λ k. k < a + suc n) (λ k. k < a + 1 + n) ms (λ k q. omega (arith, q)) r.1) in
-        ap (λ b. if b then a ∷ filter (λ k. t k && is_among k (m ∷ ms)) (range_with_len (a + 1) n) else filter (λ k. t k && is_among k (m ∷ ms)) (range_with_len (a + 1) n)) here
+        ap (λ b. if b then a ∷ filter (λ k. t k && is_among k (m ∷ ms)) (range_with_len (a + 1) n) else filter (λ k. t k && is_among k (m ∷ ms))
+        (range_with_len (a + 1) n)) here
         ∙ (ap (λ xs. if t m then a ∷ xs else xs) later ∙ ap (λ y. if t m then y ∷ filter t ms else filter t ms) (sym same))
       where
         and-true : (b : Bool) → (b && true) ≡ b
@@ -152,7 +163,8 @@ module _ {X : Type 0} (num idx : X → ℕ) where
       each-numbers [] k = tt
       each-numbers (x ∷ xs) k = (k.0, each-numbers xs k.1)
 
-  count-place : (s n : ℕ) (qs : List X) → Rises qs → map idx qs ≡ range_with_len s n → (q : X) → Among q qs → s + length (filter (λ m. nat_lt m (num q)) (map num qs)) ≡ idx q
+  count-place : (s n : ℕ) (qs : List X) → Rises qs → map idx qs ≡ range_with_len s n → (q : X) → Among q qs →
+      s + length (filter (λ m. nat_lt m (num q)) (map num qs)) ≡ idx q
   count-place s n [] h e q a = absurd a
   count-place s zero (x ∷ qs) h e q a = absurd (let z : ◌≡◌ {A = List ℕ} (idx x ∷ map idx qs) [] = e in cc)
   count-place s (suc n) (x ∷ qs) h e q a = go (count-place (s + 1) n qs h.1) a
@@ -171,7 +183,8 @@ module _ {X : Type 0} (num idx : X → ℕ) where
           → (x ≡ q) ⊎ Among q qs → s + length (filter (λ m. nat_lt m (num q)) (map num (x ∷ qs))) ≡ idx q
       go rest (inl same) =
           subst (λ y. s + length (filter (λ m. nat_lt m (num y)) (map num (x ∷ qs))) ≡ idx y) same
-          (let none : filter (λ m. nat_lt m (num x)) (num x ∷ map num qs) ≡ [] = rw (let z : nat_lt (num x) (num x) ≡ false = grind (arith, nat_tests) in z) (none-below qs h.0) in
+          (let none : filter (λ m. nat_lt m (num x)) (num x ∷ map num qs) ≡ [] = rw (let z : nat_lt (num x) (num x) ≡ false = grind (arith, nat_tests) in z)
+          (none-below qs h.0) in
           let zero_long : length (filter (λ m. nat_lt m (num x)) (num x ∷ map num qs)) ≡ 0 = ap length none in
           let f = first in
           omega (arith, zero_long, f))
@@ -179,7 +192,8 @@ module _ {X : Type 0} (num idx : X → ℕ) where
           let less : num x < num q = each-among (λ b. num x < num b) q qs h.0 m in
           let later = rest further q m in
           let more : length (filter (λ k. nat_lt k (num q)) (num x ∷ map num qs)) ≡ suc (length (filter (λ k. nat_lt k (num q)) (map num qs))) =
-          ap (λ b. length (if b then num x ∷ filter (λ k. nat_lt k (num q)) (map num qs) else filter (λ k. nat_lt k (num q)) (map num qs))) (let z : nat_lt (num x) (num q) ≡ true = grind (arith, nat_tests, less) in z) in
+          ap (λ b. length (if b then num x ∷ filter (λ k. nat_lt k (num q)) (map num qs) else filter (λ k. nat_lt k (num q)) (map num qs)))
+          (let z : nat_lt (num x) (num q) ≡ true = grind (arith, nat_tests, less) in z) in
           omega (arith, later, more)
 
   node-number : Node → ℕ
@@ -190,19 +204,23 @@ module _ {X : Type 0} (num idx : X → ℕ) where
   length-map (x ∷ xs) = ap suc (length-map xs)
 
   -- the elements of occurrences rise, and so do the numbers of the occurrences, from 1 on
-  pub place-is : (nodes : List Node) (long : ℕ) → map (λ (node : Node). node.number) nodes ≡ range_with_len 0 long → (n : ℕ) (qs : List X) → Rises qs → map idx qs ≡ range_with_len 1 n
-      → Each (λ q. num q < long) qs → (elements : List ℕ) → ((m : ℕ) → Among m elements → Among m (map num qs)) → ((m : ℕ) → Among m (map num qs) → Among m elements)
+  pub place-is : (nodes : List Node) (long : ℕ) → map (λ (node : Node). node.number) nodes ≡ range_with_len 0 long → (n : ℕ) (qs : List X) → Rises qs →
+      map idx qs ≡ range_with_len 1 n
+      → Each (λ q. num q < long) qs → (elements : List ℕ) → ((m : ℕ) → Among m elements → Among m (map num qs)) →
+      ((m : ℕ) → Among m (map num qs) → Among m elements)
       → (q : X) → Among q qs → place_among nodes elements (num q) ≡ idx q
   place-is nodes long are n qs rises counted below elements f g q a =
       let t : ℕ → Bool = λ m. nat_lt m (num q) in
       let same : filter (λ k. t k && is_among k elements) (range_with_len 0 long) ≡ filter t (map num qs) =
       filter-same (λ k. t k && is_among k elements) (λ k. t k && is_among k (map num qs)) (range_with_len 0 long)
-      (each-weaker (λ m. 0 ≤ m) (λ k. (t k && is_among k elements) ≡ (t k && is_among k (map num qs))) (range_with_len 0 long) (λ k l. ap (λ b. t k && b) (same-among k elements (map num qs) (f k) (g k)))
+      (each-weaker (λ m. 0 ≤ m) (λ k. (t k && is_among k elements) ≡ (t k && is_among k (map num qs))) (range_with_len 0 long)
+      (λ k l. ap (λ b. t k && b) (same-among k elements (map num qs) (f k) (g k)))
       (range-from 0 0 long (omega arith)))
       ∙ in-range t 0 long (map num qs) (numbers-rise qs rises) (all-above qs) (all-below qs below) in
       let counts : length (filter (λ (node : Node). t node.number && is_among node.number elements) nodes) ≡ length (filter t (map num qs)) =
       sym (length-map (filter (λ (node : Node). t node.number && is_among node.number elements) nodes))
-      ∙ ap length (map-filter (λ (node : Node). node.number) (λ k. t k && is_among k elements) nodes ∙ (ap (filter (λ k. t k && is_among k elements)) are ∙ same)) in
+      ∙ ap length (map-filter (λ (node : Node). node.number) (λ k. t k && is_among k elements) nodes ∙
+      (ap (filter (λ k. t k && is_among k elements)) are ∙ same)) in
       ap (λ k. 1 + k) counts ∙ count-place 1 n qs rises counted q a
     where
       all-above : (xs : List X) → Each (λ m. 0 ≤ m) (map num xs)
@@ -225,8 +243,10 @@ module _ {X : Type 0} (num idx : X → ℕ) where
   pub rising-one : (qs : List X) → Rising (λ a b. idx a < idx b) qs → (a b : X) → Among a qs → Among b qs → idx a ≡ idx b → a ≡ b
   rising-one [] h a b x y e = absurd x
   rising-one (q ∷ qs) h a b (inl x) (inl y) e = sym x ∙ y
-  rising-one (q ∷ qs) h a b (inl x) (inr y) e = let l = each-among (λ z. idx q < idx z) b qs h.0 y in let s : idx q ≡ idx a = ap idx x in absurd (omega (arith, l, s, e))
-  rising-one (q ∷ qs) h a b (inr x) (inl y) e = let l = each-among (λ z. idx q < idx z) a qs h.0 x in let s : idx q ≡ idx b = ap idx y in absurd (omega (arith, l, s, e))
+  rising-one (q ∷ qs) h a b (inl x) (inr y) e = let l = each-among (λ z. idx q < idx z) b qs h.0 y in let s : idx q ≡ idx a = ap idx x in
+      absurd (omega (arith, l, s, e))
+  rising-one (q ∷ qs) h a b (inr x) (inl y) e = let l = each-among (λ z. idx q < idx z) a qs h.0 x in let s : idx q ≡ idx b = ap idx y in
+      absurd (omega (arith, l, s, e))
   rising-one (q ∷ qs) h a b (inr x) (inr y) e = rising-one qs h.1 a b x y e
 
   indices-rise : (qs : List X) → Rising (λ a b. idx a < idx b) qs → Rising Below (map idx qs)
@@ -242,12 +262,14 @@ module _ {X : Type 0} (num idx : X → ℕ) where
   of-mapped f m (q ∷ qs) (inl e) = (q, (inl refl, e))
   of-mapped f m (q ∷ qs) (inr a) = let w = of-mapped f m qs a in (w.0, (inr w.1.0, w.1.1))
 
-  pub numbered : (nodes : List Node) (long : ℕ) → map (λ (node : Node). node.number) nodes ≡ range_with_len 0 long → (n : ℕ) (qs : List X) (elements : List ℕ) → AreNumbered qs n long elements
+  pub numbered : (nodes : List Node) (long : ℕ) → map (λ (node : Node). node.number) nodes ≡ range_with_len 0 long → (n : ℕ) (qs : List X) (elements : List ℕ) →
+      AreNumbered qs n long elements
       → (q : X) → Among q qs → place_among nodes elements (num q) ≡ idx q
   numbered nodes long are n qs elements h q a =
       place-is nodes long are n qs h.rises
       (rising-same (map idx qs) (range_with_len 1 n) (indices-rise qs h.indices) (range-rising 1 n)
-      (λ m b. let w = of-mapped idx m qs b in let k = each-among (λ x. (1 ≤ idx x) × (idx x < 1 + n)) w.0 qs h.within w.1.0 in let e = w.1.1 in let l = k.0 in let r = k.1 in to-range 1 n m (omega (arith, l, e)) (omega (arith, r, e)))
+      (λ m b. let w = of-mapped idx m qs b in let k = each-among (λ x. (1 ≤ idx x) × (idx x < 1 + n)) w.0 qs h.within w.1.0 in let e = w.1.1 in let l = k.0 in
+      let r = k.1 in to-range 1 n m (omega (arith, l, e)) (omega (arith, r, e)))
       (λ m b. let w = of-range 1 n m b in let k = h.all m w.0 w.1 in subst (λ j. Among j (map idx qs)) k.1.1.0 (among-map idx k.0 qs k.1.0)))
       h.below elements h.known
       (λ m b. let w = of-mapped num m qs b in

@@ -1,6 +1,7 @@
 -- Which rows pick values of their term alone, and those that they write: each pick says an entry, and each entry that is
 -- written is picked.
-use Rattle.std.proofs.Common.{◌≡◌, ℕ, suc, ◌+◌, Bool, true, false, ◌&&◌, ◌||◌, List, [], ◌∷◌, ◌++◌, map, filter, flat_map, Option, Some, None, ◌⊎◌, inl, inr, refl, sym, ap, ◌∙◌, subst, arith}
+use Rattle.std.proofs.Common.{◌≡◌, ℕ, suc, ◌+◌, Bool, true, false, ◌&&◌, ◌||◌, List, [], ◌∷◌, ◌++◌, map, filter, flat_map, Option, Some, None, ◌⊎◌, inl, inr}
+use Rattle.std.proofs.Common.{refl, sym, ap, ◌∙◌, subst, arith}
 use Rattle.std.specs.Prelude.{if◌then◌else◌, slice_get, is_some, is_none, option_map, find}
 use Rattle.std.specs.List.{list_any, range_with_len}
 use Rattle.std.specs.Str.{bytes_eq}
@@ -27,13 +28,15 @@ use Rattle.bind_rows.specs.declared.rows.Written.TheVariants as written
 use Rattle.bind_table.specs.Lines.{Plan, nothing, a_line, plan_of}
 use Rattle.bind_meaning.specs.Values.{said, subject_code, form_for}
 use Rattle.bind_meaning.specs.Elements.{number, string_at, is_full, attributes_named}
-use Rattle.bind_meaning.specs.Picks.{Pick, has_term, has_any_term, rows_where, all_picked, is_filler, last_of, filled, leaves_of, picks_of_way, ways, nodes_picked}
+use Rattle.bind_meaning.specs.Picks.{Pick, has_term, has_any_term, rows_where, all_picked, is_filler, last_of, filled, leaves_of, picks_of_way, ways}
+use Rattle.bind_meaning.specs.Picks.{nodes_picked}
 use Rattle.bind_meaning.specs.Currencies.{Currencies, invoice_currency, accounting_currency, is_in_its_currency}
 use Rattle.bind_meaning.specs.Writing.{slot_for, context_for, formed, if_so, if_due, value_for, writes_entry, term_text, filled as filled_text}
 use Rattle.bind_meaning.specs.Trees.{spots, spots_of, or_here, written_lines, document_of, is_at_element, is_vat_total}
 use Rattle.binding_laws.specs.Apart.{Known, unknown, stands_apart}
 use Rattle.binding_laws.specs.Plain as plain
-use Rattle.binding_laws.specs.Plain.{is_in_groups, groups_of, is_of_one_term, is_by_value, IsPlainThere, IsPlainAttributeThere, IsSpreadWith, IsSpread, IsSpreadAttribute, rows_at, is_written_by}
+use Rattle.binding_laws.specs.Plain.{is_in_groups, groups_of, is_of_one_term, is_by_value, IsPlainThere, IsPlainAttributeThere, IsSpreadWith, IsSpread}
+use Rattle.binding_laws.specs.Plain.{IsSpreadAttribute, rows_at, is_written_by}
 use Rattle.binding_laws.specs.Covered.{beside_filler, is_accounting_rule}
 use Rattle.binding_laws.specs.Written.{Spot, written_at, values_named}
 use Rattle.binding_laws.proofs.TreeLemmas.{Each}
@@ -46,7 +49,8 @@ use Rattle.binding_laws.proofs.TakenLemmas.{one-untyped, as-modelled}
 use Rattle.binding_laws.proofs.RowLemmas.{Place, places_at, places-spots, IsAt, ArePlaced, placed-known, placed-at, ends_at, spot-strings, string-ends}
 use Rattle.binding_laws.proofs.ValueLemmas as values
 use Rattle.binding_laws.proofs.PlainLemmas as plain_rows
-use Rattle.binding_laws.proofs.PlainLemmas.{IsReachable, reaches, written-groups, no-slot, groups-are, fits-among, at-value, own-value, contexts, value_text, text-as, written-some, written-spot}
+use Rattle.binding_laws.proofs.PlainLemmas.{IsReachable, reaches, written-groups, no-slot, groups-are, fits-among, at-value, own-value, contexts, value_text}
+use Rattle.binding_laws.proofs.PlainLemmas.{text-as, written-some, written-spot}
 use Rattle.binding_laws.proofs.PartLemmas.{own-values, strings-as, full-texts}
 use Rattle.binding_laws.proofs.CountLemmas.{each-among, to-range}
 use Rattle.binding_laws.proofs.PlaceLemmas.{of-flat_map, of-map, of-filter-any, IsBetween, between}
@@ -75,7 +79,8 @@ find-none p [] f = refl
 find-none p (e ∷ xs) f = rw (f e (inl refl)) (find-none p xs (λ x a. f x (inr a)))
 
 pub no-value : (es : List Entry) (term : Term) → Absent es term → (c : Context) → value_in es term c ≡ None
-no-value es term f c = ap (option_map (λ (e : Entry). e.value)) (find-none (is_at term c) es (λ e a. ap (λ b. b && Rattle.term_table.specs.Contexts.same_context e.context c) (f e a)))
+no-value es term f c = ap (option_map (λ (e : Entry). e.value))
+    (find-none (is_at term c) es (λ e a. ap (λ b. b && Rattle.term_table.specs.Contexts.same_context e.context c) (f e a)))
 
 -- ---- rules on the value and its scheme alone
 
@@ -132,7 +137,8 @@ module _ (law : Laws) (rows : List Row) (es : List Entry) (invoice : IsInvoice e
   -- the row of a VAT total, whose amounts are in its currency
   pub record IsTotal (row : Row) : Type 0 where
     pub leaf : row.leaf ≡ leaves.Element
-    pub own : (c : Currencies) → AreOwn rows es c → (place : Place) → Among place (places_at rows es row.path) → is_full place.spot.text ≡ true → is_in c row.written (currency_at place.spot) ≡ true
+    pub own : (c : Currencies) → AreOwn rows es c → (place : Place) → Among place (places_at rows es row.path) → is_full place.spot.text ≡ true →
+        is_in c row.written (currency_at place.spot) ≡ true
     pub shown : is_accounting_rule row.written ≡ false → (place : Place) → Among place (places_at rows es row.path) → IsOwnCurrency es (currency_at place.spot)
 
   -- an element at the end of the path of such a row, of which the other row writes an amount in its own currency
@@ -193,33 +199,41 @@ module _ (law : Laws) (rows : List Row) (es : List Entry) (invoice : IsInvoice e
     pub single : (place : Place) → Among place (places_at rows es row.path) → is_short (spot-strings row.leaf place.spot) ≡ true
     pub codes : HasCodes row term
     pub writes : Context → Bool
-    pub says : (place : Place) → Among place (places_at rows es row.path) → (string : List ℕ) → Among string (spot-strings row.leaf place.spot) → SaysEntry row term place.spot.context string
-    pub reaches : (e : Entry) → Among e es → e.term ≡ term → IsBack es (form_for row.form term) e.context e.value → writes e.context ≡ true → IsReached row term e
+    pub says : (place : Place) → Among place (places_at rows es row.path) → (string : List ℕ) → Among string (spot-strings row.leaf place.spot) →
+        SaysEntry row term place.spot.context string
+    pub reaches : (e : Entry) → Among e es → e.term ≡ term → IsBack es (form_for row.form term) e.context e.value → writes e.context ≡ true →
+        IsReached row term e
 
   -- what is written of a value is what the row's rule lets pass
-  due-of : (row : Row) (term : Term) (content : row.content ≡ contents.Term term) (unfilled : (x : Context) → values.IsUnfilled es row term (context_for row x)) (d c : Context) (v : Value) → context_for row d ≡ c → value_in es term c ≡ Some v
+  due-of : (row : Row) (term : Term) (content : row.content ≡ contents.Term term) (unfilled : (x : Context) → values.IsUnfilled es row term (context_for row x))
+      (d c : Context) (v : Value) → context_for row d ≡ c → value_in es term c ≡ Some v
       → writes_entry row es d ≡ true → is_some (if_due row.written es term c (formed (form_for row.form term) es c v)) ≡ true
   due-of row term content unfilled d c v at is w =
       subst (λ x. is_some (if_due row.written es term x (formed (form_for row.form term) es x v)) ≡ true) at
       (values.due-as es row term content unfilled d v (ap (value_in es term) at ∙ is) w)
 
   -- a row that is always written lets each value pass
-  due-always : (row : Row) (term : Term) → row.written ≡ written.Always → (c : Context) (v : Value) → is_some (if_due row.written es term c (formed (form_for row.form term) es c v)) ≡ true
+  due-always : (row : Row) (term : Term) → row.written ≡ written.Always → (c : Context) (v : Value) →
+      is_some (if_due row.written es term c (formed (form_for row.form term) es c v)) ≡ true
   due-always row term always c v = ap (λ rule. is_some (if_due rule es term c (formed (form_for row.form term) es c v))) always
 
-  pub fact-at : (path : List Step) (P : Spot → Type 0) → Each P (written_at rows es path) → (place : Place) → Among place (places_at rows es path) → P place.spot
+  pub fact-at : (path : List Step) (P : Spot → Type 0) → Each P (written_at rows es path) → (place : Place) → Among place (places_at rows es path) →
+      P place.spot
   fact-at path P h place a =
       each-among P place.spot (written_at rows es path) h
       (subst (Among place.spot) (places-spots es (plan_of rows) path false root_context 1) (among-map (λ (q : Place). q.spot) place (places_at rows es path) a))
 
   -- the place at an element of a context
-  place-in : (path : List Step) (c : Context) → Among c (map (λ (spot : Spot). spot.context) (written_at rows es path)) → (place : Place) × (Among place (places_at rows es path) × (place.spot.context ≡ c))
+  place-in : (path : List Step) (c : Context) → Among c (map (λ (spot : Spot). spot.context) (written_at rows es path)) → (place : Place) ×
+      (Among place (places_at rows es path) × (place.spot.context ≡ c))
   place-in path c a =
       let w = of-map (λ (spot : Spot). spot.context) c (written_at rows es path) a in
-      let v = of-map (λ (q : Place). q.spot) w.0 (places_at rows es path) (subst (Among w.0) (sym (places-spots es (plan_of rows) path false root_context 1)) w.1.0) in
+      let v = of-map (λ (q : Place). q.spot) w.0 (places_at rows es path)
+      (subst (Among w.0) (sym (places-spots es (plan_of rows) path false root_context 1)) w.1.0) in
       (v.0, (v.1.0, ap (λ (spot : Spot). spot.context) v.1.1 ∙ w.1.1))
 
-  pub full-string : (row : Row) (term : Term) (e : Entry) → Among e es → e.term ≡ term → IsBack es (form_for row.form term) e.context e.value → is_full (formed (form_for row.form term) es e.context e.value) ≡ true
+  pub full-string : (row : Row) (term : Term) (e : Entry) → Among e es → e.term ≡ term → IsBack es (form_for row.form term) e.context e.value →
+      is_full (formed (form_for row.form term) es e.context e.value) ≡ true
   full-string row term e a t back =
       back-full law row.form term es e.context e.value back (subst (λ x. Fits x e.value) t (fits-among law es invoice term e es invoice.fit a))
 
@@ -230,7 +244,8 @@ module _ (law : Laws) (rows : List Row) (es : List Entry) (invoice : IsInvoice e
   unfolding spot-strings
   short-at row leaf place = ap (λ l. is_short (spot-strings l place.spot)) leaf ∙ short-filter is_full place.spot.text
 
-  pub plain-covers : (row : Row) (term : Term) → IsPlainThere rows row term → ArePlaced nodes es row.path (places_at rows es row.path) → HasCodes row term → Covers row term
+  pub plain-covers : (row : Row) (term : Term) → IsPlainThere rows row term → ArePlaced nodes es row.path (places_at rows es row.path) → HasCodes row term →
+      Covers row term
   unfolding spot-strings
   plain-covers row term p placed codes = record {
     front = [];
@@ -250,22 +265,34 @@ module _ (law : Laws) (rows : List Row) (es : List Entry) (invoice : IsInvoice e
   }
     where
       text-at : (place : Place) → Among place (places_at rows es row.path)
-          → place.spot.text ≡ (elim (is_written_by row term es place.spot.context) [ true ↦ value_text law rows es invoice row term p place.spot.context (value_in es term place.spot.context) | false ↦ [] ])
+          → place.spot.text ≡ (elim (is_written_by row term es place.spot.context) [
+            | true ↦ value_text law rows es invoice row term p place.spot.context
+                (value_in es term place.spot.context)
+            | false ↦ []
+          ])
       text-at place a =
-          fact-at row.path (λ (spot : Spot). spot.text ≡ own_text es spot.context row) (own-texts es row (plan_of rows) row.path false root_context p.own) place a
-          ∙ text-as law rows es invoice row term p place.spot.context (fact-at row.path (λ (spot : Spot). context_for row spot.context ≡ spot.context) (contexts law rows es invoice row term p).own place a) (fact-at row.path (λ (spot : Spot). IsReachable row.outer row.inner spot.context) (reaches law rows es invoice row term p) place a)
+          fact-at row.path (λ (spot : Spot). spot.text ≡ own_text es spot.context row)
+          (own-texts es row (plan_of rows) row.path false root_context p.own) place a
+          ∙ text-as law rows es invoice row term p place.spot.context
+          (fact-at row.path (λ (spot : Spot). context_for row spot.context ≡ spot.context) (contexts law rows es invoice row term p).own place a)
+          (fact-at row.path (λ (spot : Spot). IsReachable row.outer row.inner spot.context) (reaches law rows es invoice row term p) place a)
 
       element-strings : (spot : Spot) (string : List ℕ) → Among string (spot-strings row.leaf spot) → (spot.text ≡ string) × (is_full spot.text ≡ true)
       element-strings spot string a = among-one spot.text is_full string (subst (λ leaf. Among string (spot-strings leaf spot)) p.leaf a)
 
       strings-element : (spot : Spot) → is_full spot.text ≡ true → Among spot.text (spot-strings row.leaf spot)
-      strings-element spot full = subst (λ leaf. Among spot.text (spot-strings leaf spot)) (sym p.leaf) (subst (λ b. Among spot.text (if b then spot.text ∷ [] else [])) (sym full) (inl refl))
+      strings-element spot full = subst (λ leaf. Among spot.text (spot-strings leaf spot)) (sym p.leaf)
+          (subst (λ b. Among spot.text (if b then spot.text ∷ [] else [])) (sym full) (inl refl))
 
-      says_so : (place : Place) → Among place (places_at rows es row.path) → (string : List ℕ) → Among string (spot-strings row.leaf place.spot) → SaysEntry row term place.spot.context string
+      says_so : (place : Place) → Among place (places_at rows es row.path) → (string : List ℕ) → Among string (spot-strings row.leaf place.spot) →
+          SaysEntry row term place.spot.context string
       says_so place a string b = go (is_written_by row term es place.spot.context) refl (text-at place a) (element-strings place.spot string b)
         where
           go : (x : Bool) → is_written_by row term es place.spot.context ≡ x
-              → place.spot.text ≡ (elim x [ true ↦ value_text law rows es invoice row term p place.spot.context (value_in es term place.spot.context) | false ↦ [] ])
+              → place.spot.text ≡ (elim x [
+                | true ↦ value_text law rows es invoice row term p place.spot.context (value_in es term place.spot.context)
+                | false ↦ []
+              ])
               → (place.spot.text ≡ string) × (is_full place.spot.text ≡ true) → SaysEntry row term place.spot.context string
           go true k text w =
               let v = written-some law rows es invoice row term p place.spot.context k in
@@ -280,20 +307,23 @@ module _ (law : Laws) (rows : List Row) (es : List Entry) (invoice : IsInvoice e
                 string_is = sym w.0 ∙ (text ∙ ap (value_text law rows es invoice row term p place.spot.context) v.1);
                 due = due-of row term p.content (values.by-value es row term p.by_value) place.spot.context place.spot.context v.0
                     (fact-at row.path (λ (spot : Spot). context_for row spot.context ≡ spot.context) (contexts law rows es invoice row term p).own place a) v.1
-                    (both-true (is_some (value_in es term place.spot.context)) (writes_entry row es place.spot.context) (both-true (is_in_groups row place.spot.context) _ k).1).1;
+                    (both-true (is_some (value_in es term place.spot.context)) (writes_entry row es place.spot.context)
+                    (both-true (is_in_groups row place.spot.context) _ k).1).1;
                 outer = at.0;
                 inner = at.1;
               }
           go false k text w = absurd (false≢true (sym (ap is_full text) ∙ w.1))
 
-      reaches_it : (e : Entry) → Among e es → e.term ≡ term → IsBack es (form_for row.form term) e.context e.value → is_written_by row term es e.context ≡ true → IsReached row term e
+      reaches_it : (e : Entry) → Among e es → e.term ≡ term → IsBack es (form_for row.form term) e.context e.value → is_written_by row term es e.context ≡ true
+          → IsReached row term e
       reaches_it e a t back w =
           let q = place-in row.path e.context (written-spot law rows es invoice row term p e.context w) in
           let value : value_in es term e.context ≡ Some e.value = ap (λ x. value_in es x e.context) (sym t) ∙ own-value es e invoice.listed a in
           let text : q.0.spot.text ≡ formed (form_for row.form term) es e.context e.value =
           text-at q.0 q.1.0
           ∙ (ap (λ c. elim (is_written_by row term es c) [ true ↦ value_text law rows es invoice row term p c (value_in es term c) | false ↦ [] ]) q.1.1
-          ∙ (ap (λ b. elim b [ true ↦ value_text law rows es invoice row term p e.context (value_in es term e.context) | false ↦ [] ]) w ∙ ap (value_text law rows es invoice row term p e.context) value)) in
+          ∙ (ap (λ b. elim b [ true ↦ value_text law rows es invoice row term p e.context (value_in es term e.context) | false ↦ [] ]) w ∙
+          ap (value_text law rows es invoice row term p e.context) value)) in
           let at = written-groups law rows es invoice row term p e.context w in
           record {
             place = q.0;
@@ -304,7 +334,8 @@ module _ (law : Laws) (rows : List Row) (es : List Entry) (invoice : IsInvoice e
             inner = at.1;
           }
 
-  pub plain-writes : (row : Row) (term : Term) (p : IsPlainThere rows row term) (placed : ArePlaced nodes es row.path (places_at rows es row.path)) (codes : HasCodes row term) (c : Context) → is_written_by row term es c ≡ true → (plain-covers row term p placed codes).writes c ≡ true
+  pub plain-writes : (row : Row) (term : Term) (p : IsPlainThere rows row term) (placed : ArePlaced nodes es row.path (places_at rows es row.path))
+      (codes : HasCodes row term) (c : Context) → is_written_by row term es c ≡ true → (plain-covers row term p placed codes).writes c ≡ true
   unfolding plain-covers
   plain-writes row term p placed codes c h = h
 
@@ -338,7 +369,8 @@ module _ (law : Laws) (rows : List Row) (es : List Entry) (invoice : IsInvoice e
   spread-unfilled : (row : Row) (term : Term) → IsSpreadHere row term → (d : Context) → values.IsUnfilled es row term (context_for row d)
   spread-unfilled row term p d = go row.written refl
     where
-      go : (rule : Written) → row.written ≡ rule → (filled_text rule es (context_for row d) ≡ None) ⊎ (is_some (value_for row es term (context_for row d)) ≡ true)
+      go : (rule : Written) → row.written ≡ rule → (filled_text rule es (context_for row d) ≡ None) ⊎
+          (is_some (value_for row es term (context_for row d)) ≡ true)
       go written.Always e = inl refl
       go written.Never e = inl refl
       go written.IfIban e = inl refl
@@ -383,7 +415,11 @@ module _ (law : Laws) (rows : List Row) (es : List Entry) (invoice : IsInvoice e
   spread-text row term p place a =
       fact-at row.path (λ (spot : Spot). spot.text ≡ own_text es spot.context row) (own-texts es row (plan_of rows) row.path false root_context p.own) place a
       ∙ (values.text-as es row term p.content (spread-unfilled row term p) place.spot.context
-      ∙ ap (λ c. elim (is_some (value_in es term c) && writes_entry row es place.spot.context) [ true ↦ values.value_text es row term p.content (spread-unfilled row term p) c (value_in es term c) | false ↦ [] ])
+      ∙ ap (λ c. elim (is_some (value_in es term c) && writes_entry row es place.spot.context) [
+        | true ↦ values.value_text es row term p.content
+            (spread-unfilled row term p) c (value_in es term c)
+        | false ↦ []
+      ])
       (cut-at-root row p.outer p.inner place.spot.context))
 
   -- an element at which it writes its value
@@ -395,14 +431,16 @@ module _ (law : Laws) (rows : List Row) (es : List Entry) (invoice : IsInvoice e
   spread-place : (row : Row) (term : Term) → IsSpreadHere row term → (c : Context) → writes_entry row es c ≡ true → IsWrittenAt row c
   spread-place row term p c w =
       let way = first-way row.path root_context in
-      let same : writes_entry row es way.0 ≡ writes_entry row es c = ap (λ x. is_some (row_text_in x)) (cut-at-root row p.outer p.inner way.0 ∙ sym (cut-at-root row p.outer p.inner c)) in
+      let same : writes_entry row es way.0 ≡ writes_entry row es c =
+      ap (λ x. is_some (row_text_in x)) (cut-at-root row p.outer p.inner way.0 ∙ sym (cut-at-root row p.outer p.inner c)) in
       let q = place-in row.path way.0 (there row.path p.own way.0 way.1 (same ∙ w)) in
       record { place = q.0; among = q.1.0; writes = ap (writes_entry row es) q.1.1 ∙ (same ∙ w) }
     where
       row_text_in : Context → Option (List ℕ)
       row_text_in x = elim row.content [ (contents.Term t) ↦ term_text row es t x | (contents.Constant text) ↦ None ]
 
-      there : (path : List Step) → rows_at is_at_element (plan_of rows) path ≡ row ∷ [] → (d : Context) → Leads es path root_context d → writes_entry row es d ≡ true → Among d (map (λ (spot : Spot). spot.context) (written_at rows es path))
+      there : (path : List Step) → rows_at is_at_element (plan_of rows) path ≡ row ∷ [] → (d : Context) → Leads es path root_context d →
+          writes_entry row es d ≡ true → Among d (map (λ (spot : Spot). spot.context) (written_at rows es path))
       there [] own d l k = absurd (nothing-at (plan_of rows) own)
         where
           nothing-at : (plan : Plan) → rows_at is_at_element plan [] ≡ row ∷ [] → ⊥
@@ -445,13 +483,20 @@ module _ (law : Laws) (rows : List Row) (es : List Entry) (invoice : IsInvoice e
       element-strings spot string a = among-one spot.text is_full string (subst (λ leaf. Among string (spot-strings leaf spot)) p.leaf a)
 
       strings-element : (spot : Spot) → is_full spot.text ≡ true → Among spot.text (spot-strings row.leaf spot)
-      strings-element spot full = subst (λ leaf. Among spot.text (spot-strings leaf spot)) (sym p.leaf) (subst (λ b. Among spot.text (if b then spot.text ∷ [] else [])) (sym full) (inl refl))
+      strings-element spot full = subst (λ leaf. Among spot.text (spot-strings leaf spot)) (sym p.leaf)
+          (subst (λ b. Among spot.text (if b then spot.text ∷ [] else [])) (sym full) (inl refl))
 
-      says_so : (place : Place) → Among place (places_at rows es row.path) → (string : List ℕ) → Among string (spot-strings row.leaf place.spot) → SaysEntry row term place.spot.context string
-      says_so place a string b = go (is_some (value_in es term root_context) && writes_entry row es place.spot.context) refl (spread-text row term p place a) (element-strings place.spot string b)
+      says_so : (place : Place) → Among place (places_at rows es row.path) → (string : List ℕ) → Among string (spot-strings row.leaf place.spot) →
+          SaysEntry row term place.spot.context string
+      says_so place a string b = go (is_some (value_in es term root_context) && writes_entry row es place.spot.context) refl (spread-text row term p place a)
+          (element-strings place.spot string b)
         where
           go : (x : Bool) → (is_some (value_in es term root_context) && writes_entry row es place.spot.context) ≡ x
-              → place.spot.text ≡ (elim x [ true ↦ values.value_text es row term p.content (spread-unfilled row term p) root_context (value_in es term root_context) | false ↦ [] ])
+              → place.spot.text ≡ (elim x [
+                | true ↦ values.value_text es row term p.content (spread-unfilled row term p) root_context
+                    (value_in es term root_context)
+                | false ↦ []
+              ])
               → (place.spot.text ≡ string) × (is_full place.spot.text ≡ true) → SaysEntry row term place.spot.context string
           go true k text w =
               let both = both-true (is_some (value_in es term root_context)) (writes_entry row es place.spot.context) k in
@@ -463,31 +508,40 @@ module _ (law : Laws) (rows : List Row) (es : List Entry) (invoice : IsInvoice e
                 term_is = refl;
                 there = λ g o. absurd (let z : ◌≡◌ {A = Option Group} None (Some g) = sym p.outer ∙ o in cc);
                 string_is = sym w.0 ∙ (text ∙ ap (values.value_text es row term p.content (spread-unfilled row term p) root_context) v.1);
-                due = due-of row term p.content (spread-unfilled row term p) place.spot.context root_context v.0 (cut-at-root row p.outer p.inner place.spot.context) v.1 both.1;
+                due = due-of row term p.content (spread-unfilled row term p) place.spot.context root_context v.0
+                    (cut-at-root row p.outer p.inner place.spot.context) v.1 both.1;
                 outer = sym p.outer;
                 inner = sym p.inner;
               }
           go false k text w = absurd (false≢true (sym (ap is_full text) ∙ w.1))
 
-      reaches_it : (e : Entry) → Among e es → e.term ≡ term → IsBack es (form_for row.form term) e.context e.value → is_written_by row term es e.context ≡ true → IsReached row term e
+      reaches_it : (e : Entry) → Among e es → e.term ≡ term → IsBack es (form_for row.form term) e.context e.value → is_written_by row term es e.context ≡ true
+          → IsReached row term e
       reaches_it e a t back w =
           let root : e.context ≡ root_context = root-entry term p.context e a t in
           let value : value_in es term root_context ≡ Some e.value = root-value e a root term t in
-          let q = spread-place row term p e.context (both-true (is_some (value_in es term e.context)) (writes_entry row es e.context) (both-true (is_in_groups row e.context) _ w).1).1 in
+          let q = spread-place row term p e.context (both-true (is_some (value_in es term e.context)) (writes_entry row es e.context)
+          (both-true (is_in_groups row e.context) _ w).1).1 in
           let text : q.place.spot.text ≡ formed (form_for row.form term) es e.context e.value =
           spread-text row term p q.place q.among
-          ∙ (ap (λ b. elim b [ true ↦ values.value_text es row term p.content (spread-unfilled row term p) root_context (value_in es term root_context) | false ↦ [] ]) (pair-of (ap is_some value) q.writes)
-          ∙ (ap (values.value_text es row term p.content (spread-unfilled row term p) root_context) value ∙ ap (λ c. formed (form_for row.form term) es c e.value) (sym root))) in
+          ∙ (ap (λ b. elim b [
+            | true ↦ values.value_text es row term p.content (spread-unfilled row term p) root_context (value_in es term root_context)
+            | false ↦ []
+          ]) (pair-of (ap is_some value) q.writes)
+          ∙ (ap (values.value_text es row term p.content (spread-unfilled row term p) root_context) value ∙
+          ap (λ c. formed (form_for row.form term) es c e.value) (sym root))) in
           record {
             place = q.place;
             among = q.among;
             there = λ g o. absurd (let z : ◌≡◌ {A = Option Group} None (Some g) = sym p.outer ∙ o in cc);
-            string = subst (λ s. Among s (spot-strings row.leaf q.place.spot)) text (strings-element q.place.spot (ap is_full text ∙ full-string row term e a t back));
+            string = subst (λ s. Among s (spot-strings row.leaf q.place.spot)) text
+                (strings-element q.place.spot (ap is_full text ∙ full-string row term e a t back));
             outer = ap (λ (c : Context). slot_group c.outer) root ∙ sym p.outer;
             inner = ap (λ (c : Context). slot_group c.inner) root ∙ sym p.inner;
           }
 
-  pub spread-writes : (row : Row) (term : Term) (p : IsSpreadHere row term) (c : Context) → is_written_by row term es c ≡ true → (spread-covers row term p).writes c ≡ true
+  pub spread-writes : (row : Row) (term : Term) (p : IsSpreadHere row term) (c : Context) → is_written_by row term es c ≡ true →
+      (spread-covers row term p).writes c ≡ true
   unfolding spread-covers
   spread-writes row term p c h = h
 
@@ -497,27 +551,32 @@ module _ (law : Laws) (rows : List Row) (es : List Entry) (invoice : IsInvoice e
   value_strings_of row term c o = elim o [ None ↦ [] | Some value ↦ formed (form_for row.form term) es c value ∷ [] ]
 
   -- an attribute that one row writes has one string
-  short-beside : (row : Row) (term : Term) (local : List ℕ) → row.leaf ≡ leaves.Attribute local → (place : Place) (c : Context) → values_named local place.spot.attributes ≡ value_strings_of row term c (value_in es term c)
+  short-beside : (row : Row) (term : Term) (local : List ℕ) → row.leaf ≡ leaves.Attribute local → (place : Place) (c : Context) →
+      values_named local place.spot.attributes ≡ value_strings_of row term c (value_in es term c)
       → is_short (spot-strings row.leaf place.spot) ≡ true
   unfolding spot-strings
   short-beside row term local leaf place c values_are =
       ap (λ l. is_short (spot-strings l place.spot)) leaf
-      ∙ (ap (λ l. is_short (elim (is_full place.spot.text) [ true ↦ filter is_full l | false ↦ [] ])) values_are ∙ go (is_full place.spot.text) (value_in es term c))
+      ∙ (ap (λ l. is_short (elim (is_full place.spot.text) [ true ↦ filter is_full l | false ↦ [] ])) values_are ∙
+      go (is_full place.spot.text) (value_in es term c))
     where
       go : (b : Bool) (o : Option Value) → is_short (elim b [ true ↦ filter is_full (value_strings_of row term c o) | false ↦ [] ]) ≡ true
       go true None = refl
       go true (Some v) = short-filter is_full (formed (form_for row.form term) es c v)
       go false o = refl
 
-  pub part-values : (row : Row) (term : Term) (main : Row) (main_term : Term) (p : IsPlainAttributeThere rows row term main main_term) (place : Place) → Among place (places_at rows es main.path)
+  pub part-values : (row : Row) (term : Term) (main : Row) (main_term : Term) (p : IsPlainAttributeThere rows row term main main_term) (place : Place) →
+      Among place (places_at rows es main.path)
       → values_named p.local place.spot.attributes ≡ value_strings_of row term place.spot.context (value_in es term place.spot.context)
   part-values row term main main_term p place a =
-      fact-at main.path (λ (spot : Spot). values_named p.local spot.attributes ≡ own_strings es spot.context row) (own-values p.local p.other es row (plan_of rows) main.path false root_context p.own) place a
+      fact-at main.path (λ (spot : Spot). values_named p.local spot.attributes ≡ own_strings es spot.context row)
+      (own-values p.local p.other es row (plan_of rows) main.path false root_context p.own) place a
       ∙ (strings-as law rows es invoice row term main main_term p place.spot.context
       ∙ ap (λ c. value_strings_of row term c (value_in es term c))
       (fact-at main.path (λ (spot : Spot). context_for main spot.context ≡ spot.context) (contexts law rows es invoice main main_term p.beside).own place a))
 
-  pub attribute-covers : (row : Row) (term : Term) (main : Row) (main_term : Term) → IsPlainAttributeThere rows row term main main_term → ArePlaced nodes es main.path (places_at rows es main.path) → Covers row term
+  pub attribute-covers : (row : Row) (term : Term) (main : Row) (main_term : Term) → IsPlainAttributeThere rows row term main main_term →
+      ArePlaced nodes es main.path (places_at rows es main.path) → Covers row term
   unfolding spot-strings
   attribute-covers row term main main_term p placed = record {
     front = [];
@@ -540,35 +599,43 @@ module _ (law : Laws) (rows : List Row) (es : List Entry) (invoice : IsInvoice e
       at-main place a = subst (λ q. Among place (places_at rows es q)) p.path a
 
       full-at : (place : Place) → Among place (places_at rows es row.path) → is_full place.spot.text ≡ is_written_by main main_term es place.spot.context
-      full-at place a = fact-at main.path (λ (spot : Spot). is_full spot.text ≡ is_written_by main main_term es spot.context) (full-texts law rows es invoice row term main main_term p) place (at-main place a)
+      full-at place a = fact-at main.path (λ (spot : Spot). is_full spot.text ≡ is_written_by main main_term es spot.context)
+          (full-texts law rows es invoice row term main main_term p) place (at-main place a)
 
-      values-at : (place : Place) → Among place (places_at rows es row.path) → values_named p.local place.spot.attributes ≡ value_strings_of row term place.spot.context (value_in es term place.spot.context)
+      values-at : (place : Place) → Among place (places_at rows es row.path) →
+          values_named p.local place.spot.attributes ≡ value_strings_of row term place.spot.context (value_in es term place.spot.context)
       values-at place a = part-values row term main main_term p place (at-main place a)
 
-      of-strings : (spot : Spot) (string : List ℕ) → Among string (spot-strings row.leaf spot) → (is_full spot.text ≡ true) × Among string (values_named p.local spot.attributes)
+      of-strings : (spot : Spot) (string : List ℕ) → Among string (spot-strings row.leaf spot) → (is_full spot.text ≡ true) ×
+          Among string (values_named p.local spot.attributes)
       of-strings spot string a = go (is_full spot.text) refl (subst (λ leaf. Among string (spot-strings leaf spot)) p.leaf a)
         where
-          go : (b : Bool) → is_full spot.text ≡ b → Among string (elim b [ true ↦ filter is_full (values_named p.local spot.attributes) | false ↦ [] ]) → (is_full spot.text ≡ true) × Among string (values_named p.local spot.attributes)
+          go : (b : Bool) → is_full spot.text ≡ b → Among string (elim b [ true ↦ filter is_full (values_named p.local spot.attributes) | false ↦ [] ]) →
+              (is_full spot.text ≡ true) × Among string (values_named p.local spot.attributes)
           go true e m = (e, (of-filter-any is_full string (values_named p.local spot.attributes) m).0)
           go false e m = absurd m
 
-      to-strings : (spot : Spot) (string : List ℕ) → is_full spot.text ≡ true → is_full string ≡ true → Among string (values_named p.local spot.attributes) → Among string (spot-strings row.leaf spot)
+      to-strings : (spot : Spot) (string : List ℕ) → is_full spot.text ≡ true → is_full string ≡ true → Among string (values_named p.local spot.attributes) →
+          Among string (spot-strings row.leaf spot)
       to-strings spot string full whole a =
           subst (λ leaf. Among string (spot-strings leaf spot)) (sym p.leaf)
-          (subst (λ b. Among string (elim b [ true ↦ filter is_full (values_named p.local spot.attributes) | false ↦ [] ])) (sym full) (among-filter is_full string (values_named p.local spot.attributes) whole a))
+          (subst (λ b. Among string (elim b [ true ↦ filter is_full (values_named p.local spot.attributes) | false ↦ [] ])) (sym full)
+          (among-filter is_full string (values_named p.local spot.attributes) whole a))
 
       main-groups : (c : Context) → is_written_by main main_term es c ≡ true → (slot_group c.outer ≡ row.outer) × (slot_group c.inner ≡ row.inner)
       main-groups c w =
           let at = written-groups law rows es invoice main main_term p.beside c w in
           (at.0 ∙ sym p.outer, at.1 ∙ sym p.inner)
 
-      says_so : (place : Place) → Among place (places_at rows es row.path) → (string : List ℕ) → Among string (spot-strings row.leaf place.spot) → SaysEntry row term place.spot.context string
+      says_so : (place : Place) → Among place (places_at rows es row.path) → (string : List ℕ) → Among string (spot-strings row.leaf place.spot) →
+          SaysEntry row term place.spot.context string
       says_so place a string b =
           let w = of-strings place.spot string b in
           let at = main-groups place.spot.context (sym (full-at place a) ∙ w.0) in
           go at (value_in es term place.spot.context) refl (subst (Among string) (values-at place a) w.1)
         where
-          go : (slot_group place.spot.context.outer ≡ row.outer) × (slot_group place.spot.context.inner ≡ row.inner) → (o : Option Value) → value_in es term place.spot.context ≡ o → Among string (value_strings_of row term place.spot.context o)
+          go : (slot_group place.spot.context.outer ≡ row.outer) × (slot_group place.spot.context.inner ≡ row.inner) → (o : Option Value) →
+              value_in es term place.spot.context ≡ o → Among string (value_strings_of row term place.spot.context o)
               → SaysEntry row term place.spot.context string
           go at None k m = absurd m
           go at (Some v) k (inl s) = record {
@@ -583,7 +650,8 @@ module _ (law : Laws) (rows : List Row) (es : List Entry) (invoice : IsInvoice e
           }
           go at (Some v) k (inr m) = absurd m
 
-      reaches_it : (e : Entry) → Among e es → e.term ≡ term → IsBack es (form_for row.form term) e.context e.value → is_written_by main main_term es e.context ≡ true → IsReached row term e
+      reaches_it : (e : Entry) → Among e es → e.term ≡ term → IsBack es (form_for row.form term) e.context e.value →
+          is_written_by main main_term es e.context ≡ true → IsReached row term e
       reaches_it e a t back w =
           let q = place-in main.path e.context (written-spot law rows es invoice main main_term p.beside e.context w) in
           let there : Among q.0 (places_at rows es row.path) = subst (λ x. Among q.0 (places_at rows es x)) (sym p.path) q.1.0 in
@@ -595,13 +663,15 @@ module _ (law : Laws) (rows : List Row) (es : List Entry) (invoice : IsInvoice e
             place = q.0;
             among = there;
             there = λ g o. sym q.1.1;
-            string = to-strings q.0.spot (formed (form_for row.form term) es e.context e.value) (full-at q.0 there ∙ (ap (λ c. is_written_by main main_term es c) q.1.1 ∙ w)) (full-string row term e a t back)
+            string = to-strings q.0.spot (formed (form_for row.form term) es e.context e.value)
+                (full-at q.0 there ∙ (ap (λ c. is_written_by main main_term es c) q.1.1 ∙ w)) (full-string row term e a t back)
                 (subst (Among (formed (form_for row.form term) es e.context e.value)) (sym values) (inl refl));
             outer = at.0;
             inner = at.1;
           }
 
-  pub attribute-writes : (row : Row) (term : Term) (main : Row) (main_term : Term) (p : IsPlainAttributeThere rows row term main main_term) (placed : ArePlaced nodes es main.path (places_at rows es main.path)) (c : Context)
+  pub attribute-writes : (row : Row) (term : Term) (main : Row) (main_term : Term) (p : IsPlainAttributeThere rows row term main main_term)
+      (placed : ArePlaced nodes es main.path (places_at rows es main.path)) (c : Context)
       → is_written_by main main_term es c ≡ true → (attribute-covers row term main main_term p placed).writes c ≡ true
   unfolding attribute-covers
   attribute-writes row term main main_term p placed c h = h
@@ -630,36 +700,50 @@ module _ (law : Laws) (rows : List Row) (es : List Entry) (invoice : IsInvoice e
       at-main : (place : Place) → Among place (places_at rows es row.path) → Among place (places_at rows es main.path)
       at-main place a = subst (λ q. Among place (places_at rows es q)) p.path a
 
-      values-at : (place : Place) → Among place (places_at rows es row.path) → values_named p.local place.spot.attributes ≡ value_strings_of row term root_context (value_in es term root_context)
+      values-at : (place : Place) → Among place (places_at rows es row.path) →
+          values_named p.local place.spot.attributes ≡ value_strings_of row term root_context (value_in es term root_context)
       values-at place a =
-          fact-at main.path (λ (spot : Spot). values_named p.local spot.attributes ≡ own_strings es spot.context row) (own-values p.local p.other es row (plan_of rows) main.path false root_context p.own) place (at-main place a)
-          ∙ (values.strings-as es row term p.content (values.by-value es row term (ap is_by_value p.written)) p.written (one-untyped (form_for row.form term) p.one_term) place.spot.context
+          fact-at main.path (λ (spot : Spot). values_named p.local spot.attributes ≡ own_strings es spot.context row)
+          (own-values p.local p.other es row (plan_of rows) main.path false root_context p.own) place (at-main place a)
+          ∙ (values.strings-as es row term p.content (values.by-value es row term (ap is_by_value p.written)) p.written
+          (one-untyped (form_for row.form term) p.one_term) place.spot.context
           ∙ ap (λ c. value_strings_of row term c (value_in es term c)) (cut-at-root row p.outer p.inner place.spot.context))
 
-      full-main : (place : Place) → Among place (places_at rows es row.path) → (v : Value) → value_in es main_term root_context ≡ Some v → writes_entry main es place.spot.context ≡ true → is_full place.spot.text ≡ true
+      full-main : (place : Place) → Among place (places_at rows es row.path) → (v : Value) → value_in es main_term root_context ≡ Some v →
+          writes_entry main es place.spot.context ≡ true → is_full place.spot.text ≡ true
       full-main place a v e w =
           let x : Entry = record { context = root_context; term = main_term; value = v } in
           ap is_full (spread-text main main_term (spread-here main main_term p.beside) place (at-main place a)
-          ∙ (ap (λ b. elim b [ true ↦ values.value_text es main main_term p.beside.content (values.by-value es main main_term p.beside.by_value) root_context (value_in es main_term root_context) | false ↦ [] ]) (pair-of (ap is_some e) w)
+          ∙ (ap (λ b. elim b [
+            | true ↦ values.value_text es main main_term p.beside.content (values.by-value es main main_term p.beside.by_value) root_context
+                (value_in es main_term root_context)
+            | false ↦ []
+          ]) (pair-of (ap is_some e) w)
           ∙ ap (values.value_text es main main_term p.beside.content (values.by-value es main main_term p.beside.by_value) root_context) e))
-          ∙ full-string main main_term x (at-value law es invoice main_term root_context v e) refl (whole-back es (form_for main.form main_term) root_context v p.main_form p.beside.form)
+          ∙ full-string main main_term x (at-value law es invoice main_term root_context v e) refl
+          (whole-back es (form_for main.form main_term) root_context v p.main_form p.beside.form)
 
       of-strings : (spot : Spot) (string : List ℕ) → Among string (spot-strings row.leaf spot) → Among string (values_named p.local spot.attributes)
       of-strings spot string a = go (is_full spot.text) (subst (λ leaf. Among string (spot-strings leaf spot)) p.leaf a)
         where
-          go : (b : Bool) → Among string (elim b [ true ↦ filter is_full (values_named p.local spot.attributes) | false ↦ [] ]) → Among string (values_named p.local spot.attributes)
+          go : (b : Bool) → Among string (elim b [ true ↦ filter is_full (values_named p.local spot.attributes) | false ↦ [] ]) →
+              Among string (values_named p.local spot.attributes)
           go true m = (of-filter-any is_full string (values_named p.local spot.attributes) m).0
           go false m = absurd m
 
-      to-strings : (spot : Spot) (string : List ℕ) → is_full spot.text ≡ true → is_full string ≡ true → Among string (values_named p.local spot.attributes) → Among string (spot-strings row.leaf spot)
+      to-strings : (spot : Spot) (string : List ℕ) → is_full spot.text ≡ true → is_full string ≡ true → Among string (values_named p.local spot.attributes) →
+          Among string (spot-strings row.leaf spot)
       to-strings spot string full whole a =
           subst (λ leaf. Among string (spot-strings leaf spot)) (sym p.leaf)
-          (subst (λ b. Among string (elim b [ true ↦ filter is_full (values_named p.local spot.attributes) | false ↦ [] ])) (sym full) (among-filter is_full string (values_named p.local spot.attributes) whole a))
+          (subst (λ b. Among string (elim b [ true ↦ filter is_full (values_named p.local spot.attributes) | false ↦ [] ])) (sym full)
+          (among-filter is_full string (values_named p.local spot.attributes) whole a))
 
-      says_so : (place : Place) → Among place (places_at rows es row.path) → (string : List ℕ) → Among string (spot-strings row.leaf place.spot) → SaysEntry row term place.spot.context string
+      says_so : (place : Place) → Among place (places_at rows es row.path) → (string : List ℕ) → Among string (spot-strings row.leaf place.spot) →
+          SaysEntry row term place.spot.context string
       says_so place a string b = go (value_in es term root_context) refl (subst (Among string) (values-at place a) (of-strings place.spot string b))
         where
-          go : (o : Option Value) → value_in es term root_context ≡ o → Among string (value_strings_of row term root_context o) → SaysEntry row term place.spot.context string
+          go : (o : Option Value) → value_in es term root_context ≡ o → Among string (value_strings_of row term root_context o) →
+              SaysEntry row term place.spot.context string
           go None k m = absurd m
           go (Some v) k (inl s) = record {
             e = record { context = root_context; term = term; value = v };
@@ -673,7 +757,8 @@ module _ (law : Laws) (rows : List Row) (es : List Entry) (invoice : IsInvoice e
           }
           go (Some v) k (inr m) = absurd m
 
-      reaches_it : (e : Entry) → Among e es → e.term ≡ term → IsBack es (form_for row.form term) e.context e.value → is_written_by main main_term es e.context ≡ true → IsReached row term e
+      reaches_it : (e : Entry) → Among e es → e.term ≡ term → IsBack es (form_for row.form term) e.context e.value →
+          is_written_by main main_term es e.context ≡ true → IsReached row term e
       reaches_it e a t back w =
           let both = both-true (is_some (value_in es main_term e.context)) (writes_entry main es e.context) (both-true (is_in_groups main e.context) _ w).1 in
           let v = some-value (value_in es main_term e.context) both.0 in
@@ -683,18 +768,21 @@ module _ (law : Laws) (rows : List Row) (es : List Entry) (invoice : IsInvoice e
           let q = spread-place main main_term (spread-here main main_term p.beside) e.context both.1 in
           let there : Among q.place (places_at rows es row.path) = subst (λ y. Among q.place (places_at rows es y)) (sym p.path) q.among in
           let values_are : values_named p.local q.place.spot.attributes ≡ formed (form_for row.form term) es e.context e.value ∷ [] =
-          values-at q.place there ∙ (ap (value_strings_of row term root_context) value ∙ ap (λ c. formed (form_for row.form term) es c e.value ∷ []) (sym root)) in
+          values-at q.place there ∙ (ap (value_strings_of row term root_context) value ∙ ap (λ c. formed (form_for row.form term) es c e.value ∷ []) (sym root))
+          in
           record {
             place = q.place;
             among = there;
             there = λ g o. absurd (let z : ◌≡◌ {A = Option Group} None (Some g) = sym p.outer ∙ o in cc);
-            string = to-strings q.place.spot (formed (form_for row.form term) es e.context e.value) (full-main q.place there v.0 (ap (value_in es main_term) (sym root) ∙ v.1) q.writes) (full-string row term e a t back)
+            string = to-strings q.place.spot (formed (form_for row.form term) es e.context e.value)
+                (full-main q.place there v.0 (ap (value_in es main_term) (sym root) ∙ v.1) q.writes) (full-string row term e a t back)
                 (subst (Among (formed (form_for row.form term) es e.context e.value)) (sym values_are) (inl refl));
             outer = ap (λ (c : Context). slot_group c.outer) root ∙ sym p.outer;
             inner = ap (λ (c : Context). slot_group c.inner) root ∙ sym p.inner;
           }
 
-  pub spread-attribute-writes : (row : Row) (term : Term) (main : Row) (main_term : Term) (p : IsSpreadAttribute rows row term main main_term) (c : Context) → is_written_by main main_term es c ≡ true
+  pub spread-attribute-writes : (row : Row) (term : Term) (main : Row) (main_term : Term) (p : IsSpreadAttribute rows row term main main_term) (c : Context) →
+      is_written_by main main_term es c ≡ true
       → (spread-attribute-covers row term main main_term p).writes c ≡ true
   unfolding spread-attribute-covers
   spread-attribute-writes row term main main_term p c h = h
@@ -724,26 +812,31 @@ module _ (law : Laws) (rows : List Row) (es : List Entry) (invoice : IsInvoice e
 
   -- a pick of a VAT total that isn't in the currency of its row, or one of a filler
   pub record IsNotTold (pick : Pick) : Type 0 where
-    pub out : ((c : Currencies) → AreOwn rows es c → is_in_its_currency nodes c pick ≡ false) ⊎ (is_filler nodes (all_picked nodes (rows_where has_any_term rows)) pick ≡ true)
+    pub out : ((c : Currencies) → AreOwn rows es c → is_in_its_currency nodes c pick ≡ false) ⊎
+        (is_filler nodes (all_picked nodes (rows_where has_any_term rows)) pick ≡ true)
     pub no_money : (has_term invoice_currency pick.row || has_term accounting_currency pick.row) ≡ false
     pub beside : (term : Term) → Among term (flat_map beside_filler rows) → has_term term pick.row ≡ false
 
-  pub strange-pick : (k : ℕ) (row : Row) (way : List ℕ) (place : Place) → IsAt nodes es place → (n : ℕ) → Among n (leaves_of nodes row.leaf (last_of place.way)) → IsStrange row place
+  pub strange-pick : (k : ℕ) (row : Row) (way : List ℕ) (place : Place) → IsAt nodes es place → (n : ℕ) → Among n (leaves_of nodes row.leaf (last_of place.way))
+      → IsStrange row place
       → IsNotTold (record { place = k; row = row; elements = way; node = n })
   strange-pick k row way place at n leaf s =
       let m = amount-of nodes es place at n (subst (λ l. Among n (leaves_of nodes l (last_of place.way))) s.leaf leaf) in
       record { out = inl (λ c own. ap (is_in c row.written) m.0 ∙ s.out c own m.1); no_money = s.no_money; beside = s.beside }
 
-  pub said-as : (row : Row) (term : Term) (e : Entry) → Among e es → e.term ≡ term → IsRead row.form term → IsBack es (form_for row.form term) e.context e.value → (string : List ℕ) → string ≡ formed (form_for row.form term) es e.context e.value
+  pub said-as : (row : Row) (term : Term) (e : Entry) → Among e es → e.term ≡ term → IsRead row.form term → IsBack es (form_for row.form term) e.context e.value
+      → (string : List ℕ) → string ≡ formed (form_for row.form term) es e.context e.value
       → said row.form term string ≡ record { term = term; value = Some e.value } ∷ code_said (form_for row.form term) es e.context
   said-as row term e a t read back string is =
-      ap (said row.form term) is ∙ (back-as law row.form term es e.context e.value back read (subst (λ x. Fits x e.value) t (fits-among law es invoice term e es invoice.fit a))).said
+      ap (said row.form term) is ∙ (back-as law row.form term es e.context e.value back read
+      (subst (λ x. Fits x e.value) t (fits-among law es invoice term e es invoice.fit a))).said
 
   pub strings-at : (row : Row) (place : Place) → IsAt nodes es place → ends_at nodes row.leaf (last_of place.way) ≡ spot-strings row.leaf place.spot
   strings-at row place at =
       string-ends nodes row.leaf at.above (last_of place.way) at.name place.spot.attributes place.spot.text at.more at.lies place.spot refl refl
 
-  pub of-picked : (k : ℕ) (row : Row) (term : Term) → Covers row term → IsRead row.form term → ((e : Entry) → Among e es → e.term ≡ term → IsBack es (form_for row.form term) e.context e.value) → (pick : Pick) → Among pick (nodes_picked nodes k row)
+  pub of-picked : (k : ℕ) (row : Row) (term : Term) → Covers row term → IsRead row.form term →
+      ((e : Entry) → Among e es → e.term ≡ term → IsBack es (form_for row.form term) e.context e.value) → (pick : Pick) → Among pick (nodes_picked nodes k row)
       → IsTold pick row term ⊎ IsNotTold pick
   unfolding ends_at
   of-picked k row term cover read good pick a =
@@ -752,7 +845,8 @@ module _ (law : Laws) (rows : List Row) (es : List Entry) (invoice : IsInvoice e
       let place : Place = v.0 in
       let at = each-among (IsAt nodes es) place (cover.front ++ (places_at rows es row.path ++ cover.back)) cover.placed.each v.1.0 in
       let u = of-map (λ n. record { place = k; row = row; elements = w.0; node = n }) pick (leaves_of nodes row.leaf (last_of w.0)) w.1.1 in
-      let leaf : Among u.0 (leaves_of nodes row.leaf (last_of place.way)) = subst (λ way. Among u.0 (leaves_of nodes row.leaf (last_of way))) (sym v.1.1) u.1.0 in
+      let leaf : Among u.0 (leaves_of nodes row.leaf (last_of place.way)) =
+      subst (λ way. Among u.0 (leaves_of nodes row.leaf (last_of way))) (sym v.1.1) u.1.0 in
       elim (among-split place cover.front (places_at rows es row.path ++ cover.back) v.1.0) [
         | inl f ↦ inr (subst IsNotTold u.1.1 (strange-pick k row w.0 place at u.0 leaf (cover.strange place (inl f))))
         | inr m ↦ elim (among-split place (places_at rows es row.path) cover.back m) [
@@ -761,7 +855,8 @@ module _ (law : Laws) (rows : List Row) (es : List Entry) (invoice : IsInvoice e
         ]
       ]
     where
-      told : (way : List ℕ) (n : ℕ) (place : Place) → IsAt nodes es place → Among place (places_at rows es row.path) → place.way ≡ way → Among n (leaves_of nodes row.leaf (last_of place.way))
+      told : (way : List ℕ) (n : ℕ) (place : Place) → IsAt nodes es place → Among place (places_at rows es row.path) → place.way ≡ way →
+          Among n (leaves_of nodes row.leaf (last_of place.way))
           → IsTold (record { place = k; row = row; elements = way; node = n }) row term
       told way n place at own way_is leaf =
           let string : Among (string_at nodes n) (spot-strings row.leaf place.spot) =
@@ -786,7 +881,8 @@ module _ (law : Laws) (rows : List Row) (es : List Entry) (invoice : IsInvoice e
             context = refl;
             string_is = said_it.string_is;
             due = said_it.due;
-            says = said-as row term said_it.e said_it.known said_it.term_is read (good said_it.e said_it.known said_it.term_is) (string_at nodes n) said_it.string_is;
+            says = said-as row term said_it.e said_it.known said_it.term_is read (good said_it.e said_it.known said_it.term_is)
+                (string_at nodes n) said_it.string_is;
             at = at;
             leaf = leaf;
           }
@@ -808,7 +904,8 @@ module _ (law : Laws) (rows : List Row) (es : List Entry) (invoice : IsInvoice e
   node-there : (path : List Step) (place : Place) → Among place (places_at rows es path) → Among (last_of place.way) (map number nodes)
   unfolding long
   node-there path place a =
-      let at = each-among (IsBetween es 1 (1 + size (written_lines es (plan_of rows) false root_context))) place (places_at rows es path) (between es (plan_of rows) path false root_context 1).each a in
+      let at = each-among (IsBetween es 1 (1 + size (written_lines es (plan_of rows) false root_context))) place (places_at rows es path)
+      (between es (plan_of rows) path false root_context 1).each a in
       let most = at.most in
       subst (Among (last_of place.way)) (sym numbers) (to-range 0 long (last_of place.way) (omega arith) (omega (arith, most)))
 
@@ -824,22 +921,30 @@ module _ (law : Laws) (rows : List Row) (es : List Entry) (invoice : IsInvoice e
       among-number w.0 n v.0
     where
       among-number : (x k : ℕ) → Among k (attributes_named nodes local x) → Among k (map number nodes)
-      among-number x k b = let w = of-map number k (filter (Rattle.bind_meaning.specs.Elements.both (Rattle.node_arena.specs.Moves.is_attribute_of x) (Rattle.bind_meaning.specs.Names.has_plain_name local)) nodes) b in
-          subst (λ y. Among y (map number nodes)) w.1.1 (among-map number w.0 nodes (of-filter-any (Rattle.bind_meaning.specs.Elements.both (Rattle.node_arena.specs.Moves.is_attribute_of x) (Rattle.bind_meaning.specs.Names.has_plain_name local)) w.0 nodes w.1.0).0)
+      among-number x k b = let w = of-map number k
+          (filter (Rattle.bind_meaning.specs.Elements.both (Rattle.node_arena.specs.Moves.is_attribute_of x)
+          (Rattle.bind_meaning.specs.Names.has_plain_name local)) nodes) b in
+          subst (λ y. Among y (map number nodes)) w.1.1
+          (among-map number w.0 nodes
+          (of-filter-any (Rattle.bind_meaning.specs.Elements.both (Rattle.node_arena.specs.Moves.is_attribute_of x)
+          (Rattle.bind_meaning.specs.Names.has_plain_name local)) w.0 nodes w.1.0).0)
 
-  pub to-picked : (k : ℕ) (row : Row) (term : Term) (cover : Covers row term) (e : Entry) → Among e es → e.term ≡ term → IsBack es (form_for row.form term) e.context e.value → cover.writes e.context ≡ true → Reached e row term k
+  pub to-picked : (k : ℕ) (row : Row) (term : Term) (cover : Covers row term) (e : Entry) → Among e es → e.term ≡ term →
+      IsBack es (form_for row.form term) e.context e.value → cover.writes e.context ≡ true → Reached e row term k
   unfolding ends_at
   to-picked k row term cover e a t back w =
       let r = cover.reaches e a t back w in
       let text : List ℕ = formed (form_for row.form term) es e.context e.value in
-      let there : Among r.place (cover.front ++ (places_at rows es row.path ++ cover.back)) = own-among cover.front (places_at rows es row.path) cover.back r.place r.among in
+      let there : Among r.place (cover.front ++ (places_at rows es row.path ++ cover.back)) =
+      own-among cover.front (places_at rows es row.path) cover.back r.place r.among in
       let at = each-among (IsAt nodes es) r.place (cover.front ++ (places_at rows es row.path ++ cover.back)) cover.placed.each there in
       let v = of-map (string_at nodes) text (leaves_of nodes row.leaf (last_of r.place.way)) (subst (Among text) (sym (strings-at row r.place at)) r.string) in
       let pick : Pick = record { place = k; row = row; elements = r.place.way; node = v.0 } in
       record {
         pick = pick;
         among = among-flat_map (picks_of_way nodes k row) r.place.way pick (ways nodes row.path 0)
-            (subst (Among r.place.way) (sym cover.placed.ways_are) (among-map (λ (q : Place). q.way) r.place (cover.front ++ (places_at rows es row.path ++ cover.back)) there))
+            (subst (Among r.place.way) (sym cover.placed.ways_are)
+            (among-map (λ (q : Place). q.way) r.place (cover.front ++ (places_at rows es row.path ++ cover.back)) there))
             (among-map (λ n. record { place = k; row = row; elements = r.place.way; node = n }) v.0 (leaves_of nodes row.leaf (last_of r.place.way)) v.1.0);
         row_is = refl;
         place = r.place;

@@ -1,6 +1,7 @@
 -- From what picks say to the entries: where each that is told is an entry of an invoice, and each entry is told, the entries
 -- that are read are those of the invoice.
-use Rattle.std.proofs.Common.{◌≡◌, ℕ, Bool, true, false, ◌&&◌, List, [], ◌∷◌, ◌++◌, flat_map, Option, Some, None, ◌⊎◌, inl, inr, refl, sym, ap, ◌∙◌, subst, arith}
+use Rattle.std.proofs.Common.{◌≡◌, ℕ, Bool, true, false, ◌&&◌, List, [], ◌∷◌, ◌++◌, flat_map, Option, Some, None, ◌⊎◌, inl, inr, refl, sym, ap, ◌∙◌, subst}
+use Rattle.std.proofs.Common.{arith}
 use Rattle.std.specs.Prelude.{◌==◌}
 use Rattle.std.specs.List.{list_all}
 use Rattle.std.proofs.lemmas.Bool.{false≢true}
@@ -49,7 +50,8 @@ abbrev Differs : Entry → Entry → Type 0
 Differs a b = a ≡ b → ⊥
 
 -- of two entries of an invoice one comes before the other
-one-before : (es : List Entry) → is_listed es ≡ true → (a b : Entry) → Among a es → Among b es → comes_before a b ≡ false → Differs a b → comes_before b a ≡ true
+one-before : (es : List Entry) → is_listed es ≡ true → (a b : Entry) → Among a es → Among b es → comes_before a b ≡ false → Differs a b →
+    comes_before b a ≡ true
 one-before [] h a b x y behind differ = absurd x
 one-before (e ∷ es) h a b x y behind differ = go (λ k m n. one-before es k a b m n behind differ) x y
   where
@@ -74,7 +76,8 @@ module _ (es : List Entry) (rises : is_listed es ≡ true) where
   put-members e x [] h = h
   put-members e x (o ∷ xs) h = go (comes_before e o) (put-members e x xs) h
     where
-      go : (b : Bool) → (Among x (put e xs) → (e ≡ x) ⊎ Among x xs) → Among x (elim b [ true ↦ e ∷ (o ∷ xs) | false ↦ o ∷ put e xs ]) → (e ≡ x) ⊎ ((o ≡ x) ⊎ Among x xs)
+      go : (b : Bool) → (Among x (put e xs) → (e ≡ x) ⊎ Among x xs) → Among x (elim b [ true ↦ e ∷ (o ∷ xs) | false ↦ o ∷ put e xs ]) →
+          (e ≡ x) ⊎ ((o ≡ x) ⊎ Among x xs)
       go true later k = k
       go false later (inl s) = inr (inl s)
       go false later (inr m) = elim (later m) [ inl s ↦ inl s | inr n ↦ inr (inr n) ]
@@ -83,7 +86,8 @@ module _ (es : List Entry) (rises : is_listed es ≡ true) where
   members-put e x [] h = h
   members-put e x (o ∷ xs) h = go (comes_before e o) (members-put e x xs) h
     where
-      go : (b : Bool) → ((e ≡ x) ⊎ Among x xs → Among x (put e xs)) → (e ≡ x) ⊎ ((o ≡ x) ⊎ Among x xs) → Among x (elim b [ true ↦ e ∷ (o ∷ xs) | false ↦ o ∷ put e xs ])
+      go : (b : Bool) → ((e ≡ x) ⊎ Among x xs → Among x (put e xs)) → (e ≡ x) ⊎ ((o ≡ x) ⊎ Among x xs) →
+          Among x (elim b [ true ↦ e ∷ (o ∷ xs) | false ↦ o ∷ put e xs ])
       go true later k = k
       go false later (inl s) = inr (later (inl s))
       go false later (inr (inl s)) = inl s
@@ -101,11 +105,14 @@ module _ (es : List Entry) (rises : is_listed es ≡ true) where
   pair : {a b : Bool} → a ≡ true → b ≡ true → (a && b) ≡ true
   pair e f = rw (e, f) refl
 
-  put-listed : (e : Entry) (xs : List Entry) → Among e es → ((x : Entry) → Among x xs → Among x es) → is_listed xs ≡ true → Each (Differs e) xs → is_listed (put e xs) ≡ true
+  put-listed : (e : Entry) (xs : List Entry) → Among e es → ((x : Entry) → Among x xs → Among x es) → is_listed xs ≡ true → Each (Differs e) xs →
+      is_listed (put e xs) ≡ true
   put-listed e [] a f h d = refl
-  put-listed e (o ∷ xs) a f h d = go (λ k. put-listed e xs a (λ x m. f x (inr m)) k d.1) (comes_before e o) refl (both-true (list_all (comes_before o) xs) (is_listed xs) h)
+  put-listed e (o ∷ xs) a f h d = go (λ k. put-listed e xs a (λ x m. f x (inr m)) k d.1) (comes_before e o) refl
+      (both-true (list_all (comes_before o) xs) (is_listed xs) h)
     where
-      go : (is_listed xs ≡ true → is_listed (put e xs) ≡ true) → (b : Bool) → comes_before e o ≡ b → (list_all (comes_before o) xs ≡ true) × (is_listed xs ≡ true) → is_listed (elim b [ true ↦ e ∷ (o ∷ xs) | false ↦ o ∷ put e xs ]) ≡ true
+      go : (is_listed xs ≡ true → is_listed (put e xs) ≡ true) → (b : Bool) → comes_before e o ≡ b → (list_all (comes_before o) xs ≡ true) ×
+          (is_listed xs ≡ true) → is_listed (elim b [ true ↦ e ∷ (o ∷ xs) | false ↦ o ∷ put e xs ]) ≡ true
       go later true k w = pair (pair k (all-of (comes_before e) xs (λ x m. before-more e o x k (of-all (comes_before o) xs x w.0 m)))) (pair w.0 w.1)
       go later false k w =
           pair
@@ -125,7 +132,8 @@ module _ (es : List Entry) (rises : is_listed es ≡ true) where
   sorted (e ∷ xs) f d =
       let w = sorted xs (λ x a. f x (inr a)) d.1 in
       record {
-        in_order = put-listed e (listed xs) (f e (inl refl)) (λ x a. f x (inr (w.down x a))) w.in_order (each-of (listed xs) (λ x a. each-among (Differs e) x xs d.0 (w.down x a)));
+        in_order = put-listed e (listed xs) (f e (inl refl)) (λ x a. f x (inr (w.down x a))) w.in_order
+            (each-of (listed xs) (λ x a. each-among (Differs e) x xs d.0 (w.down x a)));
         down = λ x a. elim (put-members e x (listed xs) a) [ inl s ↦ inl s | inr m ↦ inr (w.down x m) ];
         up = λ x a. members-put e x (listed xs) (elim a [ inl s ↦ inl s | inr m ↦ inr (w.up x m) ]);
       }
@@ -147,7 +155,8 @@ module _ (es : List Entry) (rises : is_listed es ≡ true) where
   same-term-itself t = grind (arith, nat_tests)
 
   seat-of-itself : (t : Told) → is_of_seat t t ≡ true
-  seat-of-itself t = ap (λ b. elim b [ true ↦ same_context (context_of t.placed) (context_of t.placed) | false ↦ false ]) (same-term-itself t.said.term) ∙ same-context-itself (context_of t.placed)
+  seat-of-itself t = ap (λ b. elim b [ true ↦ same_context (context_of t.placed) (context_of t.placed) | false ↦ false ]) (same-term-itself t.said.term) ∙
+      same-context-itself (context_of t.placed)
 
   pub record OneSeat (a b : Told) : Type 0 where
     pub term : a.said.term ≡ b.said.term
@@ -156,9 +165,11 @@ module _ (es : List Entry) (rises : is_listed es ≡ true) where
   pub one-seat : (a b : Told) → is_of_seat a b ≡ true → OneSeat a b
   one-seat a b h = go (same_term a.said.term b.said.term) refl h
     where
-      go : (x : Bool) → same_term a.said.term b.said.term ≡ x → (elim x [ true ↦ same_context (context_of a.placed) (context_of b.placed) | false ↦ false ]) ≡ true → OneSeat a b
+      go : (x : Bool) → same_term a.said.term b.said.term ≡ x →
+          (elim x [ true ↦ same_context (context_of a.placed) (context_of b.placed) | false ↦ false ]) ≡ true → OneSeat a b
       go true e k =
-          let w = both-true (same_slot (context_of a.placed).outer (context_of b.placed).outer) (same_slot (context_of a.placed).inner (context_of b.placed).inner) k in
+          let w = both-true (same_slot (context_of a.placed).outer (context_of b.placed).outer)
+          (same_slot (context_of a.placed).inner (context_of b.placed).inner) k in
           record {
             term = same_term_is a.said.term b.said.term e;
             context = λ i. record {
@@ -172,19 +183,23 @@ module _ (es : List Entry) (rises : is_listed es ≡ true) where
   first-among [] t u h = absurd (let z : ◌≡◌ {A = Option Told} None (Some u) = h in cc)
   first-among (a ∷ before) t u h = go (first-among before t u) (is_of_seat a t) refl h
     where
-      go : (first_before before t ≡ Some u → Among u before × (is_of_seat u t ≡ true)) → (b : Bool) → is_of_seat a t ≡ b → (elim b [ true ↦ Some a | false ↦ first_before before t ]) ≡ Some u → ((a ≡ u) ⊎ Among u before) × (is_of_seat u t ≡ true)
+      go : (first_before before t ≡ Some u → Among u before × (is_of_seat u t ≡ true)) → (b : Bool) → is_of_seat a t ≡ b →
+          (elim b [ true ↦ Some a | false ↦ first_before before t ]) ≡ Some u → ((a ≡ u) ⊎ Among u before) × (is_of_seat u t ≡ true)
       go later true e k = let s : a ≡ u = (let z : ◌≡◌ {A = Option Told} (Some a) (Some u) = k in cc) in (inl s, ap (λ x. is_of_seat x t) (sym s) ∙ e)
       go later false e k = let w = later k in (inr w.0, w.1)
 
   none-more : (before : List Told) (x t : Told) → first_before (before ++ (x ∷ [])) t ≡ None → (first_before before t ≡ None) × (is_of_seat x t ≡ false)
   none-more [] x t h = go (is_of_seat x t) refl h
     where
-      go : (b : Bool) → is_of_seat x t ≡ b → ◌≡◌ {A = Option Told} (elim b [ true ↦ Some x | false ↦ None ]) None → (◌≡◌ {A = Option Told} None None) × (is_of_seat x t ≡ false)
+      go : (b : Bool) → is_of_seat x t ≡ b → ◌≡◌ {A = Option Told} (elim b [ true ↦ Some x | false ↦ None ]) None → (◌≡◌ {A = Option Told} None None) ×
+          (is_of_seat x t ≡ false)
       go true e k = absurd (let z : ◌≡◌ {A = Option Told} (Some x) None = k in cc)
       go false e k = (refl, e)
   none-more (a ∷ before) x t h = go (none-more before x t) (is_of_seat a t) h
     where
-      go : (first_before (before ++ (x ∷ [])) t ≡ None → (first_before before t ≡ None) × (is_of_seat x t ≡ false)) → (b : Bool) → ◌≡◌ {A = Option Told} (elim b [ true ↦ Some a | false ↦ first_before (before ++ (x ∷ [])) t ]) None → (◌≡◌ {A = Option Told} (elim b [ true ↦ Some a | false ↦ first_before before t ]) None) × (is_of_seat x t ≡ false)
+      go : (first_before (before ++ (x ∷ [])) t ≡ None → (first_before before t ≡ None) × (is_of_seat x t ≡ false)) → (b : Bool) →
+          ◌≡◌ {A = Option Told} (elim b [ true ↦ Some a | false ↦ first_before (before ++ (x ∷ [])) t ]) None →
+          (◌≡◌ {A = Option Told} (elim b [ true ↦ Some a | false ↦ first_before before t ]) None) × (is_of_seat x t ≡ false)
       go later true k = absurd (let z : ◌≡◌ {A = Option Told} (Some a) None = k in cc)
       go later false k = later k
 
@@ -204,12 +219,21 @@ module _ (es : List Entry) (rises : is_listed es ≡ true) where
   firsts before [] = record { sub = λ t a. a; fresh = tt; apart = tt; covers = λ t a. absurd a }
   firsts before (x ∷ ts) = go (firsts (before ++ (x ∷ [])) ts) (firsts before ts) (first_before before x) refl
     where
-      go : AreFirsts (before ++ (x ∷ [])) ts (firsts_behind (before ++ (x ∷ [])) ts) → AreFirsts before ts (firsts_behind before ts) → (o : Option Told) → first_before before x ≡ o → AreFirsts before (x ∷ ts) (elim o [ None ↦ x ∷ firsts_behind (before ++ (x ∷ [])) ts | Some first ↦ firsts_behind before ts ])
+      go : AreFirsts (before ++ (x ∷ [])) ts (firsts_behind (before ++ (x ∷ [])) ts) → AreFirsts before ts (firsts_behind before ts) → (o : Option Told) →
+          first_before before x ≡ o → AreFirsts before (x ∷ ts)
+          (elim o [ None ↦ x ∷ firsts_behind (before ++ (x ∷ [])) ts | Some first ↦ firsts_behind before ts ])
       go w v None e =
           record {
             sub = λ t a. elim a [ inl s ↦ inl s | inr m ↦ inr (w.sub t m) ];
-            fresh = (e, each-weaker (Fresh (before ++ (x ∷ []))) (Fresh before) (firsts_behind (before ++ (x ∷ [])) ts) (λ t k. (none-more before x t k).0) w.fresh);
-            apart = (each-weaker (Fresh (before ++ (x ∷ []))) (Apart x) (firsts_behind (before ++ (x ∷ [])) ts) (λ t k. (none-more before x t k).1) w.fresh, w.apart);
+            fresh = (
+              e,
+              each-weaker (Fresh (before ++ (x ∷ []))) (Fresh before) (firsts_behind (before ++ (x ∷ [])) ts)
+                  (λ t k. (none-more before x t k).0) w.fresh,
+            );
+            apart = (
+              each-weaker (Fresh (before ++ (x ∷ []))) (Apart x) (firsts_behind (before ++ (x ∷ [])) ts) (λ t k. (none-more before x t k).1) w.fresh,
+              w.apart,
+            );
             covers = λ t a. elim a [
               | inl s ↦ (x, (inr (inl refl), subst (λ y. is_of_seat x y ≡ true) s (seat-of-itself x)))
               | inr m ↦ let y = w.covers t m in (
@@ -262,8 +286,10 @@ module _ (es : List Entry) (rises : is_listed es ≡ true) where
       go : (xs : List Entry) → is_listed xs ≡ true → Among a xs → Among b xs → a ≡ b
       go [] h m n = absurd m
       go (e ∷ xs) h (inl s) (inl u) = sym s ∙ u
-      go (e ∷ xs) h (inl s) (inr n) = absurd (itself e b (ap seat_of s ∙ seats) (of-all (comes_before e) xs b (both-true (list_all (comes_before e) xs) (is_listed xs) h).0 n))
-      go (e ∷ xs) h (inr m) (inl u) = absurd (itself e a (ap seat_of u ∙ sym seats) (of-all (comes_before e) xs a (both-true (list_all (comes_before e) xs) (is_listed xs) h).0 m))
+      go (e ∷ xs) h (inl s) (inr n) =
+          absurd (itself e b (ap seat_of s ∙ seats) (of-all (comes_before e) xs b (both-true (list_all (comes_before e) xs) (is_listed xs) h).0 n))
+      go (e ∷ xs) h (inr m) (inl u) =
+          absurd (itself e a (ap seat_of u ∙ sym seats) (of-all (comes_before e) xs a (both-true (list_all (comes_before e) xs) (is_listed xs) h).0 m))
       go (e ∷ xs) h (inr m) (inr n) = go xs (both-true (list_all (comes_before e) xs) (is_listed xs) h).1 m n
 
   abbrev Known : Told → Type 0
@@ -273,7 +299,10 @@ module _ (es : List Entry) (rises : is_listed es ≡ true) where
   differing [] f h = tt
   differing (t ∷ ts) f h =
       let w = f t (inl refl) in
-      subst (λ l. Rising Differs (l ++ flat_map entry_of ts)) (sym (entry-of t w.0 w.1.1)) (others w.0 w.1.1 ts (λ u a. f u (inr a)) h.0, differing ts (λ u a. f u (inr a)) h.1)
+      subst (λ l. Rising Differs (l ++ flat_map entry_of ts)) (sym (entry-of t w.0 w.1.1)) (
+        others w.0 w.1.1 ts (λ u a. f u (inr a)) h.0,
+        differing ts (λ u a. f u (inr a)) h.1,
+      )
     where
       seat-again : (e : Entry) → Tells t e → (u : Told) → Tells u e → is_of_seat t u ≡ true
       seat-again e k u l =
@@ -289,7 +318,8 @@ module _ (es : List Entry) (rises : is_listed es ≡ true) where
           subst (λ l. Each (Differs e) (l ++ flat_map entry_of us)) (sym (entry-of u w.0 w.1.1))
           ((λ same. false≢true (sym a.0 ∙ seat-again e k u (subst (Tells u) (sym same) w.1.1))), others e k us (λ v b. g v (inr b)) a.1)
 
-  pub entries-are : (ts : List Told) → ((t : Told) → Among t ts → (e : Entry) × (Among e es × Tells t e)) → ((e : Entry) → Among e es → (t : Told) × (Among t ts × Tells t e)) → entries ts ≡ es
+  pub entries-are : (ts : List Told) → ((t : Told) → Among t ts → (e : Entry) × (Among e es × Tells t e)) →
+      ((e : Entry) → Among e es → (t : Told) × (Among t ts × Tells t e)) → entries ts ≡ es
   entries-are ts f g =
       let w = firsts [] ts in
       let firsts_told : List Told = firsts_behind [] ts in
@@ -306,7 +336,8 @@ module _ (es : List Entry) (rises : is_listed es ≡ true) where
       let k = f u (w.sub u there) in
       let s = one-seat u v.0 c.1.1 in
       let same : k.0 ≡ x =
-      same-seat k.0 x k.1.0 a (sym (ap (λ (y : Said). y.term) k.1.1.said) ∙ (s.term ∙ ap (λ (y : Said). y.term) v.1.1.said)) (sym k.1.1.context ∙ (s.context ∙ v.1.1.context)) in
+      same-seat k.0 x k.1.0 a (sym (ap (λ (y : Said). y.term) k.1.1.said) ∙ (s.term ∙ ap (λ (y : Said). y.term) v.1.1.said))
+      (sym k.1.1.context ∙ (s.context ∙ v.1.1.context)) in
       among-flat_map entry_of u x firsts_told there (subst (Among x) (sym (entry-of u k.0 k.1.1)) (inl same)) in
       let d = sorted them down (differing firsts_told (λ t a. f t (w.sub t a)) w.apart) in
       same_members (listed them) es d.in_order rises (λ x. (

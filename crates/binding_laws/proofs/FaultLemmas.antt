@@ -8,7 +8,8 @@ use Rattle.inv_terms.specs.Listing.{is_listed}
 use Rattle.bind_meaning.specs.declared.fault.BindKind.TheVariants as kinds
 use Rattle.bind_meaning.specs.Currencies.{Currencies}
 use Rattle.bind_meaning.specs.Elements.{has_element_inside}
-use Rattle.bind_meaning.specs.Judging.{Told, is_of_seat, first_before, may_repeat, is_excess, is_bad, is_not_listed, is_foreign, disagree, is_disagreeing, first_cause, causes, place_at, found, fault_of, faults_behind}
+use Rattle.bind_meaning.specs.Judging.{Told, is_of_seat, first_before, may_repeat, is_excess, is_bad, is_not_listed, is_foreign, disagree, is_disagreeing}
+use Rattle.bind_meaning.specs.Judging.{first_cause, causes, place_at, found, fault_of, faults_behind}
 use Rattle.binding_laws.proofs.ContextLemmas.{Rising}
 use Rattle.binding_laws.proofs.ReachLemmas.{Among, among-split}
 use Rattle.binding_laws.proofs.CountLemmas.{each-among}
@@ -28,10 +29,27 @@ module _ (es : List Entry) (rises : is_listed es ≡ true) (nodes : List Node) (
     pub agrees : is_of_seat a b ≡ true → disagree a.said.value b.said.value ≡ false
 
   no-cause : (o : Option Told) (t : Told) → IsFine t → is_excess o t ≡ false → is_disagreeing o t ≡ false → fault_of nodes lists c o t ≡ []
-  no-cause o t f e d = ap (λ x. elim x [ None ↦ [] | Some kind ↦ found (place_at t.placed.pick kind) kind (names.Term t.said.term) t.placed.pick.node ∷ [] ]) none
+  no-cause o t f e d = ap (λ x. elim x [ None ↦ [] | Some kind ↦ found (place_at t.placed.pick kind) kind (names.Term t.said.term) t.placed.pick.node ∷ [] ])
+      none
     where
       none : first_cause (causes nodes lists c o t) ≡ None
-      none = λ i. first_cause (record { kind = kinds.Excess; holds = λ _. e i } ∷ (record { kind = kinds.ElementInValue; holds = λ _. f.inside i } ∷ (record { kind = kinds.BadValue; holds = λ _. f.good i } ∷ (record { kind = kinds.CodeNotListed; holds = λ _. f.listed i } ∷ (record { kind = kinds.CurrencyDiffers; holds = λ _. f.own i } ∷ (record { kind = kinds.Disagree; holds = λ _. d i } ∷ []))))))
+      none = λ i. first_cause (record {
+        kind = kinds.Excess;
+        holds =
+            λ _. e i;
+      } ∷ (record {
+        kind = kinds.ElementInValue;
+        holds =
+            λ _. f.inside i;
+      } ∷ (record {
+        kind = kinds.BadValue;
+        holds =
+            λ _. f.good i;
+      } ∷ (record {
+        kind = kinds.CodeNotListed;
+        holds =
+            λ _. f.listed i;
+      } ∷ (record { kind = kinds.CurrencyDiffers; holds = λ _. f.own i } ∷ (record { kind = kinds.Disagree; holds = λ _. d i } ∷ []))))))
 
   one-fine : (before : List Told) (t : Told) → IsFine t → ((u : Told) → Among u before → IsFair u t) → fault_of nodes lists c (first_before before t) t ≡ []
   one-fine before t f fair = go (first_before before t) refl
@@ -43,7 +61,8 @@ module _ (es : List Entry) (rises : is_listed es ≡ true) (nodes : List Node) (
           let k = fair u w.0 in
           no-cause (Some u) t f (ap not (k.repeats w.1)) (k.agrees w.1)
 
-  pub no-faults : (before ts : List Told) → ((t : Told) → Among t ts → IsFine t) → ((u t : Told) → Among u before → Among t ts → IsFair u t) → Rising IsFair ts → faults_behind nodes lists c before ts ≡ []
+  pub no-faults : (before ts : List Told) → ((t : Told) → Among t ts → IsFine t) → ((u t : Told) → Among u before → Among t ts → IsFair u t) → Rising IsFair ts
+      → faults_behind nodes lists c before ts ≡ []
   no-faults before [] f g h = refl
   no-faults before (t ∷ ts) f g h =
       ap (λ l. l ++ faults_behind nodes lists c (before ++ (t ∷ [])) ts) (one-fine before t (f t (inl refl)) (λ u a. g u t a (inl refl)))

@@ -1,5 +1,6 @@
 -- A filler is told from a value: the term beside it is written next to it, so what is picked of it is passed over.
-use Rattle.std.proofs.Common.{◌≡◌, ℕ, Bool, true, false, not, ◌&&◌, ◌||◌, List, [], ◌∷◌, map, filter, flat_map, Option, Some, None, inl, inr, All, refl, sym, ap, ◌∙◌, subst, arith}
+use Rattle.std.proofs.Common.{◌≡◌, ℕ, Bool, true, false, not, ◌&&◌, ◌||◌, List, [], ◌∷◌, map, filter, flat_map, Option, Some, None, inl, inr, All, refl, sym}
+use Rattle.std.proofs.Common.{ap, ◌∙◌, subst, arith}
 use Rattle.std.specs.Prelude.{if◌then◌else◌, is_some, is_none, length, ◌<◌}
 use Rattle.std.specs.List.{list_any}
 use Rattle.std.specs.Str.{bytes_eq}
@@ -27,7 +28,8 @@ use Rattle.bind_table.specs.Lines.{Plan, nothing, a_line, plan_of}
 use Rattle.bind_meaning.specs.Values.{letter_of, form_for}
 use Rattle.bind_meaning.specs.Elements.{is_full, string_at}
 use Rattle.bind_meaning.specs.Currencies.{invoice_currency, accounting_currency}
-use Rattle.bind_meaning.specs.Picks.{Pick, has_term, has_any_term, term_in, Numbered, numbered, rows_where, all_picked, around_last, last_of, leaves_of, picks_of_way, ways, nodes_picked}
+use Rattle.bind_meaning.specs.Picks.{Pick, has_term, has_any_term, term_in, Numbered, numbered, rows_where, all_picked, around_last, last_of, leaves_of}
+use Rattle.bind_meaning.specs.Picks.{picks_of_way, ways, nodes_picked}
 use Rattle.bind_meaning.specs.Writing.{context_for, formed, if_so, if_due, filled, term_text, row_text, writes_entry}
 use Rattle.bind_meaning.specs.Trees.{spots, is_emitted, holds_further, document_of}
 use Rattle.binding_laws.specs.Plain.{is_always, is_spread_in, IsSpread, is_written_by}
@@ -41,33 +43,41 @@ use Rattle.binding_laws.proofs.ValueLemmas.{text_by, or_nothing}
 use Rattle.binding_laws.proofs.ReachLemmas.{Among, among-flat_map, among-filter, among-map, any-among, own-texts, any-is, none-is}
 use Rattle.binding_laws.proofs.FormLemmas.{Laws, IsBack, model-is}
 use Rattle.binding_laws.proofs.TakenLemmas.{one-untyped, as-modelled, none-for-none}
-use Rattle.binding_laws.proofs.RowLemmas.{At, sized, past, long_of, begin_in, Place, spot_of, behind, last_places, places, places_at, IsAt, placed-at, ends_at, spot-strings}
+use Rattle.binding_laws.proofs.RowLemmas.{At, sized, past, long_of, begin_in, Place, spot_of, behind, last_places, places, places_at, IsAt, placed-at, ends_at}
+use Rattle.binding_laws.proofs.RowLemmas.{spot-strings}
 use Rattle.binding_laws.proofs.CountLemmas.{each-among}
 use Rattle.binding_laws.proofs.PlaceLemmas.{of-flat_map, of-map, own_places, of-own}
 use Rattle.binding_laws.proofs.PlacedLemmas.{IsFilled, rule-is, spread-by-test}
-use Rattle.binding_laws.proofs.CoverLemmas.{spread-here, spread-covers, spread-writes, among-one, cut-at-root, root-entry, root-value, strings-at, fact-at, IsNotTold, to-picked, row-at}
+use Rattle.binding_laws.proofs.CoverLemmas.{spread-here, spread-covers, spread-writes, among-one, cut-at-root, root-entry, root-value, strings-at, fact-at}
+use Rattle.binding_laws.proofs.CoverLemmas.{IsNotTold, to-picked, row-at}
 
 -- ---- paths that end in one element
 
 -- an element with something on the way to it
-pub a-way : (es : List Entry) (plan : Plan) (path : List Step) (held : Bool) (c : Context) (n : ℕ) (place : Place) → Among place (places es plan path held c n) → (m : ℕ) × ((ms : List ℕ) × (place.way ≡ m ∷ ms))
+pub a-way : (es : List Entry) (plan : Plan) (path : List Step) (held : Bool) (c : Context) (n : ℕ) (place : Place) → Among place (places es plan path held c n)
+    → (m : ℕ) × ((ms : List ℕ) × (place.way ≡ m ∷ ms))
 a-way es nothing path held c n place a = absurd a
 a-way es (a_line t cells inside rest) [] held c n place a = absurd a
-a-way es (a_line t cells inside rest) (s ∷ path) held c n place a = go (a-way es rest (s ∷ path) held c (past (long_of es t cells inside held) (emitted es t cells inside held c) n) place) (same_step s t) a
+a-way es (a_line t cells inside rest) (s ∷ path) held c n place a =
+    go (a-way es rest (s ∷ path) held c (past (long_of es t cells inside held) (emitted es t cells inside held c) n) place) (same_step s t) a
   where
     here : At → List Place
-    here x = map (behind x.number) (last_places path (spot_of es t cells x.context) (places es inside path (holds_further es cells inside held x.context) x.context (begin_in es t cells x)))
+    here x = map (behind x.number) (last_places path (spot_of es t cells x.context)
+        (places es inside path (holds_further es cells inside held x.context) x.context (begin_in es t cells x)))
 
-    go : (Among place (places es rest (s ∷ path) held c (past (long_of es t cells inside held) (emitted es t cells inside held c) n)) → (m : ℕ) × ((ms : List ℕ) × (place.way ≡ m ∷ ms))) → (b : Bool)
+    go : (Among place (places es rest (s ∷ path) held c (past (long_of es t cells inside held) (emitted es t cells inside held c) n)) → (m : ℕ) ×
+        ((ms : List ℕ) × (place.way ≡ m ∷ ms))) → (b : Bool)
         → Among place (elim b [
           | true ↦ flat_map (λ (x : At). map (behind x.number) (last_places path (spot_of es t cells x.context)
-              (places es inside path (holds_further es cells inside held x.context) x.context (begin_in es t cells x)))) (sized (long_of es t cells inside held) (emitted es t cells inside held c) n)
+              (places es inside path (holds_further es cells inside held x.context) x.context (begin_in es t cells x))))
+              (sized (long_of es t cells inside held) (emitted es t cells inside held c) n)
           | false ↦ places es rest (s ∷ path) held c (past (long_of es t cells inside held) (emitted es t cells inside held c) n)
         ])
         → (m : ℕ) × ((ms : List ℕ) × (place.way ≡ m ∷ ms))
     go later true m =
         let w = of-flat_map here place (sized (long_of es t cells inside held) (emitted es t cells inside held c) n) m in
-        let v = of-map (behind w.0.number) place (last_places path (spot_of es t cells w.0.context) (places es inside path (holds_further es cells inside held w.0.context) w.0.context (begin_in es t cells w.0))) w.1.1 in
+        let v = of-map (behind w.0.number) place (last_places path (spot_of es t cells w.0.context)
+        (places es inside path (holds_further es cells inside held w.0.context) w.0.context (begin_in es t cells w.0))) w.1.1 in
         (w.0.number, (v.0.way, ap (λ (q : Place). q.way) (sym v.1.1)))
     go later false m = later m
 
@@ -75,7 +85,8 @@ around-more : (m : ℕ) (way : List ℕ) → (k : ℕ) × ((ks : List ℕ) × (w
 around-more m way w = ap (λ l. around_last (m ∷ l)) w.1.1 ∙ ap (λ l. m ∷ around_last l) (sym w.1.1)
 
 -- at a path of one step, only its own element is on the way
-alone : (es : List Entry) (plan : Plan) (s : Step) (held : Bool) (c : Context) (n : ℕ) (place : Place) → Among place (places es plan (s ∷ []) held c n) → around_last place.way ≡ []
+alone : (es : List Entry) (plan : Plan) (s : Step) (held : Bool) (c : Context) (n : ℕ) (place : Place) → Among place (places es plan (s ∷ []) held c n) →
+    around_last place.way ≡ []
 alone es nothing s held c n place a = absurd a
 alone es (a_line t cells inside rest) s held c n place a = go (λ m b. alone es rest s held c m place b) (same_step s t) a
   where
@@ -110,37 +121,52 @@ pub beside-ways : (es : List Entry) (plan : Plan) (path other : List Step) (held
 beside-ways es nothing path other held c n p q h a b = absurd a
 beside-ways es (a_line t cells inside rest) [] other held c n p q h a b = absurd a
 beside-ways es (a_line t cells inside rest) (s ∷ path) [] held c n p q h a b = absurd b
-beside-ways es (a_line t cells inside rest) (s ∷ []) (v ∷ []) held c n p q h a b = alone es (a_line t cells inside rest) s held c n p a ∙ sym (alone es (a_line t cells inside rest) v held c n q b)
+beside-ways es (a_line t cells inside rest) (s ∷ []) (v ∷ []) held c n p q h a b = alone es (a_line t cells inside rest) s held c n p a ∙
+    sym (alone es (a_line t cells inside rest) v held c n q b)
 beside-ways es (a_line t cells inside rest) (s ∷ []) (v ∷ (w ∷ other)) held c n p q h a b = absurd (false≢true h)
 beside-ways es (a_line t cells inside rest) (s ∷ (u ∷ path)) (v ∷ []) held c n p q h a b = absurd (false≢true h)
 beside-ways es (a_line t cells inside rest) (s ∷ (u ∷ path)) (v ∷ (w ∷ other)) held c n p q h a b =
     let k = both-true (same_step s v) (is_none s.group && are_beside (u ∷ path) (w ∷ other)) h in
     let l = both-true (is_none s.group) (are_beside (u ∷ path) (w ∷ other)) k.1 in
     let same : s ≡ v = step-sound s v k.0 in
-    go (λ further d m x y i j. beside-ways es inside (u ∷ path) (w ∷ other) further d m x y l.1 i j) (λ m i j. beside-ways es rest (s ∷ (u ∷ path)) (v ∷ (w ∷ other)) held c m p q h i j) l.0 same (same_step s t) refl a
+    go (λ further d m x y i j. beside-ways es inside (u ∷ path) (w ∷ other) further d m x y l.1 i j)
+    (λ m i j. beside-ways es rest (s ∷ (u ∷ path)) (v ∷ (w ∷ other)) held c m p q h i j) l.0 same (same_step s t) refl a
     (subst (λ x. Among q (places es (a_line t cells inside rest) (x ∷ (w ∷ other)) held c n)) (sym same) b)
   where
     next : ℕ
     next = past (long_of es t cells inside held) (emitted es t cells inside held c) n
 
-    own : ((further : Bool) (d : Context) (m : ℕ) (x y : Place) → Among x (places es inside (u ∷ path) further d m) → Among y (places es inside (w ∷ other) further d m) → around_last x.way ≡ around_last y.way)
-        → is_none t.group ≡ true → Among p (own_places es t cells inside (u ∷ path) held c n) → Among q (own_places es t cells inside (w ∷ other) held c n) → around_last p.way ≡ around_last q.way
+    own : ((further : Bool) (d : Context) (m : ℕ) (x y : Place) → Among x (places es inside (u ∷ path) further d m) →
+        Among y (places es inside (w ∷ other) further d m) → around_last x.way ≡ around_last y.way)
+        → is_none t.group ≡ true → Among p (own_places es t cells inside (u ∷ path) held c n) → Among q (own_places es t cells inside (w ∷ other) held c n) →
+        around_last p.way ≡ around_last q.way
     own inner none i j =
         let k = of-own es t cells inside (u ∷ path) held c n p i in
         let l = of-own es t cells inside (w ∷ other) held c n q j in
         let same : k.x ≡ l.x = once es (long_of es t cells inside held) (is_emitted es t cells inside held) c n t.group none k.x l.x k.at l.at in
         let there : Among l.p (places es inside (w ∷ other) (holds_further es cells inside held k.x.context) k.x.context (begin_in es t cells k.x)) =
-        subst (λ (y : At). Among l.p (places es inside (w ∷ other) (holds_further es cells inside held y.context) y.context (begin_in es t cells y))) (sym same) l.within in
+        subst (λ (y : At). Among l.p (places es inside (w ∷ other) (holds_further es cells inside held y.context) y.context (begin_in es t cells y)))
+        (sym same) l.within in
         ap (λ (z : Place). around_last z.way) (sym k.is)
-        ∙ (around-more k.x.number k.p.way (a-way es inside (u ∷ path) (holds_further es cells inside held k.x.context) k.x.context (begin_in es t cells k.x) k.p k.within)
+        ∙ (around-more k.x.number k.p.way (a-way es inside (u ∷ path) (holds_further es cells inside held k.x.context) k.x.context
+        (begin_in es t cells k.x) k.p k.within)
         ∙ ((λ z. (same z).number ∷ inner (holds_further es cells inside held k.x.context) k.x.context (begin_in es t cells k.x) k.p l.p k.within there z)
-        ∙ (sym (around-more l.x.number l.p.way (a-way es inside (w ∷ other) (holds_further es cells inside held k.x.context) k.x.context (begin_in es t cells k.x) l.p there)) ∙ ap (λ (z : Place). around_last z.way) l.is)))
+        ∙ (sym (around-more l.x.number l.p.way (a-way es inside (w ∷ other) (holds_further es cells inside held k.x.context) k.x.context
+        (begin_in es t cells k.x) l.p there)) ∙ ap (λ (z : Place). around_last z.way) l.is)))
 
-    go : ((further : Bool) (d : Context) (m : ℕ) (x y : Place) → Among x (places es inside (u ∷ path) further d m) → Among y (places es inside (w ∷ other) further d m) → around_last x.way ≡ around_last y.way)
-        → ((m : ℕ) → Among p (places es rest (s ∷ (u ∷ path)) held c m) → Among q (places es rest (v ∷ (w ∷ other)) held c m) → around_last p.way ≡ around_last q.way)
+    go : ((further : Bool) (d : Context) (m : ℕ) (x y : Place) → Among x (places es inside (u ∷ path) further d m) →
+        Among y (places es inside (w ∷ other) further d m) → around_last x.way ≡ around_last y.way)
+        → ((m : ℕ) → Among p (places es rest (s ∷ (u ∷ path)) held c m) → Among q (places es rest (v ∷ (w ∷ other)) held c m) →
+        around_last p.way ≡ around_last q.way)
         → is_none s.group ≡ true → s ≡ v → (b : Bool) → same_step s t ≡ b
-        → Among p (elim b [ true ↦ own_places es t cells inside (u ∷ path) held c n | false ↦ places es rest (s ∷ (u ∷ path)) held c (past (long_of es t cells inside held) (emitted es t cells inside held c) n) ])
-        → Among q (elim b [ true ↦ own_places es t cells inside (w ∷ other) held c n | false ↦ places es rest (s ∷ (w ∷ other)) held c (past (long_of es t cells inside held) (emitted es t cells inside held c) n) ])
+        → Among p (elim b [
+          | true ↦ own_places es t cells inside (u ∷ path) held c n
+          | false ↦ places es rest (s ∷ (u ∷ path)) held c (past (long_of es t cells inside held) (emitted es t cells inside held c) n)
+        ])
+        → Among q (elim b [
+          | true ↦ own_places es t cells inside (w ∷ other) held c n
+          | false ↦ places es rest (s ∷ (w ∷ other)) held c (past (long_of es t cells inside held) (emitted es t cells inside held c) n)
+        ])
         → around_last p.way ≡ around_last q.way
     go inner later none same true e i j = own inner (ap (λ (z : Step). is_none z.group) (sym (step-sound s t e)) ∙ none) i j
     go inner later none same false e i j = later next i (subst (λ x. Among q (places es rest (x ∷ (w ∷ other)) held c next)) same j)
@@ -159,19 +185,24 @@ pub record IsToldFiller (rows : List Row) (row : Row) (term : Term) (filler : Fi
   pub no_money : (has_term invoice_currency row || has_term accounting_currency row) ≡ false
   pub free : list_any (λ t. has_term t row) (flat_map beside_filler rows) ≡ false
 
-pub told-by-test : (rows : List Row) (row : Row) (term : Term) (filler : Filler) → All (λ (r : Row). 0 < length r.path) rows → row.content ≡ contents.Term term → row.written ≡ written.OrFiller filler → is_joined (plan_of rows) rows row ≡ true
+pub told-by-test : (rows : List Row) (row : Row) (term : Term) (filler : Filler) → All (λ (r : Row). 0 < length r.path) rows → row.content ≡ contents.Term term
+    → row.written ≡ written.OrFiller filler → is_joined (plan_of rows) rows row ≡ true
     → IsToldFiller rows row term filler
 told-by-test rows row term filler long content rule h =
     let plan : Plan = plan_of rows in
     let says : is_told_filler (plan_of rows) rows row term filler ≡ true =
-    sym (ap (λ x. elim x [ (contents.Term t) ↦ elim row.written [ (written.OrFiller f) ↦ is_told_filler (plan_of rows) rows row t f | _ ↦ false ] | (contents.Constant text) ↦ false ]) content
+    sym (ap (λ x. elim x [
+      | (contents.Term t) ↦ elim row.written [ (written.OrFiller f) ↦ is_told_filler (plan_of rows) rows row t f | _ ↦ false ]
+      | (contents.Constant text) ↦ false
+    ]) content
     ∙ ap (λ x. elim x [ (written.OrFiller f) ↦ is_told_filler (plan_of rows) rows row term f | _ ↦ false ]) rule)
     ∙ h in
     let a = both-true (list_any (is_row_beside (plan_of rows) row filler) rows) _ says in
     let b = both-true (bytes_eq (trimmed filler.text) filler.text) _ a.1 in
     let d = both-true (is_model (form_for row.form term)) _ b.1 in
     let e = both-true (is_trimmed (letter_of term)) _ d.1 in
-    let f = both-true (not (has_term invoice_currency row || has_term accounting_currency row)) (not (list_any (λ t. has_term t row) (flat_map beside_filler rows))) e.1 in
+    let f = both-true (not (has_term invoice_currency row || has_term accounting_currency row))
+    (not (list_any (λ t. has_term t row) (flat_map beside_filler rows))) e.1 in
     let w = any-is (is_row_beside (plan_of rows) row filler) rows a.0 in
     let g = both-true (is_spread_in (plan_of rows) w.0 filler.beside) _ w.1.1 in
     let i = both-true (is_always w.0.written) (are_beside row.path w.0.path) g.1 in
@@ -207,31 +238,42 @@ module _ (law : Laws) (rows : List Row) (es : List Entry) (invoice : IsInvoice e
     own : Among place (places_at rows es other.path)
     way : pick.elements ≡ place.way
 
-  written-beside : (other : Row) (term : Term) (p : IsSpread rows other term) → other.written ≡ written.Always → (x : Entry) → Among x es → x.term ≡ term → is_written_by other term es x.context ≡ true
+  written-beside : (other : Row) (term : Term) (p : IsSpread rows other term) → other.written ≡ written.Always → (x : Entry) → Among x es → x.term ≡ term →
+      is_written_by other term es x.context ≡ true
   written-beside other term p always x a t =
       let root : x.context ≡ root_context = root-entry law rows es invoice term p.context x a t in
       let value : value_in es term root_context ≡ Some x.value = root-value law rows es invoice x a root term t in
       let writes : writes_entry other es root_context ≡ true =
-      ap (λ content. is_some (elim content [ (contents.Term u) ↦ term_text other es u (context_for other root_context) | (contents.Constant text) ↦ None ])) p.content
+      ap (λ content. is_some (elim content [ (contents.Term u) ↦ term_text other es u (context_for other root_context) | (contents.Constant text) ↦ None ]))
+      p.content
       ∙ (ap (λ c. is_some (term_text other es term c)) (cut-at-root law rows es invoice other p.outer p.inner root_context)
-      ∙ (ap (λ o. is_some (elim o [ None ↦ filled other.written es root_context | Some v ↦ if_due other.written es term root_context (formed (form_for other.form term) es root_context v) ]))
+      ∙ (ap (λ o. is_some (elim o [
+        | None ↦ filled other.written es root_context
+        | Some v ↦ if_due other.written es term root_context (formed (form_for other.form term) es root_context v)
+      ]))
       (as-modelled other es term root_context (one-untyped (form_for other.form term) p.form) ∙ value)
       ∙ ap (λ rule. is_some (if_due rule es term root_context (formed (form_for other.form term) es root_context x.value))) always)) in
       ap (is_written_by other term es) root
       ∙ (λ i. (same_groups None (p.outer i) && same_groups None (p.inner i)) && (is_some (value i) && writes i))
 
-  pick-beside : (row : Row) (term : Term) (filler : Filler) (t : IsToldFiller rows row term filler) (x : Entry) → Among x es → x.term ≡ filler.beside → IsBack es (form_for t.other.form filler.beside) x.context x.value
+  pick-beside : (row : Row) (term : Term) (filler : Filler) (t : IsToldFiller rows row term filler) (x : Entry) → Among x es → x.term ≡ filler.beside →
+      IsBack es (form_for t.other.form filler.beside) x.context x.value
       → (n : ℕ) × Among (record { place = n; row = t.other }) (numbered 1 rows) → IsBesidePick row t.other filler
   pick-beside row term filler t x a is back n =
       let cover = spread-covers law rows es invoice t.other filler.beside (spread-here law rows es invoice t.other filler.beside t.spread) in
       let r = to-picked law rows es invoice n.0 t.other filler.beside cover x a is back
-      (spread-writes law rows es invoice t.other filler.beside (spread-here law rows es invoice t.other filler.beside t.spread) x.context (written-beside t.other filler.beside t.spread t.always x a is)) in
-      let row_of : Among r.picked.place (places_at rows es t.other.path) = subst (λ (z : Row). Among r.picked.place (places_at rows es z.path)) r.row_is r.picked.among in
+      (spread-writes law rows es invoice t.other filler.beside (spread-here law rows es invoice t.other filler.beside t.spread) x.context
+      (written-beside t.other filler.beside t.spread t.always x a is)) in
+      let row_of : Among r.picked.place (places_at rows es t.other.path) =
+      subst (λ (z : Row). Among r.picked.place (places_at rows es z.path)) r.row_is r.picked.among in
       record {
         pick = r.pick;
-        among = among-flat_map (λ (z : Numbered). nodes_picked nodes z.place z.row) (record { place = n.0; row = t.other }) r.pick (rows_where has_any_term rows)
-            (among-filter (λ (z : Numbered). has_any_term z.row) (record { place = n.0; row = t.other }) (numbered 1 rows) (ap (λ content. is_some (term_in content)) t.spread.content) n.1) r.among;
-        has = ap (has_term filler.beside) r.row_is ∙ (ap (λ content. elim (term_in content) [ None ↦ false | Some u ↦ same_term u filler.beside ]) t.spread.content ∙ same-term-itself filler.beside);
+        among = among-flat_map (λ (z : Numbered). nodes_picked nodes z.place z.row) (record { place = n.0; row = t.other }) r.pick
+            (rows_where has_any_term rows)
+            (among-filter (λ (z : Numbered). has_any_term z.row) (record { place = n.0; row = t.other }) (numbered 1 rows)
+            (ap (λ content. is_some (term_in content)) t.spread.content) n.1) r.among;
+        has = ap (has_term filler.beside) r.row_is ∙
+            (ap (λ content. elim (term_in content) [ None ↦ false | Some u ↦ same_term u filler.beside ]) t.spread.content ∙ same-term-itself filler.beside);
         place = r.picked.place;
         own = row_of;
         way = r.picked.elements;
@@ -242,15 +284,20 @@ module _ (law : Laws) (rows : List Row) (es : List Entry) (invoice : IsInvoice e
 
   -- ---- what is picked where the value doesn't stand is the filler
 
-  filler-text : (row : Row) (term : Term) (filler : Filler) (p : IsFilled rows row term) → row.written ≡ written.OrFiller filler → value_in es term root_context ≡ None → (d : Context) → is_full (own_text es d row) ≡ true → own_text es d row ≡ filler.text
+  filler-text : (row : Row) (term : Term) (filler : Filler) (p : IsFilled rows row term) → row.written ≡ written.OrFiller filler →
+      value_in es term root_context ≡ None → (d : Context) → is_full (own_text es d row) ≡ true → own_text es d row ≡ filler.text
   filler-text row term filler p rule none d full = go (is_some (value_in es filler.beside root_context)) says
     where
       says : own_text es d row ≡ or_nothing (if_so (is_some (value_in es filler.beside root_context)) filler.text)
       says =
           ap (λ content. or_nothing (text_by (row_text row es d) content)) p.content
-          ∙ (ap (λ content. or_nothing (elim content [ (contents.Term u) ↦ term_text row es u (context_for row d) | (contents.Constant text) ↦ None ])) p.content
+          ∙ (ap (λ content. or_nothing (elim content [ (contents.Term u) ↦ term_text row es u (context_for row d) | (contents.Constant text) ↦ None ]))
+          p.content
           ∙ (ap (λ c. or_nothing (term_text row es term c)) (cut-at-root law rows es invoice row p.outer p.inner d)
-          ∙ (ap (λ o. or_nothing (elim o [ None ↦ filled row.written es root_context | Some v ↦ if_due row.written es term root_context (formed (form_for row.form term) es root_context v) ]))
+          ∙ (ap (λ o. or_nothing (elim o [
+            | None ↦ filled row.written es root_context
+            | Some v ↦ if_due row.written es term root_context (formed (form_for row.form term) es root_context v)
+          ]))
           (none-for-none row es term root_context none)
           ∙ ap (λ r. or_nothing (filled r es root_context)) rule)))
 
@@ -258,8 +305,10 @@ module _ (law : Laws) (rows : List Row) (es : List Entry) (invoice : IsInvoice e
       go true e = e
       go false e = absurd (false≢true (sym (ap is_full e) ∙ full))
 
-  pub fillers-not-told : (row : Row) (term : Term) (filler : Filler) (p : IsFilled rows row term) → row.written ≡ written.OrFiller filler → (t : IsToldFiller rows row term filler) (x : Entry) → Among x es → x.term ≡ filler.beside
-      → IsBack es (form_for t.other.form filler.beside) x.context x.value → (n : ℕ) × Among (record { place = n; row = t.other }) (numbered 1 rows) → value_in es term root_context ≡ None
+  pub fillers-not-told : (row : Row) (term : Term) (filler : Filler) (p : IsFilled rows row term) → row.written ≡ written.OrFiller filler →
+      (t : IsToldFiller rows row term filler) (x : Entry) → Among x es → x.term ≡ filler.beside
+      → IsBack es (form_for t.other.form filler.beside) x.context x.value → (n : ℕ) × Among (record { place = n; row = t.other }) (numbered 1 rows) →
+      value_in es term root_context ≡ None
       → (k : ℕ) (pick : Pick) → Among pick (nodes_picked nodes k row) → IsNotTold law rows es invoice pick
   unfolding ends_at spot-strings
   fillers-not-told row term filler p rule t x x_known x_is back n none k pick a =
@@ -269,30 +318,39 @@ module _ (law : Laws) (rows : List Row) (es : List Entry) (invoice : IsInvoice e
       let place : Place = v.0 in
       let at = each-among (IsAt nodes es) place (places_at rows es row.path) placed.each v.1.0 in
       let u = of-map (λ m. record { place = k; row = row; elements = w.0; node = m }) pick (leaves_of nodes row.leaf (last_of w.0)) w.1.1 in
-      let leaf : Among u.0 (leaves_of nodes row.leaf (last_of place.way)) = subst (λ way. Among u.0 (leaves_of nodes row.leaf (last_of way))) (sym v.1.1) u.1.0 in
+      let leaf : Among u.0 (leaves_of nodes row.leaf (last_of place.way)) =
+      subst (λ way. Among u.0 (leaves_of nodes row.leaf (last_of way))) (sym v.1.1) u.1.0 in
       let string : Among (string_at nodes u.0) (spot-strings row.leaf place.spot) =
-      subst (Among (string_at nodes u.0)) (strings-at law rows es invoice row place at) (among-map (string_at nodes) u.0 (leaves_of nodes row.leaf (last_of place.way)) leaf) in
+      subst (Among (string_at nodes u.0)) (strings-at law rows es invoice row place at)
+      (among-map (string_at nodes) u.0 (leaves_of nodes row.leaf (last_of place.way)) leaf) in
       let one = among-one place.spot.text is_full (string_at nodes u.0) (subst (λ l. Among (string_at nodes u.0) (spot-strings l place.spot)) p.leaf string) in
       let text : place.spot.text ≡ own_text es place.spot.context row =
-      fact-at law rows es invoice row.path (λ (spot : Spot). spot.text ≡ own_text es spot.context row) (own-texts es row (plan_of rows) row.path false root_context p.own) place v.1.0 in
-      let is : string_at nodes u.0 ≡ filler.text = sym one.0 ∙ (text ∙ filler-text row term filler p rule none place.spot.context (ap is_full (sym text) ∙ one.1)) in
+      fact-at law rows es invoice row.path (λ (spot : Spot). spot.text ≡ own_text es spot.context row)
+      (own-texts es row (plan_of rows) row.path false root_context p.own) place v.1.0 in
+      let is : string_at nodes u.0 ≡ filler.text = sym one.0 ∙
+      (text ∙ filler-text row term filler p rule none place.spot.context (ap is_full (sym text) ∙ one.1)) in
       let b = pick-beside row term filler t x x_known x_is back n in
       let around : around_last b.pick.elements ≡ around_last w.0 =
-      ap around_last b.way ∙ (sym (beside-ways es (plan_of rows) row.path t.other.path false root_context 1 place b.place t.beside v.1.0 b.own) ∙ ap around_last v.1.1) in
-      let stands : list_any (λ (z : Pick). has_term filler.beside z.row && bytes_eq (around_last z.elements) (around_last w.0)) (all_picked nodes (rows_where has_any_term rows)) ≡ true =
-      any-among (λ (z : Pick). has_term filler.beside z.row && bytes_eq (around_last z.elements) (around_last w.0)) b.pick (all_picked nodes (rows_where has_any_term rows))
+      ap around_last b.way ∙ (sym (beside-ways es (plan_of rows) row.path t.other.path false root_context 1 place b.place t.beside v.1.0 b.own) ∙
+      ap around_last v.1.1) in
+      let stands : list_any (λ (z : Pick). has_term filler.beside z.row && bytes_eq (around_last z.elements) (around_last w.0))
+      (all_picked nodes (rows_where has_any_term rows)) ≡ true =
+      any-among (λ (z : Pick). has_term filler.beside z.row && bytes_eq (around_last z.elements) (around_last w.0)) b.pick
+      (all_picked nodes (rows_where has_any_term rows))
       ((λ i. b.has i && bytes_eq (around i) (around_last w.0)) ∙ (bytes_eq-Decides (around_last w.0) (around_last w.0)).1 refl) b.among in
       subst (IsNotTold law rows es invoice) u.1.1
       (record {
         out = inr (ap (λ r. elim r [
           | (written.OrFiller f) ↦ elim (bytes_eq (trimmed (string_at nodes u.0)) f.text) [
-            | true ↦ list_any (λ (z : Pick). has_term f.beside z.row && bytes_eq (around_last z.elements) (around_last w.0)) (all_picked nodes (rows_where has_any_term rows))
+            | true ↦ list_any (λ (z : Pick). has_term f.beside z.row && bytes_eq (around_last z.elements) (around_last w.0))
+                (all_picked nodes (rows_where has_any_term rows))
             | false ↦ false
           ]
           | _ ↦ false
         ]) rule
             ∙ (ap (λ y. elim y [
-              | true ↦ list_any (λ (z : Pick). has_term filler.beside z.row && bytes_eq (around_last z.elements) (around_last w.0)) (all_picked nodes (rows_where has_any_term rows))
+              | true ↦ list_any (λ (z : Pick). has_term filler.beside z.row && bytes_eq (around_last z.elements) (around_last w.0))
+                  (all_picked nodes (rows_where has_any_term rows))
               | false ↦ false
             ]) (ap (λ s. bytes_eq (trimmed s) filler.text) is ∙ t.text) ∙ stands));
         no_money = t.no_money;

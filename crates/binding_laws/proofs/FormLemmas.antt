@@ -1,5 +1,6 @@
 -- What is written in a form is read by it: values as the model spells them, and days without dashes.
-use Rattle.std.proofs.Common.{◌≡◌, ℕ, ◌+◌, ◌/◌, ◌%◌, ◌^◌, ◌<◌, zero, suc, Bool, true, false, not, ◌&&◌, List, [], ◌∷◌, ◌++◌, ◌||◌, ◌⊎◌, inl, inr, Option, Some, None, refl, sym, ap, ◌∙◌, subst, arith}
+use Rattle.std.proofs.Common.{◌≡◌, ℕ, ◌+◌, ◌/◌, ◌%◌, ◌^◌, ◌<◌, zero, suc, Bool, true, false, not, ◌&&◌, List, [], ◌∷◌, ◌++◌, ◌||◌, ◌⊎◌, inl, inr, Option, Some}
+use Rattle.std.proofs.Common.{None, refl, sym, ap, ◌∙◌, subst, arith}
 use Rattle.std.specs.Str.{bytes_eq}
 use Rattle.std.proofs.lemmas.Slice.Eq.{bytes_eq-Decides}
 use Rattle.std.specs.Prelude.{codes, ◌==◌, nat_le, if◌then◌else◌, option_map, option_and_then}
@@ -119,7 +120,8 @@ plain-chars (c ∷ text) h = let k = both (is_plain c) _ h in rw (plain-char c k
 plain-ends : (text : List ℕ) → list_all is_plain text ≡ true → HasEnds text
 plain-ends text h = record {
   first = λ c rest e. plain-black c (both (is_plain c) _ (ap (list_all is_plain) (sym e) ∙ h)).0;
-  last = λ init l e. plain-black l (both (is_plain l) true (both (list_all is_plain init) _ (sym (list_all-append is_plain init (l ∷ [])) ∙ (ap (list_all is_plain) (sym e) ∙ h))).1).0;
+  last = λ init l e. plain-black l (both (is_plain l) true
+      (both (list_all is_plain init) _ (sym (list_all-append is_plain init (l ∷ [])) ∙ (ap (list_all is_plain) (sym e) ∙ h))).1).0;
 }
 
 all-pair : (p : ℕ → Bool) (a b : List ℕ) → list_all p a ≡ true → list_all p b ≡ true → list_all p (a ++ b) ≡ true
@@ -138,7 +140,8 @@ last_digits-plain (suc k) n =
 day-plain : (d : CivilDay) → list_all is_plain (plain_day_text d) ≡ true
 unfolding plain_day_text
 day-plain d =
-    all-pair is_plain (last_digits 4 d.year) _ (last_digits-plain 4 d.year) (all-pair is_plain (last_digits 2 d.month) _ (last_digits-plain 2 d.month) (last_digits-plain 2 d.day))
+    all-pair is_plain (last_digits 4 d.year) _ (last_digits-plain 4 d.year)
+    (all-pair is_plain (last_digits 2 d.month) _ (last_digits-plain 2 d.month) (last_digits-plain 2 d.day))
 
 append-nil : (xs : List ℕ) → xs ++ [] ≡ xs
 append-nil [] = refl
@@ -153,7 +156,8 @@ dated b text = elim b [ true ↦ option_map values.Date (read_plain_day (trimmed
 day-read : ReadsDays → (d : CivilDay) → IsDay d → meaning.plain_date (plain_day_text d) ≡ Some (values.Date d)
 day-read back d is =
     let plain = day-plain d in
-    ap (λ b. dated b (plain_day_text d)) (plain-chars _ plain) ∙ ap (option_map values.Date) (ap read_plain_day (trimmed-kept _ (plain-ends _ plain)) ∙ back d is)
+    ap (λ b. dated b (plain_day_text d)) (plain-chars _ plain) ∙
+    ap (option_map values.Date) (ap read_plain_day (trimmed-kept _ (plain-ends _ plain)) ∙ back d is)
 
 -- ---- values of a type
 
@@ -182,7 +186,8 @@ own-letter : (letter : Letter) (text : List ℕ) (value : Value) → value_of le
 unfolding value_of
 own-letter letter text value h = by letter (some-if (list_all is_char text) (value_by letter text) value h)
   where
-    made : {X : Type 0} (make : X → Value) (l : Letter) → ((x : X) → own_letter (make x) ≡ l) → (o : Option X) → option_map make o ≡ Some value → own_letter value ≡ l
+    made : {X : Type 0} (make : X → Value) (l : Letter) → ((x : X) → own_letter (make x) ≡ l) → (o : Option X) → option_map make o ≡ Some value →
+        own_letter value ≡ l
     made make l is None k = absurd (let z : ◌≡◌ {A = Option Value} None (Some value) = k in cc)
     made make l is (Some x) k = ap own_letter (sym (same_Some _ _ k)) ∙ is x
 
@@ -263,10 +268,12 @@ letter-of letters.B (values.Date day) h = absurd (false≢true h)
 letter-of letters.B (values.Base64 text) h = refl
 
 -- a value that fits a term of days is a day
-day-value : AreDays → (letter : Letter) (text : List ℕ) (value : Value) → letter ≡ letters.D → value_of letter text ≡ Some value → (d : CivilDay) × (IsDay d) × (values.Date d ≡ value)
+day-value : AreDays → (letter : Letter) (text : List ℕ) (value : Value) → letter ≡ letters.D → value_of letter text ≡ Some value → (d : CivilDay) × (IsDay d) ×
+    (values.Date d ≡ value)
 unfolding value_of
 day-value are letter text value e h =
-    let read : (if list_all is_char text then value_by letters.D text else None) ≡ Some value = ap (λ l. if list_all is_char text then value_by l text else None) (sym e) ∙ h in
+    let read : (if list_all is_char text then value_by letters.D text else None) ≡ Some value =
+    ap (λ l. if list_all is_char text then value_by l text else None) (sym e) ∙ h in
     let w = taken (read_dashed_day (trimmed text)) value (some-if (list_all is_char text) (value_by letters.D text) value read) in
     (w.0, are (trimmed text) w.0 w.1, w.2)
 
@@ -282,7 +289,8 @@ day-type (Some letters.P) h = absurd (false≢true h)
 day-type (Some letters.B) h = absurd (false≢true h)
 
 -- a row of a form for days has a term of days
-form-day : (form : Form) (term : Term) (b : Bool) → suits form term ≡ b → (elim b [ true ↦ form | false ↦ forms.Model ]) ≡ forms.PlainDate → is_day (letter_of term) ≡ true
+form-day : (form : Form) (term : Term) (b : Bool) → suits form term ≡ b → (elim b [ true ↦ form | false ↦ forms.Model ]) ≡ forms.PlainDate →
+    is_day (letter_of term) ≡ true
 form-day forms.PlainDate term true s e = s
 form-day forms.PlainDate term false s e = absurd (let k : forms.Model ≡ forms.PlainDate = e in cc)
 form-day forms.Model term true s e = absurd (let k : forms.Model ≡ forms.PlainDate = e in cc)
@@ -305,14 +313,18 @@ code_said forms.PlainDate es c = []
 code_said forms.DueDateTypeCode es c = []
 code_said (forms.Typed letter) es c = []
 code_said forms.TypedPlainDate es c = []
-code_said forms.CodedNote es c = elim (value_in es meaning.subject_code c) [ None ↦ [] | Some code ↦ record { term = meaning.subject_code; value = Some code } ∷ [] ]
+code_said forms.CodedNote es c = elim (value_in es meaning.subject_code c) [
+  | None ↦ []
+  | Some code ↦ record { term = meaning.subject_code; value = Some code } ∷ []
+]
 
 -- what is written of a value says that value, and isn't blank
 pub record ReadsAs (form : Form) (term : Term) (es : List Entry) (c : Context) (value : Value) : Type 0 where
   pub said : said_in form term (formed form es c value) ≡ record { term = term; value = Some value } ∷ code_said form es c
   pub full : is_full (formed form es c value) ≡ true
 
-not-blank : (text : List ℕ) (f : List ℕ → Option Value) (value : Value) → ((text : List ℕ) → is_blank text ≡ true → f text ≡ None) → f text ≡ Some value → is_full text ≡ true
+not-blank : (text : List ℕ) (f : List ℕ → Option Value) (value : Value) → ((text : List ℕ) → is_blank text ≡ true → f text ≡ None) → f text ≡ Some value →
+    is_full text ≡ true
 not-blank text f value none some = go (is_blank text) refl
   where
     go : (b : Bool) → is_blank text ≡ b → not b ≡ true
@@ -324,11 +336,13 @@ full-model : ReadsBack → (term : Term) (value : Value) → Fits term value →
 full-model law term value f = not-blank (spelled value) (value_of f.letter) value (blank-none f.letter) (law f.letter f.text value f.read)
 
 -- One of a term of the semantic model is read by the term's type.
-as-model : ReadsBack → (term : Term) (es : List Entry) (c : Context) (value : Value) → is_extension term ≡ false → Fits term value → ReadsAs forms.Model term es c value
+as-model : ReadsBack → (term : Term) (es : List Entry) (c : Context) (value : Value) → is_extension term ≡ false → Fits term value →
+    ReadsAs forms.Model term es c value
 as-model law term es c value own f =
     let back : value_of f.letter (spelled value) ≡ Some value = law f.letter f.text value f.read in
     record {
-      said = ap (λ v. record { term = term; value = v } ∷ []) (ap (λ x. option_and_then (λ letter. value_of letter (spelled value)) x) (modelled-type term f.letter f.typed own) ∙ back);
+      said = ap (λ v. record { term = term; value = v } ∷ [])
+          (ap (λ x. option_and_then (λ letter. value_of letter (spelled value)) x) (modelled-type term f.letter f.typed own) ∙ back);
       full = full-model law term value f;
     }
 
@@ -380,7 +394,8 @@ day-back laws term value f letter =
     let w = day-value laws.are_days f.letter f.text value letter f.read in
     ap (λ v. meaning.plain_date (writing.plain_date v)) (sym w.2) ∙ (day-read laws.days w.0 w.1 ∙ ap Some w.2)
 
-as-day : Laws → (term : Term) (es : List Entry) (c : Context) (value : Value) → is_day (letter_of term) ≡ true → Fits term value → ReadsAs forms.PlainDate term es c value
+as-day : Laws → (term : Term) (es : List Entry) (c : Context) (value : Value) → is_day (letter_of term) ≡ true → Fits term value →
+    ReadsAs forms.PlainDate term es c value
 as-day laws term es c value is f =
     let back = day-back laws term value f (one-type term f.letter letters.D f.typed (day-type (letter_of term) is)) in
     record {
@@ -390,15 +405,18 @@ as-day laws term es c value is f =
 
 -- ---- forms that have a type of their own
 
-as-typed : Laws → (letter : Letter) (term : Term) (es : List Entry) (c : Context) (value : Value) → is_of_type letter value ≡ true → Fits term value → ReadsAs (forms.Typed letter) term es c value
+as-typed : Laws → (letter : Letter) (term : Term) (es : List Entry) (c : Context) (value : Value) → is_of_type letter value ≡ true → Fits term value →
+    ReadsAs (forms.Typed letter) term es c value
 as-typed laws letter term es c value is f =
     let same : f.letter ≡ letter = sym (own-letter f.letter f.text value f.read) ∙ letter-of letter value is in
     record {
-      said = ap (λ v. record { term = term; value = v } ∷ []) (subst (λ l. value_of l (spelled value) ≡ Some value) same (laws.values f.letter f.text value f.read));
+      said = ap (λ v. record { term = term; value = v } ∷ [])
+          (subst (λ l. value_of l (spelled value) ≡ Some value) same (laws.values f.letter f.text value f.read));
       full = full-model laws.values term value f;
     }
 
-as-typed-day : Laws → (term : Term) (es : List Entry) (c : Context) (value : Value) → is_of_type letters.D value ≡ true → Fits term value → ReadsAs forms.TypedPlainDate term es c value
+as-typed-day : Laws → (term : Term) (es : List Entry) (c : Context) (value : Value) → is_of_type letters.D value ≡ true → Fits term value →
+    ReadsAs forms.TypedPlainDate term es c value
 as-typed-day laws term es c value is f =
     let back = day-back laws term value f (sym (own-letter f.letter f.text value f.read) ∙ letter-of letters.D value is) in
     record {
@@ -409,7 +427,8 @@ as-typed-day laws term es c value is f =
 -- a value of any type that is written so isn't blank
 full-plain : Laws → (term : Term) (value : Value) → Fits term value → is_full (writing.plain_date value) ≡ true
 full-plain laws term (values.Date day) f =
-    not-blank (plain_day_text day) meaning.plain_date (values.Date day) blank-day (day-back laws term (values.Date day) f (sym (own-letter f.letter f.text (values.Date day) f.read)))
+    not-blank (plain_day_text day) meaning.plain_date (values.Date day) blank-day
+    (day-back laws term (values.Date day) f (sym (own-letter f.letter f.text (values.Date day) f.read)))
 full-plain laws term (values.Text text) f = full-model laws.values term (values.Text text) f
 full-plain laws term (values.Identifier text) f = full-model laws.values term (values.Identifier text) f
 full-plain laws term (values.Code text) f = full-model laws.values term (values.Code text) f
@@ -435,7 +454,8 @@ modelled-untyped form term own = go form (suits form term) refl
 abbrev pub IsRead : Form → Term → Type 0
 IsRead form term = (is_extension term ≡ false) ⊎ (is_typed (form_for form term) ≡ true)
 
-pub reads-as : Laws → (form : Form) (term : Term) (es : List Entry) (c : Context) (value : Value) → is_whole (form_for form term) ≡ true → is_extension term ≡ false → Fits term value
+pub reads-as : Laws → (form : Form) (term : Term) (es : List Entry) (c : Context) (value : Value) → is_whole (form_for form term) ≡ true →
+    is_extension term ≡ false → Fits term value
     → ReadsAs (form_for form term) term es c value
 reads-as laws form term es c value whole own f = go (form_for form term) refl whole
   where
@@ -448,7 +468,8 @@ reads-as laws form term es c value whole own f = go (form_for form term) refl wh
     go forms.TypedPlainDate e h = absurd (false≢true (sym (modelled-untyped form term own) ∙ ap is_typed e))
 
 -- Whatever term it is of, such a value isn't blank.
-pub whole-full : Laws → (form : Form) (term : Term) (es : List Entry) (c : Context) (value : Value) → is_whole (form_for form term) ≡ true → Fits term value → is_full (formed (form_for form term) es c value) ≡ true
+pub whole-full : Laws → (form : Form) (term : Term) (es : List Entry) (c : Context) (value : Value) → is_whole (form_for form term) ≡ true → Fits term value →
+    is_full (formed (form_for form term) es c value) ≡ true
 whole-full laws form term es c value whole f = go (form_for form term) refl whole
   where
     go : (g : Form) → form_for form term ≡ g → is_whole g ≡ true → is_full (formed g es c value) ≡ true
@@ -469,7 +490,8 @@ model-is forms.TypedPlainDate h = absurd (false≢true h)
 
 -- ---- a code that another list spells
 
-one-of-three : (text : List ℕ) → list_any (λ (image : Image). bytes_eq image.code text) images ≡ true → (codes "3" ≡ text) ⊎ ((codes "35" ≡ text) ⊎ (codes "432" ≡ text))
+one-of-three : (text : List ℕ) → list_any (λ (image : Image). bytes_eq image.code text) images ≡ true →
+    (codes "3" ≡ text) ⊎ ((codes "35" ≡ text) ⊎ (codes "432" ≡ text))
 one-of-three text h = go (bytes_eq (codes "3") text) (bytes_eq (codes "35") text) (bytes_eq (codes "432") text) refl refl refl h
   where
     go : (a b c : Bool) → bytes_eq (codes "3") text ≡ a → bytes_eq (codes "35") text ≡ b → bytes_eq (codes "432") text ≡ c → (a || (b || (c || false))) ≡ true
@@ -504,10 +526,14 @@ plain-note (first ∷ []) h = refl
 plain-note (first ∷ (a ∷ [])) h = refl
 plain-note (first ∷ (a ∷ (b ∷ []))) h = refl
 plain-note (first ∷ (a ∷ (b ∷ (c ∷ [])))) h = refl
-plain-note (first ∷ (a ∷ (b ∷ (c ∷ (last ∷ text))))) h = go ((first == 35) && (last == 35)) (list_all meaning.is_subject_character (a ∷ b ∷ c ∷ []) && not (is_blank text)) h
+plain-note (first ∷ (a ∷ (b ∷ (c ∷ (last ∷ text))))) h = go ((first == 35) && (last == 35)) (list_all meaning.is_subject_character (a ∷ b ∷ c ∷ []) &&
+    not (is_blank text)) h
   where
     go : (x y : Bool) → (x && y) ≡ false
-        → (elim x [ true ↦ elim y [ true ↦ meaning.coded (a ∷ b ∷ c ∷ []) text | false ↦ meaning.plain_note (first ∷ (a ∷ (b ∷ (c ∷ (last ∷ text))))) ] | false ↦ meaning.plain_note (first ∷ (a ∷ (b ∷ (c ∷ (last ∷ text))))) ])
+        → (elim x [
+          | true ↦ elim y [ true ↦ meaning.coded (a ∷ b ∷ c ∷ []) text | false ↦ meaning.plain_note (first ∷ (a ∷ (b ∷ (c ∷ (last ∷ text))))) ]
+          | false ↦ meaning.plain_note (first ∷ (a ∷ (b ∷ (c ∷ (last ∷ text)))))
+        ])
         ≡ meaning.plain_note (first ∷ (a ∷ (b ∷ (c ∷ (last ∷ text)))))
     go false y k = refl
     go true false k = refl
@@ -522,7 +548,8 @@ coded-note (a ∷ (b ∷ (c ∷ []))) text h k =
     (λ i. elim (h i && not (k i)) [ true ↦ meaning.coded (a ∷ b ∷ c ∷ []) text | false ↦ meaning.plain_note (35 ∷ (a ∷ (b ∷ (c ∷ (35 ∷ text))))) ])
 
 by-its-type : ReadsBack → (term : Term) (value : Value) → is_extension term ≡ false → Fits term value → by_type term (spelled value) ≡ Some value
-by-its-type law term value own f = ap (λ x. option_and_then (λ letter. value_of letter (spelled value)) x) (modelled-type term f.letter f.typed own) ∙ law f.letter f.text value f.read
+by-its-type law term value own f = ap (λ x. option_and_then (λ letter. value_of letter (spelled value)) x) (modelled-type term f.letter f.typed own) ∙
+    law f.letter f.text value f.read
 
 -- A note is read as it: no subject code is in front and it hasn't the form of one behind a code, or one is in front that is
 -- one by its form.
@@ -531,14 +558,18 @@ IsNote es c value =
     ((value_in es meaning.subject_code c ≡ None) × (is_coded_note (spelled value) ≡ false))
     ⊎ ((code : Value) × ((value_in es meaning.subject_code c ≡ Some code) × ((is_subject (spelled code) ≡ true) × Fits meaning.subject_code code)))
 
-as-note : ReadsBack → (term : Term) (es : List Entry) (c : Context) (value : Value) → term ≡ meaning.note → IsNote es c value → Fits term value → ReadsAs forms.CodedNote term es c value
+as-note : ReadsBack → (term : Term) (es : List Entry) (c : Context) (value : Value) → term ≡ meaning.note → IsNote es c value → Fits term value →
+    ReadsAs forms.CodedNote term es c value
 unfolding is_white_space
 as-note law term es c value is (inl (none, plain)) f =
     let model = as-model law term es c value (ap is_extension is) f in
     let string : formed forms.CodedNote es c value ≡ spelled value = ap (λ o. writing.coded_note o (spelled value)) none in
     record {
       said = ap meaning.note_of string ∙ (plain-note (spelled value) plain ∙ (ap (λ t. record { term = t; value = by_type t (spelled value) } ∷ []) (sym is)
-          ∙ (model.said ∙ ap (λ o. record { term = term; value = Some value } ∷ elim o [ None ↦ [] | Some code ↦ record { term = meaning.subject_code; value = Some code } ∷ [] ]) (sym none))));
+          ∙ (model.said ∙ ap (λ o. record { term = term; value = Some value } ∷ elim o [
+            | None ↦ []
+            | Some code ↦ record { term = meaning.subject_code; value = Some code } ∷ []
+          ]) (sym none))));
       full = ap is_full string ∙ model.full;
     }
 as-note law term es c value is (inr (code, (at, (subject, fits)))) f =
@@ -546,14 +577,24 @@ as-note law term es c value is (inr (code, (at, (subject, fits)))) f =
     let string : formed forms.CodedNote es c value ≡ 35 ∷ (spelled code ++ (35 ∷ spelled value)) = ap (λ o. writing.coded_note o (spelled value)) at in
     record {
       said = ap meaning.note_of string ∙ (coded-note (spelled code) (spelled value) subject (not-true (is_blank (spelled value)) model.full)
-          ∙ ((λ i. record { term = sym is i; value = by_type (sym is i) (spelled value) } ∷ (record { term = meaning.subject_code; value = by_type meaning.subject_code (spelled code) } ∷ []))
-          ∙ ((λ i. record { term = term; value = by-its-type law term value (ap is_extension is) f i } ∷ (record { term = meaning.subject_code; value = by-its-type law meaning.subject_code code refl fits i } ∷ []))
-          ∙ ap (λ o. record { term = term; value = Some value } ∷ elim o [ None ↦ [] | Some v ↦ record { term = meaning.subject_code; value = Some v } ∷ [] ]) (sym at))));
+          ∙ ((λ i. record { term = sym is i; value = by_type (sym is i) (spelled value) } ∷ (record {
+            term = meaning.subject_code;
+            value =
+                by_type meaning.subject_code (spelled code);
+          } ∷ []))
+          ∙ ((λ i. record { term = term; value = by-its-type law term value (ap is_extension is) f i } ∷ (record {
+            term = meaning.subject_code;
+            value =
+                by-its-type law meaning.subject_code code refl fits i;
+          } ∷ []))
+          ∙ ap (λ o. record { term = term; value = Some value } ∷ elim o [ None ↦ [] | Some v ↦ record { term = meaning.subject_code; value = Some v } ∷ [] ])
+          (sym at))));
       full = ap is_full string;
     }
 
 -- a row of that form has the term of notes
-pub note-term : (form : Form) (term : Term) (b : Bool) → suits form term ≡ b → (elim b [ true ↦ form | false ↦ forms.Model ]) ≡ forms.CodedNote → term ≡ meaning.note
+pub note-term : (form : Form) (term : Term) (b : Bool) → suits form term ≡ b → (elim b [ true ↦ form | false ↦ forms.Model ]) ≡ forms.CodedNote →
+    term ≡ meaning.note
 note-term forms.CodedNote term true s e = same_term_is term meaning.note s
 note-term forms.CodedNote term false s e = absurd (let k : forms.Model ≡ forms.CodedNote = e in cc)
 note-term forms.PlainDate term true s e = absurd (let k : forms.PlainDate ≡ forms.CodedNote = e in cc)
@@ -580,7 +621,8 @@ whole-back es forms.CodedNote c value h k = absurd (false≢true h)
 whole-back es (forms.Typed letter) c value h k = absurd (false≢true k)
 whole-back es forms.TypedPlainDate c value h k = absurd (false≢true k)
 
-pub back-as : Laws → (form : Form) (term : Term) (es : List Entry) (c : Context) (value : Value) → IsBack es (form_for form term) c value → IsRead form term → Fits term value
+pub back-as : Laws → (form : Form) (term : Term) (es : List Entry) (c : Context) (value : Value) → IsBack es (form_for form term) c value → IsRead form term →
+    Fits term value
     → ReadsAs (form_for form term) term es c value
 back-as laws form term es c value back read f = go (form_for form term) refl back
   where
@@ -597,7 +639,8 @@ back-as laws form term es c value back read f = go (form_for form term) refl bac
     go forms.TypedPlainDate e h = as-typed-day laws term es c value h.0 f
 
 -- Whatever term it is of, such a value isn't blank.
-pub back-full : Laws → (form : Form) (term : Term) (es : List Entry) (c : Context) (value : Value) → IsBack es (form_for form term) c value → Fits term value → is_full (formed (form_for form term) es c value) ≡ true
+pub back-full : Laws → (form : Form) (term : Term) (es : List Entry) (c : Context) (value : Value) → IsBack es (form_for form term) c value → Fits term value →
+    is_full (formed (form_for form term) es c value) ≡ true
 back-full laws form term es c value back f = go (form_for form term) refl back
   where
     go : (g : Form) → form_for form term ≡ g → IsBack es g c value → is_full (formed g es c value) ≡ true
@@ -639,7 +682,8 @@ of-code-said (forms.Typed letter) es c said a = absurd a
 of-code-said forms.TypedPlainDate es c said a = absurd a
 of-code-said forms.CodedNote es c said a = go (value_in es meaning.subject_code c) refl a
   where
-    go : (o : Option Value) → value_in es meaning.subject_code c ≡ o → Among said (elim o [ None ↦ [] | Some code ↦ record { term = meaning.subject_code; value = Some code } ∷ [] ]) → IsCodeSaid forms.CodedNote es c said
+    go : (o : Option Value) → value_in es meaning.subject_code c ≡ o →
+        Among said (elim o [ None ↦ [] | Some code ↦ record { term = meaning.subject_code; value = Some code } ∷ [] ]) → IsCodeSaid forms.CodedNote es c said
     go None e m = absurd m
     go (Some code) e (inl is) = record { code = code; at = e; is = is; form_is = refl }
     go (Some code) e (inr z) = absurd z

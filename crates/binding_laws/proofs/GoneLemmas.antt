@@ -35,7 +35,8 @@ none-of-none [] = refl
 none-of-none (e ∷ es) = none-of-none es
 
 -- a term of these has no value
-pub gone-value : (gone : List Term) (es : List Entry) (term : Term) (c : Context) → holds_none gone es ≡ true → list_any (same_term term) gone ≡ true → value_in es term c ≡ None
+pub gone-value : (gone : List Term) (es : List Entry) (term : Term) (c : Context) → holds_none gone es ≡ true → list_any (same_term term) gone ≡ true →
+    value_in es term c ≡ None
 gone-value gone es term c unheld h = ap (option_map (λ (e : Entry). e.value)) (go es unheld)
   where
     other : (e : Entry) → list_any (same_term e.term) gone ≡ false → (b : Bool) → same_term e.term term ≡ b → is_at term c e ≡ false
@@ -52,9 +53,13 @@ pub gone-row : (gone : List Term) (es : List Entry) (row : Row) (c : Context) �
 gone-row gone es row c unheld h = by-content row.content h
   where
     none : (rule : Written) (term : Term) (d : Context) → list_any (same_term term) gone ≡ true → filled rule es d ≡ None
-        → ◌≡◌ {A = Option (List ℕ)} (elim (value_for row es term d) [ None ↦ filled rule es d | Some value ↦ if_due rule es term d (formed (form_for row.form term) es d value) ]) None
+        → ◌≡◌ {A = Option (List ℕ)} (elim (value_for row es term d) [
+          | None ↦ filled rule es d
+          | Some value ↦ if_due rule es term d (formed (form_for row.form term) es d value)
+        ]) None
     none rule term d k unfilled =
-        ap (λ o. elim o [ None ↦ filled rule es d | Some value ↦ if_due rule es term d (formed (form_for row.form term) es d value) ]) (none-for-none row es term d (gone-value gone es term d unheld k)) ∙ unfilled
+        ap (λ o. elim o [ None ↦ filled rule es d | Some value ↦ if_due rule es term d (formed (form_for row.form term) es d value) ])
+        (none-for-none row es term d (gone-value gone es term d unheld k)) ∙ unfilled
 
     never : (o : Option Value) → ◌≡◌ {A = Option (List ℕ)} (elim o [ None ↦ None | Some value ↦ None ]) None
     never None = refl
@@ -65,7 +70,10 @@ gone-row gone es row c unheld h = by-content row.content h
       | (written.OrFiller filler) ↦ list_any (same_term term) gone && list_any (same_term filler.beside) gone
       | _ ↦ list_any (same_term term) gone
     ]) ≡ true
-        → ◌≡◌ {A = Option (List ℕ)} (elim (value_for row es term d) [ None ↦ filled rule es d | Some value ↦ if_due rule es term d (formed (form_for row.form term) es d value) ]) None
+        → ◌≡◌ {A = Option (List ℕ)} (elim (value_for row es term d) [
+          | None ↦ filled rule es d
+          | Some value ↦ if_due rule es term d (formed (form_for row.form term) es d value)
+        ]) None
     by-rule written.Always term d k = none written.Always term d k refl
     by-rule written.Never term d k = never (value_for row es term d)
     by-rule written.IfIban term d k = none written.IfIban term d k refl
@@ -90,7 +98,8 @@ gone-row gone es row c unheld h = by-content row.content h
     by-content (contents.Term term) k = by-rule row.written term (context_for row c) k
     by-content (contents.Constant text) k = refl
 
-pub gone-cells : (gone : List Term) (es : List Entry) (cells : List Cell) (c : Context) → holds_none gone es ≡ true → list_all (λ (cell : Cell). is_gone gone cell.row) cells ≡ true → cells_hold es cells c ≡ false
+pub gone-cells : (gone : List Term) (es : List Entry) (cells : List Cell) (c : Context) → holds_none gone es ≡ true →
+    list_all (λ (cell : Cell). is_gone gone cell.row) cells ≡ true → cells_hold es cells c ≡ false
 gone-cells gone es [] c unheld h = refl
 gone-cells gone es (cell ∷ cells) c unheld h =
     let w = both-true (is_gone gone cell.row) (list_all (λ (x : Cell). is_gone gone x.row) cells) h in
@@ -100,7 +109,8 @@ neither : (a b : Bool) → a ≡ false → b ≡ false → either a (λ _. b) �
 neither true b e f = e
 neither false b e f = f
 
-pub gone-plan : (gone : List Term) (es : List Entry) (plan : Plan) (c : Context) → holds_none gone es ≡ true → are_gone gone plan ≡ true → holds es plan c ≡ false
+pub gone-plan : (gone : List Term) (es : List Entry) (plan : Plan) (c : Context) → holds_none gone es ≡ true → are_gone gone plan ≡ true →
+    holds es plan c ≡ false
 gone-plan gone es nothing c unheld h = refl
 gone-plan gone es (a_line t cells inside rest) c unheld h =
     let w = both-true (list_all (λ (cell : Cell). is_gone gone cell.row) cells) (are_gone gone inside && are_gone gone rest) h in
@@ -111,13 +121,15 @@ gone-plan gone es (a_line t cells inside rest) c unheld h =
     (gone-plan gone es rest c unheld v.1)
 
 -- the line isn't written
-pub never-written : (gone : List Term) (es : List Entry) (t : Step) (cells : List Cell) (inside : Plan) (held : Bool) (d : Context) → holds_none gone es ≡ true → is_unwritten gone t cells inside ≡ true
+pub never-written : (gone : List Term) (es : List Entry) (t : Step) (cells : List Cell) (inside : Plan) (held : Bool) (d : Context) → holds_none gone es ≡ true
+    → is_unwritten gone t cells inside ≡ true
     → is_emitted es t cells inside held d ≡ true → ⊥
 never-written gone es t cells inside held d unheld h e =
     let w = both-true (is_holder t cells inside) _ h in
     let v = both-true (list_all (λ (cell : Cell). is_gone gone cell.row) cells) (are_gone gone inside) w.1 in
     let u = both-true (not t.always) (not (is_constantly cells inside)) w.0 in
-    go (line_holds es cells inside d) (neither (cells_hold es cells d) (holds es inside d) (gone-cells gone es cells d unheld v.0) (gone-plan gone es inside d unheld v.1))
+    go (line_holds es cells inside d) (neither (cells_hold es cells d) (holds es inside d) (gone-cells gone es cells d unheld v.0)
+    (gone-plan gone es inside d unheld v.1))
     t.always (not-true t.always u.0) (is_constantly cells inside) (not-true (is_constantly cells inside) u.1) e
   where
     go : (a : Bool) → a ≡ false → (b : Bool) → b ≡ false → (k : Bool) → k ≡ false → either a (λ _. b || (held && k)) ≡ true → ⊥

@@ -33,7 +33,8 @@ pub record Knows (known : Known) (es : List Entry) (c : Context) : Type 0 where
   pub gone : holds_none known.gone es ≡ true
   pub unlike : (u : Unlike) → Among u known.unlike → (d : Context) (v : Value) → value_in es u.term d ≡ Some v → trimmed (spelled v) ≡ u.text → ⊥
   pub full : (x : Together) → Among x known.together → (d : Context) (v : Value) → value_in es x.part d ≡ Some v → is_full (trimmed (spelled v)) ≡ true
-  pub stands : (x : Together) → Among x known.together → (d : Context) → Among d (spots es c (Some x.group)) → (v : Value) → value_in es x.term (outer_context d) ≡ Some v → (w : Value) × (value_in es x.part (outer_context d) ≡ Some w)
+  pub stands : (x : Together) → Among x known.together → (d : Context) → Among d (spots es c (Some x.group)) → (v : Value) →
+      value_in es x.term (outer_context d) ≡ Some v → (w : Value) × (value_in es x.part (outer_context d) ≡ Some w)
 
 pub knows-without : (gone : List Term) (es : List Entry) (c : Context) → holds_none gone es ≡ true → Knows (without gone) es c
 knows-without gone es c unheld = record { gone = unheld; unlike = λ u a. absurd a; full = λ x a. absurd a; stands = λ x a. absurd a }
@@ -41,14 +42,16 @@ knows-without gone es c unheld = record { gone = unheld; unlike = λ u a. absurd
 pub knows-nothing : (es : List Entry) (c : Context) → Knows unknown es c
 knows-nothing es c = knows-without [] es c (none-of-none es)
 
-pub known-inside : (known : Known) (es : List Entry) (o : Option Group) (c d : Context) → Among d (spots es c o) → Knows known es c → Knows (beyond o known) es d
+pub known-inside : (known : Known) (es : List Entry) (o : Option Group) (c d : Context) → Among d (spots es c o) → Knows known es c →
+    Knows (beyond o known) es d
 known-inside known es None c d (inl e) knows = subst (Knows known es) e knows
 known-inside known es None c d (inr z) knows = absurd z
 known-inside known es (Some g) c d a knows = record { gone = knows.gone; unlike = knows.unlike; full = λ x b. absurd b; stands = λ x b. absurd b }
 
 -- ---- rows that write values as they are
 
-rule-and-form : (rule : Written) (form : Form) → (elim rule [ written.Always ↦ elim form [ forms.Model ↦ true | _ ↦ false ] | _ ↦ false ]) ≡ true → (rule ≡ written.Always) × (form ≡ forms.Model)
+rule-and-form : (rule : Written) (form : Form) → (elim rule [ written.Always ↦ elim form [ forms.Model ↦ true | _ ↦ false ] | _ ↦ false ]) ≡ true →
+    (rule ≡ written.Always) × (form ≡ forms.Model)
 rule-and-form written.Always forms.Model h = (refl, refl)
 rule-and-form written.Always forms.PlainDate h = absurd (false≢true h)
 rule-and-form written.Always forms.DueDateTypeCode h = absurd (false≢true h)
@@ -64,7 +67,8 @@ rule-and-form (written.OrFiller filler) form h = absurd (false≢true h)
 rule-and-form written.VatTotal form h = absurd (false≢true h)
 rule-and-form written.AccountingVatTotal form h = absurd (false≢true h)
 
-pub written-as-it-is : (es : List Entry) (row : Row) (term : Term) (c : Context) → is_as_it_is row term ≡ true → term_text row es term c ≡ option_map spelled (value_in es term c)
+pub written-as-it-is : (es : List Entry) (row : Row) (term : Term) (c : Context) → is_as_it_is row term ≡ true →
+    term_text row es term c ≡ option_map spelled (value_in es term c)
 written-as-it-is es row term c h =
     let w = rule-and-form row.written (form_for row.form term) h in
     let modelled = as-modelled row es term c (ap is_typed w.1) in

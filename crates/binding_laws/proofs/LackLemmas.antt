@@ -20,7 +20,8 @@ use Rattle.inv_terms.specs.declared.lacks.Name.{Name}
 use Rattle.inv_terms.specs.declared.lacks.Name.TheVariants as names
 use Rattle.inv_terms.specs.declared.lacks.TermFault.TheVariants as faults
 use Rattle.inv_terms.specs.declared.lacks.Lack.{Lack}
-use Rattle.inv_terms.specs.Lacking.{is_at, is_around, shows_its_group, has_term, stands, decided, first_decided, is_there, whole_term, is_needed, is_slot_in, is_at_least_once, lacks_group, missing_at, missing_from}
+use Rattle.inv_terms.specs.Lacking.{is_at, is_around, shows_its_group, has_term, stands, decided, first_decided, is_there, whole_term, is_needed, is_slot_in}
+use Rattle.inv_terms.specs.Lacking.{is_at_least_once, lacks_group, missing_at, missing_from}
 use Rattle.inv_terms.specs.Validity.{is_unlisted}
 use Rattle.inv_terms.specs.Whole.{IsContextOf, IsValid, IsLack, seats_in}
 use Rattle.inv_terms.proofs.FirstLemmas.{each_lack}
@@ -73,11 +74,17 @@ any-same f g h (x ∷ xs) = λ i. h x i || any-same f g h xs i
 module _ (xs ys : List Seat) (same : (p : Seat → Bool) → list_any p xs ≡ list_any p ys) (c : Context) where
   stands-same : (group : Group) → stands xs group ≡ stands ys group
   stands-same group =
-      any-same (λ (row : TermRow). is_around group row.group && (shows_its_group row.term && has_term xs row.term)) (λ (row : TermRow). is_around group row.group && (shows_its_group row.term && has_term ys row.term))
+      any-same (λ (row : TermRow). is_around group row.group && (shows_its_group row.term && has_term xs row.term))
+      (λ (row : TermRow). is_around group row.group && (shows_its_group row.term && has_term ys row.term))
       (λ (row : TermRow). ap (λ b. is_around group row.group && (shows_its_group row.term && b)) (same (λ (s : Seat). same_term s.term row.term))) terms
 
   decided-same : (group : Group) → decided xs group ≡ decided ys group
-  decided-same group = ap (λ b. elim (occurrence_of group) [ occurs.Once ↦ None | occurs.AtMostOnce ↦ Some b | occurs.AnyNumber ↦ Some true | occurs.AtLeastOnce ↦ Some true ]) (stands-same group)
+  decided-same group = ap (λ b. elim (occurrence_of group) [
+    | occurs.Once ↦ None
+    | occurs.AtMostOnce ↦ Some b
+    | occurs.AnyNumber ↦ Some true
+    | occurs.AtLeastOnce ↦ Some true
+  ]) (stands-same group)
 
   there-same : (group : Group) → is_there xs group ≡ is_there ys group
   there-same group = λ i. first_decided (decided-same group i ∷ (decided-same (parent_of group) i ∷ (decided-same (parent_of (parent_of group)) i ∷ [])))
@@ -91,11 +98,14 @@ module _ (xs ys : List Seat) (same : (p : Seat → Bool) → list_any p xs ≡ l
       (same (λ (s : Seat). is_slot_in row.group s.context.outer || is_slot_in row.group s.context.inner))
 
   pub missing-same : (k : ℕ) (row : TermRow) → missing_at xs c k row ≡ missing_at ys c k row
-  missing-same k row = λ i. if has_context row.group c then (if needed-same row i && not (same (is_at c row.term) i) then Some (names.Term row.term) else None) else (if lacks-same k row i then Some (names.Group row.group) else None)
+  missing-same k row = λ i. if has_context row.group c then (if needed-same row i && not (same (is_at c row.term) i) then Some (names.Term row.term) else None)
+      else (if lacks-same k row i then Some (names.Group row.group) else None)
 
-pub missing-none : (seats : List Seat) (c : Context) (n : ℕ) (rows : List TermRow) → ((k : ℕ) (row : TermRow) → slice_get rows k ≡ Some row → missing_at seats c (n + k) row ≡ None) → missing_from seats c n rows ≡ None
+pub missing-none : (seats : List Seat) (c : Context) (n : ℕ) (rows : List TermRow) →
+    ((k : ℕ) (row : TermRow) → slice_get rows k ≡ Some row → missing_at seats c (n + k) row ≡ None) → missing_from seats c n rows ≡ None
 missing-none seats c n [] f = refl
 missing-none seats c n (row ∷ rows) f =
     let z : n ≡ n + 0 = omega arith in
-    ap (λ o. elim o [ Some name ↦ Some (record { place = place n c; fault = faults.Missing name }) | None ↦ missing_from seats c (n + 1) rows ]) (ap (λ i. missing_at seats c i row) z ∙ f 0 row refl)
+    ap (λ o. elim o [ Some name ↦ Some (record { place = place n c; fault = faults.Missing name }) | None ↦ missing_from seats c (n + 1) rows ])
+    (ap (λ i. missing_at seats c i row) z ∙ f 0 row refl)
     ∙ missing-none seats c (n + 1) rows (λ k r at. let y : n + 1 + k ≡ n + suc k = omega arith in ap (λ i. missing_at seats c i r) y ∙ f (suc k) r at)

@@ -33,7 +33,8 @@ pub append-nil : {X : Type 0} (xs : List X) → xs ++ [] ≡ xs
 append-nil [] = refl
 append-nil (x ∷ xs) = ap (λ l. x ∷ l) (append-nil xs)
 
-map-chosen : {X Y : Type 0} (f : X → Y) (b : Bool) (x : X) (xs : List X) (ys : List Y) → map f xs ≡ ys → map f (if b then x ∷ xs else xs) ≡ (if b then f x ∷ ys else ys)
+map-chosen : {X Y : Type 0} (f : X → Y) (b : Bool) (x : X) (xs : List X) (ys : List Y) → map f xs ≡ ys →
+    map f (if b then x ∷ xs else xs) ≡ (if b then f x ∷ ys else ys)
 map-chosen f true x xs ys e = ap (λ l. f x ∷ l) e
 map-chosen f false x xs ys e = e
 
@@ -49,12 +50,14 @@ pub not-true : (a : Bool) → not a ≡ true → a ≡ false
 not-true true h = absurd (false≢true h)
 not-true false h = refl
 
-pub flat_map-filter : {X Y : Type 0} (f : X → List Y) (p : X → Bool) (xs : List X) → flat_map f (filter p xs) ≡ flat_map (λ x. elim (p x) [ true ↦ f x | false ↦ [] ]) xs
+pub flat_map-filter : {X Y : Type 0} (f : X → List Y) (p : X → Bool) (xs : List X) →
+    flat_map f (filter p xs) ≡ flat_map (λ x. elim (p x) [ true ↦ f x | false ↦ [] ]) xs
 flat_map-filter f p [] = refl
 flat_map-filter f p (x ∷ xs) = go (p x) (flat_map-filter f p xs)
   where
     go : (b : Bool) → flat_map f (filter p xs) ≡ flat_map (λ x. elim (p x) [ true ↦ f x | false ↦ [] ]) xs
-        → flat_map f (if b then x ∷ filter p xs else filter p xs) ≡ (elim b [ true ↦ f x | false ↦ [] ]) ++ flat_map (λ x. elim (p x) [ true ↦ f x | false ↦ [] ]) xs
+        → flat_map f (if b then x ∷ filter p xs else filter p xs) ≡ (elim b [ true ↦ f x | false ↦ [] ]) ++
+        flat_map (λ x. elim (p x) [ true ↦ f x | false ↦ [] ]) xs
     go true k = ap (λ l. f x ++ l) k
     go false k = k
 

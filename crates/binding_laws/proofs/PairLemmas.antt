@@ -46,7 +46,8 @@ module _ (S : Pick → Pick → Type 0) (turn : (a b : Pick) → S a b → S b a
 
   pub in-order-rising : Rising Below (map (λ (node : Node). node.number) nodes) → Rising S (in_order nodes picks)
   in-order-rising apart =
-      rising-flat_map (λ (a : Node) (b : Node). a.number < b.number) S IsFrom at_node (λ a b x y l p q. by-pair a b x y l p.0 q.0 (pair-of S picks h x y p.1 q.1)) nodes
+      rising-flat_map (λ (a : Node) (b : Node). a.number < b.number) S IsFrom at_node
+      (λ a b x y l p q. by-pair a b x y l p.0 q.0 (pair-of S picks h x y p.1 q.1)) nodes
       (rising-from Below (λ (node : Node). node.number) nodes apart)
       (all-each (λ (node : Node). Rising S (at_node node) × Each (IsFrom node) (at_node node)) nodes
       (λ (node : Node). (rising-filter S (λ (pick : Pick). pick.node == node.number) picks h, each-from (IsFrom node) (at_node node) (of-node node))))

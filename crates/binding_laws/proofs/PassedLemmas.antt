@@ -33,9 +33,11 @@ Fronts rows up nothing = Unit {0}
 Fronts rows up (a_line t cells inside rest) = HasFront rows (up ++ (t ∷ [])) × Fronts rows (up ++ (t ∷ [])) inside × Fronts rows up rest
 
 into-fronts : (rows : List Row) (up : List Step) (s : Step) (own : List Cell → List Cell) (deeper : Plan → Plan) → HasFront rows (up ++ (s ∷ []))
-    → ((inside : Plan) → Fronts rows (up ++ (s ∷ [])) inside → Fronts rows (up ++ (s ∷ [])) (deeper inside)) → (plan : Plan) → Fronts rows up plan → Fronts rows up (into s own deeper plan)
+    → ((inside : Plan) → Fronts rows (up ++ (s ∷ [])) inside → Fronts rows (up ++ (s ∷ [])) (deeper inside)) → (plan : Plan) → Fronts rows up plan →
+    Fronts rows up (into s own deeper plan)
 into-fronts rows up s own deeper front deep nothing h = (front, deep nothing tt, tt)
-into-fronts rows up s own deeper front deep (a_line t cells inside rest) h = go (into-fronts rows up s own deeper front deep rest h.2) (same_step s t) (nat_lt s.number t.number) refl
+into-fronts rows up s own deeper front deep (a_line t cells inside rest) h =
+    go (into-fronts rows up s own deeper front deep rest h.2) (same_step s t) (nat_lt s.number t.number) refl
   where
     same : s ≡ t → Fronts rows (up ++ (t ∷ [])) (deeper inside)
     same e = subst (λ x. Fronts rows (up ++ (x ∷ [])) (deeper inside)) e (deep inside (subst (λ x. Fronts rows (up ++ (x ∷ [])) inside) (sym e) h.1))
@@ -47,14 +49,16 @@ into-fronts rows up s own deeper front deep (a_line t cells inside rest) h = go 
     go later false true e = (front, deep nothing tt, h)
     go later false false e = (h.0, h.1, later)
 
-add-fronts : (rows : List Row) (row : Row) → Among row rows → (cell : Cell) (steps up : List Step) → row.path ≡ up ++ steps → (plan : Plan) → Fronts rows up plan → Fronts rows up (add steps cell plan)
+add-fronts : (rows : List Row) (row : Row) → Among row rows → (cell : Cell) (steps up : List Step) → row.path ≡ up ++ steps → (plan : Plan) →
+    Fronts rows up plan → Fronts rows up (add steps cell plan)
 add-fronts rows row a cell [] up e plan h = h
 add-fronts rows row a cell (s ∷ steps) up e plan h =
     let along : row.path ≡ (up ++ (s ∷ [])) ++ steps = e ∙ sym (append_assoc up (s ∷ []) steps) in
     into-fronts rows up s (own_cells steps cell) (add steps cell) (record { row = row; among = a; further = steps; is = along })
     (λ inside k. add-fronts rows row a cell steps (up ++ (s ∷ [])) along inside k) plan h
 
-grown-fronts : (rows some : List Row) (n : ℕ) (plan : Plan) → ((row : Row) → Among row some → Among row rows) → Fronts rows [] plan → Fronts rows [] (grown plan n some)
+grown-fronts : (rows some : List Row) (n : ℕ) (plan : Plan) → ((row : Row) → Among row some → Among row rows) → Fronts rows [] plan →
+    Fronts rows [] (grown plan n some)
 grown-fronts rows [] n plan f h = h
 grown-fronts rows (row ∷ some) n plan f h =
     grown-fronts rows some (n + 1) (add row.path (record { number = n; row = row }) plan) (λ r m. f r (inr m))
@@ -74,7 +78,8 @@ AreNamed nodes [] (n ∷ way) = ⊥
 AreNamed nodes (s ∷ up) [] = ⊥
 AreNamed nodes (s ∷ up) (n ∷ way) = (has_element_name s.name (tree_node nodes n) ≡ true) × AreNamed nodes up way
 
-named-more : (nodes : List Node) (up : List Step) (way : List ℕ) (s : Step) (n : ℕ) → AreNamed nodes up way → has_element_name s.name (tree_node nodes n) ≡ true → AreNamed nodes (up ++ (s ∷ [])) (way ++ (n ∷ []))
+named-more : (nodes : List Node) (up : List Step) (way : List ℕ) (s : Step) (n : ℕ) → AreNamed nodes up way → has_element_name s.name (tree_node nodes n) ≡ true
+    → AreNamed nodes (up ++ (s ∷ [])) (way ++ (n ∷ []))
 named-more nodes [] [] s n h e = (e, tt)
 named-more nodes [] (m ∷ way) s n h e = absurd h
 named-more nodes (t ∷ up) [] s n h e = absurd h
@@ -88,13 +93,15 @@ names-front nodes (s ∷ up) more [] h = absurd h
 names-front nodes (s ∷ up) more (n ∷ way) h =
     ap (λ b. elim b [ true ↦ names_row nodes (up ++ more) way | false ↦ false ]) h.0 ∙ names-front nodes up more way h.1
 
-on-a-way : (nodes : List Node) (rows : List Row) (front : List Step) (way : List ℕ) → HasFront rows front → AreNamed nodes front way → is_on_a_way nodes rows way ≡ true
+on-a-way : (nodes : List Node) (rows : List Row) (front : List Step) (way : List ℕ) → HasFront rows front → AreNamed nodes front way →
+    is_on_a_way nodes rows way ≡ true
 on-a-way nodes rows front way f h =
     any-among (λ (row : Row). names_row nodes row.path way) f.row rows (ap (λ p. names_row nodes p way) f.is ∙ names-front nodes front f.further way h) f.among
 
 -- ---- the elements that are written
 
-attributes-kept : (nodes : List Node) (rows : List Row) (above : List ℕ) (n : ℕ) (attrs : List Attribute) → Each (λ node. is_passed_over nodes rows node ≡ false) (nodes_of_attributes above n attrs)
+attributes-kept : (nodes : List Node) (rows : List Row) (above : List ℕ) (n : ℕ) (attrs : List Attribute) →
+    Each (λ node. is_passed_over nodes rows node ≡ false) (nodes_of_attributes above n attrs)
 attributes-kept nodes rows above n [] = tt
 attributes-kept nodes rows above n (a ∷ attrs) = (refl, attributes-kept nodes rows above (n + 1) attrs)
 
@@ -105,20 +112,25 @@ module _ (nodes : List Node) (rows : List Row) (es : List Entry) where
   abbrev Kept : List Node → Type 0
   Kept some = Each (λ node. is_passed_over nodes rows node ≡ false) some
 
-  element-kept : (above way : List ℕ) (n : ℕ) (name : Name) (front : List Step) → turned [] above ≡ 0 ∷ way → HasFront rows front → AreNamed nodes front (way ++ (n ∷ []))
+  element-kept : (above way : List ℕ) (n : ℕ) (name : Name) (front : List Step) → turned [] above ≡ 0 ∷ way → HasFront rows front →
+      AreNamed nodes front (way ++ (n ∷ []))
       → is_passed_over nodes rows (element_node above n name) ≡ false
   element-kept above way n name front w f h =
       let path : way_to (n ∷ above) ≡ way ++ (n ∷ []) = ap without_first (turned-onto (n ∷ []) above ∙ ap (λ l. l ++ (n ∷ [])) w) in
-      kept-by (is_on_a_way nodes rows (way_to above)) (is_on_a_way nodes rows (way_to (n ∷ above))) (ap (is_on_a_way nodes rows) path ∙ on-a-way nodes rows front (way ++ (n ∷ [])) f h)
+      kept-by (is_on_a_way nodes rows (way_to above)) (is_on_a_way nodes rows (way_to (n ∷ above)))
+      (ap (is_on_a_way nodes rows) path ∙ on-a-way nodes rows front (way ++ (n ∷ [])) f h)
 
-  with-text-kept : (text : List ℕ) (f : Forest) (above : List ℕ) (n : ℕ) → ((m : ℕ) → Lies nodes above m f → Kept (nodes_of above m f)) → Lies nodes above n (with_text text f) → Kept (nodes_of above n (with_text text f))
+  with-text-kept : (text : List ℕ) (f : Forest) (above : List ℕ) (n : ℕ) → ((m : ℕ) → Lies nodes above m f → Kept (nodes_of above m f)) →
+      Lies nodes above n (with_text text f) → Kept (nodes_of above n (with_text text f))
   with-text-kept [] f above n k h = k n h
   with-text-kept (c ∷ text) f above n k h = (refl, k (n + 1) (behind-text nodes above n (c ∷ text) f h))
 
   -- elements of one line, and what is behind them
-  line-kept : (t : Step) (attrs : Context → List Attribute) (inside : Context → Forest) (is_there : Context → Bool) (rest : Forest) (above way : List ℕ) (front : List Step)
+  line-kept : (t : Step) (attrs : Context → List Attribute) (inside : Context → Forest) (is_there : Context → Bool) (rest : Forest) (above way : List ℕ)
+      (front : List Step)
       → turned [] above ≡ 0 ∷ way → HasFront rows (front ++ (t ∷ [])) → AreNamed nodes front way
-      → ((d : Context) (n m : ℕ) → AreNamed nodes (front ++ (t ∷ [])) (way ++ (n ∷ [])) → Lies nodes (n ∷ above) m (inside d) → Kept (nodes_of (n ∷ above) m (inside d)))
+      → ((d : Context) (n m : ℕ) → AreNamed nodes (front ++ (t ∷ [])) (way ++ (n ∷ [])) → Lies nodes (n ∷ above) m (inside d) →
+      Kept (nodes_of (n ∷ above) m (inside d)))
       → ((m : ℕ) → Lies nodes above m rest → Kept (nodes_of above m rest)) → (ds : List Context) (n : ℕ)
       → Lies nodes above n (elements is_there (λ d. an_element (name_of t.name) (attrs d) (inside d)) ds rest)
       → Kept (nodes_of above n (elements is_there (λ d. an_element (name_of t.name) (attrs d) (inside d)) ds rest))
@@ -139,21 +151,25 @@ module _ (nodes : List Node) (rows : List Row) (es : List Entry) where
           ]))
       go further true k =
           let more : Forest = elements is_there (λ e. an_element (name_of t.name) (attrs e) (inside e)) ds rest in
-          let is : has_element_name t.name (tree_node nodes n) ≡ true = ap (has_element_name t.name) (at-element nodes above n (name_of t.name) (attrs d) (inside d) more k) ∙ called-self t.name in
+          let is : has_element_name t.name (tree_node nodes n) ≡ true =
+          ap (has_element_name t.name) (at-element nodes above n (name_of t.name) (attrs d) (inside d) more k) ∙ called-self t.name in
           let all : AreNamed nodes (front ++ (t ∷ [])) (way ++ (n ∷ [])) = named-more nodes front way t n named is in (
             element-kept above way n (name_of t.name) (front ++ (t ∷ [])) w f all,
-            each-append (λ node. is_passed_over nodes rows node ≡ false) (nodes_of_attributes (n ∷ above) (n + 1) (attrs d)) _ (attributes-kept nodes rows (n ∷ above) (n + 1) (attrs d))
+            each-append (λ node. is_passed_over nodes rows node ≡ false) (nodes_of_attributes (n ∷ above) (n + 1) (attrs d)) _
+                (attributes-kept nodes rows (n ∷ above) (n + 1) (attrs d))
                 (each-append (λ node. is_passed_over nodes rows node ≡ false) (nodes_of (n ∷ above) (n + (1 + length (attrs d))) (inside d)) _
                 (inner d n (n + (1 + length (attrs d))) all (inside-lies nodes above n (name_of t.name) (attrs d) (inside d) more k))
                 (further (n + (1 + (length (attrs d) + size (inside d)))) (behind-element nodes above n (name_of t.name) (attrs d) (inside d) more k))),
           )
       go further false k = further n k
 
-  lines-kept : (plan : Plan) (front : List Step) (above way : List ℕ) (held : Bool) (c : Context) (n : ℕ) → Fronts rows front plan → turned [] above ≡ 0 ∷ way → AreNamed nodes front way
+  lines-kept : (plan : Plan) (front : List Step) (above way : List ℕ) (held : Bool) (c : Context) (n : ℕ) → Fronts rows front plan → turned [] above ≡ 0 ∷ way →
+      AreNamed nodes front way
       → Lies nodes above n (written_lines es plan held c) → Kept (nodes_of above n (written_lines es plan held c))
   lines-kept nothing front above way held c n f w named h = tt
   lines-kept (a_line t cells inside rest) front above way held c n f w named h =
-      line-kept t (attributes es t cells) (λ d. with_text (element_text es cells d) (written_lines es inside (holds_further es cells inside held d) d)) (is_emitted es t cells inside held)
+      line-kept t (attributes es t cells) (λ d. with_text (element_text es cells d) (written_lines es inside (holds_further es cells inside held d) d))
+      (is_emitted es t cells inside held)
       (written_lines es rest held c) above way front w f.0 named
       (λ d k m all lies. with-text-kept (element_text es cells d) (written_lines es inside (holds_further es cells inside held d) d) (k ∷ above) m
       (λ j l. lines-kept inside (front ++ (t ∷ [])) (k ∷ above) (way ++ (k ∷ [])) (holds_further es cells inside held d) d j f.1
@@ -165,5 +181,8 @@ unfolding document_of
 nothing-passed rows es =
     let f : Forest = written_lines es (plan_of rows) false root_context in
     let nodes : List Node = document_nodes f in
-    ap length (filter-none (is_passed_over nodes rows) nodes
-    (refl, lines-kept nodes rows es (plan_of rows) [] (0 ∷ []) [] false root_context 1 (grown-fronts rows rows 0 nothing (λ row m. m) tt) refl tt (document-lies f)))
+    ap length (filter-none (is_passed_over nodes rows) nodes (
+      refl,
+      lines-kept nodes rows es (plan_of rows) [] (0 ∷ []) [] false root_context 1 (grown-fronts rows rows 0 nothing (λ row m. m) tt) refl tt
+          (document-lies f),
+    ))

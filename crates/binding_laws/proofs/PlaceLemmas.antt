@@ -1,6 +1,7 @@
 -- The elements at the end of a path, with those on the way to them: their numbers rise, and the element of a group on the
 -- way to one is at the end of the path as far as that group.
-use Rattle.std.proofs.Common.{◌≡◌, ℕ, ◌+◌, ◌<◌, ◌≤◌, Bool, true, false, List, [], ◌∷◌, length, map, filter, flat_map, Some, ◌⊎◌, inl, inr, refl, sym, ap, ◌∙◌, subst, arith}
+use Rattle.std.proofs.Common.{◌≡◌, ℕ, ◌+◌, ◌<◌, ◌≤◌, Bool, true, false, List, [], ◌∷◌, length, map, filter, flat_map, Some, ◌⊎◌, inl, inr, refl, sym, ap, ◌∙◌}
+use Rattle.std.proofs.Common.{subst, arith}
 use Rattle.std.specs.Prelude.{if◌then◌else◌}
 use Rattle.std.proofs.lemmas.Bool.{false≢true}
 use Rattle.inv_base.specs.Tree.{Forest, an_element, Name, Attribute, size}
@@ -37,7 +38,8 @@ pub of-filter-any : {X : Type 0} (p : X → Bool) (x : X) (xs : List X) → Amon
 of-filter-any p x [] a = absurd a
 of-filter-any p x (y ∷ xs) a = go (p y) refl (of-filter-any p x xs) a
   where
-    go : (b : Bool) → p y ≡ b → (Among x (filter p xs) → Among x xs × (p x ≡ true)) → Among x (if b then y ∷ filter p xs else filter p xs) → ((y ≡ x) ⊎ Among x xs) × (p x ≡ true)
+    go : (b : Bool) → p y ≡ b → (Among x (filter p xs) → Among x xs × (p x ≡ true)) → Among x (if b then y ∷ filter p xs else filter p xs) →
+        ((y ≡ x) ⊎ Among x xs) × (p x ≡ true)
     go true e later (inl s) = (inl s, ap p (sym s) ∙ e)
     go true e later (inr m) = let w = later m in (inr w.0, w.1)
     go false e later m = let w = later m in (inr w.0, w.1)
@@ -53,41 +55,54 @@ module _ (es : List Entry) where
   abbrev pub own_places : Step → List Cell → Plan → List Step → Bool → Context → ℕ → List Place
   own_places t cells inside path held c n =
       flat_map (λ (x : At). map (behind x.number) (last_places path (spot_of es t cells x.context)
-      (places es inside path (holds_further es cells inside held x.context) x.context (begin_in es t cells x)))) (sized (long_of es t cells inside held) (emitted es t cells inside held c) n)
+      (places es inside path (holds_further es cells inside held x.context) x.context (begin_in es t cells x))))
+      (sized (long_of es t cells inside held) (emitted es t cells inside held c) n)
 
   pub record IsOwn (t : Step) (cells : List Cell) (inside : Plan) (path : List Step) (held : Bool) (c : Context) (n : ℕ) (place : Place) : Type 0 where
     pub x : At
     pub at : Among x (sized (long_of es t cells inside held) (emitted es t cells inside held c) n)
     pub p : Place
-    pub within : Among p (last_places path (spot_of es t cells x.context) (places es inside path (holds_further es cells inside held x.context) x.context (begin_in es t cells x)))
+    pub within : Among p (last_places path (spot_of es t cells x.context)
+        (places es inside path (holds_further es cells inside held x.context) x.context (begin_in es t cells x)))
     pub is : behind x.number p ≡ place
 
-  pub of-own : (t : Step) (cells : List Cell) (inside : Plan) (path : List Step) (held : Bool) (c : Context) (n : ℕ) (place : Place) → Among place (own_places t cells inside path held c n) → IsOwn t cells inside path held c n place
+  pub of-own : (t : Step) (cells : List Cell) (inside : Plan) (path : List Step) (held : Bool) (c : Context) (n : ℕ) (place : Place) →
+      Among place (own_places t cells inside path held c n) → IsOwn t cells inside path held c n place
   of-own t cells inside path held c n place a =
-      let w = of-flat_map (λ (x : At). map (behind x.number) (last_places path (spot_of es t cells x.context) (places es inside path (holds_further es cells inside held x.context) x.context (begin_in es t cells x)))) place
+      let w = of-flat_map (λ (x : At). map (behind x.number)
+      (last_places path (spot_of es t cells x.context)
+      (places es inside path (holds_further es cells inside held x.context) x.context (begin_in es t cells x)))) place
       (sized (long_of es t cells inside held) (emitted es t cells inside held c) n) a in
-      let v = of-map (behind w.0.number) place (last_places path (spot_of es t cells w.0.context) (places es inside path (holds_further es cells inside held w.0.context) w.0.context (begin_in es t cells w.0))) w.1.1 in
+      let v = of-map (behind w.0.number) place (last_places path (spot_of es t cells w.0.context)
+      (places es inside path (holds_further es cells inside held w.0.context) w.0.context (begin_in es t cells w.0))) w.1.1 in
       record { x = w.0; at = w.1.0; p = v.0; within = v.1.0; is = v.1.1 }
 
   to-own : (t : Step) (cells : List Cell) (inside : Plan) (path : List Step) (held : Bool) (c : Context) (n : ℕ) (x : At) (p : Place)
       → Among x (sized (long_of es t cells inside held) (emitted es t cells inside held c) n)
-      → Among p (last_places path (spot_of es t cells x.context) (places es inside path (holds_further es cells inside held x.context) x.context (begin_in es t cells x)))
+      → Among p (last_places path (spot_of es t cells x.context)
+      (places es inside path (holds_further es cells inside held x.context) x.context (begin_in es t cells x)))
       → Among (behind x.number p) (own_places t cells inside path held c n)
   to-own t cells inside path held c n x p at a =
-      among-flat_map (λ (y : At). map (behind y.number) (last_places path (spot_of es t cells y.context) (places es inside path (holds_further es cells inside held y.context) y.context (begin_in es t cells y)))) x (behind x.number p)
+      among-flat_map (λ (y : At). map (behind y.number)
+      (last_places path (spot_of es t cells y.context)
+      (places es inside path (holds_further es cells inside held y.context) y.context (begin_in es t cells y)))) x (behind x.number p)
       (sized (long_of es t cells inside held) (emitted es t cells inside held c) n) at
-      (among-map (behind x.number) p (last_places path (spot_of es t cells x.context) (places es inside path (holds_further es cells inside held x.context) x.context (begin_in es t cells x))) a)
+      (among-map (behind x.number) p (last_places path (spot_of es t cells x.context)
+      (places es inside path (holds_further es cells inside held x.context) x.context (begin_in es t cells x))) a)
 
   -- ---- from the context above to that of the element
 
-  pub places-lead : (plan : Plan) (path : List Step) (held : Bool) (c : Context) (n : ℕ) (place : Place) → Among place (places es plan path held c n) → Leads es path c place.spot.context
+  pub places-lead : (plan : Plan) (path : List Step) (held : Bool) (c : Context) (n : ℕ) (place : Place) → Among place (places es plan path held c n) →
+      Leads es path c place.spot.context
   places-lead nothing path held c n place a = absurd a
   places-lead (a_line t cells inside rest) [] held c n place a = absurd a
   places-lead (a_line t cells inside rest) (s ∷ path) held c n place a =
       go (λ us further d m p b. places-lead inside us further d m p b) (λ m b. places-lead rest (s ∷ path) held c m place b) (same_step s t) refl a
     where
       below : ((us : List Step) (further : Bool) (d : Context) (m : ℕ) (p : Place) → Among p (places es inside us further d m) → Leads es us d p.spot.context)
-          → (path : List Step) (x : At) (p : Place) → Among p (last_places path (spot_of es t cells x.context) (places es inside path (holds_further es cells inside held x.context) x.context (begin_in es t cells x)))
+          → (path : List Step) (x : At) (p : Place) →
+          Among p (last_places path (spot_of es t cells x.context)
+          (places es inside path (holds_further es cells inside held x.context) x.context (begin_in es t cells x)))
           → Leads es path x.context p.spot.context
       below inner [] x p (inl e) = ap (λ (q : Place). q.spot.context) e
       below inner [] x p (inr b) = absurd b
@@ -101,7 +116,8 @@ module _ (es : List Entry) where
           ]) → Leads es (s ∷ path) c place.spot.context
       go inner later true e k =
           let w = of-own t cells inside path held c n place k in
-          let there = (of-filter-any (is_emitted es t cells inside held) w.x.context (spots es c t.group) (of-sized (long_of es t cells inside held) w.x (emitted es t cells inside held c) n w.at)).0 in (
+          let there = (of-filter-any (is_emitted es t cells inside held) w.x.context (spots es c t.group)
+          (of-sized (long_of es t cells inside held) w.x (emitted es t cells inside held c) n w.at)).0 in (
             w.x.context,
             subst (λ o. Among w.x.context (spots es c o)) (sym (ap (λ (z : Step). z.group) (step-sound s t e))) there,
             subst (Leads es path w.x.context) (ap (λ (q : Place). q.spot.context) w.is) (below inner path w.x w.p w.within),
@@ -121,7 +137,14 @@ module _ (es : List Entry) where
   Before a b = last_of a.way < last_of b.way
 
   wider : (a b c d : ℕ) → c ≤ a → b ≤ d → (place : Place) → IsBetween a b place → IsBetween c d place
-  wider a b c d l r place k = record { first = k.first; further = k.further; way_is = k.way_is; least = (let x = k.least in omega (arith, l, x)); most = (let x = k.most in omega (arith, r, x)) }
+  wider a b c d l r place k = record {
+    first = k.first;
+    further = k.further;
+    way_is = k.way_is;
+    least = (let x = k.least in omega (arith, l, x));
+    most =
+        (let x = k.most in omega (arith, r, x));
+  }
 
   abbrev Ahead : (Context → ℕ) → At → At → Type 0
   Ahead long a b = a.number + long a.context ≤ b.number
@@ -129,7 +152,8 @@ module _ (es : List Entry) where
   abbrev Spans : (Context → ℕ) → ℕ → ℕ → At → Type 0
   Spans long low high x = (low ≤ x.number) × (x.number + long x.context ≤ high)
 
-  sized-spans : (long : Context → ℕ) (ds : List Context) (n : ℕ) → (n ≤ past long ds n) × (Each (Spans long n (past long ds n)) (sized long ds n) × Rising (Ahead long) (sized long ds n))
+  sized-spans : (long : Context → ℕ) (ds : List Context) (n : ℕ) → (n ≤ past long ds n) ×
+      (Each (Spans long n (past long ds n)) (sized long ds n) × Rising (Ahead long) (sized long ds n))
   sized-spans long [] n = (omega arith, (tt, tt))
   sized-spans long (d ∷ ds) n =
       let w = sized-spans long ds (n + long d) in
@@ -138,14 +162,21 @@ module _ (es : List Entry) where
         (
           (
             (omega arith, l),
-            each-weaker (Spans long (n + long d) (past long ds (n + long d))) (Spans long n (past long ds (n + long d))) (sized long ds (n + long d)) (λ x k. ((let a = k.0 in omega (arith, a)), k.1)) w.1.0,
+            each-weaker (Spans long (n + long d) (past long ds (n + long d))) (Spans long n (past long ds (n + long d))) (sized long ds (n + long d))
+                (λ x k. ((let a = k.0 in omega (arith, a)), k.1)) w.1.0,
           ),
-          (each-weaker (Spans long (n + long d) (past long ds (n + long d))) (Ahead long (record { context = d; number = n })) (sized long ds (n + long d)) (λ x k. k.0) w.1.0, w.1.1),
+          (
+            each-weaker (Spans long (n + long d) (past long ds (n + long d))) (Ahead long (record { context = d; number = n })) (sized long ds (n + long d))
+                (λ x k. k.0) w.1.0,
+            w.1.1,
+          ),
         ),
       )
 
-  elements-long : (written : Name) (attrs : Context → List Attribute) (inside : Context → Forest) (is_there : Context → Bool) (rest : Forest) (ds : List Context) (n : ℕ)
-      → past (λ d. 1 + (length (attrs d) + size (inside d))) (filter is_there ds) n + size rest ≡ n + size (elements is_there (λ d. an_element written (attrs d) (inside d)) ds rest)
+  elements-long : (written : Name) (attrs : Context → List Attribute) (inside : Context → Forest) (is_there : Context → Bool) (rest : Forest)
+      (ds : List Context) (n : ℕ)
+      → past (λ d. 1 + (length (attrs d) + size (inside d))) (filter is_there ds) n + size rest ≡ n + size
+      (elements is_there (λ d. an_element written (attrs d) (inside d)) ds rest)
   elements-long written attrs inside is_there rest [] n = refl
   elements-long written attrs inside is_there rest (d ∷ ds) n = go (is_there d) (elements-long written attrs inside is_there rest ds)
     where
@@ -153,9 +184,13 @@ module _ (es : List Entry) where
       long e = 1 + (length (attrs e) + size (inside e))
 
       go : (b : Bool)
-          → ((m : ℕ) → past (λ e. 1 + (length (attrs e) + size (inside e))) (filter is_there ds) m + size rest ≡ m + size (elements is_there (λ e. an_element written (attrs e) (inside e)) ds rest))
+          → ((m : ℕ) → past (λ e. 1 + (length (attrs e) + size (inside e))) (filter is_there ds) m + size rest ≡ m + size
+          (elements is_there (λ e. an_element written (attrs e) (inside e)) ds rest))
           → past (λ e. 1 + (length (attrs e) + size (inside e))) (if b then d ∷ filter is_there ds else filter is_there ds) n + size rest
-          ≡ n + size (elim b [ true ↦ an_element written (attrs d) (inside d) (elements is_there (λ e. an_element written (attrs e) (inside e)) ds rest) | false ↦ elements is_there (λ e. an_element written (attrs e) (inside e)) ds rest ])
+          ≡ n + size (elim b [
+            | true ↦ an_element written (attrs d) (inside d) (elements is_there (λ e. an_element written (attrs e) (inside e)) ds rest)
+            | false ↦ elements is_there (λ e. an_element written (attrs e) (inside e)) ds rest
+          ])
       go true later = let k = later (n + (1 + (length (attrs d) + size (inside d)))) in omega (arith, k)
       go false later = later n
 
@@ -177,16 +212,26 @@ module _ (es : List Entry) where
       last-behind q z = ap (λ way. last_of (m ∷ way)) z.way_is ∙ sym (ap last_of z.way_is)
 
       one : (q : Place) → IsBetween low high q → IsBetween low high (behind m q)
-      one q z = record { first = m; further = q.way; way_is = refl; least = subst (λ l. low ≤ l) (sym (last-behind q z)) z.least; most = subst (λ l. l < high) (sym (last-behind q z)) z.most }
+      one q z = record {
+        first = m;
+        further = q.way;
+        way_is = refl;
+        least = subst (λ l. low ≤ l) (sym (last-behind q z)) z.least;
+        most =
+            subst (λ l. l < high) (sym (last-behind q z)) z.most;
+      }
 
-      all : (q : Place) → IsBetween low high q → (qs : List Place) → Each (IsBetween low high) qs → Each (Before q) qs → Each (Before (behind m q)) (map (behind m) qs)
+      all : (q : Place) → IsBetween low high q → (qs : List Place) → Each (IsBetween low high) qs → Each (Before q) qs →
+          Each (Before (behind m q)) (map (behind m) qs)
       all q z [] e r = tt
       all q z (y ∷ qs) e r = ((let a = last-behind q z in let b = last-behind y e.0 in let c = r.0 in omega (arith, a, b, c)), all q z qs e.1 r.1)
 
-  pub between : (plan : Plan) (path : List Step) (held : Bool) (c : Context) (n : ℕ) → AreBetween n (n + size (written_lines es plan held c)) (places es plan path held c n)
+  pub between : (plan : Plan) (path : List Step) (held : Bool) (c : Context) (n : ℕ) →
+      AreBetween n (n + size (written_lines es plan held c)) (places es plan path held c n)
   between nothing path held c n = record { each = tt; rising = tt }
   between (a_line t cells inside rest) [] held c n = record { each = tt; rising = tt }
-  between (a_line t cells inside rest) (s ∷ path) held c n = go (λ us further d m. between inside us further d m) (λ m. between rest (s ∷ path) held c m) (same_step s t)
+  between (a_line t cells inside rest) (s ∷ path) held c n = go (λ us further d m. between inside us further d m) (λ m. between rest (s ∷ path) held c m)
+      (same_step s t)
     where
       long : Context → ℕ
       long = long_of es t cells inside held
@@ -194,13 +239,21 @@ module _ (es : List Entry) where
       next : ℕ
       next = past (long_of es t cells inside held) (emitted es t cells inside held c) n
 
-      whole : past (long_of es t cells inside held) (emitted es t cells inside held c) n + size (written_lines es rest held c) ≡ n + size (written_lines es (a_line t cells inside rest) held c)
-      whole = elements-long (name_of t.name) (attributes es t cells) (written_in es cells inside held) (is_emitted es t cells inside held) (written_lines es rest held c) (spots es c t.group) n
+      whole : past (long_of es t cells inside held) (emitted es t cells inside held c) n + size (written_lines es rest held c) ≡ n + size
+          (written_lines es (a_line t cells inside rest) held c)
+      whole = elements-long (name_of t.name) (attributes es t cells) (written_in es cells inside held) (is_emitted es t cells inside held)
+          (written_lines es rest held c) (spots es c t.group) n
 
-      one : ((us : List Step) (further : Bool) (d : Context) (m : ℕ) → AreBetween m (m + size (written_lines es inside further d)) (places es inside us further d m)) → (path : List Step) (x : At)
+      one : ((us : List Step) (further : Bool) (d : Context) (m : ℕ) →
+          AreBetween m (m + size (written_lines es inside further d)) (places es inside us further d m)) → (path : List Step) (x : At)
           → AreBetween x.number (x.number + long_of es t cells inside held x.context)
-          (map (behind x.number) (last_places path (spot_of es t cells x.context) (places es inside path (holds_further es cells inside held x.context) x.context (begin_in es t cells x))))
-      one inner [] x = record { each = (record { first = x.number; further = []; way_is = refl; least = omega arith; most = omega arith }, tt); rising = (tt, tt) }
+          (map (behind x.number) (last_places path (spot_of es t cells x.context)
+          (places es inside path (holds_further es cells inside held x.context) x.context (begin_in es t cells x))))
+      one inner [] x = record {
+        each = (record { first = x.number; further = []; way_is = refl; least = omega arith; most = omega arith }, tt);
+        rising =
+            (tt, tt);
+      }
       one inner (u ∷ us) x =
           let further : Bool = holds_further es cells inside held x.context in
           let w = inner (u ∷ us) further x.context (begin_in es t cells x) in
@@ -208,15 +261,19 @@ module _ (es : List Entry) where
           let text = text-long (element_text es cells x.context) f (x.number + (1 + length (attributes es t cells x.context))) in
           let a = text.0 in
           let b = text.1 in
-          behind-between x.number x.number (x.number + long_of es t cells inside held x.context) (places es inside (u ∷ us) further x.context (begin_in es t cells x))
+          behind-between x.number x.number (x.number + long_of es t cells inside held x.context)
+          (places es inside (u ∷ us) further x.context (begin_in es t cells x))
           (record {
-            each = each-weaker (IsBetween (begin_in es t cells x) (begin_in es t cells x + size f)) (IsBetween x.number (x.number + long_of es t cells inside held x.context))
+            each = each-weaker (IsBetween (begin_in es t cells x) (begin_in es t cells x + size f))
+                (IsBetween x.number (x.number + long_of es t cells inside held x.context))
                 (places es inside (u ∷ us) further x.context (begin_in es t cells x))
-                (λ p k. wider (begin_in es t cells x) (begin_in es t cells x + size f) x.number (x.number + long_of es t cells inside held x.context) (omega (arith, a)) (omega (arith, b)) p k) w.each;
+                (λ p k. wider (begin_in es t cells x) (begin_in es t cells x + size f) x.number (x.number + long_of es t cells inside held x.context)
+                (omega (arith, a)) (omega (arith, b)) p k) w.each;
             rising = w.rising;
           })
 
-      go : ((us : List Step) (further : Bool) (d : Context) (m : ℕ) → AreBetween m (m + size (written_lines es inside further d)) (places es inside us further d m))
+      go : ((us : List Step) (further : Bool) (d : Context) (m : ℕ) →
+          AreBetween m (m + size (written_lines es inside further d)) (places es inside us further d m))
           → ((m : ℕ) → AreBetween m (m + size (written_lines es rest held c)) (places es rest (s ∷ path) held c m)) → (b : Bool)
           → AreBetween n (n + size (written_lines es (a_line t cells inside rest) held c)) (elim b [
             | true ↦ own_places t cells inside path held c n
@@ -224,17 +281,24 @@ module _ (es : List Entry) where
           ])
       go inner later true =
           let all : List At = sized (long_of es t cells inside held) (emitted es t cells inside held c) n in
-          let f : At → List Place = λ x. map (behind x.number) (last_places path (spot_of es t cells x.context) (places es inside path (holds_further es cells inside held x.context) x.context (begin_in es t cells x))) in
+          let f : At → List Place = λ x. map (behind x.number)
+          (last_places path (spot_of es t cells x.context)
+          (places es inside path (holds_further es cells inside held x.context) x.context (begin_in es t cells x))) in
           let w = sized-spans (long_of es t cells inside held) (emitted es t cells inside held c) n in
           let z = whole in
           record {
             each = each-flat_map (IsBetween n (n + size (written_lines es (a_line t cells inside rest) held c))) f all
-                (each-weaker (Spans (long_of es t cells inside held) n (past (long_of es t cells inside held) (emitted es t cells inside held c) n)) (λ x. Each (IsBetween n (n + size (written_lines es (a_line t cells inside rest) held c))) (f x)) all
-                (λ x k. let l = k.0 in let r = k.1 in each-weaker (IsBetween x.number (x.number + long_of es t cells inside held x.context)) (IsBetween n (n + size (written_lines es (a_line t cells inside rest) held c))) (f x)
-                (λ p y. wider x.number (x.number + long_of es t cells inside held x.context) n (n + size (written_lines es (a_line t cells inside rest) held c)) l (omega (arith, r, z)) p y) (one inner path x).each)
+                (each-weaker (Spans (long_of es t cells inside held) n (past (long_of es t cells inside held) (emitted es t cells inside held c) n))
+                (λ x. Each (IsBetween n (n + size (written_lines es (a_line t cells inside rest) held c))) (f x)) all
+                (λ x k. let l = k.0 in let r = k.1 in each-weaker (IsBetween x.number (x.number + long_of es t cells inside held x.context))
+                (IsBetween n (n + size (written_lines es (a_line t cells inside rest) held c))) (f x)
+                (λ p y. wider x.number (x.number + long_of es t cells inside held x.context) n
+                (n + size (written_lines es (a_line t cells inside rest) held c)) l (omega (arith, r, z)) p y) (one inner path x).each)
                 w.1.0);
-            rising = rising-flat_map (Ahead (long_of es t cells inside held)) Before (λ x p. IsBetween x.number (x.number + long_of es t cells inside held x.context) p) f
-                (λ x y p q l a b. let h = a.most in let k = b.least in omega (arith, l, h, k)) all w.1.1 (each-all (λ x. (one inner path x).rising) (λ x. (one inner path x).each) all);
+            rising = rising-flat_map (Ahead (long_of es t cells inside held)) Before
+                (λ x p. IsBetween x.number (x.number + long_of es t cells inside held x.context) p) f
+                (λ x y p q l a b. let h = a.most in let k = b.least in omega (arith, l, h, k)) all w.1.1
+                (each-all (λ x. (one inner path x).rising) (λ x. (one inner path x).each) all);
           }
         where
           each-all : {P Q : At → Type 0} → ((x : At) → P x) → ((x : At) → Q x) → (xs : List At) → Each (λ x. P x × Q x) xs
@@ -245,9 +309,12 @@ module _ (es : List Entry) where
           let l = (sized-spans (long_of es t cells inside held) (emitted es t cells inside held c) n).0 in
           let z = whole in
           record {
-            each = each-weaker (IsBetween (past (long_of es t cells inside held) (emitted es t cells inside held c) n) (past (long_of es t cells inside held) (emitted es t cells inside held c) n + size (written_lines es rest held c)))
-                (IsBetween n (n + size (written_lines es (a_line t cells inside rest) held c))) (places es rest (s ∷ path) held c (past (long_of es t cells inside held) (emitted es t cells inside held c) n))
-                (λ p k. wider (past (long_of es t cells inside held) (emitted es t cells inside held c) n) (past (long_of es t cells inside held) (emitted es t cells inside held c) n + size (written_lines es rest held c)) n
+            each = each-weaker (IsBetween (past (long_of es t cells inside held) (emitted es t cells inside held c) n)
+                (past (long_of es t cells inside held) (emitted es t cells inside held c) n + size (written_lines es rest held c)))
+                (IsBetween n (n + size (written_lines es (a_line t cells inside rest) held c)))
+                (places es rest (s ∷ path) held c (past (long_of es t cells inside held) (emitted es t cells inside held c) n))
+                (λ p k. wider (past (long_of es t cells inside held) (emitted es t cells inside held c) n)
+                (past (long_of es t cells inside held) (emitted es t cells inside held c) n + size (written_lines es rest held c)) n
                 (n + size (written_lines es (a_line t cells inside rest) held c)) l (omega (arith, z)) p k) w.each;
             rising = w.rising;
           }
@@ -275,38 +342,50 @@ module _ (es : List Entry) (g : Group) where
     pub leads : Leads es (beyond g path) mark.spot.context place.spot.context
 
   below-path : (t : Step) (cells : List Cell) (inside : Plan) (path : List Step) (held : Bool) (x : At) (p : Place)
-      → Among p (last_places path (spot_of es t cells x.context) (places es inside path (holds_further es cells inside held x.context) x.context (begin_in es t cells x))) → Leads es path x.context p.spot.context
+      → Among p (last_places path (spot_of es t cells x.context)
+      (places es inside path (holds_further es cells inside held x.context) x.context (begin_in es t cells x))) → Leads es path x.context p.spot.context
   below-path t cells inside [] held x p (inl e) = ap (λ (q : Place). q.spot.context) e
   below-path t cells inside [] held x p (inr b) = absurd b
-  below-path t cells inside (u ∷ us) held x p b = places-lead es inside (u ∷ us) (holds_further es cells inside held x.context) x.context (begin_in es t cells x) p b
+  below-path t cells inside (u ∷ us) held x p b = places-lead es inside (u ∷ us) (holds_further es cells inside held x.context) x.context
+      (begin_in es t cells x) p b
 
-  pub carried : (plan : Plan) (path : List Step) (held : Bool) (c : Context) (n : ℕ) (place : Place) → has_carrier g path ≡ true → Among place (places es plan path held c n) → IsCarried plan path held c n place
+  pub carried : (plan : Plan) (path : List Step) (held : Bool) (c : Context) (n : ℕ) (place : Place) → has_carrier g path ≡ true →
+      Among place (places es plan path held c n) → IsCarried plan path held c n place
   carried nothing path held c n place h a = absurd a
   carried (a_line t cells inside rest) [] held c n place h a = absurd a
   carried (a_line t cells inside rest) (s ∷ path) held c n place h a =
       go (λ us further d m p k b. carried inside us further d m p k b) (λ m b. carried rest (s ∷ path) held c m place h b) (same_step s t) refl a
     where
       -- the way behind an element of the line
-      at-line : ((us : List Step) (further : Bool) (d : Context) (m : ℕ) (p : Place) → has_carrier g us ≡ true → Among p (places es inside us further d m) → IsCarried inside us further d m p)
+      at-line : ((us : List Step) (further : Bool) (d : Context) (m : ℕ) (p : Place) → has_carrier g us ≡ true → Among p (places es inside us further d m) →
+          IsCarried inside us further d m p)
           → (x : At) → Among x (sized (long_of es t cells inside held) (emitted es t cells inside held c) n) → (p : Place)
-          → Among p (last_places path (spot_of es t cells x.context) (places es inside path (holds_further es cells inside held x.context) x.context (begin_in es t cells x)))
+          → Among p (last_places path (spot_of es t cells x.context)
+          (places es inside path (holds_further es cells inside held x.context) x.context (begin_in es t cells x)))
           → (b : Bool) → (elim b [ true ↦ true | false ↦ has_carrier g path ]) ≡ true
           → (mark : Place) × (Among mark (own_places es t cells inside (elim b [ true ↦ [] | false ↦ upto g path ]) held c n)
-          × ((elim b [ true ↦ Some x.number | false ↦ carrier g path p.way ]) ≡ Some (last_of mark.way) × Leads es (elim b [ true ↦ path | false ↦ beyond g path ]) mark.spot.context p.spot.context))
+          × ((elim b [ true ↦ Some x.number | false ↦ carrier g path p.way ]) ≡ Some (last_of mark.way) ×
+          Leads es (elim b [ true ↦ path | false ↦ beyond g path ]) mark.spot.context p.spot.context))
       at-line inner x at p within true k = (
         behind x.number (record { way = []; spot = spot_of es t cells x.context }),
-        (to-own es t cells inside [] held c n x (record { way = []; spot = spot_of es t cells x.context }) at (inl refl), (refl, below-path t cells inside path held x p within)),
+        (
+          to-own es t cells inside [] held c n x (record { way = []; spot = spot_of es t cells x.context }) at (inl refl),
+          (refl, below-path t cells inside path held x p within),
+        ),
       )
       at-line inner x at p within false k = deeper path k within
         where
           deeper : (path : List Step) → has_carrier g path ≡ true
-              → Among p (last_places path (spot_of es t cells x.context) (places es inside path (holds_further es cells inside held x.context) x.context (begin_in es t cells x)))
-              → (mark : Place) × (Among mark (own_places es t cells inside (upto g path) held c n) × (carrier g path p.way ≡ Some (last_of mark.way) × Leads es (beyond g path) mark.spot.context p.spot.context))
+              → Among p (last_places path (spot_of es t cells x.context)
+              (places es inside path (holds_further es cells inside held x.context) x.context (begin_in es t cells x)))
+              → (mark : Place) × (Among mark (own_places es t cells inside (upto g path) held c n) ×
+              (carrier g path p.way ≡ Some (last_of mark.way) × Leads es (beyond g path) mark.spot.context p.spot.context))
           deeper [] z b = absurd (false≢true z)
           deeper (u ∷ us) z b =
               let further : Bool = holds_further es cells inside held x.context in
               let w = inner (u ∷ us) further x.context (begin_in es t cells x) p z b in
-              let is = each-at w.mark (places es inside (upto g (u ∷ us)) further x.context (begin_in es t cells x)) (between es inside (upto g (u ∷ us)) further x.context (begin_in es t cells x)).each w.among in (
+              let is = each-at w.mark (places es inside (upto g (u ∷ us)) further x.context (begin_in es t cells x))
+              (between es inside (upto g (u ∷ us)) further x.context (begin_in es t cells x)).each w.among in (
                 behind x.number w.mark,
                 (
                   to-own es t cells inside (upto g (u ∷ us)) held c n x w.mark at w.among,
@@ -319,7 +398,8 @@ module _ (es : List Entry) (g : Group) where
               each-at {low} {high} q (y ∷ qs) e (inl s) = subst (IsBetween es low high) s e.0
               each-at q (y ∷ qs) e (inr m) = each-at q qs e.1 m
 
-      go : ((us : List Step) (further : Bool) (d : Context) (m : ℕ) (p : Place) → has_carrier g us ≡ true → Among p (places es inside us further d m) → IsCarried inside us further d m p)
+      go : ((us : List Step) (further : Bool) (d : Context) (m : ℕ) (p : Place) → has_carrier g us ≡ true → Among p (places es inside us further d m) →
+          IsCarried inside us further d m p)
           → ((m : ℕ) → Among place (places es rest (s ∷ path) held c m) → IsCarried rest (s ∷ path) held c m place)
           → (b : Bool) → same_step s t ≡ b → Among place (elim b [
             | true ↦ own_places es t cells inside path held c n

@@ -1,5 +1,6 @@
 -- A row of a table is at the line of its path, where the path stands apart. So a plain row is one by a test that computes.
-use Rattle.std.proofs.Common.{◌≡◌, ℕ, suc, zero, ◌+◌, ◌<◌, Bool, true, false, not, ◌&&◌, ◌||◌, List, [], ◌∷◌, ◌++◌, length, get_or, map, filter, flat_map, Option, Some, None, ◌⊎◌, inl, inr, All, refl, sym, ap, ◌∙◌, subst, append_assoc, arith}
+use Rattle.std.proofs.Common.{◌≡◌, ℕ, suc, zero, ◌+◌, ◌<◌, Bool, true, false, not, ◌&&◌, ◌||◌, List, [], ◌∷◌, ◌++◌, length, get_or, map, filter, flat_map}
+use Rattle.std.proofs.Common.{Option, Some, None, ◌⊎◌, inl, inr, All, refl, sym, ap, ◌∙◌, subst, append_assoc, arith}
 use Rattle.std.specs.Prelude.{slice_get, is_some, is_none, Contains}
 use Rattle.std.proofs.lemmas.Bool.{false≢true}
 use Rattle.std.proofs.lemmas.List.Sorted.{Contains-permutation}
@@ -32,11 +33,16 @@ use Rattle.bind_meaning.specs.Picks.{has_term}
 use Rattle.bind_meaning.specs.Trees.{is_at_element, is_amount}
 use Rattle.bind_meaning.specs.Currencies.{currency_id}
 use Rattle.binding_laws.specs.Apart as apart
-use Rattle.binding_laws.specs.Apart.{is_attribute_named, is_at_attribute, is_nothing, Known, without, unknown, beyond, is_met_or_unwritten, is_off, is_clear, is_apart, stands_apart_without, stands_apart}
-use Rattle.binding_laws.specs.Covered.{is_coded, is_noted_in, is_or_filler, is_filled_there, is_filled_in, is_total_rule, is_accounting_rule, accounting_terms, total_terms, beside_filler, is_total_there, is_half, are_pair_there, are_pair, unpaired_terms, is_total_in}
+use Rattle.binding_laws.specs.Apart.{is_attribute_named, is_at_attribute, is_nothing, Known, without, unknown, beyond, is_met_or_unwritten, is_off, is_clear}
+use Rattle.binding_laws.specs.Apart.{is_apart, stands_apart_without, stands_apart}
+use Rattle.binding_laws.specs.Covered.{is_coded, is_noted_in, is_or_filler, is_filled_there, is_filled_in, is_total_rule, is_accounting_rule, accounting_terms}
+use Rattle.binding_laws.specs.Covered.{total_terms, beside_filler, is_total_there, is_half, are_pair_there, are_pair, unpaired_terms, is_total_in}
 use Rattle.binding_laws.specs.Twins.{same_way, are_twins}
 use Rattle.binding_laws.specs.Faultless.{is_no_row}
-use Rattle.binding_laws.specs.Plain.{rows_at, stands_there, groups_of, listed, IsPlainThere, IsPlain, is_one, is_element, is_whole, is_of_one_term, is_always, is_by_value, has_content, is_plain_there, is_plain_with, is_plain, IsSpreadWith, IsSpread, is_spread_with, is_spread, IsSpreadAttribute, is_spread_attribute, IsPlainAttributeThere, IsPlainAttribute, is_part_named, is_plain_attribute_with, is_plain_attribute}
+use Rattle.binding_laws.specs.Plain.{rows_at, stands_there, groups_of, listed, IsPlainThere, IsPlain, is_one, is_element, is_whole, is_of_one_term, is_always}
+use Rattle.binding_laws.specs.Plain.{is_by_value, has_content, is_plain_there, is_plain_with, is_plain, IsSpreadWith, IsSpread, is_spread_with, is_spread}
+use Rattle.binding_laws.specs.Plain.{IsSpreadAttribute, is_spread_attribute, IsPlainAttributeThere, IsPlainAttribute, is_part_named, is_plain_attribute_with}
+use Rattle.binding_laws.specs.Plain.{is_plain_attribute}
 use Rattle.binding_laws.proofs.RowLemmas.{called-self}
 use Rattle.binding_laws.proofs.ListLemmas.{both-true}
 use Rattle.binding_laws.proofs.ReachLemmas.{Among, among-split, among-filter, among-map}
@@ -76,11 +82,13 @@ not-so false h = refl
 not-same : (s t : Step) → same_step s t ≡ false → s ≡ t → ⊥
 not-same s t h e = false≢true (sym h ∙ (ap (same_step s) (sym e) ∙ step-itself s))
 
-clear-parts : (known : Known) (t : Step) (cells : List Cell) (inside rest : Plan) (s : Step) (steps : List Step) → is_clear known (a_line t cells inside rest) (s ∷ steps) ≡ true → (s ≡ t → ⊥) × (is_clear known rest (s ∷ steps) ≡ true)
+clear-parts : (known : Known) (t : Step) (cells : List Cell) (inside rest : Plan) (s : Step) (steps : List Step) →
+    is_clear known (a_line t cells inside rest) (s ∷ steps) ≡ true → (s ≡ t → ⊥) × (is_clear known rest (s ∷ steps) ≡ true)
 clear-parts known t cells inside rest s steps h = go (apart.is_called s.name t.name) refl h
   where
     go : (b : Bool) → apart.is_called s.name t.name ≡ b → (elim b [
-      | true ↦ (not (same_step s t) && (is_off known s.guards t cells inside || elim steps [ [] ↦ false | (u ∷ further) ↦ is_clear (beyond t.group known) inside (u ∷ further) ])) && is_clear known rest (s ∷ steps)
+      | true ↦ (not (same_step s t) && (is_off known s.guards t cells inside ||
+          elim steps [ [] ↦ false | (u ∷ further) ↦ is_clear (beyond t.group known) inside (u ∷ further) ])) && is_clear known rest (s ∷ steps)
       | false ↦ is_clear known rest (s ∷ steps)
     ]) ≡ true
         → (s ≡ t → ⊥) × (is_clear known rest (s ∷ steps) ≡ true)
@@ -102,7 +110,13 @@ ends-behind known above (a_line t cells inside rest) e h =
           record { first = t; further = []; is = sym (ap (λ (x : End). x.path) w.2); differs = λ u us c. (clear-parts known t cells inside rest u us c).0 }
       | inr n ↦ elim (among-split e (ends (above ++ t ∷ []) inside) (ends above rest) n) [
         | inl m ↦ let w = ends-behind (beyond t.group known) (above ++ t ∷ []) inside e m in
-            record { first = t; further = w.first ∷ w.further; is = w.is ∙ append_assoc above (t ∷ []) (w.first ∷ w.further); differs = λ u us c. (clear-parts known t cells inside rest u us c).0 }
+            record {
+              first = t;
+              further = w.first ∷ w.further;
+              is = w.is ∙ append_assoc above (t ∷ []) (w.first ∷ w.further);
+              differs =
+                  λ u us c. (clear-parts known t cells inside rest u us c).0;
+            }
         | inr m ↦ let w = ends-behind known above rest e m in
             record { first = w.first; further = w.further; is = w.is; differs = λ u us c. w.differs u us (clear-parts known t cells inside rest u us c).1 }
       ]
@@ -110,11 +124,13 @@ ends-behind known above (a_line t cells inside rest) e h =
 
 -- a row at a line that has its path, is one of those at the end of the path
 module _ (is_so : Cell → Bool) where
-  ends-apart : (known : Known) (above path : List Step) (plan : Plan) (cell : Cell) → is_apart known plan path ≡ true → is_so cell ≡ true → Among (end_at (above ++ path) cell) (ends above plan) → Among cell.row (rows_at is_so plan path)
+  ends-apart : (known : Known) (above path : List Step) (plan : Plan) (cell : Cell) → is_apart known plan path ≡ true → is_so cell ≡ true →
+      Among (end_at (above ++ path) cell) (ends above plan) → Among cell.row (rows_at is_so plan path)
   ends-apart known above path nothing cell apart_it at h = absurd h
   ends-apart known above [] (a_line t cells inside rest) cell apart_it at h = absurd (false≢true apart_it)
   ends-apart known above (s ∷ path) (a_line t cells inside rest) cell apart_it at h =
-      go (λ q. ends-apart (beyond t.group known) (above ++ t ∷ []) q inside cell) (λ k. ends-apart known above (s ∷ path) rest cell k at) (same_step s t) refl apart_it
+      go (λ q. ends-apart (beyond t.group known) (above ++ t ∷ []) q inside cell) (λ k. ends-apart known above (s ∷ path) rest cell k at)
+      (same_step s t) refl apart_it
       (among-split (end_at (above ++ (s ∷ path)) cell) (map (end_at (above ++ t ∷ [])) cells) (ends (above ++ t ∷ []) inside ++ ends above rest) h)
     where
       here : (q : List Step) → (c : Cell) → end_at (above ++ t ∷ []) c ≡ end_at (above ++ (s ∷ q)) cell → (t ≡ s) × (q ≡ []) × (c ≡ cell)
@@ -122,9 +138,11 @@ module _ (is_so : Cell → Bool) where
           let path_is : t ∷ [] ≡ s ∷ q = cancel above (t ∷ []) (s ∷ q) (ap (λ (x : End). x.path) k) in
           (cc, cc, ap (λ (x : End). x.cell) k)
 
-      below : (q : List Step) (p : List Step) → p ≡ above ++ (s ∷ q) → IsBehind (beyond t.group known) (above ++ t ∷ []) inside p → (s ≡ t) × ((u : Step) × (us : List Step) × (q ≡ u ∷ us))
+      below : (q : List Step) (p : List Step) → p ≡ above ++ (s ∷ q) → IsBehind (beyond t.group known) (above ++ t ∷ []) inside p → (s ≡ t) ×
+          ((u : Step) × (us : List Step) × (q ≡ u ∷ us))
       below q p is w =
-          let path_is : s ∷ q ≡ t ∷ (w.first ∷ w.further) = cancel above (s ∷ q) (t ∷ (w.first ∷ w.further)) (sym is ∙ (w.is ∙ append_assoc above (t ∷ []) (w.first ∷ w.further))) in
+          let path_is : s ∷ q ≡ t ∷ (w.first ∷ w.further) =
+          cancel above (s ∷ q) (t ∷ (w.first ∷ w.further)) (sym is ∙ (w.is ∙ append_assoc above (t ∷ []) (w.first ∷ w.further))) in
           (cc, (w.first, w.further, cc))
 
       beside : (p : List Step) → p ≡ above ++ (s ∷ path) → is_clear known rest (s ∷ path) ≡ true → IsBehind known above rest p → ⊥
@@ -133,7 +151,8 @@ module _ (is_so : Cell → Bool) where
           w.differs s path clear cc
 
       further-on : (b : Bool) → (elim b [
-        | true ↦ (is_off known s.guards t cells inside || elim path [ [] ↦ false | (u ∷ further) ↦ is_clear (beyond t.group known) inside (u ∷ further) ]) && is_apart known rest (s ∷ path)
+        | true ↦ (is_off known s.guards t cells inside || elim path [ [] ↦ false | (u ∷ further) ↦ is_clear (beyond t.group known) inside (u ∷ further) ]) &&
+            is_apart known rest (s ∷ path)
         | false ↦ is_apart known rest (s ∷ path)
       ]) ≡ true
           → is_apart known rest (s ∷ path) ≡ true
@@ -141,9 +160,11 @@ module _ (is_so : Cell → Bool) where
       further-on false k = k
 
       at-end : (q : List Step)
-          → ((r : List Step) → is_apart (beyond t.group known) inside r ≡ true → is_so cell ≡ true → Among (end_at ((above ++ t ∷ []) ++ r) cell) (ends (above ++ t ∷ []) inside) → Among cell.row (rows_at is_so inside r))
+          → ((r : List Step) → is_apart (beyond t.group known) inside r ≡ true → is_so cell ≡ true →
+          Among (end_at ((above ++ t ∷ []) ++ r) cell) (ends (above ++ t ∷ []) inside) → Among cell.row (rows_at is_so inside r))
           → (elim q [ [] ↦ is_nothing inside | (u ∷ further) ↦ is_apart (beyond t.group known) inside (u ∷ further) ]) ≡ true → s ≡ t
-          → (Among (end_at (above ++ (s ∷ q)) cell) (map (end_at (above ++ t ∷ [])) cells)) ⊎ (Among (end_at (above ++ (s ∷ q)) cell) (ends (above ++ t ∷ []) inside))
+          → (Among (end_at (above ++ (s ∷ q)) cell) (map (end_at (above ++ t ∷ [])) cells)) ⊎
+          (Among (end_at (above ++ (s ∷ q)) cell) (ends (above ++ t ∷ []) inside))
           → Among cell.row (elim q [ [] ↦ map (λ (x : Cell). x.row) (filter is_so cells) | (u ∷ further) ↦ rows_at is_so inside (u ∷ further) ])
       at-end [] inner k same (inl m) =
           let w = in-cells (above ++ t ∷ []) (end_at (above ++ (s ∷ [])) cell) cells m in
@@ -156,19 +177,25 @@ module _ (is_so : Cell → Bool) where
           absurd (let z : u ∷ us ≡ [] = (here (u ∷ us) w.0 w.2).1 in cc)
       at-end (u ∷ us) inner k same (inr m) =
           inner (u ∷ us) k at
-          (subst (λ p. Among (end_at p cell) (ends (above ++ t ∷ []) inside)) (ap (λ x. above ++ (x ∷ (u ∷ us))) same ∙ sym (append_assoc above (t ∷ []) (u ∷ us))) m)
+          (subst (λ p. Among (end_at p cell) (ends (above ++ t ∷ []) inside)) (ap (λ x. above ++ (x ∷ (u ∷ us))) same ∙
+          sym (append_assoc above (t ∷ []) (u ∷ us))) m)
 
-      go : ((r : List Step) → is_apart (beyond t.group known) inside r ≡ true → is_so cell ≡ true → Among (end_at ((above ++ t ∷ []) ++ r) cell) (ends (above ++ t ∷ []) inside) → Among cell.row (rows_at is_so inside r))
-          → (is_apart known rest (s ∷ path) ≡ true → Among (end_at (above ++ (s ∷ path)) cell) (ends above rest) → Among cell.row (rows_at is_so rest (s ∷ path)))
+      go : ((r : List Step) → is_apart (beyond t.group known) inside r ≡ true → is_so cell ≡ true →
+          Among (end_at ((above ++ t ∷ []) ++ r) cell) (ends (above ++ t ∷ []) inside) → Among cell.row (rows_at is_so inside r))
+          → (is_apart known rest (s ∷ path) ≡ true → Among (end_at (above ++ (s ∷ path)) cell) (ends above rest) →
+          Among cell.row (rows_at is_so rest (s ∷ path)))
           → (b : Bool) → same_step s t ≡ b
           → (elim b [
-            | true ↦ is_met_or_unwritten known s.guards t cells inside && (is_clear known rest (s ∷ path) && elim path [ [] ↦ is_nothing inside | (u ∷ further) ↦ is_apart (beyond t.group known) inside (u ∷ further) ])
+            | true ↦ is_met_or_unwritten known s.guards t cells inside &&
+                (is_clear known rest (s ∷ path) && elim path [ [] ↦ is_nothing inside | (u ∷ further) ↦ is_apart (beyond t.group known) inside (u ∷ further) ])
             | false ↦ elim (apart.is_called s.name t.name) [
-              | true ↦ (is_off known s.guards t cells inside || elim path [ [] ↦ false | (u ∷ further) ↦ is_clear (beyond t.group known) inside (u ∷ further) ]) && is_apart known rest (s ∷ path)
+              | true ↦ (is_off known s.guards t cells inside || elim path [ [] ↦ false | (u ∷ further) ↦ is_clear (beyond t.group known) inside (u ∷ further) ])
+                  && is_apart known rest (s ∷ path)
               | false ↦ is_apart known rest (s ∷ path)
             ]
           ]) ≡ true
-          → (Among (end_at (above ++ (s ∷ path)) cell) (map (end_at (above ++ t ∷ [])) cells)) ⊎ (Among (end_at (above ++ (s ∷ path)) cell) (ends (above ++ t ∷ []) inside ++ ends above rest))
+          → (Among (end_at (above ++ (s ∷ path)) cell) (map (end_at (above ++ t ∷ [])) cells)) ⊎
+          (Among (end_at (above ++ (s ∷ path)) cell) (ends (above ++ t ∷ []) inside ++ ends above rest))
           → Among cell.row (elim b [
             | true ↦ elim path [ [] ↦ map (λ (x : Cell). x.row) (filter is_so cells) | (u ∷ further) ↦ rows_at is_so inside (u ∷ further) ]
             | false ↦ rows_at is_so rest (s ∷ path)
@@ -189,11 +216,13 @@ module _ (is_so : Cell → Bool) where
           absurd (not-same s t k (sym (here path w.0 w.2).0))
       go inner later false k l (inr n) =
           elim (among-split (end_at (above ++ (s ∷ path)) cell) (ends (above ++ t ∷ []) inside) (ends above rest) n) [
-            | inl m ↦ absurd (not-same s t k (below path (above ++ (s ∷ path)) refl (ends-behind (beyond t.group known) (above ++ t ∷ []) inside (end_at (above ++ (s ∷ path)) cell) m)).0)
+            | inl m ↦ absurd (not-same s t k (below path (above ++ (s ∷ path)) refl
+                (ends-behind (beyond t.group known) (above ++ t ∷ []) inside (end_at (above ++ (s ∷ path)) cell) m)).0)
             | inr m ↦ later (further-on (apart.is_called s.name t.name) l) m
           ]
 
-own-end : (rows : List Row) (n j : ℕ) (row : Row) → slice_get rows j ≡ Some row → (k : ℕ) × (Among (end_at row.path (record { number = k; row = row })) (own_ends n rows))
+own-end : (rows : List Row) (n j : ℕ) (row : Row) → slice_get rows j ≡ Some row → (k : ℕ) ×
+    (Among (end_at row.path (record { number = k; row = row })) (own_ends n rows))
 own-end [] n zero row e = cc
 own-end [] n (suc j) row e = cc
 own-end (r ∷ rows) n zero row e =
@@ -207,12 +236,15 @@ one-row (r ∷ []) row h (inl s) = ap (λ x. x ∷ []) s
 one-row (r ∷ []) row h (inr a) = absurd a
 one-row (r ∷ (q ∷ rs)) row h a = absurd (false≢true h)
 
-pub row-known : (known : Known) (is_so : Cell → Bool) (rows : List Row) (j : ℕ) (row : Row) → All (λ (r : Row). 0 < length r.path) rows → slice_get rows j ≡ Some row → is_apart known (plan_of rows) row.path ≡ true
-    → ((k : ℕ) → is_so (record { number = k; row = row }) ≡ true) → is_one (rows_at is_so (plan_of rows) row.path) ≡ true → rows_at is_so (plan_of rows) row.path ≡ row ∷ []
+pub row-known : (known : Known) (is_so : Cell → Bool) (rows : List Row) (j : ℕ) (row : Row) → All (λ (r : Row). 0 < length r.path) rows →
+    slice_get rows j ≡ Some row → is_apart known (plan_of rows) row.path ≡ true
+    → ((k : ℕ) → is_so (record { number = k; row = row }) ≡ true) → is_one (rows_at is_so (plan_of rows) row.path) ≡ true →
+    rows_at is_so (plan_of rows) row.path ≡ row ∷ []
 row-known known is_so rows j row long e apart_it so one =
     let w = own-end rows 0 j row e in
     let cell : Cell = record { number = w.0; row = row } in
-    let at = contains-among (end_at row.path cell) (ends [] (plan_of rows)) (Contains-permutation (own_ends 0 rows) (ends [] (plan_of rows)) (end_at row.path cell) (rows-ends rows long)
+    let at = contains-among (end_at row.path cell) (ends [] (plan_of rows))
+    (Contains-permutation (own_ends 0 rows) (ends [] (plan_of rows)) (end_at row.path cell) (rows-ends rows long)
     (among-contains (end_at row.path cell) (own_ends 0 rows) w.1)) in
     one-row (rows_at is_so (plan_of rows) row.path) row one (ends-apart is_so known [] row.path (plan_of rows) cell apart_it (so w.0) at)
 
@@ -240,7 +272,8 @@ content-is (contents.Constant text) term h = absurd (false≢true h)
 at-element : {leaf : Leaf} → leaf ≡ leaves.Element → (elim leaf [ leaves.Element ↦ true | (leaves.Attribute local) ↦ false ]) ≡ true
 at-element e = ap (λ l. elim l [ leaves.Element ↦ true | (leaves.Attribute local) ↦ false ]) e
 
-pub plain-there-test : (known : Known) (rows : List Row) (j : ℕ) (row : Row) (term : Term) → All (λ (r : Row). 0 < length r.path) rows → slice_get rows j ≡ Some row → is_apart known (plan_of rows) row.path ≡ true
+pub plain-there-test : (known : Known) (rows : List Row) (j : ℕ) (row : Row) (term : Term) → All (λ (r : Row). 0 < length r.path) rows →
+    slice_get rows j ≡ Some row → is_apart known (plan_of rows) row.path ≡ true
     → is_plain_there (plan_of rows) row term ≡ true → IsPlainThere rows row term
 plain-there-test known rows j row term long e apart_it h =
     let b = both-true (is_one (rows_at is_at_element (plan_of rows) row.path)) _ h in
@@ -265,14 +298,16 @@ pub record IsPlainWith (known : Known) (rows : List Row) (row : Row) (term : Ter
   pub form : is_whole (form_for row.form term) ≡ true
   pub there : IsPlainThere rows row term
 
-pub plain-with-test : (known : Known) (rows : List Row) (j : ℕ) (row : Row) (term : Term) → All (λ (r : Row). 0 < length r.path) rows → slice_get rows j ≡ Some row → is_plain_with known (plan_of rows) row term ≡ true
+pub plain-with-test : (known : Known) (rows : List Row) (j : ℕ) (row : Row) (term : Term) → All (λ (r : Row). 0 < length r.path) rows →
+    slice_get rows j ≡ Some row → is_plain_with known (plan_of rows) row term ≡ true
     → IsPlainWith known rows row term
 plain-with-test known rows j row term long e h =
     let a = both-true (is_apart known (plan_of rows) row.path) _ h in
     let f = both-true (is_whole (form_for row.form term)) (is_plain_there (plan_of rows) row term) a.1 in
     record { apart = a.0; form = f.0; there = plain-there-test known rows j row term long e a.0 f.1 }
 
-pub plain-by-test : (rows : List Row) (j : ℕ) (row : Row) (term : Term) → All (λ (r : Row). 0 < length r.path) rows → slice_get rows j ≡ Some row → is_plain rows row term ≡ true → IsPlain rows row term
+pub plain-by-test : (rows : List Row) (j : ℕ) (row : Row) (term : Term) → All (λ (r : Row). 0 < length r.path) rows → slice_get rows j ≡ Some row →
+    is_plain rows row term ≡ true → IsPlain rows row term
 plain-by-test rows j row term long e h = let w = plain-with-test unknown rows j row term long e h in record { apart = w.apart; form = w.form; there = w.there }
 
 -- It is plain, but for a subject code in front of its value.
@@ -294,7 +329,8 @@ no-group : (o : Option Group) → is_none o ≡ true → o ≡ None
 no-group None k = refl
 no-group (Some g) k = absurd (false≢true k)
 
-pub spread-with-test : (known : Known) (rows : List Row) (j : ℕ) (row : Row) (term : Term) → All (λ (r : Row). 0 < length r.path) rows → slice_get rows j ≡ Some row → is_spread_with known (plan_of rows) row term ≡ true
+pub spread-with-test : (known : Known) (rows : List Row) (j : ℕ) (row : Row) (term : Term) → All (λ (r : Row). 0 < length r.path) rows →
+    slice_get rows j ≡ Some row → is_spread_with known (plan_of rows) row term ≡ true
     → IsSpreadWith known rows row term
 spread-with-test known rows j row term long e h =
     let a = both-true (is_apart known (plan_of rows) row.path) _ h in
@@ -317,7 +353,8 @@ spread-with-test known rows j row term long e h =
       context = l.1;
     }
 
-pub spread-by-test : (rows : List Row) (j : ℕ) (row : Row) (term : Term) → All (λ (r : Row). 0 < length r.path) rows → slice_get rows j ≡ Some row → is_spread rows row term ≡ true → IsSpread rows row term
+pub spread-by-test : (rows : List Row) (j : ℕ) (row : Row) (term : Term) → All (λ (r : Row). 0 < length r.path) rows → slice_get rows j ≡ Some row →
+    is_spread rows row term ≡ true → IsSpread rows row term
 spread-by-test rows j row term long e h = spread-with-test unknown rows j row term long e h
 
 -- It is spread, but for a filler that may stand in its place.
@@ -332,7 +369,8 @@ pub record IsFilled (rows : List Row) (row : Row) (term : Term) : Type 0 where
   pub inner : row.inner ≡ None
   pub context : stands_there term None None ≡ true
 
-pub filled-by-test : (rows : List Row) (j : ℕ) (row : Row) (term : Term) → All (λ (r : Row). 0 < length r.path) rows → slice_get rows j ≡ Some row → is_filled_in (plan_of rows) row term ≡ true → IsFilled rows row term
+pub filled-by-test : (rows : List Row) (j : ℕ) (row : Row) (term : Term) → All (λ (r : Row). 0 < length r.path) rows → slice_get rows j ≡ Some row →
+    is_filled_in (plan_of rows) row term ≡ true → IsFilled rows row term
 filled-by-test rows j row term long e h =
     let g = filled-says row term h in
     let a = both-true (stands_apart rows row.path) _ g.1 in
@@ -354,10 +392,12 @@ filled-by-test rows j row term long e h =
       context = l.1;
     }
   where
-    filled-says : (row : Row) (term : Term) → is_filled_in (plan_of rows) row term ≡ true → (is_or_filler row.written ≡ true) × (is_filled_there (plan_of rows) row term ≡ true)
+    filled-says : (row : Row) (term : Term) → is_filled_in (plan_of rows) row term ≡ true → (is_or_filler row.written ≡ true) ×
+        (is_filled_there (plan_of rows) row term ≡ true)
     filled-says row term k = go (is_or_filler row.written) k
       where
-        go : (b : Bool) → (elim b [ true ↦ is_filled_there (plan_of rows) row term | false ↦ false ]) ≡ true → (b ≡ true) × (is_filled_there (plan_of rows) row term ≡ true)
+        go : (b : Bool) → (elim b [ true ↦ is_filled_there (plan_of rows) row term | false ↦ false ]) ≡ true → (b ≡ true) ×
+            (is_filled_there (plan_of rows) row term ≡ true)
         go true m = (refl, m)
         go false m = absurd (false≢true m)
 
@@ -373,7 +413,8 @@ pub record IsTotalThere (rows : List Row) (others : List Term) (row : Row) (term
   pub inner : row.inner ≡ None
   pub context : stands_there term None None ≡ true
 
-there-by-test : (rows : List Row) (others : List Term) (j : ℕ) (row : Row) (term : Term) → All (λ (r : Row). 0 < length r.path) rows → slice_get rows j ≡ Some row → is_total_there (plan_of rows) others row term ≡ true
+there-by-test : (rows : List Row) (others : List Term) (j : ℕ) (row : Row) (term : Term) → All (λ (r : Row). 0 < length r.path) rows →
+    slice_get rows j ≡ Some row → is_total_there (plan_of rows) others row term ≡ true
     → IsTotalThere rows others row term
 there-by-test rows others j row term long e h =
     let a = both-true (stands_apart_without others rows row.path) _ h in
@@ -444,35 +485,54 @@ pub test-behind : (b x : Bool) → (elim b [ true ↦ x | false ↦ false ]) ≡
 test-behind true x k = (refl, k)
 test-behind false x k = absurd (false≢true k)
 
-pub noted-by-test : (rows : List Row) (j : ℕ) (row : Row) (term : Term) → All (λ (r : Row). 0 < length r.path) rows → slice_get rows j ≡ Some row → is_noted_in (plan_of rows) rows row term ≡ true → IsNoted rows row term
+pub noted-by-test : (rows : List Row) (j : ℕ) (row : Row) (term : Term) → All (λ (r : Row). 0 < length r.path) rows → slice_get rows j ≡ Some row →
+    is_noted_in (plan_of rows) rows row term ≡ true → IsNoted rows row term
 noted-by-test rows j row term long e h =
-    let g = test-behind (is_coded (form_for row.form term)) (is_apart unknown (plan_of rows) row.path && (is_plain_there (plan_of rows) row term && not (list_any (has_term subject_code) rows))) h in
+    let g = test-behind (is_coded (form_for row.form term)) (is_apart unknown (plan_of rows) row.path &&
+    (is_plain_there (plan_of rows) row term && not (list_any (has_term subject_code) rows))) h in
     let a = both-true (is_apart unknown (plan_of rows) row.path) _ g.1 in
     let b = both-true (is_plain_there (plan_of rows) row term) (not (list_any (has_term subject_code) rows)) a.1 in
-    record { form = coded-is (form_for row.form term) g.0; apart = a.0; there = plain-there-test unknown rows j row term long e a.0 b.0; codes = not-so (list_any (has_term subject_code) rows) b.1 }
+    record {
+      form = coded-is (form_for row.form term) g.0;
+      apart = a.0;
+      there = plain-there-test unknown rows j row term long e a.0 b.0;
+      codes =
+          not-so (list_any (has_term subject_code) rows) b.1;
+    }
 
-pub total-by-test : (rows : List Row) (j : ℕ) (row : Row) (term : Term) → All (λ (r : Row). 0 < length r.path) rows → slice_get rows j ≡ Some row → is_total_in (plan_of rows) rows row term ≡ true → IsTotalRow rows row term
+pub total-by-test : (rows : List Row) (j : ℕ) (row : Row) (term : Term) → All (λ (r : Row). 0 < length r.path) rows → slice_get rows j ≡ Some row →
+    is_total_in (plan_of rows) rows row term ≡ true → IsTotalRow rows row term
 total-by-test rows j row term long e h =
     let g = test-behind (is_total_rule row.written) (is_total_there (plan_of rows) (unpaired_terms (plan_of rows) rows) row term) h in
     record { rule = total-rule-is row.written g.0; there = there-by-test rows (unpaired_terms (plan_of rows) rows) j row term long e g.1 }
 
-half-by-test : (rows : List Row) (others : List Term) (j : ℕ) (row : Row) → All (λ (r : Row). 0 < length r.path) rows → slice_get rows j ≡ Some row → is_half (plan_of rows) rows others row ≡ true → IsHalf rows others row
+half-by-test : (rows : List Row) (others : List Term) (j : ℕ) (row : Row) → All (λ (r : Row). 0 < length r.path) rows → slice_get rows j ≡ Some row →
+    is_half (plan_of rows) rows others row ≡ true → IsHalf rows others row
 half-by-test rows others j row long e h = go row.content h
   where
     go : (content : Content) → (elim content [
-      | (contents.Term term) ↦ is_total_there (plan_of rows) others row term && (is_amount row && not (list_any (λ t. has_term t row) (flat_map beside_filler rows)))
+      | (contents.Term term) ↦ is_total_there (plan_of rows) others row term &&
+          (is_amount row && not (list_any (λ t. has_term t row) (flat_map beside_filler rows)))
       | (contents.Constant text) ↦ false
     ]) ≡ true
         → IsHalf rows others row
     go (contents.Term term) k =
         let a = both-true (is_total_there (plan_of rows) others row term) _ k in
         let b = both-true (is_amount row) (not (list_any (λ t. has_term t row) (flat_map beside_filler rows))) a.1 in
-        record { term = term; there = there-by-test rows others j row term long e a.0; amount = b.0; unfilled = not-so (list_any (λ t. has_term t row) (flat_map beside_filler rows)) b.1 }
+        record {
+          term = term;
+          there = there-by-test rows others j row term long e a.0;
+          amount = b.0;
+          unfilled =
+              not-so (list_any (λ t. has_term t row) (flat_map beside_filler rows)) b.1;
+        }
     go (contents.Constant text) k = absurd (false≢true k)
 
-pub pair-by-test : (rows : List Row) (i j : ℕ) (main twin : Row) → All (λ (r : Row). 0 < length r.path) rows → slice_get rows i ≡ Some main → slice_get rows j ≡ Some twin → are_pair (plan_of rows) rows main twin ≡ true → IsPair rows main twin
+pub pair-by-test : (rows : List Row) (i j : ℕ) (main twin : Row) → All (λ (r : Row). 0 < length r.path) rows → slice_get rows i ≡ Some main →
+    slice_get rows j ≡ Some twin → are_pair (plan_of rows) rows main twin ≡ true → IsPair rows main twin
 pair-by-test rows i j main twin long e f h =
-    let a = test-behind (is_total_rule main.written) (elim (is_accounting_rule twin.written) [ true ↦ are_pair_there (plan_of rows) rows main twin | false ↦ false ]) h in
+    let a = test-behind (is_total_rule main.written)
+    (elim (is_accounting_rule twin.written) [ true ↦ are_pair_there (plan_of rows) rows main twin | false ↦ false ]) h in
     let b = test-behind (is_accounting_rule twin.written) (are_pair_there (plan_of rows) rows main twin) a.1 in
     let c = both-true (is_half (plan_of rows) rows (accounting_terms rows) main) _ b.1 in
     let d = both-true (is_half (plan_of rows) rows (total_terms rows) twin) _ c.1 in
@@ -513,8 +573,10 @@ same-texts a = (bytes_eq-Decides a a).1 refl
 named-itself : (local : List ℕ) (leaf : Leaf) → leaf ≡ leaves.Attribute local → is_attribute_named local leaf ≡ true
 named-itself local leaf e = ap (is_attribute_named local) e ∙ same-texts local
 
-pub attribute-with-test : (known : Known) (rows : List Row) (i j : ℕ) (row : Row) (term : Term) (main : Row) (main_term : Term) → All (λ (r : Row). 0 < length r.path) rows → slice_get rows i ≡ Some row → slice_get rows j ≡ Some main
-    → is_plain_attribute_with known (plan_of rows) row term main main_term ≡ true → (is_apart known (plan_of rows) main.path ≡ true) × IsPlainAttributeThere rows row term main main_term
+pub attribute-with-test : (known : Known) (rows : List Row) (i j : ℕ) (row : Row) (term : Term) (main : Row) (main_term : Term) →
+    All (λ (r : Row). 0 < length r.path) rows → slice_get rows i ≡ Some row → slice_get rows j ≡ Some main
+    → is_plain_attribute_with known (plan_of rows) row term main main_term ≡ true → (is_apart known (plan_of rows) main.path ≡ true) ×
+    IsPlainAttributeThere rows row term main main_term
 attribute-with-test known rows i j row term main main_term long e f h =
     let a = both-true (pointwise same_step row.path main.path) _ h in
     let b = both-true (is_plain_with known (plan_of rows) main main_term) _ a.1 in
@@ -538,7 +600,8 @@ attribute-with-test known rows i j row term main main_term long e f h =
         leaf = part.is;
         other = part.other;
         own = ap (λ p. rows_at (is_at_attribute part.local) (plan_of rows) p) (sym path)
-            ∙ row-known known (is_at_attribute part.local) rows i row long e (ap (is_apart known (plan_of rows)) path ∙ plain.apart) (λ n. named-itself part.local row.leaf part.is)
+            ∙ row-known known (is_at_attribute part.local) rows i row long e (ap (is_apart known (plan_of rows)) path ∙ plain.apart)
+            (λ n. named-itself part.local row.leaf part.is)
             (ap (λ p. is_one (rows_at (is_at_attribute part.local) (plan_of rows) p)) path ∙ part.one);
         content = content-is row.content term k.0;
         form = l.0;
@@ -547,11 +610,14 @@ attribute-with-test known rows i j row term main main_term long e f h =
       },
     )
 
-pub attribute-by-test : (rows : List Row) (i j : ℕ) (row : Row) (term : Term) (main : Row) (main_term : Term) → All (λ (r : Row). 0 < length r.path) rows → slice_get rows i ≡ Some row → slice_get rows j ≡ Some main
+pub attribute-by-test : (rows : List Row) (i j : ℕ) (row : Row) (term : Term) (main : Row) (main_term : Term) → All (λ (r : Row). 0 < length r.path) rows →
+    slice_get rows i ≡ Some row → slice_get rows j ≡ Some main
     → is_plain_attribute rows row term main main_term ≡ true → IsPlainAttribute rows row term main main_term
-attribute-by-test rows i j row term main main_term long e f h = let w = attribute-with-test unknown rows i j row term main main_term long e f h in record { apart = w.0; there = w.1 }
+attribute-by-test rows i j row term main main_term long e f h = let w = attribute-with-test unknown rows i j row term main main_term long e f h in
+    record { apart = w.0; there = w.1 }
 
-pub spread-attribute-by-test : (rows : List Row) (i j : ℕ) (row : Row) (term : Term) (main : Row) (main_term : Term) → All (λ (r : Row). 0 < length r.path) rows → slice_get rows i ≡ Some row → slice_get rows j ≡ Some main
+pub spread-attribute-by-test : (rows : List Row) (i j : ℕ) (row : Row) (term : Term) (main : Row) (main_term : Term) → All (λ (r : Row). 0 < length r.path) rows
+    → slice_get rows i ≡ Some row → slice_get rows j ≡ Some main
     → is_spread_attribute rows row term main main_term ≡ true → IsSpreadAttribute rows row term main main_term
 spread-attribute-by-test rows i j row term main main_term long e f h =
     let a = both-true (pointwise same_step row.path main.path) _ h in
@@ -576,7 +642,8 @@ spread-attribute-by-test rows i j row term main main_term long e f h =
       leaf = part.is;
       other = part.other;
       own = ap (λ p. rows_at (is_at_attribute part.local) (plan_of rows) p) (sym path)
-          ∙ row-known unknown (is_at_attribute part.local) rows i row long e (ap (is_apart unknown (plan_of rows)) path ∙ spread.apart) (λ n. named-itself part.local row.leaf part.is)
+          ∙ row-known unknown (is_at_attribute part.local) rows i row long e (ap (is_apart unknown (plan_of rows)) path ∙ spread.apart)
+          (λ n. named-itself part.local row.leaf part.is)
           (ap (λ p. is_one (rows_at (is_at_attribute part.local) (plan_of rows) p)) path ∙ part.one);
       content = content-is row.content term k.0;
       form = l.0;

@@ -1,5 +1,6 @@
 -- What a plain row picks in the document that an invoice is written as: the values of its term, in listing order.
-use Rattle.std.proofs.Common.{◌≡◌, ℕ, zero, suc, ◌+◌, ◌<◌, ◌≤◌, Bool, true, false, not, ◌&&◌, ◌||◌, List, [], ◌∷◌, ◌++◌, length, get_or, map, filter, flat_map, fold, max, Option, Some, None, ◌⊎◌, inl, inr, All, refl, sym, ap, ◌∙◌, subst, arith}
+use Rattle.std.proofs.Common.{◌≡◌, ℕ, zero, suc, ◌+◌, ◌<◌, ◌≤◌, Bool, true, false, not, ◌&&◌, ◌||◌, List, [], ◌∷◌, ◌++◌, length, get_or, map, filter, flat_map}
+use Rattle.std.proofs.Common.{fold, max, Option, Some, None, ◌⊎◌, inl, inr, All, refl, sym, ap, ◌∙◌, subst, arith}
 use Rattle.std.specs.Prelude.{◌==◌, nat_le, nat_lt, if◌then◌else◌, is_some, is_none, find, option_map, Contains}
 use Rattle.std.specs.List.{list_all, range_with_len}
 use Rattle.std.proofs.lemmas.Bool.{false≢true}
@@ -44,7 +45,8 @@ use Rattle.bind_meaning.specs.Writing.{slot_for, context_for, formed, if_due, va
 use Rattle.bind_meaning.specs.Trees.{spots, spots_of, outer_spots, inner_spots, outer_count, inner_count, index_in, or_here, is_at_element, document_of}
 use Rattle.binding_laws.specs.Written.{Spot, written_at}
 use Rattle.binding_laws.specs.Apart.{stands_apart}
-use Rattle.binding_laws.specs.Plain.{rows_at, groups_of, listed, stands_there, is_beyond, stands_nowhere_else, is_in_groups, is_whole, IsPlainThere, is_written_by}
+use Rattle.binding_laws.specs.Plain.{rows_at, groups_of, listed, stands_there, is_beyond, stands_nowhere_else, is_in_groups, is_whole, IsPlainThere}
+use Rattle.binding_laws.specs.Plain.{is_written_by}
 use Rattle.binding_laws.proofs.TreeLemmas.{Each, each-weaker, filter-same}
 use Rattle.binding_laws.proofs.FormLemmas.{Laws, modelled-untyped, IsRead, ReadsAs, reads-as, whole-full, back-as, typed-back, whole-uncoded}
 use Rattle.binding_laws.proofs.TakenLemmas.{as-modelled, taken-is, slots-there}
@@ -127,12 +129,14 @@ same-seat e f h =
 
 pub own-value : (es : List Entry) (e : Entry) → is_listed es ≡ true → Among e es → value_in es e.term e.context ≡ Some e.value
 own-value [] e h a = absurd a
-own-value (f ∷ es) e h a = ap (option_map (λ (x : Entry). x.value)) (find-more (is_at e.term e.context) f es) ∙ go (own-value es e (both (list_all (comes_before f) es) (is_listed es) h).1) (is_at e.term e.context f) refl a
+own-value (f ∷ es) e h a = ap (option_map (λ (x : Entry). x.value)) (find-more (is_at e.term e.context) f es) ∙
+    go (own-value es e (both (list_all (comes_before f) es) (is_listed es) h).1) (is_at e.term e.context f) refl a
   where
     parts : (list_all (comes_before f) es ≡ true) × (is_listed es ≡ true)
     parts = both (list_all (comes_before f) es) (is_listed es) h
 
-    go : (Among e es → value_in es e.term e.context ≡ Some e.value) → (b : Bool) → is_at e.term e.context f ≡ b → (f ≡ e) ⊎ Among e es → option_map (λ (x : Entry). x.value) (elim b [ true ↦ Some f | false ↦ find (is_at e.term e.context) es ]) ≡ Some e.value
+    go : (Among e es → value_in es e.term e.context ≡ Some e.value) → (b : Bool) → is_at e.term e.context f ≡ b → (f ≡ e) ⊎ Among e es →
+        option_map (λ (x : Entry). x.value) (elim b [ true ↦ Some f | false ↦ find (is_at e.term e.context) es ]) ≡ Some e.value
     go later true k (inl s) = ap (λ (x : Entry). Some x.value) s
     go later true k (inr m) = absurd (before-itself f e (same-seat e f k) (all-among (comes_before f) e es parts.0 m))
     go later false k (inl s) = absurd (false≢true (sym k ∙ (ap (is_at e.term e.context) s ∙ at-itself e)))
@@ -147,7 +151,8 @@ all-filter : (q p : Entry → Bool) (es : List Entry) → list_all q es ≡ true
 all-filter q p [] h = refl
 all-filter q p (e ∷ es) h = go (all-filter q p es) (p e) (both (q e) (list_all q es) h)
   where
-    go : (list_all q es ≡ true → list_all q (filter p es) ≡ true) → (b : Bool) → (q e ≡ true) × (list_all q es ≡ true) → list_all q (if b then e ∷ filter p es else filter p es) ≡ true
+    go : (list_all q es ≡ true → list_all q (filter p es) ≡ true) → (b : Bool) → (q e ≡ true) × (list_all q es ≡ true) →
+        list_all q (if b then e ∷ filter p es else filter p es) ≡ true
     go later true k = rw (k.0, later k.1) refl
     go later false k = later k.1
 
@@ -155,7 +160,8 @@ pub listed-filter : (p : Entry → Bool) (es : List Entry) → is_listed es ≡ 
 listed-filter p [] h = refl
 listed-filter p (e ∷ es) h = go (listed-filter p es) (p e) (both (list_all (comes_before e) es) (is_listed es) h)
   where
-    go : (is_listed es ≡ true → is_listed (filter p es) ≡ true) → (b : Bool) → (list_all (comes_before e) es ≡ true) × (is_listed es ≡ true) → is_listed (if b then e ∷ filter p es else filter p es) ≡ true
+    go : (is_listed es ≡ true → is_listed (filter p es) ≡ true) → (b : Bool) → (list_all (comes_before e) es ≡ true) × (is_listed es ≡ true) →
+        is_listed (if b then e ∷ filter p es else filter p es) ≡ true
     go later true k = rw (all-filter (comes_before e) p es k.0, later k.1) refl
     go later false k = later k.1
 
@@ -163,7 +169,8 @@ pub of-filter : (p : Entry → Bool) (x : Entry) (es : List Entry) → Among x (
 of-filter p x [] h = absurd h
 of-filter p x (e ∷ es) h = go (of-filter p x es) (p e) refl h
   where
-    go : (Among x (filter p es) → (Among x es) × (p x ≡ true)) → (b : Bool) → p e ≡ b → Among x (if b then e ∷ filter p es else filter p es) → ((e ≡ x) ⊎ Among x es) × (p x ≡ true)
+    go : (Among x (filter p es) → (Among x es) × (p x ≡ true)) → (b : Bool) → p e ≡ b → Among x (if b then e ∷ filter p es else filter p es) →
+        ((e ≡ x) ⊎ Among x es) × (p x ≡ true)
     go later true k (inl s) = (inl s, ap p (sym s) ∙ k)
     go later true k (inr m) = let w = later m in (inr w.0, w.1)
     go later false k m = let w = later m in (inr w.0, w.1)
@@ -198,12 +205,15 @@ later-places : (a b : Context) (r q : ℕ) → Later a b → precedes (place r a
 later-places a b r q (inl l) =
     ap (λ o. precedes (slot_place r o ++ (slot_place r a.inner ++ r ∷ [])) (place q b)) l.first_is
     ∙ (ap (λ o. precedes (slot_place r (Some l.first) ++ (slot_place r a.inner ++ r ∷ [])) (slot_place q o ++ (slot_place q b.inner ++ q ∷ []))) l.second_is
-    ∙ (same_ahead (first_row l.first.group) (first_row l.second.group) (l.first.index ∷ (slot_place r a.inner ++ r ∷ [])) (l.second.index ∷ (slot_place q b.inner ++ q ∷ [])) (ap first_row l.same)
+    ∙ (same_ahead (first_row l.first.group) (first_row l.second.group) (l.first.index ∷ (slot_place r a.inner ++ r ∷ []))
+    (l.second.index ∷ (slot_place q b.inner ++ q ∷ [])) (ap first_row l.same)
     ∙ less-ahead l.first.index l.second.index (slot_place r a.inner ++ r ∷ []) (slot_place q b.inner ++ q ∷ []) l.less))
 later-places a b r q (inr l) =
     ap (λ o. precedes (slot_place r o ++ (slot_place r a.inner ++ r ∷ [])) (place q b)) l.around_first
-    ∙ (ap (λ o. precedes (slot_place r (Some l.around) ++ (slot_place r a.inner ++ r ∷ [])) (slot_place q o ++ (slot_place q b.inner ++ q ∷ []))) l.around_second
-    ∙ (same_ahead (first_row l.around.group) (first_row l.around.group) (l.around.index ∷ (slot_place r a.inner ++ r ∷ [])) (l.around.index ∷ (slot_place q b.inner ++ q ∷ [])) refl
+    ∙ (ap (λ o. precedes (slot_place r (Some l.around) ++ (slot_place r a.inner ++ r ∷ [])) (slot_place q o ++ (slot_place q b.inner ++ q ∷ [])))
+    l.around_second
+    ∙ (same_ahead (first_row l.around.group) (first_row l.around.group) (l.around.index ∷ (slot_place r a.inner ++ r ∷ []))
+    (l.around.index ∷ (slot_place q b.inner ++ q ∷ [])) refl
     ∙ (same_ahead l.around.index l.around.index (slot_place r a.inner ++ r ∷ []) (slot_place q b.inner ++ q ∷ []) refl
     ∙ (ap (λ o. precedes (slot_place r o ++ r ∷ []) (slot_place q b.inner ++ q ∷ [])) l.first_is
     ∙ (ap (λ o. precedes (slot_place r (Some l.first) ++ r ∷ []) (slot_place q o ++ q ∷ [])) l.second_is
@@ -263,7 +273,12 @@ stands-modelled term outer inner there = go (is_extension term) refl
     at_root = record { context = root_context; term = term; value = values_of.Text [] }
 
     in_line : Entry
-    in_line = record { context = record { outer = Some (record { group = groups.InvoiceLine; index = 1 }); inner = None }; term = term; value = values_of.Text [] }
+    in_line = record {
+      context = record { outer = Some (record { group = groups.InvoiceLine; index = 1 }); inner = None };
+      term = term;
+      value =
+          values_of.Text [];
+    }
 
     has-place : (o : Option ℕ) (c : Context) → is_some o ≡ true → is_some (option_map (λ row. place row c) o) ≡ true
     has-place None c h = absurd (false≢true h)
@@ -273,7 +288,8 @@ stands-modelled term outer inner there = go (is_extension term) refl
     go false own = refl
     go true own =
         let first : is_placed at_root ≡ true = has-place (row_in term None None) root_context (ap is_some (sym (extension-row_is term None None own))) in
-        let second : is_placed in_line ≡ true = has-place (row_in term (Some groups.InvoiceLine) None) in_line.context (ap is_some (sym (extension-row_is term (Some groups.InvoiceLine) None own))) in
+        let second : is_placed in_line ≡ true = has-place (row_in term (Some groups.InvoiceLine) None) in_line.context
+        (ap is_some (sym (extension-row_is term (Some groups.InvoiceLine) None own))) in
         let a = groups-are at_root term outer inner refl first there in
         let b = groups-are in_line term outer inner refl second there in
         absurd (let z : ◌≡◌ {A = Option Group} None (Some groups.InvoiceLine) = a.0 ∙ sym b.0 in cc)
@@ -287,7 +303,8 @@ differ-everywhere : list_all (λ (r : TermRow). differ (outer_group r.group) (in
 unfolding terms extension_rows listing_rows parent_of occurrence_of
 differ-everywhere = refl
 
-pub groups-differ : (e : Entry) → is_placed e ≡ true → (g h : Group) → slot_group e.context.outer ≡ Some g → slot_group e.context.inner ≡ Some h → same_group g h ≡ false
+pub groups-differ : (e : Entry) → is_placed e ≡ true → (g h : Group) → slot_group e.context.outer ≡ Some g → slot_group e.context.inner ≡ Some h →
+    same_group g h ≡ false
 groups-differ e p g h a b =
     let o : Option Group = slot_group e.context.outer in
     let i : Option Group = slot_group e.context.inner in
@@ -299,7 +316,8 @@ groups-differ e p g h a b =
     let here = both (same_groups o (outer_group r.group)) (same_groups i (inner_group r.group)) is.1 in
     let outer : outer_group r.group ≡ Some g = sym (same_groups_is o (outer_group r.group) here.0) ∙ a in
     let inner : inner_group r.group ≡ Some h = sym (same_groups_is i (inner_group r.group) here.1) ∙ b in
-    let k : differ (Some g) (Some h) ≡ true = (λ z. differ ((sym outer) z) ((sym inner) z)) ∙ all-at (λ (x : TermRow). differ (outer_group x.group) (inner_group x.group)) listing_rows n.0 d differ-everywhere at.0 in
+    let k : differ (Some g) (Some h) ≡ true = (λ z. differ ((sym outer) z) ((sym inner) z)) ∙
+    all-at (λ (x : TermRow). differ (outer_group x.group) (inner_group x.group)) listing_rows n.0 d differ-everywhere at.0 in
     not-so (same_group g h) k
   where
     not-so : (x : Bool) → not x ≡ true → x ≡ false
@@ -329,8 +347,10 @@ spots-reach es f c a =
           inl (ap (λ (x : Context). slot_group x.outer) k.1.1.1, ap (λ (x : Context). slot_group x.inner) k.1.1.1)
     ]
 
-reach-of : (es : List Entry) (path : List Step) (c : Context) (o i : Option Group) → groups_of path ≡ listed o ++ listed i → (is_some o || is_none i) ≡ true → Leads es path root_context c → IsReachable o i c
-reach-of es path c None None e n l = let w = leads-nowhere es path root_context c e l in inl (ap (λ (x : Context). slot_group x.outer) (sym w), ap (λ (x : Context). slot_group x.inner) (sym w))
+reach-of : (es : List Entry) (path : List Step) (c : Context) (o i : Option Group) → groups_of path ≡ listed o ++ listed i → (is_some o || is_none i) ≡ true →
+    Leads es path root_context c → IsReachable o i c
+reach-of es path c None None e n l = let w = leads-nowhere es path root_context c e l in
+    inl (ap (λ (x : Context). slot_group x.outer) (sym w), ap (λ (x : Context). slot_group x.inner) (sym w))
 reach-of es path c None (Some g) e n l = absurd (false≢true n)
 reach-of es path c (Some f) None e n l = spots-reach es f c (leads-to-one es path root_context c f e l)
 reach-of es path c (Some f) (Some g) e n l =
@@ -356,7 +376,8 @@ same-groups-itself None = refl
 same-groups-itself (Some g) = same_group_itself g
 
 -- where such a context is one of the term's, it is that of the groups
-pub context-there : (e : Entry) (term : Term) (o i : Option Group) → e.term ≡ term → is_placed e ≡ true → stands_nowhere_else term o i ≡ true → IsReachable o i e.context → IsAtGroups o i e.context
+pub context-there : (e : Entry) (term : Term) (o i : Option Group) → e.term ≡ term → is_placed e ≡ true → stands_nowhere_else term o i ≡ true →
+    IsReachable o i e.context → IsAtGroups o i e.context
 context-there e term o i same p there reach =
     let eo : Option Group = slot_group e.context.outer in
     let ei : Option Group = slot_group e.context.inner in
@@ -374,24 +395,29 @@ context-there e term o i same p there reach =
     not-so false z = refl
 
     -- it stands in one of the contexts around
-    around : (group : Group) (a b : Option Group) → stands_in group (slot_group e.context.outer) (slot_group e.context.inner) ≡ true → IsAtGroups a b e.context → stands_in group a b ≡ true
+    around : (group : Group) (a b : Option Group) → stands_in group (slot_group e.context.outer) (slot_group e.context.inner) ≡ true → IsAtGroups a b e.context
+        → stands_in group a b ≡ true
     around group a b h k = (λ z. stands_in group ((sym k.0) z) ((sym k.1) z)) ∙ h
 
-    never : (group : Group) → is_beyond group o i ≡ true → (stands_in group None None ≡ true) ⊎ ((stands_in group o None ≡ true) ⊎ (stands_in group i None ≡ true)) → ⊥
+    never : (group : Group) → is_beyond group o i ≡ true →
+        (stands_in group None None ≡ true) ⊎ ((stands_in group o None ≡ true) ⊎ (stands_in group i None ≡ true)) → ⊥
     never group h (inl k) = false≢true (sym (not-so _ h) ∙ ap (λ b. b || (stands_in group o None || stands_in group i None)) k)
-    never group h (inr (inl k)) = false≢true (sym (not-so _ h) ∙ (ap (λ b. stands_in group None None || (b || stands_in group i None)) k ∙ or-true (stands_in group None None)))
+    never group h (inr (inl k)) = false≢true (sym (not-so _ h) ∙
+        (ap (λ b. stands_in group None None || (b || stands_in group i None)) k ∙ or-true (stands_in group None None)))
       where
         or-true : (b : Bool) → (b || true) ≡ true
         or-true true = refl
         or-true false = refl
     never group h (inr (inr k)) =
-        false≢true (sym (not-so _ h) ∙ (ap (λ b. stands_in group None None || (stands_in group o None || b)) k ∙ (ap (λ b. stands_in group None None || b) (or-true (stands_in group o None)) ∙ or-true (stands_in group None None))))
+        false≢true (sym (not-so _ h) ∙ (ap (λ b. stands_in group None None || (stands_in group o None || b)) k ∙
+        (ap (λ b. stands_in group None None || b) (or-true (stands_in group o None)) ∙ or-true (stands_in group None None))))
       where
         or-true : (b : Bool) → (b || true) ≡ true
         or-true true = refl
         or-true false = refl
 
-    go : (group : Group) (b : Bool) → stands_in group o i ≡ b → (b || is_beyond group o i) ≡ true → stands_in group (slot_group e.context.outer) (slot_group e.context.inner) ≡ true → IsReachable o i e.context → IsAtGroups o i e.context
+    go : (group : Group) (b : Bool) → stands_in group o i ≡ b → (b || is_beyond group o i) ≡ true →
+        stands_in group (slot_group e.context.outer) (slot_group e.context.inner) ≡ true → IsReachable o i e.context → IsAtGroups o i e.context
     go group b h k l (inl m) = m
     go group true h k l (inr m) =
         let here = both (same_groups (slot_group e.context.outer) (outer_group group)) (same_groups (slot_group e.context.inner) (inner_group group)) l in
@@ -404,7 +430,8 @@ context-there e term o i same p there reach =
     go group false h k l (inr (inr (inr m))) = absurd (never group k (inr (inr (around group i None l m))))
 
 -- a context that is led to and has the slots of both groups is that of the groups
-pub slots-at : (o i : Option Group) (d : Context) → ((is_none o || is_some d.outer) && (is_none i || is_some d.inner)) ≡ true → IsReachable o i d → IsAtGroups o i d
+pub slots-at : (o i : Option Group) (d : Context) → ((is_none o || is_some d.outer) && (is_none i || is_some d.inner)) ≡ true → IsReachable o i d →
+    IsAtGroups o i d
 slots-at o i d h reach =
     let w = both (is_none o || is_some d.outer) (is_none i || is_some d.inner) h in
     go w.0 w.1 reach
@@ -429,7 +456,8 @@ in-range : (f : ℕ → Context) (k n i : ℕ) → k ≤ i → i < k + n → Amo
 in-range f k zero i l r = absurd (omega (arith, l, r))
 in-range f k (suc n) i l r = go (in-range f (k + 1) n i) (nat_lt k i) refl
   where
-    go : (k + 1 ≤ i → i < k + 1 + n → Among (f i) (map f (range_with_len (k + 1) n))) → (b : Bool) → nat_lt k i ≡ b → (f k ≡ f i) ⊎ Among (f i) (map f (range_with_len (k + 1) n))
+    go : (k + 1 ≤ i → i < k + 1 + n → Among (f i) (map f (range_with_len (k + 1) n))) → (b : Bool) → nat_lt k i ≡ b →
+        (f k ≡ f i) ⊎ Among (f i) (map f (range_with_len (k + 1) n))
     go later true e = inr (later (let z : k < i = grind (arith, nat_tests, e) in omega (arith, z)) (omega (arith, r)))
     go later false e = inl (ap f (let z : i ≤ k = grind (arith, nat_tests, e) in omega (arith, l, z)))
 
@@ -449,7 +477,8 @@ or-among c d (x ∷ ds) h = h
 counted : (es : List Entry) (around : Slot → Context) (s : Slot) → is_counted es around (Some s) ≡ true → 1 ≤ s.index
 counted es around s h = let k = (both (nat_le 1 s.index) _ h).0 in grind (arith, nat_tests, k)
 
-numbered-at : (es : List Entry) (e : Entry) → is_numbered es ≡ true → Among e es → (is_counted es in_outer e.context.outer ≡ true) × (is_counted es (in_inner e.context.outer) e.context.inner ≡ true)
+numbered-at : (es : List Entry) (e : Entry) → is_numbered es ≡ true → Among e es → (is_counted es in_outer e.context.outer ≡ true) ×
+    (is_counted es (in_inner e.context.outer) e.context.inner ≡ true)
 numbered-at es e h a =
     both (is_counted es in_outer e.context.outer) (is_counted es (in_inner e.context.outer) e.context.inner)
     (all-among (λ (x : Entry). is_counted es in_outer x.context.outer && is_counted es (in_inner x.context.outer) x.context.inner) e es h a)
@@ -470,16 +499,19 @@ same-slot-itself : (o : Option Slot) → same_slot o o ≡ true
 same-slot-itself None = refl
 same-slot-itself (Some s) = rw (same_group_itself s.group) (let z : (s.index == s.index) ≡ true = grind (arith, nat_tests) in z)
 
-inner-among : (es : List Entry) (e : Entry) (o : Slot) (g : Group) (k : ℕ) (c : Context) → Among e es → is_numbered es ≡ true → e.context.outer ≡ Some o → e.context.inner ≡ Some (record { group = g; index = k })
+inner-among : (es : List Entry) (e : Entry) (o : Slot) (g : Group) (k : ℕ) (c : Context) → Among e es → is_numbered es ≡ true → e.context.outer ≡ Some o →
+    e.context.inner ≡ Some (record { group = g; index = k })
     → c.outer ≡ Some o → Among (record { outer = Some o; inner = Some (record { group = g; index = k }) }) (spots es c (Some g))
 inner-among es e o g k c a h at in_it here =
-    let n = counted es (in_inner e.context.outer) (record { group = g; index = k }) (ap (is_counted es (in_inner e.context.outer)) (sym in_it) ∙ (numbered-at es e h a).1) in
+    let n = counted es (in_inner e.context.outer) (record { group = g; index = k }) (ap (is_counted es (in_inner e.context.outer)) (sym in_it) ∙
+    (numbered-at es e h a).1) in
     let m = fold-most (λ (x : Entry). elim (same_slot x.context.outer (Some o)) [ true ↦ index_in g x.context.inner | false ↦ 0 ]) e es 0 a in
     let i : (elim (same_slot e.context.outer (Some o)) [ true ↦ index_in g e.context.inner | false ↦ 0 ]) ≡ k =
     ap (λ b. elim b [ true ↦ index_in g e.context.inner | false ↦ 0 ]) (ap (λ x. same_slot x (Some o)) at ∙ same-slot-itself (Some o))
     ∙ (ap (index_in g) in_it ∙ own-index g (record { group = g; index = k }) refl) in
     or-among c _ (spots_of es c g)
-    (subst (λ x. Among (record { outer = Some o; inner = Some (record { group = g; index = k }) }) (elim x [ None ↦ outer_spots g (outer_count es g) | Some outer ↦ inner_spots outer g (inner_count es outer g) ])) (sym here)
+    (subst (λ x. Among (record { outer = Some o; inner = Some (record { group = g; index = k }) })
+    (elim x [ None ↦ outer_spots g (outer_count es g) | Some outer ↦ inner_spots outer g (inner_count es outer g) ])) (sym here)
     (in-range (λ j. record { outer = Some o; inner = Some (record { group = g; index = j }) }) 1 (inner_count es o g) k n (omega (arith, m, i))))
 
 -- ---- the law
@@ -505,7 +537,12 @@ module _ (law : Laws) (es : List Entry) (invoice : IsInvoice es) (term : Term) w
   at-value d v h =
       let w = found-value (is_at term d) es v h in
       let k = both (same_term w.entry.term term) (same_context w.entry.context d) w.passes in
-      subst (λ x. Among x es) (λ i. record { context = (same_context_is w.entry.context d k.1) i; term = (same_term_is w.entry.term term k.0) i; value = w.value i }) w.among
+      subst (λ x. Among x es) (λ i. record {
+        context = (same_context_is w.entry.context d k.1) i;
+        term = (same_term_is w.entry.term term k.0) i;
+        value =
+            w.value i;
+      }) w.among
 
   pub placed-at : (e : Entry) → Among e es → is_placed e ≡ true
   placed-at e a = all-among is_placed e es invoice.placed a
@@ -517,23 +554,28 @@ module _ (law : Laws) (es : List Entry) (invoice : IsInvoice es) (term : Term) w
 
   -- the string of a value that is written by itself
   pub one-string : (form : Form) → is_whole (form_for form term) ≡ true → (d : Context) (o : Option Value) → value_in es term d ≡ o
-      → (if is_full (elim o [ None ↦ [] | Some value ↦ formed (form_for form term) es d value ]) then (elim o [ None ↦ [] | Some value ↦ formed (form_for form term) es d value ]) ∷ [] else [])
-      ≡ map (λ (e : Entry). formed (form_for form term) es e.context e.value) (elim o [ None ↦ [] | Some v ↦ record { context = d; term = term; value = v } ∷ [] ])
+      → (if is_full (elim o [ None ↦ [] | Some value ↦ formed (form_for form term) es d value ]) then
+      (elim o [ None ↦ [] | Some value ↦ formed (form_for form term) es d value ]) ∷ [] else [])
+      ≡ map (λ (e : Entry). formed (form_for form term) es e.context e.value)
+      (elim o [ None ↦ [] | Some v ↦ record { context = d; term = term; value = v } ∷ [] ])
   one-string form whole d None h = refl
   one-string form whole d (Some v) h =
       ap (λ b. if b then formed (form_for form term) es d v ∷ [] else [])
       (whole-full law form term es d v whole (fits-among (record { context = d; term = term; value = v }) es invoice.fit (at-value d v h)))
 
   -- order
-  pub comes-all : (e : Entry) → Among e es → (spots : List Spot) → Each (λ (spot : Spot). Later e.context spot.context) spots → list_all (comes_before e) (entries-of spots) ≡ true
+  pub comes-all : (e : Entry) → Among e es → (spots : List Spot) → Each (λ (spot : Spot). Later e.context spot.context) spots →
+      list_all (comes_before e) (entries-of spots) ≡ true
   comes-all e a [] h = refl
   comes-all e a (spot ∷ spots) h = go (comes-all e a spots h.1) (value_in es term spot.context) refl
     where
       go : list_all (comes_before e) (flat_map (λ (x : Spot). entry_at es term x.context) spots) ≡ true → (o : Option Value) → value_in es term spot.context ≡ o
-          → list_all (comes_before e) ((elim o [ None ↦ [] | Some v ↦ record { context = spot.context; term = term; value = v } ∷ [] ]) ++ flat_map (λ (x : Spot). entry_at es term x.context) spots) ≡ true
+          → list_all (comes_before e) ((elim o [ None ↦ [] | Some v ↦ record { context = spot.context; term = term; value = v } ∷ [] ]) ++
+          flat_map (λ (x : Spot). entry_at es term x.context) spots) ≡ true
       go later None k = later
       go later (Some v) k =
-          rw (later-entries e (record { context = spot.context; term = term; value = v }) (placed-at e a) (placed-at (record { context = spot.context; term = term; value = v }) (at-value spot.context v k)) h.0)
+          rw (later-entries e (record { context = spot.context; term = term; value = v }) (placed-at e a)
+          (placed-at (record { context = spot.context; term = term; value = v }) (at-value spot.context v k)) h.0)
           later
 
   pub listed-entries : (spots : List Spot) → Rising (λ (a : Spot) (b : Spot). Later a.context b.context) spots → is_listed (entries-of spots) ≡ true
@@ -541,7 +583,8 @@ module _ (law : Laws) (es : List Entry) (invoice : IsInvoice es) (term : Term) w
   listed-entries (spot ∷ spots) h = go (listed-entries spots h.1) (value_in es term spot.context) refl
     where
       go : is_listed (flat_map (λ (x : Spot). entry_at es term x.context) spots) ≡ true → (o : Option Value) → value_in es term spot.context ≡ o
-          → is_listed ((elim o [ None ↦ [] | Some v ↦ record { context = spot.context; term = term; value = v } ∷ [] ]) ++ flat_map (λ (x : Spot). entry_at es term x.context) spots) ≡ true
+          → is_listed ((elim o [ None ↦ [] | Some v ↦ record { context = spot.context; term = term; value = v } ∷ [] ]) ++
+          flat_map (λ (x : Spot). entry_at es term x.context) spots) ≡ true
       go later None k = later
       go later (Some v) k = rw (comes-all (record { context = spot.context; term = term; value = v }) (at-value spot.context v k) spots h.0) later
 
@@ -550,30 +593,36 @@ module _ (law : Laws) (es : List Entry) (invoice : IsInvoice es) (term : Term) w
   entry-known [] x h = absurd h
   entry-known (spot ∷ spots) x h = go (entry-known spots x) (value_in es term spot.context) refl h
     where
-      go : (Among x (flat_map (λ (y : Spot). entry_at es term y.context) spots) → Among x (filter (λ (e : Entry). same_term e.term term) es)) → (o : Option Value) → value_in es term spot.context ≡ o
-          → Among x ((elim o [ None ↦ [] | Some v ↦ record { context = spot.context; term = term; value = v } ∷ [] ]) ++ flat_map (λ (y : Spot). entry_at es term y.context) spots)
+      go : (Among x (flat_map (λ (y : Spot). entry_at es term y.context) spots) → Among x (filter (λ (e : Entry). same_term e.term term) es)) →
+          (o : Option Value) → value_in es term spot.context ≡ o
+          → Among x ((elim o [ None ↦ [] | Some v ↦ record { context = spot.context; term = term; value = v } ∷ [] ]) ++
+          flat_map (λ (y : Spot). entry_at es term y.context) spots)
           → Among x (filter (λ (e : Entry). same_term e.term term) es)
       go later None k m = later m
       go later (Some v) k (inl s) =
           subst (λ y. Among y (filter (λ (e : Entry). same_term e.term term) es)) s
-          (among-filter (λ (e : Entry). same_term e.term term) (record { context = spot.context; term = term; value = v }) es (let z : same_term term term ≡ true = grind (arith, nat_tests) in z) (at-value spot.context v k))
+          (among-filter (λ (e : Entry). same_term e.term term) (record { context = spot.context; term = term; value = v }) es
+          (let z : same_term term term ≡ true = grind (arith, nat_tests) in z) (at-value spot.context v k))
       go later (Some v) k (inr m) = later m
 
-  pub among-entries : (x : Entry) (spots : List Spot) → x.term ≡ term → value_in es term x.context ≡ Some x.value → Among x.context (map (λ (spot : Spot). spot.context) spots) → Among x (entries-of spots)
+  pub among-entries : (x : Entry) (spots : List Spot) → x.term ≡ term → value_in es term x.context ≡ Some x.value →
+      Among x.context (map (λ (spot : Spot). spot.context) spots) → Among x (entries-of spots)
   among-entries x [] e v h = absurd h
   among-entries x (spot ∷ spots) e v (inl s) =
       among-front x (entry_at es term spot.context) (flat_map (λ (y : Spot). entry_at es term y.context) spots)
       (subst (λ c. Among x (entry_at es term c)) (sym s)
       (subst (λ (o : Option Value). Among x (elim o [ None ↦ [] | Some w ↦ record { context = x.context; term = term; value = w } ∷ [] ])) (sym v)
       (inl (λ i. record { context = x.context; term = (sym e) i; value = x.value }))))
-  among-entries x (spot ∷ spots) e v (inr m) = among-back x (entry_at es term spot.context) (flat_map (λ (y : Spot). entry_at es term y.context) spots) (among-entries x spots e v m)
+  among-entries x (spot ∷ spots) e v (inr m) = among-back x (entry_at es term spot.context) (flat_map (λ (y : Spot). entry_at es term y.context) spots)
+      (among-entries x spots e v m)
 
   -- entries at elements whose contexts pass a test
   pub kept : (p : Context → Bool) (d : Context) (spots : List Spot) → p d ≡ true → Among d (map (λ (spot : Spot). spot.context) spots)
       → Among d (map (λ (spot : Spot). spot.context) (filter (λ (spot : Spot). p spot.context) spots))
   kept p d [] h a = absurd a
   kept p d (spot ∷ spots) h (inl s) =
-      subst (λ b. Among d (map (λ (x : Spot). x.context) (if b then spot ∷ filter (λ (x : Spot). p x.context) spots else filter (λ (x : Spot). p x.context) spots))) (sym (ap p s ∙ h)) (inl s)
+      subst (λ b. Among d (map (λ (x : Spot). x.context)
+      (if b then spot ∷ filter (λ (x : Spot). p x.context) spots else filter (λ (x : Spot). p x.context) spots))) (sym (ap p s ∙ h)) (inl s)
   kept p d (spot ∷ spots) h (inr a) = go (p spot.context) (kept p d spots h a)
     where
       go : (b : Bool) → Among d (map (λ (x : Spot). x.context) (filter (λ (x : Spot). p x.context) spots))
@@ -581,12 +630,14 @@ module _ (law : Laws) (es : List Entry) (invoice : IsInvoice es) (term : Term) w
       go true m = inr m
       go false m = m
 
-  pub entries-pass : (p : Context → Bool) (spots : List Spot) (x : Entry) → Among x (entries-of (filter (λ (spot : Spot). p spot.context) spots)) → p x.context ≡ true
+  pub entries-pass : (p : Context → Bool) (spots : List Spot) (x : Entry) → Among x (entries-of (filter (λ (spot : Spot). p spot.context) spots)) →
+      p x.context ≡ true
   entries-pass p [] x h = absurd h
   entries-pass p (spot ∷ spots) x h = go (entries-pass p spots x) (p spot.context) refl h
     where
       here : (Among x (entries-of (filter (λ (y : Spot). p y.context) spots)) → p x.context ≡ true) → (o : Option Value) → p spot.context ≡ true
-          → Among x ((elim o [ None ↦ [] | Some v ↦ record { context = spot.context; term = term; value = v } ∷ [] ]) ++ flat_map (λ (y : Spot). entry_at es term y.context) (filter (λ (y : Spot). p y.context) spots))
+          → Among x ((elim o [ None ↦ [] | Some v ↦ record { context = spot.context; term = term; value = v } ∷ [] ]) ++
+          flat_map (λ (y : Spot). entry_at es term y.context) (filter (λ (y : Spot). p y.context) spots))
           → p x.context ≡ true
       here later None e m = later m
       here later (Some v) e (inl s) = ap (λ (y : Entry). p y.context) (sym s) ∙ e
@@ -607,7 +658,8 @@ module _ (law : Laws) (rows : List Row) (es : List Entry) (invoice : IsInvoice e
   abbrev pub is_written : Context → Bool
   is_written c = is_written_by row term es c
 
-  pub written-as : (d : Context) → row_text row es d ≡ values.due es row term plain.content (values.by-value es row term plain.by_value) (context_for row d) (value_for row es term (context_for row d))
+  pub written-as : (d : Context) → row_text row es d ≡ values.due es row term plain.content (values.by-value es row term plain.by_value) (context_for row d)
+      (value_for row es term (context_for row d))
   written-as d = values.written-as es row term plain.content (values.by-value es row term plain.by_value) d
 
   abbrev pub value_text : Context → Option Value → List ℕ
@@ -615,34 +667,42 @@ module _ (law : Laws) (rows : List Row) (es : List Entry) (invoice : IsInvoice e
 
   -- at an element in which a value is written, the context is one of the row: the term stands in no other that is led to, or
   -- the row writes in none that lacks its groups
-  groups-of-value : (d : Context) → context_for row d ≡ d → IsReachable row.outer row.inner d → (v : Value) → value_in es term d ≡ Some v → writes_entry row es d ≡ true → IsAtGroups row.outer row.inner d
+  groups-of-value : (d : Context) → context_for row d ≡ d → IsReachable row.outer row.inner d → (v : Value) → value_in es term d ≡ Some v →
+      writes_entry row es d ≡ true → IsAtGroups row.outer row.inner d
   groups-of-value d own reach v e w = go (is_typed (form_for row.form term)) refl plain.context
     where
-      go : (typed : Bool) → is_typed (form_for row.form term) ≡ typed → (typed || stands_nowhere_else term row.outer row.inner) ≡ true → IsAtGroups row.outer row.inner d
+      go : (typed : Bool) → is_typed (form_for row.form term) ≡ typed → (typed || stands_nowhere_else term row.outer row.inner) ≡ true →
+          IsAtGroups row.outer row.inner d
       go false k there =
           let x : Entry = record { context = d; term = term; value = v } in
           context-there x term row.outer row.inner refl (placed-at law es invoice term x (at-value law es invoice term d v e)) there reach
       go true k there =
           let some : is_some (value_for row es term d) ≡ true =
-          ap (λ c. is_some (value_for row es term c)) (sym own) ∙ values.written-value es row term plain.content (values.by-value es row term plain.by_value) d w in
+          ap (λ c. is_some (value_for row es term c)) (sym own) ∙
+          values.written-value es row term plain.content (values.by-value es row term plain.by_value) d w in
           slots-at row.outer row.inner d (slots-there row es term d k some) reach
 
-  groups-there : (d : Context) → context_for row d ≡ d → IsReachable row.outer row.inner d → (o : Option Value) → value_in es term d ≡ o → (b : Bool) → writes_entry row es d ≡ b
+  groups-there : (d : Context) → context_for row d ≡ d → IsReachable row.outer row.inner d → (o : Option Value) → value_in es term d ≡ o → (b : Bool) →
+      writes_entry row es d ≡ b
       → (is_some o && b) ≡ (is_in_groups row d && (is_some o && b))
   groups-there d own reach None e b w = sym (and-false (is_in_groups row d))
   groups-there d own reach (Some v) e false w = sym (and-false (is_in_groups row d))
   groups-there d own reach (Some v) e true w =
       let at = groups-of-value d own reach v e w in
-      sym (ap (λ c. c && true) (pair-of (ap (λ g. same_groups g row.outer) at.0 ∙ same-groups-itself row.outer) (ap (λ g. same_groups g row.inner) at.1 ∙ same-groups-itself row.inner)))
+      sym (ap (λ c. c && true) (pair-of (ap (λ g. same_groups g row.outer) at.0 ∙ same-groups-itself row.outer) (ap (λ g. same_groups g row.inner) at.1 ∙
+      same-groups-itself row.inner)))
     where
       pair-of : {x y : Bool} → x ≡ true → y ≡ true → (x && y) ≡ true
       pair-of e f = rw (e, f) refl
 
-  pub text-as : (d : Context) → context_for row d ≡ d → IsReachable row.outer row.inner d → own_text es d row ≡ (elim (is_written d) [ true ↦ value_text d (value_in es term d) | false ↦ [] ])
+  pub text-as : (d : Context) → context_for row d ≡ d → IsReachable row.outer row.inner d →
+      own_text es d row ≡ (elim (is_written d) [ true ↦ value_text d (value_in es term d) | false ↦ [] ])
   text-as d own reach =
       values.text-as es row term plain.content (values.by-value es row term plain.by_value) d
-      ∙ (ap (λ c. elim (is_some (value_in es term c) && writes_entry row es d) [ true ↦ elim (value_in es term c) [ None ↦ [] | Some value ↦ formed (form_for row.form term) es c value ] | false ↦ [] ]) own
-      ∙ ap (λ b. elim b [ true ↦ elim (value_in es term d) [ None ↦ [] | Some value ↦ formed (form_for row.form term) es d value ] | false ↦ [] ]) (groups-there d own reach (value_in es term d) refl (writes_entry row es d) refl))
+      ∙ (ap (λ c. elim (is_some (value_in es term c) && writes_entry row es d)
+      [ true ↦ elim (value_in es term c) [ None ↦ [] | Some value ↦ formed (form_for row.form term) es c value ] | false ↦ [] ]) own
+      ∙ ap (λ b. elim b [ true ↦ elim (value_in es term d) [ None ↦ [] | Some value ↦ formed (form_for row.form term) es d value ] | false ↦ [] ])
+      (groups-there d own reach (value_in es term d) refl (writes_entry row es d) refl))
 
   -- its elements are written in such contexts
   pub reaches : Each (λ (spot : Spot). IsReachable row.outer row.inner spot.context) spots_at
@@ -650,9 +710,11 @@ module _ (law : Laws) (rows : List Row) (es : List Entry) (invoice : IsInvoice e
     where
       one : (x : Spot) → Among x spots_at → IsReachable row.outer row.inner x.context
       one x a =
-          let w = of-map (λ (q : Place). q.spot) x (places_at rows es row.path) (subst (Among x) (sym (places-spots es (plan_of rows) row.path false root_context 1)) a) in
+          let w = of-map (λ (q : Place). q.spot) x (places_at rows es row.path)
+          (subst (Among x) (sym (places-spots es (plan_of rows) row.path false root_context 1)) a) in
           subst (λ (y : Spot). IsReachable row.outer row.inner y.context) w.1.1
-          (reach-of es row.path w.0.spot.context row.outer row.inner plain.through plain.nested (places-lead es (plan_of rows) row.path false root_context 1 w.0 w.1.0))
+          (reach-of es row.path w.0.spot.context row.outer row.inner plain.through plain.nested
+          (places-lead es (plan_of rows) row.path false root_context 1 w.0 w.1.0))
 
       each-reach : (xs : List Spot) → ((x : Spot) → Among x xs → Among x spots_at) → Each (λ (spot : Spot). IsReachable row.outer row.inner spot.context) xs
       each-reach [] f = tt
@@ -669,7 +731,8 @@ module _ (law : Laws) (rows : List Row) (es : List Entry) (invoice : IsInvoice e
     pub rising : Rising (λ (a : Spot) (b : Spot). Later a.context b.context) spots
     pub own : Each (λ (spot : Spot). context_for row spot.context ≡ spot.context) spots
 
-  pub whole-context : (o i : Option Group) → row.outer ≡ o → row.inner ≡ i → (d : Context) → (o ≡ None → d.outer ≡ None) → (i ≡ None → d.inner ≡ None) → context_for row d ≡ d
+  pub whole-context : (o i : Option Group) → row.outer ≡ o → row.inner ≡ i → (d : Context) → (o ≡ None → d.outer ≡ None) → (i ≡ None → d.inner ≡ None) →
+      context_for row d ≡ d
   whole-context o i a b d p q = λ k. record { outer = (first o a p) k; inner = (second i b q) k }
     where
       first : (o : Option Group) → row.outer ≡ o → (o ≡ None → d.outer ≡ None) → slot_for row.outer d.outer ≡ d.outer
@@ -686,7 +749,8 @@ module _ (law : Laws) (rows : List Row) (es : List Entry) (invoice : IsInvoice e
       no : {X : Type 0} (g : Group) → Some g ≡ None → X
       no g e = absurd (let z : ◌≡◌ {A = Option Group} (Some g) None = e in cc)
 
-      go : (o i : Option Group) → row.outer ≡ o → row.inner ≡ i → groups_of row.path ≡ listed row.outer ++ listed row.inner → (is_some row.outer || is_none row.inner) ≡ true → HasContexts (written_at rows es row.path)
+      go : (o i : Option Group) → row.outer ≡ o → row.inner ≡ i → groups_of row.path ≡ listed row.outer ++ listed row.inner →
+          (is_some row.outer || is_none row.inner) ≡ true → HasContexts (written_at rows es row.path)
       go None None a b h n =
           let w = in-one es (plan_of rows) row.path false root_context (h ∙ (λ k. listed (a k) ++ listed (b k))) in
           record {
@@ -717,8 +781,10 @@ module _ (law : Laws) (rows : List Row) (es : List Entry) (invoice : IsInvoice e
   abbrev pub written_spots : List Spot → List Spot
   written_spots spots = filter (λ (spot : Spot). is_written spot.context) spots
 
-  strings : is_whole (form_for row.form term) ≡ true → (spots : List Spot) → Each (λ (spot : Spot). spot.text ≡ own_text es spot.context row) spots → Each (λ (spot : Spot). context_for row spot.context ≡ spot.context) spots → Each (λ (spot : Spot). IsReachable row.outer row.inner spot.context) spots
-      → filter is_full (map (λ (spot : Spot). spot.text) spots) ≡ map (λ (e : Entry). formed (form_for row.form term) es e.context e.value) (entries-of law es invoice term (written_spots spots))
+  strings : is_whole (form_for row.form term) ≡ true → (spots : List Spot) → Each (λ (spot : Spot). spot.text ≡ own_text es spot.context row) spots →
+      Each (λ (spot : Spot). context_for row spot.context ≡ spot.context) spots → Each (λ (spot : Spot). IsReachable row.outer row.inner spot.context) spots
+      → filter is_full (map (λ (spot : Spot). spot.text) spots) ≡ map (λ (e : Entry). formed (form_for row.form term) es e.context e.value)
+      (entries-of law es invoice term (written_spots spots))
   strings form [] h k l = refl
   strings form (spot ∷ spots) h k l = go (strings form spots h.1 k.1 l.1) (is_written spot.context) (h.0 ∙ text-as spot.context k.0 l.0)
     where
@@ -726,43 +792,54 @@ module _ (law : Laws) (rows : List Row) (es : List Entry) (invoice : IsInvoice e
       one true x xs = refl
       one false x xs = refl
 
-      map-append : (xs ys : List Entry) → map (λ (e : Entry). formed (form_for row.form term) es e.context e.value) (xs ++ ys) ≡ map (λ (e : Entry). formed (form_for row.form term) es e.context e.value) xs ++ map (λ (e : Entry). formed (form_for row.form term) es e.context e.value) ys
+      map-append : (xs ys : List Entry) → map (λ (e : Entry). formed (form_for row.form term) es e.context e.value) (xs ++ ys) ≡ map
+          (λ (e : Entry). formed (form_for row.form term) es e.context e.value) xs ++
+          map (λ (e : Entry). formed (form_for row.form term) es e.context e.value) ys
       map-append [] ys = refl
       map-append (x ∷ xs) ys = ap (λ l. formed (form_for row.form term) es x.context x.value ∷ l) (map-append xs ys)
 
-      go : filter is_full (map (λ (x : Spot). x.text) spots) ≡ map (λ (e : Entry). formed (form_for row.form term) es e.context e.value) (entries-of law es invoice term (written_spots spots))
+      go : filter is_full (map (λ (x : Spot). x.text) spots) ≡ map (λ (e : Entry). formed (form_for row.form term) es e.context e.value)
+          (entries-of law es invoice term (written_spots spots))
           → (b : Bool) → spot.text ≡ (elim b [ true ↦ value_text spot.context (value_in es term spot.context) | false ↦ [] ])
           → filter is_full (map (λ (x : Spot). x.text) (spot ∷ spots))
-          ≡ map (λ (e : Entry). formed (form_for row.form term) es e.context e.value) (entries-of law es invoice term (if b then spot ∷ written_spots spots else written_spots spots))
+          ≡ map (λ (e : Entry). formed (form_for row.form term) es e.context e.value)
+          (entries-of law es invoice term (if b then spot ∷ written_spots spots else written_spots spots))
       go later true text =
           one (is_full spot.text) spot.text (filter is_full (map (λ (x : Spot). x.text) spots))
           ∙ (ap (λ t. (if is_full t then t ∷ [] else []) ++ filter is_full (map (λ (x : Spot). x.text) spots)) text
-          ∙ (ap (λ l. l ++ filter is_full (map (λ (x : Spot). x.text) spots)) (one-string law es invoice term row.form form spot.context (value_in es term spot.context) refl)
+          ∙ (ap (λ l. l ++ filter is_full (map (λ (x : Spot). x.text) spots))
+          (one-string law es invoice term row.form form spot.context (value_in es term spot.context) refl)
           ∙ (ap (λ l. map (λ (e : Entry). formed (form_for row.form term) es e.context e.value) (entry_at es term spot.context) ++ l) later
           ∙ sym (map-append (entry_at es term spot.context) (flat_map (λ (x : Spot). entry_at es term x.context) (written_spots spots))))))
-      go later false text = ap (λ t. if is_full t then t ∷ filter is_full (map (λ (x : Spot). x.text) spots) else filter is_full (map (λ (x : Spot). x.text) spots)) text ∙ later
+      go later false text = ap (λ t. if is_full t then t ∷ filter is_full (map (λ (x : Spot). x.text) spots) else filter is_full
+          (map (λ (x : Spot). x.text) spots)) text ∙ later
 
-  pub leads : (x : Entry) → Among x es → (slot_group x.context.outer ≡ row.outer) × (slot_group x.context.inner ≡ row.inner) → Leads es row.path root_context x.context
+  pub leads : (x : Entry) → Among x es → (slot_group x.context.outer ≡ row.outer) × (slot_group x.context.inner ≡ row.inner) →
+      Leads es row.path root_context x.context
   leads x a at = go row.outer row.inner refl refl
     where
       go : (o i : Option Group) → row.outer ≡ o → row.inner ≡ i → Leads es row.path root_context x.context
       go None None p q =
-          subst (Leads es row.path root_context) (λ k. record { outer = (sym (no-slot x.context.outer (at.0 ∙ p))) k; inner = (sym (no-slot x.context.inner (at.1 ∙ q))) k })
+          subst (Leads es row.path root_context)
+          (λ k. record { outer = (sym (no-slot x.context.outer (at.0 ∙ p))) k; inner = (sym (no-slot x.context.inner (at.1 ∙ q))) k })
           (leads-on es row.path root_context (plain.through ∙ (λ k. listed (p k) ++ listed (q k))))
       go None (Some g) p q = absurd (false≢true (sym (λ k. is_some (p k) || is_none (q k)) ∙ plain.nested))
       go (Some f) None p q =
           let w = slot-of-group x.context.outer f (at.0 ∙ p) in
           subst (Leads es row.path root_context) (λ k. record { outer = (sym w.1) k; inner = (sym (no-slot x.context.inner (at.1 ∙ q))) k })
-          (leads-in es row.path root_context (record { outer = Some (record { group = f; index = w.0 }); inner = None }) f (plain.through ∙ (λ k. listed (p k) ++ listed (q k)))
+          (leads-in es row.path root_context (record { outer = Some (record { group = f; index = w.0 }); inner = None }) f
+          (plain.through ∙ (λ k. listed (p k) ++ listed (q k)))
           (outer-among es x f w.0 a invoice.numbered w.1))
       go (Some f) (Some g) p q =
           let w = slot-of-group x.context.outer f (at.0 ∙ p) in
           let v = slot-of-group x.context.inner g (at.1 ∙ q) in
           subst (Leads es row.path root_context) (λ k. record { outer = (sym w.1) k; inner = (sym v.1) k })
           (leads-through es row.path root_context (record { outer = Some (record { group = f; index = w.0 }); inner = None })
-          (record { outer = Some (record { group = f; index = w.0 }); inner = Some (record { group = g; index = v.0 }) }) f g (plain.through ∙ (λ k. listed (p k) ++ listed (q k)))
+          (record { outer = Some (record { group = f; index = w.0 }); inner = Some (record { group = g; index = v.0 }) }) f g
+          (plain.through ∙ (λ k. listed (p k) ++ listed (q k)))
           (outer-among es x f w.0 a invoice.numbered w.1)
-          (inner-among es x (record { group = f; index = w.0 }) g v.0 (record { outer = Some (record { group = f; index = w.0 }); inner = None }) a invoice.numbered w.1 v.1 refl))
+          (inner-among es x (record { group = f; index = w.0 }) g v.0 (record { outer = Some (record { group = f; index = w.0 }); inner = None }) a
+          invoice.numbered w.1 v.1 refl))
 
   pub own-context : (x : Entry) → (slot_group x.context.outer ≡ row.outer) × (slot_group x.context.inner ≡ row.inner) → context_for row x.context ≡ x.context
   own-context x at =
@@ -780,9 +857,11 @@ module _ (law : Laws) (rows : List Row) (es : List Entry) (invoice : IsInvoice e
   written-spot c h =
       let w = written-some c h in
       let x : Entry = record { context = c; term = term; value = w.0 } in
-      there row.path plain.own (leads x (at-value law es invoice term c w.0 w.1) (written-groups c h)) (both (is_some (value_in es term c)) (writes_entry row es c) (both (is_in_groups row c) _ h).1).1
+      there row.path plain.own (leads x (at-value law es invoice term c w.0 w.1) (written-groups c h))
+      (both (is_some (value_in es term c)) (writes_entry row es c) (both (is_in_groups row c) _ h).1).1
     where
-      there : (path : List Step) → rows_at is_at_element (plan_of rows) path ≡ row ∷ [] → Leads es path root_context c → writes_entry row es c ≡ true → Among c (map (λ (spot : Spot). spot.context) (written_at rows es path))
+      there : (path : List Step) → rows_at is_at_element (plan_of rows) path ≡ row ∷ [] → Leads es path root_context c → writes_entry row es c ≡ true →
+          Among c (map (λ (spot : Spot). spot.context) (written_at rows es path))
       there [] own l k = absurd (nothing-at (plan_of rows) own)
         where
           nothing-at : (plan : Plan) → rows_at is_at_element plan [] ≡ row ∷ [] → ⊥
@@ -812,50 +891,60 @@ module _ (law : Laws) (rows : List Row) (es : List Entry) (invoice : IsInvoice e
   pub same-entries : entries-of law es invoice term (written_spots spots_at) ≡ filter wanted es
   same-entries =
       same_members (entries-of law es invoice term (written_spots spots_at)) (filter wanted es)
-      (listed-entries law es invoice term (written_spots spots_at) (rising-filter (λ (a : Spot) (b : Spot). Later a.context b.context) (λ (spot : Spot). is_written spot.context) spots_at contexts.rising))
+      (listed-entries law es invoice term (written_spots spots_at)
+      (rising-filter (λ (a : Spot) (b : Spot). Later a.context b.context) (λ (spot : Spot). is_written spot.context) spots_at contexts.rising))
       (listed-filter wanted es invoice.listed)
       (λ x. (
         λ h. among-contains x (filter wanted es) (known-wanted x (contains-among x (entries-of law es invoice term (written_spots spots_at)) h)),
         λ h. among-contains x (entries-of law es invoice term (written_spots spots_at)) (wanted-known x (contains-among x (filter wanted es) h)),
       ))
 
-  pub plain-law : stands_apart rows row.path ≡ true → is_whole (form_for row.form term) ≡ true → (k : ℕ) → map (λ (pick : Pick). string_at (document_nodes (document_of rows es)) pick.node) (nodes_picked (document_nodes (document_of rows es)) k row)
-      ≡ map (λ (e : Entry). formed (form_for row.form term) es e.context e.value) (filter (λ (e : Entry). same_term e.term term && is_written_by row term es e.context) es)
+  pub plain-law : stands_apart rows row.path ≡ true → is_whole (form_for row.form term) ≡ true → (k : ℕ) →
+      map (λ (pick : Pick). string_at (document_nodes (document_of rows es)) pick.node) (nodes_picked (document_nodes (document_of rows es)) k row)
+      ≡ map (λ (e : Entry). formed (form_for row.form term) es e.context e.value)
+      (filter (λ (e : Entry). same_term e.term term && is_written_by row term es e.context) es)
   plain-law apart form k =
       elements-law rows es k row plain.leaf apart
       ∙ (strings form spots_at (own-texts es row (plan_of rows) row.path false root_context plain.own) contexts.own reaches
       ∙ ap (map (λ (e : Entry). formed (form_for row.form term) es e.context e.value)) same-entries)
 
   -- a row that is always written, writes all values of its term
-  always-written : row.written ≡ written.Always → stands_there term row.outer row.inner ≡ true → (x : Entry) → Among x es → same_term x.term term ≡ true → is_written x.context ≡ true
+  always-written : row.written ≡ written.Always → stands_there term row.outer row.inner ≡ true → (x : Entry) → Among x es → same_term x.term term ≡ true →
+      is_written x.context ≡ true
   always-written always stands x a same =
       let e : x.term ≡ term = same_term_is x.term term same in
       let at = groups-are x term row.outer row.inner e (placed-at law es invoice term x a) stands in
       let v : value_in es term x.context ≡ Some x.value = ap (λ t. value_in es t x.context) (sym e) ∙ own-value es x invoice.listed a in
       let text : row_text row es x.context ≡ Some (formed (form_for row.form term) es x.context x.value) =
       written-as x.context ∙ (ap (λ c. due c (value_for row es term c)) (own-context x at)
-      ∙ (ap (due x.context) (as-modelled row es term x.context (modelled-untyped row.form term (stands-modelled term row.outer row.inner stands)) ∙ v) ∙ ap (λ rule. if_due rule es term x.context (formed (form_for row.form term) es x.context x.value)) always)) in
-      pair (pair (ap (λ g. same_groups g row.outer) at.0 ∙ same-groups-itself row.outer) (ap (λ g. same_groups g row.inner) at.1 ∙ same-groups-itself row.inner)) (pair (ap is_some v) (ap is_some text))
+      ∙ (ap (due x.context) (as-modelled row es term x.context (modelled-untyped row.form term (stands-modelled term row.outer row.inner stands)) ∙ v) ∙
+      ap (λ rule. if_due rule es term x.context (formed (form_for row.form term) es x.context x.value)) always)) in
+      pair (pair (ap (λ g. same_groups g row.outer) at.0 ∙ same-groups-itself row.outer) (ap (λ g. same_groups g row.inner) at.1 ∙
+      same-groups-itself row.inner)) (pair (ap is_some v) (ap is_some text))
     where
       pair : {a b : Bool} → a ≡ true → b ≡ true → (a && b) ≡ true
       pair e f = rw (e, f) refl
 
-  pub always-law : row.written ≡ written.Always → stands_there term row.outer row.inner ≡ true → filter (λ (e : Entry). same_term e.term term && is_written_by row term es e.context) es ≡ filter (λ (e : Entry). same_term e.term term) es
+  pub always-law : row.written ≡ written.Always → stands_there term row.outer row.inner ≡ true →
+      filter (λ (e : Entry). same_term e.term term && is_written_by row term es e.context) es ≡ filter (λ (e : Entry). same_term e.term term) es
   always-law always stands = filter-same wanted (λ (e : Entry). same_term e.term term) es (each es (λ x a. a))
     where
       one : (x : Entry) → Among x es → (b : Bool) → same_term x.term term ≡ b → (b && is_written_by row term es x.context) ≡ b
       one x a true e = always-written always stands x a e
       one x a false e = refl
 
-      each : (xs : List Entry) → ((x : Entry) → Among x xs → Among x es) → Each (λ (x : Entry). (same_term x.term term && is_written_by row term es x.context) ≡ same_term x.term term) xs
+      each : (xs : List Entry) → ((x : Entry) → Among x xs → Among x es) →
+          Each (λ (x : Entry). (same_term x.term term && is_written_by row term es x.context) ≡ same_term x.term term) xs
       each [] f = tt
       each (x ∷ xs) f = (one x (f x (inl refl)) (same_term x.term term) refl, each xs (λ y a. f y (inr a)))
 
   -- ---- what the strings say
 
   -- what it writes of a value is read by the type of the term, or by that of its form
-  reads-so : is_whole (form_for row.form term) ≡ true → IsRead row.form term → (e : Entry) → Among e es → Fits e.term e.value → same_term e.term term ≡ true → is_written e.context ≡ true → ReadsAs (form_for row.form term) term es e.context e.value
-  reads-so form (inl own) e a fits same w = reads-as law row.form term es e.context e.value form own (subst (λ x. Fits x e.value) (same_term_is e.term term same) fits)
+  reads-so : is_whole (form_for row.form term) ≡ true → IsRead row.form term → (e : Entry) → Among e es → Fits e.term e.value → same_term e.term term ≡ true →
+      is_written e.context ≡ true → ReadsAs (form_for row.form term) term es e.context e.value
+  reads-so form (inl own) e a fits same w = reads-as law row.form term es e.context e.value form own
+      (subst (λ x. Fits x e.value) (same_term_is e.term term same) fits)
   reads-so form (inr typed) e a fits same w =
       let t : e.term ≡ term = same_term_is e.term term same in
       let v : value_in es term e.context ≡ Some e.value = ap (λ u. value_in es u e.context) (sym t) ∙ own-value es e invoice.listed a in
@@ -863,10 +952,13 @@ module _ (law : Laws) (rows : List Row) (es : List Entry) (invoice : IsInvoice e
       ap (λ c. is_some (value_for row es term c)) (sym (own-context e (written-groups e.context w)))
       ∙ values.written-value es row term plain.content (values.by-value es row term plain.by_value) e.context
       (both (is_some (value_in es term e.context)) (writes_entry row es e.context) (both (is_in_groups row e.context) _ w).1).1 in
-      back-as law row.form term es e.context e.value (typed-back es (form_for row.form term) e.context e.value typed (taken-is row es term e.context e.value typed v some)) (inr typed)
+      back-as law row.form term es e.context e.value
+      (typed-back es (form_for row.form term) e.context e.value typed (taken-is row es term e.context e.value typed v some)) (inr typed)
       (subst (λ x. Fits x e.value) t fits)
 
-  said-again : is_whole (form_for row.form term) ≡ true → IsRead row.form term → (xs : List Entry) → ((x : Entry) → Among x xs → Among x es) → All (λ (e : Entry). Fits e.term e.value) xs → map (λ s. said row.form term s) (map (λ (e : Entry). formed (form_for row.form term) es e.context e.value) (filter wanted xs))
+  said-again : is_whole (form_for row.form term) ≡ true → IsRead row.form term → (xs : List Entry) → ((x : Entry) → Among x xs → Among x es) →
+      All (λ (e : Entry). Fits e.term e.value) xs → map (λ s. said row.form term s)
+      (map (λ (e : Entry). formed (form_for row.form term) es e.context e.value) (filter wanted xs))
       ≡ map (λ (e : Entry). record { term = term; value = Some e.value } ∷ []) (filter wanted xs)
   said-again form read [] f h = refl
   said-again form read (e ∷ xs) f h = go (wanted e) refl (said-again form read xs (λ x a. f x (inr a)) (All-tail (λ (x : Entry). Fits x.term x.value) e xs h))
@@ -874,21 +966,31 @@ module _ (law : Laws) (rows : List Row) (es : List Entry) (invoice : IsInvoice e
       fits : Fits e.term e.value
       fits = All-head (λ (x : Entry). Fits x.term x.value) e xs h
 
-      says : (same_term e.term term ≡ true) × (is_written e.context ≡ true) → said row.form term (formed (form_for row.form term) es e.context e.value) ≡ record { term = term; value = Some e.value } ∷ []
-      says t = (reads-so form read e (f e (inl refl)) fits t.0 t.1).said ∙ ap (λ l. record { term = term; value = Some e.value } ∷ l) (whole-uncoded (form_for row.form term) es e.context form)
+      says : (same_term e.term term ≡ true) × (is_written e.context ≡ true) →
+          said row.form term (formed (form_for row.form term) es e.context e.value) ≡ record { term = term; value = Some e.value } ∷ []
+      says t = (reads-so form read e (f e (inl refl)) fits t.0 t.1).said ∙
+          ap (λ l. record { term = term; value = Some e.value } ∷ l) (whole-uncoded (form_for row.form term) es e.context form)
 
       go : (b : Bool) → wanted e ≡ b
-          → map (λ s. said row.form term s) (map (λ (x : Entry). formed (form_for row.form term) es x.context x.value) (filter wanted xs)) ≡ map (λ (x : Entry). record { term = term; value = Some x.value } ∷ []) (filter wanted xs)
-          → map (λ s. said row.form term s) (map (λ (x : Entry). formed (form_for row.form term) es x.context x.value) (if b then e ∷ filter wanted xs else filter wanted xs))
+          → map (λ s. said row.form term s) (map (λ (x : Entry). formed (form_for row.form term) es x.context x.value) (filter wanted xs)) ≡ map
+          (λ (x : Entry). record { term = term; value = Some x.value } ∷ []) (filter wanted xs)
+          → map (λ s. said row.form term s) (map (λ (x : Entry). formed (form_for row.form term) es x.context x.value)
+          (if b then e ∷ filter wanted xs else filter wanted xs))
           ≡ map (λ (x : Entry). record { term = term; value = Some x.value } ∷ []) (if b then e ∷ filter wanted xs else filter wanted xs)
       go true k more = (λ i. says (both (same_term e.term term) (is_written e.context) k) i ∷ more i)
       go false k more = more
 
-  pub says-law : stands_apart rows row.path ≡ true → is_whole (form_for row.form term) ≡ true → (is_extension term && not (is_typed (form_for row.form term))) ≡ false → (k : ℕ) → map (λ (pick : Pick). said row.form term (string_at (document_nodes (document_of rows es)) pick.node)) (nodes_picked (document_nodes (document_of rows es)) k row)
-      ≡ map (λ (e : Entry). record { term = term; value = Some e.value } ∷ []) (filter (λ (e : Entry). same_term e.term term && is_written_by row term es e.context) es)
+  pub says-law : stands_apart rows row.path ≡ true → is_whole (form_for row.form term) ≡ true →
+      (is_extension term && not (is_typed (form_for row.form term))) ≡ false → (k : ℕ) →
+      map (λ (pick : Pick). said row.form term (string_at (document_nodes (document_of rows es)) pick.node))
+      (nodes_picked (document_nodes (document_of rows es)) k row)
+      ≡ map (λ (e : Entry). record { term = term; value = Some e.value } ∷ [])
+      (filter (λ (e : Entry). same_term e.term term && is_written_by row term es e.context) es)
   says-law apart form says k =
-      sym (map-map (λ s. said row.form term s) (λ (pick : Pick). string_at (document_nodes (document_of rows es)) pick.node) (nodes_picked (document_nodes (document_of rows es)) k row))
-      ∙ (ap (map (λ s. said row.form term s)) (plain-law apart form k) ∙ said-again form (read-by (is_extension term) (is_typed (form_for row.form term)) refl refl says) es (λ x a. a) invoice.fit)
+      sym (map-map (λ s. said row.form term s) (λ (pick : Pick). string_at (document_nodes (document_of rows es)) pick.node)
+      (nodes_picked (document_nodes (document_of rows es)) k row))
+      ∙ (ap (map (λ s. said row.form term s)) (plain-law apart form k) ∙
+      said-again form (read-by (is_extension term) (is_typed (form_for row.form term)) refl refl says) es (λ x a. a) invoice.fit)
     where
       read-by : (a b : Bool) → is_extension term ≡ a → is_typed (form_for row.form term) ≡ b → (a && not b) ≡ false → IsRead row.form term
       read-by false b own typed h = inl own

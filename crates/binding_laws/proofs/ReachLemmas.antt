@@ -72,7 +72,8 @@ pub any-is : {X : Type 0} (p : X → Bool) (xs : List X) → list_any p xs ≡ t
 any-is p [] h = absurd (false≢true h)
 any-is {X = X} p (y ∷ xs) h = go (any-is p xs) (p y) refl h
   where
-    go : (list_any p xs ≡ true → (x : X) × (Among x xs × (p x ≡ true))) → (b : Bool) → p y ≡ b → (b || list_any p xs) ≡ true → (x : X) × (((y ≡ x) ⊎ Among x xs) × (p x ≡ true))
+    go : (list_any p xs ≡ true → (x : X) × (Among x xs × (p x ≡ true))) → (b : Bool) → p y ≡ b → (b || list_any p xs) ≡ true → (x : X) ×
+        (((y ≡ x) ⊎ Among x xs) × (p x ≡ true))
     go later true e k = (y, (inl refl, e))
     go later false e k = let w = later k in (w.0, (inr w.1.0, w.1.1))
 
@@ -115,7 +116,8 @@ module _ (es : List Entry) where
     | inr w ↦ (d, subst (λ o. Among d (spots es c o)) (sym w.0) a, leads-on path d w.1)
   ]
 
-  pub leads-through : (path : List Step) (c b d : Context) (g i : Group) → groups_of path ≡ g ∷ (i ∷ []) → Among b (spots es c (Some g)) → Among d (spots es b (Some i)) → Leads path c d
+  pub leads-through : (path : List Step) (c b d : Context) (g i : Group) → groups_of path ≡ g ∷ (i ∷ []) → Among b (spots es c (Some g)) →
+      Among d (spots es b (Some i)) → Leads path c d
   leads-through [] c b d g i h a k = absurd (let z : ◌≡◌ {A = List Group} [] (g ∷ (i ∷ [])) = h in cc)
   leads-through (s ∷ path) c b d g i h a k = elim (some-group s path g (i ∷ []) h) [
     | inl w ↦ (c, subst (λ o. Among c (spots es c o)) (sym w.0) (inl refl), leads-through path c b d g i w.1 a k)
@@ -128,23 +130,34 @@ module _ (es : List Entry) (row : Row) where
   abbrev HasOwn : Spot → Type 0
   HasOwn spot = spot.text ≡ own_text es spot.context row
 
-  pub own-texts : (plan : Plan) (path : List Step) (held : Bool) (c : Context) → rows_at is_at_element plan path ≡ row ∷ [] → Each (λ (spot : Spot). spot.text ≡ own_text es spot.context row) (spots_below es plan path held c)
+  pub own-texts : (plan : Plan) (path : List Step) (held : Bool) (c : Context) → rows_at is_at_element plan path ≡ row ∷ [] →
+      Each (λ (spot : Spot). spot.text ≡ own_text es spot.context row) (spots_below es plan path held c)
   own-texts nothing path held c h = tt
   own-texts (a_line t cells inside rest) [] held c h = tt
   own-texts (a_line t cells inside rest) (s ∷ path) held c h =
       go (λ q d. own-texts inside q (holds_further es cells inside held d) d) (own-texts rest (s ∷ path) held c) (same_step s t) h
     where
-      here : ((q : List Step) (d : Context) → rows_at is_at_element inside q ≡ row ∷ [] → Each (λ (spot : Spot). spot.text ≡ own_text es spot.context row) (spots_below es inside q (holds_further es cells inside held d) d))
-          → (path : List Step) → (elim path [ [] ↦ map (λ (cell : Cell). cell.row) (filter is_at_element cells) | (u ∷ further) ↦ rows_at is_at_element inside (u ∷ further) ]) ≡ row ∷ [] → (d : Context)
+      here : ((q : List Step) (d : Context) → rows_at is_at_element inside q ≡ row ∷ [] →
+          Each (λ (spot : Spot). spot.text ≡ own_text es spot.context row) (spots_below es inside q (holds_further es cells inside held d) d))
+          → (path : List Step) → (elim path [
+            | [] ↦ map (λ (cell : Cell). cell.row) (filter is_at_element cells)
+            | (u ∷ further) ↦ rows_at is_at_element inside (u ∷ further)
+          ]) ≡ row ∷ [] → (d : Context)
           → Each (λ (spot : Spot). spot.text ≡ own_text es spot.context row)
-          (at_end path (record { context = d; attributes = attributes es t cells d; text = element_text es cells d }) (spots_below es inside path (holds_further es cells inside held d) d))
+          (at_end path (record { context = d; attributes = attributes es t cells d; text = element_text es cells d })
+          (spots_below es inside path (holds_further es cells inside held d) d))
       here inner [] k d = (text-by-rows es d cells ∙ (ap (flat_map (own_text es d)) k ∙ append-nil (own_text es d row)), tt)
       here inner (u ∷ us) k d = inner (u ∷ us) d k
 
-      go : ((q : List Step) (d : Context) → rows_at is_at_element inside q ≡ row ∷ [] → Each (λ (spot : Spot). spot.text ≡ own_text es spot.context row) (spots_below es inside q (holds_further es cells inside held d) d))
-          → (rows_at is_at_element rest (s ∷ path) ≡ row ∷ [] → Each (λ (spot : Spot). spot.text ≡ own_text es spot.context row) (spots_below es rest (s ∷ path) held c))
+      go : ((q : List Step) (d : Context) → rows_at is_at_element inside q ≡ row ∷ [] →
+          Each (λ (spot : Spot). spot.text ≡ own_text es spot.context row) (spots_below es inside q (holds_further es cells inside held d) d))
+          → (rows_at is_at_element rest (s ∷ path) ≡ row ∷ [] →
+          Each (λ (spot : Spot). spot.text ≡ own_text es spot.context row) (spots_below es rest (s ∷ path) held c))
           → (b : Bool) → (elim b [
-            | true ↦ elim path [ [] ↦ map (λ (cell : Cell). cell.row) (filter is_at_element cells) | (u ∷ further) ↦ rows_at is_at_element inside (u ∷ further) ]
+            | true ↦ elim path [
+              | [] ↦ map (λ (cell : Cell). cell.row) (filter is_at_element cells)
+              | (u ∷ further) ↦ rows_at is_at_element inside (u ∷ further)
+            ]
             | false ↦ rows_at is_at_element rest (s ∷ path)
           ]) ≡ row ∷ []
           → Each (λ (spot : Spot). spot.text ≡ own_text es spot.context row) (elim b [
@@ -154,7 +167,8 @@ module _ (es : List Entry) (row : Row) where
           ])
       go inner later true k =
           each-flat_map (λ (spot : Spot). spot.text ≡ own_text es spot.context row)
-          (λ d. at_end path (record { context = d; attributes = attributes es t cells d; text = element_text es cells d }) (spots_below es inside path (holds_further es cells inside held d) d))
+          (λ d. at_end path (record { context = d; attributes = attributes es t cells d; text = element_text es cells d })
+          (spots_below es inside path (holds_further es cells inside held d) d))
           (emitted es t cells inside held c) (all-each _ (emitted es t cells inside held c) (here inner path k))
       go inner later false k = later k
 
@@ -165,7 +179,8 @@ module _ (es : List Entry) (row : Row) where
   either-second true b e = refl
   either-second false b e = e
 
-  row-in-cells : (cells : List Cell) (d : Context) → map (λ (cell : Cell). cell.row) (filter is_at_element cells) ≡ row ∷ [] → writes_entry row es d ≡ true → cells_hold es cells d ≡ true
+  row-in-cells : (cells : List Cell) (d : Context) → map (λ (cell : Cell). cell.row) (filter is_at_element cells) ≡ row ∷ [] → writes_entry row es d ≡ true →
+      cells_hold es cells d ≡ true
   row-in-cells [] d e w = absurd (let z : ◌≡◌ {A = List Row} [] (row ∷ []) = e in cc)
   row-in-cells (cell ∷ cells) d e w = go (λ k. row-in-cells cells d k w) (is_at_element cell) e
     where
@@ -173,7 +188,9 @@ module _ (es : List Entry) (row : Row) where
       or-true true = refl
       or-true false = refl
 
-      go : (map (λ (x : Cell). x.row) (filter is_at_element cells) ≡ row ∷ [] → cells_hold es cells d ≡ true) → (b : Bool) → map (λ (x : Cell). x.row) (if b then cell ∷ filter is_at_element cells else filter is_at_element cells) ≡ row ∷ [] → (writes_entry cell.row es d || cells_hold es cells d) ≡ true
+      go : (map (λ (x : Cell). x.row) (filter is_at_element cells) ≡ row ∷ [] → cells_hold es cells d ≡ true) → (b : Bool) →
+          map (λ (x : Cell). x.row) (if b then cell ∷ filter is_at_element cells else filter is_at_element cells) ≡ row ∷ [] →
+          (writes_entry cell.row es d || cells_hold es cells d) ≡ true
       go later true k =
           let same : cell.row ≡ row = let z : cell.row ∷ map (λ (x : Cell). x.row) (filter is_at_element cells) ≡ row ∷ [] = k in cc in
           ap (λ x. writes_entry x es d || cells_hold es cells d) same ∙ ap (λ b. b || cells_hold es cells d) w
@@ -182,40 +199,54 @@ module _ (es : List Entry) (row : Row) where
   abbrev AreIn : Context → List Spot → Type 0
   AreIn d spots = Among d (map (λ (spot : Spot). spot.context) spots)
 
-  among-spots : (f : Context → List Spot) (b d : Context) (ds : List Context) → Among b ds → Among d (map (λ (spot : Spot). spot.context) (f b)) → Among d (map (λ (spot : Spot). spot.context) (flat_map f ds))
+  among-spots : (f : Context → List Spot) (b d : Context) (ds : List Context) → Among b ds → Among d (map (λ (spot : Spot). spot.context) (f b)) →
+      Among d (map (λ (spot : Spot). spot.context) (flat_map f ds))
   among-spots f b d [] h k = absurd h
   among-spots f b d (a ∷ ds) h k = subst (Among d) (sym (map-append (f a) (flat_map f ds))) (go (λ m. among-spots f b d ds m k) h)
     where
-      map-append : (xs ys : List Spot) → map (λ (spot : Spot). spot.context) (xs ++ ys) ≡ map (λ (spot : Spot). spot.context) xs ++ map (λ (spot : Spot). spot.context) ys
+      map-append : (xs ys : List Spot) → map (λ (spot : Spot). spot.context) (xs ++ ys) ≡ map (λ (spot : Spot). spot.context) xs ++
+          map (λ (spot : Spot). spot.context) ys
       map-append [] ys = refl
       map-append (x ∷ xs) ys = ap (λ l. x.context ∷ l) (map-append xs ys)
 
-      go : (Among b ds → Among d (map (λ (spot : Spot). spot.context) (flat_map f ds))) → (a ≡ b) ⊎ Among b ds → Among d (map (λ (spot : Spot). spot.context) (f a) ++ map (λ (spot : Spot). spot.context) (flat_map f ds))
+      go : (Among b ds → Among d (map (λ (spot : Spot). spot.context) (flat_map f ds))) → (a ≡ b) ⊎ Among b ds →
+          Among d (map (λ (spot : Spot). spot.context) (f a) ++ map (λ (spot : Spot). spot.context) (flat_map f ds))
       go later (inl e) = among-front d _ _ (subst (λ x. Among d (map (λ (spot : Spot). spot.context) (f x))) (sym e) k)
       go later (inr m) = among-back d (map (λ (spot : Spot). spot.context) (f a)) _ (later m)
 
-  pub reached : (plan : Plan) (s : Step) (path : List Step) (held : Bool) (c d : Context) → rows_at is_at_element plan (s ∷ path) ≡ row ∷ [] → Leads es (s ∷ path) c d → writes_entry row es d ≡ true
+  pub reached : (plan : Plan) (s : Step) (path : List Step) (held : Bool) (c d : Context) → rows_at is_at_element plan (s ∷ path) ≡ row ∷ [] →
+      Leads es (s ∷ path) c d → writes_entry row es d ≡ true
       → (holds es plan c ≡ true) × Among d (map (λ (spot : Spot). spot.context) (spots_below es plan (s ∷ path) held c))
   reached nothing s path held c d h w e = absurd (let z : ◌≡◌ {A = List Row} [] (row ∷ []) = h in cc)
   reached (a_line t cells inside rest) s path held c d h w e =
       go (λ u us b k l. reached inside u us (holds_further es cells inside held b) b d k l e) (λ k. reached rest s path held c d k w e) (same_step s t) refl h
     where
       here : ((u : Step) (us : List Step) (b : Context) → rows_at is_at_element inside (u ∷ us) ≡ row ∷ [] → Leads es (u ∷ us) b d
-          → (holds es inside b ≡ true) × Among d (map (λ (spot : Spot). spot.context) (spots_below es inside (u ∷ us) (holds_further es cells inside held b) b)))
-          → (path : List Step) → (elim path [ [] ↦ map (λ (cell : Cell). cell.row) (filter is_at_element cells) | (u ∷ further) ↦ rows_at is_at_element inside (u ∷ further) ]) ≡ row ∷ []
+          → (holds es inside b ≡ true) ×
+          Among d (map (λ (spot : Spot). spot.context) (spots_below es inside (u ∷ us) (holds_further es cells inside held b) b)))
+          → (path : List Step) → (elim path [
+            | [] ↦ map (λ (cell : Cell). cell.row) (filter is_at_element cells)
+            | (u ∷ further) ↦ rows_at is_at_element inside (u ∷ further)
+          ]) ≡ row ∷ []
           → (b : Context) → Leads es path b d
           → (line_holds es cells inside b ≡ true) × Among d (map (λ (spot : Spot). spot.context)
-          (at_end path (record { context = b; attributes = attributes es t cells b; text = element_text es cells b }) (spots_below es inside path (holds_further es cells inside held b) b)))
+          (at_end path (record { context = b; attributes = attributes es t cells b; text = element_text es cells b })
+          (spots_below es inside path (holds_further es cells inside held b) b)))
       here inner [] k b l = (either-first (cells_hold es cells b) (λ _. holds es inside b) (ap (cells_hold es cells) l ∙ row-in-cells cells d k e), inl l)
       here inner (u ∷ us) k b l =
           let m = inner u us b k l in
           (either-second (cells_hold es cells b) (λ _. holds es inside b) m.0, m.1)
 
       go : ((u : Step) (us : List Step) (b : Context) → rows_at is_at_element inside (u ∷ us) ≡ row ∷ [] → Leads es (u ∷ us) b d
-          → (holds es inside b ≡ true) × Among d (map (λ (spot : Spot). spot.context) (spots_below es inside (u ∷ us) (holds_further es cells inside held b) b)))
-          → (rows_at is_at_element rest (s ∷ path) ≡ row ∷ [] → (holds es rest c ≡ true) × Among d (map (λ (spot : Spot). spot.context) (spots_below es rest (s ∷ path) held c)))
+          → (holds es inside b ≡ true) ×
+          Among d (map (λ (spot : Spot). spot.context) (spots_below es inside (u ∷ us) (holds_further es cells inside held b) b)))
+          → (rows_at is_at_element rest (s ∷ path) ≡ row ∷ [] → (holds es rest c ≡ true) ×
+          Among d (map (λ (spot : Spot). spot.context) (spots_below es rest (s ∷ path) held c)))
           → (x : Bool) → same_step s t ≡ x → (elim x [
-            | true ↦ elim path [ [] ↦ map (λ (cell : Cell). cell.row) (filter is_at_element cells) | (u ∷ further) ↦ rows_at is_at_element inside (u ∷ further) ]
+            | true ↦ elim path [
+              | [] ↦ map (λ (cell : Cell). cell.row) (filter is_at_element cells)
+              | (u ∷ further) ↦ rows_at is_at_element inside (u ∷ further)
+            ]
             | false ↦ rows_at is_at_element rest (s ∷ path)
           ]) ≡ row ∷ []
           → (holds es (a_line t cells inside rest) c ≡ true) × Among d (map (λ (spot : Spot). spot.context) (elim x [
@@ -227,9 +258,11 @@ module _ (es : List Entry) (row : Row) where
           let b : Context = w.0 in
           let at : Among b (spots es c t.group) = subst (λ o. Among b (spots es c o)) (ap (λ (z : Step). z.group) (step-sound s t x)) w.1 in
           let m = here inner path k b w.2 in
-          let there : is_emitted es t cells inside held b ≡ true = either-first (line_holds es cells inside b) (λ _. t.always || is_due held cells inside) m.0 in (
+          let there : is_emitted es t cells inside held b ≡ true =
+          either-first (line_holds es cells inside b) (λ _. t.always || is_due held cells inside) m.0 in (
             either-first _ (λ _. holds es rest c) (any-among (λ z. either (cells_hold es cells z) (λ _. holds es inside z)) b (spots es c t.group) m.0 at),
-            among-spots (λ z. at_end path (record { context = z; attributes = attributes es t cells z; text = element_text es cells z }) (spots_below es inside path (holds_further es cells inside held z) z))
+            among-spots (λ z. at_end path (record { context = z; attributes = attributes es t cells z; text = element_text es cells z })
+                (spots_below es inside path (holds_further es cells inside held z) z))
                 b d (emitted es t cells inside held c) (among-filter (is_emitted es t cells inside held) b (spots es c t.group) there at) m.1,
           )
       go inner later false x k =

@@ -1,5 +1,6 @@
 -- Where picks stand: the occurrences of groups, numbered as they are read, are those in which the entries stand.
-use Rattle.std.proofs.Common.{◌≡◌, ℕ, zero, suc, ◌+◌, ◌-◌, ◌<◌, ◌≤◌, Bool, true, false, ◌&&◌, ◌||◌, List, [], ◌∷◌, ◌++◌, length, map, fold, max, Option, Some, None, ◌⊎◌, inl, inr, refl, sym, ap, ◌∙◌, subst, arith}
+use Rattle.std.proofs.Common.{◌≡◌, ℕ, zero, suc, ◌+◌, ◌-◌, ◌<◌, ◌≤◌, Bool, true, false, ◌&&◌, ◌||◌, List, [], ◌∷◌, ◌++◌, length, map, fold, max, Option, Some}
+use Rattle.std.proofs.Common.{None, ◌⊎◌, inl, inr, refl, sym, ap, ◌∙◌, subst, arith}
 use Rattle.std.specs.Prelude.{◌==◌, nat_le, nat_lt, is_none}
 use Rattle.std.specs.List.{list_all, list_any, range_with_len}
 use Rattle.std.proofs.lemmas.Bool.{false≢true}
@@ -40,15 +41,24 @@ first-carrier g gs (s ∷ path) h = elim (some-group s path g gs h) [
   | inl w ↦ let v = first-carrier g gs path w.1 in
       record {
         has = ap (λ o. elim (same_or_none o (Some g)) [ true ↦ true | false ↦ has_carrier g path ]) w.0 ∙ v.has;
-        front = ap (λ o. elim o [ None ↦ groups_of (elim (same_or_none s.group (Some g)) [ true ↦ [] | false ↦ upto g path ]) | Some group ↦ group ∷ groups_of (elim (same_or_none s.group (Some g)) [ true ↦ [] | false ↦ upto g path ]) ]) w.0
+        front = ap (λ o. elim o [
+          | None ↦ groups_of (elim (same_or_none s.group (Some g)) [ true ↦ [] | false ↦ upto g path ])
+          | Some group ↦ group ∷ groups_of (elim (same_or_none s.group (Some g)) [ true ↦ [] | false ↦ upto g path ])
+        ]) w.0
             ∙ (ap (λ o. groups_of (elim (same_or_none o (Some g)) [ true ↦ [] | false ↦ upto g path ])) w.0 ∙ v.front);
         back = ap (λ o. groups_of (elim (same_or_none o (Some g)) [ true ↦ path | false ↦ beyond g path ])) w.0 ∙ v.back;
       }
   | inr w ↦ record {
-    has = ap (λ o. elim (same_or_none o (Some g)) [ true ↦ true | false ↦ has_carrier g path ]) w.0 ∙ ap (λ b. elim b [ true ↦ true | false ↦ has_carrier g path ]) (carries-own g);
-    front = ap (λ o. elim o [ None ↦ groups_of (elim (same_or_none s.group (Some g)) [ true ↦ [] | false ↦ upto g path ]) | Some group ↦ group ∷ groups_of (elim (same_or_none s.group (Some g)) [ true ↦ [] | false ↦ upto g path ]) ]) w.0
-        ∙ (ap (λ o. g ∷ groups_of (elim (same_or_none o (Some g)) [ true ↦ [] | false ↦ upto g path ])) w.0 ∙ ap (λ b. g ∷ groups_of (elim b [ true ↦ [] | false ↦ upto g path ])) (carries-own g));
-    back = ap (λ o. groups_of (elim (same_or_none o (Some g)) [ true ↦ path | false ↦ beyond g path ])) w.0 ∙ (ap (λ b. groups_of (elim b [ true ↦ path | false ↦ beyond g path ])) (carries-own g) ∙ w.1);
+    has = ap (λ o. elim (same_or_none o (Some g)) [ true ↦ true | false ↦ has_carrier g path ]) w.0 ∙
+        ap (λ b. elim b [ true ↦ true | false ↦ has_carrier g path ]) (carries-own g);
+    front = ap (λ o. elim o [
+      | None ↦ groups_of (elim (same_or_none s.group (Some g)) [ true ↦ [] | false ↦ upto g path ])
+      | Some group ↦ group ∷ groups_of (elim (same_or_none s.group (Some g)) [ true ↦ [] | false ↦ upto g path ])
+    ]) w.0
+        ∙ (ap (λ o. g ∷ groups_of (elim (same_or_none o (Some g)) [ true ↦ [] | false ↦ upto g path ])) w.0 ∙
+        ap (λ b. g ∷ groups_of (elim b [ true ↦ [] | false ↦ upto g path ])) (carries-own g));
+    back = ap (λ o. groups_of (elim (same_or_none o (Some g)) [ true ↦ path | false ↦ beyond g path ])) w.0 ∙
+        (ap (λ b. groups_of (elim b [ true ↦ path | false ↦ beyond g path ])) (carries-own g) ∙ w.1);
   }
 ]
 
@@ -63,16 +73,25 @@ second-carrier g h differ (s ∷ path) e = elim (some-group s path g (h ∷ []) 
   | inl w ↦ let v = second-carrier g h differ path w.1 in
       record {
         has = ap (λ o. elim (same_or_none o (Some h)) [ true ↦ true | false ↦ has_carrier h path ]) w.0 ∙ v.has;
-        front = ap (λ o. elim o [ None ↦ groups_of (elim (same_or_none s.group (Some h)) [ true ↦ [] | false ↦ upto h path ]) | Some group ↦ group ∷ groups_of (elim (same_or_none s.group (Some h)) [ true ↦ [] | false ↦ upto h path ]) ]) w.0
+        front = ap (λ o. elim o [
+          | None ↦ groups_of (elim (same_or_none s.group (Some h)) [ true ↦ [] | false ↦ upto h path ])
+          | Some group ↦ group ∷ groups_of (elim (same_or_none s.group (Some h)) [ true ↦ [] | false ↦ upto h path ])
+        ]) w.0
             ∙ (ap (λ o. groups_of (elim (same_or_none o (Some h)) [ true ↦ [] | false ↦ upto h path ])) w.0 ∙ v.front);
         back = ap (λ o. groups_of (elim (same_or_none o (Some h)) [ true ↦ path | false ↦ beyond h path ])) w.0 ∙ v.back;
       }
   | inr w ↦ let v = first-carrier h [] path w.1 in
       record {
-        has = ap (λ o. elim (same_or_none o (Some h)) [ true ↦ true | false ↦ has_carrier h path ]) w.0 ∙ (ap (λ b. elim b [ true ↦ true | false ↦ has_carrier h path ]) differ ∙ v.has);
-        front = ap (λ o. elim o [ None ↦ groups_of (elim (same_or_none s.group (Some h)) [ true ↦ [] | false ↦ upto h path ]) | Some group ↦ group ∷ groups_of (elim (same_or_none s.group (Some h)) [ true ↦ [] | false ↦ upto h path ]) ]) w.0
-            ∙ (ap (λ o. g ∷ groups_of (elim (same_or_none o (Some h)) [ true ↦ [] | false ↦ upto h path ])) w.0 ∙ (ap (λ b. g ∷ groups_of (elim b [ true ↦ [] | false ↦ upto h path ])) differ ∙ ap (λ l. g ∷ l) v.front));
-        back = ap (λ o. groups_of (elim (same_or_none o (Some h)) [ true ↦ path | false ↦ beyond h path ])) w.0 ∙ (ap (λ b. groups_of (elim b [ true ↦ path | false ↦ beyond h path ])) differ ∙ v.back);
+        has = ap (λ o. elim (same_or_none o (Some h)) [ true ↦ true | false ↦ has_carrier h path ]) w.0 ∙
+            (ap (λ b. elim b [ true ↦ true | false ↦ has_carrier h path ]) differ ∙ v.has);
+        front = ap (λ o. elim o [
+          | None ↦ groups_of (elim (same_or_none s.group (Some h)) [ true ↦ [] | false ↦ upto h path ])
+          | Some group ↦ group ∷ groups_of (elim (same_or_none s.group (Some h)) [ true ↦ [] | false ↦ upto h path ])
+        ]) w.0
+            ∙ (ap (λ o. g ∷ groups_of (elim (same_or_none o (Some h)) [ true ↦ [] | false ↦ upto h path ])) w.0 ∙
+            (ap (λ b. g ∷ groups_of (elim b [ true ↦ [] | false ↦ upto h path ])) differ ∙ ap (λ l. g ∷ l) v.front));
+        back = ap (λ o. groups_of (elim (same_or_none o (Some h)) [ true ↦ path | false ↦ beyond h path ])) w.0 ∙
+            (ap (λ b. groups_of (elim b [ true ↦ path | false ↦ beyond h path ])) differ ∙ v.back);
       }
 ]
 
@@ -90,7 +109,8 @@ of-spots f k (suc n) c (inl e) = (k, (omega arith, (omega arith, sym e)))
 of-spots f k (suc n) c (inr a) = let w = of-spots f (k + 1) n c a in let l = w.1.0 in let r = w.1.1.0 in (w.0, (omega (arith, l), (omega (arith, r), w.1.1.1)))
 
 -- one of the occurrences, where there are some
-pub of-some : (c d : Context) (f : ℕ → Context) (n : ℕ) → 1 ≤ n → Among d (or_here c (map f (range_with_len 1 n))) → (i : ℕ) × ((1 ≤ i) × ((i < 1 + n) × (d ≡ f i)))
+pub of-some : (c d : Context) (f : ℕ → Context) (n : ℕ) → 1 ≤ n → Among d (or_here c (map f (range_with_len 1 n))) → (i : ℕ) ×
+    ((1 ≤ i) × ((i < 1 + n) × (d ≡ f i)))
 of-some c d f zero l a = absurd (omega (arith, l))
 of-some c d f (suc n) l a = of-spots f 1 (suc n) d a
 
@@ -104,15 +124,23 @@ module _ (es : List Entry) where
   pub leads-to-one : (path : List Step) (c d : Context) (g : Group) → groups_of path ≡ g ∷ [] → Leads es path c d → Among d (spots es c (Some g))
   leads-to-one [] c d g h l = absurd (let z : ◌≡◌ {A = List Group} [] (g ∷ []) = h in cc)
   leads-to-one (s ∷ path) c d g h l = elim (some-group s path g [] h) [
-    | inl w ↦ elim (subst (λ o. Among l.0 (spots es c o)) w.0 l.1) [ inl e ↦ subst (λ b. Among d (spots es b (Some g))) (sym e) (leads-to-one path l.0 d g w.1 l.2) | inr a ↦ absurd a ]
+    | inl w ↦ elim (subst (λ o. Among l.0 (spots es c o)) w.0 l.1) [
+      | inl e ↦ subst (λ b. Among d (spots es b (Some g))) (sym e)
+          (leads-to-one path l.0 d g w.1 l.2)
+      | inr a ↦ absurd a
+    ]
     | inr w ↦ subst (λ b. Among b (spots es c (Some g))) (leads-nowhere path l.0 d w.1 l.2) (subst (λ o. Among l.0 (spots es c o)) w.0 l.1)
   ]
 
-  pub leads-to-two : (path : List Step) (c d : Context) (g h : Group) → groups_of path ≡ g ∷ (h ∷ []) → Leads es path c d → (b : Context) × (Among b (spots es c (Some g)) × Among d (spots es b (Some h)))
+  pub leads-to-two : (path : List Step) (c d : Context) (g h : Group) → groups_of path ≡ g ∷ (h ∷ []) → Leads es path c d → (b : Context) ×
+      (Among b (spots es c (Some g)) × Among d (spots es b (Some h)))
   leads-to-two [] c d g h e l = absurd (let z : ◌≡◌ {A = List Group} [] (g ∷ (h ∷ [])) = e in cc)
   leads-to-two (s ∷ path) c d g h e l = elim (some-group s path g (h ∷ []) e) [
     | inl w ↦ let v = leads-to-two path l.0 d g h w.1 l.2 in
-        elim (subst (λ o. Among l.0 (spots es c o)) w.0 l.1) [ inl x ↦ (v.0, (subst (λ b. Among v.0 (spots es b (Some g))) (sym x) v.1.0, v.1.1)) | inr a ↦ absurd a ]
+        elim (subst (λ o. Among l.0 (spots es c o)) w.0 l.1) [
+          | inl x ↦ (v.0, (subst (λ b. Among v.0 (spots es b (Some g))) (sym x) v.1.0, v.1.1))
+          | inr a ↦ absurd a
+        ]
     | inr w ↦ (l.0, (subst (λ o. Among l.0 (spots es c o)) w.0 l.1, leads-to-one path l.0 d h w.1 l.2))
   ]
 
@@ -139,7 +167,8 @@ module _ (es : List Entry) where
   any-is q [] h = absurd (false≢true h)
   any-is q (e ∷ xs) h = go (any-is q xs) (q e) refl h
     where
-      go : (list_any q xs ≡ true → (x : Entry) × (Among x xs × (q x ≡ true))) → (b : Bool) → q e ≡ b → (b || list_any q xs) ≡ true → (x : Entry) × (((e ≡ x) ⊎ Among x xs) × (q x ≡ true))
+      go : (list_any q xs ≡ true → (x : Entry) × (Among x xs × (q x ≡ true))) → (b : Bool) → q e ≡ b → (b || list_any q xs) ≡ true → (x : Entry) ×
+          (((e ≡ x) ⊎ Among x xs) × (q x ≡ true))
       go later true k z = (e, (inl refl, k))
       go later false k z = let w = later z in (w.0, (inr w.1.0, w.1.1))
 
@@ -155,21 +184,26 @@ module _ (es : List Entry) where
       go true e k = inl (let z : i ≡ 1 = grind (arith, nat_tests, e) in z)
       go false e k = inr (any-is (λ (x : Entry). is_inside (around (record { group = g; index = i - 1 })) x.context) es k)
 
-  numbered-entry : (x : Entry) → is_numbered es ≡ true → Among x es → (is_counted es in_outer x.context.outer ≡ true) × (is_counted es (in_inner x.context.outer) x.context.inner ≡ true)
-  numbered-entry x h a = split-and _ _ (all-among (λ (y : Entry). is_counted es in_outer y.context.outer && is_counted es (in_inner y.context.outer) y.context.inner) x es h a)
+  numbered-entry : (x : Entry) → is_numbered es ≡ true → Among x es → (is_counted es in_outer x.context.outer ≡ true) ×
+      (is_counted es (in_inner x.context.outer) x.context.inner ≡ true)
+  numbered-entry x h a = split-and _ _ (all-among (λ (y : Entry). is_counted es in_outer y.context.outer &&
+      is_counted es (in_inner y.context.outer) y.context.inner) x es h a)
 
   -- each number up to one that stands, stands
-  outer-entry : is_numbered es ≡ true → (g : Group) (more j i : ℕ) → j + more ≡ i → 1 ≤ j → (x : Entry) → Among x es → x.context.outer ≡ Some (record { group = g; index = i })
+  outer-entry : is_numbered es ≡ true → (g : Group) (more j i : ℕ) → j + more ≡ i → 1 ≤ j → (x : Entry) → Among x es →
+      x.context.outer ≡ Some (record { group = g; index = i })
       → (y : Entry) × (Among y es × (y.context.outer ≡ Some (record { group = g; index = j })))
   outer-entry h g zero j i e l x a o = (x, (a, o ∙ ap (λ k. Some (record { group = g; index = k })) (let z : i ≡ j = omega (arith, e) in z)))
   outer-entry h g (suc more) j i e l x a o =
       let w = counted-from in_outer g i (ap (is_counted es in_outer) (sym o) ∙ (numbered-entry x h a).0) in
       elim w.1 [
         | inl one ↦ absurd (omega (arith, e, l, one))
-        | inr v ↦ outer-entry h g more j (i - 1) (let first = w.0 in omega (arith, e, first)) l v.0 v.1.0 (sym (same_slot_is (Some (record { group = g; index = i - 1 })) v.0.context.outer (split-and _ _ v.1.1).0))
+        | inr v ↦ outer-entry h g more j (i - 1) (let first = w.0 in omega (arith, e, first)) l v.0 v.1.0
+            (sym (same_slot_is (Some (record { group = g; index = i - 1 })) v.0.context.outer (split-and _ _ v.1.1).0))
       ]
 
-  inner-entry : is_numbered es ≡ true → (o : Slot) (g : Group) (more j i : ℕ) → j + more ≡ i → 1 ≤ j → (x : Entry) → Among x es → x.context.outer ≡ Some o → x.context.inner ≡ Some (record { group = g; index = i })
+  inner-entry : is_numbered es ≡ true → (o : Slot) (g : Group) (more j i : ℕ) → j + more ≡ i → 1 ≤ j → (x : Entry) → Among x es → x.context.outer ≡ Some o →
+      x.context.inner ≡ Some (record { group = g; index = i })
       → (y : Entry) × (Among y es × ((y.context.outer ≡ Some o) × (y.context.inner ≡ Some (record { group = g; index = j }))))
   inner-entry h o g zero j i e l x a p q = (x, (a, (p, q ∙ ap (λ k. Some (record { group = g; index = k })) (let z : i ≡ j = omega (arith, e) in z))))
   inner-entry h o g (suc more) j i e l x a p q =
@@ -217,11 +251,13 @@ module _ (es : List Entry) where
   at-most f (x ∷ xs) n = let w = at-most f xs (max n (f x)) in let l = w.0 in (omega (arith, l), (omega (arith, l), w.1))
 
   -- each number up to that of the last stands
-  pub each-outer : is_numbered es ≡ true → (g : Group) (j : ℕ) → 1 ≤ j → j < 1 + outer_count es g → (y : Entry) × (Among y es × (y.context.outer ≡ Some (record { group = g; index = j })))
+  pub each-outer : is_numbered es ≡ true → (g : Group) (j : ℕ) → 1 ≤ j → j < 1 + outer_count es g → (y : Entry) ×
+      (Among y es × (y.context.outer ≡ Some (record { group = g; index = j })))
   each-outer h g j l r = elim (greatest (λ (e : Entry). index_in g e.context.outer) es 0) [
     | inl e ↦ absurd (omega (arith, l, r, e))
     | inr w ↦ let e = w.1.1 in
-        outer-entry h g (outer_count es g - j) j (outer_count es g) (omega (arith, r)) l w.0 w.1.0 (index-slot g w.0.context.outer (outer_count es g) e (omega (arith, l, r)))
+        outer-entry h g (outer_count es g - j) j (outer_count es g) (omega (arith, r)) l w.0 w.1.0
+        (index-slot g w.0.context.outer (outer_count es g) e (omega (arith, l, r)))
   ]
 
   abbrev index_there : Slot → Group → Entry → ℕ
@@ -241,7 +277,8 @@ module _ (es : List Entry) where
       there x false e k = absurd (omega (arith, l, r, k))
 
   -- an occurrence that stands is one of them
-  pub outer-within : is_numbered es ≡ true → (g : Group) (i : ℕ) (x : Entry) → Among x es → x.context.outer ≡ Some (record { group = g; index = i }) → (1 ≤ i) × (i < 1 + outer_count es g)
+  pub outer-within : is_numbered es ≡ true → (g : Group) (i : ℕ) (x : Entry) → Among x es → x.context.outer ≡ Some (record { group = g; index = i }) → (1 ≤ i) ×
+      (i < 1 + outer_count es g)
   outer-within h g i x a o =
       let l = (counted-from in_outer g i (ap (is_counted es in_outer) (sym o) ∙ (numbered-entry x h a).0)).0 in
       let m = each-among (λ (e : Entry). index_in g e.context.outer ≤ outer_count es g) x es (at-most (λ (e : Entry). index_in g e.context.outer) es 0).1 a in
@@ -254,17 +291,20 @@ module _ (es : List Entry) where
       pair : {a b : Bool} → a ≡ true → b ≡ true → (a && b) ≡ true
       pair e f = rw (e, f) refl
 
-  pub inner-within : is_numbered es ≡ true → (o : Slot) (g : Group) (i : ℕ) (x : Entry) → Among x es → x.context.outer ≡ Some o → x.context.inner ≡ Some (record { group = g; index = i }) → (1 ≤ i) × (i < 1 + inner_count es o g)
+  pub inner-within : is_numbered es ≡ true → (o : Slot) (g : Group) (i : ℕ) (x : Entry) → Among x es → x.context.outer ≡ Some o →
+      x.context.inner ≡ Some (record { group = g; index = i }) → (1 ≤ i) × (i < 1 + inner_count es o g)
   inner-within h o g i x a p q =
       let l = (counted-from (in_inner x.context.outer) g i (ap (is_counted es (in_inner x.context.outer)) (sym q) ∙ (numbered-entry x h a).1)).0 in
       let m = each-among (λ (e : Entry). index_there o g e ≤ inner_count es o g) x es (at-most (index_there o g) es 0).1 a in
       let e : index_there o g x ≡ i =
-      ap (λ b. elim b [ true ↦ index_in g x.context.inner | false ↦ 0 ]) (ap (λ z. same_slot z (Some o)) p ∙ same-slot-itself o) ∙ (ap (index_in g) q ∙ own-index g i) in
+      ap (λ b. elim b [ true ↦ index_in g x.context.inner | false ↦ 0 ]) (ap (λ z. same_slot z (Some o)) p ∙ same-slot-itself o) ∙
+      (ap (index_in g) q ∙ own-index g i) in
       (l, omega (arith, m, e))
 
 -- ---- the numbers of nodes
 
-attribute-numbers : (above : List ℕ) (n : ℕ) (attrs : List Attribute) → map (λ (node : Node). node.number) (nodes_of_attributes above n attrs) ≡ range_with_len n (length attrs)
+attribute-numbers : (above : List ℕ) (n : ℕ) (attrs : List Attribute) →
+    map (λ (node : Node). node.number) (nodes_of_attributes above n attrs) ≡ range_with_len n (length attrs)
 attribute-numbers above n [] = refl
 attribute-numbers above n (a ∷ attrs) = ap (λ l. n ∷ l) (attribute-numbers above (n + 1) attrs)
 
@@ -280,7 +320,8 @@ map-append f (x ∷ xs) ys = ap (λ l. f x ∷ l) (map-append f xs ys)
 
 forest-numbers : (above : List ℕ) (n : ℕ) (f : Forest) → map (λ (node : Node). node.number) (nodes_of above n f) ≡ range_with_len n (size f)
 forest-numbers above n no_more = refl
-forest-numbers above n (a_text characters rest) = ap (λ l. n ∷ l) (forest-numbers above (n + 1) rest) ∙ ap (range_with_len n) (let z : suc (size rest) ≡ 1 + size rest = omega arith in z)
+forest-numbers above n (a_text characters rest) = ap (λ l. n ∷ l) (forest-numbers above (n + 1) rest) ∙
+    ap (range_with_len n) (let z : suc (size rest) ≡ 1 + size rest = omega arith in z)
 forest-numbers above n (an_element name attrs inside rest) =
     let a : ℕ = length attrs in
     let b : ℕ = size inside in
@@ -290,8 +331,11 @@ forest-numbers above n (an_element name attrs inside rest) =
     let third : List Node = nodes_of above (n + (1 + (a + b))) rest in
     ap (λ l. n ∷ l)
     (map-append (λ (node : Node). node.number) first (second ++ third)
-    ∙ ((λ i. attribute-numbers (n ∷ above) (n + 1) attrs i ++ (map-append (λ (node : Node). node.number) second third ∙ (λ j. forest-numbers (n ∷ above) (n + (1 + a)) inside j ++ forest-numbers above (n + (1 + (a + b))) rest j)) i)
-    ∙ ((λ i. range_with_len (n + 1) a ++ (range_with_len (at-second i) b ++ range_with_len (at-third i) c)) ∙ (ap (λ l. range_with_len (n + 1) a ++ l) (range-append (n + 1 + a) b c) ∙ range-append (n + 1) a (b + c)))))
+    ∙ ((λ i. attribute-numbers (n ∷ above) (n + 1) attrs i ++
+    (map-append (λ (node : Node). node.number) second third ∙
+    (λ j. forest-numbers (n ∷ above) (n + (1 + a)) inside j ++ forest-numbers above (n + (1 + (a + b))) rest j)) i)
+    ∙ ((λ i. range_with_len (n + 1) a ++ (range_with_len (at-second i) b ++ range_with_len (at-third i) c)) ∙
+    (ap (λ l. range_with_len (n + 1) a ++ l) (range-append (n + 1 + a) b c) ∙ range-append (n + 1) a (b + c)))))
     ∙ ap (range_with_len n) (let z : suc (a + (b + c)) ≡ 1 + (a + (b + c)) = omega arith in z)
   where
     at-second : n + (1 + length attrs) ≡ n + 1 + length attrs

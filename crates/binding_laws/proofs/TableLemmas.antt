@@ -43,17 +43,29 @@ long-cii : list_all (λ (r : Row). nat_lt 0 (length r.path)) cii_rows ≡ true
 unfolding cii_listing cii_rows
 long-cii = refl
 
-pub tables-read : Laws → first_fault invoice_rows ≡ Ok tt → first_fault credit_note_rows ≡ Ok tt → first_fault cii_rows ≡ Ok tt → (table : Which) (es : List Entry) (lists : Lists) → IsInvoice es → IsValid es lists
-    → holds_plainly (rows_of table) es ≡ true → terms_of (document_nodes (document_of (rows_of table) es)) (rows_of table) lists ≡ Ok (record { entries = es; passed_over = 0 })
-tables-read law a b c which.Invoice es lists invoice is_valid plainly = read-exactly law invoice_rows es invoice (long-by-test invoice_rows long-invoice) a settled-invoice plainly lists is_valid faultless-invoice
-tables-read law a b c which.CreditNote es lists invoice is_valid plainly = read-exactly law credit_note_rows es invoice (long-by-test credit_note_rows long-credit_note) b settled-credit_note plainly lists is_valid faultless-credit_note
-tables-read law a b c which.Cii es lists invoice is_valid plainly = read-exactly law cii_rows es invoice (long-by-test cii_rows long-cii) c settled-cii plainly lists is_valid faultless-cii
+pub tables-read : Laws → first_fault invoice_rows ≡ Ok tt → first_fault credit_note_rows ≡ Ok tt → first_fault cii_rows ≡ Ok tt →
+    (table : Which) (es : List Entry) (lists : Lists) → IsInvoice es → IsValid es lists
+    → holds_plainly (rows_of table) es ≡ true → terms_of (document_nodes (document_of (rows_of table) es)) (rows_of table) lists ≡ Ok
+    (record { entries = es; passed_over = 0 })
+tables-read law a b c which.Invoice es lists invoice is_valid plainly =
+    read-exactly law invoice_rows es invoice (long-by-test invoice_rows long-invoice) a settled-invoice plainly lists is_valid faultless-invoice
+tables-read law a b c which.CreditNote es lists invoice is_valid plainly =
+    read-exactly law credit_note_rows es invoice (long-by-test credit_note_rows long-credit_note) b settled-credit_note plainly lists is_valid
+    faultless-credit_note
+tables-read law a b c which.Cii es lists invoice is_valid plainly =
+    read-exactly law cii_rows es invoice (long-by-test cii_rows long-cii) c settled-cii plainly lists is_valid faultless-cii
 
-pub tables-convert : Laws → first_fault invoice_rows ≡ Ok tt → first_fault credit_note_rows ≡ Ok tt → first_fault cii_rows ≡ Ok tt → (first second : Which) (es : List Entry) (lists : Lists) → IsInvoice es → IsValid es lists
+pub tables-convert : Laws → first_fault invoice_rows ≡ Ok tt → first_fault credit_note_rows ≡ Ok tt → first_fault cii_rows ≡ Ok tt →
+    (first second : Which) (es : List Entry) (lists : Lists) → IsInvoice es → IsValid es lists
     → holds_plainly (rows_of first) es ≡ true → holds_plainly (rows_of second) es ≡ true
     → (read : Read) × ((terms_of (document_nodes (document_of (rows_of first) es)) (rows_of first) lists ≡ Ok read)
     × ((again : Read) × ((terms_of (document_nodes (document_of (rows_of second) read.entries)) (rows_of second) lists ≡ Ok again)
     × ((again.entries ≡ es) × (document_of (rows_of first) again.entries ≡ document_of (rows_of first) es)))))
 tables-convert law a b c first second es lists invoice is_valid plainly other_plainly =
-    let read : Read = record { entries = es; passed_over = 0 } in
-    (read, (tables-read law a b c first es lists invoice is_valid plainly, (read, (tables-read law a b c second es lists invoice is_valid other_plainly, (refl, refl)))))
+    let read : Read = record { entries = es; passed_over = 0 } in (
+      read,
+      (
+        tables-read law a b c first es lists invoice is_valid plainly,
+        (read, (tables-read law a b c second es lists invoice is_valid other_plainly, (refl, refl))),
+      ),
+    )

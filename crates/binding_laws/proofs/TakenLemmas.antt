@@ -18,7 +18,8 @@ use Rattle.bind_rows.specs.declared.rows.Row.{Row}
 use Rattle.bind_rows.specs.declared.rows.Written.{Written}
 use Rattle.bind_rows.specs.declared.rows.Written.TheVariants as written
 use Rattle.bind_rows.specs.Same.{choose}
-use Rattle.bind_rows.specs.Added.{letter_of_form, is_typed, is_added_type, adds_term, is_element, is_unguarded, is_once, is_always, is_unjudged, is_root_or_line, is_unmarked, is_added}
+use Rattle.bind_rows.specs.Added.{letter_of_form, is_typed, is_added_type, adds_term, is_element, is_unguarded, is_once, is_always, is_unjudged}
+use Rattle.bind_rows.specs.Added.{is_root_or_line, is_unmarked, is_added}
 use Rattle.bind_meaning.specs.Values.{form_for}
 use Rattle.bind_meaning.specs.Writing.{has_slots, is_of_type, of_type, of_form, value_for}
 use Rattle.binding_laws.specs.Plain.{is_of_one_term}
@@ -95,7 +96,8 @@ abbrev passed : Bool → Bool → Form → Option Value → Option Value
 passed typed slots form o = elim typed [ true ↦ elim slots [ true ↦ option_and_then (of_form form) o | false ↦ None ] | false ↦ o ]
 
 -- A row whose form has no type writes the term's value.
-pub as-modelled : (row : Row) (es : List Entry) (term : Term) (c : Context) → is_typed (form_for row.form term) ≡ false → value_for row es term c ≡ value_in es term c
+pub as-modelled : (row : Row) (es : List Entry) (term : Term) (c : Context) → is_typed (form_for row.form term) ≡ false →
+    value_for row es term c ≡ value_in es term c
 as-modelled row es term c h = ap (λ b. passed b (has_slots row c) (form_for row.form term) (value_in es term c)) h
 
 -- Where the term has no value, there is none to write.
@@ -109,14 +111,16 @@ none-for-none row es term c h =
     go false b = refl
 
 -- It writes the term's value, or nothing.
-pub taken-or-refused : (row : Row) (es : List Entry) (term : Term) (c : Context) → (value_for row es term c ≡ value_in es term c) ⊎ (value_for row es term c ≡ None)
+pub taken-or-refused : (row : Row) (es : List Entry) (term : Term) (c : Context) →
+    (value_for row es term c ≡ value_in es term c) ⊎ (value_for row es term c ≡ None)
 taken-or-refused row es term c = go (is_typed (form_for row.form term)) (has_slots row c) (value_in es term c)
   where
     by-type : (b : Bool) (v : Value) → ((elim b [ true ↦ Some v | false ↦ None ]) ≡ Some v) ⊎ ((elim b [ true ↦ Some v | false ↦ None ]) ≡ None)
     by-type true v = inl refl
     by-type false v = inr refl
 
-    by-letter : (o : Option Letter) (v : Value) → ((elim o [ None ↦ Some v | Some letter ↦ of_type letter v ]) ≡ Some v) ⊎ ((elim o [ None ↦ Some v | Some letter ↦ of_type letter v ]) ≡ None)
+    by-letter : (o : Option Letter) (v : Value) → ((elim o [ None ↦ Some v | Some letter ↦ of_type letter v ]) ≡ Some v) ⊎
+        ((elim o [ None ↦ Some v | Some letter ↦ of_type letter v ]) ≡ None)
     by-letter None v = inl refl
     by-letter (Some letter) v = by-type (is_of_type letter v) v
 
@@ -127,15 +131,18 @@ taken-or-refused row es term c = go (is_typed (form_for row.form term)) (has_slo
     go true true (Some v) = by-letter (letter_of_form (form_for row.form term)) v
 
 -- A row whose form has a type takes a value of that type in a context with its groups.
-pub takes-value : (row : Row) (es : List Entry) (term : Term) (c : Context) (v : Value) → is_typed (form_for row.form term) ≡ true → has_slots row c ≡ true → value_in es term c ≡ Some v
+pub takes-value : (row : Row) (es : List Entry) (term : Term) (c : Context) (v : Value) → is_typed (form_for row.form term) ≡ true → has_slots row c ≡ true →
+    value_in es term c ≡ Some v
     → of_form (form_for row.form term) v ≡ Some v → value_for row es term c ≡ Some v
 takes-value row es term c v typed slots is own = (λ i. passed (typed i) (slots i) (form_for row.form term) (is i)) ∙ own
 
 -- What a row whose form has a type takes is of that type.
-pub taken-is : (row : Row) (es : List Entry) (term : Term) (c : Context) (v : Value) → is_typed (form_for row.form term) ≡ true → value_in es term c ≡ Some v → is_some (value_for row es term c) ≡ true
+pub taken-is : (row : Row) (es : List Entry) (term : Term) (c : Context) (v : Value) → is_typed (form_for row.form term) ≡ true → value_in es term c ≡ Some v →
+    is_some (value_for row es term c) ≡ true
     → of_form (form_for row.form term) v ≡ Some v
 taken-is row es term c v typed is some =
-    go (has_slots row c) (letter_of_form (form_for row.form term)) ((λ i. is_some (passed (sym typed i) (has_slots row c) (form_for row.form term) (sym is i))) ∙ some)
+    go (has_slots row c) (letter_of_form (form_for row.form term)) ((λ i. is_some (passed (sym typed i) (has_slots row c) (form_for row.form term) (sym is i)))
+    ∙ some)
   where
     by-type : (b : Bool) → is_some (elim b [ true ↦ Some v | false ↦ None ]) ≡ true → ◌≡◌ {A = Option Value} (elim b [ true ↦ Some v | false ↦ None ]) (Some v)
     by-type true h = refl
@@ -148,7 +155,8 @@ taken-is row es term c v typed is some =
     go false o h = absurd (false≢true h)
 
 -- A row whose form has a type writes something only in a context with its groups.
-pub slots-there : (row : Row) (es : List Entry) (term : Term) (c : Context) → is_typed (form_for row.form term) ≡ true → is_some (value_for row es term c) ≡ true → has_slots row c ≡ true
+pub slots-there : (row : Row) (es : List Entry) (term : Term) (c : Context) → is_typed (form_for row.form term) ≡ true →
+    is_some (value_for row es term c) ≡ true → has_slots row c ≡ true
 slots-there row es term c typed some =
     go (has_slots row c) (ap (λ b. is_some (passed b (has_slots row c) (form_for row.form term) (value_in es term c))) (sym typed) ∙ some)
   where

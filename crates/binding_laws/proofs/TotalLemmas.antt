@@ -36,20 +36,27 @@ only-one x y (inl s) = s
 only-one x y (inr z) = absurd z
 
 -- what is picked of an element is in the currency that is written beside it, and its text isn't blank
-pub amount-of : (nodes : List Node) (es : List Entry) (place : Place) → IsAt nodes es place → (n : ℕ) → Among n (leaves_of nodes leaves.Element (last_of place.way)) → (amount_currency nodes n ≡ currency_at place.spot) × (is_full place.spot.text ≡ true)
+pub amount-of : (nodes : List Node) (es : List Entry) (place : Place) → IsAt nodes es place → (n : ℕ) →
+    Among n (leaves_of nodes leaves.Element (last_of place.way)) → (amount_currency nodes n ≡ currency_at place.spot) × (is_full place.spot.text ≡ true)
 amount-of nodes es place at n a =
     let w = of-filter-any (λ x. is_full (string_at nodes x)) n (last_of place.way ∷ []) a in
     let node : last_of place.way ≡ n = only-one (last_of place.way) n w.0 in
     let text : string_at nodes (last_of place.way) ≡ place.spot.text =
-    string-is nodes at.above (last_of place.way) at.name place.spot.attributes (with_text place.spot.text no_more) at.more at.lies ∙ text-texts place.spot.text in (
-      sym (ap (λ l. first_full (map trimmed l)) (sym (attributes-are nodes at.above (last_of place.way) at.name place.spot.attributes (with_text place.spot.text no_more) at.more at.lies currency_id))
-          ∙ (ap first_full (map-map trimmed (string_at nodes) (attributes_named nodes currency_id (last_of place.way))) ∙ ap (λ m. first_full (map (λ x. trimmed (string_at nodes x)) (attributes_named nodes currency_id m))) node)),
+    string-is nodes at.above (last_of place.way) at.name place.spot.attributes (with_text place.spot.text no_more) at.more at.lies ∙
+    text-texts place.spot.text in (
+      sym (ap (λ l. first_full (map trimmed l))
+          (sym (attributes-are nodes at.above (last_of place.way) at.name place.spot.attributes
+          (with_text place.spot.text no_more) at.more at.lies currency_id))
+          ∙ (ap first_full (map-map trimmed (string_at nodes) (attributes_named nodes currency_id (last_of place.way))) ∙
+          ap (λ m. first_full (map (λ x. trimmed (string_at nodes x)) (attributes_named nodes currency_id m))) node)),
       ap is_full (sym text) ∙ (ap (λ m. is_full (string_at nodes m)) node ∙ w.1),
     )
 
 -- what is picked at an element on one of the ways of a path that is placed, is in the currency of the invoice, or in none
-pub own-amount : (nodes : List Node) (es : List Entry) (path : List Step) (them : List Place) → ArePlaced nodes es path them → ((place : Place) → Among place them → Each (IsCurrency es) (values_named currency_id place.spot.attributes))
-    → (k : ℕ) (row : Row) → row.leaf ≡ leaves.Element → ways nodes row.path 0 ≡ ways nodes path 0 → (pick : Pick) → Among pick (nodes_picked nodes k row) → IsOwnCurrency es (amount_currency nodes pick.node)
+pub own-amount : (nodes : List Node) (es : List Entry) (path : List Step) (them : List Place) → ArePlaced nodes es path them →
+    ((place : Place) → Among place them → Each (IsCurrency es) (values_named currency_id place.spot.attributes))
+    → (k : ℕ) (row : Row) → row.leaf ≡ leaves.Element → ways nodes row.path 0 ≡ ways nodes path 0 → (pick : Pick) → Among pick (nodes_picked nodes k row) →
+    IsOwnCurrency es (amount_currency nodes pick.node)
 own-amount nodes es path them placed currency k row leaf same pick m =
     let w = of-flat_map (picks_of_way nodes k row) pick (ways nodes row.path 0) m in
     let v = of-map (λ (q : Place). q.way) w.0 them (subst (Among w.0) (same ∙ placed.ways_are) w.1.0) in
@@ -57,6 +64,8 @@ own-amount nodes es path them placed currency k row leaf same pick m =
     let u = of-map (λ n. record { place = k; row = row; elements = w.0; node = n }) pick (leaves_of nodes row.leaf (last_of w.0)) w.1.1 in
     let at = each-among (IsAt nodes es) place them placed.each v.1.0 in
     let there : Among u.0 (leaves_of nodes leaves.Element (last_of w.0)) = subst (λ l. Among u.0 (leaves_of nodes l (last_of w.0))) leaf u.1.0 in
-    let here : Among u.0 (leaves_of nodes leaves.Element (last_of place.way)) = subst (λ way. Among u.0 (leaves_of nodes leaves.Element (last_of way))) (sym v.1.1) there in
-    let amount : amount_currency nodes pick.node ≡ currency_at place.spot = ap (λ (x : Pick). amount_currency nodes x.node) (sym u.1.1) ∙ (amount-of nodes es place at u.0 here).0 in
+    let here : Among u.0 (leaves_of nodes leaves.Element (last_of place.way)) =
+    subst (λ way. Among u.0 (leaves_of nodes leaves.Element (last_of way))) (sym v.1.1) there in
+    let amount : amount_currency nodes pick.node ≡ currency_at place.spot = ap (λ (x : Pick). amount_currency nodes x.node) (sym u.1.1) ∙
+    (amount-of nodes es place at u.0 here).0 in
     subst (IsOwnCurrency es) (sym amount) (first-currency es (values_named currency_id place.spot.attributes) (currency place v.1.0))

@@ -1,5 +1,6 @@
 -- Nodes of a forest that lies in a document: children, attributes and strings among all nodes of the document are those of the forest.
-use Rattle.std.proofs.Common.{◌≡◌, ℕ, suc, ◌+◌, ◌<◌, ◌≤◌, Bool, true, false, ◌||◌, List, [], ◌∷◌, ◌++◌, length, filter, ◌⊎◌, inl, inr, refl, sym, ap, ◌∙◌, append_assoc, arith, length-append}
+use Rattle.std.proofs.Common.{◌≡◌, ℕ, suc, ◌+◌, ◌<◌, ◌≤◌, Bool, true, false, ◌||◌, List, [], ◌∷◌, ◌++◌, length, filter, ◌⊎◌, inl, inr, refl, sym, ap, ◌∙◌}
+use Rattle.std.proofs.Common.{append_assoc, arith, length-append}
 use Rattle.std.specs.Prelude.{◌==◌, if◌then◌else◌, Some, None}
 use Rattle.std.proofs.lemmas.Bool.{false≢true}
 use Rattle.std.proofs.lemmas.Bool.Decides.{nat_tests}
@@ -71,7 +72,8 @@ free-more : (low high n : ℕ) (above : List ℕ) → (high ≤ n) ⊎ (n < low)
 free-more low high n above (inl h) k m l r = rw (other-is m n (inl (omega arith))) (k m l r)
 free-more low high n above (inr h) k m l r = rw (other-is m n (inr (omega arith))) (k m l r)
 
-pub attributes-free : (low high : ℕ) (above : List ℕ) (n : ℕ) (attributes : List Attribute) → FreeAbove low high above → Each (Free low high) (nodes_of_attributes above n attributes)
+pub attributes-free : (low high : ℕ) (above : List ℕ) (n : ℕ) (attributes : List Attribute) → FreeAbove low high above →
+    Each (Free low high) (nodes_of_attributes above n attributes)
 attributes-free low high above n [] h = tt
 attributes-free low high above n (a ∷ attributes) h = (h, attributes-free low high above (n + 1) attributes h)
 
@@ -91,7 +93,8 @@ next-beside : (low high n c : ℕ) → Beside low high n (1 + c) → Beside low 
 next-beside low high n c (inl h) = inl (omega (arith, h))
 next-beside low high n c (inr h) = inr (omega (arith, h))
 
-pub forest-free : (low high : ℕ) (above : List ℕ) (n : ℕ) (f : Forest) → FreeAbove low high above → Beside low high n (size f) → Each (Free low high) (nodes_of above n f)
+pub forest-free : (low high : ℕ) (above : List ℕ) (n : ℕ) (f : Forest) → FreeAbove low high above → Beside low high n (size f) →
+    Each (Free low high) (nodes_of above n f)
 forest-free low high above n no_more h k = tt
 forest-free low high above n (a_text characters rest) h k = (h, forest-free low high above (n + 1) rest h (next-beside low high n (size rest) k))
 forest-free low high above n (an_element name attributes inside rest) h k =
@@ -99,8 +102,10 @@ forest-free low high above n (an_element name attributes inside rest) h k =
       h,
       each-append (Free low high) (nodes_of_attributes (n ∷ above) (n + 1) attributes) _ (attributes-free low high (n ∷ above) (n + 1) attributes more)
           (each-append (Free low high) (nodes_of (n ∷ above) (n + (1 + length attributes)) inside) _
-          (forest-free low high (n ∷ above) (n + (1 + length attributes)) inside more (inside-beside low high n (length attributes) (size inside) (size rest) k))
-          (forest-free low high above (n + (1 + (length attributes + size inside))) rest h (rest-beside low high n (length attributes) (size inside) (size rest) k))),
+          (forest-free low high (n ∷ above) (n + (1 + length attributes)) inside more
+          (inside-beside low high n (length attributes) (size inside) (size rest) k))
+          (forest-free low high above (n + (1 + (length attributes + size inside))) rest h
+          (rest-beside low high n (length attributes) (size inside) (size rest) k))),
     )
 
 -- ---- where a forest lies
@@ -141,17 +146,21 @@ element_node above n name = record { number = n; kind = kinds.Element; name = So
 older-more : (n k : ℕ) (above : List ℕ) → n ≤ k → Each (λ m. m < n) above → Each (λ m. m < k) above
 older-more n k above h e = each-weaker (λ m. m < n) (λ m. m < k) above (λ m j. omega (arith, h, j)) e
 
-pub behind-text : (nodes : List Node) (above : List ℕ) (n : ℕ) (characters : List ℕ) (rest : Forest) → Lies nodes above n (a_text characters rest) → Lies nodes above (n + 1) rest
+pub behind-text : (nodes : List Node) (above : List ℕ) (n : ℕ) (characters : List ℕ) (rest : Forest) → Lies nodes above n (a_text characters rest) →
+    Lies nodes above (n + 1) rest
 behind-text nodes above n characters rest h = record {
   front = h.front ++ record { number = n; kind = kinds.Text; name = None; above = above; text = characters } ∷ [];
   back = h.back;
-  is = h.is ∙ sym (append_assoc h.front (record { number = n; kind = kinds.Text; name = None; above = above; text = characters } ∷ []) (nodes_of above (n + 1) rest ++ h.back));
+  is = h.is ∙ sym (append_assoc h.front (record { number = n; kind = kinds.Text; name = None; above = above; text = characters } ∷ [])
+      (nodes_of above (n + 1) rest ++ h.back));
   place = omega (arith, h.place, length-append h.front (record { number = n; kind = kinds.Text; name = None; above = above; text = characters } ∷ []));
   older = older-more n (n + 1) above (omega arith) h.older;
   front_free = each-append (Free (n + 1) (n + 1 + size rest)) h.front _
-      (each-weaker (Free n (n + (1 + size rest))) (Free (n + 1) (n + 1 + size rest)) h.front (free-part n (n + (1 + size rest)) (n + 1) (n + 1 + size rest) (omega arith) (omega arith)) h.front_free)
+      (each-weaker (Free n (n + (1 + size rest))) (Free (n + 1) (n + 1 + size rest)) h.front
+      (free-part n (n + (1 + size rest)) (n + 1) (n + 1 + size rest) (omega arith) (omega arith)) h.front_free)
       (older-free n above (n + 1) (n + 1 + size rest) (omega arith) h.older, tt);
-  back_free = each-weaker (Free n (n + (1 + size rest))) (Free (n + 1) (n + 1 + size rest)) h.back (free-part n (n + (1 + size rest)) (n + 1) (n + 1 + size rest) (omega arith) (omega arith)) h.back_free;
+  back_free = each-weaker (Free n (n + (1 + size rest))) (Free (n + 1) (n + 1 + size rest)) h.back
+      (free-part n (n + (1 + size rest)) (n + 1) (n + 1 + size rest) (omega arith) (omega arith)) h.back_free;
 }
 
 attributes-long : (above : List ℕ) (n : ℕ) (attributes : List Attribute) → length (nodes_of_attributes above n attributes) ≡ length attributes
@@ -173,7 +182,8 @@ forest-long above n (an_element name attributes inside rest) =
     )
 
 -- an element, its attributes, what is inside it and what is behind it
-module _ (nodes : List Node) (above : List ℕ) (n : ℕ) (name : Name) (attributes : List Attribute) (inside rest : Forest) (h : Lies nodes above n (an_element name attributes inside rest)) where
+module _ (nodes : List Node) (above : List ℕ) (n : ℕ) (name : Name) (attributes : List Attribute) (inside rest : Forest)
+    (h : Lies nodes above n (an_element name attributes inside rest)) where
   abbrev own : List Node
   own = nodes_of_attributes (n ∷ above) (n + 1) attributes
 
@@ -212,7 +222,8 @@ module _ (nodes : List Node) (above : List ℕ) (n : ℕ) (name : Name) (attribu
         let top : ℕ = n + (1 + length attributes) + size inside in
         let clear : FreeAbove low top above = older-free n above low top (omega arith) h.older in
         each-append (Free low top) h.front (element_node above n name ∷ own)
-        (each-weaker (Free n high) (Free low top) h.front (free-part n high low top (omega arith) (omega arith)) h.front_free) (clear, own-free low top (omega arith) clear);
+        (each-weaker (Free n high) (Free low top) h.front (free-part n high low top (omega arith) (omega arith)) h.front_free)
+        (clear, own-free low top (omega arith) clear);
     back_free =
         let low : ℕ = n + (1 + length attributes) in
         let top : ℕ = n + (1 + length attributes) + size inside in

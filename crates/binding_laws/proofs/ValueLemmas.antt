@@ -44,7 +44,8 @@ no-filler es written.AccountingVatTotal h c = refl
 pub by-value : (es : List Entry) (row : Row) (term : Term) → is_by_value row.written ≡ true → (d : Context) → IsUnfilled es row term (context_for row d)
 by-value es row term h d = inl (no-filler es row.written h (context_for row d))
 
-module _ (es : List Entry) (row : Row) (term : Term) (content : row.content ≡ contents.Term term) (unfilled : (d : Context) → IsUnfilled es row term (context_for row d)) where
+module _ (es : List Entry) (row : Row) (term : Term) (content : row.content ≡ contents.Term term)
+    (unfilled : (d : Context) → IsUnfilled es row term (context_for row d)) where
   -- what the row writes of a value
   abbrev pub due : Context → Option Value → Option (List ℕ)
   due c o = elim o [ None ↦ None | Some value ↦ if_due row.written es term c (formed (form_for row.form term) es c value) ]
@@ -55,7 +56,10 @@ module _ (es : List Entry) (row : Row) (term : Term) (content : row.content ≡ 
       ∙ go (unfilled d)
     where
       standing : (o : Option Value) → is_some o ≡ true
-          → ◌≡◌ {A = Option (List ℕ)} (elim o [ None ↦ filled row.written es (context_for row d) | Some value ↦ if_due row.written es term (context_for row d) (formed (form_for row.form term) es (context_for row d) value) ])
+          → ◌≡◌ {A = Option (List ℕ)} (elim o [
+            | None ↦ filled row.written es (context_for row d)
+            | Some value ↦ if_due row.written es term (context_for row d) (formed (form_for row.form term) es (context_for row d) value)
+          ])
           (elim o [ None ↦ None | Some value ↦ if_due row.written es term (context_for row d) (formed (form_for row.form term) es (context_for row d) value) ])
       standing None k = absurd (false≢true k)
       standing (Some v) k = refl
@@ -65,8 +69,14 @@ module _ (es : List Entry) (row : Row) (term : Term) (content : row.content ≡ 
             | None ↦ filled row.written es (context_for row d)
             | Some value ↦ if_due row.written es term (context_for row d) (formed (form_for row.form term) es (context_for row d) value)
           ])
-          (elim (value_for row es term (context_for row d)) [ None ↦ None | Some value ↦ if_due row.written es term (context_for row d) (formed (form_for row.form term) es (context_for row d) value) ])
-      go (inl none) = ap (λ o. elim (value_for row es term (context_for row d)) [ None ↦ o | Some value ↦ if_due row.written es term (context_for row d) (formed (form_for row.form term) es (context_for row d) value) ]) none
+          (elim (value_for row es term (context_for row d)) [
+            | None ↦ None
+            | Some value ↦ if_due row.written es term (context_for row d) (formed (form_for row.form term) es (context_for row d) value)
+          ])
+      go (inl none) = ap (λ o. elim (value_for row es term (context_for row d)) [
+        | None ↦ o
+        | Some value ↦ if_due row.written es term (context_for row d) (formed (form_for row.form term) es (context_for row d) value)
+      ]) none
       go (inr stands) = standing (value_for row es term (context_for row d)) stands
 
   -- it writes something only of a value that it takes
@@ -119,28 +129,36 @@ module _ (es : List Entry) (row : Row) (term : Term) (content : row.content ≡ 
   value_text c o = elim o [ None ↦ [] | Some value ↦ formed (form_for row.form term) es c value ]
 
   pub text-as : (d : Context) → own_text es d row
-      ≡ (elim (is_some (value_in es term (context_for row d)) && writes_entry row es d) [ true ↦ value_text (context_for row d) (value_in es term (context_for row d)) | false ↦ [] ])
+      ≡ (elim (is_some (value_in es term (context_for row d)) &&
+      writes_entry row es d) [ true ↦ value_text (context_for row d) (value_in es term (context_for row d)) | false ↦ [] ])
   text-as d = ap (λ (x : Content). or_nothing (text_by (row_text row es d) x)) content ∙ by-value-for (taken-or-refused row es term (context_for row d))
     where
       here : (o : Option (List ℕ)) (v : Value) → o ≡ if_due row.written es term (context_for row d) (formed (form_for row.form term) es (context_for row d) v)
           → (if_due row.written es term (context_for row d) (formed (form_for row.form term) es (context_for row d) v) ≡ None)
-          ⊎ (if_due row.written es term (context_for row d) (formed (form_for row.form term) es (context_for row d) v) ≡ Some (formed (form_for row.form term) es (context_for row d) v))
+          ⊎ (if_due row.written es term (context_for row d) (formed (form_for row.form term) es (context_for row d) v) ≡ Some
+          (formed (form_for row.form term) es (context_for row d) v))
           → or_nothing o ≡ (elim (is_some o) [ true ↦ formed (form_for row.form term) es (context_for row d) v | false ↦ [] ])
-      here o v e (inl k) = ap (λ x. or_nothing x) (e ∙ k) ∙ sym (ap (λ x. elim (is_some x) [ true ↦ formed (form_for row.form term) es (context_for row d) v | false ↦ [] ]) (e ∙ k))
-      here o v e (inr k) = ap (λ x. or_nothing x) (e ∙ k) ∙ sym (ap (λ x. elim (is_some x) [ true ↦ formed (form_for row.form term) es (context_for row d) v | false ↦ [] ]) (e ∙ k))
+      here o v e (inl k) = ap (λ x. or_nothing x) (e ∙ k) ∙
+          sym (ap (λ x. elim (is_some x) [ true ↦ formed (form_for row.form term) es (context_for row d) v | false ↦ [] ]) (e ∙ k))
+      here o v e (inr k) = ap (λ x. or_nothing x) (e ∙ k) ∙
+          sym (ap (λ x. elim (is_some x) [ true ↦ formed (form_for row.form term) es (context_for row d) v | false ↦ [] ]) (e ∙ k))
 
-      go : (o : Option (List ℕ)) (w : Option Value) → o ≡ due (context_for row d) w → or_nothing o ≡ (elim (is_some w && is_some o) [ true ↦ value_text (context_for row d) w | false ↦ [] ])
+      go : (o : Option (List ℕ)) (w : Option Value) → o ≡ due (context_for row d) w →
+          or_nothing o ≡ (elim (is_some w && is_some o) [ true ↦ value_text (context_for row d) w | false ↦ [] ])
       go o None e = ap (λ x. or_nothing x) e
       go o (Some v) e = here o v e (due-or-not row.written (context_for row d) (formed (form_for row.form term) es (context_for row d) v))
 
       -- a value that is refused isn't written
-      refused : (o : Option (List ℕ)) (w : Option Value) → o ≡ None → or_nothing o ≡ (elim (is_some w && is_some o) [ true ↦ value_text (context_for row d) w | false ↦ [] ])
+      refused : (o : Option (List ℕ)) (w : Option Value) → o ≡ None →
+          or_nothing o ≡ (elim (is_some w && is_some o) [ true ↦ value_text (context_for row d) w | false ↦ [] ])
       refused o None e = ap (λ x. or_nothing x) e
-      refused o (Some v) e = ap (λ x. or_nothing x) e ∙ sym (ap (λ x. elim (is_some x) [ true ↦ formed (form_for row.form term) es (context_for row d) v | false ↦ [] ]) e)
+      refused o (Some v) e = ap (λ x. or_nothing x) e ∙
+          sym (ap (λ x. elim (is_some x) [ true ↦ formed (form_for row.form term) es (context_for row d) v | false ↦ [] ]) e)
 
       by-value-for : (value_for row es term (context_for row d) ≡ value_in es term (context_for row d)) ⊎ (value_for row es term (context_for row d) ≡ None)
           → or_nothing (row_text row es d)
-          ≡ (elim (is_some (value_in es term (context_for row d)) && is_some (row_text row es d)) [ true ↦ value_text (context_for row d) (value_in es term (context_for row d)) | false ↦ [] ])
+          ≡ (elim (is_some (value_in es term (context_for row d)) &&
+          is_some (row_text row es d)) [ true ↦ value_text (context_for row d) (value_in es term (context_for row d)) | false ↦ [] ])
       by-value-for (inl same) = go (row_text row es d) (value_in es term (context_for row d)) (written-as d ∙ ap (due (context_for row d)) same)
       by-value-for (inr none) = refused (row_text row es d) (value_in es term (context_for row d)) (written-as d ∙ ap (due (context_for row d)) none)
 
@@ -149,8 +167,11 @@ module _ (es : List Entry) (row : Row) (term : Term) (content : row.content ≡ 
       ≡ (elim (value_in es term (context_for row d)) [ None ↦ [] | Some value ↦ formed (form_for row.form term) es (context_for row d) value ∷ [] ])
   strings-as always untyped d =
       ap (λ (x : Content). in_a_list (text_by (row_text row es d) x)) content
-      ∙ (ap in_a_list (written-as d ∙ ap (due (context_for row d)) (as-modelled row es term (context_for row d) untyped)) ∙ mapped (value_in es term (context_for row d)))
+      ∙ (ap in_a_list (written-as d ∙ ap (due (context_for row d)) (as-modelled row es term (context_for row d) untyped)) ∙
+      mapped (value_in es term (context_for row d)))
     where
-      mapped : (o : Option Value) → ◌≡◌ {A = List (List ℕ)} (in_a_list (due (context_for row d) o)) (elim o [ None ↦ [] | Some value ↦ formed (form_for row.form term) es (context_for row d) value ∷ [] ])
+      mapped : (o : Option Value) → ◌≡◌ {A = List (List ℕ)} (in_a_list (due (context_for row d) o))
+          (elim o [ None ↦ [] | Some value ↦ formed (form_for row.form term) es (context_for row d) value ∷ [] ])
       mapped None = refl
-      mapped (Some value) = ap (λ rule. in_a_list (if_due rule es term (context_for row d) (formed (form_for row.form term) es (context_for row d) value))) always
+      mapped (Some value) = ap (λ rule. in_a_list (if_due rule es term (context_for row d) (formed (form_for row.form term) es (context_for row d) value)))
+          always

@@ -1,6 +1,7 @@
 -- Which values of an invoice plain and spread rows of a table write, and those of the two VAT totals, and which terms are
 -- left out: those that other rows of the table speak of, and those beside which a filler stands that isn't told from values.
-use Rattle.std.specs.Prelude.{ℕ, ◌==◌, Bool, true, false, not, ◌&&◌, ◌||◌, List, [], ◌∷◌, ◌++◌, length, filter, flat_map, map, Option, Some, None, is_some, is_none, option_map}
+use Rattle.std.specs.Prelude.{ℕ, ◌==◌, Bool, true, false, not, ◌&&◌, ◌||◌, List, [], ◌∷◌, ◌++◌, length, filter, flat_map, map, Option, Some, None, is_some}
+use Rattle.std.specs.Prelude.{is_none, option_map}
 use Rattle.std.specs.List.{list_all, list_any}
 use Rattle.std.specs.Str.{bytes_eq}
 use Rattle.term_table.specs.declared.terms.Letter.TheVariants as letters
@@ -34,7 +35,9 @@ use Rattle.binding_laws.specs.Apart.{is_called, is_nothing, is_at_attribute, row
 use Rattle.binding_laws.specs.Twins.{same_way, are_twins}
 use Rattle.binding_laws.specs.Known.{is_trimmed, known_of, is_as_known}
 use Rattle.binding_laws.specs.Faultless.{is_model, is_no_row}
-use Rattle.binding_laws.specs.Plain.{rows_at, is_one, is_element, is_always, has_content, is_of_one_term, stands_there, is_plain_there, is_plain_in, is_plain_with, is_plain_attribute_in, is_plain_attribute_with, is_spread_in, is_spread_with, is_spread_attribute_in, is_written_by, is_plain_by, is_spread_by, is_plain_beside, is_spread_beside}
+use Rattle.binding_laws.specs.Plain.{rows_at, is_one, is_element, is_always, has_content, is_of_one_term, stands_there, is_plain_there, is_plain_in}
+use Rattle.binding_laws.specs.Plain.{is_plain_with, is_plain_attribute_in, is_plain_attribute_with, is_spread_in, is_spread_with, is_spread_attribute_in}
+use Rattle.binding_laws.specs.Plain.{is_written_by, is_plain_by, is_spread_by, is_plain_beside, is_spread_beside}
 
 abbrev pub is_or_filler : Written → Bool
 is_or_filler written.Always = false
@@ -51,7 +54,8 @@ abbrev pub is_filled_there : Plan → Row → Term → Bool
 is_filled_there plan row term =
     is_apart unknown plan row.path
     && (is_one (rows_at is_at_element plan row.path)
-    && (is_element row.leaf && (has_content term row.content && (is_of_one_term (form_for row.form term) && (is_none row.outer && (is_none row.inner && stands_there term None None))))))
+    && (is_element row.leaf && (has_content term row.content &&
+    (is_of_one_term (form_for row.form term) && (is_none row.outer && (is_none row.inner && stands_there term None None))))))
 
 -- The row is spread, but for a filler that may stand in its place.
 abbrev pub is_filled_in : Plan → Row → Term → Bool
@@ -71,14 +75,20 @@ is_accounting_rule written.AccountingVatTotal = true
 is_accounting_rule _ = false
 
 abbrev pub accounting_terms_of : Row → List Term
-accounting_terms_of row = elim (is_accounting_rule row.written) [ true ↦ elim row.content [ (contents.Term term) ↦ term ∷ [] | (contents.Constant text) ↦ [] ] | false ↦ [] ]
+accounting_terms_of row = elim (is_accounting_rule row.written) [
+  | true ↦ elim row.content [ (contents.Term term) ↦ term ∷ [] | (contents.Constant text) ↦ [] ]
+  | false ↦ []
+]
 
 -- the terms of VAT totals in accounting currency
 abbrev pub accounting_terms : List Row → List Term
 accounting_terms rows = flat_map accounting_terms_of rows
 
 abbrev pub total_terms_of : Row → List Term
-total_terms_of row = elim (is_total_rule row.written) [ true ↦ elim row.content [ (contents.Term term) ↦ term ∷ [] | (contents.Constant text) ↦ [] ] | false ↦ [] ]
+total_terms_of row = elim (is_total_rule row.written) [
+  | true ↦ elim row.content [ (contents.Term term) ↦ term ∷ [] | (contents.Constant text) ↦ [] ]
+  | false ↦ []
+]
 
 -- the terms of VAT totals
 abbrev pub total_terms : List Row → List Term
@@ -91,7 +101,8 @@ is_total_there plan gone row term =
     && (is_one (rows_at is_at_element plan row.path)
     && (is_element row.leaf
     && (has_content term row.content
-    && (is_of_one_term (form_for row.form term) && (is_no_row (rows_at (is_at_attribute currency_id) plan row.path) && (is_none row.outer && (is_none row.inner && stands_there term None None)))))))
+    && (is_of_one_term (form_for row.form term) && (is_no_row (rows_at (is_at_attribute currency_id) plan row.path) &&
+    (is_none row.outer && (is_none row.inner && stands_there term None None)))))))
 
 -- ---- both VAT totals, which their currencies alone tell apart
 
@@ -108,15 +119,25 @@ is_half plan rows others row = elim row.content [
 
 abbrev pub are_pair_there : Plan → List Row → Row → Row → Bool
 are_pair_there plan rows main twin =
-    is_half plan rows (accounting_terms rows) main && (is_half plan rows (total_terms rows) twin && (same_way main.path twin.path && are_twins plan main.path twin.path))
+    is_half plan rows (accounting_terms rows) main &&
+    (is_half plan rows (total_terms rows) twin && (same_way main.path twin.path && are_twins plan main.path twin.path))
 
 -- They are the rows of the VAT total and of the one in accounting currency, and both lead to the elements of both.
 abbrev pub are_pair : Plan → List Row → Row → Row → Bool
-are_pair plan rows main twin = elim (is_total_rule main.written) [ true ↦ elim (is_accounting_rule twin.written) [ true ↦ are_pair_there plan rows main twin | false ↦ false ] | false ↦ false ]
+are_pair plan rows main twin = elim (is_total_rule main.written) [
+  | true ↦ elim (is_accounting_rule twin.written) [
+    | true ↦ are_pair_there plan rows main twin
+    | false ↦ false
+  ]
+  | false ↦ false
+]
 
 -- The row is one of two such.
 abbrev pub is_of_pair : Plan → List Row → Row → Bool
-is_of_pair plan rows row = elim (is_vat_total row.written) [ true ↦ list_any (λ other. are_pair plan rows row other || are_pair plan rows other row) rows | false ↦ false ]
+is_of_pair plan rows row = elim (is_vat_total row.written) [
+  | true ↦ list_any (λ other. are_pair plan rows row other || are_pair plan rows other row) rows
+  | false ↦ false
+]
 
 abbrev pub is_pair_in : Plan → List Row → Row → Term → Bool
 is_pair_in plan rows row term = elim (is_of_pair plan rows row) [ true ↦ has_content term row.content | false ↦ false ]
@@ -155,7 +176,8 @@ is_told_filler plan rows row term filler =
     list_any (is_row_beside plan row filler) rows
     && (bytes_eq (trimmed filler.text) filler.text
     && (is_model (form_for row.form term)
-    && (is_trimmed (letter_of term) && (not (has_term invoice_currency row || has_term accounting_currency row) && not (list_any (λ t. has_term t row) (flat_map beside_filler rows))))))
+    && (is_trimmed (letter_of term) && (not (has_term invoice_currency row || has_term accounting_currency row) &&
+    not (list_any (λ t. has_term t row) (flat_map beside_filler rows))))))
 
 -- What the row writes is told from its filler, since the term beside that is written next to it.
 abbrev pub is_joined : Plan → List Row → Row → Bool
@@ -171,7 +193,8 @@ unjoined_terms plan rows = flat_map (λ row. elim (is_joined plan rows row) [ tr
 -- The entry's value is the filler, and the term beside it stands too.
 abbrev pub is_like_filler : Plan → List Row → List Entry → Entry → Row → Bool
 is_like_filler plan rows es e row = elim row.written [
-  | (written.OrFiller filler) ↦ is_joined plan rows row && (has_term e.term row && (bytes_eq filler.text (spelled e.value) && is_some (value_in es filler.beside e.context)))
+  | (written.OrFiller filler) ↦ is_joined plan rows row &&
+      (has_term e.term row && (bytes_eq filler.text (spelled e.value) && is_some (value_in es filler.beside e.context)))
   | _ ↦ false
 ]
 
@@ -180,7 +203,10 @@ is_like_filler plan rows es e row = elim row.written [
 -- The row is plain or spread, at an element or at an attribute of one, by what is known of the invoice.
 abbrev pub is_known_beside : Known → Plan → Row → Row → Bool
 is_known_beside known plan row main = elim row.content [
-  | (contents.Term term) ↦ elim main.content [ (contents.Term main_term) ↦ is_plain_attribute_with known plan row term main main_term | (contents.Constant text) ↦ false ]
+  | (contents.Term term) ↦ elim main.content [
+    | (contents.Term main_term) ↦ is_plain_attribute_with known plan row term main main_term
+    | (contents.Constant text) ↦ false
+  ]
   | (contents.Constant text) ↦ false
 ]
 
@@ -230,7 +256,10 @@ writes_code plan rows es e row = elim row.content [
 
 -- the term that the row writes in front of its value
 abbrev pub code_terms_of : Row → List Term
-code_terms_of row = elim row.content [ (contents.Term term) ↦ elim (is_coded (form_for row.form term)) [ true ↦ subject_code ∷ [] | false ↦ [] ] | (contents.Constant text) ↦ [] ]
+code_terms_of row = elim row.content [
+  | (contents.Term term) ↦ elim (is_coded (form_for row.form term)) [ true ↦ subject_code ∷ [] | false ↦ [] ]
+  | (contents.Constant text) ↦ []
+]
 
 -- the same of all rows, if no row has that term
 abbrev pub code_terms : List Row → List Term
@@ -248,7 +277,8 @@ is_coded_note _ = false
 -- A subject code that isn't one by its form, or a note that has the form of one behind a code, and has none.
 abbrev pub is_misread_note : List Entry → Entry → Bool
 is_misread_note es e =
-    (same_term e.term subject_code && not (is_subject (spelled e.value))) || (same_term e.term note && (is_none (value_in es subject_code e.context) && is_coded_note (spelled e.value)))
+    (same_term e.term subject_code && not (is_subject (spelled e.value))) ||
+    (same_term e.term note && (is_none (value_in es subject_code e.context) && is_coded_note (spelled e.value)))
 
 abbrev pub is_coded_row : Row → Bool
 is_coded_row row = elim row.content [ (contents.Term term) ↦ is_coded (form_for row.form term) | (contents.Constant text) ↦ false ]
@@ -265,7 +295,9 @@ is_covered_in plan rows row =
     is_plain_by plan row
     || (is_spread_by plan row
     || (list_any (is_plain_beside plan row) rows
-    || (list_any (is_spread_beside plan row) rows || (is_filled_by plan row || (is_total_by plan rows row || (is_pair_by plan rows row || (is_known_by (known_of rows) plan rows row || is_noted_by plan rows row)))))))
+    || (list_any (is_spread_beside plan row) rows ||
+    (is_filled_by plan row || (is_total_by plan rows row ||
+    (is_pair_by plan rows row || (is_known_by (known_of rows) plan rows row || is_noted_by plan rows row)))))))
 
 abbrev pub is_covered : List Row → Row → Bool
 is_covered rows row = is_covered_in (plan_of rows) rows row
@@ -278,7 +310,8 @@ count_covered rows = length (filter (is_covered_in (plan_of rows) rows) rows)
 -- The row is one of the entry's term at an attribute of the element in which the main row writes its own term.
 abbrev pub writes_beside : Plan → List Entry → Entry → Row → Row → Bool
 writes_beside plan es e row main = elim main.content [
-  | (contents.Term main_term) ↦ (is_plain_attribute_in plan row e.term main main_term || is_spread_attribute_in plan row e.term main main_term) && is_written_by main main_term es e.context
+  | (contents.Term main_term) ↦ (is_plain_attribute_in plan row e.term main main_term || is_spread_attribute_in plan row e.term main main_term) &&
+      is_written_by main main_term es e.context
   | (contents.Constant text) ↦ false
 ]
 
@@ -290,7 +323,8 @@ writes_plainly plan rows es e row =
     || ((is_filled_in plan row e.term && is_written_by row e.term es e.context)
     || ((is_total_in plan rows row e.term && is_written_by row e.term es e.context)
     || ((is_pair_in plan rows row e.term && is_written_by row e.term es e.context)
-    || (writes_known (known_of rows) plan rows es e row || ((is_noted_in plan rows row e.term && is_written_by row e.term es e.context) || writes_code plan rows es e row)))))))
+    || (writes_known (known_of rows) plan rows es e row ||
+    ((is_noted_in plan rows row e.term && is_written_by row e.term es e.context) || writes_code plan rows es e row)))))))
 
 -- Such a row of the table writes the entry's value.
 abbrev pub is_written_plainly_in : Plan → List Row → List Entry → Entry → Bool
@@ -365,13 +399,15 @@ is_shadowed plan rows row =
     is_accounting_rule row.written
     && (is_element row.leaf
     && (not (has_term invoice_currency row || has_term accounting_currency row)
-    && (not (list_any (λ term. has_term term row) (flat_map beside_filler rows)) && list_any (λ (main : Row). is_total_by plan rows main && same_way row.path main.path) rows)))
+    && (not (list_any (λ term. has_term term row) (flat_map beside_filler rows)) &&
+    list_any (λ (main : Row). is_total_by plan rows main && same_way row.path main.path) rows)))
 
 abbrev pub is_other : Plan → List Row → Row → Bool
 is_other plan rows row = has_any_term row && (not (is_covered_in plan rows row) && not (is_shadowed plan rows row))
 
 abbrev pub left_out_in : Plan → List Row → List Term
-left_out_in plan rows = flat_map (λ row. flat_map terms_in (rows_there plan row)) (filter (is_other plan rows) rows) ++ (unjoined_terms plan rows ++ unpaired_terms plan rows)
+left_out_in plan rows = flat_map (λ row. flat_map terms_in (rows_there plan row)) (filter (is_other plan rows) rows) ++
+    (unjoined_terms plan rows ++ unpaired_terms plan rows)
 
 -- the terms that rows look at which end where rows end that aren't covered, those beside fillers that aren't told from
 -- values, and those of VAT totals in accounting currency whose rows aren't covered
@@ -384,7 +420,8 @@ is_no_currency leaves.Element = true
 is_no_currency (leaves.Attribute local) = not (bytes_eq local currency_id)
 
 abbrev pub is_settled_in : Plan → List Row → Bool
-is_settled_in plan rows = list_all (λ row. not (is_other plan rows row) || (list_all has_any_term (rows_there plan row) && (is_bare plan row.path && is_no_currency row.leaf))) rows
+is_settled_in plan rows = list_all (λ row. not (is_other plan rows row) ||
+    (list_all has_any_term (rows_there plan row) && (is_bare plan row.path && is_no_currency row.leaf))) rows
 
 -- Where rows end that aren't covered, no constants stand and no lines are below.
 abbrev pub is_settled : List Row → Bool
@@ -422,7 +459,8 @@ is_unmistaken plan rows es e = not (list_any (is_like_filler plan rows es e) row
 -- for something else.
 abbrev pub holds_plainly_in : Plan → List Term → List Row → List Entry → Bool
 holds_plainly_in plan left rows es =
-    list_all (λ e. not (list_any (same_term e.term) left) && (reads_back rows e && is_written_plainly_in plan rows es e)) es && (has_currencies rows es && list_all (is_unmistaken plan rows es) es)
+    list_all (λ e. not (list_any (same_term e.term) left) && (reads_back rows e && is_written_plainly_in plan rows es e)) es &&
+    (has_currencies rows es && list_all (is_unmistaken plan rows es) es)
 
 abbrev pub holds_plainly : List Row → List Entry → Bool
 holds_plainly rows es = holds_plainly_in (plan_of rows) (left_out rows) rows es
@@ -447,4 +485,5 @@ currency_text es term = option_map (λ value. trimmed (spelled value)) (value_in
 abbrev pub are_own_currencies : List Row → List Entry → Currencies → Bool
 are_own_currencies rows es c =
     is_own_currency es c.invoice
-    && (holds_none (accounting_terms rows) es || (is_text c.invoice (currency_text es invoice_currency) && is_text c.accounting (currency_text es accounting_currency)))
+    && (holds_none (accounting_terms rows) es || (is_text c.invoice (currency_text es invoice_currency) &&
+    is_text c.accounting (currency_text es accounting_currency)))

@@ -63,7 +63,8 @@ are_exclusive a b term = excludes a.written b.written && (is_model (form_for a.f
 
 -- The rows' values of one term may all be told again, or stand in other contexts, or only one row writes its value.
 abbrev pub are_apart_at : Row → Row → Term → Bool
-are_apart_at a b term = (may_repeat a.repeats && may_repeat b.repeats) || (not (same_or_none a.outer b.outer && same_or_none a.inner b.inner) || are_exclusive a b term)
+are_apart_at a b term = (may_repeat a.repeats && may_repeat b.repeats) ||
+    (not (same_or_none a.outer b.outer && same_or_none a.inner b.inner) || are_exclusive a b term)
 
 -- Two rows tell no term of one context twice between them, unless it may be told again.
 abbrev pub are_apart : Row → Row → Bool
@@ -94,10 +95,15 @@ scheme_id = codes "schemeID"
 
 -- The second row writes the term's scheme beside what the first one writes.
 abbrev pub is_scheme_beside : Plan → Row → Term → Row → Bool
-is_scheme_beside plan row term part = elim (has_content (scheme_of term) part.content) [ true ↦ is_attribute_named scheme_id part.leaf && is_plain_attribute_in plan part (scheme_of term) row term | false ↦ false ]
+is_scheme_beside plan row term part = elim (has_content (scheme_of term) part.content) [
+  | true ↦ is_attribute_named scheme_id part.leaf &&
+      is_plain_attribute_in plan part (scheme_of term) row term
+  | false ↦ false
+]
 
 abbrev pub has_scheme_of : Plan → List Row → Row → Term → Bool
-has_scheme_of plan rows row term = (is_if_scheme row.written || is_needed_with (scheme_of term) term row.outer row.inner) && list_any (is_scheme_beside plan row term) rows
+has_scheme_of plan rows row term = (is_if_scheme row.written || is_needed_with (scheme_of term) term row.outer row.inner) &&
+    list_any (is_scheme_beside plan row term) rows
 
 -- Where reading asks for a scheme, the value's scheme stands and is written beside it.
 abbrev pub has_scheme : Plan → List Row → Row → Bool
@@ -136,7 +142,8 @@ is_in_invoice_currency _ = true
 
 -- The currency beside an amount is that of the invoice, or none.
 abbrev pub shows_currency_there : Plan → Row → Bool
-shows_currency_there plan row = is_element row.leaf && (list_all (λ (r : Row). is_in_invoice_currency r.written) (rows_at is_at_element plan row.path) && is_no_row (rows_at (is_at_attribute currency_id) plan row.path))
+shows_currency_there plan row = is_element row.leaf && (list_all (λ (r : Row). is_in_invoice_currency r.written) (rows_at is_at_element plan row.path) &&
+    is_no_row (rows_at (is_at_attribute currency_id) plan row.path))
 
 abbrev pub shows_its_currency : Plan → Row → Bool
 shows_its_currency plan row = elim row.content [

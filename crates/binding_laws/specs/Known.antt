@@ -55,7 +55,8 @@ abbrev pub texts_asked : List ℕ → List Step → List Step → List (List ℕ
 texts_asked local [] other = []
 texts_asked local (s ∷ path) [] = []
 texts_asked local (s ∷ path) (v ∷ other) = elim (is_called s.name v.name) [
-  | true ↦ flat_map (λ (guard : Guard). elim (is_place_of local other guard.place) [ true ↦ texts_of guard.test | false ↦ [] ]) s.guards ++ texts_asked local path other
+  | true ↦ flat_map (λ (guard : Guard). elim (is_place_of local other guard.place) [ true ↦ texts_of guard.test | false ↦ [] ]) s.guards ++
+      texts_asked local path other
   | false ↦ []
 ]
 
@@ -68,7 +69,8 @@ is_presence tests.Absent = false
 -- A guard along the path asks for the attribute at its end.
 abbrev pub is_presence_asked : List ℕ → List Step → Bool
 is_presence_asked local [] = false
-is_presence_asked local (s ∷ path) = list_any (λ (guard : Guard). is_place_of local path guard.place && is_presence guard.test) s.guards || is_presence_asked local path
+is_presence_asked local (s ∷ path) = list_any (λ (guard : Guard). is_place_of local path guard.place && is_presence guard.test) s.guards ||
+    is_presence_asked local path
 
 -- ---- what is asked of the terms
 
@@ -77,7 +79,8 @@ unlike_of rows row term local = flat_map (λ (other : Row). map (λ text. record
 
 -- The row writes the term at the element of the other, in the same group.
 abbrev pub is_main_of : Row → Group → Row → Term → Bool
-is_main_of row group main term = is_element main.leaf && (is_of_group group main && (pointwise same_step main.path row.path && stands_nowhere_else term (Some group) None))
+is_main_of row group main term = is_element main.leaf &&
+    (is_of_group group main && (pointwise same_step main.path row.path && stands_nowhere_else term (Some group) None))
 
 abbrev pub together_by : Row → Group → Term → Row → List Together
 together_by row group part main = elim main.content [
@@ -94,7 +97,10 @@ together_of rows row part local = elim row.outer [
 -- the attribute's row, if its term's values have no white space around them
 abbrev pub at_attributes : {X : Type 0} → (Row → Term → List ℕ → List X) → Row → List X
 at_attributes f row = elim row.content [
-  | (contents.Term term) ↦ elim row.leaf [ leaves.Element ↦ [] | (leaves.Attribute local) ↦ elim (is_trimmed (letter_of term)) [ true ↦ f row term local | false ↦ [] ] ]
+  | (contents.Term term) ↦ elim row.leaf [
+    | leaves.Element ↦ []
+    | (leaves.Attribute local) ↦ elim (is_trimmed (letter_of term)) [ true ↦ f row term local | false ↦ [] ]
+  ]
   | (contents.Constant text) ↦ []
 ]
 
@@ -111,7 +117,8 @@ is_other_value known e = list_all (λ (u : Unlike). not (same_term e.term u.term
 -- What has to stand with it, does.
 abbrev pub has_parts : Known → List Entry → Entry → Bool
 has_parts known es e =
-    list_all (λ (x : Together). not (same_term e.term x.term && same_groups (slot_group e.context.outer) (Some x.group)) || is_some (value_in es x.part e.context)) known.together
+    list_all (λ (x : Together). not (same_term e.term x.term && same_groups (slot_group e.context.outer) (Some x.group)) ||
+    is_some (value_in es x.part e.context)) known.together
 
 abbrev pub is_as_known : Known → List Entry → Entry → Bool
 is_as_known known es e = is_other_value known e && has_parts known es e

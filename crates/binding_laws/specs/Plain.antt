@@ -60,7 +60,8 @@ is_beyond group outer inner = not (stands_in group None None || (stands_in group
 
 -- Where the term stands in a context of such a path, it stands in these groups.
 abbrev pub stands_nowhere_else : Term → Option Group → Option Group → Bool
-stands_nowhere_else term outer inner = list_all (λ (r : TermRow). not (same_term r.term term) || (stands_in r.group outer inner || is_beyond r.group outer inner)) listing_rows
+stands_nowhere_else term outer inner = list_all (λ (r : TermRow). not (same_term r.term term) ||
+    (stands_in r.group outer inner || is_beyond r.group outer inner)) listing_rows
 
 -- A value is written whole, as the model spells it or, for a day, without dashes.
 abbrev pub is_whole : Form → Bool
@@ -142,7 +143,8 @@ is_plain_there plan row term =
     && (is_element row.leaf
     && (has_content term row.content
     && (is_by_value row.written
-    && (pointwise same_group (groups_of row.path) (listed row.outer ++ listed row.inner) && ((is_some row.outer || is_none row.inner) && is_kept_apart row term)))))
+    && (pointwise same_group (groups_of row.path) (listed row.outer ++ listed row.inner) &&
+    ((is_some row.outer || is_none row.inner) && is_kept_apart row term)))))
 
 -- by what is known of the invoice
 abbrev pub is_plain_with : Known → Plan → Row → Term → Bool
@@ -225,7 +227,8 @@ is_spread_with known plan row term =
     is_apart known plan row.path
     && (is_one (rows_at is_at_element plan row.path)
     && (is_element row.leaf
-    && (has_content term row.content && (is_of_one_term (form_for row.form term) && (is_by_value row.written && (is_none row.outer && (is_none row.inner && stands_there term None None)))))))
+    && (has_content term row.content && (is_of_one_term (form_for row.form term) &&
+    (is_by_value row.written && (is_none row.outer && (is_none row.inner && stands_there term None None)))))))
 
 abbrev pub is_spread_in : Plan → Row → Term → Bool
 is_spread_in plan row term = is_spread_with unknown plan row term
@@ -263,7 +266,10 @@ is_plain_attribute rows row term main main_term = is_plain_attribute_in (plan_of
 -- how many rows of a table are plain at an attribute
 abbrev pub is_plain_beside : Plan → Row → Row → Bool
 is_plain_beside plan row main = elim row.content [
-  | (contents.Term term) ↦ elim main.content [ (contents.Term main_term) ↦ is_plain_attribute_in plan row term main main_term | (contents.Constant text) ↦ false ]
+  | (contents.Term term) ↦ elim main.content [
+    | (contents.Term main_term) ↦ is_plain_attribute_in plan row term main main_term
+    | (contents.Constant text) ↦ false
+  ]
   | (contents.Constant text) ↦ false
 ]
 
@@ -306,6 +312,9 @@ is_spread_attribute rows row term main main_term = is_spread_attribute_in (plan_
 
 abbrev pub is_spread_beside : Plan → Row → Row → Bool
 is_spread_beside plan row main = elim row.content [
-  | (contents.Term term) ↦ elim main.content [ (contents.Term main_term) ↦ is_spread_attribute_in plan row term main main_term | (contents.Constant text) ↦ false ]
+  | (contents.Term term) ↦ elim main.content [
+    | (contents.Term main_term) ↦ is_spread_attribute_in plan row term main main_term
+    | (contents.Constant text) ↦ false
+  ]
   | (contents.Constant text) ↦ false
 ]

@@ -26,7 +26,8 @@ are_twins (a_line t cells inside rest) (s ∷ path) (v ∷ other) = elim (same_s
     | false ↦ is_apart unknown rest (v ∷ other) && elim path [ [] ↦ is_nothing inside | (u ∷ further) ↦ is_apart (beyond t.group unknown) inside (u ∷ further) ]
   ]
   | false ↦ not (same_step v t) && elim (is_called s.name t.name) [
-    | true ↦ (is_off unknown s.guards t cells inside || elim path [ [] ↦ false | (u ∷ further) ↦ is_clear (beyond t.group unknown) inside (u ∷ further) ]) && are_twins rest (s ∷ path) (v ∷ other)
+    | true ↦ (is_off unknown s.guards t cells inside || elim path [ [] ↦ false | (u ∷ further) ↦ is_clear (beyond t.group unknown) inside (u ∷ further) ]) &&
+        are_twins rest (s ∷ path) (v ∷ other)
     | false ↦ are_twins rest (s ∷ path) (v ∷ other)
   ]
 ]

@@ -1,6 +1,7 @@
 //! Each call does nothing: what it ensures is the law. Where a law speaks of an invoice whose values covered rows write, it
 //! asks of one with a VAT total in accounting currency too that its two currencies stand in it and differ.
-ghost use Rattle.std.specs.Prelude.{codes, ◌≡◌, not, ◌&&◌, ◌||◌, ◌<◌, ℕ, List, [], ◌∷◌, All, Contains, length, true, false, Some, Ok, filter, flat_map, map, slice_get};
+ghost use Rattle.std.specs.Prelude.{codes, ◌≡◌, not, ◌&&◌, ◌||◌, ◌<◌, ℕ, List, [], ◌∷◌, All, Contains, length, true, false, Some, Ok, filter, flat_map, map};
+ghost use Rattle.std.specs.Prelude.{slice_get};
 ghost use Rattle.inv_base.specs.Tree.{document_nodes};
 ghost use Rattle.term_table.specs.declared.terms.Term.{Term};
 ghost use Rattle.term_table.specs.SemanticModel.{same_term, is_extension};
@@ -30,7 +31,8 @@ ghost use Rattle.binding_laws.specs.Apart.{Unlike, Together, unknown, holds_none
 ghost use Rattle.binding_laws.specs.Known.{known_of};
 ghost use Rattle.binding_laws.specs.Covered.{code_terms, count_covered, is_settled, holds_plainly, are_own_currencies, left_out_terms};
 ghost use Rattle.binding_laws.specs.Faultless.{is_faultless};
-ghost use Rattle.binding_laws.specs.Plain.{IsPlain, stands_there, IsPlainAttribute, is_written_by, is_plain, is_plain_attribute, count_terms, count_plain, count_attributes};
+ghost use Rattle.binding_laws.specs.Plain.{IsPlain, stands_there, IsPlainAttribute, is_written_by, is_plain, is_plain_attribute, count_terms, count_plain};
+ghost use Rattle.binding_laws.specs.Plain.{count_attributes};
 ghost use Rattle.ubl_binding.specs.Tables.{invoice_rows, credit_note_rows};
 ghost use Rattle.cii_binding.specs.Table.{cii_rows};
 ghost use Rattle.binding_laws.specs.Written.{written_at, values_named};
@@ -54,26 +56,33 @@ pub fn rows_apart_pick_what_is_written()
     ensures elements { (rows : List Row) (es : List Entry) (k : ℕ) (row : Row) → row.leaf ≡ leaves.Element → stands_apart rows row.path ≡ true
         → map (λ pick. string_at (document_nodes (document_of rows es)) pick.node) (nodes_picked (document_nodes (document_of rows es)) k row)
         ≡ filter is_full (map (λ spot. spot.text) (written_at rows es row.path)) }
-    ensures attributes { (rows : List Row) (es : List Entry) (k : ℕ) (row : Row) (local : List ℕ) → row.leaf ≡ leaves.Attribute local → stands_apart rows row.path ≡ true
+    ensures attributes { (rows : List Row) (es : List Entry) (k : ℕ) (row : Row) (local : List ℕ) → row.leaf ≡ leaves.Attribute local →
+        stands_apart rows row.path ≡ true
         → map (λ pick. string_at (document_nodes (document_of rows es)) pick.node) (nodes_picked (document_nodes (document_of rows es)) k row)
         ≡ flat_map (λ spot. filter is_full (values_named local spot.attributes)) (filter (λ spot. is_full spot.text) (written_at rows es row.path)) }
     ensures inside { (rows : List Row) (es : List Entry) (k : ℕ) (row : Row) → stands_apart rows row.path ≡ true
-        → filter (has_element_inside (document_nodes (document_of rows es))) (map (λ pick. pick.node) (nodes_picked (document_nodes (document_of rows es)) k row)) ≡ [] }
+        → filter (has_element_inside (document_nodes (document_of rows es)))
+        (map (λ pick. pick.node) (nodes_picked (document_nodes (document_of rows es)) k row)) ≡ [] }
 {}
 
 /// The same of an invoice in which none of some terms stands, for a row whose path stands apart from the lines that are
 /// written of it: a line whose rows have these terms alone is none of them. So, where the VAT total in accounting currency
 /// (BT-111) doesn't stand, the rows of the VAT total (BT-110) pick what is written at their lines: both have one name.
 pub fn rows_apart_without_terms_pick_what_is_written()
-    ensures elements { (gone : List Term) (rows : List Row) (es : List Entry) (k : ℕ) (row : Row) → holds_none gone es ≡ true → row.leaf ≡ leaves.Element → stands_apart_without gone rows row.path ≡ true
+    ensures elements { (gone : List Term) (rows : List Row) (es : List Entry) (k : ℕ) (row : Row) → holds_none gone es ≡ true → row.leaf ≡ leaves.Element →
+        stands_apart_without gone rows row.path ≡ true
         → map (λ pick. string_at (document_nodes (document_of rows es)) pick.node) (nodes_picked (document_nodes (document_of rows es)) k row)
         ≡ filter is_full (map (λ spot. spot.text) (written_at rows es row.path)) }
-    ensures attributes { (gone : List Term) (rows : List Row) (es : List Entry) (k : ℕ) (row : Row) (local : List ℕ) → holds_none gone es ≡ true → row.leaf ≡ leaves.Attribute local → stands_apart_without gone rows row.path ≡ true
+    ensures attributes { (gone : List Term) (rows : List Row) (es : List Entry) (k : ℕ) (row : Row) (local : List ℕ) → holds_none gone es ≡ true →
+        row.leaf ≡ leaves.Attribute local → stands_apart_without gone rows row.path ≡ true
         → map (λ pick. string_at (document_nodes (document_of rows es)) pick.node) (nodes_picked (document_nodes (document_of rows es)) k row)
         ≡ flat_map (λ spot. filter is_full (values_named local spot.attributes)) (filter (λ spot. is_full spot.text) (written_at rows es row.path)) }
-    ensures inside { (gone : List Term) (rows : List Row) (es : List Entry) (k : ℕ) (row : Row) → holds_none gone es ≡ true → stands_apart_without gone rows row.path ≡ true
-        → filter (has_element_inside (document_nodes (document_of rows es))) (map (λ pick. pick.node) (nodes_picked (document_nodes (document_of rows es)) k row)) ≡ [] }
-    ensures totals { (table : Which) → list_all (λ row. not (has_term (record { number = 110; part = 0 }) row) || stands_apart_without (record { number = 111; part = 0 } ∷ []) (rows_of table) row.path) (rows_of table) ≡ true }
+    ensures inside { (gone : List Term) (rows : List Row) (es : List Entry) (k : ℕ) (row : Row) → holds_none gone es ≡ true →
+        stands_apart_without gone rows row.path ≡ true
+        → filter (has_element_inside (document_nodes (document_of rows es)))
+        (map (λ pick. pick.node) (nodes_picked (document_nodes (document_of rows es)) k row)) ≡ [] }
+    ensures totals { (table : Which) → list_all (λ row. not (has_term (record { number = 110; part = 0 }) row) ||
+        stands_apart_without (record { number = 111; part = 0 } ∷ []) (rows_of table) row.path) (rows_of table) ≡ true }
 {}
 
 /// In the document that an invoice is written as, a plain row of a term picks exactly the values of that term that it
@@ -88,9 +97,11 @@ pub fn plain_rows_pick_the_values_of_their_terms()
         ≡ map (λ e. formed (form_for row.form term) es e.context e.value) (filter (λ e. same_term e.term term && is_written_by row term es e.context) es) }
     ensures says { (rows : List Row) (es : List Entry) (k : ℕ) (row : Row) (term : Term) → IsInvoice es → IsPlain rows row term
         → (is_extension term && not (is_typed (form_for row.form term))) ≡ false
-        → map (λ pick. said row.form term (string_at (document_nodes (document_of rows es)) pick.node)) (nodes_picked (document_nodes (document_of rows es)) k row)
+        → map (λ pick. said row.form term (string_at (document_nodes (document_of rows es)) pick.node))
+        (nodes_picked (document_nodes (document_of rows es)) k row)
         ≡ map (λ e. record { term = term; value = Some e.value } ∷ []) (filter (λ e. same_term e.term term && is_written_by row term es e.context) es) }
-    ensures always { (rows : List Row) (es : List Entry) (row : Row) (term : Term) → IsInvoice es → IsPlain rows row term → row.written ≡ rules.Always → stands_there term row.outer row.inner ≡ true
+    ensures always { (rows : List Row) (es : List Entry) (row : Row) (term : Term) → IsInvoice es → IsPlain rows row term → row.written ≡ rules.Always →
+        stands_there term row.outer row.inner ≡ true
         → filter (λ e. same_term e.term term && is_written_by row term es e.context) es ≡ filter (λ e. same_term e.term term) es }
 {
     spelled_values_are_read_back();
@@ -136,32 +147,42 @@ pub fn tables_have_plain_rows()
 /// those that are read of the document; where a VAT total in accounting currency stands in the invoice, both of them are to
 /// be those of the invoice, as these are too.
 pub fn picks_say_the_entries_where_they_stand()
-    ensures currency { (rows : List Row) (es : List Entry) → IsInvoice es → All (λ r. 0 < length r.path) rows → first_fault rows ≡ Ok tt → is_settled rows ≡ true → holds_plainly rows es ≡ true
+    ensures currency { (rows : List Row) (es : List Entry) → IsInvoice es → All (λ r. 0 < length r.path) rows → first_fault rows ≡ Ok tt →
+        is_settled rows ≡ true → holds_plainly rows es ≡ true
         → are_own_currencies rows es (currencies (document_nodes (document_of rows es)) rows) ≡ true }
-    ensures said { (rows : List Row) (es : List Entry) (c : Currencies) (p : Placed) → IsInvoice es → All (λ r. 0 < length r.path) rows → first_fault rows ≡ Ok tt
+    ensures said { (rows : List Row) (es : List Entry) (c : Currencies) (p : Placed) → IsInvoice es → All (λ r. 0 < length r.path) rows →
+        first_fault rows ≡ Ok tt
         → is_settled rows ≡ true → holds_plainly rows es ≡ true → are_own_currencies rows es c ≡ true → holds_none (code_terms rows) es ≡ true
         → Contains (place_all (document_nodes (document_of rows es)) (term_picks (document_nodes (document_of rows es)) c rows)) p
-        → (e : Entry) × (Contains es e × ((said_by (document_nodes (document_of rows es)) p ≡ record { term = e.term; value = Some e.value } ∷ []) × (context_of p ≡ e.context))) }
+        → (e : Entry) × (Contains es e × ((said_by (document_nodes (document_of rows es)) p ≡ record { term = e.term; value = Some e.value } ∷ []) ×
+        (context_of p ≡ e.context))) }
     ensures all { (rows : List Row) (es : List Entry) (c : Currencies) (e : Entry) → IsInvoice es → All (λ r. 0 < length r.path) rows → first_fault rows ≡ Ok tt
         → is_settled rows ≡ true → holds_plainly rows es ≡ true → are_own_currencies rows es c ≡ true → holds_none (code_terms rows) es ≡ true → Contains es e
         → (p : Placed) × (Contains (place_all (document_nodes (document_of rows es)) (term_picks (document_nodes (document_of rows es)) c rows)) p
         × ((said_by (document_nodes (document_of rows es)) p ≡ record { term = e.term; value = Some e.value } ∷ []) × (context_of p ≡ e.context))) }
     ensures told { (rows : List Row) (es : List Entry) (c : Currencies) (t : Told) → IsInvoice es → All (λ r. 0 < length r.path) rows → first_fault rows ≡ Ok tt
         → is_settled rows ≡ true → holds_plainly rows es ≡ true → are_own_currencies rows es c ≡ true
-        → Contains (told (document_nodes (document_of rows es)) (place_all (document_nodes (document_of rows es)) (term_picks (document_nodes (document_of rows es)) c rows))) t
+        → Contains (told (document_nodes (document_of rows es))
+        (place_all (document_nodes (document_of rows es)) (term_picks (document_nodes (document_of rows es)) c rows))) t
         → (e : Entry) × (Contains es e × ((t.said ≡ record { term = e.term; value = Some e.value }) × (context_of t.placed ≡ e.context))) }
-    ensures all_told { (rows : List Row) (es : List Entry) (c : Currencies) (e : Entry) → IsInvoice es → All (λ r. 0 < length r.path) rows → first_fault rows ≡ Ok tt
+    ensures all_told { (rows : List Row) (es : List Entry) (c : Currencies) (e : Entry) → IsInvoice es → All (λ r. 0 < length r.path) rows →
+        first_fault rows ≡ Ok tt
         → is_settled rows ≡ true → holds_plainly rows es ≡ true → are_own_currencies rows es c ≡ true → Contains es e
-        → (t : Told) × (Contains (told (document_nodes (document_of rows es)) (place_all (document_nodes (document_of rows es)) (term_picks (document_nodes (document_of rows es)) c rows))) t
+        → (t : Told) × (Contains (told (document_nodes (document_of rows es))
+        (place_all (document_nodes (document_of rows es)) (term_picks (document_nodes (document_of rows es)) c rows))) t
         × ((t.said ≡ record { term = e.term; value = Some e.value }) × (context_of t.placed ≡ e.context))) }
-    ensures inside { (rows : List Row) (es : List Entry) (c : Currencies) (p : Placed) → IsInvoice es → All (λ r. 0 < length r.path) rows → first_fault rows ≡ Ok tt
+    ensures inside { (rows : List Row) (es : List Entry) (c : Currencies) (p : Placed) → IsInvoice es → All (λ r. 0 < length r.path) rows →
+        first_fault rows ≡ Ok tt
         → is_settled rows ≡ true → holds_plainly rows es ≡ true → are_own_currencies rows es c ≡ true
         → Contains (place_all (document_nodes (document_of rows es)) (term_picks (document_nodes (document_of rows es)) c rows)) p
         → has_element_inside (document_nodes (document_of rows es)) p.pick.node ≡ false }
-    ensures agree { (rows : List Row) (es : List Entry) (c : Currencies) (a b : Told) → IsInvoice es → All (λ r. 0 < length r.path) rows → first_fault rows ≡ Ok tt
+    ensures agree { (rows : List Row) (es : List Entry) (c : Currencies) (a b : Told) → IsInvoice es → All (λ r. 0 < length r.path) rows →
+        first_fault rows ≡ Ok tt
         → is_settled rows ≡ true → holds_plainly rows es ≡ true → are_own_currencies rows es c ≡ true
-        → Contains (told (document_nodes (document_of rows es)) (place_all (document_nodes (document_of rows es)) (term_picks (document_nodes (document_of rows es)) c rows))) a
-        → Contains (told (document_nodes (document_of rows es)) (place_all (document_nodes (document_of rows es)) (term_picks (document_nodes (document_of rows es)) c rows))) b
+        → Contains (told (document_nodes (document_of rows es))
+        (place_all (document_nodes (document_of rows es)) (term_picks (document_nodes (document_of rows es)) c rows))) a
+        → Contains (told (document_nodes (document_of rows es))
+        (place_all (document_nodes (document_of rows es)) (term_picks (document_nodes (document_of rows es)) c rows))) b
         → is_of_seat a b ≡ true → a.said ≡ b.said }
 {
     spelled_values_are_read_back();
@@ -176,11 +197,14 @@ pub fn picks_say_the_entries_where_they_stand()
 pub fn invoices_of_covered_rows_are_read_back()
     ensures entries { (rows : List Row) (es : List Entry) (c : Currencies) → IsInvoice es → All (λ r. 0 < length r.path) rows → first_fault rows ≡ Ok tt
         → is_settled rows ≡ true → holds_plainly rows es ≡ true → are_own_currencies rows es c ≡ true
-        → entries (told (document_nodes (document_of rows es)) (place_all (document_nodes (document_of rows es)) (term_picks (document_nodes (document_of rows es)) c rows))) ≡ es }
-    ensures answer { (rows : List Row) (es : List Entry) (lists : Lists) (read : Read) → IsInvoice es → All (λ r. 0 < length r.path) rows → first_fault rows ≡ Ok tt
+        → entries (told (document_nodes (document_of rows es))
+        (place_all (document_nodes (document_of rows es)) (term_picks (document_nodes (document_of rows es)) c rows))) ≡ es }
+    ensures answer { (rows : List Row) (es : List Entry) (lists : Lists) (read : Read) → IsInvoice es → All (λ r. 0 < length r.path) rows →
+        first_fault rows ≡ Ok tt
         → is_settled rows ≡ true → holds_plainly rows es ≡ true
         → terms_of (document_nodes (document_of rows es)) rows lists ≡ Ok read → (read.entries ≡ es) × (read.passed_over ≡ 0) }
-    ensures exactly { (rows : List Row) (es : List Entry) (lists : Lists) → IsInvoice es → IsValid es lists → All (λ r. 0 < length r.path) rows → first_fault rows ≡ Ok tt
+    ensures exactly { (rows : List Row) (es : List Entry) (lists : Lists) → IsInvoice es → IsValid es lists → All (λ r. 0 < length r.path) rows →
+        first_fault rows ≡ Ok tt
         → is_settled rows ≡ true → is_faultless rows ≡ true → holds_plainly rows es ≡ true
         → terms_of (document_nodes (document_of rows es)) rows lists ≡ Ok (record { entries = es; passed_over = 0 }) }
 {
@@ -202,9 +226,11 @@ pub fn invoices_of_covered_rows_are_converted_back()
         → (again.entries ≡ es) × (document_of first again.entries ≡ document_of first es) }
     ensures exactly { (first second : List Row) (es : List Entry) (lists : Lists) → IsInvoice es → IsValid es lists
         → All (λ r. 0 < length r.path) first → first_fault first ≡ Ok tt → is_settled first ≡ true → is_faultless first ≡ true → holds_plainly first es ≡ true
-        → All (λ r. 0 < length r.path) second → first_fault second ≡ Ok tt → is_settled second ≡ true → is_faultless second ≡ true → holds_plainly second es ≡ true
+        → All (λ r. 0 < length r.path) second → first_fault second ≡ Ok tt → is_settled second ≡ true → is_faultless second ≡ true →
+        holds_plainly second es ≡ true
         → (read : Read) × ((terms_of (document_nodes (document_of first es)) first lists ≡ Ok read)
-        × ((again : Read) × ((terms_of (document_nodes (document_of second read.entries)) second lists ≡ Ok again) × ((again.entries ≡ es) × (document_of first again.entries ≡ document_of first es))))) }
+        × ((again : Read) × ((terms_of (document_nodes (document_of second read.entries)) second lists ≡ Ok again) ×
+        ((again.entries ≡ es) × (document_of first again.entries ≡ document_of first es))))) }
 {
     spelled_values_are_read_back();
     printed_days_are_read();
@@ -229,7 +255,8 @@ pub fn valid_invoices_are_read_exactly()
 /// that either leaves out, converting it to the one syntax, what is read of that to the other, and what is read of this
 /// back to the first, gives the first document again, and its terms; no reading finds a fault.
 pub fn valid_invoices_are_converted_back()
-    ensures { (first second : Which) (es : List Entry) (lists : Lists) → IsInvoice es → IsValid es lists → holds_plainly (rows_of first) es ≡ true → holds_plainly (rows_of second) es ≡ true
+    ensures { (first second : Which) (es : List Entry) (lists : Lists) → IsInvoice es → IsValid es lists → holds_plainly (rows_of first) es ≡ true →
+        holds_plainly (rows_of second) es ≡ true
         → (read : Read) × ((terms_of (document_nodes (document_of (rows_of first) es)) (rows_of first) lists ≡ Ok read)
         × ((again : Read) × ((terms_of (document_nodes (document_of (rows_of second) read.entries)) (rows_of second) lists ≡ Ok again)
         × ((again.entries ≡ es) × (document_of (rows_of first) again.entries ≡ document_of (rows_of first) es))))) }
@@ -248,12 +275,17 @@ pub fn valid_invoices_are_converted_back()
 /// asks that the scheme of BT-29 and that of BT-60 aren't `SEPA`, and that BT-29 has its scheme where it may have one; CII
 /// asks nothing.
 pub fn tables_leave_terms_out()
-    ensures invoice { (count_covered invoice_rows ≡ 181) × (is_settled invoice_rows ≡ true) × (is_faultless invoice_rows ≡ true) × (map (λ t. t.number) (left_out_terms invoice_rows) ≡ []) }
-    ensures credit_note { (count_covered credit_note_rows ≡ 181) × (is_settled credit_note_rows ≡ true) × (is_faultless credit_note_rows ≡ true) × (map (λ t. t.number) (left_out_terms credit_note_rows) ≡ []) }
-    ensures cii { (count_covered cii_rows ≡ 185) × (is_settled cii_rows ≡ true) × (is_faultless cii_rows ≡ true) × (map (λ t. t.number) (left_out_terms cii_rows) ≡ []) }
-    ensures asked_invoice { (list_all (λ (u : Unlike). (same_term u.term (record { number = 29; part = 1 }) || same_term u.term (record { number = 60; part = 1 })) && bytes_eq u.text (codes "SEPA")) (known_of invoice_rows).unlike ≡ true)
+    ensures invoice { (count_covered invoice_rows ≡ 181) × (is_settled invoice_rows ≡ true) × (is_faultless invoice_rows ≡ true) ×
+        (map (λ t. t.number) (left_out_terms invoice_rows) ≡ []) }
+    ensures credit_note { (count_covered credit_note_rows ≡ 181) × (is_settled credit_note_rows ≡ true) × (is_faultless credit_note_rows ≡ true) ×
+        (map (λ t. t.number) (left_out_terms credit_note_rows) ≡ []) }
+    ensures cii { (count_covered cii_rows ≡ 185) × (is_settled cii_rows ≡ true) × (is_faultless cii_rows ≡ true) ×
+        (map (λ t. t.number) (left_out_terms cii_rows) ≡ []) }
+    ensures asked_invoice { (list_all (λ (u : Unlike). (same_term u.term (record { number = 29; part = 1 }) || same_term u.term (record { number = 60; part = 1 })) &&
+        bytes_eq u.text (codes "SEPA")) (known_of invoice_rows).unlike ≡ true)
         × (map (λ (x : Together). x.term.number) (known_of invoice_rows).together ≡ 29 ∷ []) }
-    ensures asked_credit_note { (list_all (λ (u : Unlike). (same_term u.term (record { number = 29; part = 1 }) || same_term u.term (record { number = 60; part = 1 })) && bytes_eq u.text (codes "SEPA")) (known_of credit_note_rows).unlike ≡ true)
+    ensures asked_credit_note { (list_all (λ (u : Unlike). (same_term u.term (record { number = 29; part = 1 }) || same_term u.term (record { number = 60; part = 1 })) &&
+        bytes_eq u.text (codes "SEPA")) (known_of credit_note_rows).unlike ≡ true)
         × (map (λ (x : Together). x.term.number) (known_of credit_note_rows).together ≡ 29 ∷ []) }
     ensures asked_cii { known_of cii_rows ≡ unknown }
 {}

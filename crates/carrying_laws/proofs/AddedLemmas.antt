@@ -80,7 +80,8 @@ says-back forms.CodedNote v h = absurd (false≢true h)
 says-back (forms.Typed letter) v h = h
 says-back forms.TypedPlainDate v h = h
 
-only-one : {X : Type 0} (one : List X → Bool) → one [] ≡ false → ((x y : X) (xs : List X) → one (x ∷ (y ∷ xs)) ≡ false) → (xs : List X) → one xs ≡ true → (a b : X) → Among a xs → Among b xs → a ≡ b
+only-one : {X : Type 0} (one : List X → Bool) → one [] ≡ false → ((x y : X) (xs : List X) → one (x ∷ (y ∷ xs)) ≡ false) → (xs : List X) → one xs ≡ true →
+    (a b : X) → Among a xs → Among b xs → a ≡ b
 only-one one none more [] h a b m n = absurd m
 only-one one none more (x ∷ (y ∷ xs)) h a b m n = absurd (false≢true (sym (more x y xs) ∙ h))
 only-one {X = X} one none more (x ∷ []) h a b m n = sym (at a m) ∙ at b n
@@ -114,7 +115,8 @@ module _ (rows : List Row) (es : List Entry) (e : Entry) (own : is_extension e.t
       let d = both-true (same_or_none row.outer (slot_group e.context.outer)) (same_or_none row.inner (slot_group e.context.inner)) c.0 in
       let content = content-of e.term row.content b.0 in
       let plain = also-both (is_plain_in (plan_of rows) row e.term) (λ _. is_one (rows_with e.term rows))
-      (by-content row content (by-test row a.0 (all-each (λ (r : Row). either (not (is_added r)) (λ _. is_plain_alone (plan_of rows) rows r)) rows adds row found.1.0))) in
+      (by-content row content
+      (by-test row a.0 (all-each (λ (r : Row). either (not (is_added r)) (λ _. is_plain_alone (plan_of rows) rows r)) rows adds row found.1.0))) in
       record {
         row = row;
         among = found.1.0;
@@ -128,12 +130,17 @@ module _ (rows : List Row) (es : List Entry) (e : Entry) (own : is_extension e.t
         alone = plain.1;
       }
     where
-      by-test : (row : Row) → is_added row ≡ true → either (not (is_added row)) (λ _. is_plain_alone (plan_of rows) rows row) ≡ true → is_plain_alone (plan_of rows) rows row ≡ true
+      by-test : (row : Row) → is_added row ≡ true → either (not (is_added row)) (λ _. is_plain_alone (plan_of rows) rows row) ≡ true →
+          is_plain_alone (plan_of rows) rows row ≡ true
       by-test row added k = sym (ap (λ b. either (not b) (λ _. is_plain_alone (plan_of rows) rows row)) added) ∙ k
 
-      by-content : (row : Row) → row.content ≡ contents.Term e.term → is_plain_alone (plan_of rows) rows row ≡ true → also (is_plain_in (plan_of rows) row e.term) (λ _. is_one (rows_with e.term rows)) ≡ true
+      by-content : (row : Row) → row.content ≡ contents.Term e.term → is_plain_alone (plan_of rows) rows row ≡ true →
+          also (is_plain_in (plan_of rows) row e.term) (λ _. is_one (rows_with e.term rows)) ≡ true
       by-content row content k =
-          sym (ap (λ (x : Content). elim x [ (contents.Term t) ↦ also (is_plain_in (plan_of rows) row t) (λ _. is_one (rows_with t rows)) | (contents.Constant text) ↦ false ]) content) ∙ k
+          sym (ap (λ (x : Content). elim x [
+            | (contents.Term t) ↦ also (is_plain_in (plan_of rows) row t) (λ _. is_one (rows_with t rows))
+            | (contents.Constant text) ↦ false
+          ]) content) ∙ k
 
   module _ (r : IsAddedRow) where
     typed : form_for r.row.form e.term ≡ r.row.form
@@ -156,8 +163,10 @@ module _ (rows : List Row) (es : List Entry) (e : Entry) (own : is_extension e.t
     pub added-writes : IsInvoice es → Among e es → is_written_plainly_in (plan_of rows) rows es e ≡ true
     added-writes invoice known =
         let value = own-value es e invoice.listed known in
-        let takes = takes-value r.row es e.term e.context e.value (added-typed r.row e.term r.content r.added) slots value (ap (λ f. of_form f e.value) typed ∙ says-own r.row.form e.value r.type) in
-        let due = ap (λ rule. is_some (if_due rule es e.term e.context (formed (form_for r.row.form e.term) es e.context e.value))) (added-says r.row r.added).always in
+        let takes = takes-value r.row es e.term e.context e.value (added-typed r.row e.term r.content r.added) slots value
+        (ap (λ f. of_form f e.value) typed ∙ says-own r.row.form e.value r.type) in
+        let due = ap (λ rule. is_some (if_due rule es e.term e.context (formed (form_for r.row.form e.term) es e.context e.value)))
+        (added-says r.row r.added).always in
         written-by-row (plan_of rows) rows es e r.row r.among
         (or-first (is_plain_in (plan_of rows) r.row e.term && is_written_by r.row e.term es e.context) _
         (and-true (is_plain_in (plan_of rows) r.row e.term) (is_written_by r.row e.term es e.context) r.plain
@@ -166,14 +175,18 @@ module _ (rows : List Row) (es : List Entry) (e : Entry) (own : is_extension e.t
     -- ---- and each row of the term reads it back, since there is no other
 
     pub added-reads : reads_back rows e ≡ true
-    added-reads = each-all (λ (other : Row). not (has_term e.term other) || is_read_back (form_for other.form e.term) e.value) rows (λ other a. by other a (has_term e.term other) refl)
+    added-reads = each-all (λ (other : Row). not (has_term e.term other) || is_read_back (form_for other.form e.term) e.value) rows
+        (λ other a. by other a (has_term e.term other) refl)
       where
         in-rows : (other : Row) → Among other rows → has_term e.term other ≡ true → Among other (rows_with e.term rows)
         in-rows other a has = among-filter (λ (x : Row). has_content e.term x.content) other rows (content-has e.term other.content has) a
 
-        by : (other : Row) → Among other rows → (b : Bool) → has_term e.term other ≡ b → (not (has_term e.term other) || is_read_back (form_for other.form e.term) e.value) ≡ true
+        by : (other : Row) → Among other rows → (b : Bool) → has_term e.term other ≡ b →
+            (not (has_term e.term other) || is_read_back (form_for other.form e.term) e.value) ≡ true
         by other a false none = ap (λ b. not b || is_read_back (form_for other.form e.term) e.value) none
         by other a true has =
-            let same : r.row ≡ other = only-one is_one refl (λ x y xs. refl) (rows_with e.term rows) r.alone r.row other (in-rows r.row r.among r.has) (in-rows other a has) in
+            let same : r.row ≡ other = only-one is_one refl (λ x y xs. refl) (rows_with e.term rows) r.alone r.row other (in-rows r.row r.among r.has)
+            (in-rows other a has) in
             ap (λ b. not b || is_read_back (form_for other.form e.term) e.value) has
-            ∙ (ap (λ (x : Row). is_read_back (form_for x.form e.term) e.value) (sym same) ∙ (ap (λ f. is_read_back f e.value) typed ∙ says-back r.row.form e.value r.type))
+            ∙ (ap (λ (x : Row). is_read_back (form_for x.form e.term) e.value) (sym same) ∙
+            (ap (λ f. is_read_back f e.value) typed ∙ says-back r.row.form e.value r.type))

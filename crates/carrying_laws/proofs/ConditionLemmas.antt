@@ -14,7 +14,10 @@ use Rattle.bind_rows.specs.declared.tables.Which.{Which}
 use Rattle.bind_rows.specs.Same.{choose}
 use Rattle.bind_carrying.specs.declared.carrying.NotCarried.{NotCarried}
 use Rattle.bind_carrying.specs.Tables.{which_of, is_ubl}
-use Rattle.bind_carrying.specs.Carrying.{bt, is_bt, stands, main_term, lacks_main, stands_alone, marks_creditor, is_filler, is_bad_note, has_image, has_bad_code, lacks_means, has_no_currency, is_other_type, same_text, fails, all_conditions, first_at, first_term, told, first_failing, is_row_of, is_unplaced, first_unplaced, entries_fail, answer, is_too_large, entries_carried, carrying}
+use Rattle.bind_carrying.specs.Carrying.{bt, is_bt, stands, main_term, lacks_main, stands_alone, marks_creditor, is_filler, is_bad_note, has_image}
+use Rattle.bind_carrying.specs.Carrying.{has_bad_code, lacks_means, has_no_currency, is_other_type, same_text, fails, all_conditions, first_at, first_term}
+use Rattle.bind_carrying.specs.Carrying.{told, first_failing, is_row_of, is_unplaced, first_unplaced, entries_fail, answer, is_too_large, entries_carried}
+use Rattle.bind_carrying.specs.Carrying.{carrying}
 use Rattle.binding_laws.proofs.ReachLemmas.{Among}
 
 -- ---- no condition fails
@@ -39,17 +42,20 @@ found-none p (y ∷ xs) h x a = go (λ k m. found-none p xs k x m) (p y) refl h 
     go later false e k (inl s) = ap p (sym s) ∙ e
     go later false e k (inr m) = later k m
 
-keeps-all : (conditions : List _) (table : Which) (es : List Entry) → first_failing conditions table es ≡ None → (condition : _) → Among condition conditions → (e : Entry) → Among e es → fails condition table es e ≡ false
+keeps-all : (conditions : List _) (table : Which) (es : List Entry) → first_failing conditions table es ≡ None → (condition : _) → Among condition conditions →
+    (e : Entry) → Among e es → fails condition table es e ≡ false
 keeps-all [] table es h condition c e a = absurd c
 keeps-all (first ∷ conditions) table es h condition c e a =
     go (λ k m. keeps-all conditions table es k condition m e a) (told-none first (first_term (first_at first table es)) (first_failing conditions table es) h) c
   where
-    go : (first_failing conditions table es ≡ None → Among condition conditions → fails condition table es e ≡ false) → (first_term (first_at first table es) ≡ None) × (first_failing conditions table es ≡ None)
+    go : (first_failing conditions table es ≡ None → Among condition conditions → fails condition table es e ≡ false) →
+        (first_term (first_at first table es) ≡ None) × (first_failing conditions table es ≡ None)
         → (first ≡ condition) ⊎ Among condition conditions → fails condition table es e ≡ false
     go later w (inl s) = ap (λ k. fails k table es e) (sym s) ∙ found-none (fails first table es) es (no-term (first_at first table es) w.0) e a
     go later w (inr m) = later w.1 m
 
-keeps : (rows : List Row) (es : List Entry) → entries_fail rows es ≡ None → (condition : _) → Among condition all_conditions → (e : Entry) → Among e es → fails condition (which_of rows) es e ≡ false
+keeps : (rows : List Row) (es : List Entry) → entries_fail rows es ≡ None → (condition : _) → Among condition all_conditions → (e : Entry) → Among e es →
+    fails condition (which_of rows) es e ≡ false
 keeps rows es h condition c e a = keeps-all all_conditions (which_of rows) es h condition c e a
 
 -- each by itself
@@ -98,7 +104,8 @@ entries-keep rows es h = (answered (entries_fail rows es) false (first_unplaced 
 -- ---- 9: each term is one of the semantic model, or the table has an added row of its context and type
 
 pub row-kept : (rows : List Row) (es : List Entry) → entries_carried rows es ≡ Ok tt → (e : Entry) → Among e es → is_unplaced rows e ≡ false
-row-kept rows es h e a = found-none (is_unplaced rows) es (no-fault _ (find (is_unplaced rows) es) (answered (entries_fail rows es) false (first_unplaced rows es) h).1) e a
+row-kept rows es h e a = found-none (is_unplaced rows) es
+    (no-fault _ (find (is_unplaced rows) es) (answered (entries_fail rows es) false (first_unplaced rows es) h).1) e a
   where
     no-fault : (f : Entry → NotCarried) (o : Option Entry) → option_map f o ≡ None → o ≡ None
     no-fault f None k = refl
@@ -117,7 +124,8 @@ not-none : {X : Type 0} (o : Option X) → is_none o ≡ false → is_some o ≡
 not-none None h = absurd (false≢true (sym h))
 not-none (Some x) h = refl
 
-pub main-stands : (rows : List Row) (es : List Entry) → entries_fail rows es ≡ None → (e : Entry) → Among e es → (main : Term) → main_term (is_ubl (which_of rows)) e.term ≡ Some main → is_some (value_in es main e.context) ≡ true
+pub main-stands : (rows : List Row) (es : List Entry) → entries_fail rows es ≡ None → (e : Entry) → Among e es → (main : Term) →
+    main_term (is_ubl (which_of rows)) e.term ≡ Some main → is_some (value_in es main e.context) ≡ true
 main-stands rows es h e a main is =
     not-none (value_in es main e.context) (ap (lacks_main es e) (sym is) ∙ part-kept rows es h e a)
 
@@ -132,10 +140,12 @@ and-not-false true true h e = refl
 and-not-false true false h e = absurd (false≢true (sym h))
 and-not-false false b h e = absurd (false≢true e)
 
-pub image-stands : (rows : List Row) (es : List Entry) → entries_fail rows es ≡ None → (e : Entry) → Among e es → is_bt 8 0 e.term ≡ true → has_image (spelled e.value) ≡ true
+pub image-stands : (rows : List Row) (es : List Entry) → entries_fail rows es ≡ None → (e : Entry) → Among e es → is_bt 8 0 e.term ≡ true →
+    has_image (spelled e.value) ≡ true
 image-stands rows es h e a is =
     and-not-false (is_bt 8 0 e.term) (has_image (spelled e.value))
-    (or-false (is_bt 3 0 e.term && is_other_type (which_of rows) (spelled e.value)) (is_bt 8 0 e.term && not (has_image (spelled e.value))) (code-kept rows es h e a)).1 is
+    (or-false (is_bt 3 0 e.term && is_other_type (which_of rows) (spelled e.value)) (is_bt 8 0 e.term && not (has_image (spelled e.value)))
+    (code-kept rows es h e a)).1 is
 
 -- ---- 7: a VAT total in accounting currency stands beside both currencies
 
@@ -151,5 +161,6 @@ pub currencies-stand : (rows : List Row) (es : List Entry) → entries_fail rows
     → (is_some (value_in es (bt 6) root_context) ≡ true) × (same_text (value_in es (bt 6) root_context) (value_in es (bt 5) root_context) ≡ false)
 currencies-stand rows es h e a is =
     let w = or-false (not (stands es 6)) (same_text (value_in es (bt 6) root_context) (value_in es (bt 5) root_context))
-    (and-false (is_bt 111 0 e.term) (not (stands es 6) || same_text (value_in es (bt 6) root_context) (value_in es (bt 5) root_context)) (currency-kept rows es h e a) is) in
+    (and-false (is_bt 111 0 e.term) (not (stands es 6) || same_text (value_in es (bt 6) root_context) (value_in es (bt 5) root_context))
+    (currency-kept rows es h e a) is) in
     (not-false (stands es 6) w.0, w.1)

@@ -37,11 +37,13 @@ use Rattle.bind_carrying.specs.Carrying.{bt, is_bt, same_text, has_image, entrie
 use Rattle.bind_carrying.specs.Tables.{which_of, is_ubl}
 use Rattle.binding_laws.specs.Apart.{holds_none}
 use Rattle.binding_laws.specs.Known.{known_of}
-use Rattle.binding_laws.specs.Covered.{accounting_terms, is_other_text, is_imaged, is_read_back, reads_back, is_written_plainly_in, has_currencies, is_unmistaken, left_out, holds_plainly}
+use Rattle.binding_laws.specs.Covered.{accounting_terms, is_other_text, is_imaged, is_read_back, reads_back, is_written_plainly_in, has_currencies}
+use Rattle.binding_laws.specs.Covered.{is_unmistaken, left_out, holds_plainly}
 use Rattle.binding_laws.specs.Faultless.{is_if_scheme}
 use Rattle.binding_laws.proofs.ReachLemmas.{Among}
 use Rattle.binding_laws.proofs.ListLemmas.{both-true, not-true}
-use Rattle.carrying_laws.specs.Complete.{also, lets_all, is_if_iban, is_if_not_iban, is_if_no_scheme, is_as_modelled, has_writer, has_attribute, has_coder, rows_with, is_written_in, writes_model, is_readable, reads_term, adds_plainly, mistakes_none, is_complete}
+use Rattle.carrying_laws.specs.Complete.{also, lets_all, is_if_iban, is_if_not_iban, is_if_no_scheme, is_as_modelled, has_writer, has_attribute, has_coder}
+use Rattle.carrying_laws.specs.Complete.{rows_with, is_written_in, writes_model, is_readable, reads_term, adds_plainly, mistakes_none, is_complete}
 use Rattle.carrying_laws.proofs.Disjuncts.{either-or, also-both, or-first, or-second, or-either, and-true}
 use Rattle.carrying_laws.proofs.ConditionLemmas.{image-stands, currencies-stand, entries-keep, row-kept, added-kept}
 use Rattle.carrying_laws.proofs.ModelLemmas as model
@@ -80,7 +82,8 @@ image-by-code code = ap (λ b. bytes_eq (codes "3") code || (bytes_eq (codes "35
 
 -- ---- the table and an invoice that it is to hold
 
-module _ (rows : List Row) (complete : is_complete rows ≡ true) (es : List Entry) (lists : Lists) (invoice : IsInvoice es) (valid : IsValid es lists) (carried : entries_carried rows es ≡ Ok tt) (none : holds_none (left_out rows) es ≡ true) where
+module _ (rows : List Row) (complete : is_complete rows ≡ true) (es : List Entry) (lists : Lists) (invoice : IsInvoice es) (valid : IsValid es lists)
+    (carried : entries_carried rows es ≡ Ok tt) (none : holds_none (left_out rows) es ≡ true) where
   keeps : entries_fail rows es ≡ None
   keeps = entries-keep rows es carried
 
@@ -110,13 +113,15 @@ module _ (rows : List Row) (complete : is_complete rows ≡ true) (es : List Ent
 
   -- ---- each entry is written
 
-  written-in : (e : Entry) → Among e es → is_extension e.term ≡ false → is_written_in (plan_of rows) (known_of rows) left rows ubl e.term (slot_group e.context.outer) (slot_group e.context.inner) ≡ true
+  written-in : (e : Entry) → Among e es → is_extension e.term ≡ false →
+      is_written_in (plan_of rows) (known_of rows) left rows ubl e.term (slot_group e.context.outer) (slot_group e.context.inner) ≡ true
   written-in e a of_model =
       let m = modelled e of_model (all-each is_placed es invoice.placed e a) in
       ap (λ t. is_written_in (plan_of rows) (known_of rows) left rows ubl t (slot_group e.context.outer) (slot_group e.context.inner)) (sym m.term_is)
       ∙ (ap (λ o. is_written_in (plan_of rows) (known_of rows) left rows ubl m.row.term o (slot_group e.context.inner)) m.outer
       ∙ (ap (λ o. is_written_in (plan_of rows) (known_of rows) left rows ubl m.row.term (outer_group m.row.group) o) m.inner
-      ∙ all-each (λ (r : TermRow). is_written_in (plan_of rows) (known_of rows) left rows ubl r.term (outer_group r.group) (inner_group r.group)) terms tests.writes m.row m.known))
+      ∙ all-each (λ (r : TermRow). is_written_in (plan_of rows) (known_of rows) left rows ubl r.term (outer_group r.group) (inner_group r.group)) terms
+      tests.writes m.row m.known))
 
   module _ (e : Entry) (known : Among e es) (of_model : is_extension e.term ≡ false) where
     abbrev outer : Option Group
@@ -206,20 +211,27 @@ module _ (rows : List Row) (complete : is_complete rows ≡ true) (es : List Ent
         nowhere : (text : List ℕ) → row.content ≡ contents.Constant text → has_term e.term row ≡ false
         nowhere text content = ap (λ (x : Content). elim (term_in x) [ None ↦ false | Some t ↦ same_term t e.term ]) content
 
-        at : (list_any (same_term e.term) left ≡ true) ⊎ (is_readable (form_for row.form e.term) e.term ≡ true) → is_read_back (form_for row.form e.term) e.value ≡ true
+        at : (list_any (same_term e.term) left ≡ true) ⊎ (is_readable (form_for row.form e.term) e.term ≡ true) →
+            is_read_back (form_for row.form e.term) e.value ≡ true
         at (inl k) = absurd (false≢true (sym (not-left e known) ∙ k))
         at (inr k) = form-reads (form_for row.form e.term) k
 
-        own-form : (term : Term) → term ≡ e.term → (list_any (same_term term) left || is_readable (form_for row.form term) term) ≡ true → is_read_back (form_for row.form e.term) e.value ≡ true
-        own-form term same h = at (or-either (list_any (same_term e.term) left) (is_readable (form_for row.form e.term) e.term) (subst (λ t. (list_any (same_term t) left || is_readable (form_for row.form t) t) ≡ true) same h))
+        own-form : (term : Term) → term ≡ e.term → (list_any (same_term term) left || is_readable (form_for row.form term) term) ≡ true →
+            is_read_back (form_for row.form e.term) e.value ≡ true
+        own-form term same h = at (or-either (list_any (same_term e.term) left) (is_readable (form_for row.form e.term) e.term)
+            (subst (λ t. (list_any (same_term t) left || is_readable (form_for row.form t) t) ≡ true) same h))
 
-        by-term : (term : Term) → row.content ≡ contents.Term term → (list_any (same_term term) left || is_readable (form_for row.form term) term) ≡ true → (b : Bool) → same_term term e.term ≡ b
+        by-term : (term : Term) → row.content ≡ contents.Term term → (list_any (same_term term) left || is_readable (form_for row.form term) term) ≡ true →
+            (b : Bool) → same_term term e.term ≡ b
             → (not (has_term e.term row) || is_read_back (form_for row.form e.term) e.value) ≡ true
         by-term term content h true same = or-second (not (has_term e.term row)) _ (own-form term (same_term_is term e.term same) h)
         by-term term content h false same = or-first (not (has_term e.term row)) _ (ap not (there term content ∙ same))
 
         go : (content : Content) → row.content ≡ content
-            → (elim content [ (contents.Term term) ↦ list_any (same_term term) left || is_readable (form_for row.form term) term | (contents.Constant text) ↦ true ]) ≡ true
+            → (elim content [
+              | (contents.Term term) ↦ list_any (same_term term) left || is_readable (form_for row.form term) term
+              | (contents.Constant text) ↦ true
+            ]) ≡ true
             → (not (has_term e.term row) || is_read_back (form_for row.form e.term) e.value) ≡ true
         go (contents.Term term) content h = by-term term content h (same_term term e.term) refl
         go (contents.Constant text) content h = or-first (not (has_term e.term row)) _ (ap not (nowhere text content))
@@ -231,13 +243,15 @@ module _ (rows : List Row) (complete : is_complete rows ≡ true) (es : List Ent
     modelled-held = (entry-read, entry-written)
 
   -- an entry of the model by these tests, one of an added term by its own row
-  held-by : (e : Entry) → Among e es → (b : Bool) → is_extension e.term ≡ b → (reads_back rows e ≡ true) × (is_written_plainly_in (plan_of rows) rows es e ≡ true)
+  held-by : (e : Entry) → Among e es → (b : Bool) → is_extension e.term ≡ b → (reads_back rows e ≡ true) ×
+      (is_written_plainly_in (plan_of rows) rows es e ≡ true)
   held-by e known false own = modelled-held e known own
   held-by e known true own =
       let row = added-row rows es e own (added-kept rows e (row-kept rows es carried e known) own) tests.adds in
       (added-reads rows es e own row, added-writes rows es e own row invoice known)
 
-  pub entry-held : (e : Entry) → Among e es → (not (list_any (same_term e.term) left) && (reads_back rows e && is_written_plainly_in (plan_of rows) rows es e)) ≡ true
+  pub entry-held : (e : Entry) → Among e es → (not (list_any (same_term e.term) left) &&
+      (reads_back rows e && is_written_plainly_in (plan_of rows) rows es e)) ≡ true
   entry-held e known =
       let w = held-by e known (is_extension e.term) refl in
       and-true (not (list_any (same_term e.term) left)) (reads_back rows e && is_written_plainly_in (plan_of rows) rows es e) (ap not (not-left e known))
@@ -252,7 +266,8 @@ module _ (rows : List Row) (complete : is_complete rows ≡ true) (es : List Ent
       go true e = absurd (false≢true (sym h ∙ (bytes_eq-Decides b a).1 (sym ((bytes_eq-Decides a b).0 e))))
       go false e = refl
 
-  differ : (five six : Option Value) → is_some five ≡ true → is_some six ≡ true → same_text six five ≡ false → is_other_text (option_map spelled five) (option_map spelled six) ≡ true
+  differ : (five six : Option Value) → is_some five ≡ true → is_some six ≡ true → same_text six five ≡ false →
+      is_other_text (option_map spelled five) (option_map spelled six) ≡ true
   differ None six h k d = absurd (false≢true h)
   differ (Some a) None h k d = absurd (false≢true k)
   differ (Some a) (Some b) h k d = other-text (spelled a) (spelled b) d
@@ -276,6 +291,8 @@ module _ (rows : List Row) (complete : is_complete rows ≡ true) (es : List Ent
 
   pub held : holds_plainly rows es ≡ true
   held =
-      and-true (list_all (λ (e : Entry). not (list_any (same_term e.term) left) && (reads_back rows e && is_written_plainly_in (plan_of rows) rows es e)) es) (has_currencies rows es && list_all (is_unmistaken (plan_of rows) rows es) es)
+      and-true (list_all (λ (e : Entry). not (list_any (same_term e.term) left) && (reads_back rows e && is_written_plainly_in (plan_of rows) rows es e)) es)
+      (has_currencies rows es && list_all (is_unmistaken (plan_of rows) rows es) es)
       (each-all (λ (e : Entry). not (list_any (same_term e.term) left) && (reads_back rows e && is_written_plainly_in (plan_of rows) rows es e)) es entry-held)
-      (and-true (has_currencies rows es) (list_all (is_unmistaken (plan_of rows) rows es) es) currencies-held (each-all (is_unmistaken (plan_of rows) rows es) es entry-unmistaken))
+      (and-true (has_currencies rows es) (list_all (is_unmistaken (plan_of rows) rows es) es) currencies-held
+      (each-all (is_unmistaken (plan_of rows) rows es) es entry-unmistaken))

@@ -34,7 +34,8 @@ use Rattle.binding_laws.specs.Covered.{is_joined, is_like_filler, is_coded_row, 
 use Rattle.binding_laws.proofs.PlainLemmas.{groups-are}
 use Rattle.binding_laws.proofs.ReachLemmas.{Among}
 use Rattle.binding_laws.proofs.ListLemmas.{both-true, not-true}
-use Rattle.carrying_laws.specs.Complete.{stands_with, is_kept_filler, keeps_filler, is_kept_unlike, keeps_together_at, keeps_together, keeps_known, keeps_notes, mistakes_none}
+use Rattle.carrying_laws.specs.Complete.{stands_with, is_kept_filler, keeps_filler, is_kept_unlike, keeps_together_at, keeps_together, keeps_known, keeps_notes}
+use Rattle.carrying_laws.specs.Complete.{mistakes_none}
 use Rattle.carrying_laws.proofs.Disjuncts.{either-or, or-first, or-second, or-either, and-true}
 use Rattle.carrying_laws.proofs.ConditionLemmas.{and-false, creditor-kept, filler-kept, note-kept}
 use Rattle.carrying_laws.proofs.ModelLemmas.{all-each, each-all, IsModelled, modelled}
@@ -73,8 +74,10 @@ coded-same (first ∷ (a ∷ (b ∷ (c ∷ (last ∷ text))))) = ap (λ x. (firs
 
 misread-same : (es : List Entry) (e : Entry) → covered.is_misread_note es e ≡ carried.is_misread_note es e
 misread-same es e =
-    ap (λ x. (same_term e.term subject_code && not x) || (same_term e.term note && (is_none (value_in es subject_code e.context) && covered.is_coded_note (spelled e.value)))) (subject-same (spelled e.value))
-    ∙ ap (λ x. (same_term e.term subject_code && not (carried.is_subject (spelled e.value))) || (same_term e.term note && (is_none (value_in es subject_code e.context) && x))) (coded-same (spelled e.value))
+    ap (λ x. (same_term e.term subject_code && not x) ||
+    (same_term e.term note && (is_none (value_in es subject_code e.context) && covered.is_coded_note (spelled e.value)))) (subject-same (spelled e.value))
+    ∙ ap (λ x. (same_term e.term subject_code && not (carried.is_subject (spelled e.value))) ||
+    (same_term e.term note && (is_none (value_in es subject_code e.context) && x))) (coded-same (spelled e.value))
 
 -- ---- terms that stand in the invoice itself
 
@@ -87,21 +90,25 @@ in-root e p h =
     let w = groups-are e e.term None None refl p h in
     λ z. record { outer = (no-slot e.context.outer w.0) z; inner = (no-slot e.context.inner w.1) z }
 
-module _ (plan : Plan) (rows : List Row) (es : List Entry) (keeps : entries_fail rows es ≡ None) (lists : Lists) (valid : IsValid es lists) (e : Entry) (known : Among e es) (placed : is_placed e ≡ true) where
+module _ (plan : Plan) (rows : List Row) (es : List Entry) (keeps : entries_fail rows es ≡ None) (lists : Lists) (valid : IsValid es lists) (e : Entry)
+    (known : Among e es) (placed : is_placed e ≡ true) where
   abbrev ubl : Bool
   ubl = is_ubl (which_of rows)
 
   -- ---- 3: fillers
 
-  stands-as : (filler : Filler) → same_term filler.beside (bt 14) ≡ true → e.context ≡ root_context → is_some (value_in es filler.beside e.context) ≡ stands es 14
+  stands-as : (filler : Filler) → same_term filler.beside (bt 14) ≡ true → e.context ≡ root_context →
+      is_some (value_in es filler.beside e.context) ≡ stands es 14
   stands-as filler h root = ap (λ t. is_some (value_in es t e.context)) (same_term_is filler.beside (bt 14) h) ∙ ap (λ c. is_some (value_in es (bt 14) c)) root
 
   text-as : (filler : Filler) → bytes_eq filler.text (codes "NA") ≡ true → bytes_eq filler.text (spelled e.value) ≡ bytes_eq (codes "NA") (spelled e.value)
   text-as filler h = ap (λ text. bytes_eq text (spelled e.value)) ((bytes_eq-Decides filler.text (codes "NA")).0 h)
 
-  unfilled : (filler : Filler) → is_kept_filler ubl e.term filler ≡ true → (bytes_eq filler.text (spelled e.value) && is_some (value_in es filler.beside e.context)) ≡ false
+  unfilled : (filler : Filler) → is_kept_filler ubl e.term filler ≡ true →
+      (bytes_eq filler.text (spelled e.value) && is_some (value_in es filler.beside e.context)) ≡ false
   unfilled filler h =
-      let w = both-true ubl ((is_bt 13 0 e.term && (bytes_eq filler.text (codes "NA") && same_term filler.beside (bt 14))) && stands_there e.term None None) h in
+      let w = both-true ubl ((is_bt 13 0 e.term && (bytes_eq filler.text (codes "NA") && same_term filler.beside (bt 14))) &&
+      stands_there e.term None None) h in
       let v = both-true (is_bt 13 0 e.term && (bytes_eq filler.text (codes "NA") && same_term filler.beside (bt 14))) (stands_there e.term None None) w.1 in
       let u = both-true (is_bt 13 0 e.term) (bytes_eq filler.text (codes "NA") && same_term filler.beside (bt 14)) v.0 in
       let t = both-true (bytes_eq filler.text (codes "NA")) (same_term filler.beside (bt 14)) u.1 in
@@ -110,21 +117,29 @@ module _ (plan : Plan) (rows : List Row) (es : List Entry) (keeps : entries_fail
       ∙ and-false (is_bt 13 0 e.term) (bytes_eq (codes "NA") (spelled e.value) && stands es 14)
       (and-false ubl (is_bt 13 0 e.term && (bytes_eq (codes "NA") (spelled e.value) && stands es 14)) (filler-kept rows es keeps e known) w.0) u.0)
 
-  own-filler : (row : Row) (filler : Filler) (content : Content) → row.content ≡ content → (elim content [ (contents.Term term) ↦ is_kept_filler ubl term filler | (contents.Constant text) ↦ true ]) ≡ true
+  own-filler : (row : Row) (filler : Filler) (content : Content) → row.content ≡ content →
+      (elim content [ (contents.Term term) ↦ is_kept_filler ubl term filler | (contents.Constant text) ↦ true ]) ≡ true
       → (has_term e.term row && (bytes_eq filler.text (spelled e.value) && is_some (value_in es filler.beside e.context))) ≡ false
   own-filler row filler (contents.Constant text) is h =
-      ap (λ (x : Content). (elim (term_in x) [ None ↦ false | Some t ↦ same_term t e.term ]) && (bytes_eq filler.text (spelled e.value) && is_some (value_in es filler.beside e.context))) is
+      ap (λ (x : Content). (elim (term_in x) [ None ↦ false | Some t ↦ same_term t e.term ]) &&
+      (bytes_eq filler.text (spelled e.value) && is_some (value_in es filler.beside e.context))) is
   own-filler row filler (contents.Term term) is h =
-      ap (λ (x : Content). (elim (term_in x) [ None ↦ false | Some t ↦ same_term t e.term ]) && (bytes_eq filler.text (spelled e.value) && is_some (value_in es filler.beside e.context))) is
+      ap (λ (x : Content). (elim (term_in x) [ None ↦ false | Some t ↦ same_term t e.term ]) &&
+      (bytes_eq filler.text (spelled e.value) && is_some (value_in es filler.beside e.context))) is
       ∙ go (same_term term e.term) refl
     where
       go : (b : Bool) → same_term term e.term ≡ b → (b && (bytes_eq filler.text (spelled e.value) && is_some (value_in es filler.beside e.context))) ≡ false
       go false same = refl
       go true same = unfilled filler (subst (λ t. is_kept_filler ubl t filler ≡ true) (same_term_is term e.term same) h)
 
-  by-rule : (row : Row) (rule : Written) → (elim rule [ (written.OrFiller filler) ↦ elim row.content [ (contents.Term term) ↦ is_kept_filler ubl term filler | (contents.Constant text) ↦ true ] | _ ↦ true ]) ≡ true
+  by-rule : (row : Row) (rule : Written) →
+      (elim rule [
+        | (written.OrFiller filler) ↦ elim row.content [ (contents.Term term) ↦ is_kept_filler ubl term filler | (contents.Constant text) ↦ true ]
+        | _ ↦ true
+      ]) ≡ true
       → (elim rule [
-        | (written.OrFiller filler) ↦ is_joined plan rows row && (has_term e.term row && (bytes_eq filler.text (spelled e.value) && is_some (value_in es filler.beside e.context)))
+        | (written.OrFiller filler) ↦ is_joined plan rows row &&
+            (has_term e.term row && (bytes_eq filler.text (spelled e.value) && is_some (value_in es filler.beside e.context)))
         | _ ↦ false
       ]) ≡ false
   by-rule row written.Always h = refl
@@ -152,13 +167,16 @@ module _ (plan : Plan) (rows : List Row) (es : List Entry) (keeps : entries_fail
           let w = both-true ubl ((is_bt 29 1 u.term || is_bt 60 1 u.term) && bytes_eq u.text (codes "SEPA")) h in
           let v = both-true (is_bt 29 1 u.term || is_bt 60 1 u.term) (bytes_eq u.text (codes "SEPA")) w.1 in
           let term : (is_bt 29 1 e.term || is_bt 60 1 e.term) ≡ true = ap (λ t. is_bt 29 1 t || is_bt 60 1 t) (same_term_is e.term u.term same) ∙ v.0 in
-          let text : bytes_eq (codes "SEPA") (spelled e.value) ≡ true = ap (λ t. bytes_eq t (spelled e.value)) (sym ((bytes_eq-Decides u.text (codes "SEPA")).0 v.1)) ∙ is in
+          let text : bytes_eq (codes "SEPA") (spelled e.value) ≡ true =
+          ap (λ t. bytes_eq t (spelled e.value)) (sym ((bytes_eq-Decides u.text (codes "SEPA")).0 v.1)) ∙ is in
           absurd (false≢true (sym (and-false (is_bt 29 1 e.term || is_bt 60 1 e.term) (bytes_eq (codes "SEPA") (spelled e.value))
-          (and-false ubl ((is_bt 29 1 e.term || is_bt 60 1 e.term) && bytes_eq (codes "SEPA") (spelled e.value)) (creditor-kept rows es keeps e known) w.0) term) ∙ text))
+          (and-false ubl ((is_bt 29 1 e.term || is_bt 60 1 e.term) && bytes_eq (codes "SEPA") (spelled e.value)) (creditor-kept rows es keeps e known) w.0)
+          term) ∙ text))
 
   -- ---- terms that stand together
 
-  part : (x : Together) → keeps_together ubl x ≡ true → (not (same_term e.term x.term && same_groups (slot_group e.context.outer) (Some x.group)) || is_some (value_in es x.part e.context)) ≡ true
+  part : (x : Together) → keeps_together ubl x ≡ true → (not (same_term e.term x.term && same_groups (slot_group e.context.outer) (Some x.group)) ||
+      is_some (value_in es x.part e.context)) ≡ true
   part x h = by (is_extension e.term) refl (both-true (not (is_extension x.term)) (list_all (keeps_together_at ubl x) terms) h)
     where
       -- no added term is asked for others
@@ -168,7 +186,8 @@ module _ (plan : Plan) (rows : List Row) (es : List Entry) (keeps : entries_fail
       added ext own true same = absurd (false≢true (sym (not-true (is_extension x.term) own) ∙ (ap is_extension (sym (same_term_is e.term x.term same)) ∙ ext)))
 
       go : is_extension e.term ≡ false → (m : IsModelled e)
-          → (not (same_term m.row.term x.term && same_groups (outer_group m.row.group) (Some x.group)) ≡ true) ⊎ (stands_with ubl m.row.term (outer_group m.row.group) (inner_group m.row.group) x.part ≡ true)
+          → (not (same_term m.row.term x.term && same_groups (outer_group m.row.group) (Some x.group)) ≡ true) ⊎
+          (stands_with ubl m.row.term (outer_group m.row.group) (inner_group m.row.group) x.part ≡ true)
           → (not (same_term e.term x.term && same_groups (slot_group e.context.outer) (Some x.group)) || is_some (value_in es x.part e.context)) ≡ true
       go own m (inl n) =
           or-first (not (same_term e.term x.term && same_groups (slot_group e.context.outer) (Some x.group))) _
@@ -186,15 +205,18 @@ module _ (plan : Plan) (rows : List Row) (es : List Entry) (keeps : entries_fail
       by true ext w = added ext w.0 (same_term e.term x.term) refl
       by false own w =
           let m = modelled e own placed in
-          go own m (either-or (not (same_term m.row.term x.term && same_groups (outer_group m.row.group) (Some x.group))) (λ _. stands_with ubl m.row.term (outer_group m.row.group) (inner_group m.row.group) x.part)
+          go own m (either-or (not (same_term m.row.term x.term && same_groups (outer_group m.row.group) (Some x.group)))
+          (λ _. stands_with ubl m.row.term (outer_group m.row.group) (inner_group m.row.group) x.part)
           (all-each (keeps_together_at ubl x) terms w.1 m.row m.known))
 
   as-known : keeps_known (known_of rows) ubl ≡ true → is_as_known (known_of rows) es e ≡ true
   as-known h =
       let w = both-true (list_all (is_kept_unlike ubl) (known_of rows).unlike) (list_all (keeps_together ubl) (known_of rows).together) h in
       and-true (is_other_value (known_of rows) e) (has_parts (known_of rows) es e)
-      (each-all (λ (u : Unlike). not (same_term e.term u.term && bytes_eq u.text (spelled e.value))) (known_of rows).unlike (λ u a. unlike u (all-each (is_kept_unlike ubl) (known_of rows).unlike w.0 u a)))
-      (each-all (λ (x : Together). not (same_term e.term x.term && same_groups (slot_group e.context.outer) (Some x.group)) || is_some (value_in es x.part e.context)) (known_of rows).together
+      (each-all (λ (u : Unlike). not (same_term e.term u.term && bytes_eq u.text (spelled e.value))) (known_of rows).unlike
+      (λ u a. unlike u (all-each (is_kept_unlike ubl) (known_of rows).unlike w.0 u a)))
+      (each-all (λ (x : Together). not (same_term e.term x.term && same_groups (slot_group e.context.outer) (Some x.group)) ||
+      is_some (value_in es x.part e.context)) (known_of rows).together
       (λ x a. part x (all-each (keeps_together ubl) (known_of rows).together w.1 x a)))
 
   -- ---- 4: notes
@@ -203,7 +225,8 @@ module _ (plan : Plan) (rows : List Row) (es : List Entry) (keeps : entries_fail
   no-note h = go (or-either ubl (not (list_any is_coded_row rows)) h)
     where
       go : (ubl ≡ true) ⊎ (not (list_any is_coded_row rows) ≡ true) → is_bad_note rows es e ≡ false
-      go (inl u) = and-last (list_any is_coded_row rows) (is_misread_note es e) (misread-same es e ∙ and-false ubl (carried.is_misread_note es e) (note-kept rows es keeps e known) u)
+      go (inl u) = and-last (list_any is_coded_row rows) (is_misread_note es e)
+          (misread-same es e ∙ and-false ubl (carried.is_misread_note es e) (note-kept rows es keeps e known) u)
       go (inr n) = ap (λ b. b && is_misread_note es e) (not-true _ n)
 
   pub unmistaken : mistakes_none (known_of rows) rows ubl ≡ true → is_unmistaken plan rows es e ≡ true

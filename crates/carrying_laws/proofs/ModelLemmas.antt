@@ -1,5 +1,6 @@
 -- Which row of the semantic model an entry has, and which terms stand in a valid invoice.
-use Rattle.std.proofs.Common.{◌≡◌, ℕ, zero, suc, ◌<◌, Bool, true, false, not, ◌&&◌, ◌||◌, List, [], ◌∷◌, length, get_or, filter, Option, Some, None, ◌⊎◌, inl, inr, All, refl, sym, ap, ◌∙◌, subst, arith}
+use Rattle.std.proofs.Common.{◌≡◌, ℕ, zero, suc, ◌<◌, Bool, true, false, not, ◌&&◌, ◌||◌, List, [], ◌∷◌, length, get_or, filter, Option, Some, None, ◌⊎◌, inl}
+use Rattle.std.proofs.Common.{inr, All, refl, sym, ap, ◌∙◌, subst, arith}
 use Rattle.std.specs.Prelude.{find, is_some, option_map, if◌then◌else◌}
 use Rattle.std.specs.List.{list_all, list_any}
 use Rattle.std.proofs.lemmas.Bool.{false≢true}
@@ -68,7 +69,8 @@ pub all-fails : {X : Type 0} (p : X → Bool) (xs : List X) → list_all p xs �
 all-fails p [] h = absurd (false≢true (sym h))
 all-fails {X = X} p (y ∷ xs) h = go (all-fails p xs) (p y) refl h
   where
-    go : (list_all p xs ≡ false → (x : X) × (Among x xs × (p x ≡ false))) → (b : Bool) → p y ≡ b → (b && list_all p xs) ≡ false → (x : X) × (Among x (y ∷ xs) × (p x ≡ false))
+    go : (list_all p xs ≡ false → (x : X) × (Among x xs × (p x ≡ false))) → (b : Bool) → p y ≡ b → (b && list_all p xs) ≡ false → (x : X) ×
+        (Among x (y ∷ xs) × (p x ≡ false))
     go later true e k = let w = later k in (w.0, (inr w.1.0, w.1.1))
     go later false e k = (y, (inl refl, e))
 
@@ -76,7 +78,8 @@ pub of-filter : {X : Type 0} (p : X → Bool) (x : X) (xs : List X) → Among x 
 of-filter p x [] h = absurd h
 of-filter p x (y ∷ xs) h = go (of-filter p x xs) (p y) refl h
   where
-    go : (Among x (filter p xs) → (Among x xs) × (p x ≡ true)) → (b : Bool) → p y ≡ b → Among x (if b then y ∷ filter p xs else filter p xs) → ((y ≡ x) ⊎ Among x xs) × (p x ≡ true)
+    go : (Among x (filter p xs) → (Among x xs) × (p x ≡ true)) → (b : Bool) → p y ≡ b → Among x (if b then y ∷ filter p xs else filter p xs) →
+        ((y ≡ x) ⊎ Among x xs) × (p x ≡ true)
     go later true k (inl s) = (inl s, ap p (sym s) ∙ k)
     go later true k (inr m) = let w = later m in (inr w.0, w.1)
     go later false k m = let w = later m in (inr w.0, w.1)
@@ -107,7 +110,8 @@ find-some p x (y ∷ xs) a e = go (λ m. find-some p x xs m e) (p y) refl a
 pub value-stands : (es : List Entry) (e : Entry) (term : Term) (c : Context) → Among e es → e.term ≡ term → e.context ≡ c → is_some (value_in es term c) ≡ true
 value-stands es e term c a t at =
     find-some (is_at term c) e es a
-    (and-true (same_term e.term term) (same_context e.context c) (ap (same_term e.term) (sym t) ∙ same_term-itself e.term) (ap (same_context e.context) (sym at) ∙ same_context-itself e.context))
+    (and-true (same_term e.term term) (same_context e.context c) (ap (same_term e.term) (sym t) ∙ same_term-itself e.term)
+    (ap (same_context e.context) (sym at) ∙ same_context-itself e.context))
 
 -- ---- the row of an entry's term
 
@@ -165,17 +169,20 @@ marked marks.After h = absurd (false≢true h)
 stood : (es : List Entry) (c : Context) (term : Term) → Stands es c term → is_some (value_in es term c) ≡ true
 stood es c term s = value-stands es s.entry term c (contains-among s.entry es s.member) s.term_is s.context_is
 
-mandatory-entry : (es : List Entry) (lists : Lists) → IsValid es lists → (e : Entry) → Among e es → (term : Term) → is_mandatory term (slot_group e.context.outer) (slot_group e.context.inner) ≡ true → Stands es e.context term
+mandatory-entry : (es : List Entry) (lists : Lists) → IsValid es lists → (e : Entry) → Among e es → (term : Term) →
+    is_mandatory term (slot_group e.context.outer) (slot_group e.context.inner) ≡ true → Stands es e.context term
 mandatory-entry es lists valid e a term h =
     let found = any-found (is_mandatory_at term (slot_group e.context.outer) (slot_group e.context.inner)) terms h in
     let r : TermRow = found.0 in
-    let w = also-both (same_term r.term term) (λ _. is_mandatory_mark r.mark && (is_repeated r.group && stands_in r.group (slot_group e.context.outer) (slot_group e.context.inner))) found.1.1 in
+    let w = also-both (same_term r.term term) (λ _. is_mandatory_mark r.mark &&
+    (is_repeated r.group && stands_in r.group (slot_group e.context.outer) (slot_group e.context.inner))) found.1.1 in
     let v = both-true (is_mandatory_mark r.mark) (is_repeated r.group && stands_in r.group (slot_group e.context.outer) (slot_group e.context.inner)) w.1 in
     let u = both-true (is_repeated r.group) (stands_in r.group (slot_group e.context.outer) (slot_group e.context.inner)) v.1 in
     subst (Stands es e.context) (same_term_is r.term term w.0)
     ((valid.whole e.context (context-stands es e a)).mandatory r (among-contains r terms found.1.0) u.1 (inl (marked r.mark v.0, IsThere.repeated r.group u.0)))
 
-pub mandatory-stands : (es : List Entry) (lists : Lists) → IsValid es lists → (e : Entry) → Among e es → (term : Term) → is_mandatory term (slot_group e.context.outer) (slot_group e.context.inner) ≡ true
+pub mandatory-stands : (es : List Entry) (lists : Lists) → IsValid es lists → (e : Entry) → Among e es → (term : Term) →
+    is_mandatory term (slot_group e.context.outer) (slot_group e.context.inner) ≡ true
     → is_some (value_in es term e.context) ≡ true
 mandatory-stands es lists valid e a term h = stood es e.context term (mandatory-entry es lists valid e a term h)
 

@@ -22,7 +22,8 @@ use Rattle.carrying_laws.specs.Complete.{is_complete}
 use Rattle.carrying_laws.proofs.ModelLemmas.{each-all}
 use Rattle.carrying_laws.proofs.ConditionLemmas.{row-kept, added-kept}
 use Rattle.carrying_laws.proofs.HeldLemmas.{held}
-use Rattle.carrying_laws.proofs.Computed.{complete-invoice, complete-credit_note, complete-cii, left-invoice, left-credit_note, left-cii, unadded-invoice, unadded-credit_note, unadded-cii}
+use Rattle.carrying_laws.proofs.Computed.{complete-invoice, complete-credit_note, complete-cii, left-invoice, left-credit_note, left-cii, unadded-invoice}
+use Rattle.carrying_laws.proofs.Computed.{unadded-credit_note, unadded-cii}
 
 pub tables-complete : (table : Which) → is_complete (rows_of table) ≡ true
 tables-complete which.Invoice = complete-invoice
@@ -55,10 +56,12 @@ tables-keep table es carried e a = go (is_extension e.term) refl
   where
     go : (b : Bool) → is_extension e.term ≡ b → b ≡ false
     go false own = refl
-    go true own = absurd (false≢true (sym (none-added (rows_of table) (tables-unadded table) e) ∙ added-kept (rows_of table) e (row-kept (rows_of table) es carried e a) own))
+    go true own = absurd (false≢true (sym (none-added (rows_of table) (tables-unadded table) e) ∙
+        added-kept (rows_of table) e (row-kept (rows_of table) es carried e a) own))
 
 none-left : (table : Which) (es : List Entry) → holds_none (left_out (rows_of table)) es ≡ true
 none-left table es = ap (λ left. holds_none left es) (tables-left table) ∙ each-all (λ (e : Entry). not (list_any (same_term e.term) [])) es (λ e a. refl)
 
-pub tables-hold : (table : Which) (es : List Entry) (lists : Lists) → IsInvoice es → IsValid es lists → entries_carried (rows_of table) es ≡ Ok tt → holds_plainly (rows_of table) es ≡ true
+pub tables-hold : (table : Which) (es : List Entry) (lists : Lists) → IsInvoice es → IsValid es lists → entries_carried (rows_of table) es ≡ Ok tt →
+    holds_plainly (rows_of table) es ≡ true
 tables-hold table es lists invoice valid carried = held (rows_of table) (tables-complete table) es lists invoice valid carried (none-left table es)

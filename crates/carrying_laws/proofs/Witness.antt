@@ -58,7 +58,12 @@ abbrev root : ℕ → ℕ → String → Given
 root number part text = record { context = root_context; term = record { number = number; part = part }; text = codes text }
 
 abbrev within_part : Group → ℕ → ℕ → String → Given
-within_part group number part text = record { context = in_outer (record { group = group; index = 1 }); term = record { number = number; part = part }; text = codes text }
+within_part group number part text = record {
+  context = in_outer (record { group = group; index = 1 });
+  term = record { number = number; part = part };
+  text =
+      codes text;
+}
 
 abbrev within : Group → ℕ → String → Given
 within group number text = within_part group number 0 text
@@ -67,8 +72,10 @@ abbrev given : List Given
 given =
     root 1 0 "1" ∷ root 2 0 "2024-01-31" ∷ root 3 0 "380" ∷ root 5 0 "EUR" ∷ root 6 0 "USD" ∷ root 8 0 "3" ∷ root 13 0 "A1" ∷ root 14 0 "B2"
     ∷ within groups.InvoiceNote 21 "AAI" ∷ within groups.InvoiceNote 22 "Note" ∷ root 24 0 "urn:cen.eu:en16931:2017"
-    ∷ root 27 0 "Seller" ∷ within groups.SellerIdentifier 29 "7" ∷ within groups.SellerSchemedIdentifier 29 "5790000435968" ∷ within_part groups.SellerSchemedIdentifier 29 1 "0088"
-    ∷ root 40 0 "DE" ∷ root 44 0 "Buyer" ∷ root 46 0 "5790000435968" ∷ root 46 1 "0088" ∷ root 55 0 "DE" ∷ root 59 0 "Payee" ∷ root 60 0 "5790000435975" ∷ root 60 1 "0088"
+    ∷ root 27 0 "Seller" ∷ within groups.SellerIdentifier 29 "7" ∷ within groups.SellerSchemedIdentifier 29 "5790000435968" ∷ within_part
+    groups.SellerSchemedIdentifier 29 1 "0088"
+    ∷ root 40 0 "DE" ∷ root 44 0 "Buyer" ∷ root 46 0 "5790000435968" ∷ root 46 1 "0088" ∷ root 55 0 "DE" ∷ root 59 0 "Payee" ∷ root 60 0 "5790000435975" ∷ root
+    60 1 "0088"
     ∷ root 81 0 "30" ∷ within groups.CreditTransfer 84 "DE02120300000000202051" ∷ root 90 0 "DE98ZZZ09999999999"
     ∷ root 106 0 "1.00" ∷ root 109 0 "1.00" ∷ root 110 0 "0.19" ∷ root 111 0 "0.21" ∷ root 112 0 "1.19" ∷ root 115 0 "1.19"
     ∷ within groups.VatBreakdown 116 "1.00" ∷ within groups.VatBreakdown 117 "0.19" ∷ within groups.VatBreakdown 118 "S"
@@ -87,7 +94,8 @@ some-from (Some v) h = refl
 fits-given : (g : Given) → is_some (by_type g.term g.text) ≡ true → Fits g.term (value_from (by_type g.term g.text))
 fits-given g h = go (letter_of g.term) refl h
   where
-    go : (o : Option Letter) → letter_of g.term ≡ o → is_some (option_and_then (λ letter. value_of letter g.text) o) ≡ true → Fits g.term (value_from (by_type g.term g.text))
+    go : (o : Option Letter) → letter_of g.term ≡ o → is_some (option_and_then (λ letter. value_of letter g.text) o) ≡ true →
+        Fits g.term (value_from (by_type g.term g.text))
     go None e k = absurd (false≢true k)
     go (Some letter) e k = record {
       letter = letter;
@@ -131,9 +139,13 @@ pub small-valid : IsValid small_invoice built_in_lists
 small-valid = (valid small_invoice built_in_lists).0 small-lacks
 
 pub small-ubl : carrying invoice_rows small_invoice ≡ Ok tt
-unfolding value_of is_char is_white_space terms extension_rows listing_rows parent_of occurrence_of first_row read_scaled written_units read_decimal read_dashed_day day_from read_plain_day scaled_text decimal_text dashed_day_text plain_day_text digits last_digits chars encode_utf8 invoice_listing invoice_rows document_of document_text declaration_line in_value in_text
+unfolding value_of is_char is_white_space terms extension_rows listing_rows parent_of occurrence_of first_row read_scaled written_units read_decimal
+    read_dashed_day day_from read_plain_day scaled_text decimal_text dashed_day_text plain_day_text digits last_digits chars encode_utf8 invoice_listing
+    invoice_rows document_of document_text declaration_line in_value in_text
 small-ubl = refl
 
 pub small-cii : carrying cii_rows small_invoice ≡ Ok tt
-unfolding value_of is_char is_white_space terms extension_rows listing_rows parent_of occurrence_of first_row read_scaled written_units read_decimal read_dashed_day day_from read_plain_day scaled_text decimal_text dashed_day_text plain_day_text digits last_digits chars encode_utf8 cii_listing cii_rows document_of document_text declaration_line in_value in_text
+unfolding value_of is_char is_white_space terms extension_rows listing_rows parent_of occurrence_of first_row read_scaled written_units read_decimal
+    read_dashed_day day_from read_plain_day scaled_text decimal_text dashed_day_text plain_day_text digits last_digits chars encode_utf8 cii_listing cii_rows
+    document_of document_text declaration_line in_value in_text
 small-cii = refl

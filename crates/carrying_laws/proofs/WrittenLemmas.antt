@@ -41,7 +41,9 @@ use Rattle.binding_laws.proofs.ReachLemmas.{Among}
 use Rattle.binding_laws.proofs.ListLemmas.{both-true, not-true}
 use Rattle.binding_laws.proofs.FormLemmas.{modelled-untyped}
 use Rattle.binding_laws.proofs.TakenLemmas as taken
-use Rattle.carrying_laws.specs.Complete.{also, lets_all, is_if_iban, is_if_not_iban, is_if_no_scheme, is_as_modelled, is_of, is_covered_for, is_writer, has_writer, is_mandatory_mark, is_mandatory_at, is_mandatory, is_own_main, stands_with, lets_beside, is_covered_beside, is_main, is_beside, has_attribute, is_note_of, is_coder, has_coder, rows_with}
+use Rattle.carrying_laws.specs.Complete.{also, lets_all, is_if_iban, is_if_not_iban, is_if_no_scheme, is_as_modelled, is_of, is_covered_for, is_writer}
+use Rattle.carrying_laws.specs.Complete.{has_writer, is_mandatory_mark, is_mandatory_at, is_mandatory, is_own_main, stands_with, lets_beside, is_covered_beside}
+use Rattle.carrying_laws.specs.Complete.{is_main, is_beside, has_attribute, is_note_of, is_coder, has_coder, rows_with}
 use Rattle.carrying_laws.proofs.Disjuncts.{either-or, or-either, also-both, and-true, element-writes, attribute-writes, code-writes, written-by-row}
 use Rattle.carrying_laws.proofs.ModelLemmas.{all-each, any-found, of-filter, value-stands, mandatory-stands}
 use Rattle.carrying_laws.proofs.ConditionLemmas.{main-stands}
@@ -65,7 +67,8 @@ some-value : (o : Option Value) → is_some o ≡ true → (v : Value) × (o ≡
 some-value None h = absurd (false≢true h)
 some-value (Some v) h = (v, refl)
 
-text-as : (row : Row) (es : List Entry) (term : Term) (c : Context) (v : Value) → row.content ≡ contents.Term term → is_in_groups row c ≡ true → value_for row es term c ≡ Some v
+text-as : (row : Row) (es : List Entry) (term : Term) (c : Context) (v : Value) → row.content ≡ contents.Term term → is_in_groups row c ≡ true →
+    value_for row es term c ≡ Some v
     → row_text row es c ≡ if_due row.written es term c (formed (form_for row.form term) es c v)
 text-as row es term c v content groups is =
     ap (λ (x : Content). elim x [ (contents.Term t) ↦ term_text row es t (context_for row c) | (contents.Constant text) ↦ None ]) content
@@ -73,14 +76,16 @@ text-as row es term c v content groups is =
     ∙ ap (λ (o : Option Value). elim o [ None ↦ filled row.written es c | Some x ↦ if_due row.written es term c (formed (form_for row.form term) es c x) ]) is)
 
 -- The row writes the value, where it takes it and its rule lets it pass.
-pub takes-and-writes : (row : Row) (es : List Entry) (term : Term) (c : Context) (v : Value) → row.content ≡ contents.Term term → is_in_groups row c ≡ true → value_in es term c ≡ Some v → value_for row es term c ≡ Some v
+pub takes-and-writes : (row : Row) (es : List Entry) (term : Term) (c : Context) (v : Value) → row.content ≡ contents.Term term → is_in_groups row c ≡ true →
+    value_in es term c ≡ Some v → value_for row es term c ≡ Some v
     → is_some (if_due row.written es term c (formed (form_for row.form term) es c v)) ≡ true → is_written_by row term es c ≡ true
 takes-and-writes row es term c v content groups is takes due =
     and-true (is_in_groups row c) (is_some (value_in es term c) && writes_entry row es c) groups
     (and-true (is_some (value_in es term c)) (writes_entry row es c) (ap is_some is) (ap is_some (text-as row es term c v content groups takes) ∙ due))
 
 -- It takes each value of a term of the model.
-writes-value : (row : Row) (es : List Entry) (term : Term) (c : Context) (v : Value) → is_extension term ≡ false → row.content ≡ contents.Term term → is_in_groups row c ≡ true → value_in es term c ≡ Some v
+writes-value : (row : Row) (es : List Entry) (term : Term) (c : Context) (v : Value) → is_extension term ≡ false → row.content ≡ contents.Term term →
+    is_in_groups row c ≡ true → value_in es term c ≡ Some v
     → is_some (if_due row.written es term c (formed (form_for row.form term) es c v)) ≡ true → is_written_by row term es c ≡ true
 writes-value row es term c v own content groups is due =
     takes-and-writes row es term c v content groups is (taken.as-modelled row es term c (modelled-untyped row.form term own) ∙ is) due
@@ -179,18 +184,21 @@ small-first n =
     (or-small n 61 _ refl (or-small n 71 _ refl (or-small n 125 _ refl (λ h. small n 157 h refl)))))))))
 
 small-part : (ubl : Bool) (term : Term) → is_part ubl term ≡ true → nat_le 1001 term.number ≡ false
-small-part ubl term h = elim (or-either (term.part == 1 && (is_first_part term.number || (ubl && (term.number == 18 || term.number == 128)))) (is_bt 125 2 term) h) [
-  | inl a ↦ elim (or-either (is_first_part term.number) (ubl && (term.number == 18 || term.number == 128)) (both-true (term.part == 1) _ a).1) [
-    | inl b ↦ small-first term.number b
-    | inr b ↦ or-small term.number 18 (term.number == 128) refl (λ k. small term.number 128 k refl) (both-true ubl (term.number == 18 || term.number == 128) b).1
-  ]
-  | inr a ↦ small term.number 125 (both-true (term.number == 125) (term.part == 2) a).0 refl
-]
+small-part ubl term h = elim (or-either (term.part == 1 && (is_first_part term.number || (ubl && (term.number == 18 || term.number == 128))))
+    (is_bt 125 2 term) h) [
+      | inl a ↦ elim (or-either (is_first_part term.number) (ubl && (term.number == 18 || term.number == 128)) (both-true (term.part == 1) _ a).1) [
+        | inl b ↦ small-first term.number b
+        | inr b ↦ or-small term.number 18 (term.number == 128) refl (λ k. small term.number 128 k refl)
+            (both-true ubl (term.number == 18 || term.number == 128) b).1
+      ]
+      | inr a ↦ small term.number 125 (both-true (term.number == 125) (term.part == 2) a).0 refl
+    ]
 
 main-small : (ubl : Bool) (term main : Term) → main_term ubl term ≡ Some main → is_extension main ≡ false
 main-small ubl term main h = go (is_part ubl term) refl (is_bt 150 0 term) (ubl && is_bt 82 0 term) h
   where
-    go : (a : Bool) → is_part ubl term ≡ a → (b c : Bool) → (if a then Some (bt term.number) else (if b then Some (bt 149) else (if c then Some (bt 81) else None))) ≡ Some main → is_extension main ≡ false
+    go : (a : Bool) → is_part ubl term ≡ a → (b c : Bool) →
+        (if a then Some (bt term.number) else (if b then Some (bt 149) else (if c then Some (bt 81) else None))) ≡ Some main → is_extension main ≡ false
     go true e b c k = ap is_extension (sym (same_Some _ _ k)) ∙ ap (λ x. x && nat_le term.number 1099) (small-part ubl term e)
     go false e true c k = ap is_extension (sym (same_Some _ _ k))
     go false e false true k = ap is_extension (sym (same_Some _ _ k))
@@ -212,8 +220,10 @@ main-modelled ubl term outer inner main h = go (either-or (is_own_main ubl term 
     go (inl a) = own-main (main_term ubl term) refl a
     go (inr b) =
         let found = any-found (is_mandatory_at main outer inner) terms b in
-        let w = also-both (same_term found.0.term main) (λ _. is_mandatory_mark found.0.mark && (is_repeated found.0.group && stands_in found.0.group outer inner)) found.1.1 in
-        ap is_extension (sym (same_term_is found.0.term main w.0)) ∙ not-true (is_extension found.0.term) (all-each (λ (r : TermRow). not (is_extension r.term)) terms model-terms found.0 found.1.0)
+        let w = also-both (same_term found.0.term main) (λ _. is_mandatory_mark found.0.mark &&
+        (is_repeated found.0.group && stands_in found.0.group outer inner)) found.1.1 in
+        ap is_extension (sym (same_term_is found.0.term main w.0)) ∙
+        not-true (is_extension found.0.term) (all-each (λ (r : TermRow). not (is_extension r.term)) terms model-terms found.0 found.1.0)
 
 -- ---- an entry of the model by the rows of a table
 
@@ -253,18 +263,24 @@ module _ (plan : Plan) (rows : List Row) (es : List Entry) (e : Entry) (known : 
       }
 
   by-writer : (lets : Row → Bool) (w : Writer lets) (v : Value) → value_in es e.term e.context ≡ Some v
-      → is_some (if_due w.row.written es e.term e.context (formed (form_for w.row.form e.term) es e.context v)) ≡ true → is_written_plainly_in plan rows es e ≡ true
+      → is_some (if_due w.row.written es e.term e.context (formed (form_for w.row.form e.term) es e.context v)) ≡ true →
+      is_written_plainly_in plan rows es e ≡ true
   by-writer lets w v is due =
-      written-by-row plan rows es e w.row w.among (element-writes plan rows es e w.row w.covered (writes-value w.row es e.term e.context v modelled w.content w.groups is due))
+      written-by-row plan rows es e w.row w.among
+      (element-writes plan rows es e w.row w.covered (writes-value w.row es e.term e.context v modelled w.content w.groups is due))
 
-  pub by-one : has_writer plan (known_of rows) rows e.term outer inner (λ row. lets_all row.written) (rows_with e.term rows) ≡ true → is_written_plainly_in plan rows es e ≡ true
+  pub by-one : has_writer plan (known_of rows) rows e.term outer inner (λ row. lets_all row.written) (rows_with e.term rows) ≡ true →
+      is_written_plainly_in plan rows es e ≡ true
   by-one h =
       let w = writer (λ row. lets_all row.written) h in
       let v = some-value (value_in es e.term e.context) stands-here in
-      by-writer (λ row. lets_all row.written) w v.0 v.1 (all-due w.row.written w.passes es e.term e.context (formed (form_for w.row.form e.term) es e.context v.0))
+      by-writer (λ row. lets_all row.written) w v.0 v.1
+      (all-due w.row.written w.passes es e.term e.context (formed (form_for w.row.form e.term) es e.context v.0))
 
-  pub by-iban : has_writer plan (known_of rows) rows e.term outer inner (λ row. is_if_iban row.written && is_as_modelled e.term row) (rows_with e.term rows) ≡ true
-      → has_writer plan (known_of rows) rows e.term outer inner (λ row. is_if_not_iban row.written && is_as_modelled e.term row) (rows_with e.term rows) ≡ true → is_written_plainly_in plan rows es e ≡ true
+  pub by-iban : has_writer plan (known_of rows) rows e.term outer inner (λ row. is_if_iban row.written && is_as_modelled e.term row)
+      (rows_with e.term rows) ≡ true
+      → has_writer plan (known_of rows) rows e.term outer inner (λ row. is_if_not_iban row.written && is_as_modelled e.term row) (rows_with e.term rows) ≡ true
+      → is_written_plainly_in plan rows es e ≡ true
   by-iban h k =
       let v = some-value (value_in es e.term e.context) stands-here in
       go v.0 v.1 (is_iban (spelled v.0)) refl
@@ -288,12 +304,14 @@ module _ (plan : Plan) (rows : List Row) (es : List Entry) (e : Entry) (known : 
           ∙ if-so-some (not (is_iban (spelled v))) (spelled v) (ap not iban)))
 
   pub by-scheme : has_writer plan (known_of rows) rows e.term outer inner (λ row. is_if_scheme row.written) (rows_with e.term rows) ≡ true
-      → has_writer plan (known_of rows) rows e.term outer inner (λ row. is_if_no_scheme row.written) (rows_with e.term rows) ≡ true → is_written_plainly_in plan rows es e ≡ true
+      → has_writer plan (known_of rows) rows e.term outer inner (λ row. is_if_no_scheme row.written) (rows_with e.term rows) ≡ true →
+      is_written_plainly_in plan rows es e ≡ true
   by-scheme h k =
       let v = some-value (value_in es e.term e.context) stands-here in
       go v.0 v.1 (is_some (value_in es (scheme_of e.term) e.context)) refl
     where
-      go : (v : Value) → value_in es e.term e.context ≡ Some v → (b : Bool) → is_some (value_in es (scheme_of e.term) e.context) ≡ b → is_written_plainly_in plan rows es e ≡ true
+      go : (v : Value) → value_in es e.term e.context ≡ Some v → (b : Bool) → is_some (value_in es (scheme_of e.term) e.context) ≡ b →
+          is_written_plainly_in plan rows es e ≡ true
       go v is true scheme =
           let lets : Row → Bool = λ row. is_if_scheme row.written in
           let w = writer lets h in
@@ -305,7 +323,8 @@ module _ (plan : Plan) (rows : List Row) (es : List Entry) (e : Entry) (known : 
           let w = writer lets k in
           by-writer lets w v is
           (ap (λ rule. is_some (if_due rule es e.term e.context (formed (form_for w.row.form e.term) es e.context v))) (no-scheme-rule w.row.written w.passes)
-          ∙ if-so-some (is_none (value_in es (scheme_of e.term) e.context)) (formed (form_for w.row.form e.term) es e.context v) (not-some (value_in es (scheme_of e.term) e.context) scheme))
+          ∙ if-so-some (is_none (value_in es (scheme_of e.term) e.context)) (formed (form_for w.row.form e.term) es e.context v)
+          (not-some (value_in es (scheme_of e.term) e.context) scheme))
 
   -- ---- at an attribute
 
@@ -318,7 +337,8 @@ module _ (plan : Plan) (rows : List Row) (es : List Entry) (e : Entry) (known : 
       go (inr b) =
           let w = both-true (is_if_scheme rule) (same_term (scheme_of main) e.term) b in
           ap (λ r. is_some (if_due r es main e.context text)) (scheme-rule rule w.0)
-          ∙ if-so-some (is_some (value_in es (scheme_of main) e.context)) text (ap (λ t. is_some (value_in es t e.context)) (same_term_is (scheme_of main) e.term w.1) ∙ stands-here)
+          ∙ if-so-some (is_some (value_in es (scheme_of main) e.context)) text
+          (ap (λ t. is_some (value_in es t e.context)) (same_term_is (scheme_of main) e.term w.1) ∙ stands-here)
 
   own-main : (ubl : Bool) (main : Term) → is_own_main ubl e.term main ≡ true → main_term ubl e.term ≡ Some main
   own-main ubl main h = go (main_term ubl e.term) refl h
@@ -335,50 +355,69 @@ module _ (plan : Plan) (rows : List Row) (es : List Entry) (e : Entry) (known : 
         go (inl a) = main-stands rows es keeps e known main (own-main (is_ubl (which_of rows)) main a)
         go (inr b) = mandatory-stands es lists valid e known main b
 
-    by-main : (row main : Row) (term : Term) → Among row rows → Among main rows → main.content ≡ contents.Term term → is_main plan (known_of rows) (is_ubl (which_of rows)) e.term outer inner row main term ≡ true → is_written_plainly_in plan rows es e ≡ true
+    by-main : (row main : Row) (term : Term) → Among row rows → Among main rows → main.content ≡ contents.Term term →
+        is_main plan (known_of rows) (is_ubl (which_of rows)) e.term outer inner row main term ≡ true → is_written_plainly_in plan rows es e ≡ true
     by-main row main term a b content h =
         let ubl : Bool = is_ubl (which_of rows) in
         let w = also-both (pointwise same_step row.path main.path)
-        (λ _. also (is_of outer inner main && lets_beside e.term term main.written) (λ _. also (stands_with ubl e.term outer inner term) (λ _. is_covered_beside plan (known_of rows) e.term row main term))) h in
-        let v = also-both (is_of outer inner main && lets_beside e.term term main.written) (λ _. also (stands_with ubl e.term outer inner term) (λ _. is_covered_beside plan (known_of rows) e.term row main term)) w.1 in
+        (λ _. also (is_of outer inner main && lets_beside e.term term main.written)
+        (λ _. also (stands_with ubl e.term outer inner term) (λ _. is_covered_beside plan (known_of rows) e.term row main term))) h in
+        let v = also-both (is_of outer inner main && lets_beside e.term term main.written)
+        (λ _. also (stands_with ubl e.term outer inner term) (λ _. is_covered_beside plan (known_of rows) e.term row main term)) w.1 in
         let u = both-true (is_of outer inner main) (lets_beside e.term term main.written) v.0 in
         let t = also-both (stands_with ubl e.term outer inner term) (λ _. is_covered_beside plan (known_of rows) e.term row main term) v.1 in
         let x = some-value (value_in es term e.context) (main-here term t.0) in
         written-by-row plan rows es e row a
-        (attribute-writes plan rows es e row main term b content t.1 (writes-value main es term e.context x.0 (main-modelled ubl e.term outer inner term t.0) content u.0 x.1 (main-due term main.written u.1 (formed (form_for main.form term) es e.context x.0))))
+        (attribute-writes plan rows es e row main term b content t.1
+        (writes-value main es term e.context x.0 (main-modelled ubl e.term outer inner term t.0) content u.0 x.1
+        (main-due term main.written u.1 (formed (form_for main.form term) es e.context x.0))))
 
-    by-beside : (row main : Row) → Among row rows → Among main rows → is_beside plan (known_of rows) (is_ubl (which_of rows)) e.term outer inner row main ≡ true → is_written_plainly_in plan rows es e ≡ true
+    by-beside : (row main : Row) → Among row rows → Among main rows → is_beside plan (known_of rows) (is_ubl (which_of rows)) e.term outer inner row main ≡ true
+        → is_written_plainly_in plan rows es e ≡ true
     by-beside row main a b h = go main.content refl h
       where
         go : (content : Content) → main.content ≡ content
-            → (elim content [ (contents.Term main_t) ↦ is_main plan (known_of rows) (is_ubl (which_of rows)) e.term outer inner row main main_t | (contents.Constant text) ↦ false ]) ≡ true → is_written_plainly_in plan rows es e ≡ true
+            → (elim content [
+              | (contents.Term main_t) ↦ is_main plan (known_of rows) (is_ubl (which_of rows)) e.term outer inner row main main_t
+              | (contents.Constant text) ↦ false
+            ]) ≡ true → is_written_plainly_in plan rows es e ≡ true
         go (contents.Term term) content k = by-main row main term a b content k
         go (contents.Constant text) content k = absurd (false≢true k)
 
-    pub by-attribute : has_attribute plan (known_of rows) rows (is_ubl (which_of rows)) e.term outer inner (rows_with e.term rows) ≡ true → is_written_plainly_in plan rows es e ≡ true
+    pub by-attribute : has_attribute plan (known_of rows) rows (is_ubl (which_of rows)) e.term outer inner (rows_with e.term rows) ≡ true →
+        is_written_plainly_in plan rows es e ≡ true
     by-attribute h =
-        let found = any-found (λ (row : Row). list_any (is_beside plan (known_of rows) (is_ubl (which_of rows)) e.term outer inner row) rows) (rows_with e.term rows) h in
+        let found = any-found (λ (row : Row). list_any (is_beside plan (known_of rows) (is_ubl (which_of rows)) e.term outer inner row) rows)
+        (rows_with e.term rows) h in
         let row : Row = found.0 in
         let main = any-found (is_beside plan (known_of rows) (is_ubl (which_of rows)) e.term outer inner row) rows found.1.1 in
         by-beside row main.0 (of-filter (λ (r : Row). has_content e.term r.content) row rows found.1.0).0 main.1.0 main.1.1
 
     -- ---- a subject code
 
-    by-note : (row : Row) (term : Term) → Among row rows → row.content ≡ contents.Term term → same_term e.term subject_code ≡ true → is_note_of plan rows (is_ubl (which_of rows)) e.term outer inner row term ≡ true → is_written_plainly_in plan rows es e ≡ true
+    by-note : (row : Row) (term : Term) → Among row rows → row.content ≡ contents.Term term → same_term e.term subject_code ≡ true →
+        is_note_of plan rows (is_ubl (which_of rows)) e.term outer inner row term ≡ true → is_written_plainly_in plan rows es e ≡ true
     by-note row term a content code h =
         let ubl : Bool = is_ubl (which_of rows) in
-        let w = also-both (lets_all row.written && is_of outer inner row) (λ _. also (stands_with ubl e.term outer inner term) (λ _. is_noted_in plan rows row term)) h in
+        let w = also-both (lets_all row.written && is_of outer inner row)
+        (λ _. also (stands_with ubl e.term outer inner term) (λ _. is_noted_in plan rows row term)) h in
         let v = both-true (lets_all row.written) (is_of outer inner row) w.0 in
         let u = also-both (stands_with ubl e.term outer inner term) (λ _. is_noted_in plan rows row term) w.1 in
         let x = some-value (value_in es term e.context) (main-here term u.0) in
         written-by-row plan rows es e row a
-        (code-writes plan rows es e row term content code u.1 (writes-value row es term e.context x.0 (main-modelled ubl e.term outer inner term u.0) content v.1 x.1 (all-due row.written v.0 es term e.context (formed (form_for row.form term) es e.context x.0))))
+        (code-writes plan rows es e row term content code u.1
+        (writes-value row es term e.context x.0 (main-modelled ubl e.term outer inner term u.0) content v.1 x.1
+        (all-due row.written v.0 es term e.context (formed (form_for row.form term) es e.context x.0))))
 
-    by-coder : (row : Row) → Among row rows → same_term e.term subject_code ≡ true → is_coder plan rows (is_ubl (which_of rows)) e.term outer inner row ≡ true → is_written_plainly_in plan rows es e ≡ true
+    by-coder : (row : Row) → Among row rows → same_term e.term subject_code ≡ true → is_coder plan rows (is_ubl (which_of rows)) e.term outer inner row ≡ true →
+        is_written_plainly_in plan rows es e ≡ true
     by-coder row a code h = go row.content refl h
       where
         go : (content : Content) → row.content ≡ content
-            → (elim content [ (contents.Term term) ↦ is_note_of plan rows (is_ubl (which_of rows)) e.term outer inner row term | (contents.Constant text) ↦ false ]) ≡ true → is_written_plainly_in plan rows es e ≡ true
+            → (elim content [
+              | (contents.Term term) ↦ is_note_of plan rows (is_ubl (which_of rows)) e.term outer inner row term
+              | (contents.Constant text) ↦ false
+            ]) ≡ true → is_written_plainly_in plan rows es e ≡ true
         go (contents.Term term) content k = by-note row term a content code k
         go (contents.Constant text) content k = absurd (false≢true k)
 

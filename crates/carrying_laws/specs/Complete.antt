@@ -27,7 +27,8 @@ use Rattle.bind_meaning.specs.Values.{subject_code, form_for}
 use Rattle.bind_meaning.specs.Writing.{scheme_of}
 use Rattle.binding_laws.specs.Apart.{Unlike, Together, Known}
 use Rattle.binding_laws.specs.Known.{known_of}
-use Rattle.binding_laws.specs.Plain.{is_one, has_content, stands_there, is_plain_in, is_plain_with, is_spread_in, is_spread_with, is_plain_attribute_in, is_plain_attribute_with, is_spread_attribute_in}
+use Rattle.binding_laws.specs.Plain.{is_one, has_content, stands_there, is_plain_in, is_plain_with, is_spread_in, is_spread_with, is_plain_attribute_in}
+use Rattle.binding_laws.specs.Plain.{is_plain_attribute_with, is_spread_attribute_in}
 use Rattle.binding_laws.specs.Covered.{is_filled_in, is_total_in, is_pair_in, is_noted_in, is_coded_row, accounting_terms, left_out}
 use Rattle.binding_laws.specs.Faultless.{is_if_scheme, is_model}
 use Rattle.bind_carrying.specs.Carrying.{bt, is_bt, main_term}
@@ -125,7 +126,8 @@ is_covered_beside plan known term row main main_t =
 
 abbrev pub is_main : Plan → Known → Bool → Term → Option Group → Option Group → Row → Row → Term → Bool
 is_main plan known ubl term outer inner row main main_t =
-    also (pointwise same_step row.path main.path) (λ _. also (is_of outer inner main && lets_beside term main_t main.written) (λ _. also (stands_with ubl term outer inner main_t) (λ _. is_covered_beside plan known term row main main_t)))
+    also (pointwise same_step row.path main.path) (λ _. also (is_of outer inner main && lets_beside term main_t main.written)
+    (λ _. also (stands_with ubl term outer inner main_t) (λ _. is_covered_beside plan known term row main main_t)))
 
 abbrev pub is_beside : Plan → Known → Bool → Term → Option Group → Option Group → Row → Row → Bool
 is_beside plan known ubl term outer inner row main = elim main.content [
@@ -162,8 +164,10 @@ abbrev pub is_written_by_some : Plan → Known → List Term → List Row → Bo
 is_written_by_some plan known left rows ubl term outer inner own =
     either (list_any (same_term term) left) (λ _.
     either (has_writer plan known rows term outer inner (λ row. lets_all row.written) own) (λ _.
-    either (also (has_writer plan known rows term outer inner (λ row. is_if_iban row.written && is_as_modelled term row) own) (λ _. has_writer plan known rows term outer inner (λ row. is_if_not_iban row.written && is_as_modelled term row) own)) (λ _.
-    either (also (has_writer plan known rows term outer inner (λ row. is_if_scheme row.written) own) (λ _. has_writer plan known rows term outer inner (λ row. is_if_no_scheme row.written) own)) (λ _.
+    either (also (has_writer plan known rows term outer inner (λ row. is_if_iban row.written && is_as_modelled term row) own)
+    (λ _. has_writer plan known rows term outer inner (λ row. is_if_not_iban row.written && is_as_modelled term row) own)) (λ _.
+    either (also (has_writer plan known rows term outer inner (λ row. is_if_scheme row.written) own)
+    (λ _. has_writer plan known rows term outer inner (λ row. is_if_no_scheme row.written) own)) (λ _.
     either (has_attribute plan known rows ubl term outer inner own) (λ _. has_coder plan rows ubl term outer inner)))))
 
 abbrev pub rows_with : Term → List Row → List Row
@@ -173,7 +177,8 @@ abbrev pub is_written_in : Plan → Known → List Term → List Row → Bool �
 is_written_in plan known left rows ubl term outer inner = is_written_by_some plan known left rows ubl term outer inner (rows_with term rows)
 
 abbrev pub writes_model : Plan → Known → List Term → List Row → Bool → Bool
-writes_model plan known left rows ubl = list_all (λ (r : TermRow). is_written_in plan known left rows ubl r.term (outer_group r.group) (inner_group r.group)) terms
+writes_model plan known left rows ubl = list_all (λ (r : TermRow). is_written_in plan known left rows ubl r.term (outer_group r.group) (inner_group r.group))
+    terms
 
 -- ---- values that are read back
 
@@ -213,7 +218,8 @@ is_kept_unlike ubl u = ubl && ((is_bt 29 1 u.term || is_bt 60 1 u.term) && bytes
 -- Where the first term stands in an occurrence of the group, so does the second.
 abbrev pub keeps_together_at : Bool → Together → TermRow → Bool
 keeps_together_at ubl x r =
-    either (not (same_term r.term x.term && same_groups (outer_group r.group) (Some x.group))) (λ _. stands_with ubl r.term (outer_group r.group) (inner_group r.group) x.part)
+    either (not (same_term r.term x.term && same_groups (outer_group r.group) (Some x.group)))
+    (λ _. stands_with ubl r.term (outer_group r.group) (inner_group r.group) x.part)
 
 abbrev pub keeps_together : Bool → Together → Bool
 keeps_together ubl x = not (is_extension x.term) && list_all (keeps_together_at ubl x) terms
@@ -245,7 +251,8 @@ adds_plainly plan rows = list_all (λ row. either (not (is_added row)) (λ _. is
 
 abbrev pub is_complete_in : Plan → Known → List Term → List Row → Bool → Bool
 is_complete_in plan known left rows ubl =
-    writes_model plan known left rows ubl && (list_all (reads_term left) rows && (list_all (same_term (bt 111)) (accounting_terms rows) && (adds_plainly plan rows && mistakes_none known rows ubl)))
+    writes_model plan known left rows ubl && (list_all (reads_term left) rows &&
+    (list_all (same_term (bt 111)) (accounting_terms rows) && (adds_plainly plan rows && mistakes_none known rows ubl)))
 
 -- Each value of a valid invoice that the table can carry is written by a covered row, read back, and not taken for
 -- something else, unless its term is left out; no VAT total is in accounting currency but BT-111; and rows that users added

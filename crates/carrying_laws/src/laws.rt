@@ -14,7 +14,8 @@ ghost use Rattle.bind_meaning.specs.Tables.{rows_of};
 ghost use Rattle.bind_meaning.specs.Terms.{Read, terms_of};
 ghost use Rattle.bind_meaning.specs.Trees.{document_of};
 ghost use Rattle.bind_carrying.specs.Tables.{which_of};
-ghost use Rattle.bind_carrying.specs.Carrying.{stands_alone, marks_creditor, is_filler, is_bad_note, has_bad_code, lacks_means, has_no_currency, is_unplaced, entries_fail, entries_carried, carrying};
+ghost use Rattle.bind_carrying.specs.Carrying.{stands_alone, marks_creditor, is_filler, is_bad_note, has_bad_code, lacks_means, has_no_currency, is_unplaced};
+ghost use Rattle.bind_carrying.specs.Carrying.{entries_fail, entries_carried, carrying};
 ghost use Rattle.binding_laws.specs.Apart.{holds_none};
 ghost use Rattle.binding_laws.specs.Covered.{left_out, holds_plainly};
 ghost use Rattle.carrying_laws.specs.Complete.{is_complete};
@@ -44,14 +45,16 @@ pub fn carried_invoices_meet_each_condition()
     ensures entries { (rows : List Row) (es : List Entry) → carrying rows es ≡ Ok tt → entries_carried rows es ≡ Ok tt }
     ensures fails { (rows : List Row) (es : List Entry) → entries_carried rows es ≡ Ok tt → entries_fail rows es ≡ None }
     ensures part { (rows : List Row) (es : List Entry) (e : Entry) → entries_fail rows es ≡ None → Contains es e → stands_alone (which_of rows) es e ≡ false }
-    ensures creditor { (rows : List Row) (es : List Entry) (e : Entry) → entries_fail rows es ≡ None → Contains es e → marks_creditor (which_of rows) e ≡ false }
+    ensures creditor { (rows : List Row) (es : List Entry) (e : Entry) → entries_fail rows es ≡ None → Contains es e →
+        marks_creditor (which_of rows) e ≡ false }
     ensures filler { (rows : List Row) (es : List Entry) (e : Entry) → entries_fail rows es ≡ None → Contains es e → is_filler (which_of rows) es e ≡ false }
     ensures note { (rows : List Row) (es : List Entry) (e : Entry) → entries_fail rows es ≡ None → Contains es e → is_bad_note (which_of rows) es e ≡ false }
     ensures code { (rows : List Row) (es : List Entry) (e : Entry) → entries_fail rows es ≡ None → Contains es e → has_bad_code (which_of rows) e ≡ false }
     ensures means { (rows : List Row) (es : List Entry) (e : Entry) → entries_fail rows es ≡ None → Contains es e → lacks_means (which_of rows) es e ≡ false }
     ensures currency { (rows : List Row) (es : List Entry) (e : Entry) → entries_fail rows es ≡ None → Contains es e → has_no_currency es e ≡ false }
     ensures placed { (rows : List Row) (es : List Entry) (e : Entry) → entries_carried rows es ≡ Ok tt → Contains es e → is_unplaced rows e ≡ false }
-    ensures modelled { (table : Which) (es : List Entry) (e : Entry) → entries_carried (rows_of table) es ≡ Ok tt → Contains es e → is_extension e.term ≡ false }
+    ensures modelled { (table : Which) (es : List Entry) (e : Entry) → entries_carried (rows_of table) es ≡ Ok tt → Contains es e →
+        is_extension e.term ≡ false }
 {}
 
 /// In each of the three tables: a valid invoice that meets the conditions of carrying is held.

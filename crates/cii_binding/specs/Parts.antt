@@ -11,7 +11,8 @@ use Rattle.bind_rows.specs.declared.guards.Test.{Test}
 use Rattle.bind_rows.specs.declared.rows.Check.TheVariants as checks
 use Rattle.bind_rows.specs.declared.rows.Form.TheVariants as forms
 use Rattle.bind_rows.specs.declared.rows.Written.TheVariants as written
-use Rattle.bind_table.specs.Listings.{Listing, nothing, Value, Placed, bt, term, part, constant, in_form, when, checked, named, element, at_element, at, ◌◂◌, each, given, guard, one_of, none_of}
+use Rattle.bind_table.specs.Listings.{Listing, nothing, Value, Placed, bt, term, part, constant, in_form, when, checked, named, element, at_element, at, ◌◂◌}
+use Rattle.bind_table.specs.Listings.{each, given, guard, one_of, none_of}
 
 -- Most elements are in the namespace of aggregates.
 abbrev pub holding : String → Listing → Listing

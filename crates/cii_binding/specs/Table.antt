@@ -6,7 +6,9 @@ use Rattle.bind_rows.specs.declared.rows.Form.TheVariants as forms
 use Rattle.bind_rows.specs.declared.rows.Row.{Row}
 use Rattle.bind_rows.specs.declared.rows.Written.TheVariants as written
 use Rattle.bind_table.specs.Listings.{Listing, bt, part, constant, spread, in_form, when, named, element, at, ◌◂◌, each, always, given, rows_of}
-use Rattle.cii_binding.specs.Parts.{holding, leaf_in, leaf, leaf_with, type_code, date_leaf, date, identifier, global_identifier, identifiers, address, tax_registration, contact, electronic_address, reference, period, document_allowance, document_charge, line_allowance, line_charge}
+use Rattle.cii_binding.specs.Parts.{holding, leaf_in, leaf, leaf_with, type_code, date_leaf, date, identifier, global_identifier, identifiers, address}
+use Rattle.cii_binding.specs.Parts.{tax_registration, contact, electronic_address, reference, period, document_allowance, document_charge, line_allowance}
+use Rattle.cii_binding.specs.Parts.{line_charge}
 
 abbrev pub context : Listing
 context =

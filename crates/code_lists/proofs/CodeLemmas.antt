@@ -1,5 +1,6 @@
 -- A set of codes, kept as texts, as the list of codes that contracts see.
-use Rattle.std.proofs.Common.{◌≡◌, ℕ, Bool, true, false, List, [], ◌∷◌, ◌++◌, map, refl, sym, ap, ◌∙◌, String, string_bytes, chars, ◌||◌, if◌then◌else◌, ◌<◌, nat_lt, arith}
+use Rattle.std.proofs.Common.{◌≡◌, ℕ, Bool, true, false, List, [], ◌∷◌, ◌++◌, map, refl, sym, ap, ◌∙◌, String, string_bytes, chars, ◌||◌, if◌then◌else◌, ◌<◌}
+use Rattle.std.proofs.Common.{nat_lt, arith}
 use Rattle.std.specs.Global.{Global}
 use Rattle.std.specs.Str.{bytes_eq, IsUtf8, encode_utf8_all}
 use Rattle.std.specs.List.{list_any, list_all}
@@ -24,10 +25,12 @@ same_text a b u v = same_from_decides _ _ (bytes_eq-Decides (chars a) (chars b))
 module _ (q : List ℕ) (u : IsUtf8 q) where
   pub has_text : (keys : List (String Global)) → has_code (texts_of keys) (chars q) ≡ list_any (λ k. bytes_eq q (string_bytes k)) keys
   has_text [] = refl
-  has_text (k ∷ keys) = ap (λ b. b || has_code (texts_of keys) (chars q)) (same_text q (string_bytes k) u (IsUtf8-string_bytes k)) ∙ ap (λ b. bytes_eq q (string_bytes k) || b) (has_text keys)
+  has_text (k ∷ keys) = ap (λ b. b || has_code (texts_of keys) (chars q)) (same_text q (string_bytes k) u (IsUtf8-string_bytes k)) ∙
+      ap (λ b. bytes_eq q (string_bytes k) || b) (has_text keys)
 
   -- what a look-up says
-  pub found_text : (keys : List (String Global)) (codes : List (List ℕ)) (r : Bool) → texts_of keys ≡ codes → r ≡ list_any (λ k. bytes_eq q (string_bytes k)) keys → r ≡ has_code codes (chars q)
+  pub found_text : (keys : List (String Global)) (codes : List (List ℕ)) (r : Bool) → texts_of keys ≡ codes →
+      r ≡ list_any (λ k. bytes_eq q (string_bytes k)) keys → r ≡ has_code codes (chars q)
   found_text keys codes r view found = found ∙ (sym (has_text keys) ∙ ap (λ codes. has_code codes (chars q)) view)
 
   added_by : (b : Bool) (key : String Global) (keys : List (String Global)) → string_bytes key ≡ q
@@ -37,7 +40,8 @@ module _ (q : List ℕ) (u : IsUtf8 q) where
 
   -- what an insertion leaves
   pub added_text : (key : String Global) (keys more : List (String Global)) (codes : List (List ℕ)) → texts_of keys ≡ codes → string_bytes key ≡ q
-      → more ≡ (if list_any (λ k. bytes_eq (string_bytes key) (string_bytes k)) keys then keys else keys ++ key ∷ []) → texts_of more ≡ with_code codes (chars q)
+      → more ≡ (if list_any (λ k. bytes_eq (string_bytes key) (string_bytes k)) keys then keys else keys ++ key ∷ []) →
+      texts_of more ≡ with_code codes (chars q)
   added_text key keys more codes view same after =
       let test : list_any (λ k. bytes_eq (string_bytes key) (string_bytes k)) keys ≡ has_code (texts_of keys) (chars q) =
       ap (λ x. list_any (λ k. bytes_eq x (string_bytes k)) keys) same ∙ sym (has_text keys) in

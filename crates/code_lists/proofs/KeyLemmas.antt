@@ -1,5 +1,6 @@
 -- The first key in byte order, of keys that ascend.
-use Rattle.std.proofs.Common.{◌≡◌, ℕ, Bool, true, false, List, [], ◌∷◌, map, Option, Some, None, Ordering, Less, refl, sym, ap, ◌∙◌, if◌then◌else◌, nat_cmp, String, string_bytes, find, filter}
+use Rattle.std.proofs.Common.{◌≡◌, ℕ, Bool, true, false, List, [], ◌∷◌, map, Option, Some, None, Ordering, Less, refl, sym, ap, ◌∙◌, if◌then◌else◌, nat_cmp}
+use Rattle.std.proofs.Common.{String, string_bytes, find, filter}
 use Rattle.std.specs.Global.{Global}
 use Rattle.std.specs.List.{AllByRecursion}
 use Rattle.std.specs.List.Sorted.{IsStrictlySortedBy}
@@ -26,7 +27,8 @@ pub after-not : (a b : List ℕ) → key_cmp a b ≡ Less → is_lt (key_cmp b a
 after-not a b h = ap is_lt (nat_list_cmp_total.antisymm b a ∙ ap ordering_reverse h)
 
 -- what all keys are behind, the first of them is behind
-first-behind : (key : List ℕ) (keys : List (List ℕ)) → AllByRecursion (λ other. key_cmp key other ≡ Less) keys → (first : List ℕ) → first_key keys ≡ Some first → key_cmp key first ≡ Less
+first-behind : (key : List ℕ) (keys : List (List ℕ)) → AllByRecursion (λ other. key_cmp key other ≡ Less) keys → (first : List ℕ) → first_key keys ≡ Some first
+    → key_cmp key first ≡ Less
 first-behind key [] h first e = cc
 first-behind key (k ∷ keys) h first e = by (first_key keys) refl (first-behind key keys h.1)
   where
@@ -65,7 +67,8 @@ unfolding IsStrictlySortedBy
 first-found p [] s = refl
 first-found p (y ∷ ks) s = by (p (string_bytes y)) refl (first-found p ks s.1)
   where
-    by : (b : Bool) → p (string_bytes y) ≡ b → first_key (filter p (texts ks)) ≡ find p (texts ks) → first_key (filter p (texts (y ∷ ks))) ≡ find p (texts (y ∷ ks))
+    by : (b : Bool) → p (string_bytes y) ≡ b → first_key (filter p (texts ks)) ≡ find p (texts ks) →
+        first_key (filter p (texts (y ∷ ks))) ≡ find p (texts (y ∷ ks))
     by true e rest = rw e (first-before (string_bytes y) (filter p (texts ks)) (others-after p y ks s.0))
     by false e rest = rw e rest
 
@@ -74,18 +77,21 @@ pub keys-view : (es : List Entry) → keys_of (members_view es) ≡ texts (entry
 keys-view [] = refl
 keys-view (e ∷ es) = ap (λ ks. string_bytes e.0 ∷ ks) (keys-view es)
 
-pub other-is : (words : List (List ℕ)) (es : List Entry) → IsStrictlySortedBy string_cmp (entry_keys es) → other_key words (members_view es) ≡ find (is_other words) (texts (entry_keys es))
+pub other-is : (words : List (List ℕ)) (es : List Entry) → IsStrictlySortedBy string_cmp (entry_keys es) →
+    other_key words (members_view es) ≡ find (is_other words) (texts (entry_keys es))
 other-is words es s = ap (λ ks. first_key (filter (is_other words) ks)) (keys-view es) ∙ first-found (is_other words) (entry_keys es) s
 
 -- what stands before all other keys that are none of the words
-pub other-before : (words : List (List ℕ)) (es : List Entry) → IsStrictlySortedBy string_cmp (entry_keys es) → (key : Option (List ℕ)) → key ≡ other_key words (members_view es)
+pub other-before : (words : List (List ℕ)) (es : List Entry) → IsStrictlySortedBy string_cmp (entry_keys es) → (key : Option (List ℕ)) →
+    key ≡ other_key words (members_view es)
     → find (is_other words) (keys_of (members_view es)) ≡ key
 other-before words es s key e = ap (find (is_other words)) (keys-view es) ∙ (sym (other-is words es s) ∙ sym e)
 
 -- the first of the other keys, as a walk over the keys finds it
 module _ (words : List (List ℕ)) (es : List Entry) (sorted : IsStrictlySortedBy string_cmp (entry_keys es)) (ks : List (String Global))
     (same : find (is_other words) (texts ks) ≡ find (is_other words) (texts (entry_keys es))) where
-  pub key-found : (key : String Global) (rest : List (String Global)) (asked text : List ℕ) → ks ≡ key ∷ rest → asked ≡ string_bytes key → is_other words asked ≡ true
+  pub key-found : (key : String Global) (rest : List (String Global)) (asked text : List ℕ) → ks ≡ key ∷ rest → asked ≡ string_bytes key →
+      is_other words asked ≡ true
       → text ≡ string_bytes key → Some text ≡ other_key words (members_view es)
   key-found key rest asked text step name other it =
       let passes : is_other words (string_bytes key) ≡ true = ap (is_other words) (sym name) ∙ other in
@@ -95,7 +101,8 @@ module _ (words : List (List ℕ)) (es : List Entry) (sorted : IsStrictlySortedB
   pub key-missed : ks ≡ [] → None ≡ other_key words (members_view es)
   key-missed end = sym (other-is words es sorted ∙ (sym same ∙ ap (λ ks. find (is_other words) (texts ks)) end))
 
-  pub key-passed : (key : String Global) (rest : List (String Global)) (asked : List ℕ) → ks ≡ key ∷ rest → asked ≡ string_bytes key → is_other words asked ≡ false
+  pub key-passed : (key : String Global) (rest : List (String Global)) (asked : List ℕ) → ks ≡ key ∷ rest → asked ≡ string_bytes key →
+      is_other words asked ≡ false
       → find (is_other words) (texts rest) ≡ find (is_other words) (texts (entry_keys es))
   key-passed key rest asked step name other =
       let passed : is_other words (string_bytes key) ≡ false = ap (is_other words) (sym name) ∙ other in

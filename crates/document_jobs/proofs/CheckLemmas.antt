@@ -1,5 +1,6 @@
 -- Checks: rule files one after another, what is active of them, and the report.
-use Rattle.std.proofs.Common.{◌≡◌, ℕ, ◌+◌, ◌<◌, ◌≤◌, List, [], ◌∷◌, ◌++◌, drop, take, map, length, get_or, ◌||◌, Bool, true, false, true≢false, inl, inr, refl, ap, sym, subst, ◌∙◌, option_map}
+use Rattle.std.proofs.Common.{◌≡◌, ℕ, ◌+◌, ◌<◌, ◌≤◌, List, [], ◌∷◌, ◌++◌, drop, take, map, length, get_or, ◌||◌, Bool, true, false, true≢false, inl, inr, refl}
+use Rattle.std.proofs.Common.{ap, sym, subst, ◌∙◌, option_map}
 use Rattle.std.specs.Prelude.{Option, Some, None, Result, Ok, Err, if◌then◌else◌, chars}
 use Rattle.std.specs.List.{list_any}
 use Rattle.std.proofs.lemmas.List.{append_assoc, append-nil, map-append, take_more, drop_more, drop_all}
@@ -33,23 +34,28 @@ use Rattle.job_course.proofs.FileLemmas.{refused_here}
 use Rattle.job_course.specs.Views.{document_read}
 use Rattle.document_jobs.specs.declared.checks.Named as named_code
 use Rattle.document_jobs.specs.declared.checks.Chosen as chosen_code
-use Rattle.document_jobs.specs.Checks.{rule_line, no_phase_line, by_rules, said_course, Named, with_name, all_said, Chosen, with_active, with_more, chosen, by_phase, counts, named_of, chosen_of, all_found, finding_status, report_text, reported, CanJudge, AreChosen, home_line, IsRefusalBy, IsRulesRefusal, IsPhaseRefusal, Reports, judged_next, chosen_next, said_next}
+use Rattle.document_jobs.specs.Checks.{rule_line, no_phase_line, by_rules, said_course, Named, with_name, all_said, Chosen, with_active, with_more, chosen}
+use Rattle.document_jobs.specs.Checks.{by_phase, counts, named_of, chosen_of, all_found, finding_status, report_text, reported, CanJudge, AreChosen, home_line}
+use Rattle.document_jobs.specs.Checks.{IsRefusalBy, IsRulesRefusal, IsPhaseRefusal, Reports, judged_next, chosen_next, said_next}
 
 -- ---- a rule file
 
-module _ (name : List ℕ) (held : Held) (shelf mid : ShelfView) (err mid_err : SinkView) (goes_on : Continues (library_course name) held shelf mid err mid_err) where
+module _ (name : List ℕ) (held : Held) (shelf mid : ShelfView) (err mid_err : SinkView)
+    (goes_on : Continues (library_course name) held shelf mid err mid_err) where
   -- what follows behind a rule file with its parts
   abbrev rules_next : (Rules → Course) → Held → Course
   rules_next next all = by_rules name all next (rules_of (tree_nodes all.document))
 
-  pub behind_said : (rules : Rules) (there : SinkView) → rules_of (tree_nodes held.document) ≡ Ok rules → there ≡ mid_err → Continues (said_course name) rules shelf mid err there
+  pub behind_said : (rules : Rules) (there : SinkView) → rules_of (tree_nodes held.document) ≡ Ok rules → there ≡ mid_err →
+      Continues (said_course name) rules shelf mid err there
   behind_said rules there is quiet = λ next shelf' out out' err' status further.
       goes_on (rules_next next) shelf' out out' err' status
       (subst (λ course. Runs course (record { shelf = mid; out = out; err = mid_err }) (record { shelf = shelf'; out = out'; err = err' }) status)
       (sym (ap (by_rules name held next) is))
       (subst (λ e. Runs (next rules) (record { shelf = mid; out = out; err = e }) (record { shelf = shelf'; out = out'; err = err' }) status) quiet further))
 
-  said_by : (b : Bool) (fault : RuleFault) (status : Status) (err' : SinkView) → is_memory fault.kind ≡ b → Tells held.document fault (rules_of (tree_nodes held.document))
+  said_by : (b : Bool) (fault : RuleFault) (status : Status) (err' : SinkView) → is_memory fault.kind ≡ b →
+      Tells held.document fault (rules_of (tree_nodes held.document))
       → IsRefusalBy b name held fault status mid_err err' → Fails (said_course name) status shelf mid err err'
   said_by true fault status err' is tells refused = λ next out.
       rw (refused.0, refused.1) (goes_on (rules_next next) mid out out mid_err statuses.Memory (memory_here (rules_next next held) mid out mid_err))
@@ -92,7 +98,8 @@ module _ (all rest : List (List ℕ)) (sofar : List Named) (name : List ℕ) (sh
       λ i. all_said rest (λ others. next ((append_assoc sofar (with_name name rules ∷ []) others) i)) in
       leads next shelf' out out' err' status
       (goes_on (one_next next) shelf' out out' err' status
-      (subst (λ course. Runs course (record { shelf = there; out = out; err = there_err }) (record { shelf = shelf'; out = out'; err = err' }) status) same further))
+      (subst (λ course. Runs course (record { shelf = there; out = out; err = there_err }) (record { shelf = shelf'; out = out'; err = err' }) status) same
+      further))
 
   pub leads_stop : (status : Status) (there : ShelfView) (there_err : SinkView) → Leads all (name ∷ rest) sofar shelf here err here_err
       → Fails (said_course name) status here there here_err there_err → Fails (all_said all) status shelf there err there_err
@@ -123,7 +130,8 @@ pub leads_last : (all : List (List ℕ)) (files : List Named) (shelf here : Shel
     → Continues (all_said all) files shelf here err here_err
 leads_last all files shelf here err here_err leads = λ next shelf' out out' err' status further.
     leads next shelf' out out' err' status
-    (subst (λ f. Runs (next f) (record { shelf = here; out = out; err = here_err }) (record { shelf = shelf'; out = out'; err = err' }) status) (sym (append-nil files)) further)
+    (subst (λ f. Runs (next f) (record { shelf = here; out = out; err = here_err }) (record { shelf = shelf'; out = out'; err = err' }) status)
+    (sym (append-nil files)) further)
 
 -- ---- what is active
 
@@ -161,7 +169,8 @@ by_active rules name others (Some active) = with_more (with_active rules active)
 
 -- one more file, of which the code has what is active
 module _ (phase : List ℕ) (files : List named_code.Named) (k : ℕ) (file : named_code.Named) (within : k < length files) (is : file ≡ get_or files k file)
-    (sofar more : List chosen_code.Chosen) (one : chosen_code.Chosen) (kept : more ≡ sofar ++ one ∷ []) (same : (chosen_of one).rules ≡ seen_rules file.rules) where
+    (sofar more : List chosen_code.Chosen) (one : chosen_code.Chosen) (kept : more ≡ sofar ++ one ∷ [])
+    (same : (chosen_of one).rules ≡ seen_rules file.rules) where
   abbrev rest : Result (List Chosen) (List ℕ)
   rest = chosen phase (map named_of (drop (k + 1) files))
 
@@ -177,12 +186,14 @@ module _ (phase : List ℕ) (files : List named_code.Named) (k : ℕ) (file : na
       ap (λ cs. chosen_behind cs rest) (ap (map chosen_of) kept ∙ map-append chosen_of sofar (one ∷ []))
       ∙ (chosen_more (map chosen_of sofar) (chosen_of one) rest ∙ (ap (chosen_behind (map chosen_of sofar)) (sym first) ∙ so_far))
 
-  pub came_kept : active_of (seen_rules file.rules) (chars phase) ≡ Some (chosen_of one).active → AreChosen (map chosen_of sofar) → AreChosen (map chosen_of more)
+  pub came_kept : active_of (seen_rules file.rules) (chars phase) ≡ Some (chosen_of one).active → AreChosen (map chosen_of sofar) →
+      AreChosen (map chosen_of more)
   came_kept active so_far =
       let came : CameFrom (chosen_of one).rules (chosen_of one).active =
       record { name = chars phase; is = ap (λ (r : Rules). active_of r (chars phase)) same ∙ active } in
       subst AreChosen (sym (ap (map chosen_of) kept ∙ map-append chosen_of sofar (one ∷ [])))
-      (All-append CanJudge (map chosen_of sofar) (chosen_of one ∷ []) so_far (All-cons CanJudge (chosen_of one) [] (can_judge (chosen_of one) came) (All-nil CanJudge)))
+      (All-append CanJudge (map chosen_of sofar) (chosen_of one ∷ []) so_far
+      (All-cons CanJudge (chosen_of one) [] (can_judge (chosen_of one) came) (All-nil CanJudge)))
 
 -- ---- the report
 
@@ -256,21 +267,25 @@ pub check_unphased : (svrl : Bool) (phase file : List ℕ) (files : List Named) 
 check_unphased svrl phase file files status shelf out err err' (inl memory) =
     rw (memory.0, memory.1) (memory_here (said_next svrl phase file files) shelf out err)
 check_unphased svrl phase file files status shelf out err err' (inr told) =
-    rw told.2 (subst (λ course. Runs course (record { shelf = shelf; out = out; err = err }) (record { shelf = shelf; out = out; err = err' }) statuses.RulesRefused)
+    rw told.2 (subst (λ course. Runs course (record { shelf = shelf; out = out; err = err })
+    (record { shelf = shelf; out = out; err = err' }) statuses.RulesRefused)
     (sym (ap (by_phase phase (chosen_next svrl file)) told.1)) (refused_here statuses.RulesRefused (no_phase_line told.0 phase) shelf out err err' tt told.3))
 
 -- what follows by what is active
-pub behind_phases : (svrl : Bool) (phase file : List ℕ) (files : List Named) (cs : List Chosen) (shelf shelf' : ShelfView) (out out' err here_err err' : SinkView) (status : Status)
+pub behind_phases : (svrl : Bool) (phase file : List ℕ) (files : List Named) (cs : List Chosen) (shelf shelf' : ShelfView)
+    (out out' err here_err err' : SinkView) (status : Status)
     → chosen phase files ≡ Ok cs → here_err ≡ err
     → Runs (chosen_next svrl file cs) (record { shelf = shelf; out = out; err = here_err }) (record { shelf = shelf'; out = out'; err = err' }) status
     → Runs (said_next svrl phase file files) (record { shelf = shelf; out = out; err = err }) (record { shelf = shelf'; out = out'; err = err' }) status
 behind_phases svrl phase file files cs shelf shelf' out out' err here_err err' status are quiet further =
     subst (λ course. Runs course (record { shelf = shelf; out = out; err = err }) (record { shelf = shelf'; out = out'; err = err' }) status)
     (sym (ap (by_phase phase (chosen_next svrl file)) are))
-    (subst (λ e. Runs (chosen_next svrl file cs) (record { shelf = shelf; out = out; err = e }) (record { shelf = shelf'; out = out'; err = err' }) status) quiet further)
+    (subst (λ e. Runs (chosen_next svrl file cs) (record { shelf = shelf; out = out; err = e }) (record { shelf = shelf'; out = out'; err = err' }) status)
+    quiet further)
 
 -- the report on a document that was loaded
-pub check_reported : (svrl : Bool) (file : List ℕ) (cs : List Chosen) (shelf there : ShelfView) (out out' err there_err : SinkView) (status : Status) (doc : Document)
+pub check_reported : (svrl : Bool) (file : List ℕ) (cs : List Chosen) (shelf there : ShelfView) (out out' err there_err : SinkView) (status : Status)
+    (doc : Document)
     → HasRead 1 shelf there → there_err ≡ err → IsLoaded document_limits (option_map (bytes_under file) shelf.held) doc
     → Reports status svrl (all_found (tree_nodes doc) cs) out out'
     → Runs (chosen_next svrl file cs) (record { shelf = shelf; out = out; err = err }) (record { shelf = there; out = out'; err = there_err }) status

@@ -1,5 +1,6 @@
 -- The lines of a document's nodes, in bytes, and that together they are the outline of its tree.
-use Rattle.std.proofs.Common.{◌≡◌, ℕ, zero, suc, ◌+◌, ◌-◌, ◌*◌, ◌<◌, List, [], ◌∷◌, ◌++◌, map, take, length, get_or, replicate, Option, Some, option_map, refl, ap, sym, ◌∙◌, append_assoc, append-nil, arith, chars, IsUtf8}
+use Rattle.std.proofs.Common.{◌≡◌, ℕ, zero, suc, ◌+◌, ◌-◌, ◌*◌, ◌<◌, List, [], ◌∷◌, ◌++◌, map, take, length, get_or, replicate, Option, Some, option_map, refl}
+use Rattle.std.proofs.Common.{ap, sym, ◌∙◌, append_assoc, append-nil, arith, chars, IsUtf8}
 use Rattle.std.specs.List.{flat_map}
 use Rattle.std.specs.Prelude.{encode_utf8_all}
 use Rattle.std.proofs.lemmas.List.{take_more, get_or-map, map-append, replicate-append-replicate}
@@ -14,7 +15,8 @@ use Rattle.node_arena.specs.Document.{Placed, Document, document_node, node_at}
 use Rattle.node_arena.specs.Moves.{node_of, tree_nodes, tree_node, HasNodesOf}
 use Rattle.xml_document.specs.Walking.{StandsIn}
 use Rattle.xml_document.specs.declared.walk.Walk.{Walk}
-use Rattle.document_jobs.specs.Outline.{braced, name_text, optional_name_text, line, attribute_text, outline_attributes, outline_forest, outline_text, line_as, node_line}
+use Rattle.document_jobs.specs.Outline.{braced, name_text, optional_name_text, line, attribute_text, outline_attributes, outline_forest, outline_text, line_as}
+use Rattle.document_jobs.specs.Outline.{node_line}
 
 -- an ASCII character in front
 pub encode-front : (c : ℕ) (cs : List ℕ) → c < 128 → encode_utf8_all (c ∷ cs) ≡ c ∷ encode_utf8_all cs
@@ -30,7 +32,8 @@ encode-spaces (suc n) = encode-front 0x20 (replicate n 0x20) (omega arith) ∙ a
 encode-line : (level : ℕ) (text : List ℕ) → encode_utf8_all (line level text) ≡ replicate (2 * level) 0x20 ++ (encode_utf8_all text ++ 0xA ∷ [])
 encode-line level text =
     encodes-append (replicate (2 * level) 0x20) (text ++ 0xA ∷ [])
-    ∙ (ap (λ x. x ++ encode_utf8_all (text ++ 0xA ∷ [])) (encode-spaces (2 * level)) ∙ ap (λ x. replicate (2 * level) 0x20 ++ x) (encode-last text 0xA (omega arith)))
+    ∙ (ap (λ x. x ++ encode_utf8_all (text ++ 0xA ∷ [])) (encode-spaces (2 * level)) ∙
+    ap (λ x. replicate (2 * level) 0x20 ++ x) (encode-last text 0xA (omega arith)))
 
 abbrev pub spaces : ℕ → List ℕ
 spaces level = replicate (2 * level) 0x20
@@ -61,11 +64,13 @@ encode-braced-nil [] none = ap (λ cs. encode_utf8_all (braced cs)) (sym chars-n
 encode-braced-nil (b ∷ uri) none = absurd (omega arith)
 
 -- a name, in bytes
-pub encode-name : (names : List Name) (number : ℕ) (uri local : List ℕ) → chars uri ≡ (name_at names number).uri → chars local ≡ (name_at names number).local → IsUtf8 local
+pub encode-name : (names : List Name) (number : ℕ) (uri local : List ℕ) → chars uri ≡ (name_at names number).uri → chars local ≡ (name_at names number).local →
+    IsUtf8 local
     → encode_utf8_all (braced (chars uri)) ++ local ≡ encode_utf8_all (optional_name_text (option_map (name_at names) (Some number)))
 encode-name names number uri local u l utf8 =
     ap (λ x. encode_utf8_all (braced (chars uri)) ++ x) (sym (encode-chars local utf8))
-    ∙ (sym (encodes-append (braced (chars uri)) (chars local)) ∙ (ap (λ x. encode_utf8_all (braced x ++ chars local)) u ∙ ap (λ x. encode_utf8_all (braced (name_at names number).uri ++ x)) l))
+    ∙ (sym (encodes-append (braced (chars uri)) (chars local)) ∙
+    (ap (λ x. encode_utf8_all (braced x ++ chars local)) u ∙ ap (λ x. encode_utf8_all (braced (name_at names number).uri ++ x)) l))
 
 -- the lines of the kinds of nodes
 module _ (names : List Name) (node : Placed) (level : ℕ) (deep : level ≡ length node.above) where
@@ -73,7 +78,8 @@ module _ (names : List Name) (node : Placed) (level : ℕ) (deep : level ≡ len
   indent = ap (λ l. spaces (l - 1)) deep
 
   pub element_line-bytes : (name : Option ℕ) → name ≡ node.name
-      → replicate (2 * (level - 1)) 0x20 ++ (encode_utf8_all (optional_name_text (option_map (name_at names) name)) ++ 0xA ∷ []) ≡ encode_utf8_all (line_as kinds.Element names node)
+      → replicate (2 * (level - 1)) 0x20 ++ (encode_utf8_all (optional_name_text (option_map (name_at names) name)) ++ 0xA ∷ []) ≡ encode_utf8_all
+      (line_as kinds.Element names node)
   element_line-bytes name named =
       ap (λ x. x ++ (encode_utf8_all (optional_name_text (option_map (name_at names) name)) ++ 0xA ∷ [])) indent
       ∙ (ap (λ n. replicate (2 * (length node.above - 1)) 0x20 ++ (encode_utf8_all (optional_name_text (option_map (name_at names) n)) ++ 0xA ∷ [])) named
@@ -87,17 +93,24 @@ module _ (names : List Name) (node : Placed) (level : ℕ) (deep : level ≡ len
       ∙ (sym (encode-line (length node.above - 1) (quoted node.text)) ∙ refl))
 
   pub attribute_line-bytes : (name : Option ℕ) (text : List ℕ) → name ≡ node.name → chars text ≡ node.text
-      → replicate (2 * (level - 1)) 0x20 ++ ((0x40 ∷ []) ++ (encode_utf8_all (optional_name_text (option_map (name_at names) name)) ++ ((0x3D ∷ []) ++ (encode_utf8_all (quoted (chars text)) ++ 0xA ∷ []))))
+      → replicate (2 * (level - 1)) 0x20 ++
+      ((0x40 ∷ []) ++ (encode_utf8_all (optional_name_text (option_map (name_at names) name)) ++
+      ((0x3D ∷ []) ++ (encode_utf8_all (quoted (chars text)) ++ 0xA ∷ []))))
       ≡ encode_utf8_all (line_as kinds.Attribute names node)
   attribute_line-bytes name text named is =
       let named_text : List ℕ = optional_name_text (option_map (name_at names) node.name) in
-      let all : encode_utf8_all (0x40 ∷ (named_text ++ (0x3D ∷ quoted node.text))) ≡ 0x40 ∷ (encode_utf8_all named_text ++ (0x3D ∷ encode_utf8_all (quoted node.text))) =
+      let all : encode_utf8_all (0x40 ∷ (named_text ++ (0x3D ∷ quoted node.text))) ≡ 0x40 ∷ (encode_utf8_all named_text ++
+      (0x3D ∷ encode_utf8_all (quoted node.text))) =
       encode-front 0x40 (named_text ++ (0x3D ∷ quoted node.text)) (omega arith)
-      ∙ ap (λ x. 0x40 ∷ x) (encodes-append named_text (0x3D ∷ quoted node.text) ∙ ap (λ x. encode_utf8_all named_text ++ x) (encode-front 0x3D (quoted node.text) (omega arith))) in
-      let back : (0x40 ∷ (encode_utf8_all named_text ++ (0x3D ∷ encode_utf8_all (quoted node.text)))) ++ 0xA ∷ [] ≡ 0x40 ∷ (encode_utf8_all named_text ++ (0x3D ∷ (encode_utf8_all (quoted node.text) ++ 0xA ∷ []))) =
+      ∙ ap (λ x. 0x40 ∷ x) (encodes-append named_text (0x3D ∷ quoted node.text) ∙
+      ap (λ x. encode_utf8_all named_text ++ x) (encode-front 0x3D (quoted node.text) (omega arith))) in
+      let back : (0x40 ∷ (encode_utf8_all named_text ++ (0x3D ∷ encode_utf8_all (quoted node.text)))) ++
+      0xA ∷ [] ≡ 0x40 ∷ (encode_utf8_all named_text ++ (0x3D ∷ (encode_utf8_all (quoted node.text) ++ 0xA ∷ []))) =
       ap (λ x. 0x40 ∷ x) (append_assoc (encode_utf8_all named_text) (0x3D ∷ encode_utf8_all (quoted node.text)) (0xA ∷ [])) in
-      ap (λ x. x ++ (0x40 ∷ (encode_utf8_all (optional_name_text (option_map (name_at names) name)) ++ (0x3D ∷ (encode_utf8_all (quoted (chars text)) ++ 0xA ∷ []))))) indent
-      ∙ (ap (λ n. replicate (2 * (length node.above - 1)) 0x20 ++ (0x40 ∷ (encode_utf8_all (optional_name_text (option_map (name_at names) n)) ++ (0x3D ∷ (encode_utf8_all (quoted (chars text)) ++ 0xA ∷ []))))) named
+      ap (λ x. x ++ (0x40 ∷ (encode_utf8_all (optional_name_text (option_map (name_at names) name)) ++
+      (0x3D ∷ (encode_utf8_all (quoted (chars text)) ++ 0xA ∷ []))))) indent
+      ∙ (ap (λ n. replicate (2 * (length node.above - 1)) 0x20 ++
+      (0x40 ∷ (encode_utf8_all (optional_name_text (option_map (name_at names) n)) ++ (0x3D ∷ (encode_utf8_all (quoted (chars text)) ++ 0xA ∷ []))))) named
       ∙ (ap (λ t. replicate (2 * (length node.above - 1)) 0x20 ++ (0x40 ∷ (encode_utf8_all named_text ++ (0x3D ∷ (encode_utf8_all (quoted t) ++ 0xA ∷ []))))) is
       ∙ (ap (λ x. replicate (2 * (length node.above - 1)) 0x20 ++ x) (sym (ap (λ x. x ++ 0xA ∷ []) all ∙ back))
       ∙ (sym (encode-line (length node.above - 1) (0x40 ∷ (named_text ++ (0x3D ∷ quoted node.text)))) ∙ refl))))
@@ -122,20 +135,26 @@ pub lines_of-more : (names : List Name) (nodes : List Placed) (k : ℕ) → k < 
     → lines_of names (take k nodes) ++ encode_utf8_all (node_line (node_of names (node_at nodes k))) ≡ lines_of names (take (k + 1) nodes)
 lines_of-more names nodes k h =
     let node = node_at nodes k in
-    let more : take (k + 1) nodes ≡ take k nodes ++ node ∷ [] = take_more nodes k document_node h ∙ ap (λ x. take k nodes ++ x ∷ []) (sym (node_at-get_or nodes k)) in
-    let lines : flat_map node_line (map (node_of names) (take k nodes ++ node ∷ [])) ≡ flat_map node_line (map (node_of names) (take k nodes)) ++ node_line (node_of names node) =
+    let more : take (k + 1) nodes ≡ take k nodes ++ node ∷ [] = take_more nodes k document_node h ∙
+    ap (λ x. take k nodes ++ x ∷ []) (sym (node_at-get_or nodes k)) in
+    let lines : flat_map node_line (map (node_of names) (take k nodes ++ node ∷ [])) ≡ flat_map node_line (map (node_of names) (take k nodes)) ++
+    node_line (node_of names node) =
     ap (flat_map node_line) (map-append (node_of names) (take k nodes) (node ∷ []))
-    ∙ (flat_map-append node_line (map (node_of names) (take k nodes)) (node_of names node ∷ []) ∙ ap (λ x. flat_map node_line (map (node_of names) (take k nodes)) ++ x) (append-nil (node_line (node_of names node)))) in
-    sym (ap (lines_of names) more ∙ (ap encode_utf8_all lines ∙ encodes-append (flat_map node_line (map (node_of names) (take k nodes))) (node_line (node_of names node))))
+    ∙ (flat_map-append node_line (map (node_of names) (take k nodes)) (node_of names node ∷ []) ∙
+    ap (λ x. flat_map node_line (map (node_of names) (take k nodes)) ++ x) (append-nil (node_line (node_of names node)))) in
+    sym (ap (lines_of names) more ∙ (ap encode_utf8_all lines ∙
+    encodes-append (flat_map node_line (map (node_of names) (take k nodes))) (node_line (node_of names node))))
 
 -- the lines of all nodes are the outline
 less_one : (above : List ℕ) (n : ℕ) → length (n ∷ above) - 1 ≡ length above
 less_one above n = omega arith
 
-attribute_lines : (above : List ℕ) (element n : ℕ) (attributes : List Attribute) → flat_map node_line (nodes_of_attributes (element ∷ above) n attributes) ≡ outline_attributes (length above) attributes
+attribute_lines : (above : List ℕ) (element n : ℕ) (attributes : List Attribute) →
+    flat_map node_line (nodes_of_attributes (element ∷ above) n attributes) ≡ outline_attributes (length above) attributes
 attribute_lines above element n [] = refl
 attribute_lines above element n (attribute ∷ attributes) =
-    ap (λ l. line l (attribute_text attribute.name attribute.value) ++ flat_map node_line (nodes_of_attributes (element ∷ above) (n + 1) attributes)) (less_one above element)
+    ap (λ l. line l (attribute_text attribute.name attribute.value) ++ flat_map node_line (nodes_of_attributes (element ∷ above) (n + 1) attributes))
+    (less_one above element)
     ∙ ap (λ x. line (length above) (attribute_text attribute.name attribute.value) ++ x) (attribute_lines above element (n + 1) attributes)
 
 one_more : (above : List ℕ) (n : ℕ) → length (n ∷ above) ≡ length above + 1
@@ -151,13 +170,17 @@ forest_lines above around n (an_element name attributes inside rest) =
     let first = nodes_of_attributes (n ∷ (around ∷ above)) (n + 1) attributes in
     let inner = nodes_of (n ∷ (around ∷ above)) (n + (1 + length attributes)) inside in
     let behind = nodes_of (around ∷ above) (n + (1 + (length attributes + size inside))) rest in
-    let parts : flat_map node_line (first ++ (inner ++ behind)) ≡ outline_attributes (length above + 1) attributes ++ (outline_forest (length above + 1) inside ++ outline_forest (length above) rest) =
+    let parts : flat_map node_line (first ++ (inner ++ behind)) ≡ outline_attributes (length above + 1) attributes ++
+    (outline_forest (length above + 1) inside ++ outline_forest (length above) rest) =
     flat_map-append node_line first (inner ++ behind)
-    ∙ (ap (λ x. x ++ flat_map node_line (inner ++ behind)) (attribute_lines (around ∷ above) n (n + 1) attributes ∙ ap (λ l. outline_attributes l attributes) (one_more above around))
+    ∙ (ap (λ x. x ++ flat_map node_line (inner ++ behind)) (attribute_lines (around ∷ above) n (n + 1) attributes ∙
+    ap (λ l. outline_attributes l attributes) (one_more above around))
     ∙ ap (λ x. outline_attributes (length above + 1) attributes ++ x) (flat_map-append node_line inner behind
-    ∙ (ap (λ x. x ++ flat_map node_line behind) (forest_lines (around ∷ above) n (n + (1 + length attributes)) inside ∙ ap (λ l. outline_forest l inside) (one_more above around))
+    ∙ (ap (λ x. x ++ flat_map node_line behind) (forest_lines (around ∷ above) n (n + (1 + length attributes)) inside ∙
+    ap (λ l. outline_forest l inside) (one_more above around))
     ∙ ap (λ x. outline_forest (length above + 1) inside ++ x) (forest_lines above around (n + (1 + (length attributes + size inside))) rest)))) in
-    ap (λ l. line l (name_text name) ++ flat_map node_line (first ++ (inner ++ behind))) (less_one above around) ∙ ap (λ x. line (length above) (name_text name) ++ x) parts
+    ap (λ l. line l (name_text name) ++ flat_map node_line (first ++ (inner ++ behind))) (less_one above around) ∙
+    ap (λ x. line (length above) (name_text name) ++ x) parts
 
 pub lines_of-tree : (document : Document) (tree : Forest) → HasNodesOf document tree → lines_of document.names document.nodes ≡ outline_text tree
 unfolding outline_text

@@ -48,7 +48,8 @@ use Rattle.job_course.proofs.FileLemmas.{refused_here}
 use Rattle.job_course.specs.Views.{document_read}
 use Rattle.document_jobs.specs.declared.queries.QueryFault.{QueryFault}
 use Rattle.document_jobs.specs.declared.queries.QueryFault.TheVariants as q
-use Rattle.document_jobs.specs.Queries.{query_scope, typed_in_query, by_tree, expression_of, expression_line, answered, by_expression, query_course, fault_of, type_fault_of, status_of, Asks, IsQueryRefusal, Answered}
+use Rattle.document_jobs.specs.Queries.{query_scope, typed_in_query, by_tree, expression_of, expression_line, answered, by_expression, query_course, fault_of}
+use Rattle.document_jobs.specs.Queries.{type_fault_of, status_of, Asks, IsQueryRefusal, Answered}
 
 -- ---- the expression
 
@@ -62,7 +63,8 @@ asks_refused text f.Syntax h = ap by_tree h
 asks_refused text f.TooDeep h = ap by_tree h
 asks_refused text f.Memory h = tt
 
-pub asks_tree : (text : List ℕ) (tree : Tree) (result : Result Planned QueryFault) → answer_of text ≡ Ok tree → Asks result (typed_in_query tree) → Asks result (expression_of text)
+pub asks_tree : (text : List ℕ) (tree : Tree) (result : Result Planned QueryFault) → answer_of text ≡ Ok tree → Asks result (typed_in_query tree) →
+    Asks result (expression_of text)
 unfolding expression_of
 asks_tree text tree result is asks = subst (Asks result) (sym (ap by_tree is)) asks
 
@@ -89,7 +91,10 @@ asks_plan tree typed plan is made =
     (ap (λ d. resolved d [] (view typed.expression)) (declared_is query_scope tree (typing.typing typed) is) ∙ sym made)
 
 typing_at : (r : _) (kind : TypeKind) (token : ℕ) → typing.Refuses (tf.Refused kind token) r
-    → Asks (Err (q.Typing kind token)) (elim r [ Err refusal ↦ Err (q.Typing refusal.kind refusal.token) | Ok found ↦ Ok (resolved query_scope [] found.expression) ])
+    → Asks (Err (q.Typing kind token)) (elim r [
+      | Err refusal ↦ Err (q.Typing refusal.kind refusal.token)
+      | Ok found ↦ Ok (resolved query_scope [] found.expression)
+    ])
 typing_at (Err refusal) kind token is = cc
 typing_at (Ok found) kind token is = cc
 
@@ -104,7 +109,8 @@ both false b e = cc
 
 ascii : (bytes : List ℕ) → list_all (λ b. nat_lt b 128) bytes ≡ true → IsAscii bytes
 ascii [] e = IsAscii-nil
-ascii (b ∷ bytes) e = let parts = both (nat_lt b 128) (list_all (λ b. nat_lt b 128) bytes) e in IsAscii-cons b bytes (ltb-true b 128 parts.0) (ascii bytes parts.1)
+ascii (b ∷ bytes) e = let parts = both (nat_lt b 128) (list_all (λ b. nat_lt b 128) bytes) e in
+    IsAscii-cons b bytes (ltb-true b 128 parts.0) (ascii bytes parts.1)
 
 -- the name of a namespace, whose bytes are its characters
 pub uri_chars : (namespace : Namespace) → chars (uri_of namespace) ≡ uri_of namespace
@@ -121,19 +127,23 @@ abbrev bound : Declared → List ℕ → Namespace → Declared
 bound d prefix namespace = with_prefix d prefix (uri_of namespace)
 
 abbrev ubl_bound : Declared → Declared
-ubl_bound d = bound (bound (bound (bound d (codes "ubl") spaces.UblInvoice) (codes "cn") spaces.UblCreditNote) (codes "cac") spaces.UblAggregate) (codes "cbc") spaces.UblBasic
+ubl_bound d = bound (bound (bound (bound d (codes "ubl") spaces.UblInvoice) (codes "cn") spaces.UblCreditNote) (codes "cac") spaces.UblAggregate)
+    (codes "cbc") spaces.UblBasic
 
 abbrev cii_bound : Declared → Declared
-cii_bound d = bound (bound (bound (bound d (codes "rsm") spaces.CiiInvoice) (codes "ram") spaces.CiiAggregate) (codes "udt") spaces.CiiUnqualified) (codes "qdt") spaces.CiiQualified
+cii_bound d = bound (bound (bound (bound d (codes "rsm") spaces.CiiInvoice) (codes "ram") spaces.CiiAggregate) (codes "udt") spaces.CiiUnqualified)
+    (codes "qdt") spaces.CiiQualified
 
-pub ubl_made : (s0 s1 s2 s3 s4 : Declared) → s1 ≡ with_prefix s0 (codes "ubl") (uri_of spaces.UblInvoice) → s2 ≡ with_prefix s1 (codes "cn") (uri_of spaces.UblCreditNote)
+pub ubl_made : (s0 s1 s2 s3 s4 : Declared) → s1 ≡ with_prefix s0 (codes "ubl") (uri_of spaces.UblInvoice) →
+    s2 ≡ with_prefix s1 (codes "cn") (uri_of spaces.UblCreditNote)
     → s3 ≡ with_prefix s2 (codes "cac") (uri_of spaces.UblAggregate) → s4 ≡ with_prefix s3 (codes "cbc") (uri_of spaces.UblBasic) → s4 ≡ ubl_bound s0
 ubl_made s0 s1 s2 s3 s4 e1 e2 e3 e4 =
     let x2 = e2 ∙ ap (λ d. bound d (codes "cn") spaces.UblCreditNote) e1 in
     let x3 = e3 ∙ ap (λ d. bound d (codes "cac") spaces.UblAggregate) x2 in
     e4 ∙ ap (λ d. bound d (codes "cbc") spaces.UblBasic) x3
 
-pub cii_made : (s0 s1 s2 s3 s4 : Declared) → s1 ≡ with_prefix s0 (codes "rsm") (uri_of spaces.CiiInvoice) → s2 ≡ with_prefix s1 (codes "ram") (uri_of spaces.CiiAggregate)
+pub cii_made : (s0 s1 s2 s3 s4 : Declared) → s1 ≡ with_prefix s0 (codes "rsm") (uri_of spaces.CiiInvoice) →
+    s2 ≡ with_prefix s1 (codes "ram") (uri_of spaces.CiiAggregate)
     → s3 ≡ with_prefix s2 (codes "udt") (uri_of spaces.CiiUnqualified) → s4 ≡ with_prefix s3 (codes "qdt") (uri_of spaces.CiiQualified) → s4 ≡ cii_bound s0
 cii_made s0 s1 s2 s3 s4 e1 e2 e3 e4 =
     let x2 = e2 ∙ ap (λ d. bound d (codes "ram") spaces.CiiAggregate) e1 in
@@ -165,7 +175,8 @@ no_variables count outer none = subst (variables.ValuesWithin count) (sym none) 
 pub nothing_answered : (text : List ℕ) (s : SinkView) → Answered statuses.Memory text s s
 nothing_answered text s = inr (inr (refl, record { front = []; is_front = IsFront-nil text; writes = WritesAll-nil s }))
 
-pub is_answered : (failed : Bool) (status : Status) (text whole : List ℕ) (from to : SinkView) → status ≡ status_of failed → text ≡ whole → Printed failed text from to
+pub is_answered : (failed : Bool) (status : Status) (text whole : List ℕ) (from to : SinkView) → status ≡ status_of failed → text ≡ whole →
+    Printed failed text from to
     → Answered status whole from to
 is_answered true status text whole from to is same printed = rw is (inr (inl (refl, subst (λ t. WritesFront t from to) same printed)))
 is_answered false status text whole from to is same printed = rw is (inl (refl, subst (λ t. WritesAll t from to) same printed))
@@ -189,16 +200,19 @@ answered_here status text shelf out out' err (inr (inr some)) = inr (record {
   no_line = refl;
 })
 
-pub query_refused : (text file : List ℕ) (fault : QueryFault) (status : Status) (shelf : ShelfView) (out err err' : SinkView) → Asks (Err fault) (expression_of text)
+pub query_refused : (text file : List ℕ) (fault : QueryFault) (status : Status) (shelf : ShelfView) (out err err' : SinkView) →
+    Asks (Err fault) (expression_of text)
     → IsQueryRefusal fault status err err'
     → RunsInPieces (query_course text file) (record { shelf = shelf; out = out; err = err }) (record { shelf = shelf; out = out; err = err' }) status
 query_refused text file q.Memory status shelf out err err' asks told =
     rw (told.0, told.1) (inl (memory_here (query_course text file) shelf out err))
 query_refused text file (q.Syntax fault) status shelf out err err' asks told =
-    rw told.0 (subst (λ course. RunsInPieces course (record { shelf = shelf; out = out; err = err }) (record { shelf = shelf; out = out; err = err' }) statuses.RulesRefused)
+    rw told.0 (subst (λ course. RunsInPieces course (record { shelf = shelf; out = out; err = err })
+    (record { shelf = shelf; out = out; err = err' }) statuses.RulesRefused)
     (sym (ap (by_expression file) asks)) (inl (refused_here statuses.RulesRefused (expression_line (q.Syntax fault)) shelf out err err' tt told.1)))
 query_refused text file (q.Typing kind token) status shelf out err err' asks told =
-    rw told.0 (subst (λ course. RunsInPieces course (record { shelf = shelf; out = out; err = err }) (record { shelf = shelf; out = out; err = err' }) statuses.RulesRefused)
+    rw told.0 (subst (λ course. RunsInPieces course (record { shelf = shelf; out = out; err = err })
+    (record { shelf = shelf; out = out; err = err' }) statuses.RulesRefused)
     (sym (ap (by_expression file) asks)) (inl (refused_here statuses.RulesRefused (expression_line (q.Typing kind token)) shelf out err err' tt told.1)))
 
 -- what follows behind the document
@@ -212,7 +226,8 @@ query_planned text file plan status before after asks runs = subst (λ course. R
 pub query_answered : (file : List ℕ) (plan : Planned) (status : Status) (shelf mid : ShelfView) (out out' err mid_err : SinkView) (doc : Document)
     → HasRead 1 shelf mid → mid_err ≡ err → IsLoaded document_limits (option_map (bytes_under file) shelf.held) doc
     → Answered status (answered (expression plan) (tree_nodes doc)) out out'
-    → RunsInPieces (by_expression file (Ok (expression plan))) (record { shelf = shelf; out = out; err = err }) (record { shelf = mid; out = out'; err = mid_err }) status
+    → RunsInPieces (by_expression file (Ok (expression plan))) (record { shelf = shelf; out = out; err = err })
+    (record { shelf = mid; out = out'; err = mid_err }) status
 query_answered file plan status shelf mid out out' err mid_err doc read quiet found answer =
     pieces_behind_document file shelf mid mid out out' err mid_err mid_err status read quiet (query_next (expression plan)) doc found
     (answered_here status (answered (expression plan) (tree_nodes (document_read found.found))) mid out out' mid_err

@@ -1,5 +1,6 @@
 -- What is answered to a check: what rule files find in a document (ISO/IEC 19757-3).
-use Rattle.std.specs.Prelude.{◌≡◌, ℕ, Bool, true, false, ◌||◌, List, [], ◌∷◌, ◌++◌, map, codes, decimal, chars, encode_utf8_all, Option, Some, None, option_map, unwrap_or, slice_get, Result, Ok, Err, if◌then◌else◌}
+use Rattle.std.specs.Prelude.{◌≡◌, ℕ, Bool, true, false, ◌||◌, List, [], ◌∷◌, ◌++◌, map, codes, decimal, chars, encode_utf8_all, Option, Some, None, option_map}
+use Rattle.std.specs.Prelude.{unwrap_or, slice_get, Result, Ok, Err, if◌then◌else◌}
 use Rattle.std.proofs.Common.{◌⊎◌}
 use Rattle.std.specs.List.{All, list_any}
 use Rattle.inv_base.specs.Outside.{SinkView}
@@ -216,7 +217,8 @@ IsRuleRefusal name held fault status before after = IsRefusalBy (is_memory fault
 
 -- The same of its first fault.
 abbrev pub IsRulesRefusal : List ℕ → Held → Status → SinkView → SinkView → Type 0
-IsRulesRefusal name held status before after = (fault : RuleFault) × Tells held.document fault (rules_of (tree_nodes held.document)) × IsRuleRefusal name held fault status before after
+IsRulesRefusal name held status before after = (fault : RuleFault) × Tells held.document fault (rules_of (tree_nodes held.document)) ×
+    IsRuleRefusal name held fault status before after
 
 -- A file has no such phase, and its line was told; or memory ran out.
 abbrev pub IsPhaseRefusal : List ℕ → Result (List Chosen) (List ℕ) → Status → SinkView → SinkView → Type 0

@@ -8,7 +8,8 @@ ghost use Rattle.schematron_rules.specs.Seen.{seen_rules};
 ghost use Rattle.job_course.specs.Runs.{Runs, Continues, Fails};
 ghost use Rattle.job_course.specs.Views.{text_of, texts_of};
 ghost use Rattle.document_jobs.specs.Checks as spec;
-ghost use Rattle.document_jobs.specs.Checks.{named_of, chosen_of, AreChosen, IsRuleRefusal, IsRulesRefusal, IsPhaseRefusal, Reports, said_course, all_said, chosen_next, said_next, check_course};
+ghost use Rattle.document_jobs.specs.Checks.{named_of, chosen_of, AreChosen, IsRuleRefusal, IsRulesRefusal, IsPhaseRefusal, Reports, said_course, all_said};
+ghost use Rattle.document_jobs.specs.Checks.{chosen_next, said_next, check_course};
 
 use crate::refusals::{tell_at_home, tell_no_phase};
 use bumpalo::Bump;

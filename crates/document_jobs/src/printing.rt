@@ -48,7 +48,8 @@ fn print_walk<L: Ledger, K: Sink>(doc: &Doc<'_>, ledger: Blank, out: &mut K) -> 
 /// Prints the line of a node; the document itself has none.
 fn print_node<K: Sink>(doc: &Doc<'_>, at: &Walk, printer: &mut Printer, out: &mut K)
     requires { StandsIn doc.now at.now }
-    ensures { Prints (encode_utf8_all (node_line (node_of doc.now.names (node_at doc.now.nodes at.now.node)))) printer.old.failed printer.new.failed (K.view out.old) (K.view out.new) }
+    ensures { Prints (encode_utf8_all (node_line (node_of doc.now.names (node_at doc.now.nodes at.now.node)))) printer.old.failed printer.new.failed
+        (K.view out.old) (K.view out.new) }
 {
     match doc.kind(at.node) {
         Kind::Document => {}
@@ -60,7 +61,8 @@ fn print_node<K: Sink>(doc: &Doc<'_>, at: &Walk, printer: &mut Printer, out: &mu
 
 fn print_element<K: Sink>(doc: &Doc<'_>, at: &Walk, printer: &mut Printer, out: &mut K)
     requires { StandsIn doc.now at.now }
-    ensures { Prints (encode_utf8_all (line_as kinds.Element doc.now.names (node_at doc.now.nodes at.now.node))) printer.old.failed printer.new.failed (K.view out.old) (K.view out.new) }
+    ensures { Prints (encode_utf8_all (line_as kinds.Element doc.now.names (node_at doc.now.nodes at.now.node))) printer.old.failed printer.new.failed
+        (K.view out.old) (K.view out.new) }
 {
     print_indent(at.level, printer, out);
     print_name(doc, doc.name(at.node), printer, out);
@@ -69,7 +71,8 @@ fn print_element<K: Sink>(doc: &Doc<'_>, at: &Walk, printer: &mut Printer, out: 
 
 fn print_attribute<K: Sink>(doc: &Doc<'_>, at: &Walk, printer: &mut Printer, out: &mut K)
     requires { StandsIn doc.now at.now }
-    ensures { Prints (encode_utf8_all (line_as kinds.Attribute doc.now.names (node_at doc.now.nodes at.now.node))) printer.old.failed printer.new.failed (K.view out.old) (K.view out.new) }
+    ensures { Prints (encode_utf8_all (line_as kinds.Attribute doc.now.names (node_at doc.now.nodes at.now.node))) printer.old.failed printer.new.failed
+        (K.view out.old) (K.view out.new) }
 {
     print_indent(at.level, printer, out);
     printer.put(out, b"@");
@@ -81,7 +84,8 @@ fn print_attribute<K: Sink>(doc: &Doc<'_>, at: &Walk, printer: &mut Printer, out
 
 fn print_text<K: Sink>(doc: &Doc<'_>, at: &Walk, printer: &mut Printer, out: &mut K)
     requires { StandsIn doc.now at.now }
-    ensures { Prints (encode_utf8_all (line_as kinds.Text doc.now.names (node_at doc.now.nodes at.now.node))) printer.old.failed printer.new.failed (K.view out.old) (K.view out.new) }
+    ensures { Prints (encode_utf8_all (line_as kinds.Text doc.now.names (node_at doc.now.nodes at.now.node))) printer.old.failed printer.new.failed
+        (K.view out.old) (K.view out.new) }
 {
     print_indent(at.level, printer, out);
     printer.put_quoted(out, doc.text(at.node));
@@ -103,7 +107,8 @@ fn print_indent<K: Sink>(level: usize, printer: &mut Printer, out: &mut K)
 /// Prints a name, its local part behind the namespace name in braces where it has one.
 fn print_name<K: Sink>(doc: &Doc<'_>, name: Option<NameId>, printer: &mut Printer, out: &mut K)
     requires { ForSome name (λ number. number < length doc.now.names) }
-    ensures { Prints (encode_utf8_all (optional_name_text (option_map (name_at doc.now.names) name))) printer.old.failed printer.new.failed (K.view out.old) (K.view out.new) }
+    ensures { Prints (encode_utf8_all (optional_name_text (option_map (name_at doc.now.names) name))) printer.old.failed printer.new.failed (K.view out.old)
+        (K.view out.new) }
 {
     if let Some(id) = name {
         print_uri(doc.names().uri(id), printer, out);

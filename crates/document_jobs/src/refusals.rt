@@ -2,7 +2,8 @@
 ghost use Rattle.std.specs.Prelude.{◌≡◌};
 ghost use Rattle.inv_base.specs.Printing.{Prints};
 ghost use Rattle.job_course.specs.Outside.{TakesOrFails};
-ghost use Rattle.document_jobs.specs.Checks.{fault_line, home_line, file_at, rule_kind_text, rule_attribute_text, rule_expression_text, reason_text, no_phase_line};
+ghost use Rattle.document_jobs.specs.Checks.{fault_line, home_line, file_at, rule_kind_text, rule_attribute_text, rule_expression_text, reason_text};
+ghost use Rattle.document_jobs.specs.Checks.{no_phase_line};
 
 use crate::queries::{print_placed, print_syntax_fault, type_name};
 use inv_base::{Place, Printer, Sink};

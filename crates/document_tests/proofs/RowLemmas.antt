@@ -14,5 +14,6 @@ with_value : (count : ℕ) (values : List (List Item)) (x : List Item) → AllWi
 with_value count [] x h k = (k, tt)
 with_value count (y ∷ values) x h k = (h.0, with_value count values x h.1 k)
 
-pub value_within : (count : ℕ) (values grown : List (List Item)) (x : List Item) → grown ≡ values ++ x ∷ [] → AllWithin count values → AreWithin count x → AllWithin count grown
+pub value_within : (count : ℕ) (values grown : List (List Item)) (x : List Item) → grown ≡ values ++ x ∷ [] → AllWithin count values → AreWithin count x →
+    AllWithin count grown
 value_within count values grown x e h k = subst (AllWithin count) (sym e) (with_value count values x h k)

@@ -1,5 +1,6 @@
 -- The terms of a file are an extension.
-use Rattle.std.proofs.Common.{◌≡◌, ℕ, ℤ, Bool, true, false, not, ◌&&◌, ◌||◌, ◌==◌, nat_lt, nat_le, ◌<◌, ◌≤◌, ◌+◌, List, [], ◌∷◌, length, Option, Some, None, Result, Ok, Err, refl, sym, ap, ◌∙◌, arith, find, codes, chars, is_some, suc, le-leb, subst, bytes_eq, if◌then◌else◌}
+use Rattle.std.proofs.Common.{◌≡◌, ℕ, ℤ, Bool, true, false, not, ◌&&◌, ◌||◌, ◌==◌, nat_lt, nat_le, ◌<◌, ◌≤◌, ◌+◌, List, [], ◌∷◌, length, Option, Some, None}
+use Rattle.std.proofs.Common.{Result, Ok, Err, refl, sym, ap, ◌∙◌, arith, find, codes, chars, is_some, suc, le-leb, subst, bytes_eq, if◌then◌else◌}
 use Rattle.std.specs.Prelude.{pos, negsuc}
 use Rattle.std.specs.Option.{option_map, option_and_then}
 use Rattle.std.specs.List.{list_all, list_any, slice_split, before_first, after_first, count_by}
@@ -23,13 +24,15 @@ use Rattle.extension_files.specs.declared.fault.ExtFault.{ExtFault}
 use Rattle.extension_files.specs.declared.fault.ExtFault.TheVariants.{NotToml, NotAnExtension, BadTerm, Memory}
 use Rattle.extension_files.specs.Words.{place_named, letter_named, word_of_letter, added_letters}
 use Rattle.extension_files.specs.PathTexts.{is_slash, is_colon, is_local, parts_of, name_of, names_of, path_of}
-use Rattle.extension_files.specs.TermTables.{ubl_spaces, cii_spaces, text_at, integer_at, number_above, number_of, place_of, letter_of, head_in, other_key_of, head_of, path_at, has_path, some_paths, paths_of, term_of}
+use Rattle.extension_files.specs.TermTables.{ubl_spaces, cii_spaces, text_at, integer_at, number_above, number_of, place_of, letter_of, head_in, other_key_of}
+use Rattle.extension_files.specs.TermTables.{head_of, path_at, has_path, some_paths, paths_of, term_of}
 use Rattle.code_lists.specs.Keys.{other_key}
 use Rattle.extension_files.specs.ExtensionFiles.{value_term, before_terms, terms_from, term_tables, document_terms, file_terms}
 use Rattle.extension_files.specs.Extensions.{is_name, is_path, is_path_or_none, are_paths, are_terms, is_extension}
 use Rattle.extension_files.proofs.PathLemmas.{make, parts-fine}
 use Rattle.extension_files.proofs.TableLemmas.{Head, at_key, second, third, made}
-use Rattle.extension_files.proofs.FileLemmas.{Terms, behind-none, tables-turn, tables-bad, tables-end, rest_of, document-other, document-none, document-tables, file-no_toml, file-document}
+use Rattle.extension_files.proofs.FileLemmas.{Terms, behind-none, tables-turn, tables-bad, tables-end, rest_of, document-other, document-none, document-tables}
+use Rattle.extension_files.proofs.FileLemmas.{file-no_toml, file-document}
 
 -- what is found passes what all pass
 found-all : {X : Type 0} (p q : X → Bool) (xs : List X) (x : X) → find p xs ≡ Some x → list_all q xs ≡ true → q x ≡ true
@@ -41,7 +44,8 @@ found-all p q (y ∷ ys) x f h = by (p y) refl (and_parts (q y) (list_all q ys) 
     by false e parts rest = rest (rw e at f) parts.1
 
 -- what is found is there
-found-any : {X : Type 0} (p : X → Bool) (same : X → X → Bool) (itself : (x : X) → same x x ≡ true) (xs : List X) (x : X) → find p xs ≡ Some x → list_any (same x) xs ≡ true
+found-any : {X : Type 0} (p : X → Bool) (same : X → X → Bool) (itself : (x : X) → same x x ≡ true) (xs : List X) (x : X) → find p xs ≡ Some x →
+    list_any (same x) xs ≡ true
 found-any p same itself [] x f = cc
 found-any p same itself (y ∷ ys) x f = by (p y) refl (found-any p same itself ys x)
   where
@@ -82,7 +86,8 @@ name-fine spaces text name h = by (parts_of spaces text) refl
 abbrev joined : Option (List ElementName) → Option ElementName → Option (List ElementName)
 joined more name = option_and_then (λ name. option_map (λ names. name ∷ names) more) name
 
-names-fine : (spaces : List Namespace) (texts : List (List ℕ)) (names : List ElementName) → names_of spaces texts ≡ Some names → (length names ≡ length texts) × (list_all (is_name spaces) names ≡ true)
+names-fine : (spaces : List Namespace) (texts : List (List ℕ)) (names : List ElementName) → names_of spaces texts ≡ Some names → (length names ≡ length texts) ×
+    (list_all (is_name spaces) names ≡ true)
 names-fine spaces [] names h = let none : [] ≡ names = same_Some _ _ h in (ap length (sym none), ap (list_all (is_name spaces)) (sym none))
 names-fine spaces (text ∷ texts) names h = by (name_of spaces text) (names_of spaces texts) refl refl (names-fine spaces texts)
   where
@@ -90,9 +95,11 @@ names-fine spaces (text ∷ texts) names h = by (name_of spaces text) (names_of 
         → ((names : List ElementName) → names_of spaces texts ≡ Some names → (length names ≡ length texts) × (list_all (is_name spaces) names ≡ true))
         → (length names ≡ length (text ∷ texts)) × (list_all (is_name spaces) names ≡ true)
     by None more e f rest = absurd (none-some names (ap (joined (names_of spaces texts)) (sym e) ∙ h))
-    by (Some name) None e f rest = absurd (none-some names (ap (option_map (λ names. name ∷ names)) (sym f) ∙ (ap (joined (names_of spaces texts)) (sym e) ∙ h)))
+    by (Some name) None e f rest =
+        absurd (none-some names (ap (option_map (λ names. name ∷ names)) (sym f) ∙ (ap (joined (names_of spaces texts)) (sym e) ∙ h)))
     by (Some name) (Some more) e f rest =
-        let is : (name ∷ more) ≡ names = same_Some (name ∷ more) names (ap (option_map (λ names. name ∷ names)) (sym f) ∙ (ap (joined (names_of spaces texts)) (sym e) ∙ h)) in
+        let is : (name ∷ more) ≡ names = same_Some (name ∷ more) names (ap (option_map (λ names. name ∷ names)) (sym f) ∙
+        (ap (joined (names_of spaces texts)) (sym e) ∙ h)) in
         let (count, fine) = rest more f in
         (ap length (sym is) ∙ ap suc count, ap (list_all (is_name spaces)) (sym is) ∙ join-by _ _ (name-fine spaces text name e) fine)
 
@@ -112,7 +119,8 @@ path-fine spaces text names h = by (nat_le (length (slice_split is_slash text)) 
         join-by _ _ low (join-by _ _ high fine)
 
 -- a path at a key
-given-fine : (spaces : List Namespace) (d : Data) (path : Option (List ElementName)) → option_map Some (option_and_then (path_of spaces) (as_str d)) ≡ Some path → is_path_or_none spaces path ≡ true
+given-fine : (spaces : List Namespace) (d : Data) (path : Option (List ElementName)) → option_map Some (option_and_then (path_of spaces) (as_str d)) ≡ Some path
+    → is_path_or_none spaces path ≡ true
 given-fine spaces d path h = by (option_and_then (path_of spaces) (as_str d)) refl
   where
     by : (o : Option (List ElementName)) → option_and_then (path_of spaces) (as_str d) ≡ o → is_path_or_none spaces path ≡ true
@@ -120,14 +128,16 @@ given-fine spaces d path h = by (option_and_then (path_of spaces) (as_str d)) re
     by (Some names) e = ap (is_path_or_none spaces) (sym (same_Some _ _ (ap (option_map Some) (sym e) ∙ h)))
         ∙ option_and_then_some (path_of spaces) (as_str d) names e (λ text there is. path-fine spaces text names is)
 
-key-fine : (spaces : List Namespace) (key : List ℕ) (ms : Members) (path : Option (List ElementName)) → path_at spaces key ms ≡ Some path → is_path_or_none spaces path ≡ true
+key-fine : (spaces : List Namespace) (key : List ℕ) (ms : Members) (path : Option (List ElementName)) → path_at spaces key ms ≡ Some path →
+    is_path_or_none spaces path ≡ true
 key-fine spaces key ms path h = by (get_member key ms) refl
   where
     by : (o : Option Data) → get_member key ms ≡ o → is_path_or_none spaces path ≡ true
     by None e = ap (is_path_or_none spaces) (sym (same_Some None path (ap (at_key spaces key ms) (sym e) ∙ h)))
     by (Some d) e = given-fine spaces d path (ap (at_key spaces key ms) (sym e) ∙ h)
 
-all-fine : (all paths : Paths) → is_path_or_none ubl_spaces all.ubl ≡ true → is_path_or_none ubl_spaces all.credit_note ≡ true → is_path_or_none cii_spaces all.cii ≡ true
+all-fine : (all paths : Paths) → is_path_or_none ubl_spaces all.ubl ≡ true → is_path_or_none ubl_spaces all.credit_note ≡ true →
+    is_path_or_none cii_spaces all.cii ≡ true
     → some_paths all ≡ Some paths → are_paths paths ≡ true
 all-fine all paths a b c h =
     let (some, is) = cond_some (has_path all) all paths h in
@@ -136,8 +146,10 @@ all-fine all paths a b c h =
 paths-fine : (ms : Members) (paths : Paths) → paths_of ms ≡ Some paths → are_paths paths ≡ true
 paths-fine ms paths h =
     option_and_then_some (λ ubl. second ms ubl (path_at ubl_spaces (codes "cn") ms)) (path_at ubl_spaces (codes "ubl") ms) paths h
-    (λ ubl at_ubl h. option_and_then_some (λ credit_note. third ms ubl credit_note (path_at cii_spaces (codes "cii") ms)) (path_at ubl_spaces (codes "cn") ms) paths h
-    (λ credit_note at_credit_note h. option_and_then_some (λ cii. some_paths (record { ubl = ubl; credit_note = credit_note; cii = cii })) (path_at cii_spaces (codes "cii") ms) paths h
+    (λ ubl at_ubl h. option_and_then_some (λ credit_note. third ms ubl credit_note (path_at cii_spaces (codes "cii") ms))
+    (path_at ubl_spaces (codes "cn") ms) paths h
+    (λ credit_note at_credit_note h. option_and_then_some (λ cii. some_paths (record { ubl = ubl; credit_note = credit_note; cii = cii }))
+    (path_at cii_spaces (codes "cii") ms) paths h
     (λ cii at_cii h. all-fine (record { ubl = ubl; credit_note = credit_note; cii = cii }) paths (key-fine ubl_spaces (codes "ubl") ms ubl at_ubl)
     (key-fine ubl_spaces (codes "cn") ms credit_note at_credit_note) (key-fine cii_spaces (codes "cii") ms cii at_cii) h)))
 
@@ -160,7 +172,8 @@ IsFineHead before head = (nat_lt before head.0 ≡ true) × (nat_le head.0 99 �
 
 head-parts : (before : ℕ) (ms : Members) (head : Head) → head_in before ms ≡ Some head → IsFineHead before head
 head-parts before ms head h =
-    option_and_then_some (λ number. option_and_then (λ place. option_map (λ letter. (number, place, letter)) (letter_of ms)) (place_of ms)) (number_of before ms) head h
+    option_and_then_some (λ number. option_and_then (λ place. option_map (λ letter. (number, place, letter)) (letter_of ms)) (place_of ms))
+    (number_of before ms) head h
     (λ number at_number h. option_and_then_some (λ place. option_map (λ letter. (number, place, letter)) (letter_of ms)) (place_of ms) head h
     (λ place at_place h. by number place (number_at number at_number) (letter_of ms) refl h))
   where
@@ -236,7 +249,8 @@ terms-fine (item d ds) before place terms h = by (value_term before d) refl (ter
   where
     by : (o : Option ExtTerm) → value_term before d ≡ o → AreFine ds → are_terms before terms ≡ true
     by None e rest = let bad : ◌≡◌ {A = Terms} (Err (BadTerm place)) (Ok terms) = ap (rest_of before place d ds []) (sym e) ∙ h in cc
-    by (Some term) e rest = joined-fine before place ds term terms (value-fine before d term e) rest (terms_from term.number (place + 1) ds) refl (ap (rest_of before place d ds []) (sym e) ∙ h)
+    by (Some term) e rest = joined-fine before place ds term terms (value-fine before d term e) rest (terms_from term.number (place + 1) ds) refl
+        (ap (rest_of before place d ds []) (sym e) ∙ h)
 
 -- a file by its document
 module _ (bytes : List ℕ) (document : Members) (read : document_of bytes ≡ Some document) where
@@ -250,9 +264,11 @@ module _ (bytes : List ℕ) (document : Members) (read : document_of bytes ≡ S
 pub document-fine : (document : Members) (terms : List ExtTerm) → document_terms document ≡ Ok terms → is_extension terms ≡ true
 document-fine document terms h = by (other_key (codes "term" ∷ []) document) (term_tables document) refl refl
   where
-    by : (key : Option (List ℕ)) (tables : Option Items) → other_key (codes "term" ∷ []) document ≡ key → term_tables document ≡ tables → is_extension terms ≡ true
+    by : (key : Option (List ℕ)) (tables : Option Items) → other_key (codes "term" ∷ []) document ≡ key → term_tables document ≡ tables →
+        is_extension terms ≡ true
     by (Some key) tables e f = let bad : ◌≡◌ {A = Terms} (Err (NotAnExtension (chars key))) (Ok terms) = sym (document-other document key (sym e)) ∙ h in cc
-    by None None e f = let bad : ◌≡◌ {A = Terms} (Err (NotAnExtension (chars (codes "term")))) (Ok terms) = sym (document-none document (sym e) (sym f)) ∙ h in cc
+    by None None e f = let bad : ◌≡◌ {A = Terms} (Err (NotAnExtension (chars (codes "term")))) (Ok terms) = sym (document-none document (sym e) (sym f)) ∙ h in
+        cc
     by None (Some tables) e f = terms-fine tables 0 1 terms (sym (document-tables document (sym e) tables (sym f)) ∙ h)
 
 -- so is what a file gives

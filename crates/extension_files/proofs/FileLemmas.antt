@@ -1,5 +1,6 @@
 -- A file of extension terms, as `toml` holds it: the document, and its tables one by one.
-use Rattle.std.proofs.Common.{◌≡◌, ℕ, Bool, true, false, List, [], ◌∷◌, ◌++◌, length, get_or, drop, ◌+◌, ◌<◌, ◌≤◌, Option, Some, None, Result, Ok, Err, IfOk, IfErr, refl, sym, ap, ◌∙◌, append_assoc, append-nil, codes, if◌then◌else◌}
+use Rattle.std.proofs.Common.{◌≡◌, ℕ, Bool, true, false, List, [], ◌∷◌, ◌++◌, length, get_or, drop, ◌+◌, ◌<◌, ◌≤◌, Option, Some, None, Result, Ok, Err, IfOk}
+use Rattle.std.proofs.Common.{IfErr, refl, sym, ap, ◌∙◌, append_assoc, append-nil, codes, if◌then◌else◌}
 use Rattle.std.specs.Str.{chars}
 use Rattle.std.specs.Option.{option_and_then}
 use Rattle.std.proofs.lemmas.Result.{IfOk-weaker, IfErr-weaker}
@@ -24,7 +25,8 @@ pub behind-none : (more : Result (List ExtTerm) ExtFault) → behind [] more ≡
 behind-none (Ok more) = refl
 behind-none (Err fault) = refl
 
-behind-one : (terms : List ExtTerm) (term : ExtTerm) (more : Result (List ExtTerm) ExtFault) → behind terms (before_terms term more) ≡ behind (terms ++ term ∷ []) more
+behind-one : (terms : List ExtTerm) (term : ExtTerm) (more : Result (List ExtTerm) ExtFault) →
+    behind terms (before_terms term more) ≡ behind (terms ++ term ∷ []) more
 behind-one terms term (Ok more) = ap Ok (sym (append_assoc terms (term ∷ []) more))
 behind-one terms term (Err fault) = refl
 
@@ -35,7 +37,8 @@ module _ (before place : ℕ) (d : Data) (ds : Items) (terms : List ExtTerm) whe
   abbrev pub rest_of : Option ExtTerm → Result (List ExtTerm) ExtFault
   rest_of o = elim o [ None ↦ Err (BadTerm place) | Some term ↦ before_terms term (terms_from term.number (place + 1) ds) ]
 
-  pub table-term : (term : ExtTerm) → value_term before d ≡ Some term → behind terms (terms_from before place (item d ds)) ≡ behind (terms ++ term ∷ []) (terms_from term.number (place + 1) ds)
+  pub table-term : (term : ExtTerm) → value_term before d ≡ Some term → behind terms (terms_from before place (item d ds)) ≡ behind (terms ++ term ∷ [])
+      (terms_from term.number (place + 1) ds)
   table-term term h = ap (λ o. behind terms (rest_of o)) h ∙ behind-one terms term (terms_from term.number (place + 1) ds)
 
   pub table-bad : value_term before d ≡ None → behind terms (terms_from before place (item d ds)) ≡ Err (BadTerm place)
@@ -71,7 +74,8 @@ module _ (all : Terms) where
   pub terms-given : (other : Terms) (r : Terms) → all ≡ other → IfOk r (λ terms. other ≡ Ok terms) → IfOk r (λ terms. all ≡ Ok terms)
   terms-given other r h k = IfOk-weaker r _ _ (λ terms is. h ∙ is) k
 
-  pub fault-given : (other : Terms) (r : Terms) → all ≡ other → IfErr r (λ fault. (fault ≡ Memory → ⊥) → other ≡ Err fault) → IfErr r (λ fault. (fault ≡ Memory → ⊥) → all ≡ Err fault)
+  pub fault-given : (other : Terms) (r : Terms) → all ≡ other → IfErr r (λ fault. (fault ≡ Memory → ⊥) → other ≡ Err fault) →
+      IfErr r (λ fault. (fault ≡ Memory → ⊥) → all ≡ Err fault)
   fault-given other r h k = IfErr-weaker r _ _ (λ fault is other. h ∙ is other) k
 
   pub key-given : (key own : List ℕ) → all ≡ Err (NotAnExtension (chars key)) → own ≡ chars key → all ≡ Err (NotAnExtension own)
@@ -106,10 +110,12 @@ module _ (all : List Value) (i before : ℕ) (terms : List ExtTerm)
     whole : terms_from 0 1 (items_view all) ≡ behind terms (terms_from before (length terms + 1) (item (view v) (items_view (drop (i + 1) all))))
     whole =
         sym sofar
-        ∙ ap (λ ds. behind terms (terms_from before (length terms + 1) ds)) (items_view-drop all i v within ∙ ap (λ d. item (view d) (items_view (drop (i + 1) all))) (sym at))
+        ∙ ap (λ ds. behind terms (terms_from before (length terms + 1) ds))
+        (items_view-drop all i v within ∙ ap (λ d. item (view d) (items_view (drop (i + 1) all))) (sym at))
 
     pub tables-turn : (term : ExtTerm) → Some term ≡ value_term before (view v)
-        → behind (terms ++ term ∷ []) (terms_from term.number (length (terms ++ term ∷ []) + 1) (items_view (drop (i + 1) all))) ≡ terms_from 0 1 (items_view all)
+        → behind (terms ++ term ∷ []) (terms_from term.number (length (terms ++ term ∷ []) + 1) (items_view (drop (i + 1) all))) ≡ terms_from 0 1
+        (items_view all)
     tables-turn term h =
         ap (λ n. behind (terms ++ term ∷ []) (terms_from term.number (n + 1) (items_view (drop (i + 1) all)))) (length-append terms (term ∷ []))
         ∙ sym (whole ∙ table-term before (length terms + 1) (view v) (items_view (drop (i + 1) all)) terms term (sym h))

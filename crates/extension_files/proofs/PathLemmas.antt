@@ -1,5 +1,6 @@
 -- The text of a path: its names one by one, and the parts of a name.
-use Rattle.std.proofs.Common.{◌≡◌, ℕ, Bool, true, false, ◌&&◌, nat_le, List, [], ◌∷◌, ◌++◌, map, length, get_or, drop, ◌+◌, Bor, ◌<◌, ◌≤◌, Option, Some, None, Result, IfOk, refl, sym, ap, ◌∙◌, arith, append_assoc, append-nil, if◌then◌else◌, chars, find}
+use Rattle.std.proofs.Common.{◌≡◌, ℕ, Bool, true, false, ◌&&◌, nat_le, List, [], ◌∷◌, ◌++◌, map, length, get_or, drop, ◌+◌, Bor, ◌<◌, ◌≤◌, Option, Some, None}
+use Rattle.std.proofs.Common.{Result, IfOk, refl, sym, ap, ◌∙◌, arith, append_assoc, append-nil, if◌then◌else◌, chars, find}
 use Rattle.std.specs.Option.{option_map, option_and_then}
 use Rattle.std.specs.Str.{IsAscii, bytes_eq}
 use Rattle.std.specs.List.{list_all, before_first, after_first, position_or_len, slice_split}
@@ -23,13 +24,16 @@ pub behind-none : (more : Option (List ElementName)) → behind [] more ≡ more
 behind-none None = refl
 behind-none (Some more) = refl
 
-behind-one : (names : List ElementName) (name : ElementName) (more : Option (List ElementName)) → behind names (option_map (λ names. name ∷ names) more) ≡ behind (names ++ name ∷ []) more
+behind-one : (names : List ElementName) (name : ElementName) (more : Option (List ElementName)) →
+    behind names (option_map (λ names. name ∷ names) more) ≡ behind (names ++ name ∷ []) more
 behind-one names name None = refl
 behind-one names name (Some more) = ap Some (sym (append_assoc names (name ∷ []) more))
 
 module _ (spaces : List Namespace) (text : List ℕ) (texts : List (List ℕ)) (names : List ElementName) where
-  pub names-some : (name : ElementName) → name_of spaces text ≡ Some name → behind names (names_of spaces (text ∷ texts)) ≡ behind (names ++ name ∷ []) (names_of spaces texts)
-  names-some name h = ap (λ o. behind names (option_and_then (λ name. option_map (λ names. name ∷ names) (names_of spaces texts)) o)) h ∙ behind-one names name (names_of spaces texts)
+  pub names-some : (name : ElementName) → name_of spaces text ≡ Some name → behind names (names_of spaces (text ∷ texts)) ≡ behind (names ++ name ∷ [])
+      (names_of spaces texts)
+  names-some name h = ap (λ o. behind names (option_and_then (λ name. option_map (λ names. name ∷ names) (names_of spaces texts)) o)) h ∙
+      behind-one names name (names_of spaces texts)
 
   pub names-none : name_of spaces text ≡ None → behind names (names_of spaces (text ∷ texts)) ≡ None
   names-none h = ap (λ o. behind names (option_and_then (λ name. option_map (λ names. name ∷ names) (names_of spaces texts)) o)) h
@@ -74,7 +78,8 @@ module _ (spaces : List Namespace) (prefix local : List ℕ) where
     pub parts-no_space : None ≡ namespace_of spaces prefix → None ≡ parts_by spaces prefix local
     parts-no_space f = ap (given true) f ∙ sym (ap (λ b. given b (namespace_of spaces prefix)) h)
 
-    pub parts-whole : (space : Namespace) → Some space ≡ namespace_of spaces prefix → ◌≡◌ {A = Option (Namespace × List ℕ)} (Some (space, local)) (parts_by spaces prefix local)
+    pub parts-whole : (space : Namespace) → Some space ≡ namespace_of spaces prefix →
+        ◌≡◌ {A = Option (Namespace × List ℕ)} (Some (space, local)) (parts_by spaces prefix local)
     parts-whole space f = ap (given true) f ∙ sym (ap (λ b. given b (namespace_of spaces prefix)) h)
 
   -- the parts that there are have a local part, and a namespace that is one of those
@@ -86,17 +91,20 @@ module _ (spaces : List Namespace) (prefix local : List ℕ) where
       let (same_space, same_local) = some_pair_parts s space local l h in
       (ap is_local (sym same_local) ∙ e, f ∙ ap Some same_space)
 
-  pub parts-fine : (space : Namespace) (l : List ℕ) → parts_by spaces prefix local ≡ Some (space, l) → (is_local l ≡ true) × (namespace_of spaces prefix ≡ Some space)
+  pub parts-fine : (space : Namespace) (l : List ℕ) → parts_by spaces prefix local ≡ Some (space, l) → (is_local l ≡ true) ×
+      (namespace_of spaces prefix ≡ Some space)
   parts-fine space l h = by-parts space l (is_local local) (namespace_of spaces prefix) refl refl h
 
 -- the name of its parts, whose local part is a text of its own
 abbrev pub make : Namespace × List ℕ → ElementName
 make parts = record { namespace = parts.0; local = parts.1 }
 
-pub name-made : (spaces : List Namespace) (text : List ℕ) (space : Namespace) (local own : List ℕ) → Some (space, local) ≡ parts_of spaces text → own ≡ chars local
+pub name-made : (spaces : List Namespace) (text : List ℕ) (space : Namespace) (local own : List ℕ) → Some (space, local) ≡ parts_of spaces text →
+    own ≡ chars local
     → Some (record { namespace = space; local = own }) ≡ name_of spaces text
 name-made spaces text space local own h e =
-    ap (λ l. Some (make (space, l))) (e ∙ chars-local local ((parts-fine spaces (before_first is_colon text) (after_first is_colon text) space local (sym h)).0)) ∙ ap (option_map make) h
+    ap (λ l. Some (make (space, l))) (e ∙ chars-local local
+    ((parts-fine spaces (before_first is_colon text) (after_first is_colon text) space local (sym h)).0)) ∙ ap (option_map make) h
 
 -- a turn of the walk over the texts of names
 abbrev texts_of : List (Bor (List ℕ)) → List (List ℕ)
@@ -111,7 +119,8 @@ module _ (spaces : List Namespace) (all : List (Bor (List ℕ))) (i : ℕ) (name
     whole : names_of spaces (texts_of all) ≡ behind names (names_of spaces (text.now ∷ texts_of (drop (i + 1) all)))
     whole = sym sofar ∙ ap (λ texts. behind names (names_of spaces texts)) here
 
-    pub names-turn : (name : ElementName) → Some name ≡ name_of spaces text.now → behind (names ++ name ∷ []) (names_of spaces (texts_of (drop (i + 1) all))) ≡ names_of spaces (texts_of all)
+    pub names-turn : (name : ElementName) → Some name ≡ name_of spaces text.now →
+        behind (names ++ name ∷ []) (names_of spaces (texts_of (drop (i + 1) all))) ≡ names_of spaces (texts_of all)
     names-turn name h = sym (whole ∙ names-some spaces text.now (texts_of (drop (i + 1) all)) names name (sym h))
 
     pub names-stop : None ≡ name_of spaces text.now → None ≡ names_of spaces (texts_of all)
@@ -122,7 +131,8 @@ module _ (spaces : List Namespace) (all : List (Bor (List ℕ))) (i : ℕ) (name
       ap Some (sym (append-nil names)) ∙ (ap (λ texts. behind names (names_of spaces (texts_of texts))) (sym (drop_all i all end)) ∙ sofar)
 
 -- a local part by its first character
-pub local-cons : (text : List ℕ) (c : ℕ) (cs : List ℕ) (rest : Bool) → text ≡ c ∷ cs → is_ascii_alphabetic c ≡ true → rest ≡ (nat_le (length cs) 99 && list_all is_ascii_alphanumeric cs)
+pub local-cons : (text : List ℕ) (c : ℕ) (cs : List ℕ) (rest : Bool) → text ≡ c ∷ cs → is_ascii_alphabetic c ≡ true →
+    rest ≡ (nat_le (length cs) 99 && list_all is_ascii_alphanumeric cs)
     → rest ≡ is_local text
 local-cons text c cs rest is letter h = h ∙ sym (ap is_local is ∙ ap (λ b. b && (nat_le (length cs) 99 && list_all is_ascii_alphanumeric cs)) letter)
 
@@ -143,7 +153,8 @@ module _ (spaces : List Namespace) (text : List ℕ) (all : List (Bor (List ℕ)
       let many : nat_le (length (slice_split is_slash text)) 20 ≡ false = ap (λ n. nat_le n 20) counted ∙ large in
       sym (ap (λ b. if b then names_of spaces (slice_split is_slash text) else None) many)
 
-  pub path-given : {E : Type 0} (r : Result (Option (List ElementName)) E) → length all ≤ 20 → IfOk r (λ names. names ≡ names_of spaces (texts_of all)) → IfOk r (λ path. path ≡ path_of spaces text)
+  pub path-given : {E : Type 0} (r : Result (Option (List ElementName)) E) → length all ≤ 20 → IfOk r (λ names. names ≡ names_of spaces (texts_of all)) →
+      IfOk r (λ path. path ≡ path_of spaces text)
   path-given r h k = IfOk-weaker r _ _ (λ names same. same ∙ path-few h) k
 
 pub ruleset locals = (local-cons)

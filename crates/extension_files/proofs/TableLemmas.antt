@@ -1,5 +1,6 @@
 -- A table of a file: its number, its paths and its term, part by part.
-use Rattle.std.proofs.Common.{◌≡◌, ℕ, ℤ, Bool, true, false, ◌&&◌, ◌<◌, ◌≤◌, nat_lt, nat_le, List, Option, Some, None, refl, sym, ap, ◌∙◌, arith, nat_abs, ◌<ℤ◌, ◌≤ℤ◌, to_z, of_z, w64, codes, subst, if◌then◌else◌}
+use Rattle.std.proofs.Common.{◌≡◌, ℕ, ℤ, Bool, true, false, ◌&&◌, ◌<◌, ◌≤◌, nat_lt, nat_le, List, Option, Some, None, refl, sym, ap, ◌∙◌, arith, nat_abs, ◌<ℤ◌}
+use Rattle.std.proofs.Common.{◌≤ℤ◌, to_z, of_z, w64, codes, subst, if◌then◌else◌}
 use Rattle.std.specs.Prelude.{pos, negsuc}
 use Rattle.std.specs.Option.{option_map, option_and_then, is_some}
 use Rattle.std.proofs.lemmas.Bool.Decides.{nat_tests}
@@ -12,7 +13,8 @@ use Rattle.extension_files.specs.declared.terms.ExtPlace.{ExtPlace}
 use Rattle.extension_files.specs.declared.terms.ExtTerm.{ExtTerm}
 use Rattle.extension_files.specs.declared.terms.Paths.{Paths}
 use Rattle.extension_files.specs.PathTexts.{path_of}
-use Rattle.extension_files.specs.TermTables.{number_above, integer_at, number_of, place_of, letter_of, head_in, other_key_of, head_of, path_at, has_path, some_paths, paths_of, ubl_spaces, cii_spaces, term_of}
+use Rattle.extension_files.specs.TermTables.{number_above, integer_at, number_of, place_of, letter_of, head_in, other_key_of, head_of, path_at, has_path}
+use Rattle.extension_files.specs.TermTables.{some_paths, paths_of, ubl_spaces, cii_spaces, term_of}
 use mir.Val.{SFits}
 
 -- the number, by its bounds
@@ -66,11 +68,13 @@ module _ (before : ℕ) (ms : Members) where
     inside = ap (λ b. if b then None else head_in before ms) alone
 
     pub head-no_number : None ≡ number_of before ms → None ≡ head_of before ms
-    head-no_number h = ap (option_and_then (λ number. option_and_then (λ place. option_map (λ letter. (number, place, letter)) (letter_of ms)) (place_of ms))) h ∙ inside
+    head-no_number h = ap (option_and_then (λ number. option_and_then (λ place. option_map (λ letter. (number, place, letter)) (letter_of ms)) (place_of ms))) h
+        ∙ inside
 
     module _ (number : ℕ) (at_number : Some number ≡ number_of before ms) where
       numbered : option_and_then (λ place. option_map (λ letter. (number, place, letter)) (letter_of ms)) (place_of ms) ≡ head_of before ms
-      numbered = ap (option_and_then (λ number. option_and_then (λ place. option_map (λ letter. (number, place, letter)) (letter_of ms)) (place_of ms))) at_number ∙ inside
+      numbered = ap (option_and_then (λ number. option_and_then (λ place. option_map (λ letter. (number, place, letter)) (letter_of ms)) (place_of ms)))
+          at_number ∙ inside
 
       pub head-no_place : None ≡ place_of ms → None ≡ head_of before ms
       head-no_place h = ap (option_and_then (λ place. option_map (λ letter. (number, place, letter)) (letter_of ms))) h ∙ numbered
@@ -157,7 +161,8 @@ module _ (before : ℕ) (ms : Members) where
     pub term-no_paths : None ≡ paths_of ms → None ≡ term_of before ms
     term-no_paths h = ap (made (number, place, letter)) h ∙ ap (option_and_then (λ (head : Head). made head (paths_of ms))) at_head
 
-    pub term-whole : (paths : Paths) → Some paths ≡ paths_of ms → Some (record { number = number; place = place; letter = letter; paths = paths }) ≡ term_of before ms
+    pub term-whole : (paths : Paths) → Some paths ≡ paths_of ms →
+        Some (record { number = number; place = place; letter = letter; paths = paths }) ≡ term_of before ms
     term-whole paths h = ap (made (number, place, letter)) h ∙ ap (option_and_then (λ (head : Head). made head (paths_of ms))) at_head
 
 pub ruleset bounds = (number-none, number-low, number-high, number-within)

@@ -39,7 +39,9 @@ numberless : ◌≡◌ {A = Answer} (file_terms (codes "[[term]]\nplace = \"line
 unfolding toml_on_literals chars is_utf8
 numberless = refl
 
-given-twice : ◌≡◌ {A = Answer} (file_terms (codes "[[term]]\nnumber=1\nplace=\"line\"\ntype=\"T\"\nubl=\"cac:A\"\n[[term]]\nnumber=1\nplace=\"line\"\ntype=\"T\"\nubl=\"cac:B\"\n")) (Err (BadTerm 2))
+given-twice : ◌≡◌ {A = Answer}
+    (file_terms (codes "[[term]]\nnumber=1\nplace=\"line\"\ntype=\"T\"\nubl=\"cac:A\"\n[[term]]\nnumber=1\nplace=\"line\"\ntype=\"T\"\nubl=\"cac:B\"\n"))
+    (Err (BadTerm 2))
 unfolding toml_on_literals chars is_utf8
 given-twice = refl
 

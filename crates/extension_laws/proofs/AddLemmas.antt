@@ -28,20 +28,24 @@ module _ (s : Step) (own : List Cell → List Cell) (deeper : Plan → Plan) (kn
   pub clear-past : (t : Step) (cells : List Cell) (inside rest : Plan) → is_called v.name t.name ≡ false
       → is_clear known (a_line t cells inside rest) (v ∷ path) ≡ is_clear known rest (v ∷ path)
   clear-past t cells inside rest n = ap (λ b. elim b [
-    | true ↦ (not (same_step v t) && (is_off known v.guards t cells inside || elim path [ [] ↦ false | (u ∷ further) ↦ is_clear (beyond t.group known) inside (u ∷ further) ])) && is_clear known rest (v ∷ path)
+    | true ↦ (not (same_step v t) && (is_off known v.guards t cells inside ||
+        elim path [ [] ↦ false | (u ∷ further) ↦ is_clear (beyond t.group known) inside (u ∷ further) ])) && is_clear known rest (v ∷ path)
     | false ↦ is_clear known rest (v ∷ path)
   ]) n
 
   clear-behind : (t : Step) (cells : List Cell) (inside rest rest' : Plan) → is_clear known rest' (v ∷ path) ≡ is_clear known rest (v ∷ path)
       → is_clear known (a_line t cells inside rest') (v ∷ path) ≡ is_clear known (a_line t cells inside rest) (v ∷ path)
   clear-behind t cells inside rest rest' e = ap (λ r. elim (is_called v.name t.name) [
-    | true ↦ (not (same_step v t) && (is_off known v.guards t cells inside || elim path [ [] ↦ false | (u ∷ further) ↦ is_clear (beyond t.group known) inside (u ∷ further) ])) && r
+    | true ↦ (not (same_step v t) && (is_off known v.guards t cells inside ||
+        elim path [ [] ↦ false | (u ∷ further) ↦ is_clear (beyond t.group known) inside (u ∷ further) ])) && r
     | false ↦ r
   ]) e
 
   clear-by : (t : Step) (cells : List Cell) (inside rest : Plan) (a b : Bool) → same_step s t ≡ a
       → is_clear known (into s own deeper rest) (v ∷ path) ≡ is_clear known rest (v ∷ path)
-      → is_clear known (choose a (λ _. a_line t (own cells) (deeper inside) rest) (λ _. choose b (λ _. a_line s (own []) (deeper nothing) (a_line t cells inside rest)) (λ _. a_line t cells inside (into s own deeper rest)))) (v ∷ path)
+      → is_clear known (choose a (λ _. a_line t (own cells) (deeper inside) rest)
+      (λ _. choose b (λ _. a_line s (own []) (deeper nothing) (a_line t cells inside rest)) (λ _. a_line t cells inside (into s own deeper rest))))
+      (v ∷ path)
       ≡ is_clear known (a_line t cells inside rest) (v ∷ path)
   clear-by t cells inside rest true b same later =
       clear-past t (own cells) (deeper inside) rest (not-called t same) ∙ sym (clear-past t cells inside rest (not-called t same))
@@ -62,15 +66,23 @@ module _ (s : Step) (own : List Cell → List Cell) (deeper : Plan → Plan) (kn
       go true f = absurd (false≢true (sym (not-called t f) ∙ subst (λ (x : Step). is_called v.name x.name ≡ true) (step-sound v t e) c))
 
   abbrev own_line : Step → List Cell → Plan → Plan → Bool
-  own_line t cells inside rest = is_met_or_unwritten known v.guards t cells inside && (is_clear known rest (v ∷ path) && elim path [ [] ↦ is_nothing inside | (u ∷ further) ↦ is_apart (beyond t.group known) inside (u ∷ further) ])
+  own_line t cells inside rest = is_met_or_unwritten known v.guards t cells inside &&
+      (is_clear known rest (v ∷ path) && elim path [ [] ↦ is_nothing inside | (u ∷ further) ↦ is_apart (beyond t.group known) inside (u ∷ further) ])
 
   abbrev called_line : Step → List Cell → Plan → Bool
-  called_line t cells inside = is_off known v.guards t cells inside || elim path [ [] ↦ false | (u ∷ further) ↦ is_clear (beyond t.group known) inside (u ∷ further) ]
+  called_line t cells inside = is_off known v.guards t cells inside ||
+      elim path [ [] ↦ false | (u ∷ further) ↦ is_clear (beyond t.group known) inside (u ∷ further) ]
 
   pub apart-past : (t : Step) (cells : List Cell) (inside rest : Plan) → same_step v t ≡ false → is_called v.name t.name ≡ false
       → is_apart known (a_line t cells inside rest) (v ∷ path) ≡ is_apart known rest (v ∷ path)
   apart-past t cells inside rest a b =
-      ap (λ x. elim x [ true ↦ own_line t cells inside rest | false ↦ elim (is_called v.name t.name) [ true ↦ called_line t cells inside && is_apart known rest (v ∷ path) | false ↦ is_apart known rest (v ∷ path) ] ]) a
+      ap (λ x. elim x [
+        | true ↦ own_line t cells inside rest
+        | false ↦ elim (is_called v.name t.name) [
+          | true ↦ called_line t cells inside && is_apart known rest (v ∷ path)
+          | false ↦ is_apart known rest (v ∷ path)
+        ]
+      ]) a
       ∙ ap (λ x. elim x [ true ↦ called_line t cells inside && is_apart known rest (v ∷ path) | false ↦ is_apart known rest (v ∷ path) ]) b
 
   not-same : (t : Step) → is_called v.name t.name ≡ false → is_called v.name v.name ≡ true → same_step v t ≡ false
@@ -85,8 +97,12 @@ module _ (s : Step) (own : List Cell → List Cell) (deeper : Plan → Plan) (kn
       → is_apart known (a_line t cells inside rest') (v ∷ path) ≡ is_apart known (a_line t cells inside rest) (v ∷ path)
   apart-behind t cells inside rest rest' e f =
       ap (λ c. elim (same_step v t) [
-        | true ↦ is_met_or_unwritten known v.guards t cells inside && (c && elim path [ [] ↦ is_nothing inside | (u ∷ further) ↦ is_apart (beyond t.group known) inside (u ∷ further) ])
-        | false ↦ elim (is_called v.name t.name) [ true ↦ called_line t cells inside && is_apart known rest' (v ∷ path) | false ↦ is_apart known rest' (v ∷ path) ]
+        | true ↦ is_met_or_unwritten known v.guards t cells inside &&
+            (c && elim path [ [] ↦ is_nothing inside | (u ∷ further) ↦ is_apart (beyond t.group known) inside (u ∷ further) ])
+        | false ↦ elim (is_called v.name t.name) [
+          | true ↦ called_line t cells inside && is_apart known rest' (v ∷ path)
+          | false ↦ is_apart known rest' (v ∷ path)
+        ]
       ]) e
       ∙ ap (λ r. elim (same_step v t) [
         | true ↦ own_line t cells inside rest
@@ -96,7 +112,9 @@ module _ (s : Step) (own : List Cell → List Cell) (deeper : Plan → Plan) (kn
   module _ (itself : is_called v.name v.name ≡ true) where
     apart-by : (t : Step) (cells : List Cell) (inside rest : Plan) (a b : Bool) → same_step s t ≡ a
         → is_apart known (into s own deeper rest) (v ∷ path) ≡ is_apart known rest (v ∷ path)
-        → is_apart known (choose a (λ _. a_line t (own cells) (deeper inside) rest) (λ _. choose b (λ _. a_line s (own []) (deeper nothing) (a_line t cells inside rest)) (λ _. a_line t cells inside (into s own deeper rest)))) (v ∷ path)
+        → is_apart known (choose a (λ _. a_line t (own cells) (deeper inside) rest)
+        (λ _. choose b (λ _. a_line s (own []) (deeper nothing) (a_line t cells inside rest)) (λ _. a_line t cells inside (into s own deeper rest))))
+        (v ∷ path)
         ≡ is_apart known (a_line t cells inside rest) (v ∷ path)
     apart-by t cells inside rest true b same later =
         let n = not-called t same in
@@ -123,12 +141,14 @@ text-itself : (a : List ℕ) → bytes_eq a a ≡ true
 text-itself a = (bytes_eq-Decides a a).1 refl
 
 pub called-as-itself : (v : ElementName) → is_called v v ≡ true
-called-as-itself v = ap (λ b. elim b [ true ↦ bytes_eq (uri_of v.namespace) (uri_of v.namespace) | false ↦ false ]) (text-itself v.local) ∙ text-itself (uri_of v.namespace)
+called-as-itself v = ap (λ b. elim b [ true ↦ bytes_eq (uri_of v.namespace) (uri_of v.namespace) | false ↦ false ]) (text-itself v.local) ∙
+    text-itself (uri_of v.namespace)
 
 pub absent : (s t : Step) (path : List Step) (rest : Plan) → s.number < t.number → Past t rest → finds (s ∷ path) rest ≡ false
 absent s t path nothing l p = refl
 absent s t path (a_line u cells inside rest) l p =
-    ap (λ b. elim b [ true ↦ elim path [ [] ↦ true | (w ∷ further) ↦ finds (w ∷ further) inside ] | false ↦ finds (s ∷ path) rest ]) (not-same-line (same_step s u) refl)
+    ap (λ b. elim b [ true ↦ elim path [ [] ↦ true | (w ∷ further) ↦ finds (w ∷ further) inside ] | false ↦ finds (s ∷ path) rest ])
+    (not-same-line (same_step s u) refl)
     ∙ absent s t path rest l p.1.1
   where
     not-same-line : (b : Bool) → same_step s u ≡ b → b ≡ false
@@ -145,16 +165,19 @@ or-first false b c e = absurd (false≢true e)
 -- ---- the line of a step that both paths go through
 
 module _ (s : Step) (own : List Cell → List Cell) (deeper : Plan → Plan) (u : Step) (further : List Step) (free : is_unguarded s.guards ≡ true)
-    (below : (known : Known) (inside : Plan) → Sorted inside → finds (u ∷ further) inside ≡ true → is_apart known (deeper inside) (u ∷ further) ≡ is_apart known inside (u ∷ further)) where
+    (below : (known : Known) (inside : Plan) → Sorted inside → finds (u ∷ further) inside ≡ true →
+    is_apart known (deeper inside) (u ∷ further) ≡ is_apart known inside (u ∷ further)) where
   module _ (known : Known) where
     met : (t : Step) (cells : List Cell) (inside : Plan) → is_met_or_unwritten known s.guards t cells inside ≡ true
     met t cells inside = or-first (is_unguarded s.guards) _ (is_unwritten known.gone t cells inside) free
 
     own-is : (t : Step) (cells : List Cell) (inside rest : Plan) → same_step s t ≡ true
-        → is_apart known (a_line t cells inside rest) (s ∷ u ∷ further) ≡ (is_clear known rest (s ∷ u ∷ further) && is_apart (beyond t.group known) inside (u ∷ further))
+        → is_apart known (a_line t cells inside rest) (s ∷ u ∷ further) ≡ (is_clear known rest (s ∷ u ∷ further) &&
+        is_apart (beyond t.group known) inside (u ∷ further))
     own-is t cells inside rest e =
         ap (λ b. elim b [
-          | true ↦ is_met_or_unwritten known s.guards t cells inside && (is_clear known rest (s ∷ u ∷ further) && is_apart (beyond t.group known) inside (u ∷ further))
+          | true ↦ is_met_or_unwritten known s.guards t cells inside &&
+              (is_clear known rest (s ∷ u ∷ further) && is_apart (beyond t.group known) inside (u ∷ further))
           | false ↦ elim (is_called s.name t.name) [
             | true ↦ (is_off known s.guards t cells inside || is_clear (beyond t.group known) inside (u ∷ further)) && is_apart known rest (s ∷ u ∷ further)
             | false ↦ is_apart known rest (s ∷ u ∷ further)
@@ -165,12 +188,21 @@ module _ (s : Step) (own : List Cell → List Cell) (deeper : Plan → Plan) (u 
     same-behind : (t : Step) (cells : List Cell) (inside rest rest' : Plan) → same_step s t ≡ false
         → is_apart known rest' (s ∷ u ∷ further) ≡ is_apart known rest (s ∷ u ∷ further)
         → is_apart known (a_line t cells inside rest') (s ∷ u ∷ further) ≡ is_apart known (a_line t cells inside rest) (s ∷ u ∷ further)
-    same-behind t cells inside rest rest' e f = other-is rest' ∙ (ap (λ r. elim (is_called s.name t.name) [ true ↦ (is_off known s.guards t cells inside || is_clear (beyond t.group known) inside (u ∷ further)) && r | false ↦ r ]) f ∙ sym (other-is rest))
+    same-behind t cells inside rest rest' e f = other-is rest' ∙
+        (ap (λ r. elim (is_called s.name t.name) [
+          | true ↦ (is_off known s.guards t cells inside || is_clear (beyond t.group known) inside (u ∷ further)) && r
+          | false ↦ r
+        ]) f ∙ sym (other-is rest))
       where
         other-is : (r : Plan) → is_apart known (a_line t cells inside r) (s ∷ u ∷ further)
-            ≡ elim (is_called s.name t.name) [ true ↦ (is_off known s.guards t cells inside || is_clear (beyond t.group known) inside (u ∷ further)) && is_apart known r (s ∷ u ∷ further) | false ↦ is_apart known r (s ∷ u ∷ further) ]
+            ≡ elim (is_called s.name t.name) [
+              | true ↦ (is_off known s.guards t cells inside || is_clear (beyond t.group known) inside (u ∷ further)) &&
+                  is_apart known r (s ∷ u ∷ further)
+              | false ↦ is_apart known r (s ∷ u ∷ further)
+            ]
         other-is r = ap (λ b. elim b [
-          | true ↦ is_met_or_unwritten known s.guards t cells inside && (is_clear known r (s ∷ u ∷ further) && is_apart (beyond t.group known) inside (u ∷ further))
+          | true ↦ is_met_or_unwritten known s.guards t cells inside &&
+              (is_clear known r (s ∷ u ∷ further) && is_apart (beyond t.group known) inside (u ∷ further))
           | false ↦ elim (is_called s.name t.name) [
             | true ↦ (is_off known s.guards t cells inside || is_clear (beyond t.group known) inside (u ∷ further)) && is_apart known r (s ∷ u ∷ further)
             | false ↦ is_apart known r (s ∷ u ∷ further)
@@ -189,7 +221,9 @@ module _ (s : Step) (own : List Cell → List Cell) (deeper : Plan → Plan) (u 
         → Sorted (a_line t cells inside rest)
         → finds (s ∷ u ∷ further) (a_line t cells inside rest) ≡ true
         → (finds (s ∷ u ∷ further) rest ≡ true → is_apart known (into s own deeper rest) (s ∷ u ∷ further) ≡ is_apart known rest (s ∷ u ∷ further))
-        → is_apart known (choose a (λ _. a_line t (own cells) (deeper inside) rest) (λ _. choose b (λ _. a_line s (own []) (deeper nothing) (a_line t cells inside rest)) (λ _. a_line t cells inside (into s own deeper rest)))) (s ∷ u ∷ further)
+        → is_apart known (choose a (λ _. a_line t (own cells) (deeper inside) rest)
+        (λ _. choose b (λ _. a_line s (own []) (deeper nothing) (a_line t cells inside rest)) (λ _. a_line t cells inside (into s own deeper rest))))
+        (s ∷ u ∷ further)
         ≡ is_apart known (a_line t cells inside rest) (s ∷ u ∷ further)
     same-by t cells inside rest true b same less sorted there later =
         own-is t (own cells) (deeper inside) rest same
@@ -197,7 +231,8 @@ module _ (s : Step) (own : List Cell → List Cell) (deeper : Plan → Plan) (u 
         ∙ sym (own-is t cells inside rest same))
     same-by t cells inside rest false true same less sorted there later =
         absurd (false≢true (sym (absent s t (u ∷ further) rest (ltb-true s.number t.number less) sorted.0) ∙ finds-behind t cells inside rest same there))
-    same-by t cells inside rest false false same less sorted there later = same-behind t cells inside rest (into s own deeper rest) same (later (finds-behind t cells inside rest same there))
+    same-by t cells inside rest false false same less sorted there later =
+        same-behind t cells inside rest (into s own deeper rest) same (later (finds-behind t cells inside rest same there))
 
     pub same-into : (plan : Plan) → Sorted plan → finds (s ∷ u ∷ further) plan ≡ true
         → is_apart known (into s own deeper plan) (s ∷ u ∷ further) ≡ is_apart known plan (s ∷ u ∷ further)
@@ -222,10 +257,13 @@ apart-add cell (v ∷ []) (s ∷ q) p free known plan sorted there = by (is_call
         never : (b : Bool) → (b && false) ≡ false
         never true = refl
         never false = refl
-apart-add cell (v ∷ u ∷ further) (s ∷ q) p free known plan sorted there = by (is_called v.name s.name) refl p (λ h k inside a b. apart-add cell (u ∷ further) q h (both (is_unguarded s.guards) (are_unguarded q) free).1 k inside a b)
+apart-add cell (v ∷ u ∷ further) (s ∷ q) p free known plan sorted there =
+    by (is_called v.name s.name) refl p (λ h k inside a b. apart-add cell (u ∷ further) q h
+    (both (is_unguarded s.guards) (are_unguarded q) free).1 k inside a b)
   where
     by : (b : Bool) → is_called v.name s.name ≡ b → elim b [ true ↦ same_step v s && part (u ∷ further) q | false ↦ true ] ≡ true
-        → (part (u ∷ further) q ≡ true → (known : Known) (inside : Plan) → Sorted inside → finds (u ∷ further) inside ≡ true → is_apart known (add q cell inside) (u ∷ further) ≡ is_apart known inside (u ∷ further))
+        → (part (u ∷ further) q ≡ true → (known : Known) (inside : Plan) → Sorted inside → finds (u ∷ further) inside ≡ true →
+        is_apart known (add q cell inside) (u ∷ further) ≡ is_apart known inside (u ∷ further))
         → is_apart known (into s (own_cells q cell) (add q cell) plan) (v ∷ u ∷ further) ≡ is_apart known plan (v ∷ u ∷ further)
     by false e h f = apart-into s (own_cells q cell) (add q cell) known v (u ∷ further) e (called-as-itself v.name) plan
     by true e h f =

@@ -24,9 +24,11 @@ use Rattle.bind_rows.specs.Added as added
 use Rattle.bind_meaning.specs.Picks.{term_in, has_term}
 use Rattle.bind_meaning.specs.Values.{subject_code, letter_of, form_for}
 use Rattle.binding_laws.specs.Apart.{is_called, is_unguarded, Together, is_of_group}
-use Rattle.binding_laws.specs.Known.{is_trimmed, is_place_of, texts_of, texts_asked, is_presence_asked, unlike_of, is_main_of, together_by, together_of, at_attributes, known_of}
+use Rattle.binding_laws.specs.Known.{is_trimmed, is_place_of, texts_of, texts_asked, is_presence_asked, unlike_of, is_main_of, together_by, together_of}
+use Rattle.binding_laws.specs.Known.{at_attributes, known_of}
 use Rattle.binding_laws.specs.Plain.{is_element, stands_nowhere_else}
-use Rattle.binding_laws.specs.Covered.{accounting_terms_of, accounting_terms, total_terms_of, total_terms, beside_filler, is_coded, is_coded_row, is_accounting_rule, is_total_rule}
+use Rattle.binding_laws.specs.Covered.{accounting_terms_of, accounting_terms, total_terms_of, total_terms, beside_filler, is_coded, is_coded_row}
+use Rattle.binding_laws.specs.Covered.{is_accounting_rule, is_total_rule}
 use Rattle.binding_laws.proofs.ReachLemmas.{Among}
 use Rattle.binding_laws.proofs.ListLemmas.{not-true}
 use Rattle.carrying_laws.proofs.ModelLemmas.{all-each}
@@ -67,15 +69,18 @@ no-texts local (s ∷ path) (v ∷ other) h =
     by (is_called s.name v.name) (none s.guards w.0) (no-texts local path other w.1)
   where
     none : (guards : List Guard) → is_unguarded guards ≡ true
-        → ◌≡◌ {A = List (List ℕ)} (flat_map (λ (guard : Guard). elim (is_place_of local other guard.place) [ true ↦ texts_of guard.test | false ↦ [] ]) guards) []
+        → ◌≡◌ {A = List (List ℕ)} (flat_map (λ (guard : Guard). elim (is_place_of local other guard.place) [ true ↦ texts_of guard.test | false ↦ [] ]) guards)
+        []
     none [] h = refl
     none (g ∷ guards) h = absurd (false≢true h)
 
     by : (b : Bool)
-        → ◌≡◌ {A = List (List ℕ)} (flat_map (λ (guard : Guard). elim (is_place_of local other guard.place) [ true ↦ texts_of guard.test | false ↦ [] ]) s.guards) []
+        → ◌≡◌ {A = List (List ℕ)} (flat_map (λ (guard : Guard). elim (is_place_of local other guard.place) [ true ↦ texts_of guard.test | false ↦ [] ])
+        s.guards) []
         → texts_asked local path other ≡ []
         → ◌≡◌ {A = List (List ℕ)} (elim b [
-          | true ↦ flat_map (λ (guard : Guard). elim (is_place_of local other guard.place) [ true ↦ texts_of guard.test | false ↦ [] ]) s.guards ++ texts_asked local path other
+          | true ↦ flat_map (λ (guard : Guard). elim (is_place_of local other guard.place) [ true ↦ texts_of guard.test | false ↦ [] ]) s.guards ++
+              texts_asked local path other
           | false ↦ []
         ]) []
     by true e f = ap (λ l. l ++ texts_asked local path other) e ∙ f
@@ -95,7 +100,8 @@ module _ (rows : List Row) (row : Row) (joins : Joins rows row) where
 
   not-main : (r : Row) (group : Group) (term : Term) → Among r rows → is_main_of r group row term ≡ false
   not-main r group term a =
-      and-false (is_element row.leaf) _ (and-false (is_of_group group row) _ (ap (λ b. b && stands_nowhere_else term (Some group) None) (part-other row.path r.path (own-parts rows row joins r a))))
+      and-false (is_element row.leaf) _ (and-false (is_of_group group row) _
+      (ap (λ b. b && stands_nowhere_else term (Some group) None) (part-other row.path r.path (own-parts rows row joins r a))))
 
   no-together : (r : Row) (group : Group) (part : Term) → Among r rows → together_by r group part row ≡ []
   no-together r group part a = by row.content
@@ -121,7 +127,10 @@ module _ (rows : List Row) (row : Row) (joins : Joins rows row) where
   no-attribute-here {X = X} f = by row.content row.leaf own.leaf
     where
       by : (c : Content) (l : Leaf) → l ≡ leaves.Element → ◌≡◌ {A = List X} (elim c [
-        | (contents.Term term) ↦ elim l [ leaves.Element ↦ [] | (leaves.Attribute local) ↦ elim (is_trimmed (letter_of term)) [ true ↦ f row term local | false ↦ [] ] ]
+        | (contents.Term term) ↦ elim l [
+          | leaves.Element ↦ []
+          | (leaves.Attribute local) ↦ elim (is_trimmed (letter_of term)) [ true ↦ f row term local | false ↦ [] ]
+        ]
         | (contents.Constant text) ↦ []
       ]) []
       by (contents.Term term) leaves.Element e = refl
@@ -131,19 +140,24 @@ module _ (rows : List Row) (row : Row) (joins : Joins rows row) where
   attributes-same : {X : Type 0} (f g : Row → Term → List ℕ → List X) (r : Row) → ((term : Term) (local : List ℕ) → g r term local ≡ f r term local)
       → at_attributes g r ≡ at_attributes f r
   attributes-same f g r h = λ i. elim r.content [
-    | (contents.Term term) ↦ elim r.leaf [ leaves.Element ↦ [] | (leaves.Attribute local) ↦ elim (is_trimmed (letter_of term)) [ true ↦ h term local i | false ↦ [] ] ]
+    | (contents.Term term) ↦ elim r.leaf [
+      | leaves.Element ↦ []
+      | (leaves.Attribute local) ↦ elim (is_trimmed (letter_of term)) [ true ↦ h term local i | false ↦ [] ]
+    ]
     | (contents.Constant text) ↦ []
   ]
 
   unlike-all : flat_map (at_attributes (unlike_of (rows ++ row ∷ []))) (rows ++ row ∷ []) ≡ flat_map (at_attributes (unlike_of rows)) rows
   unlike-all =
       flat-more (at_attributes (unlike_of rows)) (at_attributes (unlike_of (rows ++ row ∷ []))) rows row
-      (λ r a. attributes-same (unlike_of rows) (unlike_of (rows ++ row ∷ [])) r (λ term local. unlike-same r term local)) (no-attribute-here (unlike_of (rows ++ row ∷ [])))
+      (λ r a. attributes-same (unlike_of rows) (unlike_of (rows ++ row ∷ [])) r (λ term local. unlike-same r term local))
+      (no-attribute-here (unlike_of (rows ++ row ∷ [])))
 
   together-all : flat_map (at_attributes (together_of (rows ++ row ∷ []))) (rows ++ row ∷ []) ≡ flat_map (at_attributes (together_of rows)) rows
   together-all =
       flat-more (at_attributes (together_of rows)) (at_attributes (together_of (rows ++ row ∷ []))) rows row
-      (λ r a. attributes-same (together_of rows) (together_of (rows ++ row ∷ [])) r (λ term local. together-same r term local a)) (no-attribute-here (together_of (rows ++ row ∷ [])))
+      (λ r a. attributes-same (together_of rows) (together_of (rows ++ row ∷ [])) r (λ term local. together-same r term local a))
+      (no-attribute-here (together_of (rows ++ row ∷ [])))
 
   pub known-same : known_of (rows ++ row ∷ []) ≡ known_of rows
   known-same = λ i. record { gone = []; unlike = unlike-all i; together = together-all i }

@@ -1,5 +1,6 @@
 -- A complete table stays so where a row joins it: each term of the model is written by the rows that wrote it.
-use Rattle.std.proofs.Common.{◌≡◌, ◌<◌, Bool, true, false, not, ◌&&◌, ◌||◌, List, [], ◌∷◌, ◌++◌, length, filter, Option, Some, None, All, inl, inr, refl, sym, ap, ◌∙◌}
+use Rattle.std.proofs.Common.{◌≡◌, ◌<◌, Bool, true, false, not, ◌&&◌, ◌||◌, List, [], ◌∷◌, ◌++◌, length, filter, Option, Some, None, All, inl, inr, refl, sym}
+use Rattle.std.proofs.Common.{ap, ◌∙◌}
 use Rattle.std.specs.Prelude.{if◌then◌else◌}
 use Rattle.std.specs.List.{list_all, list_any}
 use Rattle.std.specs.Cmp.Lexicographic.{pointwise}
@@ -30,12 +31,16 @@ use Rattle.binding_laws.specs.Plain.{is_one, has_content, is_plain_in, is_plain_
 use Rattle.binding_laws.specs.Covered.{is_filled_in, is_total_in, is_pair_in, is_noted_in, is_coded_row, accounting_terms, unpaired_terms, left_out}
 use Rattle.binding_laws.proofs.ReachLemmas.{Among}
 use Rattle.binding_laws.proofs.ListLemmas.{not-true}
-use Rattle.carrying_laws.specs.Complete.{also, is_of, is_covered_for, is_writer, has_writer, stands_with, lets_beside, lets_all, is_if_iban, is_if_not_iban, is_if_no_scheme, is_as_modelled, is_main, is_beside, has_attribute, is_note_of, is_coder, has_coder, is_written_by_some, rows_with, is_written_in, writes_model, is_readable, reads_term, keeps_filler, is_kept_filler, keeps_known, keeps_notes, mistakes_none, is_plain_alone, adds_plainly, is_complete_in, is_complete}
+use Rattle.carrying_laws.specs.Complete.{also, is_of, is_covered_for, is_writer, has_writer, stands_with, lets_beside, lets_all, is_if_iban, is_if_not_iban}
+use Rattle.carrying_laws.specs.Complete.{is_if_no_scheme, is_as_modelled, is_main, is_beside, has_attribute, is_note_of, is_coder, has_coder}
+use Rattle.carrying_laws.specs.Complete.{is_written_by_some, rows_with, is_written_in, writes_model, is_readable, reads_term, keeps_filler, is_kept_filler}
+use Rattle.carrying_laws.specs.Complete.{keeps_known, keeps_notes, mistakes_none, is_plain_alone, adds_plainly, is_complete_in, is_complete}
 use Rattle.binding_laws.specs.Faultless.{is_if_scheme}
 use Rattle.carrying_laws.proofs.ModelLemmas.{all-each, each-all}
 use Rattle.extension_laws.specs.Joins.{Joins}
 use Rattle.extension_laws.proofs.AloneLemmas.{known-same, accounting-same, not-modelled, form-kept, form-typed, extension, other-term, uncoded}
-use Rattle.extension_laws.proofs.CoverLemmas.{content-mono, plain-stays, spread-stays, filled-stays, total-stays, pair-in-stays, noted-stays, attribute-stays, spread-attribute-stays}
+use Rattle.extension_laws.proofs.CoverLemmas.{content-mono, plain-stays, spread-stays, filled-stays, total-stays, pair-in-stays, noted-stays, attribute-stays}
+use Rattle.extension_laws.proofs.CoverLemmas.{spread-attribute-stays}
 use Rattle.extension_laws.proofs.JoinLemmas.{is}
 use Rattle.extension_laws.proofs.ListLemmas.{or-mono, and-mono, any-front, any-same, all-more}
 use Rattle.extension_laws.proofs.PlainLemmas.{plain-own, content-own}
@@ -70,7 +75,8 @@ filter-past p (x ∷ xs) y e = ap (λ l. if p x then x ∷ l else l) (filter-pas
 
 filter-only : {X : Type 0} (p : X → Bool) (xs : List X) (y : X) → ((x : X) → Among x xs → p x ≡ false) → p y ≡ true → filter p (xs ++ y ∷ []) ≡ y ∷ []
 filter-only p [] y f e = ap (λ b. if b then y ∷ [] else []) e
-filter-only p (x ∷ xs) y f e = ap (λ b. if b then x ∷ filter p (xs ++ y ∷ []) else filter p (xs ++ y ∷ [])) (f x (inl refl)) ∙ filter-only p xs y (λ z a. f z (inr a)) e
+filter-only p (x ∷ xs) y f e = ap (λ b. if b then x ∷ filter p (xs ++ y ∷ []) else filter p (xs ++ y ∷ [])) (f x (inl refl)) ∙
+    filter-only p xs y (λ z a. f z (inr a)) e
 
 -- no term of the model is an added one
 model-terms : list_all (λ (r : TermRow). not (is_extension r.term)) terms ≡ true
@@ -102,65 +108,86 @@ module _ (rows : List Row) (row : Row) (joins : Joins rows row) (long : All (λ 
       (either-mono (is_total_in was rows r t) (is_total_in now all r t) _ _ (λ e. total-stays rows row joins long paired r t a ∙ e)
       (either-mono (is_pair_in was rows r t) (is_pair_in now all r t) _ _ (pair-in-stays rows row joins long r t a)
       (either-mono (is_plain_with known was r t) (is_plain_with known now r t) _ _ (λ e. plain-stays rows row joins long known r t a ∙ e)
-      (either-mono (is_spread_with known was r t) (is_spread_with known now r t) (λ _. is_noted_in was rows r t) (λ _. is_noted_in now all r t) (λ e. spread-stays rows row joins long known r t a ∙ e)
+      (either-mono (is_spread_with known was r t) (is_spread_with known now r t) (λ _. is_noted_in was rows r t) (λ _. is_noted_in now all r t)
+      (λ e. spread-stays rows row joins long known r t a ∙ e)
       (λ e. noted-stays rows row joins long r t a ∙ e)))))))
 
   writer : (t : Term) (outer inner : Option Group) (lets : Row → Bool) (own : List Row) → ((r : Row) → Among r own → Among r rows)
       → has_writer was known rows t outer inner lets own ≡ true → has_writer now known all t outer inner lets own ≡ true
   writer t outer inner lets own among =
       any-each (is_writer was known rows t outer inner lets) (is_writer now known all t outer inner lets) own
-      (λ r a. also-mono (lets r && is_of outer inner r) (lets r && is_of outer inner r) (λ _. is_covered_for was known rows t r) (λ _. is_covered_for now known all t r) (λ e. e) (covered-for t r (among r a)))
+      (λ r a. also-mono (lets r && is_of outer inner r) (lets r && is_of outer inner r) (λ _. is_covered_for was known rows t r)
+      (λ _. is_covered_for now known all t r) (λ e. e) (covered-for t r (among r a)))
 
   -- ---- at attributes
 
   main-stays : (t : Term) (outer inner : Option Group) (r main : Row) (m : Term) → Among main rows
       → is_main now known ubl t outer inner r main m ≡ is_main was known ubl t outer inner r main m
   main-stays t outer inner r main m a = λ i.
-      also (pointwise same_step r.path main.path) (λ _. also (is_of outer inner main && lets_beside t m main.written) (λ _. also (stands_with ubl t outer inner m) (λ _.
-      either (attribute-stays rows row joins long unknown r t main m a i) (λ _. either (spread-attribute-stays rows row joins long r t main m a i) (λ _. attribute-stays rows row joins long known r t main m a i)))))
+      also (pointwise same_step r.path main.path) (λ _. also (is_of outer inner main && lets_beside t m main.written)
+      (λ _. also (stands_with ubl t outer inner m) (λ _.
+      either (attribute-stays rows row joins long unknown r t main m a i)
+      (λ _. either (spread-attribute-stays rows row joins long r t main m a i) (λ _. attribute-stays rows row joins long known r t main m a i)))))
 
   attribute : (t : Term) (outer inner : Option Group) (own : List Row) → has_attribute was known rows ubl t outer inner own ≡ true
       → has_attribute now known all ubl t outer inner own ≡ true
   attribute t outer inner own =
       any-each (λ r. list_any (is_beside was known ubl t outer inner r) rows) (λ r. list_any (is_beside now known ubl t outer inner r) all) own
       (λ r a. any-front (is_beside was known ubl t outer inner r) (is_beside now known ubl t outer inner r) rows (row ∷ [])
-      (λ main b. content-mono (is_main was known ubl t outer inner r main) (is_main now known ubl t outer inner r main) (λ m e. main-stays t outer inner r main m b ∙ e) main.content))
+      (λ main b. content-mono (is_main was known ubl t outer inner r main) (is_main now known ubl t outer inner r main)
+      (λ m e. main-stays t outer inner r main m b ∙ e) main.content))
 
   -- ---- in front of notes
 
   coder : (t : Term) (outer inner : Option Group) → has_coder was rows ubl t outer inner ≡ true → has_coder now all ubl t outer inner ≡ true
   coder t outer inner =
-      also-mono (same_term t subject_code) (same_term t subject_code) (λ _. list_any (is_coder was rows ubl t outer inner) rows) (λ _. list_any (is_coder now all ubl t outer inner) all) (λ e. e)
+      also-mono (same_term t subject_code) (same_term t subject_code) (λ _. list_any (is_coder was rows ubl t outer inner) rows)
+      (λ _. list_any (is_coder now all ubl t outer inner) all) (λ e. e)
       (any-front (is_coder was rows ubl t outer inner) (is_coder now all ubl t outer inner) rows (row ∷ [])
       (λ r a. content-mono (is_note_of was rows ubl t outer inner r) (is_note_of now all ubl t outer inner r)
-      (λ m e. (λ i. also (lets_all r.written && is_of outer inner r) (λ _. also (stands_with ubl t outer inner m) (λ _. noted-stays rows row joins long r m a i))) ∙ e) r.content))
+      (λ m e. (λ i. also (lets_all r.written && is_of outer inner r)
+      (λ _. also (stands_with ubl t outer inner m) (λ _. noted-stays rows row joins long r m a i))) ∙ e) r.content))
 
   -- ---- each term of the model
 
   by-some : (t : Term) (outer inner : Option Group) (own : List Row) → ((r : Row) → Among r own → Among r rows)
       → is_written_by_some was known [] rows ubl t outer inner own ≡ true → is_written_by_some now known [] all ubl t outer inner own ≡ true
   by-some t outer inner own among =
-      either-mono (has_writer was known rows t outer inner (λ r. lets_all r.written) own) (has_writer now known all t outer inner (λ r. lets_all r.written) own) _ _ (writer t outer inner (λ r. lets_all r.written) own among)
+      either-mono (has_writer was known rows t outer inner (λ r. lets_all r.written) own)
+      (has_writer now known all t outer inner (λ r. lets_all r.written) own) _ _ (writer t outer inner (λ r. lets_all r.written) own among)
       (either-mono
-      (also (has_writer was known rows t outer inner (λ r. is_if_iban r.written && is_as_modelled t r) own) (λ _. has_writer was known rows t outer inner (λ r. is_if_not_iban r.written && is_as_modelled t r) own))
-      (also (has_writer now known all t outer inner (λ r. is_if_iban r.written && is_as_modelled t r) own) (λ _. has_writer now known all t outer inner (λ r. is_if_not_iban r.written && is_as_modelled t r) own)) _ _
-      (also-mono (has_writer was known rows t outer inner (λ r. is_if_iban r.written && is_as_modelled t r) own) (has_writer now known all t outer inner (λ r. is_if_iban r.written && is_as_modelled t r) own)
-      (λ _. has_writer was known rows t outer inner (λ r. is_if_not_iban r.written && is_as_modelled t r) own) (λ _. has_writer now known all t outer inner (λ r. is_if_not_iban r.written && is_as_modelled t r) own)
-      (writer t outer inner (λ r. is_if_iban r.written && is_as_modelled t r) own among) (writer t outer inner (λ r. is_if_not_iban r.written && is_as_modelled t r) own among))
+      (also (has_writer was known rows t outer inner (λ r. is_if_iban r.written && is_as_modelled t r) own)
+      (λ _. has_writer was known rows t outer inner (λ r. is_if_not_iban r.written && is_as_modelled t r) own))
+      (also (has_writer now known all t outer inner (λ r. is_if_iban r.written && is_as_modelled t r) own)
+      (λ _. has_writer now known all t outer inner (λ r. is_if_not_iban r.written && is_as_modelled t r) own)) _ _
+      (also-mono (has_writer was known rows t outer inner (λ r. is_if_iban r.written && is_as_modelled t r) own)
+      (has_writer now known all t outer inner (λ r. is_if_iban r.written && is_as_modelled t r) own)
+      (λ _. has_writer was known rows t outer inner (λ r. is_if_not_iban r.written && is_as_modelled t r) own)
+      (λ _. has_writer now known all t outer inner (λ r. is_if_not_iban r.written && is_as_modelled t r) own)
+      (writer t outer inner (λ r. is_if_iban r.written && is_as_modelled t r) own among)
+      (writer t outer inner (λ r. is_if_not_iban r.written && is_as_modelled t r) own among))
       (either-mono
-      (also (has_writer was known rows t outer inner (λ r. is_if_scheme r.written) own) (λ _. has_writer was known rows t outer inner (λ r. is_if_no_scheme r.written) own))
-      (also (has_writer now known all t outer inner (λ r. is_if_scheme r.written) own) (λ _. has_writer now known all t outer inner (λ r. is_if_no_scheme r.written) own)) _ _
-      (also-mono (has_writer was known rows t outer inner (λ r. is_if_scheme r.written) own) (has_writer now known all t outer inner (λ r. is_if_scheme r.written) own)
-      (λ _. has_writer was known rows t outer inner (λ r. is_if_no_scheme r.written) own) (λ _. has_writer now known all t outer inner (λ r. is_if_no_scheme r.written) own)
+      (also (has_writer was known rows t outer inner (λ r. is_if_scheme r.written) own)
+      (λ _. has_writer was known rows t outer inner (λ r. is_if_no_scheme r.written) own))
+      (also (has_writer now known all t outer inner (λ r. is_if_scheme r.written) own)
+      (λ _. has_writer now known all t outer inner (λ r. is_if_no_scheme r.written) own)) _ _
+      (also-mono (has_writer was known rows t outer inner (λ r. is_if_scheme r.written) own)
+      (has_writer now known all t outer inner (λ r. is_if_scheme r.written) own)
+      (λ _. has_writer was known rows t outer inner (λ r. is_if_no_scheme r.written) own)
+      (λ _. has_writer now known all t outer inner (λ r. is_if_no_scheme r.written) own)
       (writer t outer inner (λ r. is_if_scheme r.written) own among) (writer t outer inner (λ r. is_if_no_scheme r.written) own among))
-      (either-mono (has_attribute was known rows ubl t outer inner own) (has_attribute now known all ubl t outer inner own) (λ _. has_coder was rows ubl t outer inner) (λ _. has_coder now all ubl t outer inner)
+      (either-mono (has_attribute was known rows ubl t outer inner own) (has_attribute now known all ubl t outer inner own)
+      (λ _. has_coder was rows ubl t outer inner) (λ _. has_coder now all ubl t outer inner)
       (attribute t outer inner own) (coder t outer inner))))
 
   model : writes_model was known [] rows ubl ≡ true → writes_model now known [] all ubl ≡ true
   model h = each-all (λ (r : TermRow). is_written_in now known [] all ubl r.term (outer_group r.group) (inner_group r.group)) terms (λ r a.
-      let other = content-term r.term row.content ∙ not-modelled rows row joins r.term (not-true _ (all-each (λ (x : TermRow). not (is_extension x.term)) terms model-terms r a)) in
-      ap (λ own. is_written_by_some now known [] all ubl r.term (outer_group r.group) (inner_group r.group) own) (filter-past (λ (x : Row). has_content r.term x.content) rows row other)
-      ∙ by-some r.term (outer_group r.group) (inner_group r.group) (rows_with r.term rows) (λ x b. filter-among (λ (y : Row). has_content r.term y.content) x rows b)
+      let other = content-term r.term row.content ∙ not-modelled rows row joins r.term
+      (not-true _ (all-each (λ (x : TermRow). not (is_extension x.term)) terms model-terms r a)) in
+      ap (λ own. is_written_by_some now known [] all ubl r.term (outer_group r.group) (inner_group r.group) own)
+      (filter-past (λ (x : Row). has_content r.term x.content) rows row other)
+      ∙ by-some r.term (outer_group r.group) (inner_group r.group) (rows_with r.term rows)
+      (λ x b. filter-among (λ (y : Row). has_content r.term y.content) x rows b)
       (all-each (λ (x : TermRow). is_written_in was known [] rows ubl x.term (outer_group x.group) (inner_group x.group)) terms h r a))
 
   -- ---- the rest
@@ -176,8 +203,10 @@ module _ (rows : List Row) (row : Row) (joins : Joins rows row) (long : All (λ 
   reads : list_all (reads_term []) rows ≡ true → list_all (reads_term []) all ≡ true
   reads h =
       all-more (reads_term []) rows row (all-each (reads_term []) rows h)
-      (ap (λ (c : Content). elim c [ (contents.Term t) ↦ list_any (same_term t) [] || is_readable (form_for row.form t) t | (contents.Constant text) ↦ true ]) joins.content
-      ∙ (ap (λ form. is_readable form joins.term) (form-kept rows row joins) ∙ typed-reads row.form joins.term (form-typed rows row joins) (extension rows row joins)))
+      (ap (λ (c : Content). elim c [ (contents.Term t) ↦ list_any (same_term t) [] || is_readable (form_for row.form t) t | (contents.Constant text) ↦ true ])
+      joins.content
+      ∙ (ap (λ form. is_readable form joins.term) (form-kept rows row joins) ∙
+      typed-reads row.form joins.term (form-typed rows row joins) (extension rows row joins)))
 
   alone-stays : (r : Row) → Among r rows → is_plain_alone was rows r ≡ true → is_plain_alone now all r ≡ true
   alone-stays r a = by r.content refl
@@ -188,30 +217,41 @@ module _ (rows : List Row) (row : Row) (joins : Joins rows row) (long : All (λ 
       by (contents.Constant text) e h = absurd (false≢true h)
       by (contents.Term t) e h =
           let other = ap (has_content t) joins.content ∙ other-term rows row joins r t a e in
-          also-mono (is_plain_in was r t) (is_plain_in now r t) (λ _. is_one (rows_with t rows)) (λ _. is_one (rows_with t all)) (λ k. plain-stays rows row joins long unknown r t a ∙ k)
+          also-mono (is_plain_in was r t) (is_plain_in now r t) (λ _. is_one (rows_with t rows)) (λ _. is_one (rows_with t all))
+          (λ k. plain-stays rows row joins long unknown r t a ∙ k)
           (λ k. ap is_one (filter-past (λ (x : Row). has_content t x.content) rows row other) ∙ k) h
 
   own-alone : is_plain_alone now all row ≡ true
   own-alone =
-      ap (λ (c : Content). elim c [ (contents.Term t) ↦ also (is_plain_in now row t) (λ _. is_one (rows_with t all)) | (contents.Constant text) ↦ false ]) joins.content
+      ap (λ (c : Content). elim c [ (contents.Term t) ↦ also (is_plain_in now row t) (λ _. is_one (rows_with t all)) | (contents.Constant text) ↦ false ])
+      joins.content
       ∙ (ap (λ b. also b (λ _. is_one (rows_with joins.term all))) (plain-own rows row joins long unknown)
       ∙ ap is_one (filter-only (λ (x : Row). has_content joins.term x.content) rows row
-      (λ x a. content-term joins.term x.content ∙ not-true (has_term joins.term x) (all-each (λ (o : Row). not (has_term joins.term o)) rows joins.alone x a)) (content-own rows row joins)))
+      (λ x a. content-term joins.term x.content ∙ not-true (has_term joins.term x) (all-each (λ (o : Row). not (has_term joins.term o)) rows joins.alone x a))
+      (content-own rows row joins)))
 
   adds : adds_plainly was rows ≡ true → adds_plainly now all ≡ true
   adds h =
       all-more (λ (r : Row). either (not (added.is_added r)) (λ _. is_plain_alone now all r)) rows row
-      (λ r a. either-mono (not (added.is_added r)) (not (added.is_added r)) (λ _. is_plain_alone was rows r) (λ _. is_plain_alone now all r) (λ e. e) (alone-stays r a)
+      (λ r a. either-mono (not (added.is_added r)) (not (added.is_added r)) (λ _. is_plain_alone was rows r) (λ _. is_plain_alone now all r) (λ e. e)
+      (alone-stays r a)
       (all-each (λ (x : Row). either (not (added.is_added x)) (λ _. is_plain_alone was rows x)) rows h r a))
       (either-mono false (not (added.is_added row)) (λ _. true) (λ _. is_plain_alone now all row) (λ e. absurd (false≢true e)) (λ e. own-alone) refl)
 
   keeps-own : keeps_filler ubl row ≡ true
   keeps-own =
-      ap (λ (w : Written). elim w [ (written.OrFiller filler) ↦ elim row.content [ (contents.Term t) ↦ is_kept_filler ubl t filler | (contents.Constant text) ↦ true ] | _ ↦ true ]) (is rows row joins).written
+      ap (λ (w : Written). elim w [
+        | (written.OrFiller filler) ↦ elim row.content [
+          | (contents.Term t) ↦ is_kept_filler ubl t filler
+          | (contents.Constant text) ↦ true
+        ]
+        | _ ↦ true
+      ]) (is rows row joins).written
 
   mistakes : mistakes_none known rows ubl ≡ true → mistakes_none known all ubl ≡ true
   mistakes =
-      and-mono (list_all (keeps_filler ubl) rows) _ (list_all (keeps_filler ubl) all) _ (λ h. all-more (keeps_filler ubl) rows row (all-each (keeps_filler ubl) rows h) keeps-own)
+      and-mono (list_all (keeps_filler ubl) rows) _ (list_all (keeps_filler ubl) all) _
+      (λ h. all-more (keeps_filler ubl) rows row (all-each (keeps_filler ubl) rows h) keeps-own)
       (and-mono (keeps_known known ubl) (keeps_notes rows ubl) (keeps_known known ubl) (keeps_notes all ubl) (λ e. e)
       (λ e. ap (λ b. ubl || not b) (any-same is_coded_row is_coded_row rows row (λ x a. refl) (uncoded rows row joins)) ∙ e))
 

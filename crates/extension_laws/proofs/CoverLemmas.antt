@@ -26,8 +26,14 @@ use Rattle.binding_laws.specs.Apart.{is_at_attribute, Known, without, unknown, i
 use Rattle.binding_laws.specs.Twins.{same_way}
 use Rattle.binding_laws.specs.Known.{is_trimmed, known_of}
 use Rattle.binding_laws.specs.Faultless.{is_model, is_no_row}
-use Rattle.binding_laws.specs.Plain.{rows_at, groups_of, listed, is_one, is_element, is_always, is_whole, is_by_value, is_kept_apart, has_content, is_of_one_term, stands_there, is_plain_there, is_plain_with, is_plain_in, is_plain_by, is_part_named, is_plain_attribute_with, is_plain_beside, is_spread_with, is_spread_in, is_spread_by, is_spread_attribute_in, is_spread_beside}
-use Rattle.binding_laws.specs.Covered.{is_or_filler, is_filled_in, is_filled_by, is_total_rule, is_accounting_rule, accounting_terms_of, accounting_terms, total_terms, is_total_there, beside_filler, is_half, are_pair, is_of_pair, is_pair_in, is_pair_by, unpaired_terms, is_total_in, is_total_by, are_beside, is_row_beside, is_told_filler, is_joined, unjoined_terms, is_known_beside, is_known_by, is_coded, is_noted_in, is_noted_by, is_covered_in}
+use Rattle.binding_laws.specs.Plain.{rows_at, groups_of, listed, is_one, is_element, is_always, is_whole, is_by_value, is_kept_apart, has_content}
+use Rattle.binding_laws.specs.Plain.{is_of_one_term, stands_there, is_plain_there, is_plain_with, is_plain_in, is_plain_by, is_part_named}
+use Rattle.binding_laws.specs.Plain.{is_plain_attribute_with, is_plain_beside, is_spread_with, is_spread_in, is_spread_by, is_spread_attribute_in}
+use Rattle.binding_laws.specs.Plain.{is_spread_beside}
+use Rattle.binding_laws.specs.Covered.{is_or_filler, is_filled_in, is_filled_by, is_total_rule, is_accounting_rule, accounting_terms_of, accounting_terms}
+use Rattle.binding_laws.specs.Covered.{total_terms, is_total_there, beside_filler, is_half, are_pair, is_of_pair, is_pair_in, is_pair_by, unpaired_terms}
+use Rattle.binding_laws.specs.Covered.{is_total_in, is_total_by, are_beside, is_row_beside, is_told_filler, is_joined, unjoined_terms, is_known_beside}
+use Rattle.binding_laws.specs.Covered.{is_known_by, is_coded, is_noted_in, is_noted_by, is_covered_in}
 use Rattle.binding_laws.proofs.ReachLemmas.{Among}
 use Rattle.extension_laws.specs.Joins.{Joins}
 use Rattle.extension_laws.proofs.AloneLemmas.{known-same, beside-same, no-accounting, accounting-same, total-same, subject-same}
@@ -82,21 +88,24 @@ module _ (rows : List Row) (row : Row) (joins : Joins rows row) (long : All (λ 
       && (is_one (ending is_at_element r a i)
       && (is_element r.leaf
       && (has_content t r.content
-      && (is_by_value r.written && (pointwise same_group (groups_of r.path) (listed r.outer ++ listed r.inner) && ((is_some r.outer || is_none r.inner) && is_kept_apart r t)))))))
+      && (is_by_value r.written && (pointwise same_group (groups_of r.path) (listed r.outer ++ listed r.inner) &&
+      ((is_some r.outer || is_none r.inner) && is_kept_apart r t)))))))
 
   pub plain-there-stays : (r : Row) (t : Term) → Among r rows → is_plain_there now r t ≡ is_plain_there was r t
   plain-there-stays r t a = λ i.
       is_one (ending is_at_element r a i)
       && (is_element r.leaf
       && (has_content t r.content
-      && (is_by_value r.written && (pointwise same_group (groups_of r.path) (listed r.outer ++ listed r.inner) && ((is_some r.outer || is_none r.inner) && is_kept_apart r t)))))
+      && (is_by_value r.written && (pointwise same_group (groups_of r.path) (listed r.outer ++ listed r.inner) &&
+      ((is_some r.outer || is_none r.inner) && is_kept_apart r t)))))
 
   pub spread-stays : (known : Known) (r : Row) (t : Term) → Among r rows → is_spread_with known now r t ≡ is_spread_with known was r t
   spread-stays known r t a = λ i.
       apart known r a i
       && (is_one (ending is_at_element r a i)
       && (is_element r.leaf
-      && (has_content t r.content && (is_of_one_term (form_for r.form t) && (is_by_value r.written && (is_none r.outer && (is_none r.inner && stands_there t None None)))))))
+      && (has_content t r.content && (is_of_one_term (form_for r.form t) &&
+      (is_by_value r.written && (is_none r.outer && (is_none r.inner && stands_there t None None)))))))
 
   named-stays : (main : Row) (leaf : Leaf) → Among main rows → is_part_named now main leaf ≡ is_part_named was main leaf
   named-stays main leaves.Element a = refl
@@ -109,7 +118,8 @@ module _ (rows : List Row) (row : Row) (joins : Joins rows row) (long : All (λ 
       && (plain-stays known main u a i
       && (same_or_none r.outer main.outer
       && (same_or_none r.inner main.inner
-      && (named-stays main r.leaf a i && (has_content t r.content && (is_whole (form_for r.form t) && (is_of_one_term (form_for r.form t) && is_always r.written)))))))
+      && (named-stays main r.leaf a i && (has_content t r.content &&
+      (is_whole (form_for r.form t) && (is_of_one_term (form_for r.form t) && is_always r.written)))))))
 
   pub spread-attribute-stays : (r : Row) (t : Term) (main : Row) (u : Term) → Among main rows
       → is_spread_attribute_in now r t main u ≡ is_spread_attribute_in was r t main u
@@ -119,13 +129,15 @@ module _ (rows : List Row) (row : Row) (joins : Joins rows row) (long : All (λ 
       && (is_whole (form_for main.form u)
       && (is_none r.outer
       && (is_none r.inner
-      && (named-stays main r.leaf a i && (has_content t r.content && (is_whole (form_for r.form t) && (is_of_one_term (form_for r.form t) && is_always r.written))))))))
+      && (named-stays main r.leaf a i && (has_content t r.content &&
+      (is_whole (form_for r.form t) && (is_of_one_term (form_for r.form t) && is_always r.written))))))))
 
   pub filled-stays : (r : Row) (t : Term) → Among r rows → is_filled_in now r t ≡ is_filled_in was r t
   filled-stays r t a = λ i. elim (is_or_filler r.written) [
     | true ↦ apart unknown r a i
         && (is_one (ending is_at_element r a i)
-        && (is_element r.leaf && (has_content t r.content && (is_of_one_term (form_for r.form t) && (is_none r.outer && (is_none r.inner && stands_there t None None))))))
+        && (is_element r.leaf && (has_content t r.content &&
+        (is_of_one_term (form_for r.form t) && (is_none r.outer && (is_none r.inner && stands_there t None None))))))
     | false ↦ false
   ]
 
@@ -135,13 +147,15 @@ module _ (rows : List Row) (row : Row) (joins : Joins rows row) (long : All (λ 
       && (is_one (ending is_at_element r a i)
       && (is_element r.leaf
       && (has_content t r.content
-      && (is_of_one_term (form_for r.form t) && (is_no_row (ending (is_at_attribute currency_id) r a i) && (is_none r.outer && (is_none r.inner && stands_there t None None)))))))
+      && (is_of_one_term (form_for r.form t) && (is_no_row (ending (is_at_attribute currency_id) r a i) &&
+      (is_none r.outer && (is_none r.inner && stands_there t None None)))))))
 
   -- ---- both VAT totals
 
   half-stays : (others others' : List Term) → others' ≡ others → (r : Row) → Among r rows → is_half now all others' r ≡ is_half was rows others r
   half-stays others others' e r a = λ i. elim r.content [
-    | (contents.Term t) ↦ (total-there-stays others' r t a ∙ ap (λ gone. is_total_there was gone r t) e) i && (is_amount r && not (list_any (λ u. has_term u r) (beside-same rows row joins i)))
+    | (contents.Term t) ↦ (total-there-stays others' r t a ∙ ap (λ gone. is_total_there was gone r t) e) i &&
+        (is_amount r && not (list_any (λ u. has_term u r) (beside-same rows row joins i)))
     | (contents.Constant text) ↦ false
   ]
 
@@ -149,7 +163,8 @@ module _ (rows : List Row) (row : Row) (joins : Joins rows row) (long : All (λ 
   pair-stays main twin a b = λ i. elim (is_total_rule main.written) [
     | true ↦ elim (is_accounting_rule twin.written) [
       | true ↦ half-stays (accounting_terms rows) (accounting_terms all) (accounting-same rows row joins) main a i
-          && (half-stays (total_terms rows) (total_terms all) (total-same rows row joins) twin b i && (same_way main.path twin.path && twins-stay rows row joins long main twin a b i))
+          && (half-stays (total_terms rows) (total_terms all) (total-same rows row joins) twin b i &&
+          (same_way main.path twin.path && twins-stay rows row joins long main twin a b i))
       | false ↦ false
     ]
     | false ↦ false
@@ -157,9 +172,12 @@ module _ (rows : List Row) (row : Row) (joins : Joins rows row) (long : All (λ 
 
   of-pair-stays : (r : Row) → Among r rows → is_of_pair was rows r ≡ true → is_of_pair now all r ≡ true
   of-pair-stays r a h =
-      if-mono (is_vat_total r.written) (list_any (λ other. are_pair was rows r other || are_pair was rows other r) rows) (list_any (λ other. are_pair now all r other || are_pair now all other r) all)
-      (any-front (λ other. are_pair was rows r other || are_pair was rows other r) (λ other. are_pair now all r other || are_pair now all other r) rows (row ∷ [])
-      (λ o b. or-mono (are_pair was rows r o) (are_pair was rows o r) (are_pair now all r o) (are_pair now all o r) (λ e. pair-stays r o a b ∙ e) (λ e. pair-stays o r b a ∙ e))) h
+      if-mono (is_vat_total r.written) (list_any (λ other. are_pair was rows r other || are_pair was rows other r) rows)
+      (list_any (λ other. are_pair now all r other || are_pair now all other r) all)
+      (any-front (λ other. are_pair was rows r other || are_pair was rows other r) (λ other. are_pair now all r other || are_pair now all other r) rows
+      (row ∷ [])
+      (λ o b. or-mono (are_pair was rows r o) (are_pair was rows o r) (are_pair now all r o) (are_pair now all o r) (λ e. pair-stays r o a b ∙ e)
+      (λ e. pair-stays o r b a ∙ e))) h
 
   pub pair-in-stays : (r : Row) (t : Term) → Among r rows → is_pair_in was rows r t ≡ true → is_pair_in now all r t ≡ true
   pair-in-stays r t a h = go (is_of_pair was rows r) refl h
@@ -169,7 +187,8 @@ module _ (rows : List Row) (row : Row) (joins : Joins rows row) (long : All (λ 
       go false e k = absurd (false≢true k)
 
   pub paired-more : unpaired_terms was rows ≡ [] → unpaired_terms now all ≡ []
-  paired-more none = unless-more (is_of_pair was rows) (is_of_pair now all) accounting_terms_of rows row (λ r a h. of-pair-stays r a h) (no-accounting rows row joins) none
+  paired-more none = unless-more (is_of_pair was rows) (is_of_pair now all) accounting_terms_of rows row (λ r a h. of-pair-stays r a h)
+      (no-accounting rows row joins) none
 
   -- ---- fillers
 
@@ -202,21 +221,25 @@ module _ (rows : List Row) (row : Row) (joins : Joins rows row) (long : All (λ 
   known-beside-stays known r main a h =
       content-mono (λ t. elim main.content [ (contents.Term u) ↦ is_plain_attribute_with known was r t main u | (contents.Constant text) ↦ false ])
       (λ t. elim main.content [ (contents.Term u) ↦ is_plain_attribute_with known now r t main u | (contents.Constant text) ↦ false ])
-      (λ t e. content-mono (λ u. is_plain_attribute_with known was r t main u) (λ u. is_plain_attribute_with known now r t main u) (λ u k. attribute-stays known r t main u a ∙ k) main.content e) r.content h
+      (λ t e. content-mono (λ u. is_plain_attribute_with known was r t main u) (λ u. is_plain_attribute_with known now r t main u)
+      (λ u k. attribute-stays known r t main u a ∙ k) main.content e) r.content h
 
   spread-beside-stays : (r main : Row) → Among main rows → is_spread_beside was r main ≡ true → is_spread_beside now r main ≡ true
   spread-beside-stays r main a h =
       content-mono (λ t. elim main.content [ (contents.Term u) ↦ is_spread_attribute_in was r t main u | (contents.Constant text) ↦ false ])
       (λ t. elim main.content [ (contents.Term u) ↦ is_spread_attribute_in now r t main u | (contents.Constant text) ↦ false ])
-      (λ t e. content-mono (λ u. is_spread_attribute_in was r t main u) (λ u. is_spread_attribute_in now r t main u) (λ u k. spread-attribute-stays r t main u a ∙ k) main.content e) r.content h
+      (λ t e. content-mono (λ u. is_spread_attribute_in was r t main u) (λ u. is_spread_attribute_in now r t main u) (λ u k. spread-attribute-stays r t main u a
+      ∙ k) main.content e) r.content h
 
   known-by-stays : (known : Known) (r : Row) → Among r rows → is_known_by known was rows r ≡ true → is_known_by known now all r ≡ true
   known-by-stays known r a h =
       content-mono (λ t. is_plain_with known was r t || (is_spread_with known was r t || list_any (is_known_beside known was r) rows))
       (λ t. is_plain_with known now r t || (is_spread_with known now r t || list_any (is_known_beside known now r) all))
-      (λ t e. or-mono (is_plain_with known was r t) (is_spread_with known was r t || list_any (is_known_beside known was r) rows) (is_plain_with known now r t) (is_spread_with known now r t || list_any (is_known_beside known now r) all)
+      (λ t e. or-mono (is_plain_with known was r t) (is_spread_with known was r t || list_any (is_known_beside known was r) rows) (is_plain_with known now r t)
+      (is_spread_with known now r t || list_any (is_known_beside known now r) all)
       (λ k. plain-stays known r t a ∙ k)
-      (or-mono (is_spread_with known was r t) (list_any (is_known_beside known was r) rows) (is_spread_with known now r t) (list_any (is_known_beside known now r) all)
+      (or-mono (is_spread_with known was r t) (list_any (is_known_beside known was r) rows) (is_spread_with known now r t)
+      (list_any (is_known_beside known now r) all)
       (λ k. spread-stays known r t a ∙ k)
       (any-front (is_known_beside known was r) (is_known_beside known now r) rows (row ∷ []) (λ o b k. known-beside-stays known r o b k))) e) r.content h
 

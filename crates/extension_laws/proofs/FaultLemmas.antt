@@ -16,7 +16,9 @@ use Rattle.bind_meaning.specs.Trees.{is_at_element, is_amount, is_vat_total}
 use Rattle.bind_meaning.specs.Writing.{scheme_of}
 use Rattle.binding_laws.specs.Apart.{is_attribute_named, is_at_attribute, unknown, is_apart}
 use Rattle.binding_laws.specs.Plain.{rows_at, is_element, has_content}
-use Rattle.binding_laws.specs.Faultless.{goes_through, is_told_once, are_apart_at, are_apart, all_apart, is_if_scheme, is_needed_with, scheme_id, is_scheme_beside, has_scheme_of, has_scheme, format_name, are_format, has_format, is_no_row, is_in_invoice_currency, shows_currency_there, shows_its_currency, are_word, has_word, is_fine, is_faultless}
+use Rattle.binding_laws.specs.Faultless.{goes_through, is_told_once, are_apart_at, are_apart, all_apart, is_if_scheme, is_needed_with, scheme_id}
+use Rattle.binding_laws.specs.Faultless.{is_scheme_beside, has_scheme_of, has_scheme, format_name, are_format, has_format, is_no_row, is_in_invoice_currency}
+use Rattle.binding_laws.specs.Faultless.{shows_currency_there, shows_its_currency, are_word, has_word, is_fine, is_faultless}
 use Rattle.binding_laws.proofs.ReachLemmas.{Among}
 use Rattle.binding_laws.proofs.ListLemmas.{both-true}
 use Rattle.carrying_laws.proofs.Disjuncts.{and-true, or-second}
@@ -34,7 +36,8 @@ apart-behind : (rows : List Row) (row : Row) → all_apart rows ≡ true → ((r
 apart-behind [] row h f = refl
 apart-behind (r ∷ rows) row h f =
     let w = both-true (list_all (are_apart r) rows) (all_apart rows) h in
-    and-true (list_all (are_apart r) (rows ++ row ∷ [])) (all_apart (rows ++ row ∷ [])) (all-more (are_apart r) rows row (all-each (are_apart r) rows w.0) (f r (inl refl)))
+    and-true (list_all (are_apart r) (rows ++ row ∷ [])) (all_apart (rows ++ row ∷ []))
+    (all-more (are_apart r) rows row (all-each (are_apart r) rows w.0) (f r (inl refl)))
     (apart-behind rows row w.1 (λ x a. f x (inr a)))
 
 -- by the check of a row
@@ -69,7 +72,8 @@ module _ (rows : List Row) (row : Row) (joins : Joins rows row) (long : All (λ 
       by : (c : Content) → r.content ≡ c
           → elim c [ (contents.Term t) ↦ elim (has_term t row) [ true ↦ are_apart_at r row t | false ↦ true ] | (contents.Constant text) ↦ true ] ≡ true
       by (contents.Term t) e =
-          let none : has_term t row ≡ false = ap (λ (c : Content). elim (term_in c) [ None ↦ false | Some u ↦ same_term u t ]) joins.content ∙ other-term rows row joins r t a e in
+          let none : has_term t row ≡ false = ap (λ (c : Content). elim (term_in c) [ None ↦ false | Some u ↦ same_term u t ]) joins.content ∙
+          other-term rows row joins r t a e in
           ap (λ b. elim b [ true ↦ are_apart_at r row t | false ↦ true ]) none
       by (contents.Constant text) e = refl
 
@@ -77,7 +81,11 @@ module _ (rows : List Row) (row : Row) (joins : Joins rows row) (long : All (λ 
 
   scheme-beside-stays : (r : Row) (t : Term) (part : Row) → Among r rows → is_scheme_beside was r t part ≡ true → is_scheme_beside now r t part ≡ true
   scheme-beside-stays r t part a h =
-      (λ i. elim (has_content (scheme_of t) part.content) [ true ↦ is_attribute_named scheme_id part.leaf && attribute-stays rows row joins long unknown part (scheme_of t) r t a i | false ↦ false ]) ∙ h
+      (λ i. elim (has_content (scheme_of t) part.content) [
+        | true ↦ is_attribute_named scheme_id part.leaf &&
+            attribute-stays rows row joins long unknown part (scheme_of t) r t a i
+        | false ↦ false
+      ]) ∙ h
 
   scheme-stays : (r : Row) → Among r rows → has_scheme was rows r ≡ true → has_scheme now all r ≡ true
   scheme-stays r a =
@@ -89,13 +97,17 @@ module _ (rows : List Row) (row : Row) (joins : Joins rows row) (long : All (λ 
       (any-front (is_scheme_beside was r t) (is_scheme_beside now r t) rows (row ∷ []) (λ o b. scheme-beside-stays r t o a))) r.content) r.check
 
   format-stays : (r : Row) → Among r rows → has_format now r ≡ has_format was r
-  format-stays r a = λ i. elim r.check [ checks.Format ↦ is_element r.leaf && are_format (ending rows row joins long (is_at_attribute format_name) r a i) | _ ↦ true ]
+  format-stays r a = λ i. elim r.check [
+    | checks.Format ↦ is_element r.leaf && are_format (ending rows row joins long (is_at_attribute format_name) r a i)
+    | _ ↦ true
+  ]
 
   currency-stays : (r : Row) → Among r rows → shows_its_currency now r ≡ shows_its_currency was r
   currency-stays r a = λ i. elim r.content [
     | (contents.Term t) ↦ elim (is_amount r && not (is_vat_total r.written)) [
       | true ↦ is_element r.leaf
-          && (list_all (λ (x : Row). is_in_invoice_currency x.written) (ending rows row joins long is_at_element r a i) && is_no_row (ending rows row joins long (is_at_attribute currency_id) r a i))
+          && (list_all (λ (x : Row). is_in_invoice_currency x.written) (ending rows row joins long is_at_element r a i) &&
+          is_no_row (ending rows row joins long (is_at_attribute currency_id) r a i))
       | false ↦ true
     ]
     | (contents.Constant text) ↦ true
@@ -103,7 +115,8 @@ module _ (rows : List Row) (row : Row) (joins : Joins rows row) (long : All (λ 
 
   word-stays : (r : Row) → Among r rows → has_word now r ≡ has_word was r
   word-stays r a = λ i. elim r.check [
-    | (checks.Indicator t) ↦ has_any_term r || (apart rows row joins long unknown r a i && (is_element r.leaf && are_word (ending rows row joins long is_at_element r a i)))
+    | (checks.Indicator t) ↦ has_any_term r || (apart rows row joins long unknown r a i &&
+        (is_element r.leaf && are_word (ending rows row joins long is_at_element r a i)))
     | _ ↦ true
   ]
 
@@ -112,15 +125,18 @@ module _ (rows : List Row) (row : Row) (joins : Joins rows row) (long : All (λ 
       and-mono (is_told_once r) _ (is_told_once r) _ (λ e. e)
       (and-mono (has_scheme was rows r) _ (has_scheme now all r) _ (scheme-stays r a)
       (and-mono (has_format was r) _ (has_format now r) _ (λ e. format-stays r a ∙ e)
-      (and-mono (shows_its_currency was r) (has_word was r) (shows_its_currency now r) (has_word now r) (λ e. currency-stays r a ∙ e) (λ e. word-stays r a ∙ e))))
+      (and-mono (shows_its_currency was r) (has_word was r) (shows_its_currency now r) (has_word now r) (λ e. currency-stays r a ∙ e)
+      (λ e. word-stays r a ∙ e))))
 
   -- ---- the row itself
 
   own-currency : shows_currency_there now row ≡ true
   own-currency =
       and-true (is_element row.leaf) _ (ap is_element own.leaf)
-      (and-true (list_all (λ (x : Row). is_in_invoice_currency x.written) (rows_at is_at_element now row.path)) (is_no_row (rows_at (is_at_attribute currency_id) now row.path))
-      (ap (λ l. list_all (λ (x : Row). is_in_invoice_currency x.written) l) (ends-alone rows row joins long) ∙ ap (λ w. is_in_invoice_currency w && true) own.written)
+      (and-true (list_all (λ (x : Row). is_in_invoice_currency x.written) (rows_at is_at_element now row.path))
+      (is_no_row (rows_at (is_at_attribute currency_id) now row.path))
+      (ap (λ l. list_all (λ (x : Row). is_in_invoice_currency x.written) l) (ends-alone rows row joins long) ∙
+      ap (λ w. is_in_invoice_currency w && true) own.written)
       (ap is_no_row (no-attribute rows row joins long currency_id)))
 
   shown : (b c : Bool) → c ≡ true → elim b [ true ↦ c | false ↦ true ] ≡ true
@@ -129,18 +145,32 @@ module _ (rows : List Row) (row : Row) (joins : Joins rows row) (long : All (λ 
 
   own-shows : shows_its_currency now row ≡ true
   own-shows =
-      ap (λ (c : Content). elim c [ (contents.Term t) ↦ elim (is_amount row && not (is_vat_total row.written)) [ true ↦ shows_currency_there now row | false ↦ true ] | (contents.Constant text) ↦ true ]) joins.content
+      ap (λ (c : Content). elim c [
+        | (contents.Term t) ↦ elim (is_amount row && not (is_vat_total row.written)) [
+          | true ↦ shows_currency_there now row
+          | false ↦ true
+        ]
+        | (contents.Constant text) ↦ true
+      ]) joins.content
       ∙ shown (is_amount row && not (is_vat_total row.written)) (shows_currency_there now row) own-currency
 
   fine-own : is_fine now all row ≡ true
   fine-own =
       and-true (is_told_once row) _ (or-second (may_repeat row.repeats) (goes_through row) (through rows row joins))
       (and-true (has_scheme now all row) _
-      (ap (λ (c : Check). elim c [ checks.Scheme ↦ elim row.content [ (contents.Term t) ↦ has_scheme_of now all row t | (contents.Constant text) ↦ true ] | _ ↦ true ]) own.check)
+      (ap (λ (c : Check). elim c [
+        | checks.Scheme ↦ elim row.content [ (contents.Term t) ↦ has_scheme_of now all row t | (contents.Constant text) ↦ true ]
+        | _ ↦ true
+      ]) own.check)
       (and-true (has_format now row) _
-      (ap (λ (c : Check). elim c [ checks.Format ↦ is_element row.leaf && are_format (rows_at (is_at_attribute format_name) now row.path) | _ ↦ true ]) own.check)
+      (ap (λ (c : Check). elim c [ checks.Format ↦ is_element row.leaf && are_format (rows_at (is_at_attribute format_name) now row.path) | _ ↦ true ])
+      own.check)
       (and-true (shows_its_currency now row) (has_word now row) own-shows
-      (ap (λ (c : Check). elim c [ (checks.Indicator t) ↦ has_any_term row || (is_apart unknown now row.path && (is_element row.leaf && are_word (rows_at is_at_element now row.path))) | _ ↦ true ]) own.check))))
+      (ap (λ (c : Check). elim c [
+        | (checks.Indicator t) ↦ has_any_term row ||
+            (is_apart unknown now row.path && (is_element row.leaf && are_word (rows_at is_at_element now row.path)))
+        | _ ↦ true
+      ]) own.check))))
 
   pub faultless-more : is_faultless rows ≡ true → is_faultless all ≡ true
   faultless-more h =

@@ -1,5 +1,6 @@
 -- The built-in part of an extended table is judged as it is judged alone, so a fault is that of a term's row.
-use Rattle.std.proofs.Common.{◌≡◌, ℕ, zero, suc, ◌+◌, ◌-◌, ◌≤◌, Bool, true, false, not, ◌&&◌, ◌||◌, ◌⊎◌, inl, inr, List, [], ◌∷◌, ◌++◌, length, Option, Some, None, Result, Ok, Err, refl, sym, ap, ◌∙◌, subst, arith, append_assoc}
+use Rattle.std.proofs.Common.{◌≡◌, ℕ, zero, suc, ◌+◌, ◌-◌, ◌≤◌, Bool, true, false, not, ◌&&◌, ◌||◌, ◌⊎◌, inl, inr, List, [], ◌∷◌, ◌++◌, length, Option, Some}
+use Rattle.std.proofs.Common.{None, Result, Ok, Err, refl, sym, ap, ◌∙◌, subst, arith, append_assoc}
 use Rattle.std.specs.Prelude.{◌==◌, if◌then◌else◌, slice_get}
 use Rattle.std.specs.List.{list_all}
 use Rattle.std.proofs.lemmas.Bool.{false≢true}
@@ -113,10 +114,12 @@ none-at rows own k [] j row fine at = cc
 none-at rows own k (r ∷ left) zero row fine at =
     let P : Row → Type 0 = λ r. fault_of rows own k r ≡ None in
     let e : k ≡ k + 0 = omega arith in
-    subst (λ n. fault_of rows own n row ≡ None) e (subst P (same_Some _ _ at) (told-ok k (fault_of rows own k r) (first_fault_from rows own (k + 1) left) fine).0)
+    subst (λ n. fault_of rows own n row ≡ None) e
+    (subst P (same_Some _ _ at) (told-ok k (fault_of rows own k r) (first_fault_from rows own (k + 1) left) fine).0)
 none-at rows own k (r ∷ left) (suc j) row fine at =
     let e : k + 1 + j ≡ k + suc j = omega arith in
-    subst (λ n. fault_of rows own n row ≡ None) e (none-at rows own (k + 1) left j row (told-ok k (fault_of rows own k r) (first_fault_from rows own (k + 1) left) fine).1 at)
+    subst (λ n. fault_of rows own n row ≡ None) e
+    (none-at rows own (k + 1) left j row (told-ok k (fault_of rows own k r) (first_fault_from rows own (k + 1) left) fine).1 at)
 
 record Found (rows own : List Row) (k : ℕ) (left : List Row) (fault : TableFault) : Type 0 where
   place : ℕ
@@ -245,4 +248,5 @@ extension-fault formed table e fault h bad =
     let b = behind table (terms_for table e) 0 (rows_of table) (rising table e h) in
     let here : first_fault (rows_of table ++ b.back) ≡ Err fault = subst (λ l. first_fault l ≡ Err fault) b.is bad in
     subst (λ l. IsOfTerm (length (rows_of table)) l fault) (sym b.is)
-    (is-of-term (rows_of table) b.back b.all (formed table) (own-rows table) fault (found (rows_of table ++ b.back) (built (rows_of table ++ b.back)) 0 (rows_of table ++ b.back) fault here))
+    (is-of-term (rows_of table) b.back b.all (formed table) (own-rows table) fault
+    (found (rows_of table ++ b.back) (built (rows_of table ++ b.back)) 0 (rows_of table ++ b.back) fault here))

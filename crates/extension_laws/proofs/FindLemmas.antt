@@ -35,9 +35,12 @@ module _ (is_so : Cell → Bool) (s : Step) (own : List Cell → List Cell) (dee
 
   rows-by : (t : Step) (cells : List Cell) (inside rest : Plan) (a b : Bool) → same_step s t ≡ a
       → rows_at is_so (into s own deeper rest) (v ∷ path) ≡ rows_at is_so rest (v ∷ path)
-      → rows_at is_so (choose a (λ _. a_line t (own cells) (deeper inside) rest) (λ _. choose b (λ _. a_line s (own []) (deeper nothing) (a_line t cells inside rest)) (λ _. a_line t cells inside (into s own deeper rest)))) (v ∷ path)
+      → rows_at is_so (choose a (λ _. a_line t (own cells) (deeper inside) rest)
+      (λ _. choose b (λ _. a_line s (own []) (deeper nothing) (a_line t cells inside rest)) (λ _. a_line t cells inside (into s own deeper rest))))
+      (v ∷ path)
       ≡ rows_at is_so (a_line t cells inside rest) (v ∷ path)
-  rows-by t cells inside rest true b same later = rows-past t (own cells) (deeper inside) rest (not-own t same) ∙ sym (rows-past t cells inside rest (not-own t same))
+  rows-by t cells inside rest true b same later = rows-past t (own cells) (deeper inside) rest (not-own t same) ∙
+      sym (rows-past t cells inside rest (not-own t same))
   rows-by t cells inside rest false true same later = rows-past s (own []) (deeper nothing) (a_line t cells inside rest) other
   rows-by t cells inside rest false false same later = rows-behind t cells inside rest (into s own deeper rest) later
 
@@ -65,7 +68,8 @@ Every P (row ∷ rows) = P row × Every P rows
 pub leaves-grown : (q : List Step) (rows : List Row) (n : ℕ) (plan : Plan) → leaves_by_name q plan ≡ true → Every (λ (r : Row). part q r.path ≡ true) rows
     → leaves_by_name q (grown plan n rows) ≡ true
 leaves-grown q [] n plan h a = h
-leaves-grown q (r ∷ rows) n plan h a = leaves-grown q rows (n + 1) (add r.path (record { number = n; row = r }) plan) (leaves-add (record { number = n; row = r }) q r.path a.0 plan h) a.1
+leaves-grown q (r ∷ rows) n plan h a = leaves-grown q rows (n + 1) (add r.path (record { number = n; row = r }) plan)
+    (leaves-add (record { number = n; row = r }) q r.path a.0 plan h) a.1
 
 -- A row whose path parts from all others stands apart in the table with it.
 pub added-apart : (rows : List Row) (row : Row) (s : Step) (q : List Step) → row.path ≡ s ∷ q → are_unguarded (s ∷ q) ≡ true → Sorted (plan_of rows)
@@ -82,4 +86,5 @@ pub others-apart : (rows : List Row) (row : Row) (path : List Step) → part pat
     → finds path (plan_of rows) ≡ true
     → (known : Known) → is_apart known (plan_of (rows ++ row ∷ [])) path ≡ is_apart known (plan_of rows) path
 others-apart rows row path parts free sorted there known =
-    ap (λ plan. is_apart known plan path) (plan-more rows row) ∙ apart-add (record { number = 0 + length rows; row = row }) path row.path parts free known (plan_of rows) sorted there
+    ap (λ plan. is_apart known plan path) (plan-more rows row) ∙ apart-add (record { number = 0 + length rows; row = row }) path row.path parts free known
+    (plan_of rows) sorted there

@@ -46,16 +46,19 @@ module _ (s : Step) (own : List Cell → List Cell) (deeper : Plan → Plan) (v 
   behind-line : (t : Step) (cells : List Cell) (inside rest : Plan) (b : Bool) → same_step v t ≡ b → finds (v ∷ path) (a_line t cells inside rest) ≡ true
       → (finds (v ∷ path) rest ≡ true → finds (v ∷ path) (into s own deeper rest) ≡ true)
       → finds (v ∷ path) (a_line t cells inside (into s own deeper rest)) ≡ true
-  behind-line t cells inside rest true e h later = line-is v path t cells inside (into s own deeper rest) true e ∙ (sym (line-is v path t cells inside rest true e) ∙ h)
+  behind-line t cells inside rest true e h later = line-is v path t cells inside (into s own deeper rest) true e ∙
+      (sym (line-is v path t cells inside rest true e) ∙ h)
   behind-line t cells inside rest false e h later =
       line-is v path t cells inside (into s own deeper rest) false e ∙ later (sym (line-is v path t cells inside rest false e) ∙ h)
 
   by-line : (t : Step) (cells : List Cell) (inside rest : Plan) (a b : Bool) → same_step s t ≡ a → nat_lt s.number t.number ≡ b
       → Sorted (a_line t cells inside rest)
       → finds (v ∷ path) (a_line t cells inside rest) ≡ true → (finds (v ∷ path) rest ≡ true → finds (v ∷ path) (into s own deeper rest) ≡ true)
-      → finds (v ∷ path) (choose a (λ _. a_line t (own cells) (deeper inside) rest) (λ _. choose b (λ _. a_line s (own []) (deeper nothing) (a_line t cells inside rest)) (λ _. a_line t cells inside (into s own deeper rest)))) ≡ true
+      → finds (v ∷ path) (choose a (λ _. a_line t (own cells) (deeper inside) rest)
+      (λ _. choose b (λ _. a_line s (own []) (deeper nothing) (a_line t cells inside rest)) (λ _. a_line t cells inside (into s own deeper rest)))) ≡ true
   by-line t cells inside rest true b same less sorted h later = same-line t cells inside rest (same_step v t) refl sorted.1.0 h
-  by-line t cells inside rest false true same less sorted h later = new-line t cells inside rest (same_step v s) refl same (ltb-true s.number t.number less) sorted.0 h
+  by-line t cells inside rest false true same less sorted h later =
+      new-line t cells inside rest (same_step v s) refl same (ltb-true s.number t.number less) sorted.0 h
   by-line t cells inside rest false false same less sorted h later = behind-line t cells inside rest (same_step v t) refl h later
 
   found-into : (plan : Plan) → Sorted plan → finds (v ∷ path) plan ≡ true → finds (v ∷ path) (into s own deeper plan) ≡ true
@@ -68,13 +71,15 @@ found-add cell path [] plan sorted h = h
 found-add cell [] (s ∷ q) nothing sorted h = absurd (false≢true h)
 found-add cell [] (s ∷ q) (a_line t cells inside rest) sorted h = absurd (false≢true h)
 found-add cell (v ∷ []) (s ∷ q) plan sorted h = found-into s (own_cells q cell) (add q cell) v [] (λ inside x y. refl) plan sorted h
-found-add cell (v ∷ u ∷ further) (s ∷ q) plan sorted h = found-into s (own_cells q cell) (add q cell) v (u ∷ further) (λ inside x y. found-add cell (u ∷ further) q inside x y) plan sorted h
+found-add cell (v ∷ u ∷ further) (s ∷ q) plan sorted h = found-into s (own_cells q cell) (add q cell) v (u ∷ further)
+    (λ inside x y. found-add cell (u ∷ further) q inside x y) plan sorted h
 
 -- ---- the path that is added is found
 
 module _ (s : Step) (own : List Cell → List Cell) (deeper : Plan → Plan) (q : List Step) (there : (inside : Plan) → found_in q (deeper inside) ≡ true) where
   own-by : (t : Step) (cells : List Cell) (inside rest : Plan) (a b : Bool) → same_step s t ≡ a → finds (s ∷ q) (into s own deeper rest) ≡ true
-      → finds (s ∷ q) (choose a (λ _. a_line t (own cells) (deeper inside) rest) (λ _. choose b (λ _. a_line s (own []) (deeper nothing) (a_line t cells inside rest)) (λ _. a_line t cells inside (into s own deeper rest)))) ≡ true
+      → finds (s ∷ q) (choose a (λ _. a_line t (own cells) (deeper inside) rest)
+      (λ _. choose b (λ _. a_line s (own []) (deeper nothing) (a_line t cells inside rest)) (λ _. a_line t cells inside (into s own deeper rest)))) ≡ true
   own-by t cells inside rest true b same later = line-is s q t (own cells) (deeper inside) rest true same ∙ there inside
   own-by t cells inside rest false true same later = line-is s q s (own []) (deeper nothing) (a_line t cells inside rest) true (step-itself s) ∙ there nothing
   own-by t cells inside rest false false same later = line-is s q t cells inside (into s own deeper rest) false same ∙ later
@@ -85,7 +90,8 @@ module _ (s : Step) (own : List Cell → List Cell) (deeper : Plan → Plan) (q 
 
 pub found-own : (cell : Cell) (s : Step) (q : List Step) (plan : Plan) → finds (s ∷ q) (add (s ∷ q) cell plan) ≡ true
 found-own cell s [] plan = own-into s (own_cells [] cell) (add [] cell) [] (λ inside. refl) plan
-found-own cell s (u ∷ further) plan = own-into s (own_cells (u ∷ further) cell) (add (u ∷ further) cell) (u ∷ further) (λ inside. found-own cell u further inside) plan
+found-own cell s (u ∷ further) plan = own-into s (own_cells (u ∷ further) cell) (add (u ∷ further) cell) (u ∷ further)
+    (λ inside. found-own cell u further inside) plan
 
 -- ---- of all rows of a table
 

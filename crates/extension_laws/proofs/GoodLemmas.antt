@@ -1,5 +1,6 @@
 -- What a well-formed table says of the rows that its last terms added.
-use Rattle.std.proofs.Common.{◌≡◌, ℕ, suc, ◌<◌, Bool, true, false, List, [], ◌∷◌, ◌++◌, length, Option, Some, None, Ok, inl, inr, refl, sym, ap, ◌∙◌, arith, append_assoc}
+use Rattle.std.proofs.Common.{◌≡◌, ℕ, suc, ◌<◌, Bool, true, false, List, [], ◌∷◌, ◌++◌, length, Option, Some, None, Ok, inl, inr, refl, sym, ap, ◌∙◌, arith}
+use Rattle.std.proofs.Common.{append_assoc}
 use Rattle.std.specs.Prelude.{slice_get}
 use Rattle.std.specs.List.{list_all}
 use Rattle.bind_rows.specs.declared.rows.Row.{Row}
@@ -58,7 +59,8 @@ in-context : (rows own : List Row) (k : ℕ) (row : Row) → added_fault rows ow
 in-context rows own k row h = by (is_in_context own row) h
   where
     by : (a : Bool)
-        → choose {A = Option TableKind} a (λ _. choose (parts_from rows 0 k row) (λ _. choose (is_held own row) (λ _. None) (λ _. Some kinds.Ambiguous)) (λ _. Some kinds.Ambiguous)) (λ _. Some kinds.OutsideContext) ≡ None
+        → choose {A = Option TableKind} a (λ _. choose (parts_from rows 0 k row) (λ _. choose (is_held own row) (λ _. None) (λ _. Some kinds.Ambiguous))
+        (λ _. Some kinds.Ambiguous)) (λ _. Some kinds.OutsideContext) ≡ None
         → a ≡ true
     by true h = refl
     by false h = cc
@@ -72,7 +74,8 @@ module _ (rows back : List Row) (row : Row) (fine : first_fault (rows ++ row ∷
 
   pub good-through : carries_only row.outer row.path ≡ true
   good-through =
-      let c = in-context (rows ++ row ∷ back) (built (rows ++ row ∷ back)) (length rows) row (added-at (rows ++ row ∷ back) (length rows) row fine (at-end rows back row) added) in
+      let c = in-context (rows ++ row ∷ back) (built (rows ++ row ∷ back)) (length rows) row
+      (added-at (rows ++ row ∷ back) (length rows) row fine (at-end rows back row) added) in
       let b = both (is_rooted (built (rows ++ row ∷ back)) row) _ c in
       let d = both (begins_there (built (rows ++ row ∷ back)) row row.outer) _ b.1 in
       (both (carries_only row.outer row.path) _ d.1).0

@@ -1,5 +1,6 @@
 -- What a row that joins a table changes in its lines: nothing, for the paths of all other rows; and it stands apart itself.
-use Rattle.std.proofs.Common.{◌≡◌, ℕ, ◌+◌, ◌<◌, Bool, true, false, ◌&&◌, List, [], ◌∷◌, ◌++◌, length, map, filter, Option, Some, None, All, inl, inr, refl, sym, ap, ◌∙◌, subst, arith}
+use Rattle.std.proofs.Common.{◌≡◌, ℕ, ◌+◌, ◌<◌, Bool, true, false, ◌&&◌, List, [], ◌∷◌, ◌++◌, length, map, filter, Option, Some, None, All, inl, inr, refl, sym}
+use Rattle.std.proofs.Common.{ap, ◌∙◌, subst, arith}
 use Rattle.std.specs.Prelude.{◌==◌, if◌then◌else◌}
 use Rattle.std.specs.List.{list_all}
 use Rattle.std.proofs.lemmas.Bool.{false≢true, eqb-true}
@@ -173,7 +174,8 @@ module _ (rows : List Row) (row : Row) (joins : Joins rows row) (long : All (λ 
   -- the paths of the other rows
   pub apart-stays : (known : Known) (r : Row) → Among r rows → is_apart known (plan_of more) r.path ≡ is_apart known (plan_of rows) r.path
   apart-stays known r a =
-      ap (λ plan. is_apart known plan r.path) (plan-more rows row) ∙ apart-add cell r.path row.path (its r a) free known (plan_of rows) (sorted-rows rows) (there r a)
+      ap (λ plan. is_apart known plan r.path) (plan-more rows row) ∙ apart-add cell r.path row.path (its r a) free known (plan_of rows) (sorted-rows rows)
+      (there r a)
 
   pub rows-stay : (is_so : Cell → Bool) (r : Row) → Among r rows → rows_at is_so (plan_of more) r.path ≡ rows_at is_so (plan_of rows) r.path
   rows-stay is_so r a =
@@ -198,7 +200,8 @@ module _ (rows : List Row) (row : Row) (joins : Joins rows row) (long : All (λ 
       let e = f.1.1 in
       let parts = every-row (λ (r : Row). part (f.0 ∷ f.1.0) r.path ≡ true) rows (λ r a. subst (λ p. part p r.path ≡ true) e (mine r a)) in
       ap (λ plan. rows_at is_so plan row.path) (plan-more rows row)
-      ∙ (ap (λ p. rows_at is_so (add p cell (plan_of rows)) p) e ∙ own-rows is_so cell f.0 f.1.0 (plan_of rows) (leaves-grown (f.0 ∷ f.1.0) rows 0 nothing refl parts))
+      ∙ (ap (λ p. rows_at is_so (add p cell (plan_of rows)) p) e ∙
+      own-rows is_so cell f.0 f.1.0 (plan_of rows) (leaves-grown (f.0 ∷ f.1.0) rows 0 nothing refl parts))
 
   if-so : (is_so : Cell → Bool) (b : Bool) → is_so cell ≡ b → map (λ (c : Cell). c.row) (filter is_so (cell ∷ [])) ≡ elim b [ true ↦ row ∷ [] | false ↦ [] ]
   if-so is_so b e = by (is_so cell) ∙ ap (λ x. elim x [ true ↦ row ∷ [] | false ↦ [] ]) e
@@ -208,7 +211,8 @@ module _ (rows : List Row) (row : Row) (joins : Joins rows row) (long : All (λ 
       by false = refl
 
   pub ends-alone : rows_at is_at_element (plan_of more) row.path ≡ row ∷ []
-  ends-alone = own-line is_at_element ∙ if-so is_at_element true (ap (λ (l : Leaf). elim l [ leaves.Element ↦ true | (leaves.Attribute local) ↦ false ]) ends_there)
+  ends-alone = own-line is_at_element ∙ if-so is_at_element true
+      (ap (λ (l : Leaf). elim l [ leaves.Element ↦ true | (leaves.Attribute local) ↦ false ]) ends_there)
 
   pub no-attribute : (local : List ℕ) → rows_at (is_at_attribute local) (plan_of more) row.path ≡ []
   no-attribute local = own-line (is_at_attribute local) ∙ if-so (is_at_attribute local) false (ap (is_attribute_named local) ends_there)
@@ -218,4 +222,5 @@ module _ (rows : List Row) (row : Row) (joins : Joins rows row) (long : All (λ 
   leaves-lines =
       let f = path-front row.path joins.long in
       subst (λ p. leaves_by_name p (plan_of rows) ≡ true) (sym f.1.1)
-      (leaves-grown (f.0 ∷ f.1.0) rows 0 nothing refl (every-row (λ (r : Row). part (f.0 ∷ f.1.0) r.path ≡ true) rows (λ r a. subst (λ p. part p r.path ≡ true) f.1.1 (mine r a))))
+      (leaves-grown (f.0 ∷ f.1.0) rows 0 nothing refl
+      (every-row (λ (r : Row). part (f.0 ∷ f.1.0) r.path ≡ true) rows (λ r a. subst (λ p. part p r.path ≡ true) f.1.1 (mine r a))))

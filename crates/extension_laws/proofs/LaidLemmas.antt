@@ -26,12 +26,14 @@ and-assoc true b c = refl
 and-assoc false b c = refl
 
 abbrev pub is_writable_line : Namespace → Step → List Cell → Bool
-is_writable_line root s cells = (is_ncname s.name.local && is_declared root s.name.namespace) && list_all (λ (cell : Cell). is_writable_leaf cell.row.leaf) cells
+is_writable_line root s cells = (is_ncname s.name.local && is_declared root s.name.namespace) &&
+    list_all (λ (cell : Cell). is_writable_leaf cell.row.leaf) cells
 
 pub writable-lines : (root : Namespace) (plan : Plan) → all_writable root plan ≡ all_lines (is_writable_line root) plan
 writable-lines root nothing = refl
 writable-lines root (a_line s cells inside rest) =
-    and-assoc (is_ncname s.name.local && is_declared root s.name.namespace) (list_all (λ (cell : Cell). is_writable_leaf cell.row.leaf) cells) (all_writable root inside && all_writable root rest)
+    and-assoc (is_ncname s.name.local && is_declared root s.name.namespace) (list_all (λ (cell : Cell). is_writable_leaf cell.row.leaf) cells)
+    (all_writable root inside && all_writable root rest)
     ∙ (λ i. is_writable_line root s cells && (writable-lines root inside i && writable-lines root rest i))
 
 -- ---- the numbers of the new elements
@@ -136,7 +138,8 @@ distinct-between top q (x ∷ front) back h below d =
     let w = both (not (list_any (λ m. x == m) (front ++ back))) (are_distinct (front ++ back)) d in
     let a = any-apart (λ m. x == m) front back (not-true (list_any (λ m. x == m) (front ++ back)) w.0) in
     and-true (not (list_any (λ m. x == m) (front ++ (numbers_of q ++ back)))) (are_distinct (front ++ (numbers_of q ++ back)))
-    (ap not (any-split (λ m. x == m) front (numbers_of q ++ back) a.0 (any-split (λ m. x == m) (numbers_of q) back (none-above x top q (le-from x top b.0) h) a.1)))
+    (ap not (any-split (λ m. x == m) front (numbers_of q ++ back) a.0
+    (any-split (λ m. x == m) (numbers_of q) back (none-above x top q (le-from x top b.0) h) a.1)))
     (distinct-between top q front back h b.1 w.1)
 
 -- ---- the numbers of the lines
@@ -151,11 +154,14 @@ module _ (s : Step) (q : List Step) (cell : Cell)
       → Inserted (element_numbers (a_line t cells inside rest))
       (numbers_of (choose a (λ _. new_steps q inside) (λ _. choose b (λ _. s ∷ q) (λ _. new_steps (s ∷ q) rest))))
       (element_numbers (choose a (λ _. a_line t (own_cells q cell cells) (add q cell inside) rest)
-      (λ _. choose b (λ _. a_line s (own_cells q cell []) (add q cell nothing) (a_line t cells inside rest)) (λ _. a_line t cells inside (into s (own_cells q cell) (add q cell) rest)))))
-  numbers-by t cells inside rest true b later = in-front t.number (numbers_of (new_steps q inside)) (element_numbers inside) (element_numbers (add q cell inside)) (element_numbers rest) (deep inside)
+      (λ _. choose b (λ _. a_line s (own_cells q cell []) (add q cell nothing) (a_line t cells inside rest))
+      (λ _. a_line t cells inside (into s (own_cells q cell) (add q cell) rest)))))
+  numbers-by t cells inside rest true b later = in-front t.number (numbers_of (new_steps q inside)) (element_numbers inside)
+      (element_numbers (add q cell inside)) (element_numbers rest) (deep inside)
   numbers-by t cells inside rest false true later = new-line (element_numbers (a_line t cells inside rest))
   numbers-by t cells inside rest false false later =
-      behind t.number (numbers_of (new_steps (s ∷ q) rest)) (element_numbers inside) (element_numbers rest) (element_numbers (into s (own_cells q cell) (add q cell) rest)) later
+      behind t.number (numbers_of (new_steps (s ∷ q) rest)) (element_numbers inside) (element_numbers rest)
+      (element_numbers (into s (own_cells q cell) (add q cell) rest)) later
 
   numbers-into : (plan : Plan)
       → Inserted (element_numbers plan) (numbers_of (new_steps (s ∷ q) plan)) (element_numbers (into s (own_cells q cell) (add q cell) plan))
@@ -164,7 +170,13 @@ module _ (s : Step) (q : List Step) (cell : Cell)
 
 pub numbers-add : (q : List Step) (cell : Cell) (plan : Plan)
     → Inserted (element_numbers plan) (numbers_of (new_steps q plan)) (element_numbers (add q cell plan))
-numbers-add [] cell plan = record { front = element_numbers plan; back = []; was_is = sym (append-nil (element_numbers plan)); is_is = sym (append-nil (element_numbers plan)) }
+numbers-add [] cell plan = record {
+  front = element_numbers plan;
+  back = [];
+  was_is = sym (append-nil (element_numbers plan));
+  is_is =
+      sym (append-nil (element_numbers plan));
+}
 numbers-add (s ∷ q) cell plan = numbers-into s q cell (λ inside. numbers-add q cell inside) plan
 
 pub distinct-add : (top : ℕ) (q : List Step) (cell : Cell) (plan : Plan) → are_new top (new_steps q plan) ≡ true → all_below top (element_numbers plan) ≡ true

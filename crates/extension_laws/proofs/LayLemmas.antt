@@ -40,7 +40,8 @@ writable-fine root cell leaf (s ∷ u ∷ q) h =
     (and-true (can_be_written root s) true w.0 refl, writable-fine root cell leaf (u ∷ q) w.1)
 
 laid-is : (s : Step) (cells : List Cell) (inside : Plan) → is_laid_plan (a_line s cells inside nothing)
-    ≡ (are_distinct (element_numbers (a_line s cells inside nothing)) && (all_lines ends_test (a_line s cells inside nothing) && all_lines (is_writable_line s.name.namespace) (a_line s cells inside nothing)))
+    ≡ (are_distinct (element_numbers (a_line s cells inside nothing)) &&
+    (all_lines ends_test (a_line s cells inside nothing) && all_lines (is_writable_line s.name.namespace) (a_line s cells inside nothing)))
 laid-is s cells inside = λ i.
     are_distinct (s.number ∷ sym (append-nil (element_numbers inside)) i)
     && (ends-lines (a_line s cells inside nothing) i && writable-lines s.name.namespace (a_line s cells inside nothing) i)
@@ -53,7 +54,8 @@ laid-more rows row joins long one h =
     let root = r.step.name.namespace in
     let now = plan_of (rows ++ row ∷ []) in
     let line : Plan = a_line r.step r.cells r.inside nothing in
-    let was : (are_distinct (element_numbers (plan_of rows)) && (all_lines ends_test (plan_of rows) && all_lines (is_writable_line root) (plan_of rows))) ≡ true =
+    let was : (are_distinct (element_numbers (plan_of rows)) && (all_lines ends_test (plan_of rows) && all_lines (is_writable_line root) (plan_of rows))) ≡ true
+    =
     (λ i. are_distinct (element_numbers (r.was i)) && (all_lines ends_test (r.was i) && all_lines (is_writable_line root) (r.was i)))
     ∙ (sym (laid-is r.step r.cells r.inside) ∙ (sym (ap is_laid_plan r.was) ∙ h)) in
     let a = both (are_distinct (element_numbers (plan_of rows))) (all_lines ends_test (plan_of rows) && all_lines (is_writable_line root) (plan_of rows)) was in
@@ -62,12 +64,15 @@ laid-more rows row joins long one h =
     let names : list_all (can_be_written root) row.path ≡ true = ap (λ o. are_writable o row.path) (sym (ap namespace_of r.was)) ∙ joins.writable in
     let leaf = ap is_writable_leaf (is rows row joins).leaf in
     let ends = lines-add ends_test r.step r.steps cell (ends-fine cell (r.step ∷ r.steps)) (plan_of rows) leaves b.0 in
-    let written = lines-add (is_writable_line root) r.step r.steps cell (subst (λ p. AreFine (is_writable_line root) cell p) r.path (writable-fine root cell leaf row.path names)) (plan_of rows) leaves b.1 in
+    let written = lines-add (is_writable_line root) r.step r.steps cell
+    (subst (λ p. AreFine (is_writable_line root) cell p) r.path (writable-fine root cell leaf row.path names)) (plan_of rows) leaves b.1 in
     let distinct = distinct-add joins.top row.path cell (plan_of rows) joins.fresh joins.below a.0 in
     let grown : now ≡ add row.path cell (plan_of rows) = plan-more rows row in
     let grown_so : now ≡ add (r.step ∷ r.steps) cell (plan_of rows) = grown ∙ ap (λ p. add p cell (plan_of rows)) r.path in
     ap is_laid_plan r.is
     ∙ (laid-is r.step (own_cells r.steps cell r.cells) (add r.steps cell r.inside)
     ∙ ((λ i. are_distinct (element_numbers (sym r.is i)) && (all_lines ends_test (sym r.is i) && all_lines (is_writable_line root) (sym r.is i)))
-    ∙ and-true (are_distinct (element_numbers now)) (all_lines ends_test now && all_lines (is_writable_line root) now) (ap (λ plan. are_distinct (element_numbers plan)) grown ∙ distinct)
-    (and-true (all_lines ends_test now) (all_lines (is_writable_line root) now) (ap (all_lines ends_test) grown_so ∙ ends) (ap (all_lines (is_writable_line root)) grown_so ∙ written))))
+    ∙ and-true (are_distinct (element_numbers now)) (all_lines ends_test now && all_lines (is_writable_line root) now)
+    (ap (λ plan. are_distinct (element_numbers plan)) grown ∙ distinct)
+    (and-true (all_lines ends_test now) (all_lines (is_writable_line root) now) (ap (all_lines ends_test) grown_so ∙ ends)
+    (ap (all_lines (is_writable_line root)) grown_so ∙ written))))

@@ -1,5 +1,6 @@
 -- The names of an added row's path can be written in the documents of its table, and aren't long.
-use Rattle.std.proofs.Common.{◌≡◌, ℕ, ◌+◌, ◌<◌, ◌≤◌, Bool, true, false, not, ◌&&◌, ◌||◌, List, [], ◌∷◌, ◌++◌, length, map, codes, Some, None, refl, sym, ap, ◌∙◌, arith, le-leb, lt-ltb}
+use Rattle.std.proofs.Common.{◌≡◌, ℕ, ◌+◌, ◌<◌, ◌≤◌, Bool, true, false, not, ◌&&◌, ◌||◌, List, [], ◌∷◌, ◌++◌, length, map, codes, Some, None, refl, sym, ap}
+use Rattle.std.proofs.Common.{◌∙◌, arith, le-leb, lt-ltb}
 use Rattle.std.specs.Prelude.{◌==◌, nat_lt, nat_le}
 use Rattle.std.specs.List.{list_all, list_any}
 use Rattle.std.specs.Char.{is_ascii_alphabetic, is_ascii_alphanumeric}
@@ -135,18 +136,22 @@ local-is (c ∷ cs) h =
     let rest = both (nat_le (length cs) 99) (list_all is_ascii_alphanumeric cs) first.1 in
     let few = leb-true (length cs) 99 rest.0 in
     record {
-      written = and-so (is_name_start c) (list_all is_name_char cs) (letter-begins c first.0) (all-mono is_ascii_alphanumeric is_name_char cs letter-goes-on rest.1);
+      written = and-so (is_name_start c) (list_all is_name_char cs) (letter-begins c first.0)
+          (all-mono is_ascii_alphanumeric is_name_char cs letter-goes-on rest.1);
       plain =
           and-so (is_plain_start c) (list_all is_plain_char cs)
           (and-so (is_name_start c) (not (c == 0x3A)) (letter-begins c first.0) (no-colon is_ascii_alphabetic c refl first.0))
-          (all-mono is_ascii_alphanumeric is_plain_char cs (λ d k. and-so (is_name_char d) (not (d == 0x3A)) (letter-goes-on d k) (no-colon is_ascii_alphanumeric d refl k)) rest.1);
-      low = and-so (nat_lt c 128) (list_all (λ c. nat_lt c 128) cs) (alphabetic-low c first.0) (all-mono is_ascii_alphanumeric (λ c. nat_lt c 128) cs alphanumeric-low rest.1);
+          (all-mono is_ascii_alphanumeric is_plain_char cs
+          (λ d k. and-so (is_name_char d) (not (d == 0x3A)) (letter-goes-on d k) (no-colon is_ascii_alphanumeric d refl k)) rest.1);
+      low = and-so (nat_lt c 128) (list_all (λ c. nat_lt c 128) cs) (alphabetic-low c first.0)
+          (all-mono is_ascii_alphanumeric (λ c. nat_lt c 128) cs alphanumeric-low rest.1);
       few = omega (arith, few);
     }
 
 ascii : (bytes : List ℕ) → list_all (λ b. nat_lt b 128) bytes ≡ true → IsAscii bytes
 ascii [] e = IsAscii-nil
-ascii (b ∷ bytes) e = let parts = both (nat_lt b 128) (list_all (λ b. nat_lt b 128) bytes) e in IsAscii-cons b bytes (ltb-true b 128 parts.0) (ascii bytes parts.1)
+ascii (b ∷ bytes) e = let parts = both (nat_lt b 128) (list_all (λ b. nat_lt b 128) bytes) e in
+    IsAscii-cons b bytes (ltb-true b 128 parts.0) (ascii bytes parts.1)
 
 length-both : {X : Type 0} (xs ys : List X) → length (xs ++ ys) ≡ length xs + length ys
 length-both [] ys = omega arith
@@ -185,7 +190,8 @@ fits-by : (prefix local : List ℕ) → list_all (λ c. nat_lt c 128) prefix ≡
     → (((tokens.is_ncname local && true) && is_short reading_limits (prefix ++ local)) && (is_ncname local && true)) ≡ true
 fits-by prefix local low few l =
     and-so ((tokens.is_ncname local && true) && is_short reading_limits (prefix ++ local)) (is_ncname local && true)
-    (and-so (tokens.is_ncname local && true) (is_short reading_limits (prefix ++ local)) (and-so (tokens.is_ncname local) true l.written refl) (short prefix local low few l))
+    (and-so (tokens.is_ncname local && true) (is_short reading_limits (prefix ++ local)) (and-so (tokens.is_ncname local) true l.written refl)
+    (short prefix local low few l))
     (and-so (is_ncname local) true l.plain refl)
 
 abbrev named : Namespace → List ℕ → ElementName
@@ -284,9 +290,11 @@ module _ (table : Which) (rows : List Row) (a : AddedTerm) (file : IsOfFile tabl
       (ap (list_all (fits (root_for table))) (path-names rows (greatest rows) [] (names_for (built rows) a)) ∙ names-fit)
 
   pub are-named : root_namespace rows ≡ Some (root_for table)
-      → list_all (λ (s : Step). is_element_name (declarations_for rows) (name_of s.name) && is_short reading_limits (element_name (declarations_for rows) (name_of s.name))) steps ≡ true
+      → list_all (λ (s : Step). is_element_name (declarations_for rows) (name_of s.name) &&
+      is_short reading_limits (element_name (declarations_for rows) (name_of s.name))) steps ≡ true
   are-named root =
-      ap (λ o. list_all (λ (s : Step). is_element_name (declared_for o) (name_of s.name) && is_short reading_limits (element_name (declared_for o) (name_of s.name))) steps) root
+      ap (λ o. list_all (λ (s : Step). is_element_name (declared_for o) (name_of s.name) &&
+      is_short reading_limits (element_name (declared_for o) (name_of s.name))) steps) root
       ∙ all-mono (λ (s : Step). fits (root_for table) s.name) (λ (s : Step). can_be_named (root_for table) s.name) steps
       (λ s h. (both (can_be_named (root_for table) s.name) (can_be_written (root_for table) s.name) h).0) steps-fit
 

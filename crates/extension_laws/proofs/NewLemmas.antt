@@ -1,6 +1,7 @@
 -- The new elements of an added row's path: it goes through elements of the table as far as the table has its names, and
 -- from there on through new ones, with numbers that rise above all others.
-use Rattle.std.proofs.Common.{◌≡◌, ℕ, ◌+◌, ◌<◌, ◌≤◌, Bool, true, false, ◌&&◌, ◌⊎◌, inl, inr, List, [], ◌∷◌, ◌++◌, length, map, All, Option, Some, None, refl, sym, ap, ◌∙◌, subst, arith, append_assoc, lt-ltb, le-leb}
+use Rattle.std.proofs.Common.{◌≡◌, ℕ, ◌+◌, ◌<◌, ◌≤◌, Bool, true, false, ◌&&◌, ◌⊎◌, inl, inr, List, [], ◌∷◌, ◌++◌, length, map, All, Option, Some, None, refl}
+use Rattle.std.proofs.Common.{sym, ap, ◌∙◌, subst, arith, append_assoc, lt-ltb, le-leb}
 use Rattle.std.specs.Prelude.{◌==◌, fold, max, nat_lt, nat_le}
 use Rattle.std.specs.List.{list_all}
 use Rattle.std.proofs.lemmas.Bool.{ltb-true, eqb-true, false≢true}
@@ -52,7 +53,8 @@ new-behind top [] nothing h = refl
 new-behind top [] (a_line t cells inside rest) h = refl
 new-behind top (s ∷ path) nothing h = h
 new-behind top (s ∷ path) (a_line t cells inside rest) h =
-    new-chosen top (same_step s t) (nat_lt s.number t.number) (new_steps path inside) (s ∷ path) (new_steps (s ∷ path) rest) (new-behind top path inside (new-rest top s path h)) h
+    new-chosen top (same_step s t) (nat_lt s.number t.number) (new_steps path inside) (s ∷ path) (new_steps (s ∷ path) rest)
+    (new-behind top path inside (new-rest top s path h)) h
     (new-behind top (s ∷ path) rest h)
 
 -- ---- where a path begins as that of a line does, only what comes behind is new
@@ -76,10 +78,12 @@ front-new : (top : ℕ) (s : Step) (front rest further : List Step) (plan : Plan
     → are_new top (new_steps (s ∷ (front ++ rest)) plan) ≡ true
 front-new top s front rest further nothing sorted there new = absurd (false≢true there)
 front-new top s [] rest further (a_line t cells inside others) sorted there new =
-    front-by top s rest further t inside others (λ less. absent s t further others (ltb-true s.number t.number less) sorted.0) (same_step s t) (nat_lt s.number t.number) there refl
+    front-by top s rest further t inside others (λ less. absent s t further others (ltb-true s.number t.number less) sorted.0) (same_step s t)
+    (nat_lt s.number t.number) there refl
     (λ h. new-behind top rest inside new) (λ h. front-new top s [] rest further others sorted.1.1 h new)
 front-new top s (u ∷ front) rest further (a_line t cells inside others) sorted there new =
-    front-by top s (u ∷ (front ++ rest)) (u ∷ (front ++ further)) t inside others (λ less. absent s t (u ∷ (front ++ further)) others (ltb-true s.number t.number less) sorted.0)
+    front-by top s (u ∷ (front ++ rest)) (u ∷ (front ++ further)) t inside others
+    (λ less. absent s t (u ∷ (front ++ further)) others (ltb-true s.number t.number less) sorted.0)
     (same_step s t) (nat_lt s.number t.number) there refl
     (λ h. front-new top u front rest further inside sorted.1.0 h new) (λ h. front-new top s (u ∷ front) rest further others sorted.1.1 h new)
 
@@ -173,7 +177,8 @@ none-first : (n : ElementName) (f : List ElementName) (m : ElementName) (rows : 
     → first_at (n ∷ (f ++ m ∷ [])) rows ≡ None
 none-first n f m [] h = refl
 none-first n f m (row ∷ rows) h =
-    first-by (at_names (n ∷ f) row.path) (at_names (n ∷ (f ++ m ∷ [])) row.path) (first_at (n ∷ f) rows) (first_at (n ∷ (f ++ m ∷ [])) rows) h (none-further n f m row.path)
+    first-by (at_names (n ∷ f) row.path) (at_names (n ∷ (f ++ m ∷ [])) row.path) (first_at (n ∷ f) rows) (first_at (n ∷ (f ++ m ∷ [])) rows) h
+    (none-further n f m row.path)
     (none-first n f m rows)
 
 none-behind : (before : List ElementName) (n m : ElementName) (rows : List Row) → first_at (before ++ n ∷ []) rows ≡ None
@@ -214,7 +219,13 @@ shared-by : (rows : List Row) (before : List ElementName) (n : ElementName) (nam
 shared-by rows before n names s h (inl e) =
     let x = first-there (before ++ n ∷ []) rows s h in
     record { row = x.row; among = x.among; step = s; at = ap (λ l. at_names (before ++ n ∷ l) x.row.path) e ∙ x.at }
-shared-by rows before n names s h (inr x) = record { row = x.row; among = x.among; step = x.step; at = ap (λ l. at_names l x.row.path) (sym (append_assoc before (n ∷ []) names)) ∙ x.at }
+shared-by rows before n names s h (inr x) = record {
+  row = x.row;
+  among = x.among;
+  step = x.step;
+  at =
+      ap (λ l. at_names l x.row.path) (sym (append_assoc before (n ∷ []) names)) ∙ x.at;
+}
 
 split-by : (rows : List Row) (top : ℕ) (before : List ElementName) (n : ElementName) (names : List ElementName) (o : Option Step)
     → first_at (before ++ n ∷ []) rows ≡ o
@@ -344,7 +355,8 @@ Low top (a_line s cells inside rest) = (s.number ≤ top) × (Low top inside × 
 module _ (top : ℕ) (s : Step) (own : List Cell → List Cell) (deeper : Plan → Plan) (low : s.number ≤ top)
     (keeps : (inside : Plan) → Low top inside → Low top (deeper inside)) where
   low-by : (t : Step) (cells : List Cell) (inside rest : Plan) (a b : Bool) → Low top (a_line t cells inside rest) → Low top (into s own deeper rest)
-      → Low top (choose a (λ _. a_line t (own cells) (deeper inside) rest) (λ _. choose b (λ _. a_line s (own []) (deeper nothing) (a_line t cells inside rest)) (λ _. a_line t cells inside (into s own deeper rest))))
+      → Low top (choose a (λ _. a_line t (own cells) (deeper inside) rest)
+      (λ _. choose b (λ _. a_line s (own []) (deeper nothing) (a_line t cells inside rest)) (λ _. a_line t cells inside (into s own deeper rest))))
   low-by t cells inside rest true b l later = (l.0, (keeps inside l.1.0, l.1.1))
   low-by t cells inside rest false true l later = (low, (keeps nothing tt, l))
   low-by t cells inside rest false false l later = (l.0, (l.1.0, later))
@@ -359,7 +371,8 @@ low-add top cell (s ∷ path) plan p l = low-into top s (own_cells path cell) (a
 
 low-grown : (top : ℕ) (rows : List Row) (n : ℕ) (plan : Plan) → LowRows top rows → Low top plan → Low top (grown plan n rows)
 low-grown top [] n plan r l = l
-low-grown top (row ∷ rows) n plan r l = let cell : Cell = record { number = n; row = row } in low-grown top rows (n + 1) (add row.path cell plan) r.1 (low-add top cell row.path plan r.0 l)
+low-grown top (row ∷ rows) n plan r l = let cell : Cell = record { number = n; row = row } in
+    low-grown top rows (n + 1) (add row.path cell plan) r.1 (low-add top cell row.path plan r.0 l)
 
 all-both : {X : Type 0} (p : X → Bool) (xs ys : List X) → list_all p xs ≡ true → list_all p ys ≡ true → list_all p (xs ++ ys) ≡ true
 all-both p [] ys h k = k
@@ -392,8 +405,10 @@ path-higher low top (s ∷ path) l p = let q = p.0 in (omega (arith, q, l), path
 
 in-rows : (m : ℕ) (rows : List Row) → LowRows (fold greatest_on m rows) rows
 in-rows m [] = tt
-in-rows m (row ∷ rows) =
-    (path-higher (greatest_on m row) (fold greatest_on (greatest_on m row) rows) row.path (grows-rows (greatest_on m row) rows) (in-path m row.path), in-rows (greatest_on m row) rows)
+in-rows m (row ∷ rows) = (
+  path-higher (greatest_on m row) (fold greatest_on (greatest_on m row) rows) row.path (grows-rows (greatest_on m row) rows) (in-path m row.path),
+  in-rows (greatest_on m row) rows,
+)
 
 pub lines-below : (rows : List Row) → all_below (greatest rows) (element_numbers (plan_of rows)) ≡ true
 lines-below rows = low-numbers (greatest rows) (plan_of rows) (low-grown (greatest rows) rows 0 nothing (in-rows 0 rows) tt)

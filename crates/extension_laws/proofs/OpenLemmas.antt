@@ -59,7 +59,8 @@ open-more table rows row n was room joins =
       root = root-more rows row r ∙ was.root;
       which = which-more rows row r ∙ was.which;
       laid = laid-more rows row joins was.long one was.laid;
-      notes = all-more has_plain_attribute rows row (all-each has_plain_attribute rows was.notes) (ap (λ (l : Leaf). is_plain_leaf l row.form) (is rows row joins).leaf);
+      notes = all-more has_plain_attribute rows row (all-each has_plain_attribute rows was.notes)
+          (ap (λ (l : Leaf). is_plain_leaf l row.form) (is rows row joins).leaf);
     }
 
 pub room-more : (table : Which) (rows : List Row) (row : Row) (n : ℕ) → IsOpen table rows → HasRoom (suc n) rows → Joins rows row → HasRoom n (rows ++ row ∷ [])

@@ -48,7 +48,8 @@ clear-none known s q nothing h none = refl
 clear-none known s q (a_line t cells inside rest) h none =
     let c = not-called s q t inside (leaves_by_name (s ∷ q) rest) h none.0 in
     ap (λ b. elim b [
-      | true ↦ (not (same_step s t) && (is_off known s.guards t cells inside || elim q [ [] ↦ false | (u ∷ further) ↦ is_clear (beyond t.group known) inside (u ∷ further) ])) && is_clear known rest (s ∷ q)
+      | true ↦ (not (same_step s t) && (is_off known s.guards t cells inside ||
+          elim q [ [] ↦ false | (u ∷ further) ↦ is_clear (beyond t.group known) inside (u ∷ further) ])) && is_clear known rest (s ∷ q)
       | false ↦ is_clear known rest (s ∷ q)
     ]) c
     ∙ clear-none known s q rest (both _ (leaves_by_name (s ∷ q) rest) h).1 none.1
@@ -74,7 +75,8 @@ own-line : (known : Known) (s : Step) (q : List Step) (t : Step) (cells : List C
 own-line known s q t cells inside rest free e c d =
     let below : Bool = tail (beyond t.group known) q inside in
     let otherwise : Bool = elim (is_called s.name t.name) [
-      | true ↦ (is_off known s.guards t cells inside || elim q [ [] ↦ false | (u ∷ further) ↦ is_clear (beyond t.group known) inside (u ∷ further) ]) && is_apart known rest (s ∷ q)
+      | true ↦ (is_off known s.guards t cells inside || elim q [ [] ↦ false | (u ∷ further) ↦ is_clear (beyond t.group known) inside (u ∷ further) ]) &&
+          is_apart known rest (s ∷ q)
       | false ↦ is_apart known rest (s ∷ q)
     ] in
     ap (λ b. elim b [ true ↦ is_met_or_unwritten known s.guards t cells inside && (is_clear known rest (s ∷ q) && below) | false ↦ otherwise ]) e
@@ -89,13 +91,16 @@ module _ (cell : Cell) (s : Step) (q : List Step) (free : is_unguarded s.guards 
       → leaves_by_name (s ∷ q) (a_line t cells inside rest) ≡ true
       → is_apart known (into s (own_cells q cell) (add q cell) rest) (s ∷ q) ≡ true
       → is_apart known (choose a (λ _. a_line t (own_cells q cell cells) (add q cell inside) rest)
-      (λ _. choose b (λ _. a_line s (own_cells q cell []) (add q cell nothing) (a_line t cells inside rest)) (λ _. a_line t cells inside (into s (own_cells q cell) (add q cell) rest)))) (s ∷ q) ≡ true
+      (λ _. choose b (λ _. a_line s (own_cells q cell []) (add q cell nothing) (a_line t cells inside rest))
+      (λ _. a_line t cells inside (into s (own_cells q cell) (add q cell) rest)))) (s ∷ q) ≡ true
   own-by t cells inside rest true b same less sorted h later =
       let k = both _ (leaves_by_name (s ∷ q) rest) h in
       let is : s ≡ t = step-sound s t same in
       let called : is_called s.name t.name ≡ true = subst (λ (x : Step). is_called s.name x.name ≡ true) is (called-as-itself s.name) in
-      let w = both (same_step s t) (leaves_by_name q inside) (ap (λ b. elim b [ true ↦ same_step s t && leaves_by_name q inside | false ↦ true ]) (sym called) ∙ k.0) in
-      own-line known s q t (own_cells q cell cells) (add q cell inside) rest free same (clear-none known s q rest k.1 (none-behind s t rest is sorted.0)) (below (beyond t.group known) inside sorted.1.0 w.1)
+      let w = both (same_step s t) (leaves_by_name q inside) (ap (λ b. elim b [ true ↦ same_step s t && leaves_by_name q inside | false ↦ true ]) (sym called) ∙
+      k.0) in
+      own-line known s q t (own_cells q cell cells) (add q cell inside) rest free same (clear-none known s q rest k.1 (none-behind s t rest is sorted.0))
+      (below (beyond t.group known) inside sorted.1.0 w.1)
   own-by t cells inside rest false true same less sorted h later =
       let l = ltb-true s.number t.number less in
       own-line known s q s (own_cells q cell []) (add q cell nothing) (a_line t cells inside rest) free (step-itself s)
@@ -107,29 +112,35 @@ module _ (cell : Cell) (s : Step) (q : List Step) (free : is_unguarded s.guards 
   own-into : (plan : Plan) → Sorted plan → leaves_by_name (s ∷ q) plan ≡ true → is_apart known (into s (own_cells q cell) (add q cell) plan) (s ∷ q) ≡ true
   own-into nothing sorted h = own-line known s q s (own_cells q cell []) (add q cell nothing) nothing free (step-itself s) refl (new (beyond s.group known))
   own-into (a_line t cells inside rest) sorted h =
-      own-by t cells inside rest (same_step s t) (nat_lt s.number t.number) refl refl sorted h (own-into rest sorted.1.1 (both _ (leaves_by_name (s ∷ q) rest) h).1)
+      own-by t cells inside rest (same_step s t) (nat_lt s.number t.number) refl refl sorted h
+      (own-into rest sorted.1.1 (both _ (leaves_by_name (s ∷ q) rest) h).1)
 
 pub own-apart : (cell : Cell) (s : Step) (q : List Step) → are_unguarded (s ∷ q) ≡ true → (known : Known) (plan : Plan) → Sorted plan
     → leaves_by_name (s ∷ q) plan ≡ true
     → is_apart known (add (s ∷ q) cell plan) (s ∷ q) ≡ true
-own-apart cell s [] free known plan sorted h = own-into cell s [] (both (is_unguarded s.guards) true free).0 (λ k inside x y. absurd (false≢true y)) (λ k. refl) known plan sorted h
+own-apart cell s [] free known plan sorted h = own-into cell s [] (both (is_unguarded s.guards) true free).0 (λ k inside x y. absurd (false≢true y))
+    (λ k. refl) known plan sorted h
 own-apart cell s (u ∷ further) free known plan sorted h =
     let f = both (is_unguarded s.guards) (are_unguarded (u ∷ further)) free in
-    own-into cell s (u ∷ further) f.0 (λ k inside x y. own-apart cell u further f.1 k inside x y) (λ k. own-apart cell u further f.1 k nothing tt refl) known plan sorted h
+    own-into cell s (u ∷ further) f.0 (λ k inside x y. own-apart cell u further f.1 k inside x y)
+    (λ k. own-apart cell u further f.1 k nothing tt refl) known plan sorted h
 
 -- ---- a row that parts from another leaves it to leave by its name
 
 module _ (v : Step) (own : List Cell → List Cell) (deeper : Plan → Plan) (s : Step) (q : List Step) (other : is_called s.name v.name ≡ false) where
   leaves-by : (t : Step) (cells : List Cell) (inside rest : Plan) (a b : Bool) → same_step v t ≡ a
       → leaves_by_name (s ∷ q) (into v own deeper rest) ≡ leaves_by_name (s ∷ q) rest
-      → leaves_by_name (s ∷ q) (choose a (λ _. a_line t (own cells) (deeper inside) rest) (λ _. choose b (λ _. a_line v (own []) (deeper nothing) (a_line t cells inside rest)) (λ _. a_line t cells inside (into v own deeper rest))))
+      → leaves_by_name (s ∷ q) (choose a (λ _. a_line t (own cells) (deeper inside) rest)
+      (λ _. choose b (λ _. a_line v (own []) (deeper nothing) (a_line t cells inside rest)) (λ _. a_line t cells inside (into v own deeper rest))))
       ≡ leaves_by_name (s ∷ q) (a_line t cells inside rest)
   leaves-by t cells inside rest true b same later =
       let n : is_called s.name t.name ≡ false = subst (λ (x : Step). is_called s.name x.name ≡ false) (step-sound v t same) other in
       ap (λ b. elim b [ true ↦ same_step s t && leaves_by_name q (deeper inside) | false ↦ true ] && leaves_by_name (s ∷ q) rest) n
       ∙ sym (ap (λ b. elim b [ true ↦ same_step s t && leaves_by_name q inside | false ↦ true ] && leaves_by_name (s ∷ q) rest) n)
-  leaves-by t cells inside rest false true same later = ap (λ b. elim b [ true ↦ same_step s v && leaves_by_name q (deeper nothing) | false ↦ true ] && leaves_by_name (s ∷ q) (a_line t cells inside rest)) other
-  leaves-by t cells inside rest false false same later = ap (λ r. elim (is_called s.name t.name) [ true ↦ same_step s t && leaves_by_name q inside | false ↦ true ] && r) later
+  leaves-by t cells inside rest false true same later = ap (λ b. elim b [ true ↦ same_step s v && leaves_by_name q (deeper nothing) | false ↦ true ] &&
+      leaves_by_name (s ∷ q) (a_line t cells inside rest)) other
+  leaves-by t cells inside rest false false same later =
+      ap (λ r. elim (is_called s.name t.name) [ true ↦ same_step s t && leaves_by_name q inside | false ↦ true ] && r) later
 
   leaves-into : (plan : Plan) → leaves_by_name (s ∷ q) (into v own deeper plan) ≡ leaves_by_name (s ∷ q) plan
   leaves-into nothing = ap (λ b. elim b [ true ↦ same_step s v && leaves_by_name q (deeper nothing) | false ↦ true ] && true) other
@@ -147,19 +158,27 @@ module _ (s : Step) (own : List Cell → List Cell) (deeper : Plan → Plan) (q 
   same-leaves-by : (t : Step) (cells : List Cell) (inside rest : Plan) (a b : Bool) → same_step s t ≡ a
       → leaves_by_name (s ∷ q) (a_line t cells inside rest) ≡ true
       → leaves_by_name (s ∷ q) (into s own deeper rest) ≡ true
-      → leaves_by_name (s ∷ q) (choose a (λ _. a_line t (own cells) (deeper inside) rest) (λ _. choose b (λ _. a_line s (own []) (deeper nothing) (a_line t cells inside rest)) (λ _. a_line t cells inside (into s own deeper rest)))) ≡ true
+      → leaves_by_name (s ∷ q) (choose a (λ _. a_line t (own cells) (deeper inside) rest)
+      (λ _. choose b (λ _. a_line s (own []) (deeper nothing) (a_line t cells inside rest)) (λ _. a_line t cells inside (into s own deeper rest)))) ≡ true
   same-leaves-by t cells inside rest true b same h later =
       let k = both _ (leaves_by_name (s ∷ q) rest) h in
       let called : is_called s.name t.name ≡ true = subst (λ (x : Step). is_called s.name x.name ≡ true) (step-sound s t same) (called-as-itself s.name) in
-      let w = both (same_step s t) (leaves_by_name q inside) (ap (λ b. elim b [ true ↦ same_step s t && leaves_by_name q inside | false ↦ true ]) (sym called) ∙ k.0) in
-      and-true (elim (is_called s.name t.name) [ true ↦ same_step s t && leaves_by_name q (deeper inside) | false ↦ true ]) (leaves_by_name (s ∷ q) rest) (any-line (is_called s.name t.name) (same_step s t) (leaves_by_name q (deeper inside)) same (below inside w.1)) k.1
+      let w = both (same_step s t) (leaves_by_name q inside) (ap (λ b. elim b [ true ↦ same_step s t && leaves_by_name q inside | false ↦ true ]) (sym called) ∙
+      k.0) in
+      and-true (elim (is_called s.name t.name) [ true ↦ same_step s t && leaves_by_name q (deeper inside) | false ↦ true ]) (leaves_by_name (s ∷ q) rest)
+      (any-line (is_called s.name t.name) (same_step s t) (leaves_by_name q (deeper inside)) same (below inside w.1)) k.1
   same-leaves-by t cells inside rest false true same h later =
-      and-true (elim (is_called s.name s.name) [ true ↦ same_step s s && leaves_by_name q (deeper nothing) | false ↦ true ]) (leaves_by_name (s ∷ q) (a_line t cells inside rest)) (any-line (is_called s.name s.name) (same_step s s) (leaves_by_name q (deeper nothing)) (step-itself s) new) h
-  same-leaves-by t cells inside rest false false same h later = and-true _ (leaves_by_name (s ∷ q) (into s own deeper rest)) (both _ (leaves_by_name (s ∷ q) rest) h).0 later
+      and-true (elim (is_called s.name s.name) [ true ↦ same_step s s && leaves_by_name q (deeper nothing) | false ↦ true ])
+      (leaves_by_name (s ∷ q) (a_line t cells inside rest))
+      (any-line (is_called s.name s.name) (same_step s s) (leaves_by_name q (deeper nothing)) (step-itself s) new) h
+  same-leaves-by t cells inside rest false false same h later =
+      and-true _ (leaves_by_name (s ∷ q) (into s own deeper rest)) (both _ (leaves_by_name (s ∷ q) rest) h).0 later
 
   same-leaves-into : (plan : Plan) → leaves_by_name (s ∷ q) plan ≡ true → leaves_by_name (s ∷ q) (into s own deeper plan) ≡ true
-  same-leaves-into nothing h = and-true (elim (is_called s.name s.name) [ true ↦ same_step s s && leaves_by_name q (deeper nothing) | false ↦ true ]) true (any-line (is_called s.name s.name) (same_step s s) (leaves_by_name q (deeper nothing)) (step-itself s) new) refl
-  same-leaves-into (a_line t cells inside rest) h = same-leaves-by t cells inside rest (same_step s t) (nat_lt s.number t.number) refl h (same-leaves-into rest (both _ (leaves_by_name (s ∷ q) rest) h).1)
+  same-leaves-into nothing h = and-true (elim (is_called s.name s.name) [ true ↦ same_step s s && leaves_by_name q (deeper nothing) | false ↦ true ]) true
+      (any-line (is_called s.name s.name) (same_step s s) (leaves_by_name q (deeper nothing)) (step-itself s) new) refl
+  same-leaves-into (a_line t cells inside rest) h = same-leaves-by t cells inside rest (same_step s t) (nat_lt s.number t.number) refl h
+      (same-leaves-into rest (both _ (leaves_by_name (s ∷ q) rest) h).1)
 
 pub leaves-add : (cell : Cell) (q path : List Step) → part q path ≡ true → (plan : Plan) → leaves_by_name q plan ≡ true
     → leaves_by_name q (add path cell plan) ≡ true

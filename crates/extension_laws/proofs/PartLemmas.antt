@@ -91,7 +91,8 @@ called-name a b = by (bytes_eq a.local b.local) (same_namespace a.namespace b.na
 pub part-named : (p q : List Step) → part_by_name p q ≡ part p q
 part-named [] q = refl
 part-named (s ∷ p) [] = refl
-part-named (s ∷ p) (t ∷ q) = by (same_name s.name t.name) (same_step s t) (part-named p q) ∙ ap (λ b. elim b [ true ↦ same_step s t && part p q | false ↦ true ]) (sym (called-name s.name t.name))
+part-named (s ∷ p) (t ∷ q) = by (same_name s.name t.name) (same_step s t) (part-named p q) ∙
+    ap (λ b. elim b [ true ↦ same_step s t && part p q | false ↦ true ]) (sym (called-name s.name t.name))
   where
     by : (a b : Bool) → part_by_name p q ≡ part p q
         → choose a (λ _. choose b (λ _. part_by_name p q) (λ _. false)) (λ _. true) ≡ elim a [ true ↦ b && part p q | false ↦ true ]

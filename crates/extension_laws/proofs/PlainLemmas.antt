@@ -19,7 +19,8 @@ use Rattle.bind_table.specs.WellFormed as formed
 use Rattle.bind_meaning.specs.Picks.{has_any_term}
 use Rattle.bind_meaning.specs.Values.{form_for}
 use Rattle.binding_laws.specs.Apart.{Known, unknown}
-use Rattle.binding_laws.specs.Plain.{groups_of, listed, is_one, is_element, is_whole, is_by_value, stands_nowhere_else, has_content, is_plain_there, is_plain_with, is_plain_in, is_plain_by}
+use Rattle.binding_laws.specs.Plain.{groups_of, listed, is_one, is_element, is_whole, is_by_value, stands_nowhere_else, has_content, is_plain_there}
+use Rattle.binding_laws.specs.Plain.{is_plain_with, is_plain_in, is_plain_by}
 use Rattle.binding_laws.specs.Covered.{unpaired_terms, is_covered}
 use Rattle.binding_laws.proofs.ListLemmas.{append-nil}
 use Rattle.carrying_laws.proofs.Disjuncts.{and-true, or-first, or-second}
@@ -61,7 +62,8 @@ module _ (rows : List Row) (row : Row) (joins : Joins rows row) where
 
   pub through : pointwise same_group (groups_of row.path) (listed row.outer ++ listed row.inner) ≡ true
   through =
-      (λ i. pointwise same_group (groups-same row.path i) ((ap (λ o. listed row.outer ++ listed o) own.inner ∙ (append-nil (listed row.outer) ∙ listed-same row.outer)) i)) ∙ joins.through
+      (λ i. pointwise same_group (groups-same row.path i)
+      ((ap (λ o. listed row.outer ++ listed o) own.inner ∙ (append-nil (listed row.outer) ∙ listed-same row.outer)) i)) ∙ joins.through
 
   pub content-own : has_content joins.term row.content ≡ true
   content-own = ap (has_content joins.term) joins.content ∙ term-itself joins.term
@@ -93,6 +95,7 @@ module _ (rows : List Row) (row : Row) (joins : Joins rows row) where
     pub covered-more : unpaired_terms (plan_of rows) rows ≡ [] → are_covered rows ≡ true → are_covered (rows ++ row ∷ []) ≡ true
     covered-more paired h =
         all-more (λ (r : Row). not (has_any_term r) || is_covered (rows ++ row ∷ []) r) rows row
-        (λ r a. or-mono (not (has_any_term r)) (is_covered rows r) (not (has_any_term r)) (is_covered (rows ++ row ∷ []) r) (λ e. e) (covered-stays rows row joins long paired r a)
+        (λ r a. or-mono (not (has_any_term r)) (is_covered rows r) (not (has_any_term r)) (is_covered (rows ++ row ∷ []) r) (λ e. e)
+        (covered-stays rows row joins long paired r a)
         (all-each (λ (x : Row). not (has_any_term x) || is_covered rows x) rows h r a))
         (or-second (not (has_any_term row)) (is_covered (rows ++ row ∷ []) row) (or-first (is_plain_by (plan_of (rows ++ row ∷ [])) row) _ plain-by))

@@ -1,5 +1,6 @@
 -- The documents of a table with a row that joins it can be read, where its names can be written and there is room for them.
-use Rattle.std.proofs.Common.{◌≡◌, ℕ, suc, ◌+◌, ◌*◌, ◌<◌, ◌≤◌, Bool, true, false, not, ◌&&◌, List, [], ◌∷◌, ◌++◌, length, filter, map, max, All, refl, sym, ap, ◌∙◌, subst, arith}
+use Rattle.std.proofs.Common.{◌≡◌, ℕ, suc, ◌+◌, ◌*◌, ◌<◌, ◌≤◌, Bool, true, false, not, ◌&&◌, List, [], ◌∷◌, ◌++◌, length, filter, map, max, All, refl, sym, ap}
+use Rattle.std.proofs.Common.{◌∙◌, subst, arith}
 use Rattle.std.specs.Prelude.{nat_lt, nat_le, bytes_eq, if◌then◌else◌}
 use Rattle.std.specs.List.{list_all}
 use Rattle.std.proofs.lemmas.Bool.{false≢true}
@@ -19,7 +20,8 @@ use Rattle.xml_state.specs.Admission.{has_twice}
 use Rattle.xml_write.specs.Canonical.{Declaration, element_name}
 use Rattle.xml_laws.specs.Writable.{is_element_name, is_short}
 use Rattle.bind_meaning.specs.Currencies.{currency_id}
-use Rattle.written_laws.specs.Readable.{levels, local_of, locals, unspaced, names_of, constant_of, filler_of, has_chars, all_lines, is_fine_local, is_fine_line, are_fine, is_one_root, is_readable_plan, is_readable}
+use Rattle.written_laws.specs.Readable.{levels, local_of, locals, unspaced, names_of, constant_of, filler_of, has_chars, all_lines, is_fine_local, is_fine_line}
+use Rattle.written_laws.specs.Readable.{are_fine, is_one_root, is_readable_plan, is_readable}
 use Rattle.bind_write.specs.Documents.{namespace_of, declared_for}
 use Rattle.inv_base.specs.Characters.{is_char}
 use Rattle.extension_laws.specs.Joins.{Joins}
@@ -38,7 +40,8 @@ max-low a b c h = omega (arith, h)
 
 module _ (s : Step) (own : List Cell → List Cell) (deeper : Plan → Plan) (n : ℕ) (deep : (inside : Plan) → levels (deeper inside) ≤ max (levels inside) n) where
   levels-by : (t : Step) (cells : List Cell) (inside rest : Plan) (a b : Bool) → levels (into s own deeper rest) ≤ max (levels rest) (suc n)
-      → levels (choose a (λ _. a_line t (own cells) (deeper inside) rest) (λ _. choose b (λ _. a_line s (own []) (deeper nothing) (a_line t cells inside rest)) (λ _. a_line t cells inside (into s own deeper rest))))
+      → levels (choose a (λ _. a_line t (own cells) (deeper inside) rest)
+      (λ _. choose b (λ _. a_line s (own []) (deeper nothing) (a_line t cells inside rest)) (λ _. a_line t cells inside (into s own deeper rest))))
       ≤ max (max (1 + levels inside) (levels rest)) (suc n)
   levels-by t cells inside rest true b later = let d = deep inside in omega (arith, d)
   levels-by t cells inside rest false true later = let d = deep nothing in omega (arith, d)
@@ -68,7 +71,8 @@ locals-own [] cell cells e = ap (λ l. currency_id ∷ l) (flat-more local_of lo
 locals-own (s ∷ q) cell cells e = refl
 
 module _ (s : Step) (own : List Cell → List Cell) (deeper : Plan → Plan) (n : ℕ)
-    (same : (cells : List Cell) → length (locals (own cells)) ≡ length (locals cells)) (deep : (inside : Plan) → named (deeper inside) ≤ named inside + 2 * n) where
+    (same : (cells : List Cell) → length (locals (own cells)) ≡ length (locals cells))
+    (deep : (inside : Plan) → named (deeper inside) ≤ named inside + 2 * n) where
   new-names : (rest : Plan) → named (a_line s (own []) (deeper nothing) rest) ≤ named rest + 2 * suc n
   new-names rest =
       let l = named-line s (own []) (deeper nothing) rest in
@@ -77,7 +81,8 @@ module _ (s : Step) (own : List Cell → List Cell) (deeper : Plan → Plan) (n 
       omega (arith, l, e, d)
 
   named-by : (t : Step) (cells : List Cell) (inside rest : Plan) (a b : Bool) → named (into s own deeper rest) ≤ named rest + 2 * suc n
-      → named (choose a (λ _. a_line t (own cells) (deeper inside) rest) (λ _. choose b (λ _. a_line s (own []) (deeper nothing) (a_line t cells inside rest)) (λ _. a_line t cells inside (into s own deeper rest))))
+      → named (choose a (λ _. a_line t (own cells) (deeper inside) rest)
+      (λ _. choose b (λ _. a_line s (own []) (deeper nothing) (a_line t cells inside rest)) (λ _. a_line t cells inside (into s own deeper rest))))
       ≤ named (a_line t cells inside rest) + 2 * suc n
   named-by t cells inside rest true b later =
       let l = named-line t (own cells) (deeper inside) rest in
@@ -97,7 +102,8 @@ module _ (s : Step) (own : List Cell → List Cell) (deeper : Plan → Plan) (n 
 
 pub named-add : (q : List Step) (cell : Cell) → local_of cell ≡ [] → (plan : Plan) → length (names_of (add q cell plan)) ≤ length (names_of plan) + 2 * length q
 named-add [] cell e plan = omega arith
-named-add (s ∷ q) cell e plan = named-into s (own_cells q cell) (add q cell) (length q) (λ cells. ap length (locals-own q cell cells e)) (λ inside. named-add q cell e inside) plan
+named-add (s ∷ q) cell e plan = named-into s (own_cells q cell) (add q cell) (length q) (λ cells. ap length (locals-own q cell cells e))
+    (λ inside. named-add q cell e inside) plan
 
 -- ---- a test of all lines
 
@@ -116,16 +122,20 @@ module _ (test : Step → List Cell → Bool) (s : Step) (q : List Step) (own : 
   lines-by : (t : Step) (cells : List Cell) (inside rest : Plan) (a b : Bool) → same_step s t ≡ a → leaves_by_name (s ∷ q) (a_line t cells inside rest) ≡ true
       → all_lines test (a_line t cells inside rest) ≡ true
       → (all_lines test rest ≡ true → all_lines test (into s own deeper rest) ≡ true)
-      → all_lines test (choose a (λ _. a_line t (own cells) (deeper inside) rest) (λ _. choose b (λ _. a_line s (own []) (deeper nothing) (a_line t cells inside rest)) (λ _. a_line t cells inside (into s own deeper rest)))) ≡ true
+      → all_lines test (choose a (λ _. a_line t (own cells) (deeper inside) rest)
+      (λ _. choose b (λ _. a_line s (own []) (deeper nothing) (a_line t cells inside rest)) (λ _. a_line t cells inside (into s own deeper rest)))) ≡ true
   lines-by t cells inside rest true b same h fine later =
       let k = both _ (leaves_by_name (s ∷ q) rest) h in
       let called : is_called s.name t.name ≡ true = subst (λ (x : Step). is_called s.name x.name ≡ true) (step-sound s t same) (called-as-itself s.name) in
-      let w = both (same_step s t) (leaves_by_name q inside) (ap (λ b. elim b [ true ↦ same_step s t && leaves_by_name q inside | false ↦ true ]) (sym called) ∙ k.0) in
-      and-mono (test t cells) (all_lines test inside && all_lines test rest) (test t (own cells)) (all_lines test (deeper inside) && all_lines test rest) (keeps t cells inside w.1)
+      let w = both (same_step s t) (leaves_by_name q inside) (ap (λ b. elim b [ true ↦ same_step s t && leaves_by_name q inside | false ↦ true ]) (sym called) ∙
+      k.0) in
+      and-mono (test t cells) (all_lines test inside && all_lines test rest) (test t (own cells)) (all_lines test (deeper inside) && all_lines test rest)
+      (keeps t cells inside w.1)
       (and-mono (all_lines test inside) (all_lines test rest) (all_lines test (deeper inside)) (all_lines test rest) (deep inside w.1) (λ e. e)) fine
   lines-by t cells inside rest false true same h fine later = new-fine (a_line t cells inside rest) fine
   lines-by t cells inside rest false false same h fine later =
-      and-mono (test t cells) (all_lines test inside && all_lines test rest) (test t cells) (all_lines test inside && all_lines test (into s own deeper rest)) (λ e. e)
+      and-mono (test t cells) (all_lines test inside && all_lines test rest) (test t cells) (all_lines test inside && all_lines test (into s own deeper rest))
+      (λ e. e)
       (and-mono (all_lines test inside) (all_lines test rest) (all_lines test inside) (all_lines test (into s own deeper rest)) (λ e. e) later) fine
 
   lines-into : (plan : Plan) → leaves_by_name (s ∷ q) plan ≡ true → all_lines test plan ≡ true → all_lines test (into s own deeper plan) ≡ true
@@ -139,7 +149,8 @@ pub lines-add : (test : Step → List Cell → Bool) (s : Step) (q : List Step) 
 lines-add test s [] cell f plan h fine =
     lines-into test s [] (own_cells [] cell) (add [] cell) (λ t cells inside e k. absurd (false≢true e)) (λ inside e k. k) f.0 refl plan h fine
 lines-add test s (u ∷ q) cell f plan h fine =
-    lines-into test s (u ∷ q) (own_cells (u ∷ q) cell) (add (u ∷ q) cell) (λ t cells inside e k. k) (λ inside e k. lines-add test u q cell f.1 inside e k) f.0 (lines-add test u q cell f.1 nothing refl refl) plan h fine
+    lines-into test s (u ∷ q) (own_cells (u ∷ q) cell) (add (u ∷ q) cell) (λ t cells inside e k. k) (λ inside e k. lines-add test u q cell f.1 inside e k) f.0
+    (lines-add test u q cell f.1 nothing refl refl) plan h fine
 
 -- ---- a new line is fine
 
@@ -164,8 +175,11 @@ module _ (limits : Limits) (declarations : List Declaration) where
       → nat_le (length declarations + 1) limits.attributes ≡ true
       → (q : List Step) → list_all can_be_named q ≡ true → AreFine (is_fine_line limits declarations) cell q
   fine-steps cell none chars local few [] h = tt
-  fine-steps cell none chars local few (s ∷ []) h =
-      (fine-by s (cell ∷ []) (both (can_be_named s) true h).0 local few (ap (λ l. currency_id ∷ (l ++ [])) none) (at-most (is_at_element cell)) (ap (λ b. b && true) chars), tt)
+  fine-steps cell none chars local few (s ∷ []) h = (
+    fine-by s (cell ∷ []) (both (can_be_named s) true h).0 local few (ap (λ l. currency_id ∷ (l ++ [])) none) (at-most (is_at_element cell))
+        (ap (λ b. b && true) chars),
+    tt,
+  )
     where
       at-most : (b : Bool) → nat_le (length (if b then cell ∷ [] else [])) 1 ≡ true
       at-most true = refl
@@ -193,13 +207,17 @@ module _ (limits : Limits) (rows : List Row) (row : Row) (joins : Joins rows row
   abbrev test : Step → List Cell → Bool
   test = is_fine_line limits declarations
 
-  one : (is_one_root (plan_of rows) ≡ true) × ((are_fine limits declarations && (nat_le (levels (plan_of rows)) limits.depth && (nat_le (length (names_of (plan_of rows))) limits.names && all_lines test (plan_of rows)))) ≡ true)
+  one : (is_one_root (plan_of rows) ≡ true) ×
+      ((are_fine limits declarations && (nat_le (levels (plan_of rows)) limits.depth &&
+      (nat_le (length (names_of (plan_of rows))) limits.names && all_lines test (plan_of rows)))) ≡ true)
   one = both (is_one_root (plan_of rows)) _ was
 
-  fine : (are_fine limits declarations ≡ true) × ((nat_le (levels (plan_of rows)) limits.depth && (nat_le (length (names_of (plan_of rows))) limits.names && all_lines test (plan_of rows))) ≡ true)
+  fine : (are_fine limits declarations ≡ true) ×
+      ((nat_le (levels (plan_of rows)) limits.depth && (nat_le (length (names_of (plan_of rows))) limits.names && all_lines test (plan_of rows))) ≡ true)
   fine = both (are_fine limits declarations) _ one.1
 
-  deep : (nat_le (levels (plan_of rows)) limits.depth ≡ true) × ((nat_le (length (names_of (plan_of rows))) limits.names && all_lines test (plan_of rows)) ≡ true)
+  deep : (nat_le (levels (plan_of rows)) limits.depth ≡ true) ×
+      ((nat_le (length (names_of (plan_of rows))) limits.names && all_lines test (plan_of rows)) ≡ true)
   deep = both (nat_le (levels (plan_of rows)) limits.depth) _ fine.1
 
   lines : all_lines test (plan_of rows) ≡ true
@@ -223,7 +241,8 @@ module _ (limits : Limits) (rows : List Row) (row : Row) (joins : Joins rows row
 
   behind : (list_all (is_fine_local limits declarations) (locals rooted.cells)
       && (not (has_twice bytes_eq (locals rooted.cells))
-      && (nat_le (length (filter is_at_element rooted.cells)) 1 && (nat_le (length declarations + length (locals rooted.cells)) limits.attributes && list_all has_chars rooted.cells)))) ≡ true
+      && (nat_le (length (filter is_at_element rooted.cells)) 1 &&
+      (nat_le (length declarations + length (locals rooted.cells)) limits.attributes && list_all has_chars rooted.cells)))) ≡ true
   behind = (both (can_be_named limits declarations rooted.step) _ root-line).1
 
   local : is_fine_local limits declarations currency_id ≡ true
@@ -231,7 +250,8 @@ module _ (limits : Limits) (rows : List Row) (row : Row) (joins : Joins rows row
 
   few : nat_le (length declarations + 1) limits.attributes ≡ true
   few =
-      let a = (both (not (has_twice bytes_eq (locals rooted.cells))) _ (both (list_all (is_fine_local limits declarations) (locals rooted.cells)) _ behind).1).1 in
+      let a = (both (not (has_twice bytes_eq (locals rooted.cells))) _ (both (list_all (is_fine_local limits declarations) (locals rooted.cells)) _ behind).1).1
+      in
       let b = (both (nat_le (length (filter is_at_element rooted.cells)) 1) _ a).1 in
       let c = (both (nat_le (length declarations + length (locals rooted.cells)) limits.attributes) (list_all has_chars rooted.cells) b).0 in
       let d = le-from (length declarations + length (locals rooted.cells)) limits.attributes c in
@@ -243,7 +263,8 @@ module _ (limits : Limits) (rows : List Row) (row : Row) (joins : Joins rows row
       let steps = fine-steps limits declarations cell none chars local few row.path named in
       ap (all_lines test) (plan-more rows row)
       ∙ (ap (λ p. all_lines test (add p cell (plan_of rows))) e
-      ∙ lines-add test rooted.step rooted.steps cell (subst (λ p. AreFine test cell p) e steps) (plan_of rows) (subst (λ p. leaves_by_name p (plan_of rows) ≡ true) e (leaves-lines rows row joins long)) lines)
+      ∙ lines-add test rooted.step rooted.steps cell (subst (λ p. AreFine test cell p) e steps) (plan_of rows)
+      (subst (λ p. leaves_by_name p (plan_of rows) ≡ true) e (leaves-lines rows row joins long)) lines)
 
   pub readable-more : length row.path ≤ limits.depth → length (names_of (plan_of rows)) + 2 * length row.path ≤ limits.names
       → list_all (can_be_named limits declarations) row.path ≡ true
@@ -259,10 +280,12 @@ module _ (limits : Limits) (rows : List Row) (row : Row) (joins : Joins rows row
       ∙ and-true (is_one_root now) _ (one-root-more rows row rooted)
       (and-true (are_fine limits declarations) _ fine.0
       (and-true (nat_le (levels now) limits.depth) _ (le-true (levels now) limits.depth (omega (arith, l, m, k, short)))
-      (and-true (nat_le (length (names_of now)) limits.names) (all_lines test now) (le-true (length (names_of now)) limits.names (omega (arith, n, j, room))) (lines-more named))))
+      (and-true (nat_le (length (names_of now)) limits.names) (all_lines test now) (le-true (length (names_of now)) limits.names (omega (arith, n, j, room)))
+      (lines-more named))))
 
   pub names-more : length (names_of (plan_of (rows ++ row ∷ []))) ≤ length (names_of (plan_of rows)) + 2 * length row.path
   names-more =
       let n = named-add row.path cell none (plan_of rows) in
-      let j : length (names_of (plan_of (rows ++ row ∷ []))) ≡ length (names_of (add row.path cell (plan_of rows))) = ap (λ plan. length (names_of plan)) (plan-more rows row) in
+      let j : length (names_of (plan_of (rows ++ row ∷ []))) ≡ length (names_of (add row.path cell (plan_of rows))) =
+      ap (λ plan. length (names_of plan)) (plan-more rows row) in
       omega (arith, n, j)

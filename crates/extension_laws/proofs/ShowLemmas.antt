@@ -1,5 +1,6 @@
 -- A table shows what it showed where a row joins it, and has the same root.
-use Rattle.std.proofs.Common.{◌≡◌, ◌+◌, ◌<◌, Bool, true, false, ◌&&◌, ◌||◌, List, [], ◌∷◌, ◌++◌, length, None, option_and_then, All, inl, refl, sym, ap, ◌∙◌, subst}
+use Rattle.std.proofs.Common.{◌≡◌, ◌+◌, ◌<◌, Bool, true, false, ◌&&◌, ◌||◌, List, [], ◌∷◌, ◌++◌, length, None, option_and_then, All, inl, refl, sym, ap, ◌∙◌}
+use Rattle.std.proofs.Common.{subst}
 use Rattle.std.specs.Prelude.{nat_lt, is_none}
 use Rattle.std.specs.List.{list_any}
 use Rattle.std.proofs.lemmas.Bool.{false≢true}
@@ -37,12 +38,15 @@ module _ (term : Term) (s : Step) (own : List Cell → List Cell) (deeper : Plan
     (keeps : (inside : Plan) → shows term inside ≡ true → shows term (deeper inside) ≡ true) where
   shows-by : (t : Step) (cells : List Cell) (inside rest : Plan) (a b : Bool) → shows term (a_line t cells inside rest) ≡ true
       → (shows term rest ≡ true → shows term (into s own deeper rest) ≡ true)
-      → shows term (choose a (λ _. a_line t (own cells) (deeper inside) rest) (λ _. choose b (λ _. a_line s (own []) (deeper nothing) (a_line t cells inside rest)) (λ _. a_line t cells inside (into s own deeper rest)))) ≡ true
+      → shows term (choose a (λ _. a_line t (own cells) (deeper inside) rest)
+      (λ _. choose b (λ _. a_line s (own []) (deeper nothing) (a_line t cells inside rest)) (λ _. a_line t cells inside (into s own deeper rest)))) ≡ true
   shows-by t cells inside rest true b h later =
       or-mono (is_none t.group && (list_any (always_writes term) cells || shows term inside)) (shows term rest)
       (is_none t.group && (list_any (always_writes term) (own cells) || shows term (deeper inside))) (shows term rest)
-      (and-mono (is_none t.group) (list_any (always_writes term) cells || shows term inside) (is_none t.group) (list_any (always_writes term) (own cells) || shows term (deeper inside)) (λ e. e)
-      (or-mono (list_any (always_writes term) cells) (shows term inside) (list_any (always_writes term) (own cells)) (shows term (deeper inside)) (cells-keep cells) (keeps inside))) (λ e. e) h
+      (and-mono (is_none t.group) (list_any (always_writes term) cells || shows term inside) (is_none t.group) (list_any (always_writes term) (own cells) ||
+      shows term (deeper inside)) (λ e. e)
+      (or-mono (list_any (always_writes term) cells) (shows term inside) (list_any (always_writes term) (own cells)) (shows term (deeper inside))
+      (cells-keep cells) (keeps inside))) (λ e. e) h
   shows-by t cells inside rest false true h later =
       or-second (is_none s.group && (list_any (always_writes term) (own []) || shows term (deeper nothing))) (shows term (a_line t cells inside rest)) h
   shows-by t cells inside rest false false h later =
@@ -105,7 +109,8 @@ pub record Rooted (rows : List Row) (row : Row) : Type 0 where
   pub once : step.group ≡ None
   pub path : row.path ≡ step ∷ steps
   pub was : plan_of rows ≡ a_line step cells inside nothing
-  pub is : plan_of (rows ++ row ∷ []) ≡ a_line step (own_cells steps (record { number = 0 + length rows; row = row }) cells) (add steps (record { number = 0 + length rows; row = row }) inside) nothing
+  pub is : plan_of (rows ++ row ∷ []) ≡ a_line step (own_cells steps (record { number = 0 + length rows; row = row }) cells)
+      (add steps (record { number = 0 + length rows; row = row }) inside) nothing
 
 pub rooted-more : (rows : List Row) (row : Row) → Joins rows row → All (λ (r : Row). 0 < length r.path) rows → is_one_root (plan_of rows) ≡ true
     → Rooted rows row

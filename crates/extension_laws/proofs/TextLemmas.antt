@@ -1,5 +1,6 @@
 -- By open tables what a valid invoice is written as is read as exactly that invoice, and converted back.
-use Rattle.std.proofs.Common.{◌≡◌, ℕ, ◌<◌, Bool, true, false, not, ◌&&◌, ◌||◌, List, [], ◌∷◌, ◌++◌, length, filter, flat_map, option_and_then, Some, Ok, All, inl, inr, refl, sym, ap, ◌∙◌, encode_utf8_all}
+use Rattle.std.proofs.Common.{◌≡◌, ℕ, ◌<◌, Bool, true, false, not, ◌&&◌, ◌||◌, List, [], ◌∷◌, ◌++◌, length, filter, flat_map, option_and_then, Some, Ok, All}
+use Rattle.std.proofs.Common.{inl, inr, refl, sym, ap, ◌∙◌, encode_utf8_all}
 use Rattle.std.specs.Prelude.{if◌then◌else◌}
 use Rattle.std.proofs.lemmas.Bool.{false≢true}
 use Rattle.inv_base.specs.Tree.{document_nodes}
@@ -22,7 +23,8 @@ use Rattle.bind_carrying.specs.Carrying.{carrying, entries_carried}
 use Rattle.bind_run.specs.Reading.{by_root, invoice_by}
 use Rattle.bind_run.specs.Roots.{which_of}
 use Rattle.binding_laws.specs.Apart.{holds_none}
-use Rattle.binding_laws.specs.Covered.{is_covered, is_shadowed, is_other, is_settled, rows_there, terms_in, unjoined_terms, unpaired_terms, left_out, holds_plainly}
+use Rattle.binding_laws.specs.Covered.{is_covered, is_shadowed, is_other, is_settled, rows_there, terms_in, unjoined_terms, unpaired_terms, left_out}
+use Rattle.binding_laws.specs.Covered.{holds_plainly}
 use Rattle.binding_laws.specs.Faultless.{is_faultless}
 use Rattle.binding_laws.proofs.ReachLemmas.{Among}
 use Rattle.carrying_laws.specs.Complete.{is_complete}
@@ -43,7 +45,8 @@ covered-none false covered shadowed h = refl
 
 none-other : (rows : List Row) → are_covered rows ≡ true → (row : Row) → Among row rows → is_other (plan_of rows) rows row ≡ false
 none-other rows covered row a =
-    covered-none (has_any_term row) (is_covered rows row) (is_shadowed (plan_of rows) rows row) (all-each (λ (r : Row). not (has_any_term r) || is_covered rows r) rows covered row a)
+    covered-none (has_any_term row) (is_covered rows row) (is_shadowed (plan_of rows) rows row)
+    (all-each (λ (r : Row). not (has_any_term r) || is_covered rows r) rows covered row a)
 
 pub settled : (rows : List Row) → are_covered rows ≡ true → is_settled rows ≡ true
 settled rows covered =
@@ -64,7 +67,8 @@ none-kept {X = X} p (x ∷ xs) h = by (p x) (h x (inl refl)) ∙ none-kept p xs 
 pub left-none : (rows : List Row) → are_covered rows ≡ true → unjoined_terms (plan_of rows) rows ≡ [] → unpaired_terms (plan_of rows) rows ≡ []
     → left_out rows ≡ []
 left-none rows covered joined paired =
-    λ i. flat_map (λ (row : Row). flat_map terms_in (rows_there (plan_of rows) row)) (none-kept (is_other (plan_of rows) rows) rows (none-other rows covered) i) ++ (joined i ++ paired i)
+    λ i. flat_map (λ (row : Row). flat_map terms_in (rows_there (plan_of rows) row)) (none-kept (is_other (plan_of rows) rows) rows (none-other rows covered) i)
+    ++ (joined i ++ paired i)
 
 holds-none : (es : List Entry) → holds_none [] es ≡ true
 holds-none [] = refl
@@ -73,7 +77,8 @@ holds-none (e ∷ es) = holds-none es
 -- ---- the round trip
 
 module _
-    (exactly_read : (rows : List Row) (es : List Entry) (lists : Lists) → IsInvoice es → IsValid es lists → All (λ (r : Row). 0 < length r.path) rows → first_fault rows ≡ Ok tt
+    (exactly_read : (rows : List Row) (es : List Entry) (lists : Lists) → IsInvoice es → IsValid es lists → All (λ (r : Row). 0 < length r.path) rows →
+    first_fault rows ≡ Ok tt
     → is_settled rows ≡ true → is_faultless rows ≡ true → holds_plainly rows es ≡ true
     → terms_of (document_nodes (document_of rows es)) rows lists ≡ Ok (record { entries = es; passed_over = 0 }))
     (held : (rows : List Row) (es : List Entry) (lists : Lists) → IsInvoice es → IsValid es lists → is_complete rows ≡ true
@@ -85,13 +90,16 @@ module _
         → terms_of (document_nodes (document_of rows es)) rows lists ≡ Ok (exactly es)
     open-read table rows es lists open_rows fine invoice valid by =
         exactly_read rows es lists invoice valid open_rows.long fine (settled rows open_rows.covered) open_rows.faultless
-        (held rows es lists invoice valid open_rows.complete (meets rows es by) (ap (λ left. holds_none left es) (left-none rows open_rows.covered open_rows.joined open_rows.paired) ∙ holds-none es))
+        (held rows es lists invoice valid open_rows.complete (meets rows es by)
+        (ap (λ left. holds_none left es) (left-none rows open_rows.covered open_rows.joined open_rows.paired) ∙ holds-none es))
 
     module _
-        (back : (limits : Limits) (rows : List Row) (es : List Entry) → IsInvoice es → is_readable limits rows ≡ true → holds_any rows es ≡ true → IsSmall limits rows es → IsReadBack limits rows es)
+        (back : (limits : Limits) (rows : List Row) (es : List Entry) → IsInvoice es → is_readable limits rows ≡ true → holds_any rows es ≡ true →
+        IsSmall limits rows es → IsReadBack limits rows es)
         (there : (rows : List Row) (es : List Entry) (lists : Lists) → shows invoice_number (plan_of rows) ≡ true → IsValid es lists → holds_any rows es ≡ true)
         (small : (rows : List Row) (es : List Entry) → carrying rows es ≡ Ok tt → IsSmall reading_limits rows es)
-        (root : (limits : Limits) (rows : List Row) (es : List Entry) → is_readable limits rows ≡ true → holds_any rows es ≡ true → which_of (document_nodes (document_of rows es)) ≡ root_table rows)
+        (root : (limits : Limits) (rows : List Row) (es : List Entry) → is_readable limits rows ≡ true → holds_any rows es ≡ true →
+        which_of (document_nodes (document_of rows es)) ≡ root_table rows)
         (tables : Which → List Row) (are : AreOpen tables)
       where
         pub round : (table : Which) (es : List Entry) (lists : Lists) → IsInvoice es → IsValid es lists → carrying (tables table) es ≡ Ok tt
@@ -132,4 +140,5 @@ module _ (tables : Which → List Row)
         → IsCarriedIn tables second es
         → option_and_then (conversion_by tables first lists) (conversion_by tables second lists (text_by tables first es)) ≡ Some (text_by tables first es)
     converted-back first second es lists invoice valid by too =
-        ap (option_and_then (conversion_by tables first lists)) (converted-there first second es lists invoice valid by too) ∙ converted-there second first es lists invoice valid too by
+        ap (option_and_then (conversion_by tables first lists)) (converted-there first second es lists invoice valid by too) ∙
+        converted-there second first es lists invoice valid too by

@@ -91,7 +91,8 @@ pub fn joined_tables_stay_open()
         → IsOpen table (rows ++ row ∷ []) }
     ensures room { (table : Which) (rows : List Row) (row : Row) (n : ℕ) → IsOpen table rows → HasRoom (suc n) rows → Joins rows row
         → HasRoom n (rows ++ row ∷ []) }
-    ensures extended_table { (table : Which) (terms : List AddedTerm) (rows : List Row) → IsOpen table rows → HasRoom (length terms) rows → JoinEach table rows terms
+    ensures extended_table { (table : Which) (terms : List AddedTerm) (rows : List Row) → IsOpen table rows → HasRoom (length terms) rows →
+        JoinEach table rows terms
         → IsOpen table (extended table rows terms) }
 {}
 

@@ -20,7 +20,8 @@ handed_over (Err e) status status' start shown now good is hands = inr (inl (goo
 
 -- A front of a front is a front.
 IsFront-front : (less front text : List ℕ) → IsFront less front → IsFront front text → IsFront less text
-IsFront-front less front text f g = subst (IsFront less) g.whole (subst (λ x. IsFront less (x ++ g.rest)) f.whole (record { rest = f.rest ++ g.rest; whole = sym (append_assoc less f.rest g.rest) }))
+IsFront-front less front text f g = subst (IsFront less) g.whole
+    (subst (λ x. IsFront less (x ++ g.rest)) f.whole (record { rest = f.rest ++ g.rest; whole = sym (append_assoc less f.rest g.rest) }))
 
 -- a text of which all was shown as taken, and the output failed
 pub failed_all : (text : List ℕ) (start shown now : SinkView) → HasFailed start shown now → WritesAll text start shown → WritesFront text start now

@@ -1,5 +1,6 @@
 -- What is held back and handed on, since the start.
-use Rattle.std.proofs.Common.{◌≡◌, ℕ, ◌≤◌, List, [], ◌∷◌, ◌++◌, take, drop, length, Option, Some, None, Result, Ok, Err, OnOk, refl, ap, sym, subst, ◌∙◌, arith, append_assoc}
+use Rattle.std.proofs.Common.{◌≡◌, ℕ, ◌≤◌, List, [], ◌∷◌, ◌++◌, take, drop, length, Option, Some, None, Result, Ok, Err, OnOk, refl, ap, sym, subst, ◌∙◌, arith}
+use Rattle.std.proofs.Common.{append_assoc}
 use Rattle.std.proofs.lemmas.List.{take-append-le, take-append-drop, length-take, append_cancel_left}
 use Rattle.std.proofs.Math.Seq.{take-length}
 use Rattle.inv_base.specs.Counts.{CountsFaults}
@@ -33,18 +34,21 @@ told_more start before piece (Some bytes) since is first whole began more =
     let few : length first ≤ length bytes = omega (arith, length-take (length first) bytes, ap length front) in
     sym (ap (take (length first)) same) ∙ (take-append-le (length first) bytes piece few ∙ front)
 
-since_more : (start before after : SinkView) (piece : List ℕ) → IsSince start before → after.told ≡ appended piece before.told → before.faults ≤ after.faults → IsSince start after
+since_more : (start before after : SinkView) (piece : List ℕ) → IsSince start before → after.told ≡ appended piece before.told → before.faults ≤ after.faults →
+    IsSince start after
 since_more start before after piece since more rises = record {
   told = λ first whole began told. told_more start before piece before.told since refl first whole began (sym more ∙ told);
   rises = omega (arith, since.rises, rises);
 }
 
 -- A write loses nothing that was told.
-pub since_write : {E : Type 0} (result : Result ℕ E) (piece : List ℕ) (start before after : SinkView) → IsSince start before → Accepts result piece before after → IsSince start after
+pub since_write : {E : Type 0} (result : Result ℕ E) (piece : List ℕ) (start before after : SinkView) → IsSince start before → Accepts result piece before after
+    → IsSince start after
 since_write (Ok n) piece start before after since accepts =
     let same : after.faults ≡ before.faults = accepts.faults in
     since_more start before after (take n piece) since accepts.told (omega (arith, same))
-since_write (Err e) piece start before after since accepts = since_more start before after [] since (accepts.told ∙ sym (appended-nil before.told)) accepts.faults.0
+since_write (Err e) piece start before after since accepts =
+    since_more start before after [] since (accepts.told ∙ sym (appended-nil before.told)) accepts.faults.0
 
 -- A call that left all as it was, and then a write.
 pub accepts_behind : {E : Type 0} (result : Result ℕ E) (piece : List ℕ) (before mid after : SinkView) → mid.told ≡ before.told → mid.faults ≡ before.faults
@@ -55,10 +59,12 @@ accepts_behind {E} result piece before mid after told faults accepts =
     subst (λ s. Accepts result piece s after) same accepts
 
 -- where nothing is held back, the output has what is shown
-all_handed : (now shown : SinkView) (sent : ℕ) (held : List ℕ) → held ≡ [] → (with_held now (drop sent held)).told ≡ shown.told → now.faults ≡ shown.faults → now ≡ shown
+all_handed : (now shown : SinkView) (sent : ℕ) (held : List ℕ) → held ≡ [] → (with_held now (drop sent held)).told ≡ shown.told → now.faults ≡ shown.faults →
+    now ≡ shown
 all_handed now shown sent held empty told faults =
     let same : now.told ≡ shown.told = sym (appended-nil now.told) ∙ (ap (λ x. appended x now.told) (sym (none_left sent held empty)) ∙ told) in
-    ap (λ t. let view : SinkView = record { told = t; faults = now.faults } in view) same ∙ ap (λ n. let view : SinkView = record { told = shown.told; faults = n } in view) faults
+    ap (λ t. let view : SinkView = record { told = t; faults = now.faults } in view) same ∙
+    ap (λ n. let view : SinkView = record { told = shown.told; faults = n } in view) faults
 
 -- What was held back is handed on, or the output failed.
 pub hands : {T E : Type 0} (result : Result T E) (start shown now : SinkView) (sent : ℕ) (held : List ℕ) → IsSince start now → start.faults ≤ shown.faults
@@ -94,7 +100,8 @@ by_told rest text start now (Some first) (Some bytes) began is since whole =
     }
 
 -- Where a text was shown as taken behind what was told at the start, the output took a front of it.
-pub front_of : (rest text : List ℕ) (start shown now : SinkView) → appended rest now.told ≡ shown.told → IsSince start now → shown.told ≡ appended text start.told
+pub front_of : (rest text : List ℕ) (start shown now : SinkView) → appended rest now.told ≡ shown.told → IsSince start now →
+    shown.told ≡ appended text start.told
     → FrontOf text start.told now.told
 front_of rest text start shown now whole since took = by_told rest text start now start.told now.told refl refl since (whole ∙ took)
 
@@ -108,9 +115,11 @@ front_of_nil start now f = f.told ∙ (ap (λ x. appended x start) (nothing f.fr
 -- An output behind which nothing was shown as taken is as it was.
 pub unchanged : (start shown now : SinkView) → TakesFront start shown now → shown ≡ start → now ≡ start
 unchanged start shown now takes is =
-    let told : now.told ≡ start.told = front_of_nil start.told now.told (front_of takes.rest [] start shown now takes.whole takes.since (ap (λ (s : SinkView). s.told) is ∙ sym (appended-nil start.told))) in
+    let told : now.told ≡ start.told = front_of_nil start.told now.told
+    (front_of takes.rest [] start shown now takes.whole takes.since (ap (λ (s : SinkView). s.told) is ∙ sym (appended-nil start.told))) in
     let faults : now.faults ≡ start.faults = takes.faults ∙ ap (λ (s : SinkView). s.faults) is in
-    ap (λ t. let view : SinkView = record { told = t; faults = now.faults } in view) told ∙ ap (λ n. let view : SinkView = record { told = start.told; faults = n } in view) faults
+    ap (λ t. let view : SinkView = record { told = t; faults = now.faults } in view) told ∙
+    ap (λ n. let view : SinkView = record { told = start.told; faults = n } in view) faults
 
 -- Behind nothing that is held back, what is shown is what the output shows.
 pub with_none : (s : SinkView) → with_held s [] ≡ s

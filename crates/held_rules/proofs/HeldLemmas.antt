@@ -38,7 +38,8 @@ refused-nodes bytes fault r =
     sym (ap unless_refused (is-refused r.content fault r.is)) ∙ ap (λ content. unless_refused (document limits content)) (r.whole bytes refl)
 
 -- the one file of a shelf
-held-told : (name bytes : List ℕ) (shelf : Kept) → shelf.files ≡ (name, bytes) ∷ [] → bytes_eq name name ≡ true → option_map (bytes_under name) (shelf_of shelf).held ≡ Some bytes
+held-told : (name bytes : List ℕ) (shelf : Kept) → shelf.files ≡ (name, bytes) ∷ [] → bytes_eq name name ≡ true →
+    option_map (bytes_under name) (shelf_of shelf).held ≡ Some bytes
 held-told name bytes shelf files same =
     ap (λ fs. Some (content_of name fs)) files ∙ ap (λ b. Some (if b then bytes else [])) same
 

@@ -1,5 +1,6 @@
 -- A rule file that is held in memory, compiled, and what is active of it by default.
-use Rattle.std.proofs.Common.{◌≡◌, ℕ, true, false, true≢false, inl, inr, List, [], ◌∷◌, Option, Some, None, option_map, Result, Ok, Err, IfOk, OnOk, refl, sym, ap, subst, ◌∙◌}
+use Rattle.std.proofs.Common.{◌≡◌, ℕ, true, false, true≢false, inl, inr, List, [], ◌∷◌, Option, Some, None, option_map, Result, Ok, Err, IfOk, OnOk, refl, sym}
+use Rattle.std.proofs.Common.{ap, subst, ◌∙◌}
 use Rattle.std.specs.Prelude.{nat_lt}
 use Rattle.std.specs.List.{list_all}
 use Rattle.std.specs.Str.{chars, IsAscii}
@@ -18,15 +19,18 @@ use Rattle.held_rules.specs.declared.ready.Ready as code
 use Rattle.held_rules.specs.Texts.{unless_faulty, with_active, by_default, IsReady, AreReady}
 
 -- a file that was refused says nothing
-pub none-said : {E : Type 0} (document : Document) (fault : RuleFault) (answer : Result Rules Fault) (told : Result (Option Compiled) E) → Tells document fault answer
-    → IfOk told (λ rules. option_map seen_rules rules ≡ None) → OnOk told (is_memory fault.kind ≡ false) → IfOk told (λ rules. option_map seen_rules rules ≡ unless_faulty answer)
+pub none-said : {E : Type 0} (document : Document) (fault : RuleFault) (answer : Result Rules Fault) (told : Result (Option Compiled) E) →
+    Tells document fault answer
+    → IfOk told (λ rules. option_map seen_rules rules ≡ None) → OnOk told (is_memory fault.kind ≡ false) →
+    IfOk told (λ rules. option_map seen_rules rules ≡ unless_faulty answer)
 none-said document fault answer (Err e) tells none is = tt
 none-said document fault answer (Ok rules) (inl memory) none is = absurd (true≢false (sym (ap (λ (f : RuleFault). is_memory f.kind) memory) ∙ is))
 none-said document fault answer (Ok rules) (inr first) none is = none ∙ sym (ap unless_faulty first.1)
 
 ascii : (bytes : List ℕ) → list_all (λ b. nat_lt b 128) bytes ≡ true → IsAscii bytes
 ascii [] e = IsAscii-nil
-ascii (b ∷ bytes) e = let parts = and_parts (nat_lt b 128) (list_all (λ b. nat_lt b 128) bytes) e in IsAscii-cons b bytes (ltb-true b 128 parts.0) (ascii bytes parts.1)
+ascii (b ∷ bytes) e = let parts = and_parts (nat_lt b 128) (list_all (λ b. nat_lt b 128) bytes) e in
+    IsAscii-cons b bytes (ltb-true b 128 parts.0) (ascii bytes parts.1)
 
 default-chars : chars the_default ≡ the_default
 default-chars = chars-IsAscii the_default (ascii the_default refl)

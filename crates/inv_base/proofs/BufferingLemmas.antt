@@ -21,9 +21,11 @@ handed_on held sent taken before after piece is told faults =
 pub passed_on : {E : Type 0} (result : Result ℕ E) (piece held : List ℕ) (before mid after : SinkView) → held ≡ []
     → (with_held mid held).told ≡ before.told → mid.faults ≡ before.faults → Accepts result piece mid after → Accepts result piece before (with_held after held)
 passed_on {E} result piece held before mid after none told faults accepts =
-    let middle : mid ≡ before = ap (λ told. let view : SinkView = record { told = told; faults = mid.faults } in view) (sym (appended-nil mid.told) ∙ (ap (λ x. appended x mid.told) (sym none) ∙ told))
+    let middle : mid ≡ before = ap (λ told. let view : SinkView = record { told = told; faults = mid.faults } in view)
+    (sym (appended-nil mid.told) ∙ (ap (λ x. appended x mid.told) (sym none) ∙ told))
     ∙ ap (λ faults. let view : SinkView = record { told = before.told; faults = faults } in view) faults in
-    let behind : with_held after held ≡ after = ap (λ told. let view : SinkView = record { told = told; faults = after.faults } in view) (ap (λ x. appended x after.told) none ∙ appended-nil after.told) in
+    let behind : with_held after held ≡ after = ap (λ told. let view : SinkView = record { told = told; faults = after.faults } in view)
+    (ap (λ x. appended x after.told) none ∙ appended-nil after.told) in
     rw (behind, ← middle) accepts
 
 pub none_left : (sent : ℕ) (held : List ℕ) → held ≡ [] → drop sent held ≡ []

@@ -1,5 +1,7 @@
 -- Files in memory, one more at a time.
-use Rattle.std.proofs.Common.{◌≡◌, ℕ, ◌+◌, ◌<◌, ◌≤◌, min, drop, Ok, length-append, length-take, length-drop, List, [], ◌∷◌, ◌++◌, map, reverse, take, get_or, length, Bool, true, false, ◌||◌, cond, Some, option_map, unwrap_or, refl, ap, sym, ◌∙◌, string_bytes, bytes_eq, arith, MatchOption, Option, None}
+use Rattle.std.proofs.Common.{◌≡◌, ℕ, ◌+◌, ◌<◌, ◌≤◌, min, drop, Ok, length-append, length-take, length-drop, List, [], ◌∷◌, ◌++◌, map, reverse, take, get_or}
+use Rattle.std.proofs.Common.{length, Bool, true, false, ◌||◌, cond, Some, option_map, unwrap_or, refl, ap, sym, ◌∙◌, string_bytes, bytes_eq, arith}
+use Rattle.std.proofs.Common.{MatchOption, Option, None}
 use Rattle.std.proofs.Math.Seq.{take-append_seam}
 use Rattle.inv_base.specs.Memory.{Kept, shelf_of, behind_read, within_piece}
 use Rattle.inv_base.specs.Outside.{Reads}
@@ -19,7 +21,8 @@ newest_first-more files k file h e =
     ∙ reverse-append (map file_of (take k files)) (file_of file ∷ []))
 
 bytes_at-read : (files : List MemFile) (k : ℕ) (file : MemFile) → k < length files → file ≡ get_or files k file → bytes_at k files ≡ file.bytes.items
-bytes_at-read files k file h e = ap (λ (o : Option MemFile). unwrap_or (option_map (λ (f : MemFile). f.bytes.items) o) []) (slice_get_read files (length files) k file refl h e)
+bytes_at-read files k file h e = ap (λ (o : Option MemFile). unwrap_or (option_map (λ (f : MemFile). f.bytes.items) o) [])
+    (slice_get_read files (length files) k file refl h e)
 
 content_of-head : (name : List ℕ) (file : List ℕ × List ℕ) (files : List (List ℕ × List ℕ)) (b : Bool) → bytes_eq file.0 name ≡ b
     → content_of name (file ∷ files) ≡ cond b file.1 (content_of name files)

@@ -1,9 +1,11 @@
 -- How many bytes stand before the first stop, seen a block at a time through the marks of the stops.
-use Rattle.std.proofs.Common.{◌≡◌, ℕ, suc, ◌+◌, ◌%◌, ◌^◌, ◌<◌, ◌≤◌, eqb, cond, Bool, true, false, not, ◌||◌, ◌==◌, inl, inr, List, [], ◌∷◌, ◌++◌, map, length, take, get_or, Fits, w8, refl, sym, ap, ap₂, ◌∙◌, subst, arith, true≢false}
+use Rattle.std.proofs.Common.{◌≡◌, ℕ, suc, ◌+◌, ◌%◌, ◌^◌, ◌<◌, ◌≤◌, eqb, cond, Bool, true, false, not, ◌||◌, ◌==◌, inl, inr, List, [], ◌∷◌, ◌++◌, map, length}
+use Rattle.std.proofs.Common.{take, get_or, Fits, w8, refl, sym, ap, ap₂, ◌∙◌, subst, arith, true≢false}
 use Rattle.std.proofs.lemmas.Bool.{agree_below, agree_below_at, cases_lt}
 use Rattle.std.proofs.lemmas.List.{length-map}
 use Rattle.std.proofs.lemmas.List.Sums.{position_or_len_is, prefix_len-le-length}
-use Rattle.std.proofs.lemmas.Simd.{mask_l-mod, zip2-map, length-chunk, leading_from_mask_l, trailing_mask_l, run_in_chunk_le, run_in_chunk_fails, run_in_chunk_stops}
+use Rattle.std.proofs.lemmas.Simd.{mask_l-mod, zip2-map, length-chunk, leading_from_mask_l, trailing_mask_l, run_in_chunk_le, run_in_chunk_fails}
+use Rattle.std.proofs.lemmas.Simd.{run_in_chunk_stops}
 use Rattle.std.specs.List.{position_or_len, flat_map}
 use lib.Bits.{bit_or, bit_and}
 use lib.Count.{count_trailing_zeros}
@@ -51,7 +53,8 @@ module _ (p : ℕ → Bool) (xs : List ℕ) where
   pub front-unmarked : (at n marks : ℕ) → at + n ≤ length xs → marks ≡ mask_l (map p (chunk at n xs)) → marks ≡ 0 → n ≡ position_or_len p (chunk at n xs)
   front-unmarked at n marks room e none = sym (leading_from_mask_l p (chunk at n xs) (sym e ∙ none) ∙ length-chunk at n xs room)
 
-  pub front-marked : (at n marks : ℕ) → at + n ≤ length xs → n ≤ 64 → marks ≡ mask_l (map p (chunk at n xs)) → 0 < marks → count_trailing_zeros 64 marks ≡ position_or_len p (chunk at n xs)
+  pub front-marked : (at n marks : ℕ) → at + n ≤ length xs → n ≤ 64 → marks ≡ mask_l (map p (chunk at n xs)) → 0 < marks →
+      count_trailing_zeros 64 marks ≡ position_or_len p (chunk at n xs)
   front-marked at n marks room few e some =
       ap (count_trailing_zeros 64) e ∙ trailing_mask_l p 64 (chunk at n xs) (omega (arith, length-chunk at n xs room)) (omega (arith, e))
 
@@ -72,14 +75,16 @@ module _ (p : ℕ → Bool) (xs : List ℕ) where
     -- the block with the first stop, or the last one
     pub first-in-block : (count : ℕ) → at ≤ count → NoneBefore p xs count → (at + r < length xs → r < n) → at + r ≡ position_or_len p xs
     first-in-block count before none short =
-        sym (position_or_len_is p xs (at + r) 0 (omega (arith, front-within)) (none-to count before none) (λ l. run_in_chunk_stops p xs at n r 0 room counted (short l)))
+        sym (position_or_len_is p xs (at + r) 0 (omega (arith, front-within)) (none-to count before none)
+        (λ l. run_in_chunk_stops p xs at n r 0 room counted (short l)))
 
   pub front-bound : (n : ℕ) → n ≡ position_or_len p xs → n ≤ length xs
   front-bound n e = omega (arith, e, prefix_len-le-length (λ x. not (p x)) xs)
 
 -- What isn't escaped stands for itself.
 not-escaped : (c : ℕ) (s t u v w : Bool) → (s || (t || (u || (v || w)))) ≡ false
-    → cond s (0x5C ∷ 0x5C ∷ []) (cond t (0x5C ∷ 0x22 ∷ []) (cond u (0x5C ∷ 0x6E ∷ []) (cond v (0x5C ∷ 0x72 ∷ []) (cond w (0x5C ∷ 0x74 ∷ []) (c ∷ []))))) ≡ c ∷ []
+    → cond s (0x5C ∷ 0x5C ∷ []) (cond t (0x5C ∷ 0x22 ∷ []) (cond u (0x5C ∷ 0x6E ∷ []) (cond v (0x5C ∷ 0x72 ∷ []) (cond w (0x5C ∷ 0x74 ∷ []) (c ∷ []))))) ≡ c ∷
+    []
 not-escaped c true t u v w h = absurd (true≢false h)
 not-escaped c false true u v w h = absurd (true≢false h)
 not-escaped c false false true v w h = absurd (true≢false h)
@@ -91,8 +96,10 @@ pub plain-front : (bytes : List ℕ) → flat_map quoted_character (take (positi
 plain-front [] = refl
 plain-front (b ∷ bytes) = by (is_escaped b) refl (plain-front bytes)
   where
-    by : (t : Bool) → is_escaped b ≡ t → flat_map quoted_character (take (position_or_len is_escaped bytes) bytes) ≡ take (position_or_len is_escaped bytes) bytes
-        → flat_map quoted_character (take (cond (not t) (1 + position_or_len is_escaped bytes) 0) (b ∷ bytes)) ≡ take (cond (not t) (1 + position_or_len is_escaped bytes) 0) (b ∷ bytes)
+    by : (t : Bool) → is_escaped b ≡ t → flat_map quoted_character (take (position_or_len is_escaped bytes) bytes) ≡ take
+        (position_or_len is_escaped bytes) bytes
+        → flat_map quoted_character (take (cond (not t) (1 + position_or_len is_escaped bytes) 0) (b ∷ bytes)) ≡ take
+        (cond (not t) (1 + position_or_len is_escaped bytes) 0) (b ∷ bytes)
     by true e rest = refl
     by false e rest =
         let one : 1 + position_or_len is_escaped bytes ≡ suc (position_or_len is_escaped bytes) = omega arith in
@@ -102,7 +109,8 @@ plain-front (b ∷ bytes) = by (is_escaped b) refl (plain-front bytes)
         ∙ (ap (λ x. x ++ flat_map quoted_character front) own ∙ (ap (λ x. b ∷ x) rest ∙ sym (ap (λ n. take n (b ∷ bytes)) one)))
 
 escaped-twice : (c : ℕ) (s t u v w : Bool) → (s || (t || (u || (v || w)))) ≡ true
-    → length (cond s (0x5C ∷ 0x5C ∷ []) (cond t (0x5C ∷ 0x22 ∷ []) (cond u (0x5C ∷ 0x6E ∷ []) (cond v (0x5C ∷ 0x72 ∷ []) (cond w (0x5C ∷ 0x74 ∷ []) (c ∷ [])))))) ≡ 2
+    → length (cond s (0x5C ∷ 0x5C ∷ []) (cond t (0x5C ∷ 0x22 ∷ [])
+    (cond u (0x5C ∷ 0x6E ∷ []) (cond v (0x5C ∷ 0x72 ∷ []) (cond w (0x5C ∷ 0x74 ∷ []) (c ∷ [])))))) ≡ 2
 escaped-twice c true t u v w h = refl
 escaped-twice c false true u v w h = refl
 escaped-twice c false false true v w h = refl
@@ -110,7 +118,8 @@ escaped-twice c false false false true w h = refl
 escaped-twice c false false false false true h = refl
 escaped-twice c false false false false false h = absurd (true≢false (sym h))
 
-pub plain-progress : (bytes : List ℕ) (byte : ℕ) (after : List ℕ) → bytes ≡ byte ∷ after → quoted_character byte ≡ byte ∷ [] → 0 < position_or_len is_escaped bytes
+pub plain-progress : (bytes : List ℕ) (byte : ℕ) (after : List ℕ) → bytes ≡ byte ∷ after → quoted_character byte ≡ byte ∷ [] →
+    0 < position_or_len is_escaped bytes
 plain-progress bytes byte after is plain = subst (λ xs. 0 < position_or_len is_escaped xs) (sym is) (by (is_escaped byte) refl)
   where
     by : (t : Bool) → is_escaped byte ≡ t → 0 < cond (not t) (1 + position_or_len is_escaped after) 0

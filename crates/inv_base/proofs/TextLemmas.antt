@@ -61,5 +61,6 @@ encode-quoted text u =
     let inside = flat_map quoted_character (chars text) in
     ap (λ x. x ++ encode_utf8_all (inside ++ 0x22 ∷ [])) (encode_ascii 0x22 (omega arith))
     ∙ ap (λ x. 0x22 ∷ x) (encodes-append inside (0x22 ∷ [])
-    ∙ (ap (λ x. x ++ (encode_utf8 0x22 ++ [])) (sym (flat_map-encodes quoted_character quoted-IsAsciiEscape (chars text)) ∙ ap (flat_map quoted_character) (encode-chars text u))
+    ∙ (ap (λ x. x ++ (encode_utf8 0x22 ++ [])) (sym (flat_map-encodes quoted_character quoted-IsAsciiEscape (chars text)) ∙
+    ap (flat_map quoted_character) (encode-chars text u))
     ∙ ap (λ x. flat_map quoted_character text ++ (x ++ [])) (encode_ascii 0x22 (omega arith))))

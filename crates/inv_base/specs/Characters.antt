@@ -22,4 +22,5 @@ is_name_start c = is_within 0x41 0x5A c || (c == 0x5F || (is_within 0x61 0x7A c 
 
 -- NameChar, production 4a, without the colon: how an NCName goes on
 unfoldable pub is_name_char : ℕ → Bool
-is_name_char c = is_name_start c || (c == 0x2D || (c == 0x2E || (is_within 0x30 0x39 c || (c == 0xB7 || (is_within 0x300 0x36F c || is_within 0x203F 0x2040 c)))))
+is_name_char c = is_name_start c ||
+    (c == 0x2D || (c == 0x2E || (is_within 0x30 0x39 c || (c == 0xB7 || (is_within 0x300 0x36F c || is_within 0x203F 0x2040 c)))))

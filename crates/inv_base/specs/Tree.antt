@@ -61,7 +61,8 @@ size (an_element name attributes inside rest) = 1 + (length attributes + (size i
 abbrev pub nodes_of_attributes : List ℕ → ℕ → List Attribute → List Node
 nodes_of_attributes above n [] = []
 nodes_of_attributes above n (attribute ∷ attributes) =
-    record { number = n; kind = kinds.Attribute; name = Some attribute.name; above = above; text = attribute.value } ∷ nodes_of_attributes above (n + 1) attributes
+    record { number = n; kind = kinds.Attribute; name = Some attribute.name; above = above; text = attribute.value } ∷ nodes_of_attributes above
+    (n + 1) attributes
 
 abbrev pub nodes_of : List ℕ → ℕ → Forest → List Node
 nodes_of above n no_more = []

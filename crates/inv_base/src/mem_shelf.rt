@@ -1,4 +1,5 @@
-ghost use Rattle.std.specs.Prelude.{◌≡◌, ℕ, ◌<◌, ◌≤◌, [], ◌∷◌, ◌++◌, length, min, take, drop, false, true, Some, None, IfOk, OnOk, OnErr, MatchResult, MatchOption};
+ghost use Rattle.std.specs.Prelude.{◌≡◌, ℕ, ◌<◌, ◌≤◌, [], ◌∷◌, ◌++◌, length, min, take, drop, false, true, Some, None, IfOk, OnOk, OnErr, MatchResult};
+ghost use Rattle.std.specs.Prelude.{MatchOption};
 ghost use Rattle.inv_base.specs.Outside.{Opens, Reads};
 ghost use Rattle.inv_base.specs.Memory.{Kept, shelf_of, is_listed, cannot_open, behind_failed_open, behind_open, behind_failed_read, behind_read, within_piece};
 ghost use Rattle.inv_base.specs.Files.{content_of, is_named};
@@ -47,7 +48,16 @@ impl Model for MemShelf {
 
     ghost use Rattle.inv_base.specs.MemFiles.{newest_first, left_of, IsPlace, IsPiece};
 
-    ghost view = { λ s. record { files = newest_first s.files.items; left = left_of s.files.items s.opened; piece = s.piece; failing = s.failing.items; calls = s.calls; faults = s.faults; opens = s.opens } };
+    ghost view = { λ s. record {
+      files = newest_first s.files.items;
+      left = left_of s.files.items s.opened;
+      piece = s.piece;
+      failing = s.failing.items;
+      calls =
+          s.calls;
+      faults = s.faults;
+      opens = s.opens;
+    } };
 
     ghost invariant = { λ s. IsPlace s.files.items s.opened × IsPiece s.piece };
 }

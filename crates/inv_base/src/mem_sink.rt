@@ -81,7 +81,8 @@ impl Sink for MemSink {
     fn write(&mut self, piece: &[u8]) -> Result<usize, Failed>
         ensures accepts { Accepts result piece.now (sink_of self.old) (sink_of self.new) }
         ensures exact { MatchResult result
-            (λ n. (is_refused self.old ≡ false) × (n ≡ min (length piece.now) (self.old.room - length self.old.bytes)) × (self.new ≡ behind_write n piece.now self.old))
+            (λ n. (is_refused self.old ≡ false) × (n ≡ min (length piece.now) (self.old.room - length self.old.bytes)) ×
+            (self.new ≡ behind_write n piece.now self.old))
             (λ _. (is_refused self.old ≡ true) × (self.new ≡ behind_refusal self.old)) }
     {
         self.calls = self.calls.saturating_add(1);

@@ -1,5 +1,6 @@
 -- The written forms are ASCII, so a text's characters are read as its bytes are.
-use Rattle.std.proofs.Common.{◌≡◌, ℕ, ◌<◌, ◌≢◌, List, [], ◌∷◌, ◌++◌, length, get_or, true, ◌&&◌, refl, sym, ap, ◌∙◌, subst, inl, inr, arith, Option, Some, None, ℤ}
+use Rattle.std.proofs.Common.{◌≡◌, ℕ, ◌<◌, ◌≢◌, List, [], ◌∷◌, ◌++◌, length, get_or, true, ◌&&◌, refl, sym, ap, ◌∙◌, subst, inl, inr, arith, Option, Some, None}
+use Rattle.std.proofs.Common.{ℤ}
 use Rattle.std.specs.Option.{option_map}
 use Rattle.std.specs.List.{list_all, before_first, after_first, position_or_len}
 use Rattle.std.specs.Char.{is_ascii_digit}
@@ -47,7 +48,8 @@ IsAscii-round_point : (cs : List ℕ) → IsAscii (before_first is_point cs) →
 IsAscii-round_point cs before behind =
     elim (cases_lt (position_or_len is_point cs) (length cs)) as (λ _. IsAscii cs) [
       | inl less ↦ (let point : get_or cs (position_or_len is_point cs) 0 < 128 = point_small _ (passes_at_first is_point cs 0 less) in
-          IsAscii-at _ cs (sym (split_at_first is_point cs 0 less)) (IsAscii-append (before_first is_point cs) _ before (IsAscii-cons _ (after_first is_point cs) point behind)))
+          IsAscii-at _ cs (sym (split_at_first is_point cs 0 less))
+          (IsAscii-append (before_first is_point cs) _ before (IsAscii-cons _ (after_first is_point cs) point behind)))
       | inr more ↦ IsAscii-at _ cs (take_all (position_or_len is_point cs) cs more) before
     ]
 

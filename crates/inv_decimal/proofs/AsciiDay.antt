@@ -1,5 +1,6 @@
 -- The written forms of a day are ASCII.
-use Rattle.std.proofs.Common.{◌≡◌, ℕ, ◌<◌, List, ◌++◌, length, take, drop, get_or, Bool, true, false, cond, refl, sym, ap, ◌∙◌, inl, inr, arith, Option, Some, None}
+use Rattle.std.proofs.Common.{◌≡◌, ℕ, ◌<◌, List, ◌++◌, length, take, drop, get_or, Bool, true, false, cond, refl, sym, ap, ◌∙◌, inl, inr, arith, Option, Some}
+use Rattle.std.proofs.Common.{None}
 use Rattle.std.specs.List.{list_all}
 use Rattle.std.specs.Char.{is_ascii_digit}
 use Rattle.std.specs.Str.{IsUtf8, IsAscii, chars}
@@ -31,7 +32,8 @@ pub IsAscii-plain : (cs : List ℕ) (v : CivilDay) → read_plain_day cs ≡ Som
 IsAscii-plain cs v e =
     elim (cases_eq (length cs) 8) as (λ _. IsAscii cs) [
       | inl len ↦ (let parts = digits_of_day (take 4 cs) (take 2 (drop 4 cs)) (drop 6 cs) v (plain_is cs len ∙ e) in
-          let behind : take 2 (drop 4 cs) ++ drop 6 cs ≡ drop 4 cs = ap (λ x. take 2 (drop 4 cs) ++ x) (sym (drop-drop 2 4 cs)) ∙ take-append-drop 2 (drop 4 cs) in
+          let behind : take 2 (drop 4 cs) ++ drop 6 cs ≡ drop 4 cs = ap (λ x. take 2 (drop 4 cs) ++ x) (sym (drop-drop 2 4 cs)) ∙
+          take-append-drop 2 (drop 4 cs) in
           let rest : IsAscii (drop 4 cs) = IsAscii-at _ (drop 4 cs) behind (IsAscii-append (take 2 (drop 4 cs)) (drop 6 cs) parts.1 parts.2) in
           IsAscii-at _ cs (take-append-drop 4 cs) (IsAscii-append (take 4 cs) (drop 4 cs) parts.0 rest))
       | inr other ↦ (let none : None ≡ Some v = plain_none cs other ∙ e in cc)
@@ -49,10 +51,13 @@ IsAscii-dashed cs v e =
         | inl first ↦ elim (cases_eq (get_or cs 7 0) 45) as (λ _. IsAscii cs) [
           | inr other ↦ (let none : None ≡ Some v = dashed_none cs (inr (inr other)) ∙ e in cc)
           | inl second ↦ (let parts = digits_of_day (take 4 cs) (take 2 (drop 5 cs)) (drop 8 cs) v (dashed_is cs len first second ∙ e) in
-              let day : IsAscii (drop 7 cs) = IsAscii-at _ (drop 7 cs) (sym (drop_more cs 7 0 (omega arith))) (IsAscii-cons (get_or cs 7 0) (drop 8 cs) (dash_small _ second) parts.2) in
-              let behind : take 2 (drop 5 cs) ++ drop 7 cs ≡ drop 5 cs = ap (λ x. take 2 (drop 5 cs) ++ x) (sym (drop-drop 2 5 cs)) ∙ take-append-drop 2 (drop 5 cs) in
+              let day : IsAscii (drop 7 cs) = IsAscii-at _ (drop 7 cs) (sym (drop_more cs 7 0 (omega arith)))
+              (IsAscii-cons (get_or cs 7 0) (drop 8 cs) (dash_small _ second) parts.2) in
+              let behind : take 2 (drop 5 cs) ++ drop 7 cs ≡ drop 5 cs = ap (λ x. take 2 (drop 5 cs) ++ x) (sym (drop-drop 2 5 cs)) ∙
+              take-append-drop 2 (drop 5 cs) in
               let month : IsAscii (drop 5 cs) = IsAscii-at _ (drop 5 cs) behind (IsAscii-append (take 2 (drop 5 cs)) (drop 7 cs) parts.1 day) in
-              let dash : IsAscii (drop 4 cs) = IsAscii-at _ (drop 4 cs) (sym (drop_more cs 4 0 (omega arith))) (IsAscii-cons (get_or cs 4 0) (drop 5 cs) (dash_small _ first) month) in
+              let dash : IsAscii (drop 4 cs) = IsAscii-at _ (drop 4 cs) (sym (drop_more cs 4 0 (omega arith)))
+              (IsAscii-cons (get_or cs 4 0) (drop 5 cs) (dash_small _ first) month) in
               IsAscii-at _ cs (take-append-drop 4 cs) (IsAscii-append (take 4 cs) (drop 4 cs) parts.0 dash))
         ]
       ]

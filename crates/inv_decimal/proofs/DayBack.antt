@@ -30,7 +30,9 @@ is_day-from d h =
     let last_month : d.month ≤ 12 = omega (arith, ints, h.exists.1.1) in
     let first_day : 1 ≤ d.day = omega (arith, ints, h.exists.2.0) in
     let last_day : d.day ≤ days_in_month (pos d.year) d.month = within _ _ h.exists.2.1 in
-    and_true _ _ (and_true _ _ (and_true _ _ (and_true _ _ (and_true _ _ (nat_le_yes 1 d.year h.in_era) (nat_le_yes d.year 9999 year)) (nat_le_yes 1 d.month first_month)) (nat_le_yes d.month 12 last_month)) (nat_le_yes 1 d.day first_day)) (nat_le_yes d.day (days_in_month (pos d.year) d.month) last_day)
+    and_true _ _ (and_true _ _ (and_true _ _ (and_true _ _ (and_true _ _ (nat_le_yes 1 d.year h.in_era) (nat_le_yes d.year 9999 year))
+    (nat_le_yes 1 d.month first_month)) (nat_le_yes d.month 12 last_month)) (nat_le_yes 1 d.day first_day))
+    (nat_le_yes d.day (days_in_month (pos d.year) d.month) last_day)
 
 short_month : (y m d : ℕ) → d ≤ days_in_month (pos y) m → d ≤ 31
 short_month y m d h = grind (arith, nat_tests)
@@ -40,7 +42,8 @@ day_back d h =
     let year : d.year ≤ 9999 = omega (arith, ints, h.exists.0.1) in
     let month : d.month ≤ 12 = omega (arith, ints, h.exists.1.1) in
     let day : d.day ≤ 31 = short_month d.year d.month d.day (within _ _ h.exists.2.1) in
-    sym (day_read _ _ _ d.year d.month d.day (number_back 4 d.year (omega arith) (omega arith)) (number_back 2 d.month (omega arith) (omega arith)) (number_back 2 d.day (omega arith) (omega arith))) ∙ ap (λ b. cond b (Some d) None) (is_day-from d h)
+    sym (day_read _ _ _ d.year d.month d.day (number_back 4 d.year (omega arith) (omega arith)) (number_back 2 d.month (omega arith) (omega arith))
+    (number_back 2 d.day (omega arith) (omega arith))) ∙ ap (λ b. cond b (Some d) None) (is_day-from d h)
 
 pub plain_back : (d : CivilDay) → IsDay d → read_plain_day (plain_day_text d) ≡ Some d
 unfolding plain_day_text last_digits
@@ -52,7 +55,8 @@ dashed_back d h = sym (dashed_is (dashed_day_text d) refl refl refl) ∙ day_bac
 
 pub day_cmp_total : IsTotalOrder day_cmp
 day_cmp_total =
-    then_total (on_total (λ (d : CivilDay). d.year) nat_cmp_total) (then_total (on_total (λ (d : CivilDay). d.month) nat_cmp_total) (on_total (λ (d : CivilDay). d.day) nat_cmp_total))
+    then_total (on_total (λ (d : CivilDay). d.year) nat_cmp_total)
+    (then_total (on_total (λ (d : CivilDay). d.month) nat_cmp_total) (on_total (λ (d : CivilDay). d.day) nat_cmp_total))
 
 then_equal : (o p : Ordering) → ordering_then o p ≡ Equal → (o ≡ Equal) × (p ≡ Equal)
 then_equal Less p e = cc
@@ -70,4 +74,6 @@ same_day a b e =
     let year = tied a.year b.year years.0 in
     let month = tied a.month b.month months.0 in
     let day = tied a.day b.day months.1 in
-    ap (λ y. let d : CivilDay = record { year = y; month = a.month; day = a.day } in d) year ∙ ap (λ m. let d : CivilDay = record { year = b.year; month = m; day = a.day } in d) month ∙ ap (λ n. let d : CivilDay = record { year = b.year; month = b.month; day = n } in d) day
+    ap (λ y. let d : CivilDay = record { year = y; month = a.month; day = a.day } in d) year ∙
+    ap (λ m. let d : CivilDay = record { year = b.year; month = m; day = a.day } in d) month ∙
+    ap (λ n. let d : CivilDay = record { year = b.year; month = b.month; day = n } in d) day

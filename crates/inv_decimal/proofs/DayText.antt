@@ -14,7 +14,9 @@ length_behind old front n e h =
 has_digits : (ys : List ℕ) (k v : ℕ) → ys ≡ last_digits k v → length ys ≡ k
 has_digits ys k v e = ap length e ∙ length-last_digits k v
 
-pub plain_written : (buf y m d : List ℕ) (year month day : ℕ) → length buf ≡ 8 → y ≡ last_digits (length (mid_of 0 4 buf)) year → m ≡ last_digits (length (mid_of 4 2 (y ++ post_of 0 4 buf))) month → d ≡ last_digits (length (mid_of 6 2 (put_mid 4 2 (y ++ post_of 0 4 buf) m))) day → put_mid 6 2 (put_mid 4 2 (y ++ post_of 0 4 buf) m) d ≡ plain_day_text (record { year = year; month = month; day = day })
+pub plain_written : (buf y m d : List ℕ) (year month day : ℕ) → length buf ≡ 8 → y ≡ last_digits (length (mid_of 0 4 buf)) year →
+    m ≡ last_digits (length (mid_of 4 2 (y ++ post_of 0 4 buf))) month → d ≡ last_digits (length (mid_of 6 2 (put_mid 4 2 (y ++ post_of 0 4 buf) m))) day →
+    put_mid 6 2 (put_mid 4 2 (y ++ post_of 0 4 buf) m) d ≡ plain_day_text (record { year = year; month = month; day = day })
 unfolding plain_day_text
 plain_written buf y m d year month day len ey em ed =
     let y4 = digits_at buf y 0 4 year (omega arith) ey in
@@ -27,12 +29,17 @@ plain_written buf y m d year month day len ey em ed =
     let l1 : length (put_mid 4 2 (y ++ drop 4 buf) m) ≡ length buf = ap length s1 ∙ length_behind buf (y ++ m) 6 f1 (omega arith) in
     let d2 = digits_at (put_mid 4 2 (y ++ drop 4 buf) m) d 6 2 day (omega arith) ed in
     let ld : length d ≡ 2 = has_digits d 2 day d2 in
-    ap (λ x. put_mid 6 2 x d) s1 ∙ slice_behind buf (y ++ m) d 6 2 f1 ld ∙ ap (λ x. ((y ++ m) ++ d) ++ x) (drop_all 8 buf (omega arith)) ∙ append-nil ((y ++ m) ++ d) ∙ append_assoc y m d ∙ ap (λ x. x ++ (m ++ d)) y4 ∙ ap (λ x. last_digits 4 year ++ (x ++ d)) m2 ∙ ap (λ x. last_digits 4 year ++ (last_digits 2 month ++ x)) d2
+    ap (λ x. put_mid 6 2 x d) s1 ∙ slice_behind buf (y ++ m) d 6 2 f1 ld ∙ ap (λ x. ((y ++ m) ++ d) ++ x) (drop_all 8 buf (omega arith)) ∙
+    append-nil ((y ++ m) ++ d) ∙ append_assoc y m d ∙ ap (λ x. x ++ (m ++ d)) y4 ∙ ap (λ x. last_digits 4 year ++ (x ++ d)) m2 ∙
+    ap (λ x. last_digits 4 year ++ (last_digits 2 month ++ x)) d2
 
 regroup : (y m d : List ℕ) → (((y ++ 45 ∷ []) ++ m) ++ 45 ∷ []) ++ d ≡ y ++ (45 ∷ (m ++ (45 ∷ d)))
 regroup y m d = simp append_assoc
 
-pub dashed_written : (buf y m d : List ℕ) (year month day : ℕ) → length buf ≡ 10 → y ≡ last_digits (length (mid_of 0 4 buf)) year → m ≡ last_digits (length (mid_of 5 2 (set (y ++ post_of 0 4 buf) 4 45))) month → d ≡ last_digits (length (mid_of 8 2 (set (put_mid 5 2 (set (y ++ post_of 0 4 buf) 4 45) m) 7 45))) day → put_mid 8 2 (set (put_mid 5 2 (set (y ++ post_of 0 4 buf) 4 45) m) 7 45) d ≡ dashed_day_text (record { year = year; month = month; day = day })
+pub dashed_written : (buf y m d : List ℕ) (year month day : ℕ) → length buf ≡ 10 → y ≡ last_digits (length (mid_of 0 4 buf)) year →
+    m ≡ last_digits (length (mid_of 5 2 (set (y ++ post_of 0 4 buf) 4 45))) month →
+    d ≡ last_digits (length (mid_of 8 2 (set (put_mid 5 2 (set (y ++ post_of 0 4 buf) 4 45) m) 7 45))) day →
+    put_mid 8 2 (set (put_mid 5 2 (set (y ++ post_of 0 4 buf) 4 45) m) 7 45) d ≡ dashed_day_text (record { year = year; month = month; day = day })
 unfolding dashed_day_text
 dashed_written buf y m d year month day len ey em ed =
     let y4 = digits_at buf y 0 4 year (omega arith) ey in
@@ -48,7 +55,11 @@ dashed_written buf y m d year month day len ey em ed =
     let s2 : set (put_mid 5 2 (set (y ++ drop 4 buf) 4 45) m) 7 45 ≡ (((y ++ 45 ∷ []) ++ m) ++ 45 ∷ []) ++ drop 8 buf =
     ap (λ x. set x 7 45) s1 ∙ byte_behind buf ((y ++ 45 ∷ []) ++ m) 7 45 f1 (omega arith) in
     let f2 : length (((y ++ 45 ∷ []) ++ m) ++ 45 ∷ []) ≡ 8 = omega (arith, length-append ((y ++ 45 ∷ []) ++ m) (45 ∷ [])) in
-    let l2 : length (set (put_mid 5 2 (set (y ++ drop 4 buf) 4 45) m) 7 45) ≡ length buf = ap length s2 ∙ length_behind buf (((y ++ 45 ∷ []) ++ m) ++ 45 ∷ []) 8 f2 (omega arith) in
+    let l2 : length (set (put_mid 5 2 (set (y ++ drop 4 buf) 4 45) m) 7 45) ≡ length buf = ap length s2 ∙
+    length_behind buf (((y ++ 45 ∷ []) ++ m) ++ 45 ∷ []) 8 f2 (omega arith) in
     let d2 = digits_at (set (put_mid 5 2 (set (y ++ drop 4 buf) 4 45) m) 7 45) d 8 2 day (omega arith) ed in
     let ld : length d ≡ 2 = has_digits d 2 day d2 in
-    ap (λ x. put_mid 8 2 x d) s2 ∙ slice_behind buf (((y ++ 45 ∷ []) ++ m) ++ 45 ∷ []) d 8 2 f2 ld ∙ ap (λ x. ((((y ++ 45 ∷ []) ++ m) ++ 45 ∷ []) ++ d) ++ x) (drop_all 10 buf (omega arith)) ∙ append-nil ((((y ++ 45 ∷ []) ++ m) ++ 45 ∷ []) ++ d) ∙ regroup y m d ∙ ap (λ x. x ++ (45 ∷ (m ++ (45 ∷ d)))) y4 ∙ ap (λ x. last_digits 4 year ++ (45 ∷ (x ++ (45 ∷ d)))) m2 ∙ ap (λ x. last_digits 4 year ++ (45 ∷ (last_digits 2 month ++ (45 ∷ x)))) d2
+    ap (λ x. put_mid 8 2 x d) s2 ∙ slice_behind buf (((y ++ 45 ∷ []) ++ m) ++ 45 ∷ []) d 8 2 f2 ld ∙
+    ap (λ x. ((((y ++ 45 ∷ []) ++ m) ++ 45 ∷ []) ++ d) ++ x) (drop_all 10 buf (omega arith)) ∙ append-nil ((((y ++ 45 ∷ []) ++ m) ++ 45 ∷ []) ++ d) ∙
+    regroup y m d ∙ ap (λ x. x ++ (45 ∷ (m ++ (45 ∷ d)))) y4 ∙ ap (λ x. last_digits 4 year ++ (45 ∷ (x ++ (45 ∷ d)))) m2 ∙
+    ap (λ x. last_digits 4 year ++ (45 ∷ (last_digits 2 month ++ (45 ∷ x)))) d2

@@ -22,7 +22,12 @@ pub digits_left_step : (n : ℕ) → n < 2 ^ 64 → 1 + digits_left (n / 10) ≡
 digits_left_step n h =
     elim (cases_lt n 10) as (λ _. 1 + digits_left (n / 10) ≡ length (decimal n)) [
       | inl small ↦ ap (λ x. 1 + x) (digits_left-nil (n / 10) (omega arith)) ∙ sym (ap length (decimal_digit n small))
-      | inr large ↦ omega (arith, digits_left-pos (n / 10) (omega arith), ap length (decimal_step n large h), length-append (decimal (n / 10)) ((48 + n % 10) ∷ []))
+      | inr large ↦ omega (
+        arith,
+        digits_left-pos (n / 10) (omega arith),
+        ap length (decimal_step n large h),
+        length-append (decimal (n / 10)) ((48 + n % 10) ∷ []),
+      )
     ]
 
 -- so many digits are counted, and those of the rest are left
@@ -48,6 +53,8 @@ counts_end value count rest h p =
 pub decimal-last_digits : (n : ℕ) → n < 2 ^ 64 → last_digits (length (decimal n)) n ≡ decimal n
 decimal-last_digits n h =
     decimal_by_steps (λ m ds. last_digits (length ds) m ≡ ds)
-    (λ m p. last_digits-push 0 m ∙ ap (λ ds. ds ++ (48 + m % 10) ∷ []) (last_digits-zero (m / 10)) ∙ ap (λ d. (48 + d) ∷ []) (let e : m % 10 ≡ m = omega arith in e))
-    (λ m ds p e. ap (λ k. last_digits k m) (let l : length (ds ++ (48 + m % 10) ∷ []) ≡ suc (length ds) = omega (arith, length-append ds ((48 + m % 10) ∷ [])) in l) ∙ last_digits-push (length ds) m ∙ ap (λ xs. xs ++ (48 + m % 10) ∷ []) e)
+    (λ m p. last_digits-push 0 m ∙ ap (λ ds. ds ++ (48 + m % 10) ∷ []) (last_digits-zero (m / 10)) ∙
+    ap (λ d. (48 + d) ∷ []) (let e : m % 10 ≡ m = omega arith in e))
+    (λ m ds p e. ap (λ k. last_digits k m) (let l : length (ds ++ (48 + m % 10) ∷ []) ≡ suc (length ds) =
+    omega (arith, length-append ds ((48 + m % 10) ∷ [])) in l) ∙ last_digits-push (length ds) m ∙ ap (λ xs. xs ++ (48 + m % 10) ∷ []) e)
     n h

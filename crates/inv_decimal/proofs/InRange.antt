@@ -1,5 +1,6 @@
 -- What is read is in range.
-use Rattle.std.proofs.Common.{◌≡◌, ℕ, ◌+◌, ◌-◌, ◌*◌, ◌^◌, ◌<◌, ◌≤◌, List, ◌++◌, length, take, drop, slice_index, ◌==◌, Bool, true, false, cond, nat_lt, nat_le, ◌&&◌, refl, sym, ap, subst, ◌∙◌, inl, inr, arith, Option, Some, None, ℤ, pos}
+use Rattle.std.proofs.Common.{◌≡◌, ℕ, ◌+◌, ◌-◌, ◌*◌, ◌^◌, ◌<◌, ◌≤◌, List, ◌++◌, length, take, drop, slice_index, ◌==◌, Bool, true, false, cond, nat_lt, nat_le}
+use Rattle.std.proofs.Common.{◌&&◌, refl, sym, ap, subst, ◌∙◌, inl, inr, arith, Option, Some, None, ℤ, pos}
 use Rattle.std.specs.Option.{option_map}
 use Rattle.std.specs.List.{list_all}
 use Rattle.std.specs.Char.{is_ascii_digit}
@@ -27,20 +28,26 @@ None≢Some e = cc
 le_from : (m n : ℕ) → nat_le m n ≡ true → m ≤ n
 le_from m n e = grind (arith, nat_tests)
 
-units_bound : (whole fraction : List ℕ) → are_number_parts whole fraction ≡ true → (length fraction ≤ 18) × (digits_value 10 (whole ++ fraction) * 10 ^ (18 - length fraction) < 10 ^ 36)
+units_bound : (whole fraction : List ℕ) → are_number_parts whole fraction ≡ true → (length fraction ≤ 18) ×
+    (digits_value 10 (whole ++ fraction) * 10 ^ (18 - length fraction) < 10 ^ 36)
 units_bound whole fraction form =
-    let four = and_parts (list_all is_ascii_digit (whole ++ fraction) && nat_lt 0 (length (whole ++ fraction)) && nat_le (length (without_leading_zeros whole)) 18) (nat_le (length fraction) 18) form in
-    let three = and_parts (list_all is_ascii_digit (whole ++ fraction) && nat_lt 0 (length (whole ++ fraction))) (nat_le (length (without_leading_zeros whole)) 18) four.0 in
+    let four = and_parts (list_all is_ascii_digit (whole ++ fraction) && nat_lt 0 (length (whole ++ fraction)) &&
+    nat_le (length (without_leading_zeros whole)) 18) (nat_le (length fraction) 18) form in
+    let three = and_parts (list_all is_ascii_digit (whole ++ fraction) && nat_lt 0 (length (whole ++ fraction)))
+    (nat_le (length (without_leading_zeros whole)) 18) four.0 in
     let two = and_parts (list_all is_ascii_digit (whole ++ fraction)) (nat_lt 0 (length (whole ++ fraction))) three.0 in
     let digits = all_of-append whole fraction two.0 in
     let short : length fraction ≤ 18 = le_from (length fraction) 18 four.1 in
     let low : digits_value 10 whole < 10 ^ 18 = eighteen_digits whole digits.0 (le_from (length (without_leading_zeros whole)) 18 three.1) in
     let rest : digits_value 10 fraction < 10 ^ length fraction = digits_value-lt 10 fraction (AllDigits-from_list_all fraction digits.1) in
     let value : digits_value 10 (whole ++ fraction) < 10 ^ length fraction * 10 ^ 18 =
-    omega (arith, digits_value-append whole fraction, mul-add-lt (digits_value 10 whole) (10 ^ length fraction) (digits_value 10 fraction) (10 ^ 18) low rest) in
+    omega (arith, digits_value-append whole fraction, mul-add-lt (digits_value 10 whole) (10 ^ length fraction) (digits_value 10 fraction) (10 ^ 18) low rest)
+    in
     let positive : 1 ≤ 10 ^ (18 - length fraction) = one-le-pow (18 - length fraction) 10 (omega arith) in
-    let room : digits_value 10 (whole ++ fraction) * 10 ^ (18 - length fraction) + 10 ^ (18 - length fraction) ≤ 10 ^ length fraction * 10 ^ 18 * 10 ^ (18 - length fraction) =
-    row_fits (digits_value 10 (whole ++ fraction)) (10 ^ (18 - length fraction)) (10 ^ length fraction * 10 ^ 18) (10 ^ (18 - length fraction)) value (omega arith) in
+    let room : digits_value 10 (whole ++ fraction) * 10 ^ (18 - length fraction) + 10 ^ (18 - length fraction) ≤ 10 ^ length fraction * 10 ^ 18 * 10 ^
+    (18 - length fraction) =
+    row_fits (digits_value 10 (whole ++ fraction)) (10 ^ (18 - length fraction)) (10 ^ length fraction * 10 ^ 18) (10 ^ (18 - length fraction)) value
+    (omega arith) in
     (short, omega (arith, ap (λ x. x * 10 ^ 18) (unused_power (length fraction) short)))
 
 pub scaled_at : (g : ℕ → ScaledDecimal) (u : Option ℕ) (s : ScaledDecimal) → option_map g u ≡ Some s → (n : ℕ) × (Some n ≡ u) × (s ≡ g n)
@@ -50,10 +57,12 @@ scaled_at g (Some n) s e = (n, refl, cc)
 pub scaled_in_range : (cs : List ℕ) (s : ScaledDecimal) → read_scaled cs ≡ Some s → IsScaled s
 unfolding read_scaled
 scaled_in_range cs s e =
-    let read = scaled_at (λ n. record { value = with_sign (starts_with_minus cs) n; digits = length (fraction_part cs) }) (written_units (whole_part cs) (fraction_part cs)) s e in
+    let read = scaled_at (λ n. record { value = with_sign (starts_with_minus cs) n; digits = length (fraction_part cs) })
+    (written_units (whole_part cs) (fraction_part cs)) s e in
     let are = units_are (whole_part cs) (fraction_part cs) read.0 read.1 in
     let bound = units_bound (whole_part cs) (fraction_part cs) are.0 in
-    subst IsScaled (sym read.2) (is_scaled (whole_part cs) (fraction_part cs) (starts_with_minus cs) read.0 _ read.1 (omega (arith, are.1, bound.1)) bound.0 refl)
+    subst IsScaled (sym read.2) (is_scaled (whole_part cs) (fraction_part cs) (starts_with_minus cs) read.0 _ read.1
+    (omega (arith, are.1, bound.1)) bound.0 refl)
 
 decimal_at : (o : Option ScaledDecimal) (z : ℤ) → option_map (λ s. s.value) o ≡ Some z → (s : ScaledDecimal) × (o ≡ Some s) × (s.value ≡ z)
 decimal_at None z e = absurd (None≢Some e)

@@ -1,5 +1,6 @@
 -- Laws of the operations.
-use Rattle.std.proofs.Common.{◌≡◌, ℕ, zero, suc, ◌*◌, ◌/◌, ◌%◌, ◌^◌, ◌<◌, ◌≤◌, ◌≢◌, ◌⊎◌, true, refl, sym, ap, ◌∙◌, inl, inr, arith, Ok, Err, Result, ℤ, pos, negsuc, neg_ℤ, ◌+ℤ◌, ◌*ℤ◌, ◌<ℤ◌, ◌≤ℤ◌, unsigned_abs}
+use Rattle.std.proofs.Common.{◌≡◌, ℕ, zero, suc, ◌*◌, ◌/◌, ◌%◌, ◌^◌, ◌<◌, ◌≤◌, ◌≢◌, ◌⊎◌, true, refl, sym, ap, ◌∙◌, inl, inr, arith, Ok, Err, Result, ℤ, pos}
+use Rattle.std.proofs.Common.{negsuc, neg_ℤ, ◌+ℤ◌, ◌*ℤ◌, ◌<ℤ◌, ◌≤ℤ◌, unsigned_abs}
 use Rattle.std.specs.Prelude.{◌-ℤ◌, int_div, int_rem}
 use Rattle.std.specs.Int.{is_negative}
 use Rattle.std.proofs.lemmas.Int.{ints, quot-rem, rem_below, unsigned_abs-mul}
@@ -117,7 +118,8 @@ abs-times-le x y =
     omega (arith, unsigned_abs-mul (int_div x y) y, ap (λ q. q * unsigned_abs y) (abs-quotient x y), div-mul-le_self (unsigned_abs x) (unsigned_abs y))
 
 -- the quotient times the divisor, and the remainder, make up the dividend
-pub quotient_fits : (x y q r : ℤ) → IsDecimal x → whole_quotient_of x y ≡ Ok q → remainder_of x y ≡ Ok r → (p : ℤ) × (product_of q y ≡ Ok p) × (sum_of p r ≡ Ok x)
+pub quotient_fits : (x y q r : ℤ) → IsDecimal x → whole_quotient_of x y ≡ Ok q → remainder_of x y ≡ Ok r → (p : ℤ) × (product_of q y ≡ Ok p) ×
+    (sum_of p r ≡ Ok x)
 unfolding whole_quotient_of product_of sum_of
 quotient_fits x y q r small eq er =
     let whole = (divided-is y (int_div x y *ℤ pos unit) q eq).1 in

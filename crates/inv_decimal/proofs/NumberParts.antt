@@ -1,5 +1,6 @@
 -- The digits of a written number, and what they are worth.
-use Rattle.std.proofs.Common.{◌≡◌, ℕ, zero, suc, ◌+◌, ◌-◌, ◌*◌, ◌^◌, ◌<◌, ◌≤◌, ◌≢◌, ◌⊎◌, List, [], ◌∷◌, ◌++◌, length, take, drop, get_or, Bool, true, false, cond, ltb, nat_lt, nat_le, ◌&&◌, refl, sym, ap, ◌∙◌, inl, inr, arith, length-append, Some, None}
+use Rattle.std.proofs.Common.{◌≡◌, ℕ, zero, suc, ◌+◌, ◌-◌, ◌*◌, ◌^◌, ◌<◌, ◌≤◌, ◌≢◌, ◌⊎◌, List, [], ◌∷◌, ◌++◌, length, take, drop, get_or, Bool, true, false}
+use Rattle.std.proofs.Common.{cond, ltb, nat_lt, nat_le, ◌&&◌, refl, sym, ap, ◌∙◌, inl, inr, arith, length-append, Some, None}
 use Rattle.std.proofs.Math.Nat.{pow-zero, pow-succ', pow-le-pow_right, one-le-pow}
 use Rattle.std.proofs.lemmas.Nat.{pow-add, mul-le, row_fits}
 use Rattle.std.proofs.lemmas.List.{take-append-drop, take_all}
@@ -74,7 +75,8 @@ pub record ReadsDigits (ds : List ℕ) (i value : ℕ) : Type 0 where
 pub reads_none : (ds : List ℕ) → ReadsDigits ds 0 0
 reads_none ds = record { all = refl; worth = refl; small = omega arith }
 
-pub reads_more : (ds : List ℕ) (i v x : ℕ) → ReadsDigits ds i v → i < length ds → is_ascii_digit (get_or ds i 0) ≡ true → v < 10 ^ 17 → x ≡ get_or ds i 0 - 48 → ReadsDigits ds (i + 1) (v * 10 + x)
+pub reads_more : (ds : List ℕ) (i v x : ℕ) → ReadsDigits ds i v → i < length ds → is_ascii_digit (get_or ds i 0) ≡ true → v < 10 ^ 17 → x ≡ get_or ds i 0 - 48 →
+    ReadsDigits ds (i + 1) (v * 10 + x)
 reads_more ds i v x h l digit low e =
     let r = digit_in (get_or ds i 0) digit in
     let worth : digit_value (get_or ds i 0) ≡ x = omega (arith, digit_value_digit (get_or ds i 0) r, r.0) in
@@ -160,12 +162,14 @@ first_digit c cs digit h =
     mul-le 1 (10 ^ length cs) (0 * 10 + digit_value c) (10 ^ length cs) (omega arith) (omega arith) in
     omega (arith, value_after-ge (0 * 10 + digit_value c) cs)
 
-as_long : (cs : List ℕ) → list_all is_ascii_digit cs ≡ true → 0 < length (without_leading_zeros cs) → 10 ^ (length (without_leading_zeros cs) - 1) ≤ digits_value 10 cs
+as_long : (cs : List ℕ) → list_all is_ascii_digit cs ≡ true → 0 < length (without_leading_zeros cs) →
+    10 ^ (length (without_leading_zeros cs) - 1) ≤ digits_value 10 cs
 as_long [] all h = absurd (omega arith)
 as_long (c ∷ cs) all h =
     let parts = and_parts (is_ascii_digit c) (list_all is_ascii_digit cs) all in
     elim (cases_eq c 48) as (λ _. 10 ^ (length (without_leading_zeros (c ∷ cs)) - 1) ≤ digits_value 10 (c ∷ cs)) [
-      | inl e ↦ rw (zero_goes c cs e, zero_worth c cs e) (as_long cs parts.1 (let n : 0 < length (without_leading_zeros cs) = omega (arith, h, ap length (zero_goes c cs e)) in n))
+      | inl e ↦ rw (zero_goes c cs e, zero_worth c cs e)
+          (as_long cs parts.1 (let n : 0 < length (without_leading_zeros cs) = omega (arith, h, ap length (zero_goes c cs e)) in n))
       | inr other ↦ rw (other_stays c cs other) (let e : suc (length cs) - 1 ≡ length cs = omega arith in rw e (first_digit c cs parts.0 other))
     ]
 
@@ -215,7 +219,8 @@ number_some_at : (b : Bool) (w v : ℕ) → Some v ≡ cond (b && nat_lt w (10 ^
 number_some_at false w v e = cc
 number_some_at true w v e =
     elim (cases_lt w (10 ^ 18)) as (λ _. (true ≡ true) × (v ≡ w) × (v < 10 ^ 18)) [
-      | inl less ↦ (let same : Some v ≡ Some w = e ∙ ap (λ b. cond b (Some w) None) (nat_lt_yes w (10 ^ 18) less) in let eq : v ≡ w = cc in (refl, eq, omega arith))
+      | inl less ↦ (let same : Some v ≡ Some w = e ∙ ap (λ b. cond b (Some w) None) (nat_lt_yes w (10 ^ 18) less) in let eq : v ≡ w = cc in
+          (refl, eq, omega arith))
       | inr more ↦ (let none : Some v ≡ None = e ∙ ap (λ b. cond b (Some w) None) (nat_lt_no w (10 ^ 18) more) in cc)
     ]
 
@@ -232,7 +237,8 @@ pub digits_from_number : (ds : List ℕ) (v : ℕ) → Some v ≡ digits_number 
 digits_from_number ds v e =
     number_some_at (list_all is_ascii_digit ds) (digits_value 10 ds) v e
 
-pub why_no_number : (ds : List ℕ) → None ≡ digits_number ds → (list_all is_ascii_digit ds ≡ false) ⊎ ((list_all is_ascii_digit ds ≡ true) × (10 ^ 18 ≤ digits_value 10 ds))
+pub why_no_number : (ds : List ℕ) → None ≡ digits_number ds →
+    (list_all is_ascii_digit ds ≡ false) ⊎ ((list_all is_ascii_digit ds ≡ true) × (10 ^ 18 ≤ digits_value 10 ds))
 why_no_number ds e = number_none_at (list_all is_ascii_digit ds) (digits_value 10 ds) e
 
 units_none : (whole fraction : List ℕ) → are_number_parts whole fraction ≡ false → None ≡ written_units whole fraction
@@ -240,7 +246,8 @@ unfolding written_units
 units_none whole fraction e =
     sym (ap (λ b. cond b (Some (digits_value 10 (whole ++ fraction) * 10 ^ (18 - length fraction))) None) e)
 
-pub units_some : (whole fraction : List ℕ) → are_number_parts whole fraction ≡ true → written_units whole fraction ≡ Some (digits_value 10 (whole ++ fraction) * 10 ^ (18 - length fraction))
+pub units_some : (whole fraction : List ℕ) → are_number_parts whole fraction ≡ true →
+    written_units whole fraction ≡ Some (digits_value 10 (whole ++ fraction) * 10 ^ (18 - length fraction))
 unfolding written_units
 units_some whole fraction e =
     ap (λ b. cond b (Some (digits_value 10 (whole ++ fraction) * 10 ^ (18 - length fraction))) None) e
@@ -250,13 +257,16 @@ unused_power k h =
     sym (pow-add 10 k (18 - k)) ∙ ap (λ n. 10 ^ n) (let e : k + (18 - k) ≡ 18 = omega arith in e)
 
 -- the form, from its four parts
-pub form_holds : (whole fraction : List ℕ) → list_all is_ascii_digit whole ≡ true → list_all is_ascii_digit fraction ≡ true → 0 < length whole + length fraction → length (without_leading_zeros whole) ≤ 18 → length fraction ≤ 18 → are_number_parts whole fraction ≡ true
+pub form_holds : (whole fraction : List ℕ) → list_all is_ascii_digit whole ≡ true → list_all is_ascii_digit fraction ≡ true → 0 < length whole + length fraction
+    → length (without_leading_zeros whole) ≤ 18 → length fraction ≤ 18 → are_number_parts whole fraction ≡ true
 form_holds whole fraction w f some significant short =
     let nonempty : 0 < length (whole ++ fraction) = omega (arith, length-append whole fraction) in
-    four_true _ _ _ _ (list_all-append is_ascii_digit whole fraction ∙ and_true _ _ w f) (nat_lt_yes 0 (length (whole ++ fraction)) nonempty) (nat_le_yes (length (without_leading_zeros whole)) 18 significant) (nat_le_yes (length fraction) 18 short)
+    four_true _ _ _ _ (list_all-append is_ascii_digit whole fraction ∙ and_true _ _ w f) (nat_lt_yes 0 (length (whole ++ fraction)) nonempty)
+    (nat_le_yes (length (without_leading_zeros whole)) 18 significant) (nat_le_yes (length fraction) 18 short)
 
 -- the parts of a number that was read are its form
-pub parts_have_form : (whole fraction : List ℕ) (ones rest : ℕ) → (length whole + length fraction ≡ 0 → ⊥) → length fraction ≤ 18 → Some ones ≡ digits_number whole → Some rest ≡ digits_number fraction → are_number_parts whole fraction ≡ true
+pub parts_have_form : (whole fraction : List ℕ) (ones rest : ℕ) → (length whole + length fraction ≡ 0 → ⊥) → length fraction ≤ 18 →
+    Some ones ≡ digits_number whole → Some rest ≡ digits_number fraction → are_number_parts whole fraction ≡ true
 parts_have_form whole fraction ones rest some short ew ef =
     let w = digits_from_number whole ones ew in
     let f = digits_from_number fraction rest ef in
@@ -267,18 +277,23 @@ parts_have_form whole fraction ones rest some short ew ef =
     ] in
     form_holds whole fraction w.0 f.0 (omega (arith, some)) significant short
 
-pub parts_read : (whole fraction : List ℕ) (ones rest a b unused : ℕ) → (length whole + length fraction ≡ 0 → ⊥) → length fraction ≤ 18 → Some ones ≡ digits_number whole → Some rest ≡ digits_number fraction → a ≡ ones → b ≡ rest → unused ≡ 10 ^ (18 - length fraction) → Some (a * 10 ^ 18 + b * unused) ≡ written_units whole fraction
+pub parts_read : (whole fraction : List ℕ) (ones rest a b unused : ℕ) → (length whole + length fraction ≡ 0 → ⊥) → length fraction ≤ 18 →
+    Some ones ≡ digits_number whole → Some rest ≡ digits_number fraction → a ≡ ones → b ≡ rest → unused ≡ 10 ^ (18 - length fraction) →
+    Some (a * 10 ^ 18 + b * unused) ≡ written_units whole fraction
 parts_read whole fraction ones rest a b unused some short ew ef ea eb eu =
     let w = digits_from_number whole ones ew in
     let f = digits_from_number fraction rest ef in
     let power = unused_power (length fraction) short in
     let worth : digits_value 10 (whole ++ fraction) ≡ a * 10 ^ length fraction + b =
-    digits_value-append whole fraction ∙ ap (λ x. x * 10 ^ length fraction + digits_value 10 fraction) (sym (ea ∙ w.1)) ∙ ap (λ x. a * 10 ^ length fraction + x) (sym (eb ∙ f.1)) in
+    digits_value-append whole fraction ∙ ap (λ x. x * 10 ^ length fraction + digits_value 10 fraction) (sym (ea ∙ w.1)) ∙
+    ap (λ x. a * 10 ^ length fraction + x) (sym (eb ∙ f.1)) in
     let total : a * 10 ^ 18 + b * unused ≡ digits_value 10 (whole ++ fraction) * 10 ^ (18 - length fraction) =
-    ap (λ x. a * 10 ^ 18 + b * x) eu ∙ (let e : a * 10 ^ 18 + b * 10 ^ (18 - length fraction) ≡ (a * 10 ^ length fraction + b) * 10 ^ (18 - length fraction) = omega (arith, ap (λ x. a * x) power) in e) ∙ ap (λ x. x * 10 ^ (18 - length fraction)) (sym worth) in
+    ap (λ x. a * 10 ^ 18 + b * x) eu ∙ (let e : a * 10 ^ 18 + b * 10 ^ (18 - length fraction) ≡ (a * 10 ^ length fraction + b) * 10 ^ (18 - length fraction) =
+    omega (arith, ap (λ x. a * x) power) in e) ∙ ap (λ x. x * 10 ^ (18 - length fraction)) (sym worth) in
     ap (λ n. Some n) total ∙ sym (units_some whole fraction (parts_have_form whole fraction ones rest some short ew ef))
 
-pub parts_bound : (whole fraction : List ℕ) (ones rest a b unused : ℕ) → length fraction ≤ 18 → Some ones ≡ digits_number whole → Some rest ≡ digits_number fraction → a ≡ ones → b ≡ rest → unused ≡ 10 ^ (18 - length fraction) → a * 10 ^ 18 + b * unused < 10 ^ 36
+pub parts_bound : (whole fraction : List ℕ) (ones rest a b unused : ℕ) → length fraction ≤ 18 → Some ones ≡ digits_number whole →
+    Some rest ≡ digits_number fraction → a ≡ ones → b ≡ rest → unused ≡ 10 ^ (18 - length fraction) → a * 10 ^ 18 + b * unused < 10 ^ 36
 parts_bound whole fraction ones rest a b unused short ew ef ea eb eu =
     let w = digits_from_number whole ones ew in
     let f = digits_from_number fraction rest ef in
@@ -295,14 +310,17 @@ no_parts whole fraction e =
 
 pub long_fraction : (whole fraction : List ℕ) → 18 < length fraction → None ≡ written_units whole fraction
 long_fraction whole fraction h =
-    units_none whole fraction (fourth_false (list_all is_ascii_digit (whole ++ fraction)) (nat_lt 0 (length (whole ++ fraction))) (nat_le (length (without_leading_zeros whole)) 18) (nat_le (length fraction) 18) (nat_le_no (length fraction) 18 h))
+    units_none whole fraction (fourth_false (list_all is_ascii_digit (whole ++ fraction)) (nat_lt 0 (length (whole ++ fraction)))
+    (nat_le (length (without_leading_zeros whole)) 18) (nat_le (length fraction) 18) (nat_le_no (length fraction) 18 h))
 
 pub bad_whole : (whole fraction : List ℕ) → None ≡ digits_number whole → None ≡ written_units whole fraction
 bad_whole whole fraction e =
     elim (why_no_number whole e) as (λ _. None ≡ written_units whole fraction) [
-      | inl other ↦ units_none whole fraction (first_false _ _ _ _ (list_all-append is_ascii_digit whole fraction ∙ ap (λ b. b && list_all is_ascii_digit fraction) other))
+      | inl other ↦ units_none whole fraction
+          (first_false _ _ _ _ (list_all-append is_ascii_digit whole fraction ∙ ap (λ b. b && list_all is_ascii_digit fraction) other))
       | inr large ↦ elim (cases_lt 18 (length (without_leading_zeros whole))) as (λ _. None ≡ written_units whole fraction) [
-        | inl more ↦ units_none whole fraction (third_false (list_all is_ascii_digit (whole ++ fraction)) (nat_lt 0 (length (whole ++ fraction))) (nat_le (length (without_leading_zeros whole)) 18) (nat_le (length fraction) 18) (nat_le_no (length (without_leading_zeros whole)) 18 more))
+        | inl more ↦ units_none whole fraction (third_false (list_all is_ascii_digit (whole ++ fraction)) (nat_lt 0 (length (whole ++ fraction)))
+            (nat_le (length (without_leading_zeros whole)) 18) (nat_le (length fraction) 18) (nat_le_no (length (without_leading_zeros whole)) 18 more))
         | inr less ↦ absurd (omega (arith, eighteen_digits whole large.0 less, large.1))
       ]
     ]
@@ -310,8 +328,15 @@ bad_whole whole fraction e =
 pub bad_fraction : (whole fraction : List ℕ) → length fraction ≤ 18 → None ≡ digits_number fraction → None ≡ written_units whole fraction
 bad_fraction whole fraction short e =
     elim (why_no_number fraction e) as (λ _. None ≡ written_units whole fraction) [
-      | inl other ↦ units_none whole fraction (first_false _ _ _ _ (list_all-append is_ascii_digit whole fraction ∙ ap (λ b. list_all is_ascii_digit whole && b) other ∙ and_false_right (list_all is_ascii_digit whole)))
-      | inr large ↦ absurd (omega (arith, digits_value-lt 10 fraction (AllDigits-from_list_all fraction large.0), large.1, pow-le-pow_right {n = 10} (omega arith) {i = length fraction} {j = 18} short))
+      | inl other ↦ units_none whole fraction
+          (first_false _ _ _ _ (list_all-append is_ascii_digit whole fraction ∙ ap (λ b. list_all is_ascii_digit whole && b) other ∙
+          and_false_right (list_all is_ascii_digit whole)))
+      | inr large ↦ absurd (omega (
+        arith,
+        digits_value-lt 10 fraction (AllDigits-from_list_all fraction large.0),
+        large.1,
+        pow-le-pow_right {n = 10} (omega arith) {i = length fraction} {j = 18} short,
+      ))
     ]
 
 -- what was read has the form, and is worth its digits
@@ -319,6 +344,7 @@ units_at : (b : Bool) (w n : ℕ) → Some n ≡ cond b (Some w) None → (b ≡
 units_at true w n e = (refl, cc)
 units_at false w n e = cc
 
-pub units_are : (whole fraction : List ℕ) (n : ℕ) → Some n ≡ written_units whole fraction → (are_number_parts whole fraction ≡ true) × (n ≡ digits_value 10 (whole ++ fraction) * 10 ^ (18 - length fraction))
+pub units_are : (whole fraction : List ℕ) (n : ℕ) → Some n ≡ written_units whole fraction → (are_number_parts whole fraction ≡ true) ×
+    (n ≡ digits_value 10 (whole ++ fraction) * 10 ^ (18 - length fraction))
 unfolding written_units
 units_are whole fraction n e = units_at (are_number_parts whole fraction) _ n e

@@ -1,5 +1,6 @@
 -- What the operations give, from what their bodies compute.
-use Rattle.std.proofs.Common.{◌≡◌, ℕ, suc, ◌+◌, ◌*◌, ◌/◌, ◌^◌, ◌<◌, ◌≤◌, ℤ, pos, negsuc, neg_ℤ, ◌*ℤ◌, unsigned_abs, Bool, true, refl, sym, ap, ◌∙◌, arith, Ok, Err}
+use Rattle.std.proofs.Common.{◌≡◌, ℕ, suc, ◌+◌, ◌*◌, ◌/◌, ◌^◌, ◌<◌, ◌≤◌, ℤ, pos, negsuc, neg_ℤ, ◌*ℤ◌, unsigned_abs, Bool, true, refl, sym, ap, ◌∙◌, arith, Ok}
+use Rattle.std.proofs.Common.{Err}
 use Rattle.std.proofs.Common.{to_z, of_z, FitsSigned}
 use Rattle.std.specs.Int.{w128}
 use Rattle.std.specs.Prelude.{◌-ℤ◌, int_div, int_rem, int_lt}
@@ -10,7 +11,8 @@ use Rattle.std.specs.Int.{is_negative}
 use Rattle.std.proofs.lemmas.Bool.Decides.{nat_tests}
 use Rattle.inv_decimal.specs.Number.{unit}
 use Rattle.inv_decimal.specs.WrittenNumber.{with_sign}
-use Rattle.inv_decimal.specs.Arithmetic.{in_range, divided_by, product_of, quotient_of, whole_quotient_of, remainder_of, floor_of, rounded_up, hundredths, nearest_hundredth}
+use Rattle.inv_decimal.specs.Arithmetic.{in_range, divided_by, product_of, quotient_of, whole_quotient_of, remainder_of, floor_of, rounded_up, hundredths}
+use Rattle.inv_decimal.specs.Arithmetic.{nearest_hundredth}
 use Rattle.inv_decimal.specs.declared.fault.DecFault.TheVariants.{Overflow as OutOfRange}
 use Rattle.inv_decimal.proofs.Signs.{other_sign, product_by_signs, quotient_by_signs, abs-with_sign, abs-neg}
 use mathlib.Core.Bool.{not, beq}
@@ -31,12 +33,14 @@ divided_by-small y z p h = grind (arith, nat_tests)
 pub divided_by-large : (y z : ℤ) → 0 < unsigned_abs y → 10 ^ 36 ≤ unsigned_abs z → divided_by y z ≡ Err OutOfRange
 divided_by-large y z p h = grind (arith, nat_tests)
 
-pub product_some : (x y z : ℤ) (a b m : ℕ) (s t : Bool) → a ≡ unsigned_abs x → b ≡ unsigned_abs y → s ≡ is_negative x → t ≡ is_negative y → (a * b / 10 ^ 18 < 10 ^ 36) × (m ≡ a * b / 10 ^ 18) → z ≡ with_sign (not (beq s t)) m → Ok z ≡ product_of x y
+pub product_some : (x y z : ℤ) (a b m : ℕ) (s t : Bool) → a ≡ unsigned_abs x → b ≡ unsigned_abs y → s ≡ is_negative x → t ≡ is_negative y →
+    (a * b / 10 ^ 18 < 10 ^ 36) × (m ≡ a * b / 10 ^ 18) → z ≡ with_sign (not (beq s t)) m → Ok z ≡ product_of x y
 unfolding product_of
 product_some x y z a b m s t ea eb es et h ez =
     let same : a * b / 10 ^ 18 ≡ unsigned_abs x * unsigned_abs y / 10 ^ 18 = cc in
     let value : z ≡ int_div (x *ℤ y) (pos unit) =
-    ez ∙ (let e : with_sign (not (beq s t)) m ≡ with_sign (other_sign x y) (unsigned_abs x * unsigned_abs y / unit) = cc in e) ∙ sym (product_by_signs x y unit) in
+    ez ∙ (let e : with_sign (not (beq s t)) m ≡ with_sign (other_sign x y) (unsigned_abs x * unsigned_abs y / unit) = cc in e) ∙
+    sym (product_by_signs x y unit) in
     let size : unsigned_abs z ≡ m = ap unsigned_abs ez ∙ abs-with_sign (not (beq s t)) m in
     sym (in_range-small z (omega arith)) ∙ ap in_range value
 
@@ -48,11 +52,13 @@ product_none x y a b ea eb h =
     ap unsigned_abs (product_by_signs x y unit) ∙ abs-with_sign (other_sign x y) _ in
     sym (in_range-large (int_div (x *ℤ y) (pos unit)) (omega (arith, h)))
 
-pub quotient_some : (x y z : ℤ) (a b m : ℕ) (s t : Bool) → a ≡ unsigned_abs x → b ≡ unsigned_abs y → s ≡ is_negative x → t ≡ is_negative y → 0 < b → (a * 10 ^ 18 / b < 10 ^ 36) × (m ≡ a * 10 ^ 18 / b) → z ≡ with_sign (not (beq s t)) m → Ok z ≡ quotient_of x y
+pub quotient_some : (x y z : ℤ) (a b m : ℕ) (s t : Bool) → a ≡ unsigned_abs x → b ≡ unsigned_abs y → s ≡ is_negative x → t ≡ is_negative y → 0 < b →
+    (a * 10 ^ 18 / b < 10 ^ 36) × (m ≡ a * 10 ^ 18 / b) → z ≡ with_sign (not (beq s t)) m → Ok z ≡ quotient_of x y
 unfolding quotient_of
 quotient_some x y z a b m s t ea eb es et p h ez =
     let value : z ≡ int_div (x *ℤ pos unit) y =
-    ez ∙ (let e : with_sign (not (beq s t)) m ≡ with_sign (other_sign x y) (unsigned_abs x * unit / unsigned_abs y) = cc in e) ∙ sym (quotient_by_signs x y unit) in
+    ez ∙ (let e : with_sign (not (beq s t)) m ≡ with_sign (other_sign x y) (unsigned_abs x * unit / unsigned_abs y) = cc in e) ∙
+    sym (quotient_by_signs x y unit) in
     let size : unsigned_abs z ≡ m = ap unsigned_abs ez ∙ abs-with_sign (not (beq s t)) m in
     sym (divided_by-small y z (omega arith) (omega arith)) ∙ ap (divided_by y) value
 
@@ -71,14 +77,16 @@ abs-quotient-le (negsuc a) (pos b) = rw abs-neg (div-le_self (suc a) b)
 abs-quotient-le (negsuc a) (negsuc b) = div-le_self (suc a) (suc b)
 
 -- what the code's `x / y` and `x % y` give
-pub code_quotient : (x y : ℤ) → unsigned_abs x < 10 ^ 36 → unsigned_abs y < 10 ^ 36 → to_z w128 (of_z w128 (int_div (to_z w128 (of_z w128 x)) (to_z w128 (of_z w128 y)))) ≡ int_div x y
+pub code_quotient : (x y : ℤ) → unsigned_abs x < 10 ^ 36 → unsigned_abs y < 10 ^ 36 →
+    to_z w128 (of_z w128 (int_div (to_z w128 (of_z w128 x)) (to_z w128 (of_z w128 y)))) ≡ int_div x y
 code_quotient x y hx hy =
     let fx : FitsSigned w128 x = fits_signed_from_abs w128 x (omega arith) in
     let fy : FitsSigned w128 y = fits_signed_from_abs w128 y (omega arith) in
     let fq : FitsSigned w128 (int_div x y) = fits_signed_from_abs w128 (int_div x y) (omega (arith, abs-quotient-le x y)) in
     quot_is w128 x y fx fy fq
 
-pub code_remainder : (x y : ℤ) → unsigned_abs x < 10 ^ 36 → unsigned_abs y < 10 ^ 36 → to_z w128 (of_z w128 (int_rem (to_z w128 (of_z w128 x)) (to_z w128 (of_z w128 y)))) ≡ int_rem x y
+pub code_remainder : (x y : ℤ) → unsigned_abs x < 10 ^ 36 → unsigned_abs y < 10 ^ 36 →
+    to_z w128 (of_z w128 (int_rem (to_z w128 (of_z w128 x)) (to_z w128 (of_z w128 y)))) ≡ int_rem x y
 code_remainder x y hx hy =
     rem_is w128 x y (fits_signed_from_abs w128 x (omega arith)) (fits_signed_from_abs w128 y (omega arith))
 
@@ -86,7 +94,8 @@ within_unit : (a : ℤ) → int_lt (negsuc 999_999_999_999_999_999) a ≡ true �
 within_unit (pos n) low high = grind (arith, nat_tests)
 within_unit (negsuc n) low high = grind (arith, nat_tests)
 
-pub whole_quotient_some : (x y a : ℤ) → 0 < unsigned_abs y → a ≡ int_div x y → int_lt (negsuc 999_999_999_999_999_999) a ≡ true → int_lt a (pos (10 ^ 18)) ≡ true → Ok (to_z w128 (of_z w128 (a *ℤ pos (10 ^ 18)))) ≡ whole_quotient_of x y
+pub whole_quotient_some : (x y a : ℤ) → 0 < unsigned_abs y → a ≡ int_div x y → int_lt (negsuc 999_999_999_999_999_999) a ≡ true →
+    int_lt a (pos (10 ^ 18)) ≡ true → Ok (to_z w128 (of_z w128 (a *ℤ pos (10 ^ 18)))) ≡ whole_quotient_of x y
 unfolding whole_quotient_of
 whole_quotient_some x y a p e low high =
     let size : unsigned_abs (a *ℤ pos (10 ^ 18)) < 10 ^ 36 =
@@ -107,7 +116,8 @@ abs-floor (pos n) = omega (arith, div-mul-le_self n (10 ^ 18))
 abs-floor (negsuc n) = rw abs-neg (omega (arith, div-mul-le_self n (10 ^ 18)))
 
 -- what `ceiling` gives, from the floor f of the negated number
-pub rounded_up_is : (x f : ℤ) → unsigned_abs x < 10 ^ 36 → f ≡ floor_of (to_z w128 (of_z w128 (pos 0 -ℤ to_z w128 (of_z w128 x)))) → in_range (to_z w128 (of_z w128 (pos 0 -ℤ to_z w128 (of_z w128 f)))) ≡ rounded_up x
+pub rounded_up_is : (x f : ℤ) → unsigned_abs x < 10 ^ 36 → f ≡ floor_of (to_z w128 (of_z w128 (pos 0 -ℤ to_z w128 (of_z w128 x)))) →
+    in_range (to_z w128 (of_z w128 (pos 0 -ℤ to_z w128 (of_z w128 f)))) ≡ rounded_up x
 unfolding rounded_up
 rounded_up_is x f h e =
     let fx : FitsSigned w128 x = fits_signed_from_abs w128 x (omega arith) in
@@ -117,7 +127,8 @@ rounded_up_is x f h e =
     let back : to_z w128 (of_z w128 (pos 0 -ℤ to_z w128 (of_z w128 f))) ≡ neg_ℤ f = omega (arith, ints) in
     ap in_range back ∙ ap (λ g. in_range (neg_ℤ g)) same
 
-pub hundredth_some : (x z : ℤ) (a m : ℕ) (s : Bool) → a ≡ unsigned_abs x → s ≡ is_negative x → (hundredths a < 10 ^ 36) × (m ≡ hundredths a) → z ≡ with_sign s m → Ok z ≡ nearest_hundredth x
+pub hundredth_some : (x z : ℤ) (a m : ℕ) (s : Bool) → a ≡ unsigned_abs x → s ≡ is_negative x → (hundredths a < 10 ^ 36) × (m ≡ hundredths a) → z ≡ with_sign s m
+    → Ok z ≡ nearest_hundredth x
 unfolding nearest_hundredth
 hundredth_some x z a m s ea es h ez =
     let same : with_sign s m ≡ with_sign (is_negative x) (hundredths (unsigned_abs x)) =

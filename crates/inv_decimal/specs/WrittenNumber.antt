@@ -1,6 +1,7 @@
 -- The written form of a number, as characters: an optional sign, digits and an optional point, as xs:decimal has it (XML
 -- Schema Part 2, 3.2.3), but with at most 18 digits on each side of the point.
-use Rattle.std.specs.Prelude.{◌≡◌, ℕ, ◌-◌, ◌*◌, ◌/◌, ◌%◌, ◌^◌, List, [], ◌∷◌, ◌++◌, length, take, ℤ, pos, neg_ℤ, Bool, true, false, Option, Some, None, nat_lt, nat_le, ◌==◌, ◌&&◌, if◌then◌else◌, unsigned_abs, decimal}
+use Rattle.std.specs.Prelude.{◌≡◌, ℕ, ◌-◌, ◌*◌, ◌/◌, ◌%◌, ◌^◌, List, [], ◌∷◌, ◌++◌, length, take, ℤ, pos, neg_ℤ, Bool, true, false, Option, Some, None, nat_lt}
+use Rattle.std.specs.Prelude.{nat_le, ◌==◌, ◌&&◌, if◌then◌else◌, unsigned_abs, decimal}
 use Rattle.std.specs.Option.{option_map}
 use Rattle.std.specs.Int.{is_negative}
 use Rattle.std.specs.List.{list_all, before_first, after_first}

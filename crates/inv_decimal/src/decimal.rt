@@ -3,7 +3,8 @@ ghost use Rattle.std.specs.Int.{is_negative};
 ghost use Rattle.std.specs.Ordering.{int_cmp};
 ghost use Rattle.std.specs.Str.{chars};
 ghost use Rattle.inv_decimal.specs.Number.{IsDecimal};
-ghost use Rattle.inv_decimal.specs.Arithmetic.{in_range, floor_of, sum_of, difference_of, product_of, quotient_of, whole_quotient_of, remainder_of, rounded_down, rounded_up, rounded, nearest_hundredth};
+ghost use Rattle.inv_decimal.specs.Arithmetic.{in_range, floor_of, sum_of, difference_of, product_of, quotient_of, whole_quotient_of, remainder_of};
+ghost use Rattle.inv_decimal.specs.Arithmetic.{rounded_down, rounded_up, rounded, nearest_hundredth};
 ghost use Rattle.inv_decimal.specs.WrittenNumber.{read_decimal, decimal_text, with_sign};
 
 use crate::fault::{DecFault, DivisionByZero, Overflow};

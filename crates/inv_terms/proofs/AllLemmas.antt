@@ -62,14 +62,17 @@ behind-by : (seats : List Seat) (c : Context) (k : ℕ) (rows : List TermRow) (o
 behind-by seats c k rows one (Some name) e h = All-cons (IsBefore one) (lack_at c k name) (all_missing_from seats c (k + 1) rows) e h
 behind-by seats c k rows one None e h = h
 
-behind-from : (seats : List Seat) (c : Context) (j k : ℕ) (name : Name) (rows : List TermRow) → j < k → All (IsBefore (lack_at c j name)) (all_missing_from seats c k rows)
+behind-from : (seats : List Seat) (c : Context) (j k : ℕ) (name : Name) (rows : List TermRow) → j < k →
+    All (IsBefore (lack_at c j name)) (all_missing_from seats c k rows)
 behind-from seats c j k name [] l = All-nil (IsBefore (lack_at c j name))
 behind-from seats c j k name (row ∷ rows) l =
-    behind-by seats c k rows (lack_at c j name) (missing_at seats c k row) (before c.outer c.inner j k l) (behind-from seats c j (k + 1) name rows (omega (arith, l)))
+    behind-by seats c k rows (lack_at c j name) (missing_at seats c k row) (before c.outer c.inner j k l)
+    (behind-from seats c j (k + 1) name rows (omega (arith, l)))
 
 pairs-by : (seats : List Seat) (c : Context) (k : ℕ) (rows : List TermRow) (o : Option Name) → AllPairs IsBefore (all_missing_from seats c (k + 1) rows)
     → AllPairs IsBefore (elim o [ Some name ↦ lack_at c k name ∷ all_missing_from seats c (k + 1) rows | None ↦ all_missing_from seats c (k + 1) rows ])
-pairs-by seats c k rows (Some name) h = AllPairs-cons IsBefore (lack_at c k name) (all_missing_from seats c (k + 1) rows) (behind-from seats c k (k + 1) name rows (omega arith)) h
+pairs-by seats c k rows (Some name) h = AllPairs-cons IsBefore (lack_at c k name) (all_missing_from seats c (k + 1) rows)
+    (behind-from seats c k (k + 1) name rows (omega arith)) h
 pairs-by seats c k rows None h = h
 
 pairs-nil : AllPairs IsBefore []

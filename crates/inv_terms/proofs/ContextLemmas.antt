@@ -1,5 +1,6 @@
 -- The contexts of an invoice are the invoice itself and each occurrence of a group that stands in it.
-use Rattle.std.proofs.Common.{◌≡◌, ℕ, ◌<◌, zero, suc, Bool, true, false, List, [], ◌∷◌, ◌++◌, length, get_or, Option, None, refl, sym, ap, ◌∙◌, subst, ◌⊎◌, inl, inr, arith}
+use Rattle.std.proofs.Common.{◌≡◌, ℕ, ◌<◌, zero, suc, Bool, true, false, List, [], ◌∷◌, ◌++◌, length, get_or, Option, None, refl, sym, ap, ◌∙◌, subst, ◌⊎◌, inl}
+use Rattle.std.proofs.Common.{inr, arith}
 use Rattle.std.specs.Prelude.{◌↔◌, not, is_some, if◌then◌else◌, Contains}
 use Rattle.std.proofs.lemmas.Bool.{false≢true}
 use Rattle.term_table.specs.declared.contexts.Slot.{Slot}
@@ -72,7 +73,10 @@ behind_shown before (e ∷ es) c w = elim (append_cases c (opened before e.conte
 ]
 
 pub context_shown : (es : List Entry) (c : Context) → Contains (contexts es) c → IsContextOf es c
-context_shown es c w = elim (member_cases root_context c (contexts_behind root_context es) w) [ inl e ↦ inl (sym e) | inr m ↦ inr (behind_shown root_context es c m) ]
+context_shown es c w = elim (member_cases root_context c (contexts_behind root_context es) w) [
+  | inl e ↦ inl (sym e)
+  | inr m ↦ inr (behind_shown root_context es c m)
+]
 
 -- ---- what is shown is a context
 
@@ -95,16 +99,19 @@ not_false : (b : Bool) → b ≡ false → not b ≡ true
 not_false b h = rw h refl
 
 -- The context of an entry that begins one is opened, or was the one before.
-outer_opened : (before : Context) (e : Entry) → is_some e.context.outer ≡ true → (outer_context before ≡ outer_context e.context) ⊎ Contains (opened before e.context) (outer_context e.context)
+outer_opened : (before : Context) (e : Entry) → is_some e.context.outer ≡ true →
+    (outer_context before ≡ outer_context e.context) ⊎ Contains (opened before e.context) (outer_context e.context)
 outer_opened before e h = elim (bool_cases (same_slot before.outer e.context.outer)) [
   | inl same ↦ inl (outer_is before e.context (same_slot_is before.outer e.context.outer same))
-  | inr other ↦ inr (append_front (outer_context e.context) _ _ (if_in (opens_outer before e.context) (outer_context e.context) (and_pair _ _ (not_false _ other) h)))
+  | inr other ↦ inr (append_front (outer_context e.context) _ _
+      (if_in (opens_outer before e.context) (outer_context e.context) (and_pair _ _ (not_false _ other) h)))
 ]
 
 inner_opened : (before : Context) (e : Entry) → is_some e.context.inner ≡ true → (before ≡ e.context) ⊎ Contains (opened before e.context) e.context
 inner_opened before e h = elim (bool_cases (same_context before e.context)) [
   | inl same ↦ inl (context_is before e.context same)
-  | inr other ↦ inr (append_back e.context (if opens_outer before e.context then outer_context e.context ∷ [] else []) _ (if_in (opens_inner before e.context) e.context (and_pair _ _ (not_false _ other) h)))
+  | inr other ↦ inr (append_back e.context (if opens_outer before e.context then outer_context e.context ∷ [] else []) _
+      (if_in (opens_inner before e.context) e.context (and_pair _ _ (not_false _ other) h)))
 ]
 
 -- the contexts from one on, with the one before and its outer one

@@ -1,5 +1,6 @@
 -- The lack that is told is one of the invoice's, and none of them comes before it.
-use Rattle.std.proofs.Common.{◌≡◌, ℕ, ◌+◌, ◌<◌, ◌≤◌, zero, suc, Bool, true, false, List, [], ◌∷◌, ◌++◌, Option, Some, None, refl, sym, ap, ◌∙◌, subst, ◌⊎◌, inl, inr, arith}
+use Rattle.std.proofs.Common.{◌≡◌, ℕ, ◌+◌, ◌<◌, ◌≤◌, zero, suc, Bool, true, false, List, [], ◌∷◌, ◌++◌, Option, Some, None, refl, sym, ap, ◌∙◌, subst, ◌⊎◌, inl}
+use Rattle.std.proofs.Common.{inr, arith}
 use Rattle.std.specs.Prelude.{fold, map, slice_get, if◌then◌else◌, Contains}
 use Rattle.std.proofs.lemmas.Option.{same_Some}
 use Rattle.std.proofs.lemmas.Bool.{false≢true}
@@ -58,13 +59,15 @@ earlier_first (Some a) None m (inl e) = (a, refl, ap (λ (x : Lack). precedes x.
 earlier_first (Some a) None m (inr e) = absurd (let k : None ≡ Some m = e in cc)
 earlier_first (Some a) (Some b) m h = go (precedes b.place a.place) refl h
   where
-    go : (t : Bool) → precedes b.place a.place ≡ t → (Some a ≡ Some m) ⊎ (Some b ≡ Some m) → (x : Lack) × ((if t then Some b else Some a) ≡ Some x) × NotBefore m x
+    go : (t : Bool) → precedes b.place a.place ≡ t → (Some a ≡ Some m) ⊎ (Some b ≡ Some m) → (x : Lack) × ((if t then Some b else Some a) ≡ Some x) ×
+        NotBefore m x
     go true p (inl e) = (b, refl, ap (λ (x : Lack). precedes x.place b.place) (sym (same_Some _ _ e)) ∙ not_both_ways b.place a.place p)
     go true p (inr e) = (b, refl, ap (λ (x : Lack). precedes x.place b.place) (sym (same_Some _ _ e)) ∙ never_before_itself b.place)
     go false p (inl e) = (a, refl, ap (λ (x : Lack). precedes x.place a.place) (sym (same_Some _ _ e)) ∙ never_before_itself a.place)
     go false p (inr e) = (a, refl, ap (λ (x : Lack). precedes x.place a.place) (sym (same_Some _ _ e)) ∙ p)
 
-fold_first : (os : List (Option Lack)) (a : Option Lack) (m : Lack) → (a ≡ Some m) ⊎ Contains os (Some m) → (l : Lack) × (fold earlier a os ≡ Some l) × NotBefore m l
+fold_first : (os : List (Option Lack)) (a : Option Lack) (m : Lack) → (a ≡ Some m) ⊎ Contains os (Some m) → (l : Lack) × (fold earlier a os ≡ Some l) ×
+    NotBefore m l
 fold_first [] a m (inl e) = (m, e, never_before_itself m.place)
 fold_first [] a m (inr w) = absurd (no_member (Some m) w)
 fold_first (o ∷ os) a m (inl e) =
@@ -170,7 +173,10 @@ found_at seats c n (r ∷ rows) (suc k) row name at h = elim (name_cases (missin
 
 map_from : {X Y : Type 0} (f : X → Y) (xs : List X) (y : Y) → Contains (map f xs) y → (x : X) × Contains xs x × (f x ≡ y)
 map_from f [] y w = absurd (no_member y w)
-map_from f (x ∷ xs) y w = elim (member_cases (f x) y (map f xs) w) [ inl e ↦ (x, here x xs, e) | inr m ↦ (let v = map_from f xs y m in (v.0, there x v.0 xs v.1, v.2)) ]
+map_from f (x ∷ xs) y w = elim (member_cases (f x) y (map f xs) w) [
+  | inl e ↦ (x, here x xs, e)
+  | inr m ↦ (let v = map_from f xs y m in (v.0, there x v.0 xs v.1, v.2))
+]
 
 map_to : {X Y : Type 0} (f : X → Y) (xs : List X) (x : X) (y : Y) → Contains xs x → f x ≡ y → Contains (map f xs) y
 map_to f [] x y w e = absurd (no_member x w)
@@ -211,8 +217,10 @@ each_lack es lists m (inl w) =
     let a = found_at (seats_in es w.context) w.context 0 terms w.number w.row w.name w.is_row
     (ap (λ i. missing_at (seats_in es w.context) w.context i w.row) (zero_more w.number) ∙ w.missing) in
     let v = fold_first (map (missing_in es) (contexts es) ++ map (unlisted lists) es) None a.0
-    (inr (append_front (Some a.0) (map (missing_in es) (contexts es)) (map (unlisted lists) es) (map_to (missing_in es) (contexts es) w.context (Some a.0) (shown_context es w.context w.is_context) a.1))) in
-    let first : NotBefore m a.0 = ap (λ (x : Lack). precedes x.place a.0.place) w.lack_is ∙ (ap (λ i. precedes (place i w.context) a.0.place) (sym (zero_more w.number)) ∙ a.2) in
+    (inr (append_front (Some a.0) (map (missing_in es) (contexts es)) (map (unlisted lists) es)
+    (map_to (missing_in es) (contexts es) w.context (Some a.0) (shown_context es w.context w.is_context) a.1))) in
+    let first : NotBefore m a.0 = ap (λ (x : Lack). precedes x.place a.0.place) w.lack_is ∙
+    (ap (λ i. precedes (place i w.context) a.0.place) (sym (zero_more w.number)) ∙ a.2) in
     (v.0, v.1, not_before-trans m a.0 v.0 first v.2)
 each_lack es lists m (inr w) =
     fold_first (map (missing_in es) (contexts es) ++ map (unlisted lists) es) None m

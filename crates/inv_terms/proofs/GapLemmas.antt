@@ -1,5 +1,6 @@
 -- Where a list with one entry more is an invoice, the entry may be added.
-use Rattle.std.proofs.Common.{◌≡◌, ℕ, ◌+◌, ◌-◌, ◌≤◌, max, Bool, true, false, ◌&&◌, ◌||◌, List, [], ◌∷◌, ◌++◌, Option, Some, None, refl, sym, ap, ◌∙◌, ◌⊎◌, inl, inr, arith}
+use Rattle.std.proofs.Common.{◌≡◌, ℕ, ◌+◌, ◌-◌, ◌≤◌, max, Bool, true, false, ◌&&◌, ◌||◌, List, [], ◌∷◌, ◌++◌, Option, Some, None, refl, sym, ap, ◌∙◌, ◌⊎◌, inl}
+use Rattle.std.proofs.Common.{inr, arith}
 use Rattle.std.specs.Prelude.{◌==◌, ◌↔◌, nat_le, fold, map, is_none, if◌then◌else◌}
 use Rattle.std.specs.List.{list_all, list_any}
 use Rattle.std.proofs.lemmas.Bool.{false≢true, eqb-true}
@@ -12,7 +13,8 @@ use Rattle.term_table.specs.Contexts.{same_slot, is_inside}
 use Rattle.term_table.proofs.GroupLemmas.{both, same_group_itself}
 use Rattle.term_table.proofs.SeatLemmas as seats
 use Rattle.inv_terms.specs.declared.entries.Entry.{Entry}
-use Rattle.inv_terms.specs.Listing.{seat_of, comes_before, index_in, last_outer, last_inner, is_last_or_next, is_next, is_behind, is_behind_last, last_entry, is_placed, refusal, occurs, is_counted, in_outer, in_inner, IsInvoice, Fits}
+use Rattle.inv_terms.specs.Listing.{seat_of, comes_before, index_in, last_outer, last_inner, is_last_or_next, is_next, is_behind, is_behind_last, last_entry}
+use Rattle.inv_terms.specs.Listing.{is_placed, refusal, occurs, is_counted, in_outer, in_inner, IsInvoice, Fits}
 use Rattle.inv_terms.proofs.PushLemmas.{fold_le, index_in_le, index_inside, same_slot_is, same_slot_itself, by_last, and_pair, last_behind, last_entry-append}
 use Rattle.inv_terms.proofs.InvoiceLemmas.{either, one_or_more, invoice-append}
 
@@ -22,7 +24,8 @@ fold_from : (h : Entry → ℕ) (es : List Entry) (a : ℕ) → a ≤ fold max a
 fold_from h [] a = omega arith
 fold_from h (e ∷ es) a = let l = fold_from h es (max a (h e)) in omega (arith, l)
 
-any_bound : (h : Entry → ℕ) (p : Entry → Bool) (n : ℕ) → ((f : Entry) → p f ≡ true → h f ≡ n) → (es : List Entry) (a : ℕ) → list_any p es ≡ true → n ≤ fold max a (map h es)
+any_bound : (h : Entry → ℕ) (p : Entry → Bool) (n : ℕ) → ((f : Entry) → p f ≡ true → h f ≡ n) → (es : List Entry) (a : ℕ) → list_any p es ≡ true →
+    n ≤ fold max a (map h es)
 any_bound h p n is [] a k = absurd (false≢true k)
 any_bound h p n is (e ∷ es) a k = elim (either (p e) _ k) [
   | inl passes ↦ let m = fold_from h es (max a (h e)) in let e = is e passes in omega (arith, m, e)
@@ -55,7 +58,8 @@ module _ (es : List Entry) (e : Entry) (i : IsInvoice (es ++ e ∷ [])) where
 
   counted : (is_counted (es ++ e ∷ []) in_outer e.context.outer && is_counted (es ++ e ∷ []) (in_inner e.context.outer) e.context.inner) ≡ true
   counted =
-      let test : Entry → Bool = λ (f : Entry). is_counted (es ++ e ∷ []) in_outer f.context.outer && is_counted (es ++ e ∷ []) (in_inner f.context.outer) f.context.inner in
+      let test : Entry → Bool = λ (f : Entry). is_counted (es ++ e ∷ []) in_outer f.context.outer &&
+      is_counted (es ++ e ∷ []) (in_inner f.context.outer) f.context.inner in
       (both (test e) true (both (list_all test es) _ (sym (list_all-append test es (e ∷ [])) ∙ i.numbered)).1).0
 
   placed : is_placed e ≡ true
@@ -66,7 +70,8 @@ module _ (es : List Entry) (e : Entry) (i : IsInvoice (es ++ e ∷ [])) where
     | inl none ↦ ap (λ x. is_behind x e) none
     | inr w ↦
         let before : list_all (λ (f : Entry). comes_before f e) (w.0 ++ w.1 ∷ []) ≡ true = ap (list_all (λ (f : Entry). comes_before f e)) (sym w.2) ∙ ahead in
-        let one = (both (comes_before w.1 e) _ (both (list_all (λ (f : Entry). comes_before f e) w.0) _ (sym (list_all-append (λ (f : Entry). comes_before f e) w.0 (w.1 ∷ [])) ∙ before)).1).0 in
+        let one = (both (comes_before w.1 e) _ (both (list_all (λ (f : Entry). comes_before f e) w.0) _
+        (sym (list_all-append (λ (f : Entry). comes_before f e) w.0 (w.1 ∷ [])) ∙ before)).1).0 in
         ap (λ o. is_behind_last o e) (ap last_entry w.2 ∙ last_entry-append w.0 w.1) ∙ one
   ]
 
@@ -95,21 +100,25 @@ module _ (es : List Entry) (e : Entry) (i : IsInvoice (es ++ e ∷ [])) where
     where
       most : last_outer es s.group ≤ s.index
       most = fold_le (λ (f : Entry). index_in s.group f.context.outer) e es 0 s.index (omega arith)
-          (λ f b. index_in_le f.context.outer s.group s.index (λ t ft same. (seats.outer-rises (seat_of f) (seat_of e) (seats.before-from (seat_of f) (seat_of e) b) t s ft at same).0)) ahead
+          (λ f b. index_in_le f.context.outer s.group s.index
+          (λ t ft same. (seats.outer-rises (seat_of f) (seat_of e) (seats.before-from (seat_of f) (seat_of e) b) t s ft at same).0)) ahead
 
       reached : 2 ≤ s.index → occurs (es ++ e ∷ []) (in_outer (record s { index = s.index - 1 })) ≡ true → s.index - 1 ≤ last_outer es s.group
       reached two found =
           let c : Context = in_outer (record s { index = s.index - 1 }) in
           let not_here : is_inside c e.context ≡ false = ap (λ x. same_slot (Some (record s { index = s.index - 1 })) x && true) at ∙ rw (smaller s two) refl in
-          any_bound (λ (f : Entry). index_in s.group f.context.outer) (λ (f : Entry). is_inside c f.context) (s.index - 1) number es 0 (earlier c not_here found)
+          any_bound (λ (f : Entry). index_in s.group f.context.outer) (λ (f : Entry). is_inside c f.context) (s.index - 1) number es 0
+          (earlier c not_here found)
         where
           number : (f : Entry) → is_inside (in_outer (record s { index = s.index - 1 })) f.context ≡ true → index_in s.group f.context.outer ≡ s.index - 1
           number f k =
               let o : f.context.outer ≡ Some (record s { index = s.index - 1 }) =
-              sym (same_slot_is (Some (record s { index = s.index - 1 })) f.context.outer (both (same_slot (Some (record s { index = s.index - 1 })) f.context.outer) true k).0) in
+              sym (same_slot_is (Some (record s { index = s.index - 1 })) f.context.outer
+              (both (same_slot (Some (record s { index = s.index - 1 })) f.context.outer) true k).0) in
               ap (index_in s.group) o ∙ ap (λ b. if b then s.index - 1 else 0) (same_group_itself s.group)
 
-  next-inner : (o : Option Slot) → e.context.inner ≡ o → is_counted (es ++ e ∷ []) (in_inner e.context.outer) o ≡ true → is_last_or_next (last_inner es e.context.outer) o ≡ true
+  next-inner : (o : Option Slot) → e.context.inner ≡ o → is_counted (es ++ e ∷ []) (in_inner e.context.outer) o ≡ true →
+      is_last_or_next (last_inner es e.context.outer) o ≡ true
   next-inner None at h = refl
   next-inner (Some s) at h =
       let p = both (nat_le 1 s.index) _ h in
@@ -130,26 +139,33 @@ module _ (es : List Entry) (e : Entry) (i : IsInvoice (es ++ e ∷ [])) where
               go : (t : Bool) → same_slot f.context.outer e.context.outer ≡ t → (if t then index_in s.group f.context.inner else 0) ≤ s.index
               go false k = omega arith
               go true k = index_in_le f.context.inner s.group s.index (λ t ft same.
-                  seats.inner-rises (seat_of f) (seat_of e) (seats.before-from (seat_of f) (seat_of e) b) outer.0 t s (same_slot_is f.context.outer e.context.outer k ∙ outer.1) outer.1 ft at same)
+                  seats.inner-rises (seat_of f) (seat_of e) (seats.before-from (seat_of f) (seat_of e) b) outer.0 t s
+                  (same_slot_is f.context.outer e.context.outer k ∙ outer.1) outer.1 ft at same)
 
-      reached : 2 ≤ s.index → occurs (es ++ e ∷ []) (in_inner e.context.outer (record s { index = s.index - 1 })) ≡ true → s.index - 1 ≤ last_inner es e.context.outer s.group
+      reached : 2 ≤ s.index → occurs (es ++ e ∷ []) (in_inner e.context.outer (record s { index = s.index - 1 })) ≡ true →
+          s.index - 1 ≤ last_inner es e.context.outer s.group
       reached two found =
           let c : Context = in_inner e.context.outer (record s { index = s.index - 1 }) in
           let here : (is_none e.context.outer || same_slot e.context.outer e.context.outer) ≡ true = rw (same_slot_itself e.context.outer, outer.1) refl in
           let not_here : is_inside c e.context ≡ false = rw here (ap (λ x. same_slot (Some (record s { index = s.index - 1 })) x) at ∙ smaller s two) in
           any_bound (index_inside e.context.outer s.group) (λ (f : Entry). is_inside c f.context) (s.index - 1) number es 0 (earlier c not_here found)
         where
-          turned : (f : Entry) → (is_none e.context.outer || same_slot e.context.outer f.context.outer) ≡ true → same_slot f.context.outer e.context.outer ≡ true
+          turned : (f : Entry) → (is_none e.context.outer || same_slot e.context.outer f.context.outer) ≡ true →
+              same_slot f.context.outer e.context.outer ≡ true
           turned f k =
               let m : same_slot e.context.outer f.context.outer ≡ true = sym (ap (λ o. is_none o || same_slot e.context.outer f.context.outer) outer.1) ∙ k in
               ap (λ o. same_slot f.context.outer o) (same_slot_is e.context.outer f.context.outer m) ∙ same_slot_itself f.context.outer
 
-          number : (f : Entry) → is_inside (in_inner e.context.outer (record s { index = s.index - 1 })) f.context ≡ true → index_inside e.context.outer s.group f ≡ s.index - 1
+          number : (f : Entry) → is_inside (in_inner e.context.outer (record s { index = s.index - 1 })) f.context ≡ true →
+              index_inside e.context.outer s.group f ≡ s.index - 1
           number f k =
-              let q = both (is_none e.context.outer || same_slot e.context.outer f.context.outer) (same_slot (Some (record s { index = s.index - 1 })) f.context.inner) k in
+              let q = both (is_none e.context.outer || same_slot e.context.outer f.context.outer)
+              (same_slot (Some (record s { index = s.index - 1 })) f.context.inner) k in
               let o : same_slot f.context.outer e.context.outer ≡ true = turned f q.0 in
-              let n : f.context.inner ≡ Some (record s { index = s.index - 1 }) = sym (same_slot_is (Some (record s { index = s.index - 1 })) f.context.inner q.1) in
-              ap (λ b. if b then index_in s.group f.context.inner else 0) o ∙ (ap (index_in s.group) n ∙ ap (λ b. if b then s.index - 1 else 0) (same_group_itself s.group))
+              let n : f.context.inner ≡ Some (record s { index = s.index - 1 }) =
+              sym (same_slot_is (Some (record s { index = s.index - 1 })) f.context.inner q.1) in
+              ap (λ b. if b then index_in s.group f.context.inner else 0) o ∙
+              (ap (index_in s.group) n ∙ ap (λ b. if b then s.index - 1 else 0) (same_group_itself s.group))
 
   no_refusal : refusal es e ≡ None
   no_refusal =

@@ -1,5 +1,6 @@
 -- An invoice with one entry more, which may be added, is an invoice.
-use Rattle.std.proofs.Common.{◌≡◌, ℕ, ◌+◌, ◌-◌, ◌≤◌, max, Bool, true, false, ◌&&◌, ◌||◌, List, [], ◌∷◌, ◌++◌, Option, Some, None, refl, sym, ap, ◌∙◌, ◌⊎◌, inl, inr, zero, suc, arith}
+use Rattle.std.proofs.Common.{◌≡◌, ℕ, ◌+◌, ◌-◌, ◌≤◌, max, Bool, true, false, ◌&&◌, ◌||◌, List, [], ◌∷◌, ◌++◌, Option, Some, None, refl, sym, ap, ◌∙◌, ◌⊎◌, inl}
+use Rattle.std.proofs.Common.{inr, zero, suc, arith}
 use Rattle.std.specs.Prelude.{◌==◌, nat_le, fold, map, if◌then◌else◌, is_none, All}
 use Rattle.std.specs.List.{list_all, list_any}
 use Rattle.std.proofs.lemmas.Bool.{eqb-true}
@@ -13,7 +14,8 @@ use Rattle.inv_terms.specs.declared.entries.Entry.{Entry}
 use Rattle.inv_terms.specs.declared.listing.Refusal.TheVariants as refusals
 use Rattle.term_table.specs.Groups.{same_group}
 use Rattle.term_table.specs.Contexts.{same_slot, is_inside}
-use Rattle.inv_terms.specs.Listing.{comes_before, index_in, last_outer, last_inner, is_listed, is_last_or_next, is_next, is_behind, is_behind_last, last_entry, is_placed, refusal, occurs, is_counted, in_outer, in_inner, is_numbered, IsInvoice, Fits}
+use Rattle.inv_terms.specs.Listing.{comes_before, index_in, last_outer, last_inner, is_listed, is_last_or_next, is_next, is_behind, is_behind_last, last_entry}
+use Rattle.inv_terms.specs.Listing.{is_placed, refusal, occurs, is_counted, in_outer, in_inner, is_numbered, IsInvoice, Fits}
 use Rattle.term_table.proofs.GroupLemmas.{same_group_is}
 use Rattle.term_table.proofs.GroupLemmas.{both}
 use Rattle.inv_terms.proofs.ListingLemmas.{comes_before-trans}
@@ -28,7 +30,8 @@ listed-append (f ∷ es) e h k =
     let q = both (comes_before f e) _ k in
     and_pair _ _ (list_all-append (comes_before f) es (e ∷ []) ∙ and_pair _ _ p.0 (and_pair _ _ q.0 refl)) (listed-append es e p.1 q.1)
 
-all_before : (l e : Entry) (es : List Entry) → comes_before l e ≡ true → list_all (λ (f : Entry). comes_before f l) es ≡ true → list_all (λ (f : Entry). comes_before f e) es ≡ true
+all_before : (l e : Entry) (es : List Entry) → comes_before l e ≡ true → list_all (λ (f : Entry). comes_before f l) es ≡ true →
+    list_all (λ (f : Entry). comes_before f e) es ≡ true
 all_before l e [] h k = refl
 all_before l e (f ∷ es) h k =
     let p = both (comes_before f l) _ k in
@@ -95,7 +98,8 @@ pub one_or_more : (i : ℕ) → 1 ≤ i → (i ≡ 1) ⊎ (2 ≤ i)
 one_or_more i h = grind arith
 
 -- a slot from the second on, which is counted, has one before it
-earlier_of : (es : List Entry) (around : Slot → Context) (s : Slot) → 2 ≤ s.index → is_counted es around (Some s) ≡ true → occurs es (around (record s { index = s.index - 1 })) ≡ true
+earlier_of : (es : List Entry) (around : Slot → Context) (s : Slot) → 2 ≤ s.index → is_counted es around (Some s) ≡ true →
+    occurs es (around (record s { index = s.index - 1 })) ≡ true
 earlier_of es around s two h = elim (either (s.index == 1) _ (both (nat_le 1 s.index) _ h).1) [
   | inl one ↦ absurd (let e = eqb-true s.index 1 one in omega (arith, e, two))
   | inr o ↦ o
@@ -158,9 +162,11 @@ next_outer es (Some s) h k = counted_next es in_outer s n found (λ least. earli
         let w = one least in
         ap (is_counted es in_outer) (sym w.2) ∙ (both (is_counted es in_outer w.0.context.outer) _ (w.1.passes _ h)).0
 
-next_inner : (es : List Entry) (outer o : Option Slot) → is_numbered es ≡ true → is_last_or_next (last_inner es outer) o ≡ true → is_counted es (in_inner outer) o ≡ true
+next_inner : (es : List Entry) (outer o : Option Slot) → is_numbered es ≡ true → is_last_or_next (last_inner es outer) o ≡ true →
+    is_counted es (in_inner outer) o ≡ true
 next_inner es outer None h k = refl
-next_inner es outer (Some s) h k = counted_next es (in_inner outer) s n found (λ least. earlier_of es (in_inner outer) (record s { index = n }) least (counted (omega arith))) k
+next_inner es outer (Some s) h k = counted_next es (in_inner outer) s n found
+    (λ least. earlier_of es (in_inner outer) (record s { index = n }) least (counted (omega arith))) k
   where
     n : ℕ
     n = last_inner es outer s.group
@@ -182,7 +188,8 @@ next_inner es outer (Some s) h k = counted_next es (in_inner outer) s n found (�
     found : 1 ≤ n → occurs es (in_inner outer (record s { index = n })) ≡ true
     found least =
         let w = one least in
-        w.1.shows (λ (f : Entry). is_inside (in_inner outer (record s { index = n })) f.context) (inside_inner outer (record s { index = n }) w.0.context w.2 w.3)
+        w.1.shows (λ (f : Entry). is_inside (in_inner outer (record s { index = n })) f.context)
+        (inside_inner outer (record s { index = n }) w.0.context w.2 w.3)
 
     counted : 1 ≤ n → is_counted es (in_inner outer) (Some (record s { index = n })) ≡ true
     counted least =
@@ -191,27 +198,33 @@ next_inner es outer (Some s) h k = counted_next es (in_inner outer) s n found (�
         ap (is_counted es (in_inner outer)) (sym w.3) ∙ (ap (λ x. is_counted es (in_inner x) w.0.context.inner) (sym w.2) ∙ c)
 
 -- what is counted stays so with an entry more
-counted-append : (es : List Entry) (e : Entry) (around : Slot → Context) (o : Option Slot) → is_counted es around o ≡ true → is_counted (es ++ e ∷ []) around o ≡ true
+counted-append : (es : List Entry) (e : Entry) (around : Slot → Context) (o : Option Slot) → is_counted es around o ≡ true →
+    is_counted (es ++ e ∷ []) around o ≡ true
 counted-append es e around None h = refl
 counted-append es e around (Some s) h =
     let p = both (nat_le 1 s.index) _ h in
     and_pair _ _ p.0 (elim (either (s.index == 1) _ p.1) [
       | inl one ↦ or_left _ _ one
-      | inr o ↦ or_right (s.index == 1) _ (list_any-append (λ (f : Entry). is_inside (around (record s { index = s.index - 1 })) f.context) es (e ∷ []) ∙ or_left _ _ o)
+      | inr o ↦ or_right (s.index == 1) _ (list_any-append (λ (f : Entry). is_inside (around (record s { index = s.index - 1 })) f.context) es (e ∷ []) ∙
+          or_left _ _ o)
     ])
 
-all_counted : (es more : List Entry) (e : Entry) → list_all (λ (f : Entry). is_counted es in_outer f.context.outer && is_counted es (in_inner f.context.outer) f.context.inner) more ≡ true
-    → list_all (λ (f : Entry). is_counted (es ++ e ∷ []) in_outer f.context.outer && is_counted (es ++ e ∷ []) (in_inner f.context.outer) f.context.inner) more ≡ true
+all_counted : (es more : List Entry) (e : Entry) → list_all (λ (f : Entry). is_counted es in_outer f.context.outer &&
+    is_counted es (in_inner f.context.outer) f.context.inner) more ≡ true
+    → list_all (λ (f : Entry). is_counted (es ++ e ∷ []) in_outer f.context.outer && is_counted (es ++ e ∷ []) (in_inner f.context.outer) f.context.inner)
+    more ≡ true
 all_counted es [] e h = refl
 all_counted es (f ∷ more) e h =
     let p = both (is_counted es in_outer f.context.outer && is_counted es (in_inner f.context.outer) f.context.inner) _ h in
     let q = both (is_counted es in_outer f.context.outer) _ p.0 in
-    and_pair _ _ (and_pair _ _ (counted-append es e in_outer f.context.outer q.0) (counted-append es e (in_inner f.context.outer) f.context.inner q.1)) (all_counted es more e p.1)
+    and_pair _ _ (and_pair _ _ (counted-append es e in_outer f.context.outer q.0) (counted-append es e (in_inner f.context.outer) f.context.inner q.1))
+    (all_counted es more e p.1)
 
 numbered-append : (es : List Entry) (e : Entry) → is_numbered es ≡ true → is_next es e.context ≡ true → is_numbered (es ++ e ∷ []) ≡ true
 numbered-append es e h k =
     let p = both (is_last_or_next (last_outer es) e.context.outer) _ k in
-    list_all-append (λ (f : Entry). is_counted (es ++ e ∷ []) in_outer f.context.outer && is_counted (es ++ e ∷ []) (in_inner f.context.outer) f.context.inner) es (e ∷ [])
+    list_all-append (λ (f : Entry). is_counted (es ++ e ∷ []) in_outer f.context.outer && is_counted (es ++ e ∷ []) (in_inner f.context.outer) f.context.inner)
+    es (e ∷ [])
     ∙ and_pair _ _ (all_counted es es e h) (and_pair _ _
     (and_pair _ _ (counted-append es e in_outer e.context.outer (next_outer es e.context.outer h p.0))
     (counted-append es e (in_inner e.context.outer) e.context.inner (next_inner es e.context.outer e.context.inner h p.1))) refl)
@@ -227,7 +240,8 @@ pub accepted-from : (es : List Entry) (e : Entry) → refusal es e ≡ None → 
 accepted-from es e h = go (is_placed e) (is_behind es e) (is_next es e.context) refl refl refl h
   where
     go : (a b c : Bool) → is_placed e ≡ a → is_behind es e ≡ b → is_next es e.context ≡ c
-        → (if a then (if b then (if c then None else Some refusals.BadContext) else Some refusals.OutOfOrder) else Some refusals.BadContext) ≡ None → Accepted es e
+        → (if a then (if b then (if c then None else Some refusals.BadContext) else Some refusals.OutOfOrder) else Some refusals.BadContext) ≡ None →
+        Accepted es e
     go true true true p q r h = record { placed = p; behind = q; next = r }
     go true true false p q r h = cc
     go true false c p q r h = cc

@@ -1,5 +1,6 @@
 -- The entries of an invoice are in listing order; entries are looked up by halving; equal members make equal lists.
-use Rattle.std.proofs.Common.{◌≡◌, ℕ, ◌<◌, ◌≤◌, zero, suc, Bool, true, false, ◌&&◌, List, [], ◌∷◌, length, get_or, Option, Some, None, refl, sym, ap, ◌∙◌, subst, ◌⊎◌, inl, inr, arith}
+use Rattle.std.proofs.Common.{◌≡◌, ℕ, ◌<◌, ◌≤◌, zero, suc, Bool, true, false, ◌&&◌, List, [], ◌∷◌, length, get_or, Option, Some, None, refl, sym, ap, ◌∙◌}
+use Rattle.std.proofs.Common.{subst, ◌⊎◌, inl, inr, arith}
 use Rattle.std.specs.Prelude.{◌↔◌, slice_get, option_map, is_some, find, map, All, AllPairs, Contains}
 use Rattle.std.specs.List.{list_all}
 use Rattle.std.specs.List.Sorted.{IsPartitionedBy, IsPartitionPoint}
@@ -28,7 +29,8 @@ placed-order [] h k d l = absurd (omega arith)
 placed-order (e ∷ es) h zero d l = (both (is_placed e) _ h).0
 placed-order (e ∷ es) h (suc k) d l = placed-order es (both (is_placed e) _ h).1 k d (omega arith)
 
-behind-order : (e : Entry) (es : List Entry) (j : ℕ) (d : Seat) → list_all (comes_before e) es ≡ true → j < length (map seat_of es) → MayFollow (seat_of e) (get_or (map seat_of es) j d)
+behind-order : (e : Entry) (es : List Entry) (j : ℕ) (d : Seat) → list_all (comes_before e) es ≡ true → j < length (map seat_of es) →
+    MayFollow (seat_of e) (get_or (map seat_of es) j d)
 behind-order e [] j d h l = absurd (omega arith)
 behind-order e (f ∷ es) zero d h l = may_follow (seat_of e) (seat_of f) (both (comes_before e f) _ h).0
 behind-order e (f ∷ es) (suc j) d h l = behind-order e es j d (both (comes_before e f) _ h).1 (omega arith)
@@ -113,7 +115,8 @@ module _ (es : List Entry) (place : List ℕ) (o : IsInOrder (map seat_of es)) w
     pub looked-some : (e : Entry) → slice_get es k ≡ Some e → is_at term context e ≡ true → Some e.value ≡ value_in es term context
     looked-some e at h = sym (ap (option_map (λ (x : Entry). x.value)) (find-first (is_at term context) es k e at h before))
 
-    behind : (e : Entry) → slice_get es k ≡ Some e → is_at term context e ≡ false → (j : ℕ) (f : Entry) → slice_get es j ≡ Some f → k < j → is_at term context f ≡ false
+    behind : (e : Entry) → slice_get es k ≡ Some e → is_at term context e ≡ false → (j : ℕ) (f : Entry) → slice_get es j ≡ Some f → k < j →
+        is_at term context f ≡ false
     behind e at h j f there l = go (is_at term context f) refl
       where
         within : j < length es
@@ -123,7 +126,8 @@ module _ (es : List Entry) (place : List ℕ) (o : IsInOrder (map seat_of es)) w
         m = follows seat_of es root_context refl o k j e l within
 
         follow : MayFollow (seat_of e) (seat_of f)
-        follow = subst (λ x. MayFollow (seat_of x) (seat_of f)) (get_or_from_slice_get es k e e at) (subst (λ x. MayFollow (seat_of (get_or es k e)) (seat_of x)) (get_or_from_slice_get es j f e there) m)
+        follow = subst (λ x. MayFollow (seat_of x) (seat_of f)) (get_or_from_slice_get es k e e at)
+            (subst (λ x. MayFollow (seat_of (get_or es k e)) (seat_of x)) (get_or_from_slice_get es j f e there) m)
 
         ahead : stands_ahead place e ≡ false
         ahead = ap (stands_ahead place) (sym (get_or_from_slice_get es k e e at)) ∙ point.1 k e (omega arith) (slice_get_within es k e at)
@@ -132,7 +136,8 @@ module _ (es : List Entry) (place : List ℕ) (o : IsInOrder (map seat_of es)) w
         go false p = p
         go true p =
             let second : follow.second ≡ place = same_Some _ _ (sym follow.second_is ∙ its_place f p) in
-            let first : follow.first ≡ place = neither_before follow.first place (ap (is_ahead place) (sym follow.first_is) ∙ ahead) (ap (λ x. precedes x follow.first) (sym second) ∙ follow.order) in
+            let first : follow.first ≡ place = neither_before follow.first place (ap (is_ahead place) (sym follow.first_is) ∙ ahead)
+            (ap (λ x. precedes x follow.first) (sym second) ∙ follow.order) in
             let same : seat_of e ≡ seat_of f = one_seat (seat_of e) (seat_of f) place (follow.first_is ∙ ap Some first) (its_place f p) in
             absurd (false≢true (sym h ∙ same_at term context e f same p))
 
@@ -170,10 +175,12 @@ module _ (es : List Entry) (place : List ℕ) (o : IsInOrder (map seat_of es)) w
         every j f there = let l = slice_get_within es j f there in before j f there (omega (arith, l, past))
 
 -- a term without a place stands nowhere
-pub looked-nowhere : (es : List Entry) (term : Term) (context : Context) → IsInOrder (map seat_of es) → place_of term context ≡ None → None ≡ value_in es term context
+pub looked-nowhere : (es : List Entry) (term : Term) (context : Context) → IsInOrder (map seat_of es) → place_of term context ≡ None →
+    None ≡ value_in es term context
 looked-nowhere es term context o is = sym (ap (option_map (λ (x : Entry). x.value)) (find-none (is_at term context) es every))
   where
-    placed : (xs : List Entry) (k : ℕ) (e : Entry) → All (λ (s : Seat). is_some (seat_place s) ≡ true) (map seat_of xs) → slice_get xs k ≡ Some e → is_some (seat_place (seat_of e)) ≡ true
+    placed : (xs : List Entry) (k : ℕ) (e : Entry) → All (λ (s : Seat). is_some (seat_place s) ≡ true) (map seat_of xs) → slice_get xs k ≡ Some e →
+        is_some (seat_place (seat_of e)) ≡ true
     placed [] zero e h at = cc
     placed [] (suc k) e h at = cc
     placed (x ∷ xs) zero e h at = ap (λ (y : Entry). is_some (seat_place (seat_of y))) (sym (same_Some _ _ at)) ∙ h 0 (seat_of x) (omega arith)
@@ -184,7 +191,8 @@ looked-nowhere es term context o is = sym (ap (option_map (λ (x : Entry). x.val
       where
         go : (b : Bool) → is_at term context f ≡ b → is_at term context f ≡ false
         go false p = p
-        go true p = absurd (false≢true (ap is_some (sym is) ∙ (ap (λ s. is_some (seat_place s)) (sym (at-seat term context f p)) ∙ placed es j f o.placed there)))
+        go true p = absurd (false≢true (ap is_some (sym is) ∙
+            (ap (λ s. is_some (seat_place s)) (sym (at-seat term context f p)) ∙ placed es j f o.placed there)))
 
 -- ---- lists with the same members
 

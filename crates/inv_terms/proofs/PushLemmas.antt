@@ -1,5 +1,6 @@
 -- The last entry alone shows which occurrence is the next one.
-use Rattle.std.proofs.Common.{◌≡◌, ℕ, ◌+◌, ◌-◌, ◌≤◌, max, Bool, true, false, ◌&&◌, ◌||◌, List, [], ◌∷◌, ◌++◌, length, length-append, Option, Some, None, refl, sym, ap, ◌∙◌, ◌⊎◌, inl, inr, arith}
+use Rattle.std.proofs.Common.{◌≡◌, ℕ, ◌+◌, ◌-◌, ◌≤◌, max, Bool, true, false, ◌&&◌, ◌||◌, List, [], ◌∷◌, ◌++◌, length, length-append, Option, Some, None, refl}
+use Rattle.std.proofs.Common.{sym, ap, ◌∙◌, ◌⊎◌, inl, inr, arith}
 use Rattle.std.specs.Prelude.{◌==◌, slice_get, nat_le, fold, map, if◌then◌else◌}
 use Rattle.std.specs.List.{list_all}
 use Rattle.std.proofs.lemmas.Bool.{false≢true}
@@ -13,7 +14,8 @@ use Rattle.inv_terms.specs.declared.entries.Entry.{Entry}
 use Rattle.inv_terms.specs.declared.listing.Refusal.TheVariants as refusals
 use Rattle.term_table.specs.Groups.{same_group}
 use Rattle.term_table.specs.Contexts.{same_slot}
-use Rattle.inv_terms.specs.Listing.{comes_before, index_in, last_outer, last_inner, is_listed, is_last_or_next, is_next, is_behind, is_behind_last, last_entry, is_placed, refusal}
+use Rattle.inv_terms.specs.Listing.{comes_before, index_in, last_outer, last_inner, is_listed, is_last_or_next, is_next, is_behind, is_behind_last, last_entry}
+use Rattle.inv_terms.specs.Listing.{is_placed, refusal}
 use Rattle.inv_terms.specs.LastEntry.{outer_behind, inner_behind, is_next_behind}
 use Rattle.term_table.proofs.GroupLemmas.{same_group_is, same_group_itself}
 use Rattle.term_table.proofs.GroupLemmas.{both}
@@ -62,10 +64,12 @@ outer_bound f l e o s es = index_in_le f.context.outer s.group _ (λ t ft same.
 abbrev pub index_inside : Option Slot → Group → Entry → ℕ
 index_inside outer group e = if same_slot e.context.outer outer then index_in group e.context.inner else 0
 
-inner_bound : (f l e : Entry) → Orders f l e → (s : Slot) → e.context.inner ≡ Some s → index_inside e.context.outer s.group f ≤ index_inside e.context.outer s.group l
+inner_bound : (f l e : Entry) → Orders f l e → (s : Slot) → e.context.inner ≡ Some s →
+    index_inside e.context.outer s.group f ≤ index_inside e.context.outer s.group l
 inner_bound f l e o s es = go (same_slot f.context.outer e.context.outer) refl
   where
-    go : (b : Bool) → same_slot f.context.outer e.context.outer ≡ b → (if b then index_in s.group f.context.inner else 0) ≤ index_inside e.context.outer s.group l
+    go : (b : Bool) → same_slot f.context.outer e.context.outer ≡ b →
+        (if b then index_in s.group f.context.inner else 0) ≤ index_inside e.context.outer s.group l
     go false h = omega arith
     go true h = index_in_le f.context.inner s.group _ (λ t ft same.
         let u = outer_slot e o.last s es in
@@ -107,7 +111,8 @@ last_behind (f ∷ es) l h =
 
 -- ---- the last or the next occurrence
 
-same_test : (last last' : Group → ℕ) (slot : Option Slot) → ((s : Slot) → slot ≡ Some s → last s.group ≡ last' s.group) → is_last_or_next last slot ≡ is_last_or_next last' slot
+same_test : (last last' : Group → ℕ) (slot : Option Slot) → ((s : Slot) → slot ≡ Some s → last s.group ≡ last' s.group) →
+    is_last_or_next last slot ≡ is_last_or_next last' slot
 same_test last last' None h = refl
 same_test last last' (Some s) h = ap (λ n. nat_le 1 s.index && ((s.index == n) || (s.index == n + 1))) (h s refl)
 
@@ -117,7 +122,8 @@ next_first e =
     let b = same_test (inner_behind None e.context) (last_inner [] e.context.outer) e.context.inner (λ s h. refl) in
     rw (a, b) refl
 
-next_later : (es : List Entry) (l e : Entry) → is_listed (es ++ l ∷ []) ≡ true → comes_before l e ≡ true → is_next_behind (Some l) e.context ≡ is_next (es ++ l ∷ []) e.context
+next_later : (es : List Entry) (l e : Entry) → is_listed (es ++ l ∷ []) ≡ true → comes_before l e ≡ true →
+    is_next_behind (Some l) e.context ≡ is_next (es ++ l ∷ []) e.context
 next_later es l e h k =
     let before = last_behind es l h in
     let a = same_test (outer_behind (Some l)) (last_outer (es ++ l ∷ [])) e.context.outer (λ s q.

@@ -1,5 +1,6 @@
 -- What a value is written as is read as that value.
-use Rattle.std.proofs.Common.{◌≡◌, ℕ, ◌+◌, ◌/◌, ◌%◌, ◌^◌, ◌<◌, zero, suc, Bool, true, false, ◌&&◌, List, [], ◌∷◌, ◌++◌, Option, Some, None, refl, sym, ap, ◌∙◌, subst, ◌⊎◌, inl, inr, arith}
+use Rattle.std.proofs.Common.{◌≡◌, ℕ, ◌+◌, ◌/◌, ◌%◌, ◌^◌, ◌<◌, zero, suc, Bool, true, false, ◌&&◌, List, [], ◌∷◌, ◌++◌, Option, Some, None, refl, sym, ap, ◌∙◌}
+use Rattle.std.proofs.Common.{subst, ◌⊎◌, inl, inr, arith}
 use Rattle.std.specs.Prelude.{nat_le, option_map, bytes_eq, if◌then◌else◌}
 use Rattle.std.specs.List.{list_all}
 use Rattle.std.specs.Char.{is_ascii_digit}
@@ -22,7 +23,8 @@ use Rattle.term_table.specs.declared.terms.Letter.TheVariants as letters
 use Rattle.term_table.proofs.GroupLemmas.{both}
 use Rattle.inv_terms.specs.declared.values.Value.{Value}
 use Rattle.inv_terms.specs.declared.values.Value.TheVariants as values
-use Rattle.inv_terms.specs.Values.{is_blank, without_leading, without_trailing, trimmed, text_of, identifier_in, identifier_of, code_of, value_by, value_of, spelled}
+use Rattle.inv_terms.specs.Values.{is_blank, without_leading, without_trailing, trimmed, text_of, identifier_in, identifier_of, code_of, value_by, value_of}
+use Rattle.inv_terms.specs.Values.{spelled}
 use Rattle.inv_terms.proofs.TrimLemmas.{HasEnds, trimmed-between}
 use lib.Utf8.{encodes}
 
@@ -79,7 +81,8 @@ trailing-last (c ∷ text) (i ∷ init) l h = elim (bool_cases (is_blank (c ∷ 
       trailing-last text init l later
 ]
 
-trailing-first : (text : List ℕ) (c : ℕ) (rest : List ℕ) → without_trailing text ≡ c ∷ rest → ((d : ℕ) (more : List ℕ) → text ≡ d ∷ more → is_white_space d ≡ false) → is_white_space c ≡ false
+trailing-first : (text : List ℕ) (c : ℕ) (rest : List ℕ) → without_trailing text ≡ c ∷ rest →
+    ((d : ℕ) (more : List ℕ) → text ≡ d ∷ more → is_white_space d ≡ false) → is_white_space c ≡ false
 trailing-first [] c rest h k = cc
 trailing-first (x ∷ text) c rest h k = elim (bool_cases (is_blank (x ∷ text))) [
   | inl blank ↦ absurd (let e : [] ≡ c ∷ rest = sym (ap (λ b. if b then [] else x ∷ without_trailing text) blank) ∙ h in cc)
@@ -142,7 +145,8 @@ all-from p q f (c ∷ text) h = let k = both (p c) _ h in rw (f c k.0) (all-from
 plain-ends : (text : List ℕ) → list_all is_plain text ≡ true → HasEnds text
 plain-ends text h = record {
   first = λ c rest e. plain-black c (both (is_plain c) _ (ap (list_all is_plain) (sym e) ∙ h)).0;
-  last = λ init l e. plain-black l (both (is_plain l) true (both (list_all is_plain init) _ (sym (list_all-append is_plain init (l ∷ [])) ∙ (ap (list_all is_plain) (sym e) ∙ h))).1).0;
+  last = λ init l e. plain-black l (both (is_plain l) true
+      (both (list_all is_plain init) _ (sym (list_all-append is_plain init (l ∷ [])) ∙ (ap (list_all is_plain) (sym e) ∙ h))).1).0;
 }
 
 all_pair : (p : ℕ → Bool) (a b : List ℕ) → list_all p a ≡ true → list_all p b ≡ true → list_all p (a ++ b) ≡ true
@@ -164,7 +168,8 @@ parts_digits whole fraction h = (both _ _ (both _ _ (both _ _ h).0).0).0
 
 written-plain : (text : List ℕ) (s : ScaledDecimal) → IsWritten text s → list_all is_plain text ≡ true
 written-plain text s w =
-    let digits = both (list_all is_ascii_digit w.whole) _ (sym (list_all-append is_ascii_digit w.whole w.fraction) ∙ parts_digits w.whole w.fraction w.digits) in
+    let digits = both (list_all is_ascii_digit w.whole) _ (sym (list_all-append is_ascii_digit w.whole w.fraction) ∙ parts_digits w.whole w.fraction w.digits)
+    in
     ap (list_all is_plain) w.spelled ∙ all_pair is_plain w.sign (w.whole ++ w.tail) (sign-plain w.sign w.negative w.signed)
     (all_pair is_plain w.whole w.tail (all-from is_ascii_digit is_plain digit-plain w.whole digits.0)
     (tail-plain w.tail w.fraction w.ended (all-from is_ascii_digit is_plain digit-plain w.fraction digits.1)))
@@ -182,7 +187,8 @@ last_digits-plain (suc k) n =
 day-plain : (d : CivilDay) → list_all is_plain (dashed_day_text d) ≡ true
 unfolding dashed_day_text is_plain
 day-plain d =
-    all_pair is_plain (last_digits 4 d.year) _ (last_digits-plain 4 d.year) (all_pair is_plain (last_digits 2 d.month) _ (last_digits-plain 2 d.month) (last_digits-plain 2 d.day))
+    all_pair is_plain (last_digits 4 d.year) _ (last_digits-plain 4 d.year)
+    (all_pair is_plain (last_digits 2 d.month) _ (last_digits-plain 2 d.month) (last_digits-plain 2 d.day))
 
 -- ---- values
 
@@ -215,7 +221,8 @@ reads-from letter text value h = go (list_all is_char text) refl h
     go true e k = record { chars_alone = e; by_type = k }
     go false e k = absurd (let u : None ≡ Some value = k in cc)
 
-reads-to : (letter : Letter) (text : List ℕ) (value : Value) → list_all is_char text ≡ true → value_by letter text ≡ Some value → value_of letter text ≡ Some value
+reads-to : (letter : Letter) (text : List ℕ) (value : Value) → list_all is_char text ≡ true → value_by letter text ≡ Some value →
+    value_of letter text ≡ Some value
 unfolding value_of
 reads-to letter text value h k = rw h k
 
@@ -224,17 +231,21 @@ module _ (scaled : (s : ScaledDecimal) → IsScaled s → read_scaled (scaled_te
     (in_range : (cs : List ℕ) (s : ScaledDecimal) → read_scaled cs ≡ Some s → IsScaled s)
     (dashed : (d : CivilDay) → IsDay d → read_dashed_day (dashed_day_text d) ≡ Some d)
     (days : (cs : List ℕ) (d : CivilDay) → read_dashed_day cs ≡ Some d → IsDay d) where
-  number-back : (text : List ℕ) (s : ScaledDecimal) → read_scaled text ≡ Some s → (list_all is_char (scaled_text s) ≡ true) × (read_scaled (trimmed (scaled_text s)) ≡ Some s)
+  number-back : (text : List ℕ) (s : ScaledDecimal) → read_scaled text ≡ Some s → (list_all is_char (scaled_text s) ≡ true) ×
+      (read_scaled (trimmed (scaled_text s)) ≡ Some s)
   number-back text s h =
       let back = scaled s (in_range text s h) in
       let plain = written-plain (scaled_text s) s (grammar (scaled_text s) s back) in
       (all-from is_plain is_char plain-char (scaled_text s) plain, ap read_scaled (trimmed-kept (scaled_text s) (plain-ends (scaled_text s) plain)) ∙ back)
 
-  day-back : (text : List ℕ) (d : CivilDay) → read_dashed_day text ≡ Some d → (list_all is_char (dashed_day_text d) ≡ true) × (read_dashed_day (trimmed (dashed_day_text d)) ≡ Some d)
+  day-back : (text : List ℕ) (d : CivilDay) → read_dashed_day text ≡ Some d → (list_all is_char (dashed_day_text d) ≡ true) ×
+      (read_dashed_day (trimmed (dashed_day_text d)) ≡ Some d)
   day-back text d h =
       let back = dashed d (days text d h) in
-      let plain = day-plain d in
-      (all-from is_plain is_char plain-char (dashed_day_text d) plain, ap read_dashed_day (trimmed-kept (dashed_day_text d) (plain-ends (dashed_day_text d) plain)) ∙ back)
+      let plain = day-plain d in (
+        all-from is_plain is_char plain-char (dashed_day_text d) plain,
+        ap read_dashed_day (trimmed-kept (dashed_day_text d) (plain-ends (dashed_day_text d) plain)) ∙ back,
+      )
 
   text-back : (text t : List ℕ) → list_all is_char text ≡ true → text_of text ≡ Some t → (list_all is_char t ≡ true) × (text_of t ≡ Some t)
   text-back text t h k =
@@ -270,19 +281,23 @@ module _ (scaled : (s : ScaledDecimal) → IsScaled s → read_scaled (scaled_te
   back letters.A text value r =
       let w = taken values.Amount (read_scaled (trimmed text)) value r.by_type in
       let u = number-back (trimmed text) w.0 w.1 in
-      subst (λ v. value_of letters.A (spelled v) ≡ Some v) w.2 (reads-to letters.A (scaled_text w.0) (values.Amount w.0) u.0 (ap (option_map values.Amount) u.1))
+      subst (λ v. value_of letters.A (spelled v) ≡ Some v) w.2
+      (reads-to letters.A (scaled_text w.0) (values.Amount w.0) u.0 (ap (option_map values.Amount) u.1))
   back letters.Q text value r =
       let w = taken values.Quantity (read_scaled (trimmed text)) value r.by_type in
       let u = number-back (trimmed text) w.0 w.1 in
-      subst (λ v. value_of letters.Q (spelled v) ≡ Some v) w.2 (reads-to letters.Q (scaled_text w.0) (values.Quantity w.0) u.0 (ap (option_map values.Quantity) u.1))
+      subst (λ v. value_of letters.Q (spelled v) ≡ Some v) w.2
+      (reads-to letters.Q (scaled_text w.0) (values.Quantity w.0) u.0 (ap (option_map values.Quantity) u.1))
   back letters.P text value r =
       let w = taken values.Percent (read_scaled (trimmed text)) value r.by_type in
       let u = number-back (trimmed text) w.0 w.1 in
-      subst (λ v. value_of letters.P (spelled v) ≡ Some v) w.2 (reads-to letters.P (scaled_text w.0) (values.Percent w.0) u.0 (ap (option_map values.Percent) u.1))
+      subst (λ v. value_of letters.P (spelled v) ≡ Some v) w.2
+      (reads-to letters.P (scaled_text w.0) (values.Percent w.0) u.0 (ap (option_map values.Percent) u.1))
   back letters.D text value r =
       let w = taken values.Date (read_dashed_day (trimmed text)) value r.by_type in
       let u = day-back (trimmed text) w.0 w.1 in
-      subst (λ v. value_of letters.D (spelled v) ≡ Some v) w.2 (reads-to letters.D (dashed_day_text w.0) (values.Date w.0) u.0 (ap (option_map values.Date) u.1))
+      subst (λ v. value_of letters.D (spelled v) ≡ Some v) w.2
+      (reads-to letters.D (dashed_day_text w.0) (values.Date w.0) u.0 (ap (option_map values.Date) u.1))
   back letters.B text value r =
       let w = taken values.Base64 (text_of text) value r.by_type in
       let u = text-back text w.0 r.chars_alone w.1 in

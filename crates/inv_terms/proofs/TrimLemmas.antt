@@ -1,9 +1,11 @@
 -- Trimming by bytes is trimming by characters.
-use Rattle.std.proofs.Common.{◌≡◌, ℕ, ◌+◌, ◌-◌, ◌<◌, ◌≤◌, zero, suc, List, [], ◌∷◌, ◌++◌, length, get_or, take, drop, Some, None, Bool, true, false, ◌&&◌, refl, ap, sym, ◌∙◌, arith, length-append, length-drop, subst, ◌⊎◌, inl, inr}
+use Rattle.std.proofs.Common.{◌≡◌, ℕ, ◌+◌, ◌-◌, ◌<◌, ◌≤◌, zero, suc, List, [], ◌∷◌, ◌++◌, length, get_or, take, drop, Some, None, Bool, true, false, ◌&&◌, refl}
+use Rattle.std.proofs.Common.{ap, sym, ◌∙◌, arith, length-append, length-drop, subst, ◌⊎◌, inl, inr}
 use Rattle.std.specs.Str.{chars, IsUtf8, IsAscii, IsCharBoundary}
 use Rattle.std.specs.List.{list_all}
 use Rattle.std.specs.Prelude.{◌==◌}
-use Rattle.std.proofs.lemmas.Str.{chars-nil, chars-append, chars_from_encodes, encodes-chars, encodes-append, encode_ascii, IsUtf8-from_ascii, IsCharBoundary-start, IsCharBoundary-after_ascii, IsCharBoundary-before_ascii, IsCharBoundary-end}
+use Rattle.std.proofs.lemmas.Str.{chars-nil, chars-append, chars_from_encodes, encodes-chars, encodes-append, encode_ascii, IsUtf8-from_ascii}
+use Rattle.std.proofs.lemmas.Str.{IsCharBoundary-start, IsCharBoundary-after_ascii, IsCharBoundary-before_ascii, IsCharBoundary-end}
 use Rattle.std.proofs.lemmas.Str.Ascii.{encodes-IsAscii, IsAscii-nil, IsAscii-cons}
 use Rattle.std.proofs.lemmas.Bool.Decides.{nat_tests}
 use Rattle.std.proofs.lemmas.Bool.{false≢true, cases_lt}
@@ -111,7 +113,8 @@ ends-by_bytes r u first last = record {
       let at : get_or r 0 0 ≡ c = rw bytes refl in
       absurd (false≢true (sym (first some) ∙ (ap is_white_space at ∙ white))));
   last = λ init l e. or_false (is_white_space l) (λ white.
-      let bytes : r ≡ encodes init ++ l ∷ [] = sym (encodes-chars r u) ∙ (ap encodes e ∙ (encodes-append init (l ∷ []) ∙ ap (λ x. encodes init ++ x) (ap (λ x. x ++ []) (encode_ascii l (white_below l white))))) in
+      let bytes : r ≡ encodes init ++ l ∷ [] = sym (encodes-chars r u) ∙
+      (ap encodes e ∙ (encodes-append init (l ∷ []) ∙ ap (λ x. encodes init ++ x) (ap (λ x. x ++ []) (encode_ascii l (white_below l white))))) in
       let some : 0 < length r = rw bytes (length_last (encodes init) l) in
       let at : get_or r (length r - 1) 0 ≡ l = rw bytes (last_of (encodes init) l) in
       absurd (false≢true (sym (last some) ∙ (ap is_white_space at ∙ white))));
@@ -135,7 +138,8 @@ pub record HasBack (s : List ℕ) (k : ℕ) : Type 0 where
   pub from : (i : ℕ) → k ≤ i → i < length s → is_white_space (get_or s i 0) ≡ true
   pub last : 0 < k → is_white_space (get_or s (k - 1) 0) ≡ false
 
-pub trimmed-bytes : (s : List ℕ) (m k : ℕ) → IsUtf8 s → IsUtf8 (take k (drop m s)) → HasFront s m → HasBack (drop m s) k → chars (take k (drop m s)) ≡ trimmed (chars s)
+pub trimmed-bytes : (s : List ℕ) (m k : ℕ) → IsUtf8 s → IsUtf8 (take k (drop m s)) → HasFront s m → HasBack (drop m s) k →
+    chars (take k (drop m s)) ≡ trimmed (chars s)
 trimmed-bytes s m k us ur f h =
     let t : List ℕ = drop m s in
     let r : List ℕ = take k t in
@@ -157,7 +161,8 @@ trimmed-bytes s m k us ur f h =
     let at : get_or s m 0 ≡ get_or r 0 0 = sym (get_or-take_drop s m) ∙ (ap (λ x. get_or x 0 0) whole_t ∙ get_or_append_left r b 0 0 some) in
     ap is_white_space (sym at) ∙ f.first lt in
     let last_is : 0 < length r → is_white_space (get_or r (length r - 1) 0) ≡ false = λ some.
-    let at : get_or t (length r - 1) 0 ≡ get_or r (length r - 1) 0 = ap (λ x. get_or x (length r - 1) 0) whole_t ∙ get_or_append_left r b 0 (length r - 1) (omega (arith, some)) in
+    let at : get_or t (length r - 1) 0 ≡ get_or r (length r - 1) 0 = ap (λ x. get_or x (length r - 1) 0) whole_t ∙
+    get_or_append_left r b 0 (length r - 1) (omega (arith, some)) in
     ap is_white_space (sym at) ∙ (ap (λ n. is_white_space (get_or t (n - 1) 0)) length_r ∙ h.last (omega arith)) in
     sym (ap trimmed cs ∙ trimmed-between a (chars r) b white_a white_b (ends-by_bytes r ur first_is last_is))
 
@@ -165,7 +170,8 @@ trimmed-bytes s m k us ur f h =
 
 pub cut-leading : (s : List ℕ) (m : ℕ) → IsUtf8 s → m ≤ length s → ((i : ℕ) → i < m → is_white_space (get_or s i 0) ≡ true) → IsCharBoundary s m
 cut-leading s zero u l h = IsCharBoundary-start s u
-cut-leading s (suc m) u l h = let e : m + 1 ≡ suc m = omega arith in subst (IsCharBoundary s) e (IsCharBoundary-after_ascii s m u (omega arith) (white_below _ (h m (omega arith))))
+cut-leading s (suc m) u l h = let e : m + 1 ≡ suc m = omega arith in
+    subst (IsCharBoundary s) e (IsCharBoundary-after_ascii s m u (omega arith) (white_below _ (h m (omega arith))))
 
 pub cut-trailing : (s : List ℕ) (k : ℕ) → IsUtf8 s → k ≤ length s → ((i : ℕ) → k ≤ i → i < length s → is_white_space (get_or s i 0) ≡ true) → IsCharBoundary s k
 cut-trailing s k u l h = elim (cases_lt k (length s)) [

@@ -1,5 +1,6 @@
 -- An invoice has no first lack exactly where it is valid.
-use Rattle.std.proofs.Common.{◌≡◌, ℕ, ◌<◌, Bool, true, false, ◌&&◌, ◌||◌, List, [], ◌∷◌, length, Option, Some, None, refl, sym, ap, ◌∙◌, subst, ◌⊎◌, inl, inr, arith}
+use Rattle.std.proofs.Common.{◌≡◌, ℕ, ◌<◌, Bool, true, false, ◌&&◌, ◌||◌, List, [], ◌∷◌, length, Option, Some, None, refl, sym, ap, ◌∙◌, subst, ◌⊎◌, inl, inr}
+use Rattle.std.proofs.Common.{arith}
 use Rattle.std.specs.Prelude.{◌==◌, ◌↔◌, not, filter, map, slice_get, is_none, option_map, option_and_then, if◌then◌else◌, Contains}
 use Rattle.std.specs.List.{list_any}
 use Rattle.std.proofs.lemmas.Option.{same_Some, slice_get_within, get_or_from_slice_get, slice_get-get_or}
@@ -35,7 +36,8 @@ use Rattle.inv_terms.specs.declared.lacks.Name.{Name}
 use Rattle.inv_terms.specs.declared.lacks.Name.TheVariants as names
 use Rattle.inv_terms.specs.declared.lacks.TermFault.TheVariants as faults
 use Rattle.inv_terms.specs.declared.lacks.Lack.{Lack}
-use Rattle.inv_terms.specs.Lacking.{is_at, has, has_term, is_around, shows_its_group, stands, decided, first_decided, is_there, whole_term, is_needed, is_missing, is_slot_in, has_occurrence, is_at_least_once, lacks_group, missing_at}
+use Rattle.inv_terms.specs.Lacking.{is_at, has, has_term, is_around, shows_its_group, stands, decided, first_decided, is_there, whole_term, is_needed}
+use Rattle.inv_terms.specs.Lacking.{is_missing, is_slot_in, has_occurrence, is_at_least_once, lacks_group, missing_at}
 use Rattle.inv_terms.specs.Validity.{first_lack, list_of, code_in, is_outside, is_unlisted, unlisted}
 use Rattle.inv_terms.specs.Whole.{IsContextOf, Stands, ShowsGroup, IsThere, IsMandatory, HasOccurrence, IsWhole, IsListed, IsValid, seats_in, IsLack}
 use Rattle.inv_terms.proofs.ContextLemmas.{here, there, member_cases, no_member, context_is}
@@ -70,17 +72,20 @@ any_to p [] x w h = absurd (no_member x w)
 any_to p (y ∷ xs) x w h = elim (member_cases y x xs w) [ inl e ↦ or_left _ _ (ap p e ∙ h) | inr m ↦ or_right _ _ (any_to p xs x m h) ]
 
 -- over the seats in a context
-seats_from : (p : Seat → Bool) (q : Entry → Bool) (es : List Entry) → list_any p (map seat_of (filter q es)) ≡ true → (e : Entry) × Contains es e × (q e ≡ true) × (p (seat_of e) ≡ true)
+seats_from : (p : Seat → Bool) (q : Entry → Bool) (es : List Entry) → list_any p (map seat_of (filter q es)) ≡ true → (e : Entry) × Contains es e × (q e ≡ true)
+    × (p (seat_of e) ≡ true)
 seats_from p q [] h = absurd (false≢true h)
 seats_from p q (e ∷ es) h = elim (bool_cases (q e)) [
   | inl kept ↦ elim (either (p (seat_of e)) _ (sym (ap (λ b. list_any p (map seat_of (if b then e ∷ filter q es else filter q es))) kept) ∙ h)) [
     | inl now ↦ (e, here e es, kept, now)
     | inr later ↦ (let w = seats_from p q es later in (w.0, there e w.0 es w.1, w.2, w.3))
   ]
-  | inr gone ↦ (let w = seats_from p q es (sym (ap (λ b. list_any p (map seat_of (if b then e ∷ filter q es else filter q es))) gone) ∙ h) in (w.0, there e w.0 es w.1, w.2, w.3))
+  | inr gone ↦ (let w = seats_from p q es (sym (ap (λ b. list_any p (map seat_of (if b then e ∷ filter q es else filter q es))) gone) ∙ h) in
+      (w.0, there e w.0 es w.1, w.2, w.3))
 ]
 
-seats_to : (p : Seat → Bool) (q : Entry → Bool) (es : List Entry) (e : Entry) → Contains es e → q e ≡ true → p (seat_of e) ≡ true → list_any p (map seat_of (filter q es)) ≡ true
+seats_to : (p : Seat → Bool) (q : Entry → Bool) (es : List Entry) (e : Entry) → Contains es e → q e ≡ true → p (seat_of e) ≡ true →
+    list_any p (map seat_of (filter q es)) ≡ true
 seats_to p q [] e w h k = absurd (no_member e w)
 seats_to p q (f ∷ es) e w h k = elim (member_cases f e es w) [
   | inl is ↦
@@ -141,7 +146,8 @@ module _ (es : List Entry) (c : Context) where
   shows_to g s =
       any_to (λ (row : TermRow). is_around g row.group && (shows_its_group row.term && has_term (seats_in es c) row.term)) terms s.row s.is_row
       (and_pair _ _ s.around (and_pair _ _ s.counts
-      (seats_to (λ (x : Seat). same_term x.term s.row.term) within es s.entry s.member s.within (ap (λ t. same_term t s.row.term) s.term_is ∙ term_itself s.row.term))))
+      (seats_to (λ (x : Seat). same_term x.term s.row.term) within es s.entry s.member s.within (ap (λ t. same_term t s.row.term) s.term_is ∙
+      term_itself s.row.term))))
 
   occurrence_from : (g : Group) → has_occurrence (seats_in es c) g ≡ true → HasOccurrence es c g
   unfolding within
@@ -211,7 +217,8 @@ decided_as o seats g = elim o [
 ]
 
 module _ (es : List Entry) (c : Context) where
-  level_from : (g : Group) (ds : List (Option Bool)) → first_decided (decided (seats_in es c) g ∷ ds) ≡ true → (first_decided ds ≡ true → IsThere es c (parent_of g)) → IsThere es c g
+  level_from : (g : Group) (ds : List (Option Bool)) → first_decided (decided (seats_in es c) g ∷ ds) ≡ true →
+      (first_decided ds ≡ true → IsThere es c (parent_of g)) → IsThere es c g
   level_from g ds h above = go (occurrence_of g) refl (h)
     where
       go : (o : Occurrence) → occurrence_of g ≡ o → first_decided (decided_as o (seats_in es c) g ∷ ds) ≡ true → IsThere es c g
@@ -246,11 +253,16 @@ module _ (es : List Entry) (c : Context) where
       go : (o : Occurrence) → occurrence_of group ≡ o → may_repeat o ≡ true → is_there (seats_in es c) group ≡ true
       go occurs.Once e k = absurd (false≢true k)
       go occurs.AtMostOnce e k = absurd (false≢true k)
-      go occurs.AnyNumber e k = ap (λ o. first_decided (decided_as o (seats_in es c) group ∷ decided (seats_in es c) (parent_of group) ∷ decided (seats_in es c) (parent_of (parent_of group)) ∷ [])) e
-      go occurs.AtLeastOnce e k = ap (λ o. first_decided (decided_as o (seats_in es c) group ∷ decided (seats_in es c) (parent_of group) ∷ decided (seats_in es c) (parent_of (parent_of group)) ∷ [])) e
+      go occurs.AnyNumber e k =
+          ap (λ o. first_decided (decided_as o (seats_in es c) group ∷ decided (seats_in es c) (parent_of group) ∷ decided (seats_in es c)
+          (parent_of (parent_of group)) ∷ [])) e
+      go occurs.AtLeastOnce e k =
+          ap (λ o. first_decided (decided_as o (seats_in es c) group ∷ decided (seats_in es c) (parent_of group) ∷ decided (seats_in es c)
+          (parent_of (parent_of group)) ∷ [])) e
   there_to g (IsThere.once group e above) =
       let up = there_to (parent_of group) above in
-      let last : decided (seats_in es c) (parent_of (parent_of (parent_of group))) ≡ None = ap (decided (seats_in es c)) (three_up group) ∙ decided_once groups.Root root_once in
+      let last : decided (seats_in es c) (parent_of (parent_of (parent_of group))) ≡ None = ap (decided (seats_in es c)) (three_up group) ∙
+      decided_once groups.Root root_once in
       let a = decided (seats_in es c) (parent_of group) in
       let b = decided (seats_in es c) (parent_of (parent_of group)) in
       ap (λ x. first_decided (x ∷ a ∷ b ∷ [])) (decided_once group e) ∙ (sym (drop_third a b) ∙ (ap (λ x. first_decided (a ∷ b ∷ x ∷ [])) (sym last) ∙ up))
@@ -353,7 +365,8 @@ and_false a b h = rw h refl
 outside : (g : Group) (c : Context) → FirstRow g → has_context (parent_of g) c ≡ true → has_context g c ≡ false
 outside g c f h =
     let root : has_context groups.Root c ≡ true = ap (λ x. has_context x c) (sym f.up) ∙ h in
-    let none : slot_group c.outer ≡ None = no_outer (slot_group c.outer) (ap (same_groups (slot_group c.outer)) (sym root_outer) ∙ (both (same_groups (slot_group c.outer) (outer_group groups.Root)) _ root).0) in
+    let none : slot_group c.outer ≡ None = no_outer (slot_group c.outer) (ap (same_groups (slot_group c.outer)) (sym root_outer) ∙
+    (both (same_groups (slot_group c.outer) (outer_group groups.Root)) _ root).0) in
     and_false (same_groups (slot_group c.outer) (outer_group g)) _ (ap (λ o. same_groups o (outer_group g)) none ∙ ap (same_groups None) f.outer)
 
 named : {X : Type 0} (b : Bool) (x : X) → (if b then Some x else None) ≡ None → b ≡ false
@@ -393,15 +406,18 @@ module _ (es : List Entry) (c : Context) where
     mandatory = λ row w at m.
         let is_row : slice_get terms w.0 ≡ Some row = slice_get-get_or terms w.0 row w.1 ∙ ap Some w.2 in
         let none : (if is_missing (seats_in es c) c row then Some (names.Term row.term) else None) ≡ None =
-        sym (ap (λ b. if b then (if is_missing (seats_in es c) c row then Some (names.Term row.term) else None) else (if lacks_group (seats_in es c) c w.0 row then Some (names.Group row.group) else None)) at) ∙ h w.0 row is_row in
-        let stands_there : not (has (seats_in es c) c row.term) ≡ false = and_second (is_needed (seats_in es c) c row) _ (named _ (names.Term row.term) none) (needed row m) in
+        sym (ap (λ b. if b then (if is_missing (seats_in es c) c row then Some (names.Term row.term) else None) else
+        (if lacks_group (seats_in es c) c w.0 row then Some (names.Group row.group) else None)) at) ∙ h w.0 row is_row in
+        let stands_there : not (has (seats_in es c) c row.term) ≡ false = and_second (is_needed (seats_in es c) c row) _ (named _ (names.Term row.term) none)
+        (needed row m) in
         stands_from es c row.term (not_false_is _ stands_there);
     occurring = λ g o at.
         let f = first_row_of g o in
         let k = first_row g in
         let off : has_context f.row.group c ≡ false = ap (λ x. has_context x c) f.group_is ∙ outside g c f at in
         let none : (if lacks_group (seats_in es c) c k f.row then Some (names.Group f.row.group) else None) ≡ None =
-        sym (ap (λ b. if b then (if is_missing (seats_in es c) c f.row then Some (names.Term f.row.term) else None) else (if lacks_group (seats_in es c) c k f.row then Some (names.Group f.row.group) else None)) off) ∙ h k f.row f.is_row in
+        sym (ap (λ b. if b then (if is_missing (seats_in es c) c f.row then Some (names.Term f.row.term) else None) else
+        (if lacks_group (seats_in es c) c k f.row then Some (names.Group f.row.group) else None)) off) ∙ h k f.row f.is_row in
         let lacks : lacks_group (seats_in es c) c k f.row ≡ false = named _ (names.Group f.row.group) none in
         let once : is_at_least_once (occurrence_of f.row.group) ≡ true = ap (λ x. is_at_least_once (occurrence_of x)) f.group_is ∙ ap is_at_least_once o in
         let first : (k == first_row f.row.group) ≡ true = ap (λ x. k == first_row x) f.group_is ∙ same_number k in
@@ -461,7 +477,8 @@ has_place e list h = go (row_of e.term e.context) refl
   where
     go : (o : Option ℕ) → row_of e.term e.context ≡ o → (place : List ℕ) × (place_of e.term e.context ≡ Some place)
     go (Some row) k = (place row e.context, ap (option_map (λ r. place r e.context)) k)
-    go None k = absurd (let z : None ≡ Some list = sym (ap (λ o. option_and_then (λ (row : TermRow). row.list) (option_and_then (slice_get terms) o)) k) ∙ h in cc)
+    go None k = absurd (let z : None ≡ Some list = sym (ap (λ o. option_and_then (λ (row : TermRow). row.list) (option_and_then (slice_get terms) o)) k) ∙ h in
+        cc)
 
 -- ---- the law
 
@@ -470,7 +487,8 @@ listed_from es lists none e list code member list_is value_is = elim (bool_cases
   | inl allowed ↦ allowed
   | inr refused ↦
       let p = has_place e list list_is in
-      let found : is_unlisted lists e ≡ true = ap (λ o. is_outside lists o (code_in e.value)) list_is ∙ (ap (λ v. is_outside lists (Some list) (code_in v)) value_is ∙ ap not refused) in
+      let found : is_unlisted lists e ≡ true = ap (λ o. is_outside lists o (code_in e.value)) list_is ∙
+      (ap (λ v. is_outside lists (Some list) (code_in v)) value_is ∙ ap not refused) in
       let lack : Lack = record { place = p.0; fault = faults.CodeNotListed e.term } in
       let is : unlisted lists e ≡ Some lack = rw (found, p.1) refl in
       absurd (none lack (inr (e, member, is)))
@@ -480,7 +498,8 @@ unlisted_is : (lists : Lists) (e : Entry) (lack : Lack) → unlisted lists e ≡
 unlisted_is lists e lack h = go (is_unlisted lists e) refl h
   where
     go : (b : Bool) → is_unlisted lists e ≡ b
-        → (if b then option_map (λ place. record { place = place; fault = faults.CodeNotListed e.term }) (place_of e.term e.context) else None) ≡ Some lack → is_unlisted lists e ≡ true
+        → (if b then option_map (λ place. record { place = place; fault = faults.CodeNotListed e.term }) (place_of e.term e.context) else None) ≡ Some lack →
+        is_unlisted lists e ≡ true
     go true k l = k
     go false k l = absurd (let z : None ≡ Some lack = l in cc)
 
@@ -508,7 +527,8 @@ valid es lists = (there_is, nothing)
             let z : None ≡ Some w.0 = sym h ∙ w.1 in
             cc
 
-        every : (c : Context) → IsContextOf es c → (k : ℕ) (row : TermRow) → slice_get terms k ≡ Some row → (o : Option Name) → missing_at (seats_in es c) c k row ≡ o
+        every : (c : Context) → IsContextOf es c → (k : ℕ) (row : TermRow) → slice_get terms k ≡ Some row → (o : Option Name) →
+            missing_at (seats_in es c) c k row ≡ o
             → missing_at (seats_in es c) c k row ≡ None
         every c shown k row is_row None e = e
         every c shown k row is_row (Some name) e = absurd (refused h (record { place = place k c; fault = faults.Missing name })

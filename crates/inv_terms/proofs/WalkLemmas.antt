@@ -1,5 +1,6 @@
 -- The entries of a context stand together, from its first one on.
-use Rattle.std.proofs.Common.{◌≡◌, ℕ, ◌+◌, Bool, true, false, ◌||◌, List, [], ◌∷◌, ◌++◌, Option, Some, None, refl, sym, ap, ◌∙◌, subst, ◌⊎◌, inl, inr, suc, append_assoc, arith}
+use Rattle.std.proofs.Common.{◌≡◌, ℕ, ◌+◌, Bool, true, false, ◌||◌, List, [], ◌∷◌, ◌++◌, Option, Some, None, refl, sym, ap, ◌∙◌, subst, ◌⊎◌, inl, inr, suc}
+use Rattle.std.proofs.Common.{append_assoc, arith}
 use Rattle.std.specs.Prelude.{not, filter, fold, map, is_none, is_some, if◌then◌else◌}
 use Rattle.std.specs.List.{list_all, prefix_len, take_while}
 use Rattle.std.proofs.lemmas.Bool.{false≢true}
@@ -57,7 +58,8 @@ front_passes p c d pd (e ∷ es) k l =
       | inr pe ↦ rw pe (none_behind p c d e q.0 pd pe es r.0)
     ]
 
-first_passes : (p : Entry → Bool) → IsConvex p → (e : Entry) → p e ≡ true → (es : List Entry) → is_listed (e ∷ es) ≡ true → filter p (e ∷ es) ≡ take_while p (e ∷ es)
+first_passes : (p : Entry → Bool) → IsConvex p → (e : Entry) → p e ≡ true → (es : List Entry) → is_listed (e ∷ es) ≡ true →
+    filter p (e ∷ es) ≡ take_while p (e ∷ es)
 first_passes p c e pe es l =
     let r = both (list_all (comes_before e) es) _ l in
     let n : 1 + prefix_len p es ≡ suc (prefix_len p es) = omega arith in
@@ -175,8 +177,10 @@ no_slot : (o : Option Slot) → is_some o ≡ true → (s : Slot) × (o ≡ Some
 no_slot None h = absurd (false≢true h)
 no_slot (Some s) h = (s, refl)
 
-module _ (pre : List Entry) (e : Entry) (behind : List Entry) (before : Context) (h : is_listed (pre ++ e ∷ behind) ≡ true) (b : before ≡ last_context pre) where
-  missing_outer : opens_outer before e.context ≡ true → missing_in (pre ++ e ∷ behind) (outer_context e.context) ≡ opened_missing (e ∷ behind) (outer_context e.context)
+module _ (pre : List Entry) (e : Entry) (behind : List Entry) (before : Context) (h : is_listed (pre ++ e ∷ behind) ≡ true)
+    (b : before ≡ last_context pre) where
+  missing_outer : opens_outer before e.context ≡ true → missing_in (pre ++ e ∷ behind) (outer_context e.context) ≡ opened_missing (e ∷ behind)
+      (outer_context e.context)
   missing_outer opens =
       let q = both (not (same_slot before.outer e.context.outer)) _ opens in
       let s = no_slot e.context.outer q.1 in
@@ -211,7 +215,8 @@ module _ (pre : List Entry) (e : Entry) (behind : List Entry) (before : Context)
       ap (missing_in (pre ++ e ∷ behind)) same ∙ (ap (λ x. first_missing (map seat_of x) c) f ∙ sym (ap (opened_missing (e ∷ behind)) same))
     where
       context_is : (c : Context) (o s : Slot) → c.outer ≡ Some o → c.inner ≡ Some s → c ≡ record { outer = Some o; inner = Some s }
-      context_is c o s p q = ap (λ (x : Option Slot). record { outer = x; inner = c.inner }) p ∙ ap (λ (x : Option Slot). record { outer = Some o; inner = x }) q
+      context_is c o s p q = ap (λ (x : Option Slot). record { outer = x; inner = c.inner }) p ∙
+          ap (λ (x : Option Slot). record { outer = Some o; inner = x }) q
 
 -- ---- the walk over the entries
 
@@ -238,14 +243,16 @@ if_same : (b : Bool) (f g : Context → Option Lack) (c : Context) → (b ≡ tr
 if_same true f g c h = ap (λ x. x ∷ []) (h refl)
 if_same false f g c h = refl
 
-pub walk_goes_on : (es : List Entry) (before : Context) (e : Entry) (behind : List Entry) (first : Option Lack) → IsInvoice es → Walk es before (e ∷ behind) first
+pub walk_goes_on : (es : List Entry) (before : Context) (e : Entry) (behind : List Entry) (first : Option Lack) → IsInvoice es →
+    Walk es before (e ∷ behind) first
     → (outer inner : Option Lack)
     → outer ≡ fold earlier first (map (opened_missing (e ∷ behind)) (if opens_outer before e.context then outer_context e.context ∷ [] else []))
     → inner ≡ fold earlier outer (map (opened_missing (e ∷ behind)) (if opens_inner before e.context then e.context ∷ [] else []))
     → Walk es e.context behind inner
 walk_goes_on es before e behind first i w outer inner o n =
     let listed : is_listed (w.gone ++ e ∷ behind) ≡ true = ap is_listed (sym w.whole) ∙ i.listed in
-    let placed = both (list_all is_placed w.gone) _ (sym (list_all-append is_placed w.gone (e ∷ behind)) ∙ (ap (list_all is_placed) (sym w.whole) ∙ i.placed)) in
+    let placed = both (list_all is_placed w.gone) _ (sym (list_all-append is_placed w.gone (e ∷ behind)) ∙ (ap (list_all is_placed) (sym w.whole) ∙ i.placed))
+    in
     let at_e : At e = at_placed e (both (is_placed e) _ placed.1).0 in
     let a : List Context = if opens_outer before e.context then outer_context e.context ∷ [] else [] in
     let b : List Context = if opens_inner before e.context then e.context ∷ [] else [] in
@@ -276,7 +283,8 @@ walk_goes_on es before e behind first i w outer inner o n =
         go (Some place) p k = (at-place (seat_of e) place p).0
 
 -- the same, where the rest begins with the entry
-pub walk_step : (es : List Entry) (before : Context) (rest : List Entry) (e : Entry) (behind : List Entry) (first : Option Lack) → rest ≡ e ∷ behind → IsInvoice es
+pub walk_step : (es : List Entry) (before : Context) (rest : List Entry) (e : Entry) (behind : List Entry) (first : Option Lack) → rest ≡ e ∷ behind →
+    IsInvoice es
     → Walk es before rest first → (outer inner : Option Lack)
     → outer ≡ fold earlier first (map (opened_missing rest) (if opens_outer before e.context then outer_context e.context ∷ [] else []))
     → inner ≡ fold earlier outer (map (opened_missing rest) (if opens_inner before e.context then e.context ∷ [] else []))

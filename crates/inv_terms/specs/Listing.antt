@@ -1,5 +1,6 @@
 -- An invoice as a list of entries in the order of the semantic model, and which entry may be added to it.
-use Rattle.std.specs.Prelude.{◌≡◌, ℕ, ◌+◌, ◌-◌, Bool, true, ◌&&◌, ◌||◌, ◌==◌, nat_le, List, [], ◌∷◌, Option, Some, None, is_some, find, fold, max, map, length, slice_get, option_map, if◌then◌else◌, All}
+use Rattle.std.specs.Prelude.{◌≡◌, ℕ, ◌+◌, ◌-◌, Bool, true, ◌&&◌, ◌||◌, ◌==◌, nat_le, List, [], ◌∷◌, Option, Some, None, is_some, find, fold, max, map, length}
+use Rattle.std.specs.Prelude.{slice_get, option_map, if◌then◌else◌, All}
 use Rattle.std.specs.List.{list_all, list_any}
 use Rattle.term_table.specs.declared.groups.Group.{Group}
 use Rattle.term_table.specs.declared.terms.Letter.{Letter}

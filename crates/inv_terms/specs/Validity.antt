@@ -1,6 +1,7 @@
 -- What an invoice lacks: terms and groups that are mandatory (EN 16931-1, sections 6.3 and 6.4), and codes that aren't
 -- in their lists. The first lack is the first in listing order.
-use Rattle.std.specs.Prelude.{ℕ, Bool, false, not, ◌&&◌, List, [], ◌∷◌, ◌++◌, Option, Some, None, is_some, option_map, Result, Ok, Err, filter, fold, map, if◌then◌else◌}
+use Rattle.std.specs.Prelude.{ℕ, Bool, false, not, ◌&&◌, List, [], ◌∷◌, ◌++◌, Option, Some, None, is_some, option_map, Result, Ok, Err, filter, fold, map}
+use Rattle.std.specs.Prelude.{if◌then◌else◌}
 use Rattle.code_lists.specs.CodeFiles.{Lists, allows}
 use Rattle.code_lists.specs.declared.names.List.{List as CodeList}
 use Rattle.term_table.specs.declared.terms.Term.{Term}

@@ -85,7 +85,8 @@ pub record IsWhole (es : List Entry) (c : Context) : Type 0 where
 
 -- Each code is in its term's list, where that is built in or given.
 abbrev pub IsListed : List Entry → Lists → Type 0
-IsListed es lists = (e : Entry) (list : CodeList) (code : List ℕ) → Contains es e → list_of e.term e.context ≡ Some list → e.value ≡ values.Code code → allows lists list code ≡ true
+IsListed es lists = (e : Entry) (list : CodeList) (code : List ℕ) → Contains es e → list_of e.term e.context ≡ Some list → e.value ≡ values.Code code →
+    allows lists list code ≡ true
 
 pub record IsValid (es : List Entry) (lists : Lists) : Type 0 where
   pub whole : (c : Context) → IsContextOf es c → IsWhole es c

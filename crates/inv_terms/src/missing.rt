@@ -67,7 +67,8 @@ fn shows<T: Seated>(row: &TermRow, seats: &[T], group: Group) -> bool
 }
 
 fn stands_among<T: Seated>(rows: &[TermRow], seats: &[T], group: Group) -> bool
-    ensures { result ≡ list_any (λ row. spec.is_around group row.group && (spec.shows_its_group row.term && spec.has_term (map T.seat_of seats.now) row.term)) rows.now }
+    ensures { result ≡ list_any (λ row. spec.is_around group row.group && (spec.shows_its_group row.term && spec.has_term (map T.seat_of seats.now) row.term))
+        rows.now }
 {
     rows.iter().any(|row| shows(row, seats, group))
 }

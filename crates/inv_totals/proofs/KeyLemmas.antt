@@ -1,5 +1,6 @@
 -- VAT categories are equal where their texts are.
-use Rattle.std.proofs.Common.{◌≡◌, ◌<ℤ◌, option_map, ℕ, Bool, true, false, List, [], ◌∷◌, ◌++◌, refl, sym, ap, subst, ◌∙◌, Option, Some, None, ℤ, string_bytes, arith}
+use Rattle.std.proofs.Common.{◌≡◌, ◌<ℤ◌, option_map, ℕ, Bool, true, false, List, [], ◌∷◌, ◌++◌, refl, sym, ap, subst, ◌∙◌, Option, Some, None, ℤ, string_bytes}
+use Rattle.std.proofs.Common.{arith}
 use Rattle.std.specs.Prelude.{◌&&◌, ◌==◌, bytes_eq, not, Result, Ok, Err, is_ok, OnOk, String, if◌then◌else◌}
 use Rattle.std.specs.Ordering.{int_cmp, is_eq, MatchOrdering}
 use Rattle.std.specs.declared.cmp.Ordering.{Ordering}
@@ -16,7 +17,8 @@ use Rattle.std.proofs.lemmas.Bool.{false≢true}
 use Rattle.std.proofs.lemmas.Bool.Decides.{nat_tests}
 use Rattle.inv_base.proofs.TextLemmas.{same_chars}
 use Rattle.inv_decimal.specs.Number.{IsDecimal, ScaledDecimal}
-use Rattle.inv_decimal.specs.WrittenNumber.{read_decimal, read_scaled, written_units, decimal_text, IsWritten, IsSign, no_sign, plus, minus, IsTail, no_point, point}
+use Rattle.inv_decimal.specs.WrittenNumber.{read_decimal, read_scaled, written_units, decimal_text, IsWritten, IsSign, no_sign, plus, minus, IsTail, no_point}
+use Rattle.inv_decimal.specs.WrittenNumber.{point}
 use Rattle.inv_decimal.proofs.Grammar.{written_from_read}
 use Rattle.inv_decimal.proofs.ReadBack.{decimal_back_whole}
 use Rattle.inv_totals.specs.Totals.{VatCategory, same_code, same_rate, same_category}
@@ -197,7 +199,8 @@ code_pushed (Err x) old mid new piece code o same is m n = tt
 
 -- the text of a category, made piece by piece
 pub key_made : {E : Type 0} (r : Result (Unit {0}) E) (none rated spaced : List ℕ) (key : String Global) (rate : Option ℤ) (code : Option (List ℕ))
-    (category : VatCategory) → none ≡ [] → rated ≡ chars none ++ rate_text rate → spaced ≡ rated ++ chars (0x20 ∷ []) → OnOk r (chars (string_bytes key) ≡ spaced ++ code_text code)
+    (category : VatCategory) → none ≡ [] → rated ≡ chars none ++ rate_text rate → spaced ≡ rated ++ chars (0x20 ∷ []) →
+    OnOk r (chars (string_bytes key) ≡ spaced ++ code_text code)
     → rate ≡ category.rate → code ≡ category.code → IsRate rate → OnOk r (IsKey (string_bytes key) category)
 key_made (Ok x) none rated spaced key rate code category empty a b c rate_is code_is in_range = record {
   utf8 = IsUtf8-string_bytes key;

@@ -17,7 +17,8 @@ use Rattle.inv_totals.specs.declared.sums.Part.{Part}
 use Rattle.inv_totals.specs.declared.sums.Sums.{Sums}
 use Rattle.inv_totals.specs.declared.adding.Tally.{Tally}
 use Rattle.inv_totals.specs.Totals.{VatCategory, category_at, entry_amount, is_of, same_category, sum_over}
-use Rattle.inv_totals.specs.Adding.{part_of, category_terms, with_amount, with_part, with_tax, all_sums, sums_in, IsKey, or_none, sums_under, AddsUnder, breakdown_of, Tallies, AddsPart}
+use Rattle.inv_totals.specs.Adding.{part_of, category_terms, with_amount, with_part, with_tax, all_sums, sums_in, IsKey, or_none, sums_under, AddsUnder}
+use Rattle.inv_totals.specs.Adding.{breakdown_of, Tallies, AddsPart}
 use Rattle.inv_totals.proofs.SumLemmas.{sum_where-more}
 use Rattle.inv_totals.proofs.PartLemmas.{all_sums-more, sums_in-more, sums_in-same, kept}
 use Rattle.inv_totals.proofs.KeyLemmas.{same_key}

@@ -1,6 +1,7 @@
 -- The totals of an invoice by the calculation model of EN 16931-1 (rules BR-CO-10 to BR-CO-17, and BR-S-8 and its like for
 -- each VAT category). Each is made of the values that the invoice states, of which an absent one is 0.
-use Rattle.std.specs.Prelude.{ℕ, zero, suc, ◌+◌, Bool, true, false, ◌&&◌, not, List, [], ◌∷◌, ◌++◌, map, filter, flat_map, ℤ, pos, Option, Some, None, option_map, Ok, Err, nat_eq, bytes_eq}
+use Rattle.std.specs.Prelude.{ℕ, zero, suc, ◌+◌, Bool, true, false, ◌&&◌, not, List, [], ◌∷◌, ◌++◌, map, filter, flat_map, ℤ, pos, Option, Some, None}
+use Rattle.std.specs.Prelude.{option_map, Ok, Err, nat_eq, bytes_eq}
 use Rattle.std.specs.Ordering.{int_cmp, is_eq}
 use Rattle.inv_decimal.specs.Number.{ScaledDecimal}
 use Rattle.term_table.specs.declared.groups.Group.TheVariants as groups
@@ -148,7 +149,8 @@ when false x = []
 
 abbrev pub difference : List Entry → Context → ℕ → Number → List Difference
 difference es context number computed =
-    when (differs (amount es number context) computed) (record { context = context; term = term number; stated = stated es number context; computed = computed })
+    when (differs (amount es number context) computed)
+    (record { context = context; term = term number; stated = stated es number context; computed = computed })
 
 -- the totals of the document, and those of a VAT breakdown, in listing order
 abbrev pub root_numbers : List ℕ

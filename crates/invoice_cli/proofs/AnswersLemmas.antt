@@ -44,7 +44,8 @@ same_end a b e = cc
 
 -- Bad words are no refusal of an answer.
 word_no_refusal : (number : ℕ) (a : Answer) → ends (refusal statuses.BadWords (bad_word_line number)) ≡ ends a → IsRefusedAnswer a.status → ⊥
-word_no_refusal number a e refuses = subst (λ (x : Answer). IsRefusedAnswer x.status) (sym (same_end (refusal statuses.BadWords (bad_word_line number)) a e)) refuses
+word_no_refusal number a e refuses = subst (λ (x : Answer). IsRefusedAnswer x.status)
+    (sym (same_end (refusal statuses.BadWords (bad_word_line number)) a e)) refuses
 
 -- words that name no job
 pub answers_bad_word : (steps number : ℕ) (shelf : ShelfView) (out err err' : SinkView) → TakesOrFails (bad_word_line number) err err'
@@ -92,7 +93,14 @@ answers_said steps job text status shelf out out' err is_end good no_document (i
       answered = λ _ _ files is _. sym (ap (λ (a : Answer). a.status) (is_text files));
       output = λ _ _ files is _. all.told ∙ ap (λ (a : Answer). appended a.out out.told) (sym (is_text files));
       errors = λ _ _ _ files is _. sym (appended-nil err.told) ∙ ap (λ (a : Answer). appended a.err err.told) (sym (is_text files));
-      written = λ _. record { count = 0; answer = done text; ends_in = subst (λ course. EndsIn shelf.held course 0 (done text)) (sym is_end) at_end; status_is = refl; all = all };
+      written = λ _. record {
+        count = 0;
+        answer = done text;
+        ends_in = subst (λ course. EndsIn shelf.held course 0 (done text)) (sym is_end) at_end;
+        status_is =
+            refl;
+        all = all;
+      };
       at_once = λ a is refuses. absurd (subst (λ (x : Answer). IsRefusedAnswer x.status) (sym (same_end (done text) a (sym is_end ∙ is))) refuses);
       bad_words = λ e. cc;
       only_bad_words = λ number e. absurd (good number e);
@@ -119,7 +127,8 @@ answers_said steps job text status shelf out out' err is_end good no_document (i
     let front = said.1 in
     let is_text : (files : Files) → answer_to steps job files ≡ done text = λ files. ap (λ course. answer_of course files) is_end in
     let unread : (files : Files) → readings (course_of steps job) files ≡ 0 = λ files. ap (λ course. readings course files) is_end in
-    let good_text : (files : Files) → IsAccepted (answer_to steps job files).status = λ files. subst (λ (a : Answer). IsAccepted a.status) (sym (is_text files)) tt in
+    let good_text : (files : Files) → IsAccepted (answer_to steps job files).status =
+    λ files. subst (λ (a : Answer). IsAccepted a.status) (sym (is_text files)) tt in
     let before : Outside = record { shelf = shelf; out = out; err = err } in
     let after : Outside = record { shelf = shelf; out = out'; err = err } in
     rw said.0 (record {
@@ -185,7 +194,8 @@ answers_spent steps job status shelf out out' err wants unread good no_document 
     })
 
 -- a trial
-pub answers_tried : (steps lines : ℕ) (status : Status) (shelf : ShelfView) (out out' err : SinkView) → Tries status (trial_text (trial_of lines steps)) out out'
+pub answers_tried : (steps lines : ℕ) (status : Status) (shelf : ShelfView) (out out' err : SinkView) →
+    Tries status (trial_text (trial_of lines steps)) out out'
     → Answers steps (trial lines) (record { shelf = shelf; out = out; err = err }) (record { shelf = shelf; out = out'; err = err }) status
 answers_tried steps lines status shelf out out' err (inl said) =
     answers_said steps (trial lines) (trial_text (trial_of lines steps)) status shelf out out' err refl (λ number e. cc) (λ file e. cc) said
@@ -260,16 +270,20 @@ module _ (steps : ℕ) (job : Job) (names : NamesFiles job) (before after : Outs
   named : (number : ℕ) → job ≡ bad_word number → ⊥
   named number is = subst NamesFiles is names
 
-  told_end : (files : Files) (n : ℕ) (a : Answer) → before.shelf.held ≡ Some files → EndsIn before.shelf.held (course_of steps job) n a → EndsIn (Some files) (course_of steps job) n a
+  told_end : (files : Files) (n : ℕ) (a : Answer) → before.shelf.held ≡ Some files → EndsIn before.shelf.held (course_of steps job) n a →
+      EndsIn (Some files) (course_of steps job) n a
   told_end files n a is fits = subst (λ held. EndsIn held (course_of steps job) n a) is fits
 
-  answer_is : (files : Files) (n : ℕ) (a : Answer) → before.shelf.held ≡ Some files → EndsIn before.shelf.held (course_of steps job) n a → a ≡ answer_to steps job files
+  answer_is : (files : Files) (n : ℕ) (a : Answer) → before.shelf.held ≡ Some files → EndsIn before.shelf.held (course_of steps job) n a →
+      a ≡ answer_to steps job files
   answer_is files n a is fits = ends_as_answered files (course_of steps job) n a (told_end files n a is fits)
 
-  counts : (files : Files) (n : ℕ) (a : Answer) → before.shelf.held ≡ Some files → EndsIn before.shelf.held (course_of steps job) n a → n ≡ readings (course_of steps job) files
+  counts : (files : Files) (n : ℕ) (a : Answer) → before.shelf.held ≡ Some files → EndsIn before.shelf.held (course_of steps job) n a →
+      n ≡ readings (course_of steps job) files
   counts files n a is fits = ends_behind_readings files (course_of steps job) n a (told_end files n a is fits)
 
-  refused : (status : Status) → ((file : List ℕ) → job ≡ outline file → after.shelf.opens ≡ next_count before.shelf.opens) → IsRefused (course_of steps job) before after status
+  refused : (status : Status) → ((file : List ℕ) → job ≡ outline file → after.shelf.opens ≡ next_count before.shelf.opens) →
+      IsRefused (course_of steps job) before after status
       → Answers steps job before after status
   refused status one r = record {
     answered = λ _ _ files is _. sym r.told ∙ ap (λ (a : Answer). a.status) (answer_is files r.count r.answer is r.ends_in);
@@ -313,7 +327,8 @@ module _ (steps : ℕ) (job : Job) (names : NamesFiles job) (before after : Outs
     held = r.read.held;
   }
 
-  unread : (status : Status) → ((file : List ℕ) → job ≡ outline file → after.shelf.opens ≡ next_count before.shelf.opens) → IsUnread (course_of steps job) before after status
+  unread : (status : Status) → ((file : List ℕ) → job ≡ outline file → after.shelf.opens ≡ next_count before.shelf.opens) →
+      IsUnread (course_of steps job) before after status
       → Answers steps job before after status
   unread status one r = rw r.told (record {
     answered = λ quiet _ files is _. absurd (not_quiet before.shelf.faults after.shelf.faults r.rose quiet);
@@ -335,7 +350,12 @@ module _ (steps : ℕ) (job : Job) (names : NamesFiles job) (before after : Outs
     no_line = λ no. absurd (no tt);
     front = λ no files is. absurd (no tt);
     stops = λ refused. absurd refused;
-    opens = (r.count, r.opens, λ files is. reads_within files (course_of steps job) r.count r.file (subst (λ held. ReadsAt held (course_of steps job) r.count r.file) is r.reads_at));
+    opens = (
+      r.count,
+      r.opens,
+      λ files is. reads_within files (course_of steps job) r.count r.file
+          (subst (λ held. ReadsAt held (course_of steps job) r.count r.file) is r.reads_at),
+    );
     all_opened = λ quiet _ files is. absurd (not_quiet before.shelf.faults after.shelf.faults r.rose quiet);
     outline_opens = one;
     given = λ no. absurd (no names);
@@ -403,7 +423,8 @@ module _ (steps : ℕ) (job : Job) (names : NamesFiles job) (before after : Outs
     held = r.read.held;
   })
 
-  accepted_is : (status : Status) → IsAccepted status → (IsRefusal status → ⊥) × (status ≢ statuses.BadWords) × (status ≢ statuses.Memory) × (status ≢ statuses.ReadFault) × (status ≢ statuses.WriteFault)
+  accepted_is : (status : Status) → IsAccepted status → (IsRefusal status → ⊥) × (status ≢ statuses.BadWords) × (status ≢ statuses.Memory) ×
+      (status ≢ statuses.ReadFault) × (status ≢ statuses.WriteFault)
       × (IsRefusedAnswer status → ⊥)
   accepted_is statuses.Done good = (λ r. r, (λ e. cc), (λ e. cc), (λ e. cc), (λ e. cc), (λ r. r))
   accepted_is statuses.Findings good = (λ r. r, (λ e. cc), (λ e. cc), (λ e. cc), (λ e. cc), (λ r. r))
@@ -415,7 +436,8 @@ module _ (steps : ℕ) (job : Job) (names : NamesFiles job) (before after : Outs
   accepted_is statuses.WriteFault good = absurd good
   accepted_is statuses.Memory good = absurd good
 
-  module _ (one : (file : List ℕ) → job ≡ outline file → after.shelf.opens ≡ next_count before.shelf.opens) (status : Status) (r : IsWritten (course_of steps job) before after status) where
+  module _ (one : (file : List ℕ) → job ≡ outline file → after.shelf.opens ≡ next_count before.shelf.opens) (status : Status)
+      (r : IsWritten (course_of steps job) before after status) where
     answer_here : (files : Files) → before.shelf.held ≡ Some files → r.answer ≡ answer_to steps job files
     answer_here files is = answer_is files r.count r.answer is r.ends_in
 
@@ -448,7 +470,11 @@ module _ (steps : ℕ) (job : Job) (names : NamesFiles job) (before after : Outs
           nothing = λ refusal. absurd (other.0 refusal);
           line = λ refusal. absurd (other.0 refusal);
           no_line = λ _. r.no_line;
-          front = λ _ files is. (r.answer.out, subst (λ (a : Answer). IsFront r.answer.out a.out) (answer_here files is) (IsFront-whole r.answer.out), all.told);
+          front = λ _ files is. (
+            r.answer.out,
+            subst (λ (a : Answer). IsFront r.answer.out a.out) (answer_here files is) (IsFront-whole r.answer.out),
+            all.told,
+          );
           stops = λ refused. absurd (other.5 refused);
           opens = (r.count, r.read.opens, λ files is. subst (λ n. r.count ≤ n) (counts files r.count r.answer is r.ends_in) (omega arith));
           all_opened = λ _ _ files is. r.read.opens ∙ ap (λ n. counted n before.shelf.opens) (counts files r.count r.answer is r.ends_in);
@@ -491,7 +517,8 @@ module _ (steps : ℕ) (job : Job) (names : NamesFiles job) (before after : Outs
           held = r.read.held;
         })
 
-    written : (((status ≡ r.answer.status) × WritesAll r.answer.out before.out after.out) ⊎ ((status ≡ statuses.WriteFault) × WritesFront r.answer.out before.out after.out))
+    written : (((status ≡ r.answer.status) × WritesAll r.answer.out before.out after.out) ⊎
+        ((status ≡ statuses.WriteFault) × WritesFront r.answer.out before.out after.out))
         → Answers steps job before after status
     written (inl done) = whole done
     written (inr done) = cut done

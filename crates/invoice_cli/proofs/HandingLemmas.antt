@@ -74,23 +74,31 @@ still : (P : ShelfView → SinkView → Type 0) (s s' : ShelfView) (e e' : SinkV
 still P s s' e e' shelf err p = subst (λ x. P x e') (sym shelf) (subst (P s) (sym err) p)
 
 -- A command that ends so is answered: all of the contract holds.
-pub answers_of_ends : (steps : ℕ) (job : Job) (before after : Outside) (status : Status) → Ends steps job before after status → Answers steps job before after status
+pub answers_of_ends : (steps : ℕ) (job : Job) (before after : Outside) (status : Status) → Ends steps job before after status →
+    Answers steps job before after status
 answers_of_ends steps (outline file) before after status ends = answers_of_run steps (outline file) tt before after status (λ name is. ends.0) ends.1
 answers_of_ends steps (show sources file) before after status ends = answers_of_run steps (show sources file) tt before after status (λ name is. cc) ends.1
 answers_of_ends steps (totals sources file) before after status ends = answers_of_run steps (totals sources file) tt before after status (λ name is. cc) ends.1
-answers_of_ends steps (convert syntax sources file) before after status ends = answers_of_run steps (convert syntax sources file) tt before after status (λ name is. cc) ends.1
-answers_of_ends steps (check svrl phase rules file) before after status ends = answers_of_run steps (check svrl phase rules file) tt before after status (λ name is. cc) ends.1
-answers_of_ends steps (validate svrl sources file) before after status ends = answers_of_run steps (validate svrl sources file) tt before after status (λ name is. cc) ends.1
+answers_of_ends steps (convert syntax sources file) before after status ends =
+    answers_of_run steps (convert syntax sources file) tt before after status (λ name is. cc) ends.1
+answers_of_ends steps (check svrl phase rules file) before after status ends =
+    answers_of_run steps (check svrl phase rules file) tt before after status (λ name is. cc) ends.1
+answers_of_ends steps (validate svrl sources file) before after status ends =
+    answers_of_run steps (validate svrl sources file) tt before after status (λ name is. cc) ends.1
 answers_of_ends steps (extract number file) before after status ends = answers_of_run steps (extract number file) tt before after status (λ name is. cc) ends.1
-answers_of_ends steps (query expression file) before after status ends = answers_of_pieces steps (query expression file) tt before after tt status (λ name is. cc) ends
+answers_of_ends steps (query expression file) before after status ends =
+    answers_of_pieces steps (query expression file) tt before after tt status (λ name is. cc) ends
 answers_of_ends steps (trial lines) before after status ends =
-    still (λ s e. Answers steps (trial lines) before (record { shelf = s; out = after.out; err = e }) status) before.shelf after.shelf before.err after.err ends.0.shelf ends.0.err
+    still (λ s e. Answers steps (trial lines) before (record { shelf = s; out = after.out; err = e }) status) before.shelf after.shelf before.err after.err
+    ends.0.shelf ends.0.err
     (answers_tried steps lines status before.shelf before.out after.out before.err ends.1)
 answers_of_ends steps help before after status ends =
-    still (λ s e. Answers steps help before (record { shelf = s; out = after.out; err = e }) status) before.shelf after.shelf before.err after.err ends.0.shelf ends.0.err
+    still (λ s e. Answers steps help before (record { shelf = s; out = after.out; err = e }) status) before.shelf after.shelf before.err after.err ends.0.shelf
+    ends.0.err
     (answers_said steps help HELP.now status before.shelf before.out after.out before.err refl (λ number e. cc) (λ file e. cc) ends.1)
 answers_of_ends steps version before after status ends =
-    still (λ s e. Answers steps version before (record { shelf = s; out = after.out; err = e }) status) before.shelf after.shelf before.err after.err ends.0.shelf ends.0.err
+    still (λ s e. Answers steps version before (record { shelf = s; out = after.out; err = e }) status) before.shelf after.shelf before.err after.err
+    ends.0.shelf ends.0.err
     (answers_said steps version version_text status before.shelf before.out after.out before.err refl (λ number e. cc) (λ file e. cc) ends.1)
 answers_of_ends steps (bad_word number) before after status ends =
     subst (λ s. Answers steps (bad_word number) before after s) (sym ends.0)

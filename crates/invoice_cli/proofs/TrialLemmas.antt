@@ -1,12 +1,16 @@
 -- Trials: how many lines the words may ask for.
-use Rattle.std.proofs.Common.{◌≡◌, ℕ, ◌+◌, ◌*◌, ◌-◌, ◌<◌, ◌≤◌, Bool, true, false, List, [], ◌∷◌, Option, Some, None, if◌then◌else◌, nat_le, length, drop, get_or, refl, sym, subst, ap, ◌∙◌, arith}
+use Rattle.std.proofs.Common.{◌≡◌, ℕ, ◌+◌, ◌*◌, ◌-◌, ◌<◌, ◌≤◌, Bool, true, false, List, [], ◌∷◌, Option, Some, None, if◌then◌else◌, nat_le, length, drop}
+use Rattle.std.proofs.Common.{get_or, refl, sym, subst, ap, ◌∙◌, arith}
 use Rattle.std.proofs.lemmas.List.{at_drop_more}
 use Rattle.std.specs.Prelude.{bytes_eq, codes, nat_eq}
 use Rattle.bind_meaning.specs.declared.tables.Syntax.{Syntax}
 use Rattle.invoice_cli.specs.declared.options.Optioned.{Optioned}
 use Rattle.invoice_cli.specs.declared.options.Optioned.TheVariants as commands
 use Rattle.invoice_cli.specs.declared.options.Switch.{Switch}
-use Rattle.invoice_cli.specs.Job.{Job, outline, show, totals, convert, check, validate, extract, query, trial, help, version, bad_word, Options, none_given, is_option, with_no_more, last_operand, offered, takes_value, with_svrl, with_value, or_bad, last_word, optioned, sources, show_of, totals_of, convert_of, check_of, validate_of, is_digit, digits_value, at_most, number_up_to, by_number, extract_of, most_lines, try_of, query_of, job}
+use Rattle.invoice_cli.specs.Job.{Job, outline, show, totals, convert, check, validate, extract, query, trial, help, version, bad_word, Options, none_given}
+use Rattle.invoice_cli.specs.Job.{is_option, with_no_more, last_operand, offered, takes_value, with_svrl, with_value, or_bad, last_word, optioned, sources}
+use Rattle.invoice_cli.specs.Job.{show_of, totals_of, convert_of, check_of, validate_of, is_digit, digits_value, at_most, number_up_to, by_number, extract_of}
+use Rattle.invoice_cli.specs.Job.{most_lines, try_of, query_of, job}
 
 -- ---- numbers
 
@@ -17,7 +21,8 @@ digits-more most n [] more = above (nat_le n most) refl where
   above true e = grind (arith, more, e)
   above false e = refl
 digits-more most n (digit ∷ digits) more = behind (is_digit digit) (digits-more most (10 * n + (digit - 48)) digits (omega (arith, more))) where
-  behind : (b : Bool) → at_most most (digits_value (10 * n + (digit - 48)) digits) ≡ None → at_most most (if b then digits_value (10 * n + (digit - 48)) digits else None) ≡ None
+  behind : (b : Bool) → at_most most (digits_value (10 * n + (digit - 48)) digits) ≡ None →
+      at_most most (if b then digits_value (10 * n + (digit - 48)) digits else None) ≡ None
   behind true rest = rest
   behind false rest = refl
 
@@ -56,7 +61,8 @@ few-number further (Some n) few = few n
 
 -- ---- options
 
-module _ (command : Optioned) (further : Options → ℕ → List (List ℕ) → Job) (few : (given : Options) (number : ℕ) (words : List (List ℕ)) → HasFew (further given number words)) where
+module _ (command : Optioned) (further : Options → ℕ → List (List ℕ) → Job) (few : (given : Options) (number : ℕ) (words : List (List ℕ)) →
+    HasFew (further given number words)) where
   few-or_bad : (number : ℕ) (next : Options → Job) (given : Option Options) → ((more : Options) → HasFew (next more)) → HasFew (or_bad number next given)
   few-or_bad number next None go = tt
   few-or_bad number next (Some more) go = go more
@@ -94,19 +100,22 @@ module _ (command : Optioned) (further : Options → ℕ → List (List ℕ) →
   few-optioned given number [] = few given number []
   few-optioned given number (word ∷ []) = few-last given number word (offered command given word)
   few-optioned given number (word ∷ (value ∷ words)) =
-      by_offer given number word value words (offered command given word) (few-optioned (with_svrl given) (number + 1) (value ∷ words)) (λ more. few-optioned more (number + 2) words)
+      by_offer given number word value words (offered command given word) (few-optioned (with_svrl given) (number + 1) (value ∷ words))
+      (λ more. few-optioned more (number + 2) words)
 
 -- ---- commands
 
 few-convert : (given : Options) (number : ℕ) (words : List (List ℕ)) → HasFew (convert_of given number words)
 few-convert given number words = by_target given.target where
-  by_target : (target : Option Syntax) → HasFew (elim target [ None ↦ bad_word number | (Some syntax) ↦ last_operand (convert syntax (sources given)) number words ])
+  by_target : (target : Option Syntax) →
+      HasFew (elim target [ None ↦ bad_word number | (Some syntax) ↦ last_operand (convert syntax (sources given)) number words ])
   by_target None = tt
   by_target (Some syntax) = few-operand (convert syntax (sources given)) number words (λ word. tt)
 
 few-check : (given : Options) (number : ℕ) (words : List (List ℕ)) → HasFew (check_of given number words)
 few-check given number words = by_rules given.rules where
-  by_rules : (rules : List (List ℕ)) → HasFew (elim rules [ [] ↦ bad_word number | (file ∷ files) ↦ last_operand (check given.svrl given.phase (file ∷ files)) number words ])
+  by_rules : (rules : List (List ℕ)) →
+      HasFew (elim rules [ [] ↦ bad_word number | (file ∷ files) ↦ last_operand (check given.svrl given.phase (file ∷ files)) number words ])
   by_rules [] = tt
   by_rules (file ∷ files) = few-operand (check given.svrl given.phase (file ∷ files)) number words (λ word. tt)
 
@@ -133,7 +142,8 @@ few-try : (words : List (List ℕ)) → HasFew (try_of words)
 few-try [] = tt
 few-try ([] ∷ words) = tt
 few-try ((digit ∷ digits) ∷ words) = by_test (nat_eq digit 48) where
-  by_test : (b : Bool) → HasFew (by_number (λ lines. with_no_more 3 (trial lines) words) (if b then None else at_most most_lines (digits_value 0 (digit ∷ digits))))
+  by_test : (b : Bool) → HasFew (by_number (λ lines. with_no_more 3 (trial lines) words)
+      (if b then None else at_most most_lines (digits_value 0 (digit ∷ digits))))
   by_test true = tt
   by_test false = few-most words (digits_value 0 (digit ∷ digits))
 
@@ -141,8 +151,10 @@ few-job : (words : List (List ℕ)) → HasFew (job words)
 few-job [] = tt
 few-job (command ∷ words) =
     few-if (bytes_eq command (codes "outline")) _ _ (few-operand outline 2 words (λ word. tt))
-    (few-if (bytes_eq command (codes "show")) _ _ (few-optioned commands.Show show_of (λ given number ws. few-operand (show (sources given)) number ws (λ word. tt)) none_given 2 words)
-    (few-if (bytes_eq command (codes "totals")) _ _ (few-optioned commands.Totals totals_of (λ given number ws. few-operand (totals (sources given)) number ws (λ word. tt)) none_given 2 words)
+    (few-if (bytes_eq command (codes "show")) _ _
+    (few-optioned commands.Show show_of (λ given number ws. few-operand (show (sources given)) number ws (λ word. tt)) none_given 2 words)
+    (few-if (bytes_eq command (codes "totals")) _ _
+    (few-optioned commands.Totals totals_of (λ given number ws. few-operand (totals (sources given)) number ws (λ word. tt)) none_given 2 words)
     (few-if (bytes_eq command (codes "convert")) _ _ (few-optioned commands.Convert convert_of few-convert none_given 2 words)
     (few-if (bytes_eq command (codes "check")) _ _ (few-optioned commands.Check check_of few-check none_given 2 words)
     (few-if (bytes_eq command (codes "validate")) _ _ (few-optioned commands.Validate validate_of few-validate none_given 2 words)

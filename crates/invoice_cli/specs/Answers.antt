@@ -102,7 +102,8 @@ pub record Answers (steps : ℕ) (job : Job) (before after : Outside) (status : 
   -- Done and Findings come only with the whole of an answer, also where the shelf tells no files.
   pub written : IsAccepted status → IsWhole steps job before after status
   -- An expression that is refused is told before any file is opened, whatever the shelf is and its counts are.
-  pub at_once : (answer : Answer) → course_of steps job ≡ ends answer → IsRefusedAnswer answer.status → status ≢ statuses.Memory → IsRefusedAtOnce answer before after status
+  pub at_once : (answer : Answer) → course_of steps job ≡ ends answer → IsRefusedAnswer answer.status → status ≢ statuses.Memory →
+      IsRefusedAtOnce answer before after status
   -- Bad words are told exactly where the words name no job.
   pub bad_words : status ≡ statuses.BadWords → (number : ℕ) × (job ≡ bad_word number)
   pub only_bad_words : (number : ℕ) → job ≡ bad_word number → status ≡ statuses.BadWords
@@ -128,7 +129,8 @@ pub record Answers (steps : ℕ) (job : Job) (before after : Outside) (status : 
   -- rest is left.
   pub stops : IsRefusedAnswer status → StopsAtFault (course_of steps job) before.shelf.held after.shelf.left
   -- No file is opened that the job doesn't read, each is opened once, and all are where nothing fails and memory is found.
-  pub opens : (count : ℕ) × (after.shelf.opens ≡ counted count before.shelf.opens) × WhereTold before.shelf.held (λ files. count ≤ readings (course_of steps job) files)
+  pub opens : (count : ℕ) × (after.shelf.opens ≡ counted count before.shelf.opens) ×
+      WhereTold before.shelf.held (λ files. count ≤ readings (course_of steps job) files)
   pub all_opened : Quiet before.shelf.faults after.shelf.faults → status ≢ statuses.Memory
       → WhereTold before.shelf.held (λ files. after.shelf.opens ≡ counted (readings (course_of steps job) files) before.shelf.opens)
   -- The outline opens its document's file in any case.

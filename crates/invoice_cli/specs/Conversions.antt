@@ -17,7 +17,8 @@ use Rattle.invoice_cli.specs.Answer.{course_of, answer_to}
 -- that writes the same terms, and converting this back writes the first bytes again: with the same code lists and the same further terms throughout.
 pub record IsConvertedBack (steps : ℕ) (first other : Syntax) (sources : Sources) (basis : Basis) (es : List Entry) : Type 0 where
   pub text : IsDocumentText first basis es
-  pub shown : (files : Files) (file : List ℕ) → Holds files file (text_of_invoice first basis es) sources basis → answer_to steps (show sources file) files ≡ done (listing es 0)
+  pub shown : (files : Files) (file : List ℕ) → Holds files file (text_of_invoice first basis es) sources basis →
+      answer_to steps (show sources file) files ≡ done (listing es 0)
   pub back : IsCarriedBy other basis es → (files : Files) (file : List ℕ) → Holds files file (text_of_invoice first basis es) sources basis
       → answer_to steps (convert other sources file) files ≡ done (text_of_invoice other basis es)
   pub again : IsCarriedBy other basis es → (files : Files) (file : List ℕ) → Holds files file (text_of_invoice other basis es) sources basis
@@ -27,7 +28,8 @@ pub record ConversionsReturn : Type 0 where
   -- Converting an invoice that the syntax carries writes the syntax's document of it, and that can be converted back.
   pub carried : (steps : ℕ) (first other : Syntax) (sources : Sources) (file : List ℕ) (files : Files) (basis : Basis) (read : Read)
       → IsBasis files sources basis → IsReadAs files file basis read → IsCarriedBy first basis read.entries
-      → (answer_to steps (convert first sources file) files ≡ done (text_of_invoice first basis read.entries)) × IsConvertedBack steps first other sources basis read.entries
+      → (answer_to steps (convert first sources file) files ≡ done (text_of_invoice first basis read.entries)) ×
+      IsConvertedBack steps first other sources basis read.entries
   -- From the answer: Done is answered only where the code lists and the further terms were accepted, the file was read by them as an invoice and the syntax
   -- carries it. What was answered is its text, a document of exactly the tree of the invoice's, which is read as exactly its entries ..
   pub answered : (steps : ℕ) (syntax : Syntax) (sources : Sources) (file : List ℕ) (files : Files)

@@ -1,5 +1,6 @@
 -- What the words behind the program's name ask for. A word is the bytes of its text.
-use Rattle.std.specs.Prelude.{ℕ, ◌+◌, ◌*◌, ◌-◌, nat_eq, nat_le, nat_lt, Bool, true, false, not, ◌&&◌, List, [], ◌∷◌, ◌++◌, length, map, Option, Some, None, is_none, option_map, bytes_eq, codes, if◌then◌else◌, String, string_bytes}
+use Rattle.std.specs.Prelude.{ℕ, ◌+◌, ◌*◌, ◌-◌, nat_eq, nat_le, nat_lt, Bool, true, false, not, ◌&&◌, List, [], ◌∷◌, ◌++◌, length, map, Option, Some, None}
+use Rattle.std.specs.Prelude.{is_none, option_map, bytes_eq, codes, if◌then◌else◌, String, string_bytes}
 use Rattle.std.specs.Global.{Global}
 use Rattle.std.specs.List.{starts_with}
 use Rattle.bind_meaning.specs.declared.tables.Syntax.{Syntax}
@@ -173,7 +174,10 @@ convert_of given number words = elim given.target [ None ↦ bad_word number | (
 
 -- Without a rule file, likewise.
 abbrev pub check_of : Options → ℕ → List (List ℕ) → Job
-check_of given number words = elim given.rules [ [] ↦ bad_word number | (file ∷ files) ↦ last_operand (check given.svrl given.phase (file ∷ files)) number words ]
+check_of given number words = elim given.rules [
+  | [] ↦ bad_word number
+  | (file ∷ files) ↦ last_operand (check given.svrl given.phase (file ∷ files)) number words
+]
 
 abbrev pub validate_of : Options → ℕ → List (List ℕ) → Job
 validate_of given number words = last_operand (validate given.svrl (sources given)) number words

@@ -34,7 +34,8 @@ use Rattle.job_course.specs.Course.{Course, answer_of, by_result, by_test, done,
 use Rattle.job_course.specs.Views.{document_read}
 use Rattle.invoice_jobs.specs.Sources.{Sources, Basis, listed_course, extended_course, by_terms, by_good, basis_course}
 use Rattle.invoice_jobs.specs.Invoices.{Given, by_invoice, invoice_course, read_course, by_carrying, converted}
-use Rattle.invoice_jobs.specs.Conversions.{AreLists, built_in, of_file, AreTerms, none, of_a_file, IsBasis, IsReadAs, AreReadAs, IsCarriedBy, text_of_invoice, Holds}
+use Rattle.invoice_jobs.specs.Conversions.{AreLists, built_in, of_file, AreTerms, none, of_a_file, IsBasis, IsReadAs, AreReadAs, IsCarriedBy, text_of_invoice}
+use Rattle.invoice_jobs.specs.Conversions.{Holds}
 use Rattle.invoice_jobs.proofs.SourceLemmas.{each_formed}
 
 -- ---- what follows where something was read

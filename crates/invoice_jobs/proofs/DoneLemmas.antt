@@ -27,7 +27,8 @@ use Rattle.job_course.specs.Views.{document_read}
 use Rattle.invoice_jobs.proofs.EndLemmas.{end_is_answer, document_done, lists_done, terms_done, answer_ends}
 use Rattle.invoice_jobs.specs.Sources.{Sources, Basis, extended_course}
 use Rattle.invoice_jobs.specs.Invoices.{invoice_line, condition_line, by_invoice, invoice_course, by_carrying, converted, convert_course}
-use Rattle.invoice_jobs.specs.Conversions.{AreLists, built_in, of_file, AreTerms, none, of_a_file, AreReadAs, IsCarriedBy, text_of_invoice, IsDocumentText, IsConverted, AreAccepted, AreAddedOrNone, IsConvertedThere}
+use Rattle.invoice_jobs.specs.Conversions.{AreLists, built_in, of_file, AreTerms, none, of_a_file, AreReadAs, IsCarriedBy, text_of_invoice, IsDocumentText}
+use Rattle.invoice_jobs.specs.Conversions.{IsConverted, AreAccepted, AreAddedOrNone, IsConvertedThere}
 
 -- ---- the ends of what follows by an invoice
 

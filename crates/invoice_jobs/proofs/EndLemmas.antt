@@ -13,7 +13,8 @@ use Rattle.xml_state.specs.declared.limits.Limits.{Limits}
 use Rattle.xml_profile.specs.Profile.{document}
 use Rattle.xml_profile.specs.Profile as profile
 use Rattle.job_course.specs.declared.status.Status.TheVariants as statuses
-use Rattle.job_course.specs.Course.{Answer, Course, ends, loads, takes, refusal, by_result, by_test, by_lists, is_within, document_limits, list_limit, document_course, lists_course, answer_of, readings}
+use Rattle.job_course.specs.Course.{Answer, Course, ends, loads, takes, refusal, by_result, by_test, by_lists, is_within, document_limits, list_limit}
+use Rattle.job_course.specs.Course.{document_course, lists_course, answer_of, readings}
 use Rattle.job_course.specs.Lines.{document_line, list_line, too_long_line}
 use Rattle.job_course.specs.Runs.{IsContentOf, AreListed, EndsIn, at_end, refused_at, loaded, too_long_at, taken}
 use Rattle.invoice_jobs.specs.Sources.{extension_line, bad_row_line, by_good, by_terms, terms_course}

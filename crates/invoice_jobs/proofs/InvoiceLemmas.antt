@@ -39,7 +39,8 @@ use Rattle.job_course.proofs.Ends.{written_here, behind_document}
 use Rattle.job_course.proofs.FileLemmas.{memory_in, refused_here}
 use Rattle.job_course.specs.Views.{document_read}
 use Rattle.invoice_jobs.specs.Sources.{Sources, Basis, basis_course}
-use Rattle.invoice_jobs.specs.Invoices.{Given, invoice_line, by_invoice, invoice_course, read_course, condition_line, by_carrying, converted, attachment_line, extracted, IsInvoiceRefusal}
+use Rattle.invoice_jobs.specs.Invoices.{Given, invoice_line, by_invoice, invoice_course, read_course, condition_line, by_carrying, converted, attachment_line}
+use Rattle.invoice_jobs.specs.Invoices.{extracted, IsInvoiceRefusal}
 
 -- ---- the tables
 

@@ -24,7 +24,8 @@ use Rattle.job_course.specs.Runs.{AreListed, Runs, Continues, Fails}
 use Rattle.job_course.proofs.Ends.{behind_lists}
 use Rattle.job_course.proofs.FileLemmas.{memory_in, refused_here}
 use Rattle.invoice_jobs.specs.declared.sources.Extended.{Extended}
-use Rattle.invoice_jobs.specs.Sources.{listed_course, extension_line, bad_row_line, by_good, by_terms, terms_course, extended_course, with_terms, IsExtensionRefusal, IsRowRefusal, IsRefusedBy}
+use Rattle.invoice_jobs.specs.Sources.{listed_course, extension_line, bad_row_line, by_good, by_terms, terms_course, extended_course, with_terms}
+use Rattle.invoice_jobs.specs.Sources.{IsExtensionRefusal, IsRowRefusal, IsRefusedBy}
 
 -- ---- the lists
 

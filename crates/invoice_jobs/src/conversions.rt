@@ -13,7 +13,8 @@ ghost use Rattle.job_course.specs.Course.{Answer, answer_of};
 ghost use Rattle.job_course.specs.Runs.{EndsIn};
 ghost use Rattle.invoice_jobs.specs.Sources.{Sources, Basis};
 ghost use Rattle.invoice_jobs.specs.Invoices.{convert_course};
-ghost use Rattle.invoice_jobs.specs.Conversions.{AreReadAs, IsBasis, IsReadAs, IsCarriedBy, Holds, text_of_invoice, IsDocumentText, IsConverted, IsConvertedThere};
+ghost use Rattle.invoice_jobs.specs.Conversions.{AreReadAs, IsBasis, IsReadAs, IsCarriedBy, Holds, text_of_invoice, IsDocumentText, IsConverted};
+ghost use Rattle.invoice_jobs.specs.Conversions.{IsConvertedThere};
 
 use cii_binding::cii_is_well_formed;
 use extension_files::file_terms_are_extensions;

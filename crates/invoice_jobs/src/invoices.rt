@@ -7,7 +7,8 @@ ghost use Rattle.bind_run.specs.Reading.{AreTablesFor};
 ghost use Rattle.extension_laws.specs.Texts.{target_rows};
 ghost use Rattle.job_course.specs.Runs.{Runs, Continues, Fails};
 ghost use Rattle.invoice_jobs.specs.Sources.{basis_of, sources_of};
-ghost use Rattle.invoice_jobs.specs.Invoices.{read_of, given_of, IsInvoiceRefusal, invoice_course, read_course, show_course, converted, convert_course, extracted, extract_course};
+ghost use Rattle.invoice_jobs.specs.Invoices.{read_of, given_of, IsInvoiceRefusal, invoice_course, read_course, show_course, converted, convert_course};
+ghost use Rattle.invoice_jobs.specs.Invoices.{extracted, extract_course};
 
 use crate::refusals::{tell_attach_fault, tell_condition, tell_invoice_fault};
 use crate::sources::{Basis, NO_SOURCES, Sources, load_basis};

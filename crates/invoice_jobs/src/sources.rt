@@ -7,7 +7,8 @@ ghost use Rattle.job_course.specs.declared.status.Status.TheVariants as statuses
 ghost use Rattle.job_course.specs.Outside.{TakesOrFails};
 ghost use Rattle.job_course.specs.Runs.{Continues, Fails};
 ghost use Rattle.job_course.specs.Views.{text_of};
-ghost use Rattle.invoice_jobs.specs.Sources.{listed_course, extended_course, terms_course, basis_course, basis_of, sources_of, extension_line, IsExtensionRefusal, IsRowRefusal, IsRefusedBy};
+ghost use Rattle.invoice_jobs.specs.Sources.{listed_course, extended_course, terms_course, basis_course, basis_of, sources_of, extension_line};
+ghost use Rattle.invoice_jobs.specs.Sources.{IsExtensionRefusal, IsRowRefusal, IsRefusedBy};
 
 use crate::refusals::{tell_bad_row, tell_extension_fault};
 use bind_run::{ExtendFault, Tables};

@@ -10,16 +10,19 @@ use Rattle.xml_profile.specs.Profile as profile
 use Rattle.xml_document.specs.Loading.{IsLoaded}
 use Rattle.job_course.specs.declared.status.Status.{Status}
 use Rattle.job_course.specs.declared.status.Status.TheVariants as statuses
-use Rattle.job_course.specs.Course.{Answer, Course, ends, loads, takes, refusal, by_result, by_test, by_lists, is_within, document_limits, list_limit, document_course, told_course, lists_course, answer_of, readings}
+use Rattle.job_course.specs.Course.{Answer, Course, ends, loads, takes, refusal, by_result, by_test, by_lists, is_within, document_limits, list_limit}
+use Rattle.job_course.specs.Course.{document_course, told_course, lists_course, answer_of, readings}
 use Rattle.job_course.specs.Lines.{document_line, too_long_line}
 use Rattle.job_course.specs.Outside.{HasRead, IsAccepted}
-use Rattle.job_course.specs.Runs.{AreListed, EndsIn, at_end, refused_at, loaded, too_long_at, taken, ReadsAt, a_load, a_taking, behind_load, behind_taking, Runs, RunsInPieces}
+use Rattle.job_course.specs.Runs.{AreListed, EndsIn, at_end, refused_at, loaded, too_long_at, taken, ReadsAt, a_load, a_taking, behind_load, behind_taking}
+use Rattle.job_course.specs.Runs.{Runs, RunsInPieces}
 use Rattle.job_course.proofs.Joins.{Behind, behind_a_load, behind_a_taking, run_behind, pieces_behind}
 
 -- An answer that is written, or a front of it.
 pub written_here : (accepted status : Status) (text : List ℕ) (shelf : ShelfView) (out out' err : SinkView) → IsAccepted accepted
     → ((status ≡ accepted) × WritesAll text out out') ⊎ ((status ≡ statuses.WriteFault) × WritesFront text out out')
-    → Runs (ends (record { status = accepted; out = text; err = [] })) (record { shelf = shelf; out = out; err = err }) (record { shelf = shelf; out = out'; err = err }) status
+    → Runs (ends (record { status = accepted; out = text; err = [] })) (record { shelf = shelf; out = out; err = err })
+    (record { shelf = shelf; out = out'; err = err }) status
 written_here accepted status text shelf out out' err good written = inr (inr (inr (record {
   count = 0;
   answer = record { status = accepted; out = text; err = [] };
@@ -43,7 +46,8 @@ memory_here course shelf out err = inr (inr (inl (record {
   no_line = refl;
 })))
 
-module _ (name : List ℕ) (shelf mid shelf' : ShelfView) (out out' err mid_err err' : SinkView) (status : Status) (read : HasRead 1 shelf mid) (quiet : mid_err ≡ err) where
+module _ (name : List ℕ) (shelf mid shelf' : ShelfView) (out out' err mid_err err' : SinkView) (status : Status) (read : HasRead 1 shelf mid)
+    (quiet : mid_err ≡ err) where
   -- a document that was loaded
   module _ (next : List ℕ → profile.Document → Course) (doc : Document) (found : IsLoaded document_limits (option_map (bytes_under name) shelf.held) doc) where
     behind_it : Behind shelf.held (told_course name next) (next found.content found.found)
@@ -71,7 +75,8 @@ module _ (name : List ℕ) (shelf mid shelf' : ShelfView) (out out' err mid_err 
   behind_document next doc found further = behind_told (λ bytes f. next f) doc found further
 
   -- the same of a job that wants memory while it writes
-  pub pieces_behind_document : (next : profile.Document → Course) (doc : Document) (found : IsLoaded document_limits (option_map (bytes_under name) shelf.held) doc)
+  pub pieces_behind_document : (next : profile.Document → Course) (doc : Document)
+      (found : IsLoaded document_limits (option_map (bytes_under name) shelf.held) doc)
       → RunsInPieces (next found.found) (record { shelf = mid; out = out; err = mid_err }) (record { shelf = shelf'; out = out'; err = err' }) status
       → RunsInPieces (document_course name next) (record { shelf = shelf; out = out; err = err }) (record { shelf = shelf'; out = out'; err = err' }) status
   pieces_behind_document next doc found further = pieces_behind_told (λ bytes f. next f) doc found further
@@ -82,7 +87,8 @@ module _ (name : List ℕ) (shelf mid shelf' : ShelfView) (out out' err mid_err 
       → Runs (lists_course name next) (record { shelf = shelf; out = out; err = err }) (record { shelf = shelf'; out = out'; err = err' }) status
   behind_lists next lists found further =
       run_behind (lists_course name next) (by_lists name next (file_lists found.content)) shelf mid shelf' out out' err mid_err err' status
-      (behind_a_taking shelf.held list_limit name (refusal statuses.RulesRefused (too_long_line name)) (λ bytes. by_lists name next (file_lists bytes)) found.content
+      (behind_a_taking shelf.held list_limit name (refusal statuses.RulesRefused (too_long_line name))
+      (λ bytes. by_lists name next (file_lists bytes)) found.content
       found.of_file found.within) read quiet
       (subst (λ course. Runs course (record { shelf = mid; out = out; err = mid_err }) (record { shelf = shelf'; out = out'; err = err' }) status)
       (sym (ap (by_lists name next) found.are)) further)
@@ -96,7 +102,8 @@ ends_as_answered files (loads limits name refused next) n a (refused_at is fails
     sym (ap (by_result refused (λ found. answer_of (next (bytes_under name files) found) files)) (ap (document limits) (sym (is files refl)) ∙ fails))
 ends_as_answered files (loads limits name refused next) n a (loaded {content} {found} is fits further) =
     ends_as_answered files (next content found) _ a further
-    ∙ sym (subst (λ bytes. by_result refused (λ f. answer_of (next bytes f) files) (document limits bytes) ≡ answer_of (next content found) files) (is files refl)
+    ∙ sym (subst (λ bytes. by_result refused (λ f. answer_of (next bytes f) files) (document limits bytes) ≡ answer_of (next content found) files)
+    (is files refl)
     (ap (by_result refused (λ f. answer_of (next content f) files)) fits))
 ends_as_answered files (takes limit name too_long next) n a (too_long_at {content} is long) =
     sym (subst (λ bytes. by_test too_long (answer_of (next bytes) files) (is_within limit bytes) ≡ too_long) (is files refl)
@@ -109,10 +116,12 @@ ends_as_answered files (takes limit name too_long next) n a (taken {content} is 
 pub ends_behind_readings : (files : Files) (course : Course) (n : ℕ) (a : Answer) → EndsIn (Some files) course n a → n ≡ readings course files
 ends_behind_readings files (ends answer) n a at_end = refl
 ends_behind_readings files (loads limits name refused next) n a (refused_at is fails) =
-    sym (ap (λ r. suc (by_result (λ fault. 0) (λ found. readings (next (bytes_under name files) found) files) r)) (ap (document limits) (sym (is files refl)) ∙ fails))
+    sym (ap (λ r. suc (by_result (λ fault. 0) (λ found. readings (next (bytes_under name files) found) files) r)) (ap (document limits) (sym (is files refl)) ∙
+    fails))
 ends_behind_readings files (loads limits name refused next) n a (loaded {content} {found} is fits further) =
     ap suc (ends_behind_readings files (next content found) _ a further)
-    ∙ sym (subst (λ bytes. suc (by_result (λ fault. 0) (λ f. readings (next bytes f) files) (document limits bytes)) ≡ suc (readings (next content found) files))
+    ∙ sym (subst (λ bytes. suc (by_result (λ fault. 0) (λ f. readings (next bytes f) files) (document limits bytes)) ≡ suc
+    (readings (next content found) files))
     (is files refl) (ap (λ r. suc (by_result (λ fault. 0) (λ f. readings (next content f) files) r)) fits))
 ends_behind_readings files (takes limit name too_long next) n a (too_long_at {content} is long) =
     sym (subst (λ bytes. suc (by_test 0 (readings (next bytes) files) (is_within limit bytes)) ≡ 1) (is files refl)

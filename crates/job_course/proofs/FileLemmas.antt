@@ -1,5 +1,6 @@
 -- How a job ends at a file that can't be had.
-use Rattle.std.proofs.Common.{◌≡◌, ◌≢◌, ℕ, ◌<◌, ◌≤◌, List, [], ◌++◌, Option, Some, None, Result, Ok, Err, true, false, inl, inr, refl, ap, sym, subst, ◌∙◌, arith, option_map}
+use Rattle.std.proofs.Common.{◌≡◌, ◌≢◌, ℕ, ◌<◌, ◌≤◌, List, [], ◌++◌, Option, Some, None, Result, Ok, Err, true, false, inl, inr, refl, ap, sym, subst, ◌∙◌}
+use Rattle.std.proofs.Common.{arith, option_map}
 use Rattle.std.specs.Prelude.{length}
 use Rattle.std.proofs.lemmas.Bool.Decides.{nat_tests}
 use Rattle.inv_base.specs.Counts.{Rose}
@@ -22,7 +23,8 @@ use Rattle.xml_document.specs.Loading as documents
 use Rattle.xml_document.specs.Whole.{IsReadWhole, IsTooLong}
 use Rattle.job_course.specs.declared.status.Status.{Status}
 use Rattle.job_course.specs.declared.status.Status.TheVariants as statuses
-use Rattle.job_course.specs.Course.{Answer, Course, ends, loads, Stop, at_fault, past_limit, refusal, by_result, by_test, by_lists, is_within, document_limits, list_limit, told_course, taken_course, lists_course, readings, stopped_at}
+use Rattle.job_course.specs.Course.{Answer, Course, ends, loads, Stop, at_fault, past_limit, refusal, by_result, by_test, by_lists, is_within, document_limits}
+use Rattle.job_course.specs.Course.{list_limit, told_course, taken_course, lists_course, readings, stopped_at}
 use Rattle.job_course.specs.Documents.{IsDocumentRefusal}
 use Rattle.job_course.specs.Lines.{read_fault_line, document_line, list_line, too_long_line}
 use Rattle.job_course.specs.Outside.{Outside, HasRead, HasOpened, TakesOrFails, IsRefusedAnswer}
@@ -41,7 +43,8 @@ unfolding document
 is_no_document limits bytes fault is = ap (by_fault limits bytes) is
 
 -- What is told of a content is told of the file's, where the files are told.
-of_file : (name content : List ℕ) (held : Option Files) → WhereTold (option_map (bytes_under name) held) (λ bytes. content ≡ bytes) → IsContentOf held name content
+of_file : (name content : List ℕ) (held : Option Files) → WhereTold (option_map (bytes_under name) held) (λ bytes. content ≡ bytes) →
+    IsContentOf held name content
 of_file name content held whole files is = whole (bytes_under name files) (ap (option_map (bytes_under name)) is)
 
 is_short : (bytes : List ℕ) → length bytes ≤ list_limit → is_within list_limit bytes ≡ true
@@ -55,7 +58,8 @@ module _ (name : List ℕ) (shelf shelf' : ShelfView) (out err err' : SinkView) 
   after = record { shelf = shelf'; out = out; err = err' }
 
   -- The file of a reading can't be read.
-  pub unread_load : (limits : Limits) (refused : XmlFault → Answer) (next : List ℕ → profile.Document → Course) → HasOpened 1 shelf shelf' → Rose shelf.faults shelf'.faults
+  pub unread_load : (limits : Limits) (refused : XmlFault → Answer) (next : List ℕ → profile.Document → Course) → HasOpened 1 shelf shelf' →
+      Rose shelf.faults shelf'.faults
       → TakesOrFails (read_fault_line name) err err' → Runs (loads limits name refused next) before after statuses.ReadFault
   unread_load limits refused next opened rose takes = inr (inl (record {
     count = 1;
@@ -82,7 +86,8 @@ module _ (name : List ℕ) (shelf shelf' : ShelfView) (out err err' : SinkView) 
     stops_at : (files : Files) (stop : Stop) → shelf.held ≡ Some files → Some (at_fault limits name) ≡ Some stop → StopsThere stop files shelf'.left
     stops_at files stop is same =
         let stop_is : at_fault limits name ≡ stop = cc in
-        subst (λ (s : Stop). StopsThere s files shelf'.left) stop_is (subst (λ held. StopsInTime limits (option_map (bytes_under name) held) shelf'.left) is stops)
+        subst (λ (s : Stop). StopsThere s files shelf'.left) stop_is
+        (subst (λ held. StopsInTime limits (option_map (bytes_under name) held) shelf'.left) is stops)
 
     -- The file of a reading is no document.
     pub refused_load : IsRefusedAnswer refusing → HasRead 1 shelf shelf' → TakesOrFails (document_line name fault) err err'
@@ -102,7 +107,8 @@ module _ (name : List ℕ) (shelf shelf' : ShelfView) (out err err' : SinkView) 
     })
 
   -- Memory ran out in the first reading, which may have failed.
-  pub memory_inside : (course : Course) → ((files : Files) → 1 ≤ readings course files) → HasOpened 1 shelf shelf' → err' ≡ err → Runs course before after statuses.Memory
+  pub memory_inside : (course : Course) → ((files : Files) → 1 ≤ readings course files) → HasOpened 1 shelf shelf' → err' ≡ err →
+      Runs course before after statuses.Memory
   memory_inside course some opened quiet = inr (inr (inl (record {
     count = 1;
     told = refl;
@@ -112,7 +118,8 @@ module _ (name : List ℕ) (shelf shelf' : ShelfView) (out err err' : SinkView) 
     no_line = quiet;
   })))
 
-  pub memory_in : (course : Course) → ((files : Files) → 1 ≤ readings course files) → HasRead 1 shelf shelf' → err' ≡ err → Runs course before after statuses.Memory
+  pub memory_in : (course : Course) → ((files : Files) → 1 ≤ readings course files) → HasRead 1 shelf shelf' → err' ≡ err →
+      Runs course before after statuses.Memory
   memory_in course some read quiet = memory_inside course some (record { held = read.held; opens = read.opens; rises = omega (arith, read.faults) }) quiet
 
   module _ (next : List ℕ → profile.Document → Course) where
@@ -171,7 +178,8 @@ module _ (name : List ℕ) (shelf shelf' : ShelfView) (out err err' : SinkView) 
       → Some (past_limit list_limit name) ≡ Some stop → StopsThere stop files shelf'.left
   long_stops files stop found is same =
       let stop_is : past_limit list_limit name ≡ stop = cc in
-      subst (λ (s : Stop). StopsThere s files shelf'.left) stop_is (subst (λ held. IsTooLong list_limit (option_map (bytes_under name) held) shelf'.left) is found)
+      subst (λ (s : Stop). StopsThere s files shelf'.left) stop_is
+      (subst (λ held. IsTooLong list_limit (option_map (bytes_under name) held) shelf'.left) is found)
 
   pub long_file : HasRead 1 shelf shelf' → IsTooLong list_limit (option_map (bytes_under name) shelf.held) shelf'.left
       → TakesOrFails (too_long_line name) err err' → (next : List ℕ → Course) → Runs (taken_course name next) before after statuses.RulesRefused
@@ -193,7 +201,8 @@ module _ (name : List ℕ) (shelf shelf' : ShelfView) (out err err' : SinkView) 
       })
 
 -- A refusal that ends a course, whatever was read before.
-pub refused_here : (status : Status) (line : List ℕ) (shelf : ShelfView) (out err err' : SinkView) → IsRefusedAnswer status → TakesOrFails line err err' → Runs (ends (refusal status line)) (record { shelf = shelf; out = out; err = err }) (record { shelf = shelf; out = out; err = err' }) status
+pub refused_here : (status : Status) (line : List ℕ) (shelf : ShelfView) (out err err' : SinkView) → IsRefusedAnswer status → TakesOrFails line err err' →
+    Runs (ends (refusal status line)) (record { shelf = shelf; out = out; err = err }) (record { shelf = shelf; out = out; err = err' }) status
 refused_here status line shelf out err err' refuses takes = inl (record {
   count = 0;
   answer = refusal status line;
@@ -209,13 +218,15 @@ refused_here status line shelf out err err' refuses takes = inl (record {
 
 module _ (name : List ℕ) (shelf shelf' : ShelfView) (out err err' : SinkView) where
   -- what follows behind the bytes of a file
-  behind_bytes : (mid : ShelfView) (mid_err : SinkView) → HasRead 1 shelf mid → mid_err ≡ err → (bytes : List ℕ) → IsReadWhole list_limit (option_map (bytes_under name) shelf.held) bytes
+  behind_bytes : (mid : ShelfView) (mid_err : SinkView) → HasRead 1 shelf mid → mid_err ≡ err → (bytes : List ℕ) →
+      IsReadWhole list_limit (option_map (bytes_under name) shelf.held) bytes
       → (next : List ℕ → Course) (out' : SinkView) (status : Status)
       → Runs (next bytes) (record { shelf = mid; out = out; err = mid_err }) (record { shelf = shelf'; out = out'; err = err' }) status
       → Runs (taken_course name next) (record { shelf = shelf; out = out; err = err }) (record { shelf = shelf'; out = out'; err = err' }) status
   behind_bytes mid mid_err read quiet bytes found next out' status further =
       run_behind (taken_course name next) (next bytes) shelf mid shelf' out out' err mid_err err' status
-      (behind_a_taking shelf.held list_limit name (refusal statuses.RulesRefused (too_long_line name)) next bytes (of_file name bytes shelf.held found.whole) (is_short bytes found.within))
+      (behind_a_taking shelf.held list_limit name (refusal statuses.RulesRefused (too_long_line name)) next bytes (of_file name bytes shelf.held found.whole)
+      (is_short bytes found.within))
       read quiet further
 
   pub are_listed : (bytes : List ℕ) (lists : Lists) → IsReadWhole list_limit (option_map (bytes_under name) shelf.held) bytes → file_lists bytes ≡ Ok lists
@@ -233,7 +244,8 @@ pub taken_goes_on : (name : List ℕ) (shelf mid : ShelfView) (err mid_err : Sin
 taken_goes_on name shelf mid err mid_err read quiet bytes found = λ next shelf' out out' err' status further.
     behind_bytes name shelf shelf' out err err' mid mid_err read quiet bytes found next out' status further
 
-module _ (name : List ℕ) (shelf shelf' : ShelfView) (out err mid_err err' : SinkView) (bytes : List ℕ) (goes_on : Continues (taken_course name) bytes shelf shelf' err mid_err) where
+module _ (name : List ℕ) (shelf shelf' : ShelfView) (out err mid_err err' : SinkView) (bytes : List ℕ)
+    (goes_on : Continues (taken_course name) bytes shelf shelf' err mid_err) where
   -- the lists of a file are refused behind the reading of it
   refused_lists : (next : Lists → Course) (fault : ListFault) → file_lists bytes ≡ Err fault → TakesOrFails (list_line name fault) mid_err err'
       → Runs (lists_course name next) (record { shelf = shelf; out = out; err = err }) (record { shelf = shelf'; out = out; err = err' }) statuses.RulesRefused
@@ -241,7 +253,8 @@ module _ (name : List ℕ) (shelf shelf' : ShelfView) (out err mid_err err' : Si
       let refused = refused_here statuses.RulesRefused (list_line name fault) shelf' out mid_err err' tt takes in
       let next_is : by_lists name next (file_lists bytes) ≡ ends (refusal statuses.RulesRefused (list_line name fault)) = ap (by_lists name next) fails in
       goes_on (λ bytes. by_lists name next (file_lists bytes)) shelf' out out err' statuses.RulesRefused
-      (subst (λ course. Runs course (record { shelf = shelf'; out = out; err = mid_err }) (record { shelf = shelf'; out = out; err = err' }) statuses.RulesRefused) (sym next_is) refused)
+      (subst (λ course. Runs course (record { shelf = shelf'; out = out; err = mid_err })
+      (record { shelf = shelf'; out = out; err = err' }) statuses.RulesRefused) (sym next_is) refused)
 
   pub lists_failed : (next : Lists → Course) (fault : ListFault) (status : Status) → HasRead 1 shelf shelf' → mid_err ≡ err
       → (fault ≢ list_faults.Memory → file_lists bytes ≡ Err fault) → IsListRefusal fault name status mid_err err'

@@ -11,7 +11,8 @@ use Rattle.xml_profile.specs.Profile as profile
 use Rattle.job_course.specs.declared.status.Status.{Status}
 use Rattle.job_course.specs.Course.{Answer, Course, loads, takes, at_fault, past_limit, by_result, by_test, answer_of, readings, stopped_at, is_within}
 use Rattle.job_course.specs.Outside.{Outside, counted, HasRead, HasOpened}
-use Rattle.job_course.specs.Runs.{IsContentOf, EndsIn, loaded, taken, ReadsAt, behind_load, behind_taking, IsRefused, IsUnread, IsOutOfMemory, IsCut, IsWritten, Runs, RunsInPieces}
+use Rattle.job_course.specs.Runs.{IsContentOf, EndsIn, loaded, taken, ReadsAt, behind_load, behind_taking, IsRefused, IsUnread, IsOutOfMemory, IsCut, IsWritten}
+use Rattle.job_course.specs.Runs.{Runs, RunsInPieces}
 
 -- so many more
 abbrev pub added : ℕ → ℕ → ℕ
@@ -38,15 +39,19 @@ pub record BehindAll (held : Option Files) (k : ℕ) (whole next : Course) : Typ
 abbrev pub Behind : Option Files → Course → Course → Type 0
 Behind held whole next = BehindAll held 1 whole next
 
-pub behind_a_load : (held : Option Files) (limits : Limits) (name : List ℕ) (refused : XmlFault → Answer) (next : List ℕ → profile.Document → Course) (content : List ℕ)
-    (found : profile.Document) → IsContentOf held name content → document limits content ≡ Ok found → Behind held (loads limits name refused next) (next content found)
+pub behind_a_load : (held : Option Files) (limits : Limits) (name : List ℕ) (refused : XmlFault → Answer) (next : List ℕ → profile.Document → Course)
+    (content : List ℕ)
+    (found : profile.Document) → IsContentOf held name content → document limits content ≡ Ok found →
+    Behind held (loads limits name refused next) (next content found)
 behind_a_load held limits name refused next content found of_file is =
     record {
       ends_in = λ n answer further. loaded of_file is further;
       reads_at = λ n file further. behind_load of_file is further;
-      answers = λ files told. subst (λ bytes. by_result refused (λ f. answer_of (next bytes f) files) (document limits bytes) ≡ answer_of (next content found) files)
+      answers = λ files told. subst (λ bytes. by_result refused (λ f. answer_of (next bytes f) files) (document limits bytes) ≡ answer_of
+          (next content found) files)
           (of_file files told) (ap (by_result refused (λ f. answer_of (next content f) files)) is);
-      reads = λ files told. subst (λ bytes. suc (by_result (λ fault. 0) (λ f. readings (next bytes f) files) (document limits bytes)) ≡ suc (readings (next content found) files))
+      reads = λ files told. subst (λ bytes. suc (by_result (λ fault. 0) (λ f. readings (next bytes f) files) (document limits bytes)) ≡ suc
+          (readings (next content found) files))
           (of_file files told) (ap (λ r. suc (by_result (λ fault. 0) (λ f. readings (next content f) files) r)) is);
       stops = λ files told. subst (λ bytes. by_result (λ fault. Some (at_fault limits name)) (λ f. stopped_at (next bytes f) files) (document limits bytes)
           ≡ stopped_at (next content found) files)
@@ -59,11 +64,14 @@ behind_a_taking held limit name too_long next content of_file within =
     record {
       ends_in = λ n answer further. taken of_file within further;
       reads_at = λ n file further. behind_taking of_file within further;
-      answers = λ files told. subst (λ bytes. by_test too_long (answer_of (next bytes) files) (is_within limit bytes) ≡ answer_of (next content) files) (of_file files told)
+      answers = λ files told. subst (λ bytes. by_test too_long (answer_of (next bytes) files) (is_within limit bytes) ≡ answer_of (next content) files)
+          (of_file files told)
           (ap (by_test too_long (answer_of (next content) files)) within);
-      reads = λ files told. subst (λ bytes. suc (by_test 0 (readings (next bytes) files) (is_within limit bytes)) ≡ suc (readings (next content) files)) (of_file files told)
+      reads = λ files told. subst (λ bytes. suc (by_test 0 (readings (next bytes) files) (is_within limit bytes)) ≡ suc (readings (next content) files))
+          (of_file files told)
           (ap (λ b. suc (by_test 0 (readings (next content) files) b)) within);
-      stops = λ files told. subst (λ bytes. by_test (Some (past_limit limit name)) (stopped_at (next bytes) files) (is_within limit bytes) ≡ stopped_at (next content) files) (of_file files told)
+      stops = λ files told. subst (λ bytes. by_test (Some (past_limit limit name)) (stopped_at (next bytes) files) (is_within limit bytes) ≡ stopped_at
+          (next content) files) (of_file files told)
           (ap (by_test (Some (past_limit limit name)) (stopped_at (next content) files)) within);
     }
 
@@ -78,7 +86,8 @@ behind_nothing held course = record {
 }
 
 -- One file is read, and then others.
-pub behind_more : (held : Option Files) (k : ℕ) (whole mid next : Course) → Behind held whole mid → BehindAll held k mid next → BehindAll held (suc k) whole next
+pub behind_more : (held : Option Files) (k : ℕ) (whole mid next : Course) → Behind held whole mid → BehindAll held k mid next →
+    BehindAll held (suc k) whole next
 behind_more held k whole mid next first others = record {
   ends_in = λ n answer further. first.ends_in (added k n) answer (others.ends_in n answer further);
   reads_at = λ n file further. first.reads_at (added k n) file (others.reads_at n file further);
@@ -87,7 +96,8 @@ behind_more held k whole mid next first others = record {
   stops = λ files told. first.stops files told ∙ others.stops files told;
 }
 
-module _ (whole next : Course) (k : ℕ) (shelf mid shelf' : ShelfView) (out out' err err' : SinkView) (behind : BehindAll shelf.held k whole next) (read : HasRead k shelf mid) where
+module _ (whole next : Course) (k : ℕ) (shelf mid shelf' : ShelfView) (out out' err err' : SinkView) (behind : BehindAll shelf.held k whole next)
+    (read : HasRead k shelf mid) where
   abbrev before : Outside
   before = record { shelf = shelf; out = out; err = err }
 
@@ -162,7 +172,8 @@ module _ (whole next : Course) (k : ℕ) (shelf mid shelf' : ShelfView) (out out
     few = few_all r.count r.few;
     read = has_read r.count r.read;
     quiet = r.quiet;
-    front = λ files is. subst (λ (a : Answer). (front : List ℕ) × IsFront front a.out × (out'.told ≡ appended front out.told)) (sym (behind.answers files is)) (r.front files (read.held ∙ is));
+    front = λ files is. subst (λ (a : Answer). (front : List ℕ) × IsFront front a.out × (out'.told ≡ appended front out.told)) (sym (behind.answers files is))
+        (r.front files (read.held ∙ is));
     no_line = r.no_line;
   }
 
@@ -185,7 +196,8 @@ module _ (whole next : Course) (k : ℕ) (shelf mid shelf' : ShelfView) (out out
   joined status (inr (inr (inr r))) = inr (inr (inr (written status r)))
 
 -- A run of what follows behind readings, which left the outputs as they were, is a run of the whole.
-pub run_behind_all : (whole next : Course) (k : ℕ) (shelf mid shelf' : ShelfView) (out out' err mid_err err' : SinkView) (status : Status) → BehindAll shelf.held k whole next
+pub run_behind_all : (whole next : Course) (k : ℕ) (shelf mid shelf' : ShelfView) (out out' err mid_err err' : SinkView) (status : Status) →
+    BehindAll shelf.held k whole next
     → HasRead k shelf mid → mid_err ≡ err
     → Runs next (record { shelf = mid; out = out; err = mid_err }) (record { shelf = shelf'; out = out'; err = err' }) status
     → Runs whole (record { shelf = shelf; out = out; err = err }) (record { shelf = shelf'; out = out'; err = err' }) status

@@ -51,7 +51,8 @@ leads_behind : (held : Option Files) (a b : Readings) (n : ℕ) (next : Result S
 leads_behind held a b n next here = behind_nothing held (library_by a next)
 leads_behind held (reads name more) b n next (read {content} {found} {n = m} whole is further) =
     behind_more held m (library_by (reads name more) next) (library_by (more (length content) found) next) (library_by b next)
-    (behind_a_load held rule_limits name (λ fault. refusal statuses.RulesRefused (document_line name fault)) (λ bytes f. library_by (more (length bytes) f) next)
+    (behind_a_load held rule_limits name (λ fault. refusal statuses.RulesRefused (document_line name fault))
+    (λ bytes f. library_by (more (length bytes) f) next)
     content found (told_of held name content whole) is)
     (leads_behind held (more (length content) found) b m next further)
 

@@ -69,7 +69,8 @@ pub data Stop : Type 0 where
 abbrev pub stopped_at : Course → Files → Option Stop
 stopped_at (ends answer) files = None
 stopped_at (loads limits name refused next) files =
-    by_result (λ fault. Some (at_fault limits name)) (λ found. stopped_at (next (bytes_under name files) found) files) (document limits (bytes_under name files))
+    by_result (λ fault. Some (at_fault limits name)) (λ found. stopped_at (next (bytes_under name files) found) files)
+    (document limits (bytes_under name files))
 stopped_at (takes limit name too_long next) files =
     by_test (Some (past_limit limit name)) (stopped_at (next (bytes_under name files)) files) (is_within limit (bytes_under name files))
 

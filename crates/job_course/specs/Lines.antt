@@ -84,4 +84,5 @@ load_end_text loads.TooManyNames = codes " -\n"
 load_end_text loads.Memory = codes "\n"
 
 abbrev pub load_line : Fault → List ℕ
-load_line fault = codes "einv: " ++ (fault.file ++ (codes ": " ++ (load_kind_text fault.kind ++ (codes " at " ++ (decimal fault.place ++ load_end_text fault.kind)))))
+load_line fault = codes "einv: " ++
+    (fault.file ++ (codes ": " ++ (load_kind_text fault.kind ++ (codes " at " ++ (decimal fault.place ++ load_end_text fault.kind)))))

@@ -41,7 +41,8 @@ pub data EndsIn (held : Option Files) : Course → ℕ → Answer → Type 0 whe
   at_end : {answer : Answer} → EndsIn held (ends answer) 0 answer
   refused_at : {limits : Limits} {name : List ℕ} {refused : XmlFault → Answer} {next : List ℕ → profile.Document → Course} {content : List ℕ} {fault : XmlFault}
       → IsContentOf held name content → document limits content ≡ Err fault → EndsIn held (loads limits name refused next) 1 (refused fault)
-  loaded : {limits : Limits} {name : List ℕ} {refused : XmlFault → Answer} {next : List ℕ → profile.Document → Course} {content : List ℕ} {found : profile.Document}
+  loaded : {limits : Limits} {name : List ℕ} {refused : XmlFault → Answer} {next : List ℕ → profile.Document →
+      Course} {content : List ℕ} {found : profile.Document}
       {n : ℕ} {answer : Answer}
       → IsContentOf held name content → document limits content ≡ Ok found → EndsIn held (next content found) n answer
       → EndsIn held (loads limits name refused next) (suc n) answer
@@ -127,12 +128,14 @@ pub record IsWritten (course : Course) (before after : Outside) (status : Status
   pub accepted : IsAccepted answer.status
   pub silent : answer.err ≡ []
   pub read : HasRead count before.shelf after.shelf
-  pub written : ((status ≡ answer.status) × WritesAll answer.out before.out after.out) ⊎ ((status ≡ statuses.WriteFault) × WritesFront answer.out before.out after.out)
+  pub written : ((status ≡ answer.status) × WritesAll answer.out before.out after.out) ⊎
+      ((status ≡ statuses.WriteFault) × WritesFront answer.out before.out after.out)
   pub no_line : after.err ≡ before.err
 
 abbrev pub Runs : Course → Outside → Outside → Status → Type 0
 Runs course before after status =
-    IsRefused course before after status ⊎ (IsUnread course before after status ⊎ (IsOutOfMemory course before after status ⊎ IsWritten course before after status))
+    IsRefused course before after status ⊎ (IsUnread course before after status ⊎
+    (IsOutOfMemory course before after status ⊎ IsWritten course before after status))
 
 -- The same of a job that wants memory while it writes.
 abbrev pub RunsInPieces : Course → Outside → Outside → Status → Type 0

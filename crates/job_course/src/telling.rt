@@ -1,5 +1,6 @@
 ghost use Rattle.job_course.specs.Outside.{TakesOrFails};
-ghost use Rattle.job_course.specs.Lines.{bad_word_line, read_fault_line, document_line, kind_text, load_line, load_kind_text, load_end_text, list_line, list_fault_text, too_long_line};
+ghost use Rattle.job_course.specs.Lines.{bad_word_line, read_fault_line, document_line, kind_text, load_line, load_kind_text, load_end_text, list_line};
+ghost use Rattle.job_course.specs.Lines.{list_fault_text, too_long_line};
 ghost use Rattle.inv_base.specs.Printing.{Prints};
 ghost use Rattle.std.specs.Prelude.{◌≡◌};
 

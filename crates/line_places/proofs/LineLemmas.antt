@@ -1,5 +1,7 @@
 -- Line feeds in pieces, and the line and the column of a place by the starts of lines.
-use Rattle.std.proofs.Common.{◌≡◌, ℕ, ◌+◌, ◌-◌, ◌<◌, ◌≤◌, zero, suc, Bool, true, false, List, [], ◌∷◌, ◌++◌, length, get_or, take, drop, nat_le, append_assoc, append-nil, length-append, refl, sym, ap, subst, ◌∙◌, if◌then◌else◌, cond, not, arith, length-drop, option_map, Option, Some, None}
+use Rattle.std.proofs.Common.{◌≡◌, ℕ, ◌+◌, ◌-◌, ◌<◌, ◌≤◌, zero, suc, Bool, true, false, List, [], ◌∷◌, ◌++◌, length, get_or, take, drop, nat_le, append_assoc}
+use Rattle.std.proofs.Common.{append-nil, length-append, refl, sym, ap, subst, ◌∙◌, if◌then◌else◌, cond, not, arith, length-drop, option_map, Option, Some}
+use Rattle.std.proofs.Common.{None}
 use Rattle.std.specs.Prelude.{position, min, nat_lt}
 use Rattle.std.specs.List.{position_or_len}
 use Rattle.std.proofs.lemmas.List.{take_all}
@@ -25,7 +27,8 @@ none_more : (n : ℕ) → n ≡ 0 + n
 none_more n = omega arith
 
 -- The lines behind a piece are those of the content with the piece behind it.
-pub lines_behind : (piece : List ℕ) (before after : Lines) → Gives piece before after → (content : List ℕ) → AreLinesOf before content → AreLinesOf after (content ++ piece)
+pub lines_behind : (piece : List ℕ) (before after : Lines) → Gives piece before after → (content : List ℕ) → AreLinesOf before content →
+    AreLinesOf after (content ++ piece)
 lines_behind piece before after gives content are = record {
   starts = gives.starts ∙ (ap (λ xs. xs ++ starts_from before.length piece) are.starts
       ∙ (ap (λ n. starts_from 0 content ++ starts_from n piece) (are.counted ∙ none_more (length content)) ∙ sym (starts_append 0 content piece)));
@@ -42,7 +45,8 @@ found_at place (x ∷ xs) k is few = by (is_feed x) (λ m same within. found_at 
     next = omega arith
 
     by : (t : Bool)
-        → ((m : ℕ) → position_or_len is_feed xs ≡ m → m < length xs → starts_from (suc place) xs ≡ (suc place + suc m) ∷ starts_from (suc place + suc m) (drop (suc m) xs))
+        → ((m : ℕ) → position_or_len is_feed xs ≡ m → m < length xs → starts_from (suc place) xs ≡ (suc place + suc m) ∷ starts_from (suc place + suc m)
+        (drop (suc m) xs))
         → cond (not t) (1 + position_or_len is_feed xs) 0 ≡ k
         → (if t then suc place ∷ starts_from (suc place) xs else starts_from (suc place) xs) ≡ (place + suc k) ∷ starts_from (place + suc k) (drop k xs)
     by true others first = subst (λ n. suc place ∷ starts_from (suc place) xs ≡ (place + suc n) ∷ starts_from (place + suc n) (drop n xs)) first
@@ -58,7 +62,8 @@ none_at : (place : ℕ) (xs : List ℕ) → length xs ≤ position_or_len is_fee
 none_at place [] past = refl
 none_at place (x ∷ xs) past = by (is_feed x) (none_at (suc place) xs) past
   where
-    by : (t : Bool) → (length xs ≤ position_or_len is_feed xs → starts_from (suc place) xs ≡ []) → suc (length xs) ≤ cond (not t) (1 + position_or_len is_feed xs) 0
+    by : (t : Bool) → (length xs ≤ position_or_len is_feed xs → starts_from (suc place) xs ≡ []) →
+        suc (length xs) ≤ cond (not t) (1 + position_or_len is_feed xs) 0
         → (if t then suc place ∷ starts_from (suc place) xs else starts_from (suc place) xs) ≡ []
     by true others past = absurd (omega (arith, past))
     by false others past = others (omega (arith, past))
@@ -122,7 +127,8 @@ giving_more piece rest behind begun now after len so_far found ends is =
           ∙ (ap (λ n. now.starts ++ ((now.length + len) ∷ starts_from n behind)) ends.counted
           ∙ (ap (λ bytes. now.starts ++ ((now.length + len) ∷ starts_from (now.length + len) bytes)) is
           ∙ (ap (λ xs. now.starts ++ xs) (sym first.1) ∙ so_far.starts))));
-      counted = let left : length behind ≡ length rest - len = ap length is ∙ length-drop len rest in omega (arith, left, ends.counted, first.0, so_far.counted);
+      counted = let left : length behind ≡ length rest - len = ap length is ∙ length-drop len rest in
+          omega (arith, left, ends.counted, first.0, so_far.counted);
     }
 
 pub giving_end : (piece rest : List ℕ) (begun now after : Lines) (len : ℕ) → Giving piece rest begun now
@@ -142,7 +148,8 @@ none_yet at place (b ∷ content) before = by (is_feed b) (none_yet (suc at) pla
     past : leb (suc at) place ≡ false
     past = grind (arith, nat_tests, before)
 
-    by : (t : Bool) → count_to place (starts_from (suc at) content) ≡ 0 → count_to place (if t then suc at ∷ starts_from (suc at) content else starts_from (suc at) content) ≡ 0
+    by : (t : Bool) → count_to place (starts_from (suc at) content) ≡ 0 →
+        count_to place (if t then suc at ∷ starts_from (suc at) content else starts_from (suc at) content) ≡ 0
     by true others = rw past others
     by false others = others
 

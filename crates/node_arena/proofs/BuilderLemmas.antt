@@ -1,5 +1,6 @@
 -- What a builder keeps behind one call more.
-use Rattle.std.proofs.Common.{◌≡◌, ℕ, ◌+◌, ◌-◌, ◌<◌, Bool, true, false, ◌==◌, cond, zero, suc, List, [], ◌∷◌, ◌++◌, length, get_or, Option, Some, None, OnSome, chars, IsUtf8, is_some, refl, ap, sym, ◌∙◌, append-nil, append_assoc, arith}
+use Rattle.std.proofs.Common.{◌≡◌, ℕ, ◌+◌, ◌-◌, ◌<◌, Bool, true, false, ◌==◌, cond, zero, suc, List, [], ◌∷◌, ◌++◌, length, get_or, Option, Some, None, OnSome}
+use Rattle.std.proofs.Common.{chars, IsUtf8, is_some, refl, ap, sym, ◌∙◌, append-nil, append_assoc, arith}
 use Rattle.std.proofs.lemmas.Str.{chars-nil}
 use Rattle.std.proofs.lemmas.List.{length_push}
 use Rattle.std.proofs.lemmas.Bool.{false≢true}
@@ -50,7 +51,8 @@ pub copied_alone : (lent text placed : List ℕ) → lent ≡ [] → placed ≡ 
 copied_alone lent text placed none same = ap chars same ∙ ap (λ first. first ++ chars text) (sym (ap chars none ∙ chars-nil))
 
 -- both
-pub lent_joined : (lent text whole placed : List ℕ) → whole ≡ lent ++ text → placed ≡ whole → IsUtf8 lent → IsUtf8 text → chars placed ≡ chars lent ++ chars text
+pub lent_joined : (lent text whole placed : List ℕ) → whole ≡ lent ++ text → placed ≡ whole → IsUtf8 lent → IsUtf8 text → chars placed ≡ chars lent ++
+    chars text
 lent_joined lent text whole placed joined same u v = ap chars (same ∙ joined) ∙ chars-append lent text u v
 
 -- an element behind the nodes
@@ -62,7 +64,8 @@ started mid new nodes around around_new open_nodes text name place number so_far
     let all : List Placed → List ℕ → List ℕ → Built = λ before inside characters.
     as_built (before ++ node_behind before inside kinds.Element (Some name) characters place ∷ []) (length before ∷ inside) false in
     ap (λ before. as_built before around_new false) (append-nil new ∙ push)
-    ∙ (ap (λ opening. as_built (mid ++ node_behind mid around kinds.Element (Some name) (chars text) place ∷ []) opening false) (opened ∙ ap (λ n. n ∷ around) is)
+    ∙ (ap (λ opening. as_built (mid ++ node_behind mid around kinds.Element (Some name) (chars text) place ∷ []) opening false)
+    (opened ∙ ap (λ n. n ∷ around) is)
     ∙ (ap (all mid around) (ap chars none ∙ chars-nil) ∙ (ap (λ before. all before around []) so_far ∙ ap (λ inner. all nodes inner []) inside)))
 
 -- an attribute behind the nodes
@@ -122,7 +125,8 @@ count_text slots open_nodes text place p n all is =
 
 pub count_none : (slots : List Slot) (open_nodes text : List ℕ) (place : Option Place) (n : ℕ) → n ≡ length slots → place ≡ None
     → n ≡ length (kept slots ++ text_nodes (kept slots) open_nodes text place)
-count_none slots open_nodes text place n all is = let e : n ≡ length (kept slots ++ []) = omega (arith, kept_length slots, ap length (append-nil (kept slots))) in rw is e
+count_none slots open_nodes text place n all is = let e : n ≡ length (kept slots ++ []) =
+    omega (arith, kept_length slots, ap length (append-nil (kept slots))) in rw is e
 
 -- the place of the last node
 pub last_place-kept : (slots : List Slot) (slot : Slot) → 0 < length slots → slot ≡ get_or slots (length slots - 1) slot

@@ -39,7 +39,8 @@ built-with_event events e = built_from-with_event begun events e
 pub Takes-after : (b c : Built) (e : Event) → c ≡ after e b → (events : List Event) → b ≡ built events → c ≡ built (with_event events e)
 Takes-after b c e is events so_far = is ∙ (ap (after e) so_far ∙ sym (built-with_event events e))
 
-pub takes-builds : {T E : Type 0} (result : Result T E) (b c : Built) (e : Event) → Builds result e b c → Takes result e (λ events. b ≡ built events) (λ events. c ≡ built events)
+pub takes-builds : {T E : Type 0} (result : Result T E) (b c : Built) (e : Event) → Builds result e b c →
+    Takes result e (λ events. b ≡ built events) (λ events. c ≡ built events)
 takes-builds (Ok x) b c e is = Takes-after b c e is
 takes-builds (Err f) b c e is = λ events so_far. is ∙ so_far
 

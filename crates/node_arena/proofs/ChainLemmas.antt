@@ -1,6 +1,7 @@
 -- Chains that are linked from the last node back.
 use Rattle.std.proofs.Common.{◌≡◌, ℕ, ◌+◌, ◌<◌, ◌≤◌, cond, List, length, drop, set, get_or, replicate, Option, Some, None, refl, ap, sym, ◌∙◌, arith, ⊎_elim}
-use Rattle.std.proofs.lemmas.List.{drop_more, drop_all, length-replicate, get_or-replicate, length-map, length-set, get_or-map, get_or-set_same, get_or-set_other, get_or_read}
+use Rattle.std.proofs.lemmas.List.{drop_more, drop_all, length-replicate, get_or-replicate, length-map, length-set, get_or-map, get_or-set_same}
+use Rattle.std.proofs.lemmas.List.{get_or-set_other, get_or_read}
 use Rattle.std.proofs.lemmas.Bool.{eq-eqb, ne_eqb, cases_eq}
 use Rattle.node_arena.specs.Document.{document_node, node_at}
 use Rattle.node_arena.specs.Keys.{key_of, has_key, first_keyed, next_keyed, keys}
@@ -38,8 +39,10 @@ module _ (keyed initial first next : List (Option ℕ)) (old n : ℕ) (linking :
   firsts : (key : ℕ) → key < length first → get_or first key None ≡ first_keyed key (n + 1) (drop (n + 1) keyed)
   firsts key h = linking.first_are key h ∙ ap (λ m. first_keyed key m (drop m keyed)) step
 
-  from_here : (key : ℕ) (k : Option ℕ) → get_or keyed n None ≡ k → first_keyed key n (drop n keyed) ≡ cond (has_key key k) (Some n) (first_keyed key (n + 1) (drop (n + 1) keyed))
-  from_here key k is = ap (first_keyed key n) (drop_more keyed n None within) ∙ ap (λ o. cond (has_key key o) (Some n) (first_keyed key (n + 1) (drop (n + 1) keyed))) is
+  from_here : (key : ℕ) (k : Option ℕ) → get_or keyed n None ≡ k →
+      first_keyed key n (drop n keyed) ≡ cond (has_key key k) (Some n) (first_keyed key (n + 1) (drop (n + 1) keyed))
+  from_here key k is = ap (first_keyed key n) (drop_more keyed n None within) ∙
+      ap (λ o. cond (has_key key o) (Some n) (first_keyed key (n + 1) (drop (n + 1) keyed))) is
 
   -- a node that is on no chain
   pub linking-none : get_or keyed n None ≡ None → IsLinking keyed initial first next n

@@ -1,5 +1,6 @@
 -- A chain of a name's number is one of its expanded name.
-use Rattle.std.proofs.Common.{◌≡◌, ℕ, ◌<◌, Bool, true, false, cond, ◌==◌, List, [], ◌∷◌, map, filter, length, Option, Some, None, refl, ap, sym, ◌∙◌, zero, suc, ◌+◌, drop, find, option_map, subst, ⊎_elim, arith}
+use Rattle.std.proofs.Common.{◌≡◌, ℕ, ◌<◌, Bool, true, false, cond, ◌==◌, List, [], ◌∷◌, map, filter, length, Option, Some, None, refl, ap, sym, ◌∙◌, zero, suc}
+use Rattle.std.proofs.Common.{◌+◌, drop, find, option_map, subst, ⊎_elim, arith}
 use Rattle.std.specs.Option.{ForSome}
 use Rattle.std.proofs.lemmas.Bool.{eqb-true, eq-eqb, and_parts, and_from, cases_Bool}
 use Rattle.std.proofs.lemmas.List.{drop-map, get_or-map}
@@ -20,7 +21,8 @@ same_is a b e =
     ap (λ x. both x a.local) uri ∙ ap (both b.uri) local
 
 is_same : (a b : Name) → a ≡ b → same_name a b ≡ true
-is_same a b e = and_from _ _ ((bytes_eq-Decides a.uri b.uri).1 (ap (λ (n : Name). n.uri) e)) ((bytes_eq-Decides a.local b.local).1 (ap (λ (n : Name). n.local) e))
+is_same a b e = and_from _ _ ((bytes_eq-Decides a.uri b.uri).1 (ap (λ (n : Name). n.uri) e))
+    ((bytes_eq-Decides a.local b.local).1 (ap (λ (n : Name). n.local) e))
 
 one_answer : (a b : Bool) → (a ≡ true → b ≡ true) → (b ≡ true → a ≡ true) → a ≡ b
 one_answer true b f g = sym (f refl)
@@ -29,7 +31,8 @@ one_answer false false f g = refl
 
 module _ (names : List Name) (distinct : AreDistinct names) (name : ℕ) (within : name < length names) where
   same_test : (o : Option ℕ) → ForSome o (λ k. k < length names)
-      → (elim o as (λ _. Bool) [ None ↦ false | Some k ↦ k == name ]) ≡ (elim (option_map (name_at names) o) as (λ _. Bool) [ None ↦ false | Some n ↦ same_name n (name_at names name) ])
+      → (elim o as (λ _. Bool) [ None ↦ false | Some k ↦ k == name ]) ≡ (elim (option_map (name_at names) o) as
+      (λ _. Bool) [ None ↦ false | Some n ↦ same_name n (name_at names name) ])
   same_test None h = refl
   same_test (Some k) h =
       one_answer (k == name) (same_name (name_at names k) (name_at names name))
@@ -37,20 +40,24 @@ module _ (names : List Name) (distinct : AreDistinct names) (name : ℕ) (within
       (λ e. eq-eqb k name (distinct k name (h k refl) within (same_is (name_at names k) (name_at names name) e)))
 
   filtered : (nodes : List Placed) → AreNamed (length names) nodes
-      → map (λ (node : Placed). node.number) (filter (is_named name) nodes) ≡ map (λ (node : Node). node.number) (filter (has_name (name_at names name)) (map (node_of names) nodes))
+      → map (λ (node : Placed). node.number) (filter (is_named name) nodes) ≡ map (λ (node : Node). node.number)
+      (filter (has_name (name_at names name)) (map (node_of names) nodes))
   filtered [] h = refl
   filtered (node ∷ nodes) h =
       let rest = filter (has_name (name_at names name)) (map (node_of names) nodes) in
-      both_ways (is_named name node) (has_name (name_at names name) (node_of names node)) node (filter (is_named name) nodes) rest (same_test node.name h.0) (filtered nodes h.1)
+      both_ways (is_named name node) (has_name (name_at names name) (node_of names node)) node (filter (is_named name) nodes) rest (same_test node.name h.0)
+      (filtered nodes h.1)
     where
-      both_ways : (a b : Bool) (node : Placed) (placed : List Placed) (rest : List Node) → a ≡ b → map (λ (n : Placed). n.number) placed ≡ map (λ (n : Node). n.number) rest
+      both_ways : (a b : Bool) (node : Placed) (placed : List Placed) (rest : List Node) → a ≡ b →
+          map (λ (n : Placed). n.number) placed ≡ map (λ (n : Node). n.number) rest
           → map (λ (n : Placed). n.number) (cond a (node ∷ placed) placed) ≡ map (λ (n : Node). n.number) (cond b (node_of names node ∷ rest) rest)
       both_ways true true node placed rest e is = ap (λ numbers. node.number ∷ numbers) is
       both_ways false false node placed rest e is = is
       both_ways true false node placed rest e is = cc
       both_ways false true node placed rest e is = cc
 
-pub expanded_chain : (document : Document) (name : ℕ) → AreDistinct document.names → AreNamed (length document.names) document.nodes → name < length document.names
+pub expanded_chain : (document : Document) (name : ℕ) → AreDistinct document.names → AreNamed (length document.names) document.nodes →
+    name < length document.names
     → chain document.nodes name ≡ map (λ (node : Node). node.number) (filter (has_name (name_at document.names name)) (tree_nodes document))
 expanded_chain document name distinct named within = filtered document.names distinct name within document.nodes named
 
@@ -69,7 +76,8 @@ first_among : (names : List Name) (nodes : List Placed) (name : ℕ) → AreDist
 first_among names nodes name distinct named within =
     ap nearest (filtered names distinct name within nodes named) ∙ first_filtered (has_name (name_at names name)) (map (node_of names) nodes)
 
-pub expanded_first : (document : Document) (name : ℕ) → AreDistinct document.names → AreNamed (length document.names) document.nodes → name < length document.names
+pub expanded_first : (document : Document) (name : ℕ) → AreDistinct document.names → AreNamed (length document.names) document.nodes →
+    name < length document.names
     → first_named document.nodes name ≡ first_that (has_name (name_at document.names name)) (tree_nodes document)
 expanded_first document name distinct named within = first_among document.names document.nodes name distinct named within
 
@@ -91,7 +99,8 @@ abbrev Found : Name → List Name → Option ℕ → Type 0
 Found name names None = (k : ℕ) → k < length names → same_name (name_at names k) name ≡ false
 Found name names (Some n) = (n < length names) × (name_at names n ≡ name)
 
-found_more : (name first : Name) (names : List Name) (o : Option ℕ) → same_name first name ≡ false → Found name names o → Found name (first ∷ names) (option_map (λ k. k + 1) o)
+found_more : (name first : Name) (names : List Name) (o : Option ℕ) → same_name first name ≡ false → Found name names o →
+    Found name (first ∷ names) (option_map (λ k. k + 1) o)
 found_more name first names None other none = at
   where
     at : (k : ℕ) → k < length (first ∷ names) → same_name (name_at (first ∷ names) k) name ≡ false
@@ -102,9 +111,11 @@ found_more name first names (Some n) other found = (omega (arith, found.0), ap (
 found : (name : Name) (names : List Name) → Found name names (find_name name names)
 found name [] = λ k h. absurd (omega (arith, h))
 found name (first ∷ names) = ⊎_elim
-    (λ (same : same_name first name ≡ true). subst (λ b. Found name (first ∷ names) (cond b (Some 0) (option_map (λ k. k + 1) (find_name name names)))) (sym same)
+    (λ (same : same_name first name ≡ true). subst (λ b. Found name (first ∷ names) (cond b (Some 0) (option_map (λ k. k + 1) (find_name name names))))
+    (sym same)
     (let here : Found name (first ∷ names) (Some 0) = (omega arith, same_is first name same) in here))
-    (λ (other : same_name first name ≡ false). subst (λ b. Found name (first ∷ names) (cond b (Some 0) (option_map (λ k. k + 1) (find_name name names)))) (sym other)
+    (λ (other : same_name first name ≡ false). subst (λ b. Found name (first ∷ names) (cond b (Some 0) (option_map (λ k. k + 1) (find_name name names))))
+    (sym other)
     (found_more name first names (find_name name names) other (found name names)))
     (cases_Bool (same_name first name))
 
@@ -128,10 +139,12 @@ named_node count [] n h within = absurd (omega (arith, within))
 named_node count (node ∷ nodes) zero h within = h.0
 named_node count (node ∷ nodes) (suc n) h within = named_node count nodes n h.1 (omega (arith, within))
 
-pub found_by_number : (document : Document) (name : Name) (n : ℕ) → AreDistinct document.names → AreNamed (length document.names) document.nodes → n < length document.nodes
+pub found_by_number : (document : Document) (name : Name) (n : ℕ) → AreDistinct document.names → AreNamed (length document.names) document.nodes →
+    n < length document.nodes
     → has_name name (tree_node (tree_nodes document) n) ≡ has_found (find_name name document.names) (node_at document.nodes n)
 found_by_number document name n distinct named within =
     let node = node_at document.nodes n in
     ap (has_name name) (get_or-map (node_of document.names) document.nodes n document_node _ within)
-    ∙ (tested document.names distinct name (find_name name document.names) node.name (found name document.names) (named_node (length document.names) document.nodes n named within)
+    ∙ (tested document.names distinct name (find_name name document.names) node.name (found name document.names)
+    (named_node (length document.names) document.nodes n named within)
     ∙ sym (by_found (find_name name document.names) node))

@@ -1,5 +1,6 @@
 -- Nodes while they are built.
-use Rattle.std.proofs.Common.{◌≡◌, ℕ, ◌+◌, ◌-◌, ◌<◌, ◌≤◌, Bool, true, false, cond, ◌||◌, ◌==◌, List, [], ◌∷◌, ◌++◌, length, drop, set, get_or, refl, ap, sym, ◌∙◌, length-append, arith, ⊎_elim}
+use Rattle.std.proofs.Common.{◌≡◌, ℕ, ◌+◌, ◌-◌, ◌<◌, ◌≤◌, Bool, true, false, cond, ◌||◌, ◌==◌, List, [], ◌∷◌, ◌++◌, length, drop, set, get_or, refl, ap, sym}
+use Rattle.std.proofs.Common.{◌∙◌, length-append, arith, ⊎_elim}
 use Rattle.std.proofs.lemmas.List.{get_or_append_left, get_or_push, length_push, drop-append-le, drop_all, length-set, get_or-set_same, get_or-set_other}
 use Rattle.std.proofs.lemmas.Bool.{eq-eqb, ne_eqb, cases_eq, cases_lt}
 use Rattle.inv_base.specs.Tree.{is_among}
@@ -57,7 +58,8 @@ module _ (slots : List Slot) (ends : List ℕ) (slot : Slot) (growing : IsGrowin
   pub pushed_path : path (kept (slots ++ slot ∷ [])) slot.parent ≡ path (kept slots) slot.parent
   pushed_path =
       let here = growing.here in
-      ap (λ nodes. path nodes slot.parent) (kept-push slots slot) ∙ path-push (kept slots) (placed (kept slots) slot) slot.parent (omega (arith, here, kept_length slots))
+      ap (λ nodes. path nodes slot.parent) (kept-push slots slot) ∙
+      path-push (kept slots) (placed (kept slots) slot) slot.parent (omega (arith, here, kept_length slots))
 
   pub opened_path : (n : ℕ) → n ≡ length slots → path (kept (slots ++ slot ∷ [])) n ≡ n ∷ path (kept slots) slot.parent
   unfolding node
@@ -66,7 +68,8 @@ module _ (slots : List Slot) (ends : List ℕ) (slot : Slot) (growing : IsGrowin
       ∙ (path-last (kept slots) (placed (kept slots) slot) n (omega (arith, at, kept_length slots)) ∙ ap (λ numbers. n ∷ numbers) above)
 
   -- the last node inside each, where those of the path are open
-  ends_at : (open_nodes : List ℕ) (n : ℕ) → ((m : ℕ) → m < length slots → is_among m open_nodes ≡ is_among m (path (kept slots) slot.parent)) → n < length slots + 1
+  ends_at : (open_nodes : List ℕ) (n : ℕ) → ((m : ℕ) → m < length slots → is_among m open_nodes ≡ is_among m (path (kept slots) slot.parent)) →
+      n < length slots + 1
       → cond (is_among n open_nodes) (length slots) (get_or (ends ++ length slots ∷ []) n 0) ≡ last_kept (kept (slots ++ slot ∷ [])) n
   unfolding node
   ends_at open_nodes n same h =
@@ -83,7 +86,8 @@ module _ (slots : List Slot) (ends : List ℕ) (slot : Slot) (growing : IsGrowin
       let ending : get_or (ends ++ length slots ∷ []) n 0 ≡ get_or ends n 0 = get_or_append_left ends (length slots ∷ []) 0 n (omega (arith, within, long)) in
       ap (λ b. cond b (length slots) (get_or (ends ++ length slots ∷ []) n 0)) (same n within)
       ∙ (ap (λ e. cond (is_among n (path (kept slots) slot.parent)) (length slots) e) ending
-      ∙ (more_open (is_among n (path (kept slots) slot.parent)) (length slots - 1) (length slots) (get_or ends n 0) (last_kept (kept slots) n) (growing.ends_are n within)
+      ∙ (more_open (is_among n (path (kept slots) slot.parent)) (length slots - 1) (length slots) (get_or ends n 0) (last_kept (kept slots) n)
+      (growing.ends_are n within)
       ∙ (sym earlier ∙ sym pushed))))
       (λ (past : length slots ≤ n).
       let at : n ≡ length slots = omega (arith, past, h) in
@@ -143,12 +147,14 @@ module _ (slots : List Slot) (ends : List ℕ) (current : ℕ) (growing : IsGrow
     here = omega (arith, growing.here);
     below = growing.below;
     long = length-set ends current (length slots - 1) ∙ growing.long;
-    ends_are = λ n h. closed_ends (path (kept slots) parent) ends current (length slots - 1) n (last_kept (kept slots) n) (omega (arith, h, growing.long)) (omega (arith, growing.here, growing.long))
+    ends_are = λ n h. closed_ends (path (kept slots) parent) ends current (length slots - 1) n (last_kept (kept slots) n) (omega (arith, h, growing.long))
+        (omega (arith, growing.here, growing.long))
         (ap (λ numbers. cond ((n == current) || is_among n numbers) (length slots - 1) (get_or ends n 0)) (sym above) ∙ growing.ends_are n h);
   }
 
   pub growing-ended : (node_at (kept slots) current).above ≡ [] → AreEnds slots (set ends current (length slots - 1))
-  growing-ended above = λ n h. closed_ends [] ends current (length slots - 1) n (last_kept (kept slots) n) (omega (arith, h, growing.long)) (omega (arith, growing.here, growing.long))
+  growing-ended above = λ n h. closed_ends [] ends current (length slots - 1) n (last_kept (kept slots) n) (omega (arith, h, growing.long))
+      (omega (arith, growing.here, growing.long))
       (ap (λ numbers. cond ((n == current) || is_among n numbers) (length slots - 1) (get_or ends n 0)) (sym above) ∙ growing.ends_are n h)
 
 -- the path of the node around, where the innermost ends
@@ -159,7 +165,8 @@ pub ended_document : (nodes : List Placed) (n : ℕ) → (node_at nodes n).above
 ended_document nodes n above = ap (λ numbers. n ∷ numbers) above ∙ sym (ap (λ numbers. ended (n ∷ numbers)) above)
 
 -- a node more, as a call adds it
-module _ (old new : List Slot) (ends more_ends : List ℕ) (slot : Slot) (number : ℕ) (growing : IsGrowing old ends slot.parent) (inner : is_inner slot.kind ≡ true)
+module _ (old new : List Slot) (ends more_ends : List ℕ) (slot : Slot) (number : ℕ) (growing : IsGrowing old ends slot.parent)
+    (inner : is_inner slot.kind ≡ true)
     (pushed : new ≡ old ++ slot ∷ []) (ended_by : more_ends ≡ ends ++ number ∷ []) (is : number ≡ length old) where
   ends_same : more_ends ≡ ends ++ length old ∷ []
   ends_same = ended_by ∙ ap (λ n. ends ++ n ∷ []) is

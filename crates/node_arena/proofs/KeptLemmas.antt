@@ -1,5 +1,6 @@
 -- Nodes as they are kept, and as they are seen.
-use Rattle.std.proofs.Common.{◌≡◌, ℕ, zero, suc, ◌+◌, ◌<◌, Bool, true, false, cond, List, [], ◌∷◌, ◌++◌, length, take, get_or, Option, None, IfSome, subst, ⊎_elim, refl, ap, sym, ◌∙◌, append_assoc, append-nil, length-append, arith}
+use Rattle.std.proofs.Common.{◌≡◌, ℕ, zero, suc, ◌+◌, ◌<◌, Bool, true, false, cond, List, [], ◌∷◌, ◌++◌, length, take, get_or, Option, None, IfSome, subst}
+use Rattle.std.proofs.Common.{⊎_elim, refl, ap, sym, ◌∙◌, append_assoc, append-nil, length-append, arith}
 use Rattle.std.proofs.lemmas.List.{get_or-take, get_or_default}
 use Rattle.std.proofs.lemmas.Bool.{cases_Bool}
 use Rattle.std.proofs.lemmas.Option.{IfSome_then}
@@ -77,7 +78,8 @@ above_document slots k slot h is inner =
 below_of_slot : (slots : List Slot) (n : ℕ) (slot : Slot) → AreBelow 0 slots → n < length slots → slot ≡ get_or slots n slot
     → IfSome (nearest (node_at (kept slots) n).above) (λ parent. parent < n)
 below_of_slot slots n slot below h is = ⊎_elim
-    (λ inner. subst (λ above. IfSome (nearest above) (λ parent. parent < n)) (sym (above_at slots n slot below h is inner)) (parent_before slots n slot below h is inner))
+    (λ inner. subst (λ above. IfSome (nearest above) (λ parent. parent < n)) (sym (above_at slots n slot below h is inner))
+    (parent_before slots n slot below h is inner))
     (λ outer. subst (λ above. IfSome (nearest above) (λ parent. parent < n)) (sym (above_document slots n slot h is outer)) tt)
     (cases_Bool (is_inner slot.kind))
 

@@ -1,12 +1,15 @@
 -- The links of a document lead where the moves of its tree do.
-use Rattle.std.proofs.Common.{◌≡◌, ℕ, zero, suc, ◌+◌, ◌<◌, ◌≤◌, Bool, true, false, cond, not, ◌&&◌, ◌==◌, List, [], ◌∷◌, map, length, drop, get_or, Option, Some, None, IfSome, option_map, subst, refl, ap, sym, ◌∙◌, arith}
+use Rattle.std.proofs.Common.{◌≡◌, ℕ, zero, suc, ◌+◌, ◌<◌, ◌≤◌, Bool, true, false, cond, not, ◌&&◌, ◌==◌, List, [], ◌∷◌, map, length, drop, get_or, Option}
+use Rattle.std.proofs.Common.{Some, None, IfSome, option_map, subst, refl, ap, sym, ◌∙◌, arith}
 use Rattle.std.specs.Prelude.{filter, find}
 use Rattle.std.proofs.lemmas.List.{drop-map, get_or-map, length-map, length-drop}
 use Rattle.std.proofs.lemmas.Bool.{and_right, eqb-true, false≢true}
 use Rattle.std.proofs.lemmas.Option.{IfSome_then}
 use Rattle.inv_base.specs.Tree.{Name, Node, is_among}
 use Rattle.node_arena.specs.Document.{Placed, Document, document_node, node_at, AreNumbered}
-use Rattle.node_arena.specs.Moves.{node_of, tree_nodes, tree_node, Leads, behind, nearest, is_nearest, is_child, is_attribute_of, is_inside, is_named, first_that, last_that, parent, first_child, next_sibling, last_inside, first_attribute, next_attribute, first_named, next_named}
+use Rattle.node_arena.specs.Moves.{node_of, tree_nodes, tree_node, Leads, behind, nearest, is_nearest, is_child, is_attribute_of, is_inside, is_named}
+use Rattle.node_arena.specs.Moves.{first_that, last_that, parent, first_child, next_sibling, last_inside, first_attribute, next_attribute, first_named}
+use Rattle.node_arena.specs.Moves.{next_named}
 use Rattle.node_arena.specs.Keys.{is_attribute_kind, key_of, has_key, first_keyed, next_keyed, keys}
 use Rattle.node_arena.specs.Slots.{kept, last_among, last_kept}
 use Rattle.node_arena.specs.Linked.{IsLinked}
@@ -32,12 +35,14 @@ first_found : (b : Bool) (n : ℕ) (node : Node) (o : Option ℕ) (found : Optio
 first_found true n node o found same rest = ap Some (sym same)
 first_found false n node o found same rest = rest
 
-module _ (family : Family) (names : List Name) (key : ℕ) (is_so : Node → Bool) (same : (node : Placed) → has_key key (key_of family node) ≡ is_so (node_of names node)) where
+module _ (family : Family) (names : List Name) (key : ℕ) (is_so : Node → Bool)
+    (same : (node : Placed) → has_key key (key_of family node) ≡ is_so (node_of names node)) where
   pub first_is : (n : ℕ) (nodes : List Placed) → AreNumbered n nodes → first_keyed key n (keys family nodes) ≡ first_that is_so (map (node_of names) nodes)
   first_is n [] h = refl
   first_is n (node ∷ nodes) h =
       ap (λ b. cond b (Some n) (first_keyed key (n + 1) (keys family nodes))) (same node)
-      ∙ first_found (is_so (node_of names node)) n (node_of names node) (first_keyed key (n + 1) (keys family nodes)) (find is_so (map (node_of names) nodes)) h.0
+      ∙ first_found (is_so (node_of names node)) n (node_of names node) (first_keyed key (n + 1) (keys family nodes))
+      (find is_so (map (node_of names) nodes)) h.0
       (first_is (n + 1) nodes h.1)
 
   pub next_is : (n : ℕ) (nodes : List Placed) → AreNumbered 0 nodes
@@ -112,7 +117,8 @@ module _ (names : List Name) (nodes : List Placed) (numbered : AreNumbered 0 nod
       (key_at families.Attributes ∙ ap (λ b. cond b (nearest (node_at nodes n).above) None) not_so)
       ∙ (next_keyed-by None n (keys families.Children nodes) (nearest (node_at nodes n).above)
       (key_at families.Children ∙ ap (λ b. cond b None (nearest (node_at nodes n).above)) not_so)
-      ∙ next_same None (λ p. first_keyed p (n + 1) (drop (n + 1) (keys families.Children nodes))) (λ p. first_that (is_child p) (behind n (map (node_of names) nodes)))
+      ∙ next_same None (λ p. first_keyed p (n + 1) (drop (n + 1) (keys families.Children nodes)))
+      (λ p. first_that (is_child p) (behind n (map (node_of names) nodes)))
       (λ p. next_is families.Children names p (is_child p) (child_test names p) n nodes numbered) (nearest (node_at nodes n).above))
 
   -- a document and an element whose kind is attribute have not_so ancestor in common, so the other chain has no say
@@ -124,36 +130,45 @@ module _ (names : List Name) (nodes : List Placed) (numbered : AreNumbered 0 nod
       ap (λ other. next_keyed other n (keys families.Attributes nodes)) none
       ∙ (next_keyed-by None n (keys families.Attributes nodes) (nearest (node_at nodes n).above)
       (key_at families.Attributes ∙ ap (λ b. cond b (nearest (node_at nodes n).above) None) is_so)
-      ∙ next_same None (λ p. first_keyed p (n + 1) (drop (n + 1) (keys families.Attributes nodes))) (λ p. first_that (is_attribute_of p) (behind n (map (node_of names) nodes)))
+      ∙ next_same None (λ p. first_keyed p (n + 1) (drop (n + 1) (keys families.Attributes nodes)))
+      (λ p. first_that (is_attribute_of p) (behind n (map (node_of names) nodes)))
       (λ p. next_is families.Attributes names p (is_attribute_of p) (attribute_test names p) n nodes numbered) (nearest (node_at nodes n).above))
 
   pub sibling_none : is_attribute_kind (node_at nodes n).kind ≡ true → None ≡ next_sibling (map (node_of names) nodes) n
   unfolding all node
   sibling_none is_so =
-      let spec : Node → Option ℕ = λ x. cond (is_attribute_kind x.kind) None (next_by None (λ p. first_that (is_child p) (behind n (map (node_of names) nodes))) (nearest x.above)) in
-      sym (ap spec at ∙ ap (λ b. cond b None (next_by None (λ p. first_that (is_child p) (behind n (map (node_of names) nodes))) (nearest (node_at nodes n).above))) is_so)
+      let spec : Node → Option ℕ = λ x. cond (is_attribute_kind x.kind) None
+      (next_by None (λ p. first_that (is_child p) (behind n (map (node_of names) nodes))) (nearest x.above)) in
+      sym (ap spec at ∙ ap (λ b. cond b None (next_by None (λ p. first_that (is_child p) (behind n (map (node_of names) nodes)))
+      (nearest (node_at nodes n).above))) is_so)
 
   pub sibling_is : is_attribute_kind (node_at nodes n).kind ≡ false
       → next_keyed (next_keyed None n (keys families.Children nodes)) n (keys families.Attributes nodes) ≡ next_sibling (map (node_of names) nodes) n
   unfolding all node beside
   sibling_is not_so =
-      let spec : Node → Option ℕ = λ x. cond (is_attribute_kind x.kind) None (next_by None (λ p. first_that (is_child p) (behind n (map (node_of names) nodes))) (nearest x.above)) in
+      let spec : Node → Option ℕ = λ x. cond (is_attribute_kind x.kind) None
+      (next_by None (λ p. first_that (is_child p) (behind n (map (node_of names) nodes))) (nearest x.above)) in
       child_beside not_so
-      ∙ sym (ap spec at ∙ ap (λ b. cond b None (next_by None (λ p. first_that (is_child p) (behind n (map (node_of names) nodes))) (nearest (node_at nodes n).above))) not_so)
+      ∙ sym (ap spec at ∙ ap (λ b. cond b None (next_by None (λ p. first_that (is_child p) (behind n (map (node_of names) nodes)))
+      (nearest (node_at nodes n).above))) not_so)
 
   pub attribute_none : is_attribute_kind (node_at nodes n).kind ≡ false → None ≡ next_attribute (map (node_of names) nodes) n
   unfolding all node
   attribute_none not_so =
-      let spec : Node → Option ℕ = λ x. cond (is_attribute_kind x.kind) (next_by None (λ p. first_that (is_attribute_of p) (behind n (map (node_of names) nodes))) (nearest x.above)) None in
-      sym (ap spec at ∙ ap (λ b. cond b (next_by None (λ p. first_that (is_attribute_of p) (behind n (map (node_of names) nodes))) (nearest (node_at nodes n).above)) None) not_so)
+      let spec : Node → Option ℕ = λ x. cond (is_attribute_kind x.kind)
+      (next_by None (λ p. first_that (is_attribute_of p) (behind n (map (node_of names) nodes))) (nearest x.above)) None in
+      sym (ap spec at ∙ ap (λ b. cond b (next_by None (λ p. first_that (is_attribute_of p) (behind n (map (node_of names) nodes)))
+      (nearest (node_at nodes n).above)) None) not_so)
 
   pub attribute_is : is_attribute_kind (node_at nodes n).kind ≡ true
       → next_keyed (next_keyed None n (keys families.Children nodes)) n (keys families.Attributes nodes) ≡ next_attribute (map (node_of names) nodes) n
   unfolding all node beside
   attribute_is is_so =
-      let spec : Node → Option ℕ = λ x. cond (is_attribute_kind x.kind) (next_by None (λ p. first_that (is_attribute_of p) (behind n (map (node_of names) nodes))) (nearest x.above)) None in
+      let spec : Node → Option ℕ = λ x. cond (is_attribute_kind x.kind)
+      (next_by None (λ p. first_that (is_attribute_of p) (behind n (map (node_of names) nodes))) (nearest x.above)) None in
       attribute_beside is_so
-      ∙ sym (ap spec at ∙ ap (λ b. cond b (next_by None (λ p. first_that (is_attribute_of p) (behind n (map (node_of names) nodes))) (nearest (node_at nodes n).above)) None) is_so)
+      ∙ sym (ap spec at ∙ ap (λ b. cond b (next_by None (λ p. first_that (is_attribute_of p) (behind n (map (node_of names) nodes)))
+      (nearest (node_at nodes n).above)) None) is_so)
 
   pub parent_is : nearest (node_at nodes n).above ≡ parent (map (node_of names) nodes) n
   unfolding all node
@@ -182,7 +197,8 @@ last_bounds n m k (first ∷ nodes) h below above =
 pub last_within : (nodes : List Placed) (n : ℕ) → AreNumbered 0 nodes → n < length nodes → (n ≤ last_kept nodes n) × (last_kept nodes n < length nodes)
 unfolding last_kept
 last_within nodes n numbered h =
-    let bounds = last_bounds n n (n + 1) (drop (n + 1) nodes) (subst (λ m. AreNumbered m (drop (n + 1) nodes)) (omega arith) (numbers-drop (n + 1) 0 nodes numbered)) (omega arith) (omega arith) in
+    let bounds = last_bounds n n (n + 1) (drop (n + 1) nodes)
+    (subst (λ m. AreNumbered m (drop (n + 1) nodes)) (omega arith) (numbers-drop (n + 1) 0 nodes numbered)) (omega arith) (omega arith) in
     let long = length-drop (n + 1) nodes in
     (bounds.0, omega (arith, bounds.1, long, h))
 
@@ -200,7 +216,8 @@ pub chain_first : (name n : ℕ) (nodes : List Placed) → AreNumbered n nodes �
 chain_first name n [] h = refl
 chain_first name n (node ∷ nodes) h =
     ap (λ b. cond b (Some n) (first_keyed name (n + 1) (keys families.Named nodes))) (named_test name node.name)
-    ∙ chain_found (is_named name node) n node (first_keyed name (n + 1) (keys families.Named nodes)) (filter (is_named name) nodes) h.0 (chain_first name (n + 1) nodes h.1)
+    ∙ chain_found (is_named name node) n node (first_keyed name (n + 1) (keys families.Named nodes)) (filter (is_named name) nodes) h.0
+    (chain_first name (n + 1) nodes h.1)
 
 pub chain_next : (nodes : List Placed) (n : ℕ) → AreNumbered 0 nodes → n < length nodes → next_keyed None n (keys families.Named nodes) ≡ next_named nodes n
 chain_next nodes n numbered within =
@@ -240,7 +257,8 @@ by_either other next P none some (Some key) = some key
 next_bounds : (other : Option ℕ) (n : ℕ) (keyed : List (Option ℕ)) → n < length keyed → IfSome other (λ m. (n < m) × (m < length keyed))
     → IfSome (next_keyed other n keyed) (λ m. (n < m) × (m < length keyed))
 next_bounds other n keyed within bounds =
-    by_either other (λ key. first_keyed key (n + 1) (drop (n + 1) keyed)) (λ m. (n < m) × (m < length keyed)) bounds (next_leads n keyed within) (get_or keyed n None)
+    by_either other (λ key. first_keyed key (n + 1) (drop (n + 1) keyed)) (λ m. (n < m) × (m < length keyed)) bounds (next_leads n keyed within)
+    (get_or keyed n None)
 
 first_bounds : (n : ℕ) (keyed : List (Option ℕ)) → ((m : ℕ) → m < length keyed → get_or keyed m None ≡ Some n → n < m)
     → IfSome (first_keyed n 0 keyed) (λ m. (n < m) × (m < length keyed))
@@ -258,7 +276,8 @@ key_if_so true o n is = is
 key_if_so false o n is = cc
 
 -- The moves of a document that is kept.
-module _ (slots : List Slot) (node_ends : List ℕ) (links : Links) (names : List Name) (linked : IsLinked slots node_ends links names) (n : ℕ) (within : n < length (kept slots)) where
+module _ (slots : List Slot) (node_ends : List ℕ) (links : Links) (names : List Name) (linked : IsLinked slots node_ends links names) (n : ℕ)
+    (within : n < length (kept slots)) where
   kept_child : get_or links.first_child.items n None ≡ first_child (map (node_of names) (kept slots)) n
   kept_child = linked.linked.first_child n within ∙ child_first names (kept slots) (kept_numbers slots) n within
 
@@ -292,7 +311,8 @@ module _ (slots : List Slot) (node_ends : List ℕ) (links : Links) (names : Lis
   behind_of family other bounds =
       let count = length-map (kept slots) (key_of family) in
       subst (λ all. IfSome (next_keyed other n (keys family (kept slots))) (λ m. (n < m) × (m < all))) count
-      (next_bounds other n (keys family (kept slots)) (omega (arith, within, count)) (subst (λ all. IfSome other (λ m. (n < m) × (m < all))) (sym count) bounds))
+      (next_bounds other n (keys family (kept slots)) (omega (arith, within, count))
+      (subst (λ all. IfSome other (λ m. (n < m) × (m < all))) (sym count) bounds))
 
   behind_beside : IfSome (get_or links.next_beside.items n None) (λ m. (n < m) × (m < length (kept slots)))
   behind_beside =
@@ -338,7 +358,8 @@ module _ (slots : List Slot) (node_ends : List ℕ) (links : Links) (names : Lis
   answers_no_sibling is = subst (λ d. Answers d n None next_sibling) seen
       (record { node = sibling_none names (kept slots) (kept_numbers slots) n inside (kind_seen true is); behind_it = tt })
 
-  pub answers_next_attribute : is_attribute_kind (node_at document.nodes n).kind ≡ true → Answers document n (get_or links.next_beside.items n None) next_attribute
+  pub answers_next_attribute : is_attribute_kind (node_at document.nodes n).kind ≡ true →
+      Answers document n (get_or links.next_beside.items n None) next_attribute
   answers_next_attribute is = subst (λ d. Answers d n (get_or links.next_beside.items n None) next_attribute) seen
       (record {
         node = linked.linked.next_beside n inside ∙ attribute_is names (kept slots) (kept_numbers slots) n inside (kind_seen true is);
@@ -349,31 +370,39 @@ module _ (slots : List Slot) (node_ends : List ℕ) (links : Links) (names : Lis
   answers_no_attribute is = subst (λ d. Answers d n None next_attribute) seen
       (record { node = attribute_none names (kept slots) (kept_numbers slots) n inside (kind_seen false is); behind_it = tt })
 
-  pub answers_named : (get_or links.next_named.items n None ≡ next_named document.nodes n) × IfSome (get_or links.next_named.items n None) (λ m. (n < m) × (m < length document.nodes))
-  answers_named = subst (λ (d : Document). (get_or links.next_named.items n None ≡ next_named d.nodes n) × IfSome (get_or links.next_named.items n None) (λ m. (n < m) × (m < length d.nodes))) seen
+  pub answers_named : (get_or links.next_named.items n None ≡ next_named document.nodes n) ×
+      IfSome (get_or links.next_named.items n None) (λ m. (n < m) × (m < length document.nodes))
+  answers_named = subst (λ (d : Document). (get_or links.next_named.items n None ≡ next_named d.nodes n) ×
+      IfSome (get_or links.next_named.items n None) (λ m. (n < m) × (m < length d.nodes))) seen
       (linked.linked.next_named n inside ∙ chain_next (kept slots) n (kept_numbers slots) inside, behind_named slots node_ends links names linked n inside)
 
-  pub answers_last : (get_or node_ends n 0 ≡ last_inside (tree_nodes document) n) × ((n ≤ get_or node_ends n 0) × (get_or node_ends n 0 < length document.nodes))
+  pub answers_last : (get_or node_ends n 0 ≡ last_inside (tree_nodes document) n) ×
+      ((n ≤ get_or node_ends n 0) × (get_or node_ends n 0 < length document.nodes))
   answers_last =
       let here = inside in
       let is = linked.ends_are n (omega (arith, here, kept_length slots)) in
-      subst (λ (d : Document). (get_or node_ends n 0 ≡ last_inside (tree_nodes d) n) × ((n ≤ get_or node_ends n 0) × (get_or node_ends n 0 < length d.nodes))) seen
+      subst (λ (d : Document). (get_or node_ends n 0 ≡ last_inside (tree_nodes d) n) × ((n ≤ get_or node_ends n 0) × (get_or node_ends n 0 < length d.nodes)))
+      seen
       (is ∙ last_is names (kept slots) n, subst (λ m. (n ≤ m) × (m < length (kept slots))) (sym is) (last_within (kept slots) n (kept_numbers slots) inside))
 
   pub answers_parent : (o : Option ℕ) → o ≡ nearest (node_at (kept slots) n).above → o ≡ parent (tree_nodes document) n
   answers_parent o is = subst (λ d. o ≡ parent (tree_nodes d) n) seen (is ∙ parent_is names (kept slots) (kept_numbers slots) n inside)
 
-pub answers_first : (slots : List Slot) (node_ends : List ℕ) (links : Links) (names : List Name) (document : Document) (linked : IsLinked slots node_ends links names)
+pub answers_first : (slots : List Slot) (node_ends : List ℕ) (links : Links) (names : List Name) (document : Document)
+    (linked : IsLinked slots node_ends links names)
     → as_document slots names ≡ document → (name : ℕ) → name < length document.names
-    → (get_or links.first_named.items name None ≡ first_named document.nodes name) × IfSome (get_or links.first_named.items name None) (λ m. m < length document.nodes)
+    → (get_or links.first_named.items name None ≡ first_named document.nodes name) ×
+    IfSome (get_or links.first_named.items name None) (λ m. m < length document.nodes)
 answers_first slots node_ends links names document linked seen name h =
     let inside : name < length names = subst (λ (d : Document). name < length d.names) (sym seen) h in
     let is = linked.linked.first_named name inside in
     let count = length-map (kept slots) (key_of families.Named) in
-    subst (λ (d : Document). (get_or links.first_named.items name None ≡ first_named d.nodes name) × IfSome (get_or links.first_named.items name None) (λ m. m < length d.nodes)) seen (
+    subst (λ (d : Document). (get_or links.first_named.items name None ≡ first_named d.nodes name) ×
+    IfSome (get_or links.first_named.items name None) (λ m. m < length d.nodes)) seen (
       is ∙ chain_first name 0 (kept slots) (kept_numbers slots),
       subst (λ o. IfSome o (λ m. m < length (kept slots))) (sym is)
-          (IfSome_then (first_keyed name 0 (keys families.Named (kept slots))) (first_leads name 0 (keys families.Named (kept slots))) (λ m led. omega (arith, led.1, led.2, count))),
+          (IfSome_then (first_keyed name 0 (keys families.Named (kept slots))) (first_leads name 0 (keys families.Named (kept slots)))
+          (λ m led. omega (arith, led.1, led.2, count))),
     )
 
 -- A move by the link that is kept for it.
@@ -390,5 +419,6 @@ moved document n links kept_links answer where_to before after answered same is 
     }
 
 -- A move that leads nowhere.
-pub not_moved : (document : Document) (n : ℕ) (where_to : Option ℕ) (before after : ℕ) → None ≡ where_to → after ≡ before + 1 → Leads document n where_to None before after
+pub not_moved : (document : Document) (n : ℕ) (where_to : Option ℕ) (before after : ℕ) → None ≡ where_to → after ≡ before + 1 →
+    Leads document n where_to None before after
 not_moved document n where_to before after is step = record { node = is; behind = tt; step = step }

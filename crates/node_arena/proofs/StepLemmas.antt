@@ -1,5 +1,6 @@
 -- The nodes of a tree, each beside the next in document order.
-use Rattle.std.proofs.Common.{◌≡◌, ℕ, zero, suc, ◌+◌, ◌<◌, true, false, ◌⊎◌, inl, inr, ⊎_elim, List, [], ◌∷◌, ◌++◌, length, Some, None, subst, refl, sym, ◌∙◌, append_assoc, arith}
+use Rattle.std.proofs.Common.{◌≡◌, ℕ, zero, suc, ◌+◌, ◌<◌, true, false, ◌⊎◌, inl, inr, ⊎_elim, List, [], ◌∷◌, ◌++◌, length, Some, None, subst, refl, sym, ◌∙◌}
+use Rattle.std.proofs.Common.{append_assoc, arith}
 use Rattle.std.proofs.lemmas.Bool.{false≢true, or_cases, or_right, or_left, eqb-true, eq-eqb}
 use Rattle.inv_base.specs.declared.tree.Kind.TheVariants as kinds
 use Rattle.inv_base.specs.Tree.{Node, Attribute, Forest, no_more, a_text, an_element, size, nodes_of, nodes_of_attributes, document_nodes, is_among}
@@ -98,9 +99,11 @@ lead_forest (an_element name attributes inside rest) node above n is rooted fits
     let next : Node = record { number = n; kind = kinds.Element; name = Some name; above = above; text = [] } in
     let first = lead_attributes attributes next (n ∷ above) (n + 1) refl (inr rooted) (inl (refl, refl)) in
     let first_number = first.number in
-    let second = lead_forest inside first.last (n ∷ above) (n + (1 + length attributes)) (omega (arith, first_number)) (inr rooted) (fits_other first.last (n ∷ above) first.fits) in
+    let second = lead_forest inside first.last (n ∷ above) (n + (1 + length attributes)) (omega (arith, first_number)) (inr rooted)
+    (fits_other first.last (n ∷ above) first.fits) in
     let second_number = second.number in
-    let third = lead_forest rest second.last above (n + (1 + (length attributes + size inside))) (omega (arith, second_number)) rooted (fits_outer second.last n above second.fits) in
+    let third = lead_forest rest second.last above (n + (1 + (length attributes + size inside))) (omega (arith, second_number)) rooted
+    (fits_outer second.last n above second.fits) in
     let third_number = third.number in
     record {
       last = third.last;
@@ -122,7 +125,8 @@ pub record Walk (nodes : List Node) : Type 0 where
   pub rooted : (k : ℕ) → suc k < length nodes → In 0 (tree_node nodes (suc k)).above
   pub step : (k : ℕ) → suc k < length nodes → Step (tree_node nodes k) (tree_node nodes (suc k))
 
-numbers_at : (node last : Node) (nodes : List Node) → Leads node nodes last → (k : ℕ) → k < length (node ∷ nodes) → (tree_node (node ∷ nodes) k).number ≡ node.number + k
+numbers_at : (node last : Node) (nodes : List Node) → Leads node nodes last → (k : ℕ) → k < length (node ∷ nodes) →
+    (tree_node (node ∷ nodes) k).number ≡ node.number + k
 numbers_at node last nodes led zero h = omega arith
 numbers_at node last [] led (suc k) h = absurd (omega (arith, h))
 numbers_at node last (next ∷ nodes) led (suc k) h = omega (arith, numbers_at next last nodes led.3 k (omega (arith, h)), led.0)

@@ -1,7 +1,9 @@
 -- The string of a node is its own text and those of the texts in its interval.
-use Rattle.std.proofs.Common.{◌≡◌, ℕ, ◌+◌, ◌-◌, ◌<◌, ◌≤◌, Bool, true, false, cond, ◌&&◌, List, [], ◌∷◌, ◌++◌, map, length, take, drop, get_or, chars, suc, refl, subst, ap, sym, ◌∙◌, ◌⊎◌, ⊎_elim, append_assoc, append-nil, arith}
+use Rattle.std.proofs.Common.{◌≡◌, ℕ, ◌+◌, ◌-◌, ◌<◌, ◌≤◌, Bool, true, false, cond, ◌&&◌, List, [], ◌∷◌, ◌++◌, map, length, take, drop, get_or, chars, suc, refl}
+use Rattle.std.proofs.Common.{subst, ap, sym, ◌∙◌, ◌⊎◌, ⊎_elim, append_assoc, append-nil, arith}
 use Rattle.std.specs.Prelude.{filter, flat_map}
-use Rattle.std.proofs.lemmas.List.{get_or-take, get_or-drop, get_or-map, length-drop, length-take, length-map, take-append-drop, drop_all, drop-take, take-map, drop-map}
+use Rattle.std.proofs.lemmas.List.{get_or-take, get_or-drop, get_or-map, length-drop, length-take, length-map, take-append-drop, drop_all, drop-take, take-map}
+use Rattle.std.proofs.lemmas.List.{drop-map}
 use Rattle.std.proofs.lemmas.List.Folds.{flat_map-map}
 use Rattle.std.proofs.lemmas.Grind.{flat_map-append}
 use Rattle.std.proofs.lemmas.Bool.{and_right}
@@ -38,14 +40,16 @@ none_among f (node ∷ nodes) none =
     let rest = none_among f nodes (λ k h. none (suc k) (omega (arith, h))) in
     ap (λ x. x ++ flat_map f nodes) (none 0 (omega arith)) ∙ rest
 
-same_among : (f g : Node → List ℕ) (nodes : List Node) → ((k : ℕ) → k < length nodes → f (tree_node nodes k) ≡ g (tree_node nodes k)) → flat_map f nodes ≡ flat_map g nodes
+same_among : (f g : Node → List ℕ) (nodes : List Node) → ((k : ℕ) → k < length nodes → f (tree_node nodes k) ≡ g (tree_node nodes k)) →
+    flat_map f nodes ≡ flat_map g nodes
 same_among f g [] same = refl
 same_among f g (node ∷ nodes) same =
     let rest = same_among f g nodes (λ k h. same (suc k) (omega (arith, h))) in
     ap (λ x. x ++ flat_map f nodes) (same 0 (omega arith)) ∙ ap (λ x. g node ++ x) rest
 
 -- what an interval holds
-module _ (nodes : List Node) (w : Walk nodes) (n last : ℕ) (h : n < length nodes) (is : last ≡ last_inside nodes n) (from : n ≤ last) (to : last < length nodes) where
+module _ (nodes : List Node) (w : Walk nodes) (n last : ℕ) (h : n < length nodes) (is : last ≡ last_inside nodes n) (from : n ≤ last)
+    (to : last < length nodes) where
   test : Node → Bool
   test node = is_text node && is_among n node.above
 
@@ -58,8 +62,10 @@ module _ (nodes : List Node) (w : Walk nodes) (n last : ℕ) (h : n < length nod
   on : (k : ℕ) → k < length nodes → n < k → k ≤ last → text_if test (tree_node nodes k) ≡ text_if is_text (tree_node nodes k)
   unfolding test
   on k within above below =
-      let inside : is_inside n (tree_node nodes k) ≡ true = interval nodes w n k h within ∙ (ap (λ m. is_between n m k) (sym is) ∙ between n last k above below) in
-      ap (λ b. cond (is_text (tree_node nodes k) && b) (tree_node nodes k).text []) inside ∙ ap (λ b. cond b (tree_node nodes k).text []) (and_all (is_text (tree_node nodes k)))
+      let inside : is_inside n (tree_node nodes k) ≡ true = interval nodes w n k h within ∙
+      (ap (λ m. is_between n m k) (sym is) ∙ between n last k above below) in
+      ap (λ b. cond (is_text (tree_node nodes k) && b) (tree_node nodes k).text []) inside ∙
+      ap (λ b. cond b (tree_node nodes k).text []) (and_all (is_text (tree_node nodes k)))
     where
       and_all : (b : Bool) → (b && true) ≡ b
       and_all true = refl
@@ -76,7 +82,8 @@ module _ (nodes : List Node) (w : Walk nodes) (n last : ℕ) (h : n < length nod
       let some = length-take (last - n) (drop (n + 1) nodes) in
       let more = length-drop (n + 1) nodes in
       let less : k < last - n = omega (arith, short, some) in
-      let at : tree_node (take (last - n) (drop (n + 1) nodes)) k ≡ tree_node nodes (n + 1 + k) = get_or-take (last - n) (drop (n + 1) nodes) k _ less ∙ get_or-drop (n + 1) nodes k _ in
+      let at : tree_node (take (last - n) (drop (n + 1) nodes)) k ≡ tree_node nodes (n + 1 + k) = get_or-take (last - n) (drop (n + 1) nodes) k _ less ∙
+      get_or-drop (n + 1) nodes k _ in
       ap (text_if test) at ∙ (on (n + 1 + k) (omega (arith, less, to)) (omega arith) (omega (arith, less)) ∙ ap (text_if is_text) (sym at)))
 
   behind_it : flat_map (text_if test) (drop (last - n) (drop (n + 1) nodes)) ≡ []
@@ -111,7 +118,8 @@ abbrev slot_text : Slot → List ℕ
 slot_text slot = if_text slot.kind (chars slot.text.now)
 
 kind_text : (kind : Kind) (characters : List ℕ)
-    → cond (elim kind as (λ _. Bool) [ kinds.Document ↦ false | kinds.Element ↦ false | kinds.Attribute ↦ false | kinds.Text ↦ true ]) characters [] ≡ if_text kind characters
+    → cond (elim kind as (λ _. Bool) [ kinds.Document ↦ false | kinds.Element ↦ false | kinds.Attribute ↦ false | kinds.Text ↦ true ]) characters [] ≡ if_text
+    kind characters
 kind_text kinds.Document characters = refl
 kind_text kinds.Element characters = refl
 kind_text kinds.Attribute characters = refl
@@ -121,7 +129,8 @@ behind_texts : (names : List Name) (before : List Placed) (slots : List Slot)
     → map (text_if is_text) (map (node_of names) (kept_behind before slots)) ≡ map slot_text slots
 behind_texts names before [] = refl
 behind_texts names before (slot ∷ slots) =
-    ap (λ x. x ∷ map (text_if is_text) (map (node_of names) (kept_behind (before ++ placed before slot ∷ []) slots))) (kind_text slot.kind (chars slot.text.now))
+    ap (λ x. x ∷ map (text_if is_text) (map (node_of names) (kept_behind (before ++ placed before slot ∷ []) slots)))
+    (kind_text slot.kind (chars slot.text.now))
     ∙ ap (λ more. slot_text slot ∷ more) (behind_texts names (before ++ placed before slot ∷ []) slots)
 
 kept_texts : (names : List Name) (slots : List Slot) → map (text_if is_text) (map (node_of names) (kept slots)) ≡ map slot_text slots
@@ -142,7 +151,8 @@ part_texts names slots start count =
 abbrev as_document : List Slot → List Name → Document
 as_document slots names = record { nodes = kept slots; names = names }
 
-kept_string : (slots : List Slot) (node_ends : List ℕ) (links : Links) (names : List Name) → IsLinked slots node_ends links names → (n last : ℕ) → n < length (kept slots)
+kept_string : (slots : List Slot) (node_ends : List ℕ) (links : Links) (names : List Name) → IsLinked slots node_ends links names → (n last : ℕ) →
+    n < length (kept slots)
     → last ≡ last_inside (tree_nodes (as_document slots names)) n → n ≤ last → last < length (kept slots)
     → (own : List ℕ) → own ≡ (node_at (kept slots) n).text → (inside : List Slot) → inside ≡ drop (n + 1) (take (last + 1) slots)
     → own ++ texts_of inside ≡ string_of (tree_nodes (as_document slots names)) (tree_node (tree_nodes (as_document slots names)) n)
@@ -181,7 +191,8 @@ texts_more slots k slot so_far more all h is with_it whole =
 pub with_that : (kind : Kind) (old text new : List ℕ) → kind ≡ kinds.Text → new ≡ old ++ text → new ≡ old ++ if_text kind text
 with_that kind old text new is more = more ∙ ap (λ k. old ++ if_text k text) (sym is)
 
-pub without_that : (kind : Kind) (old text new : List ℕ) → (kind ≡ kinds.Document) ⊎ ((kind ≡ kinds.Element) ⊎ (kind ≡ kinds.Attribute)) → new ≡ old → new ≡ old ++ if_text kind text
+pub without_that : (kind : Kind) (old text new : List ℕ) → (kind ≡ kinds.Document) ⊎ ((kind ≡ kinds.Element) ⊎ (kind ≡ kinds.Attribute)) → new ≡ old → new ≡ old
+    ++ if_text kind text
 without_that kind old text new is same =
     let none : if_text kind text ≡ [] = ⊎_elim (ap (λ k. if_text k text)) (⊎_elim (ap (λ k. if_text k text)) (ap (λ k. if_text k text))) is in
     same ∙ (sym (append-nil old) ∙ ap (λ x. old ++ x) (sym none))

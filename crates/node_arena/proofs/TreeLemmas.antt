@@ -1,13 +1,16 @@
 -- What the events of a tree build.
-use Rattle.std.proofs.Common.{◌≡◌, ℕ, ◌+◌, ◌<◌, ◌^◌, Bool, true, false, not, ◌&&◌, ◌==◌, List, [], ◌∷◌, ◌++◌, map, length, Some, None, refl, ap, sym, ◌∙◌, append_assoc, append-nil, arith, cond, suc, length-append, subst}
+use Rattle.std.proofs.Common.{◌≡◌, ℕ, ◌+◌, ◌<◌, ◌^◌, Bool, true, false, not, ◌&&◌, ◌==◌, List, [], ◌∷◌, ◌++◌, map, length, Some, None, refl, ap, sym, ◌∙◌}
+use Rattle.std.proofs.Common.{append_assoc, append-nil, arith, cond, suc, length-append, subst}
 use Rattle.std.specs.Option.{ForSome}
 use Rattle.std.proofs.lemmas.List.{map-append, length-map, length_push}
 use Rattle.inv_base.specs.declared.tree.Kind.TheVariants as kinds
-use Rattle.inv_base.specs.Tree.{Name, Attribute, Forest, no_more, a_text, an_element, begins_with_text, is_joined, IsDocument, Node, size, nodes_of, nodes_of_attributes}
+use Rattle.inv_base.specs.Tree.{Name, Attribute, Forest, no_more, a_text, an_element, begins_with_text, is_joined, IsDocument, Node, size, nodes_of}
+use Rattle.inv_base.specs.Tree.{nodes_of_attributes}
 use Rattle.inv_base.proofs.TextLemmas.{both}
 use Rattle.xml_state.specs.Events.{Event, starts, has_attribute, has_text, ends}
 use Rattle.xml_state.specs.Documents.{Tells, TellsAttributes}
-use Rattle.node_arena.specs.Document.{Placed, Built, begun, after, built, built_from, last_place, with_last_text, document_node, node_behind, ended, AreNamed, IsNumbered}
+use Rattle.node_arena.specs.Document.{Placed, Built, begun, after, built, built_from, last_place, with_last_text, document_node, node_behind, ended, AreNamed}
+use Rattle.node_arena.specs.Document.{IsNumbered}
 use Rattle.node_arena.specs.Moves.{node_of, HasNodesOf, IsWhole}
 
 built_from-append : (b : Built) (first more : List Event) → built_from b (first ++ more) ≡ built_from (built_from b first) more
@@ -120,7 +123,8 @@ adds_forest names no_more events joined told b out some = rw told (record { adds
 adds_forest names (a_text characters rest) events joined told b out some =
     let place = told.0 in
     let more = told.1 in
-    let others_joined = both (not (begins_with_text rest)) (is_joined rest) (both (not (length characters == 0)) (not (begins_with_text rest) && is_joined rest) joined).1 in
+    let others_joined = both (not (begins_with_text rest)) (is_joined rest)
+    (both (not (length characters == 0)) (not (begins_with_text rest) && is_joined rest) joined).1 in
     let node = node_behind b.nodes b.open_nodes kinds.Text None characters place in
     let c = after (has_text characters place) b in
     let added : c.nodes ≡ b.nodes ++ node ∷ [] = ap (λ t. cond t (with_last_text characters b.nodes) (b.nodes ++ node ∷ [])) (out_of_text b.in_text out) in
@@ -152,12 +156,14 @@ adds_forest names (an_element name attributes inside rest) events joined told b 
     let more_than_one = ap length opened in
     let inner = adds_forest names inside told.3 parts.0 told.8 b1 (no_text b1.in_text (begins_with_text inside) first.out) (omega (arith, more_than_one)) in
     let in_attributes = length-nodes_of_attributes (n ∷ b.open_nodes) (n + 1) attributes in
-    let behind_attributes : length b1.nodes ≡ n + (1 + length attributes) = let count = Adds-count names b0 b1 _ first_adds in omega (arith, count, one, in_attributes) in
+    let behind_attributes : length b1.nodes ≡ n + (1 + length attributes) = let count = Adds-count names b0 b1 _ first_adds in
+    omega (arith, count, one, in_attributes) in
     let inner_adds : Adds names b1 b3 (nodes_of (n ∷ b.open_nodes) (n + (1 + length attributes)) inside) =
     record {
       new = inner.adds.new;
       nodes_are = inner.adds.nodes_are;
-      tree_are = inner.adds.tree_are ∙ (ap (λ above. nodes_of above (length b1.nodes) inside) opened ∙ ap (λ m. nodes_of (n ∷ b.open_nodes) m inside) behind_attributes);
+      tree_are = inner.adds.tree_are ∙ (ap (λ above. nodes_of above (length b1.nodes) inside) opened ∙
+          ap (λ m. nodes_of (n ∷ b.open_nodes) m inside) behind_attributes);
       named = inner.adds.named;
     } in
     let closed : b3.open_nodes ≡ b.open_nodes = ap ended (inner.still_open ∙ opened) ∙ ended_inside n b.open_nodes some in

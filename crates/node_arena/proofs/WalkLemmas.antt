@@ -1,10 +1,12 @@
 -- Where the moves of nodes that lead on lead.
-use Rattle.std.proofs.Common.{◌≡◌, ℕ, zero, suc, ◌+◌, ◌<◌, ◌≤◌, Bool, true, false, not, cond, ◌⊎◌, inl, inr, ⊎_elim, List, [], ◌∷◌, ◌++◌, length, Option, Some, None, subst, refl, ap, sym, ◌∙◌, arith}
+use Rattle.std.proofs.Common.{◌≡◌, ℕ, zero, suc, ◌+◌, ◌<◌, ◌≤◌, Bool, true, false, not, cond, ◌⊎◌, inl, inr, ⊎_elim, List, [], ◌∷◌, ◌++◌, length, Option, Some}
+use Rattle.std.proofs.Common.{None, subst, refl, ap, sym, ◌∙◌, arith}
 use Rattle.std.proofs.lemmas.Bool.{false≢true, and_parts, and_from, not-true, not_from_false, eqb-true, eq-eqb, cases_eq, cases_order, cases_lt, cases_Bool}
 use Rattle.std.proofs.lemmas.List.{length-map}
 use Rattle.inv_base.specs.Tree.{Node, Forest}
 use Rattle.node_arena.specs.Document.{Document}
-use Rattle.node_arena.specs.Moves.{node_of, tree_nodes, HasNodesOf, tree_node, behind, is_attribute, nearest, is_nearest, is_child, is_attribute_of, is_inside, first_that, parent, first_child, next_sibling, last_inside, first_attribute, next_attribute}
+use Rattle.node_arena.specs.Moves.{node_of, tree_nodes, HasNodesOf, tree_node, behind, is_attribute, nearest, is_nearest, is_child, is_attribute_of, is_inside}
+use Rattle.node_arena.specs.Moves.{first_that, parent, first_child, next_sibling, last_inside, first_attribute, next_attribute}
 use Rattle.node_arena.specs.Walks.{LeadsOn}
 use Rattle.node_arena.proofs.FoundLemmas.{IsFirstFrom, first_from, none_from, IsLastFrom, last_from}
 use Rattle.node_arena.proofs.StepLemmas.{In, in_among, among_in, in_right, Step, inner, beside, Walk, document_walk}
@@ -54,13 +56,15 @@ test_nearest numbers more p e = ap (is_nearest p) e ∙ eq-eqb p p refl
 
 -- A child or an attribute, from its parts.
 child_parts : (n : ℕ) (node : Node) → is_child n node ≡ true → (nearest node.above ≡ Some n) × (is_attribute node ≡ false)
-child_parts n node e = let parts = and_parts (is_nearest n node.above) (not (is_attribute node)) e in (nearest_test node.above n parts.0, not-true (is_attribute node) parts.1)
+child_parts n node e = let parts = and_parts (is_nearest n node.above) (not (is_attribute node)) e in
+    (nearest_test node.above n parts.0, not-true (is_attribute node) parts.1)
 
 attribute_parts : (n : ℕ) (node : Node) → is_attribute_of n node ≡ true → (nearest node.above ≡ Some n) × (is_attribute node ≡ true)
 attribute_parts n node e = let parts = and_parts (is_nearest n node.above) (is_attribute node) e in (nearest_test node.above n parts.0, parts.1)
 
 child_from : (n : ℕ) (node : Node) (more : List ℕ) → node.above ≡ n ∷ more → is_attribute node ≡ false → is_child n node ≡ true
-child_from n node more e not_so = and_from (is_nearest n node.above) (not (is_attribute node)) (test_nearest node.above more n e) (not_from_false (is_attribute node) not_so)
+child_from n node more e not_so = and_from (is_nearest n node.above) (not (is_attribute node)) (test_nearest node.above more n e)
+    (not_from_false (is_attribute node) not_so)
 
 attribute_from : (n : ℕ) (node : Node) (more : List ℕ) → node.above ≡ n ∷ more → is_attribute node ≡ true → is_attribute_of n node ≡ true
 attribute_from n node more e is = and_from (is_nearest n node.above) (is_attribute node) (test_nearest node.above more n e) is
@@ -104,14 +108,16 @@ module _ (nodes : List Node) (w : Walk nodes) where
       (λ (e : k ≡ suc m). subst (λ j. In p (above nodes j)) (sym e) i)
       (λ (ne : k ≡ suc m → ⊥). ⊎_elim
       (λ (e : p ≡ m). absurd (ne (omega (arith, e, a, b))))
-      (λ (j : In p (above nodes m)). down m k p a (⊎_elim (λ (l : k < suc m). omega (arith, l)) (λ (g : suc m ≤ k). absurd (ne (omega (arith, g, b)))) (cases_lt k (suc m))) (omega (arith, h)) j)
+      (λ (j : In p (above nodes m)). down m k p a (⊎_elim (λ (l : k < suc m). omega (arith, l)) (λ (g : suc m ≤ k). absurd (ne (omega (arith, g, b))))
+      (cases_lt k (suc m))) (omega (arith, h)) j)
       (in_next m p h i))
       (cases_eq k (suc m))
 
   is_path : (k : ℕ) → k < length nodes → IsPath nodes (above nodes k)
   is_path zero h = subst (IsPath nodes) (sym w.begins) tt
   is_path (suc k) h =
-      path_step nodes (tree_node nodes k) (tree_node nodes (suc k)) (w.step k h) (ap (above nodes) (sym (w.numbers k (omega (arith, h))))) (is_path k (omega (arith, h)))
+      path_step nodes (tree_node nodes k) (tree_node nodes (suc k)) (w.step k h) (ap (above nodes) (sym (w.numbers k (omega (arith, h)))))
+      (is_path k (omega (arith, h)))
 
   around : (k p : ℕ) → k < length nodes → nearest (above nodes k) ≡ Some p → above nodes k ≡ p ∷ above nodes p
   around k p h e = path_nearest nodes (above nodes k) p (is_path k h) e
@@ -127,15 +133,19 @@ module _ (nodes : List Node) (w : Walk nodes) where
   rooted (suc k) a h = w.rooted k h
 
   -- The first inside a node is right inside it.
-  right_step : (k : ℕ) → k < length nodes → (next : Node) → Step (tree_node nodes k) next → In k next.above → (is_attribute (tree_node nodes k) ≡ false) × (next.above ≡ k ∷ above nodes k)
+  right_step : (k : ℕ) → k < length nodes → (next : Node) → Step (tree_node nodes k) next → In k next.above → (is_attribute (tree_node nodes k) ≡ false) ×
+      (next.above ≡ k ∷ above nodes k)
   right_step k h next (inner not_so is) i = (not_so, is ∙ ap (λ j. j ∷ above nodes k) (w.numbers k h))
-  right_step k h next (beside left is attributes) i = absurd (let less = before k k h (subst (In k) (sym is) (in_right k left next.above i)) in omega (arith, less))
+  right_step k h next (beside left is attributes) i = absurd (let less = before k k h (subst (In k) (sym is) (in_right k left next.above i)) in
+      omega (arith, less))
 
-  right_inside : (k : ℕ) → suc k < length nodes → In k (above nodes (suc k)) → (is_attribute (tree_node nodes k) ≡ false) × (above nodes (suc k) ≡ k ∷ above nodes k)
+  right_inside : (k : ℕ) → suc k < length nodes → In k (above nodes (suc k)) → (is_attribute (tree_node nodes k) ≡ false) ×
+      (above nodes (suc k) ≡ k ∷ above nodes k)
   right_inside k h i = right_step k (omega (arith, h)) (tree_node nodes (suc k)) (w.step k h) i
 
   -- Before an attribute stands its element or another attribute of it.
-  attribute_step : (k p : ℕ) → k < length nodes → (next : Node) → Step (tree_node nodes k) next → is_attribute next ≡ true → (more : List ℕ) → next.above ≡ p ∷ more
+  attribute_step : (k p : ℕ) → k < length nodes → (next : Node) → Step (tree_node nodes k) next → is_attribute next ≡ true → (more : List ℕ) →
+      next.above ≡ p ∷ more
       → (p ≡ k) ⊎ ((is_attribute (tree_node nodes k) ≡ true) × (above nodes k ≡ next.above))
   attribute_step k p h next (inner not_so is) so more e =
       let same : p ∷ more ≡ (tree_node nodes k).number ∷ above nodes k = sym e ∙ is in
@@ -154,7 +164,8 @@ module _ (nodes : List Node) (w : Walk nodes) where
   attributes_between zero k p h so e a b = absurd (omega (arith, a, b))
   attributes_between (suc m) k p h so e a b = ⊎_elim
       (λ (same : k ≡ suc m). (ap (λ j. is_attribute (tree_node nodes j)) same ∙ so, ap (λ j. nearest (above nodes j)) same ∙ e))
-      (λ (ne : k ≡ suc m → ⊥). let less : k ≤ m = ⊎_elim (λ (l : k < suc m). omega (arith, l)) (λ (g : suc m ≤ k). absurd (ne (omega (arith, g, b)))) (cases_lt k (suc m)) in ⊎_elim
+      (λ (ne : k ≡ suc m → ⊥). let less : k ≤ m = ⊎_elim (λ (l : k < suc m). omega (arith, l)) (λ (g : suc m ≤ k). absurd (ne (omega (arith, g, b))))
+      (cases_lt k (suc m)) in ⊎_elim
       (λ (same : p ≡ m). absurd (omega (arith, same, a, less)))
       (λ (other : (is_attribute (tree_node nodes m) ≡ true) × (above nodes m ≡ above nodes (suc m))).
       attributes_between m k p (omega (arith, h)) other.0 (ap nearest other.1 ∙ e) a less)
@@ -170,12 +181,14 @@ module _ (nodes : List Node) (w : Walk nodes) where
 
   ends_of : (n : ℕ) → n < length nodes → (m : ℕ) → IsLastFrom (is_inside n) nodes (n + 1) n m → Ends n m
   ends_of n h m f =
-      let from : n ≤ m = ⊎_elim (λ e. omega (arith, e)) (λ (j : (n + 1 ≤ m) × (m < length nodes) × (is_inside n (tree_node nodes m) ≡ true)). omega (arith, j.0)) f.here in
+      let from : n ≤ m = ⊎_elim (λ e. omega (arith, e)) (λ (j : (n + 1 ≤ m) × (m < length nodes) × (is_inside n (tree_node nodes m) ≡ true)). omega
+      (arith, j.0)) f.here in
       record {
         from = from;
         within = ⊎_elim (λ e. omega (arith, e, h)) (λ (j : (n + 1 ≤ m) × (m < length nodes) × (is_inside n (tree_node nodes m) ≡ true)). j.1) f.here;
         here = ⊎_elim inl (λ (j : (n + 1 ≤ m) × (m < length nodes) × (is_inside n (tree_node nodes m) ≡ true)). inr (in_among n (above nodes m) j.2)) f.here;
-        behind_it = λ k past within i. both_ways (is_inside n (tree_node nodes k)) (among_in n (above nodes k) i) (f.behind_it k (omega (arith, from, past)) past within);
+        behind_it = λ k past within i. both_ways (is_inside n (tree_node nodes k)) (among_in n (above nodes k) i)
+            (f.behind_it k (omega (arith, from, past)) past within);
       }
 
   pub ends : (n : ℕ) → n < length nodes → Ends n (last_inside nodes n)
@@ -219,7 +232,8 @@ module _ (nodes : List Node) (w : Walk nodes) where
       let within = f.within in ⊎_elim
       (λ (e : n ≡ j). omega (arith, e))
       (λ (other : (is_attribute (tree_node nodes j) ≡ true) × (above nodes j ≡ above nodes (suc j))).
-      absurd (both_ways (is_attribute_of n (tree_node nodes j)) (attribute_from n (tree_node nodes j) (above nodes n) (other.1 ∙ around (suc j) n within parts.0) other.0)
+      absurd (both_ways (is_attribute_of n (tree_node nodes j))
+      (attribute_from n (tree_node nodes j) (above nodes n) (other.1 ∙ around (suc j) n within parts.0) other.0)
       (f.before j (omega arith) (omega arith))))
       (before_attribute j n within parts.1 parts.0)
 
@@ -243,20 +257,24 @@ module _ (nodes : List Node) (w : Walk nodes) where
       ap (λ b. cond b None (by_parent (λ q. first_that (is_child q) (behind n nodes)) (parent nodes n))) not_so
       ∙ ap (by_parent (λ q. first_that (is_child q) (behind n nodes))) around_it
 
-  attribute_at : (n p : ℕ) → is_attribute (tree_node nodes n) ≡ true → parent nodes n ≡ Some p → next_attribute nodes n ≡ first_that (is_attribute_of p) (behind n nodes)
+  attribute_at : (n p : ℕ) → is_attribute (tree_node nodes n) ≡ true → parent nodes n ≡ Some p →
+      next_attribute nodes n ≡ first_that (is_attribute_of p) (behind n nodes)
   attribute_at n p is around_it =
       ap (λ b. cond b (by_parent (λ q. first_that (is_attribute_of q) (behind n nodes)) (parent nodes n)) None) is
       ∙ ap (by_parent (λ q. first_that (is_attribute_of q) (behind n nodes))) around_it
 
   sibling_from : (n m : ℕ) → next_sibling nodes n ≡ Some m → (is_attribute (tree_node nodes n) ≡ false) × ((p : ℕ) × (parent nodes n ≡ Some p))
   sibling_from n m e =
-      let parts = sibling_parts (is_attribute (tree_node nodes n)) (parent nodes n) (λ q. first_that (is_child q) (behind n nodes)) m e in (parts.0, (parts.1, parts.2))
+      let parts = sibling_parts (is_attribute (tree_node nodes n)) (parent nodes n) (λ q. first_that (is_child q) (behind n nodes)) m e in
+      (parts.0, (parts.1, parts.2))
 
   attribute_from_move : (n m : ℕ) → next_attribute nodes n ≡ Some m → (is_attribute (tree_node nodes n) ≡ true) × ((p : ℕ) × (parent nodes n ≡ Some p))
   attribute_from_move n m e =
-      let parts = attribute_move_parts (is_attribute (tree_node nodes n)) (parent nodes n) (λ q. first_that (is_attribute_of q) (behind n nodes)) m e in (parts.0, (parts.1, parts.2))
+      let parts = attribute_move_parts (is_attribute (tree_node nodes n)) (parent nodes n) (λ q. first_that (is_attribute_of q) (behind n nodes)) m e in
+      (parts.0, (parts.1, parts.2))
 
-  next_attribute_go : (n p m : ℕ) → n < length nodes → is_attribute (tree_node nodes n) ≡ true → parent nodes n ≡ Some p → IsFirstFrom (is_attribute_of p) nodes (n + 1) m → m ≡ n + 1
+  next_attribute_go : (n p m : ℕ) → n < length nodes → is_attribute (tree_node nodes n) ≡ true → parent nodes n ≡ Some p →
+      IsFirstFrom (is_attribute_of p) nodes (n + 1) m → m ≡ n + 1
   next_attribute_go n p zero h is around_it f = let from = f.from in absurd (omega (arith, from))
   next_attribute_go n p (suc j) h is around_it f =
       let parts = attribute_parts p (tree_node nodes (suc j)) f.is in
@@ -265,7 +283,8 @@ module _ (nodes : List Node) (w : Walk nodes) where
       let less = before n p h (nearest_is n p h around_it) in ⊎_elim
       (λ (e : p ≡ j). absurd (omega (arith, e, less, from)))
       (λ (other : (is_attribute (tree_node nodes j) ≡ true) × (above nodes j ≡ above nodes (suc j))). ⊎_elim
-      (λ (l : n < j). absurd (both_ways (is_attribute_of p (tree_node nodes j)) (attribute_from p (tree_node nodes j) (above nodes p) (other.1 ∙ around (suc j) p within parts.0) other.0)
+      (λ (l : n < j). absurd (both_ways (is_attribute_of p (tree_node nodes j))
+      (attribute_from p (tree_node nodes j) (above nodes p) (other.1 ∙ around (suc j) p within parts.0) other.0)
       (f.before j (omega (arith, l)) (omega arith))))
       (λ (g : j ≤ n). omega (arith, g, from))
       (cases_lt n j))
@@ -278,7 +297,8 @@ module _ (nodes : List Node) (w : Walk nodes) where
       (first_from (is_attribute_of parts.1.0) nodes w.numbers (n + 1) m (sym (attribute_at n parts.1.0 parts.0 parts.1.1) ∙ e))
 
   -- Behind all that is inside a node stands its next sibling, where that is inside its parent.
-  module _ (n p last : ℕ) (h : n < length nodes) (not_so : is_attribute (tree_node nodes n) ≡ false) (around_it : parent nodes n ≡ Some p) (e : Ends n last) where
+  module _ (n p last : ℕ) (h : n < length nodes) (not_so : is_attribute (tree_node nodes n) ≡ false) (around_it : parent nodes n ≡ Some p)
+      (e : Ends n last) where
     parent_in : In p (above nodes n)
     parent_in = nearest_is n p h around_it
 
@@ -332,7 +352,8 @@ module _ (nodes : List Node) (w : Walk nodes) where
     beside_it within i =
         let is = beside_parent within i in ⊎_elim
         (λ (so : is_attribute (tree_node nodes (suc last)) ≡ true). absurd (beside_not within is so))
-        (λ (child_is : is_attribute (tree_node nodes (suc last)) ≡ false). child_from p (tree_node nodes (suc last)) (above nodes p) (around (suc last) p within is) child_is)
+        (λ (child_is : is_attribute (tree_node nodes (suc last)) ≡ false). child_from p (tree_node nodes (suc last)) (above nodes p)
+        (around (suc last) p within is) child_is)
         (cases_Bool (is_attribute (tree_node nodes (suc last))))
 
     beside_past : (m : ℕ) → IsFirstFrom (is_child p) nodes (n + 1) m → last < m
@@ -356,7 +377,8 @@ module _ (nodes : List Node) (w : Walk nodes) where
         let within = f.within in
         let from = e.from in
         let less = parent_less in
-        let i = down m (suc last) p (omega (arith, less, from)) (omega (arith, past)) within (nearest_is m p within (child_parts p (tree_node nodes m) f.is).0) in
+        let i = down m (suc last) p (omega (arith, less, from)) (omega (arith, past)) within
+        (nearest_is m p within (child_parts p (tree_node nodes m) f.is).0) in
         let is = beside_it (omega (arith, past, within)) i in ⊎_elim
         (λ (l : suc last < m). absurd (both_ways (is_child p (tree_node nodes (suc last))) is (f.before (suc last) (omega (arith, from)) l)))
         (λ (g : m ≤ suc last). omega (arith, g, past))
@@ -369,13 +391,15 @@ module _ (nodes : List Node) (w : Walk nodes) where
         let within = o.within in
         let last_within = e.within in
         let p_in : In p (above nodes last) =
-        ⊎_elim (λ (same : last ≡ n). subst (λ x. In p (above nodes x)) (sym same) parent_in) (λ (j : In n (above nodes last)). inside last n p last_within j parent_in) e.here in ⊎_elim
+        ⊎_elim (λ (same : last ≡ n). subst (λ x. In p (above nodes x)) (sym same) parent_in)
+        (λ (j : In n (above nodes last)). inside last n p last_within j parent_in) e.here in ⊎_elim
         (λ (l : outer < last). absurd (o.behind_it last l last_within p_in))
         (λ (g : last ≤ outer). ⊎_elim
         (λ (l : last < outer). absurd (⊎_elim
         (λ (same : outer ≡ p). omega (arith, same, l, less, from))
         (λ (j : In p (above nodes outer)). both_ways (is_child p (tree_node nodes (suc last)))
-        (beside_it (omega (arith, l, within)) (down outer (suc last) p (omega (arith, less, from)) (omega (arith, l)) within j)) (none (suc last) (omega (arith, from)) (omega (arith, l, within))))
+        (beside_it (omega (arith, l, within)) (down outer (suc last) p (omega (arith, less, from)) (omega (arith, l)) within j))
+        (none (suc last) (omega (arith, from)) (omega (arith, l, within))))
         o.here))
         (λ (b : outer ≤ last). omega (arith, g, b))
         (cases_lt last outer))
@@ -395,7 +419,8 @@ module _ (nodes : List Node) (w : Walk nodes) where
       (none_from (is_child p) nodes (n + 1) (sym (sibling_at n p not_so around_it) ∙ none)) (last_inside nodes p) (ends p (omega (arith, less, h)))
 
   -- Behind the last attribute of an element stands its first child, where that is inside it.
-  module _ (n p : ℕ) (h : n < length nodes) (is : is_attribute (tree_node nodes n) ≡ true) (none : next_attribute nodes n ≡ None) (around_it : parent nodes n ≡ Some p) where
+  module _ (n p : ℕ) (h : n < length nodes) (is : is_attribute (tree_node nodes n) ≡ true) (none : next_attribute nodes n ≡ None)
+      (around_it : parent nodes n ≡ Some p) where
     owner_in : In p (above nodes n)
     owner_in = nearest_is n p h around_it
 
@@ -425,7 +450,8 @@ module _ (nodes : List Node) (w : Walk nodes) where
         let less = before m p within m_in in
         let up = owner_less in ⊎_elim
         (λ (l : n < m). ⊎_elim
-        (λ (past : suc n < m). absurd (both_ways (is_child p (tree_node nodes (suc n))) (behind_it (omega (arith, past, within)) (down m (suc n) p (omega (arith, up)) (omega (arith, l)) within m_in))
+        (λ (past : suc n < m). absurd (both_ways (is_child p (tree_node nodes (suc n)))
+        (behind_it (omega (arith, past, within)) (down m (suc n) p (omega (arith, up)) (omega (arith, l)) within m_in))
         (f.before (suc n) (omega arith) past)))
         (λ (g : m ≤ suc n). omega (arith, g, l))
         (cases_lt (suc n) m))
@@ -440,7 +466,8 @@ module _ (nodes : List Node) (w : Walk nodes) where
         (λ (g : n ≤ outer). ⊎_elim
         (λ (l : n < outer). absurd (⊎_elim
         (λ (same : outer ≡ p). omega (arith, same, l, up))
-        (λ (j : In p (above nodes outer)). both_ways (is_child p (tree_node nodes (suc n))) (behind_it (omega (arith, l, within)) (down outer (suc n) p (omega (arith, up)) (omega (arith, l)) within j))
+        (λ (j : In p (above nodes outer)). both_ways (is_child p (tree_node nodes (suc n)))
+        (behind_it (omega (arith, l, within)) (down outer (suc n) p (omega (arith, up)) (omega (arith, l)) within j))
         (none_from (is_child p) nodes 0 no_child (suc n) (omega arith) (omega (arith, l, within))))
         o.here))
         (λ (b : outer ≤ n). omega (arith, g, b))
@@ -487,7 +514,8 @@ module _ (nodes : List Node) (w : Walk nodes) where
       let some = nearest_in (above nodes (suc n)) 0 (w.rooted n within) in
       (some.0, ap (parent nodes) at ∙ some.1, next_at n some.0 within some.1)
 
-  level_of : (k : ℕ) → k < length nodes → ((p : ℕ) → p < k → length (above nodes p) ≤ p) → (numbers : List ℕ) → above nodes k ≡ numbers → length (above nodes k) ≤ k
+  level_of : (k : ℕ) → k < length nodes → ((p : ℕ) → p < k → length (above nodes p) ≤ p) → (numbers : List ℕ) → above nodes k ≡ numbers →
+      length (above nodes k) ≤ k
   level_of k h earlier [] e = let none = ap length e in omega (arith, none)
   level_of k h earlier (p ∷ numbers) e =
       let less = before k p h (nearest_is k p h (ap nearest e)) in

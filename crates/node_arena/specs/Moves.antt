@@ -1,6 +1,7 @@
 -- Moves from one node of a document to another, as relations between the nodes of the plain tree in document order. A
 -- node's number is its place among them.
-use Rattle.std.specs.Prelude.{◌≡◌, ℕ, ◌+◌, ◌<◌, Bool, true, false, not, ◌&&◌, ◌==◌, nat_lt, nat_le, if◌then◌else◌, List, [], ◌∷◌, length, map, filter, find, drop, get_or, Option, Some, None, IfSome, option_map}
+use Rattle.std.specs.Prelude.{◌≡◌, ℕ, ◌+◌, ◌<◌, Bool, true, false, not, ◌&&◌, ◌==◌, nat_lt, nat_le, if◌then◌else◌, List, [], ◌∷◌, length, map, filter, find}
+use Rattle.std.specs.Prelude.{drop, get_or, Option, Some, None, IfSome, option_map}
 use Rattle.inv_base.specs.declared.tree.Kind.TheVariants as kinds
 use Rattle.inv_base.specs.Tree.{Name, Forest, IsDocument, Node, document_nodes, is_among}
 use Rattle.xml_state.specs.Events.{name_at}

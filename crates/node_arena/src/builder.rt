@@ -38,7 +38,8 @@ impl<'a> Model for Builder<'a> {
     ghost use Rattle.node_arena.specs.Slots.{kept, path, text_nodes, IsGrowing};
 
     ghost view = { λ b. record {
-      nodes = kept b.nodes.items ++ text_nodes (kept b.nodes.items) (path (kept b.nodes.items) b.current) (chars b.lent.now ++ chars (string_bytes b.text)) b.text_place;
+      nodes = kept b.nodes.items ++ text_nodes (kept b.nodes.items) (path (kept b.nodes.items) b.current)
+          (chars b.lent.now ++ chars (string_bytes b.text)) b.text_place;
       open_nodes = path (kept b.nodes.items) b.current;
       in_text = is_some b.text_place;
     } };

@@ -1,5 +1,6 @@
 //! Nodes while they are built, beside the number of the last node inside each.
-ghost use Rattle.std.specs.Prelude.{◌≡◌, ◌+◌, ◌^◌, ◌<◌, ◌≤◌, true, [], ◌∷◌, ◌++◌, length, chars, string_bytes, vec_len, vec_capacity, IfOk, OnOk, OnErr, OnSome};
+ghost use Rattle.std.specs.Prelude.{◌≡◌, ◌+◌, ◌^◌, ◌<◌, ◌≤◌, true, [], ◌∷◌, ◌++◌, length, chars, string_bytes, vec_len, vec_capacity, IfOk, OnOk, OnErr};
+ghost use Rattle.std.specs.Prelude.{OnSome};
 ghost use Rattle.node_arena.specs.Document.{ended};
 ghost use Rattle.node_arena.specs.Slots.{path, kept, text_nodes, IsGrowing};
 ghost use Rattle.node_arena.specs.Linked.{AreEnds};
@@ -22,7 +23,8 @@ pub(crate) fn settle_text<'a>(
 ) -> Result<(), AllocError>
     requires { IsGrowing nodes.old.items ends.old.items current }
     ensures growing { OnOk result (IsGrowing nodes.new.items ends.new.items current) }
-    ensures nodes { OnOk result (kept nodes.new.items ≡ kept nodes.old.items ++ text_nodes (kept nodes.old.items) (path (kept nodes.old.items) current) (chars lent.now ++ chars (string_bytes text.now)) place) }
+    ensures nodes { OnOk result (kept nodes.new.items ≡ kept nodes.old.items ++
+        text_nodes (kept nodes.old.items) (path (kept nodes.old.items) current) (chars lent.now ++ chars (string_bytes text.now)) place) }
     ensures around { OnOk result (path (kept nodes.new.items) current ≡ path (kept nodes.old.items) current) }
     ensures nodes_room { OnOk result (vec_len nodes.new < vec_capacity nodes.new) }
     ensures ends_room { OnOk result (vec_len ends.new < vec_capacity ends.new) }
@@ -98,7 +100,8 @@ fn push_text<'a>(
     requires ends_room { vec_len ends.old + 2 ≤ vec_capacity ends.old }
     requires few { vec_len nodes.old + 2 < 2 ^ 32 }
     ensures growing { IsGrowing nodes.new.items ends.new.items current }
-    ensures nodes { kept nodes.new.items ≡ kept nodes.old.items ++ text_nodes (kept nodes.old.items) (path (kept nodes.old.items) current) (chars text.now) place }
+    ensures nodes { kept nodes.new.items ≡ kept nodes.old.items ++
+        text_nodes (kept nodes.old.items) (path (kept nodes.old.items) current) (chars text.now) place }
     ensures around { path (kept nodes.new.items) current ≡ path (kept nodes.old.items) current }
     ensures nodes_room { vec_len nodes.new < vec_capacity nodes.new }
     ensures ends_room { vec_len ends.new < vec_capacity ends.new }

@@ -4,7 +4,8 @@ ghost use Rattle.xml_state.specs.Events.{Event, name_at};
 ghost use Rattle.xml_state.specs.Documents.{Tells};
 ghost use Rattle.xml_state.specs.Names.{AreDistinct, find_name};
 ghost use Rattle.node_arena.specs.Document.{Document, built, node_at, AreNamed};
-ghost use Rattle.node_arena.specs.Moves.{tree_nodes, tree_node, HasNodesOf, IsWhole, behind, is_inside, last_inside, is_between, first_that, has_name, has_found, chain, first_named, next_named};
+ghost use Rattle.node_arena.specs.Moves.{tree_nodes, tree_node, HasNodesOf, IsWhole, behind, is_inside, last_inside, is_between, first_that, has_name};
+ghost use Rattle.node_arena.specs.Moves.{has_found, chain, first_named, next_named};
 ghost use Rattle.node_arena.specs.Walks.{LeadsOn};
 
 /// The events of a document build the nodes of its tree one for one, with the numbers of all their

@@ -1,6 +1,7 @@
 //! Moves from node to node of a document.
 ghost use Rattle.std.specs.Prelude.{◌≡◌, ◌+◌, ◌<◌, ◌≤◌, length, get_or, slice_index, None, IfSome, SomeIff};
-ghost use Rattle.node_arena.specs.Moves.{Leads, tree_nodes, parent, first_child, next_sibling, last_inside, first_attribute, next_attribute, first_named, next_named};
+ghost use Rattle.node_arena.specs.Moves.{Leads, tree_nodes, parent, first_child, next_sibling, last_inside, first_attribute, next_attribute, first_named};
+ghost use Rattle.node_arena.specs.Moves.{next_named};
 
 use crate::doc::{Doc, NodeId};
 use crate::link::Link;

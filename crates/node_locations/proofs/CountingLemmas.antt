@@ -1,5 +1,6 @@
 -- Children counted by keys, and their ordinals.
-use Rattle.std.proofs.Common.{◌≡◌, ℕ, zero, suc, ◌+◌, ◌<◌, ◌≤◌, ◌^◌, ◌==◌, ◌&&◌, Bool, true, false, not, cond, List, [], ◌∷◌, length, take, drop, get_or, set, Option, Some, None, IfSome, option_map, refl, ap, sym, subst, ◌∙◌, arith, ⊎_elim, inl}
+use Rattle.std.proofs.Common.{◌≡◌, ℕ, zero, suc, ◌+◌, ◌<◌, ◌≤◌, ◌^◌, ◌==◌, ◌&&◌, Bool, true, false, not, cond, List, [], ◌∷◌, length, take, drop, get_or, set}
+use Rattle.std.proofs.Common.{Option, Some, None, IfSome, option_map, refl, ap, sym, subst, ◌∙◌, arith, ⊎_elim, inl}
 use Rattle.std.specs.Prelude.{filter}
 use Rattle.std.specs.Option.{ForSome}
 use Rattle.std.proofs.lemmas.Bool.{eqb-true, eq-eqb, cases_lt, cases_eq, and_parts, not-true}
@@ -13,7 +14,8 @@ use Rattle.inv_base.specs.Tree.{Name, Node}
 use Rattle.xml_state.specs.Events.{name_at}
 use Rattle.xml_state.specs.Names.{same_name, AreDistinct}
 use Rattle.node_arena.specs.Document.{Document, Placed, document_node, node_at, AreNamed}
-use Rattle.node_arena.specs.Moves.{node_of, tree_nodes, tree_node, behind, nearest, is_nearest, is_child, is_attribute, first_that, first_child, next_sibling, parent}
+use Rattle.node_arena.specs.Moves.{node_of, tree_nodes, tree_node, behind, nearest, is_nearest, is_child, is_attribute, first_that, first_child, next_sibling}
+use Rattle.node_arena.specs.Moves.{parent}
 use Rattle.node_arena.proofs.FoundLemmas.{first_from, none_from}
 use Rattle.node_arena.proofs.StepLemmas.{Walk, In}
 use Rattle.node_arena.proofs.WalkLemmas.{before, both_ways}
@@ -50,7 +52,8 @@ add_back : (n k : ℕ) → n + k ≡ k + n
 add_back n k = omega arith
 
 -- a filter of the first nodes, counted
-pub filter_tally : (is_so : Node → Bool) (nodes : List Node) (n : ℕ) → n ≤ length nodes → length (filter is_so (take n nodes)) ≡ tally (λ k. is_so (tree_node nodes k)) n
+pub filter_tally : (is_so : Node → Bool) (nodes : List Node) (n : ℕ) → n ≤ length nodes →
+    length (filter is_so (take n nodes)) ≡ tally (λ k. is_so (tree_node nodes k)) n
 filter_tally is_so nodes zero h = refl
 filter_tally is_so nodes (suc n) h =
     ap (λ m. length (filter is_so (take m nodes))) (let e : suc n ≡ n + 1 = omega arith in e)
@@ -71,7 +74,8 @@ is_same : (a b : Name) → a ≡ b → same_name a b ≡ true
 is_same a b e = ap (λ (x : Name). same_name x b) e ∙ self b
   where
     self : (b : Name) → same_name b b ≡ true
-    self b = ap (λ x. x && (Rattle.std.specs.Prelude.bytes_eq b.local b.local)) ((bytes_eq-Decides b.uri b.uri).1 refl) ∙ (bytes_eq-Decides b.local b.local).1 refl
+    self b = ap (λ x. x && (Rattle.std.specs.Prelude.bytes_eq b.local b.local)) ((bytes_eq-Decides b.uri b.uri).1 refl) ∙
+        (bytes_eq-Decides b.local b.local).1 refl
 
 one_answer : (a b : Bool) → (a ≡ true → b ≡ true) → (b ≡ true → a ≡ true) → a ≡ b
 one_answer true b f g = sym (f refl)
@@ -98,7 +102,8 @@ pub record IsNext (p count from : ℕ) (all : List Node) (next : Option ℕ) : T
   pub behind_it : from ≤ reach count next
   pub none : (k : ℕ) → from ≤ k → k < reach count next → is_child p (tree_node all k) ≡ false
 
-next_is : (p count from : ℕ) (all : List Node) → Walk all → length all ≡ count → from ≤ count → (next : Option ℕ) → first_that (is_child p) (drop from all) ≡ next
+next_is : (p count from : ℕ) (all : List Node) → Walk all → length all ≡ count → from ≤ count → (next : Option ℕ) →
+    first_that (is_child p) (drop from all) ≡ next
     → IsNext p count from all next
 next_is p count from all walk is le None e = record {
   within = tt;
@@ -121,7 +126,8 @@ pub record IsCounting (document : Document) (p : ℕ) (table : List Seen) (count
       → get_or counts n 0 ≡ ordinal (tree_nodes document) n
 
 -- a right count is put in its place
-set_right : (P : ℕ → ℕ → Type 0) (counts : List ℕ) (n count m : ℕ) → n < length counts → P n count → ((m ≡ n → ⊥) → P m (get_or counts m 0)) → P m (get_or (set counts n count) m 0)
+set_right : (P : ℕ → ℕ → Type 0) (counts : List ℕ) (n count m : ℕ) → n < length counts → P n count → ((m ≡ n → ⊥) → P m (get_or counts m 0)) →
+    P m (get_or (set counts n count) m 0)
 set_right P counts n count m within right other = ⊎_elim
     (λ (e : m ≡ n). subst (λ k. P k (get_or (set counts n count) k 0)) (sym e) (subst (P n) (sym (get_or-set_same counts n count 0 within)) right))
     (λ (ne : m ≡ n → ⊥). subst (P m) (sym (get_or-set_other counts n m count 0 ne)) (other ne))
@@ -140,7 +146,8 @@ named_node count [] n h within = absurd (omega (arith, within))
 named_node count (node ∷ nodes) zero h within = h.0
 named_node count (node ∷ nodes) (suc n) h within = named_node count nodes n h.1 (omega (arith, within))
 
-module _ (document : Document) (distinct : AreDistinct document.names) (named : AreNamed (length document.names) document.nodes) (walk : Walk (tree_nodes document)) where
+module _ (document : Document) (distinct : AreDistinct document.names) (named : AreNamed (length document.names) document.nodes)
+    (walk : Walk (tree_nodes document)) where
   pub long : length (tree_nodes document) ≡ length document.nodes
   long = length-map document.nodes (node_of document.names)
 
@@ -173,14 +180,17 @@ module _ (document : Document) (distinct : AreDistinct document.names) (named : 
       ∙ ap (λ k. 1 + k) (is ∙ (tally_same _ _ n (λ k h. alike p n k within (omega (arith, h, within)) child)
       ∙ sym (filter_tally (is_alike (tree_node (tree_nodes document) n)) (tree_nodes document) n (omega (arith, within, long)))))
 
-  next_child : (n p : ℕ) → is_child p (tree_node (tree_nodes document) n) ≡ true → next_sibling (tree_nodes document) n ≡ first_that (is_child p) (drop (n + 1) (tree_nodes document))
+  next_child : (n p : ℕ) → is_child p (tree_node (tree_nodes document) n) ≡ true →
+      next_sibling (tree_nodes document) n ≡ first_that (is_child p) (drop (n + 1) (tree_nodes document))
   next_child n p child =
       let all = tree_nodes document in
       let parts = and_parts (is_nearest p (tree_node all n).above) (not (is_attribute (tree_node all n))) child in
-      ap (λ b. cond b None (elim (parent all n) as (λ _. Option ℕ) [ None ↦ None | Some q ↦ first_that (is_child q) (behind n all) ])) (not-true (is_attribute (tree_node all n)) parts.1)
+      ap (λ b. cond b None (elim (parent all n) as (λ _. Option ℕ) [ None ↦ None | Some q ↦ first_that (is_child q) (behind n all) ]))
+      (not-true (is_attribute (tree_node all n)) parts.1)
       ∙ sibling_elim (tree_node all n).above p (λ q. first_that (is_child q) (behind n all)) parts.0
     where
-      sibling_elim : (above : List ℕ) (p : ℕ) (f : ℕ → Option ℕ) → is_nearest p above ≡ true → elim (nearest above) as (λ _. Option ℕ) [ None ↦ None | Some q ↦ f q ] ≡ f p
+      sibling_elim : (above : List ℕ) (p : ℕ) (f : ℕ → Option ℕ) → is_nearest p above ≡ true →
+          elim (nearest above) as (λ _. Option ℕ) [ None ↦ None | Some q ↦ f q ] ≡ f p
       sibling_elim [] p f h = cc
       sibling_elim (m ∷ above) p f h = ap f (eqb-true m p h)
 
@@ -219,7 +229,8 @@ module _ (document : Document) (distinct : AreDistinct document.names) (named : 
   counting-step p n count table table' counts next is counts_long next_at count_is here_is elsewhere =
       let within : n < length document.nodes = is.within in
       let child : is_child p (tree_node (tree_nodes document) n) ≡ true = is.on in
-      let behind_n = next_is p (length document.nodes) (n + 1) (tree_nodes document) walk long (omega (arith, within)) next (sym (next_at ∙ next_child n p child)) in
+      let behind_n = next_is p (length document.nodes) (n + 1) (tree_nodes document) walk long (omega (arith, within)) next
+      (sym (next_at ∙ next_child n p child)) in
       let right : count ≡ ordinal (tree_nodes document) n =
       count_is ∙ ordinal_is p n (seen table p (key (node_at document.nodes n).name)) within child (is.tallied (key (node_at document.nodes n).name)) in
       let one_more = λ (k : ℕ). here_is k
@@ -230,10 +241,12 @@ module _ (document : Document) (distinct : AreDistinct document.names) (named : 
         within = behind_n.within;
         on = behind_n.on;
         tallied = λ k. one_more k
-            ∙ sym (tally_skip (is_keyed document p k) (n + 1) (reach (length document.nodes) next) behind_n.behind_it (λ j a b. no_child p k j (behind_n.none j a b)));
+            ∙ sym (tally_skip (is_keyed document p k) (n + 1) (reach (length document.nodes) next) behind_n.behind_it
+            (λ j a b. no_child p k j (behind_n.none j a b)));
         fresh = λ q k h. elsewhere q k h (is.fresh q k h);
         counted = λ q m below m_within m_child.
-            set_right (λ j c. c ≡ ordinal (tree_nodes document) j) counts n count m (omega (arith, within, counts_long)) right (λ ne. is.counted q m below m_within m_child);
+            set_right (λ j c. c ≡ ordinal (tree_nodes document) j) counts n count m (omega (arith, within, counts_long)) right
+            (λ ne. is.counted q m below m_within m_child);
         here = λ m h m_child.
             set_right (λ j c. c ≡ ordinal (tree_nodes document) j) counts n count m (omega (arith, within, counts_long)) right
             (λ ne. ⊎_elim

@@ -1,5 +1,6 @@
 -- Where a document is read there is no fault in it: what that says of all that is told, and of each context.
-use Rattle.std.proofs.Common.{◌≡◌, suc, Bool, true, false, List, [], ◌∷◌, ◌++◌, map, flat_map, length, Option, Some, None, is_some, is_none, Result, Ok, Err, refl, ap, sym, arith}
+use Rattle.std.proofs.Common.{◌≡◌, suc, Bool, true, false, List, [], ◌∷◌, ◌++◌, map, flat_map, length, Option, Some, None, is_some, is_none, Result, Ok, Err}
+use Rattle.std.proofs.Common.{refl, ap, sym, arith}
 use Rattle.std.specs.List.{AllByRecursion}
 use Rattle.std.proofs.lemmas.Bool.{false≢true}
 use Rattle.inv_base.specs.Tree.{Node}
@@ -11,7 +12,8 @@ use Rattle.bind_meaning.specs.declared.fault.BindFault.{BindFault}
 use Rattle.bind_meaning.specs.declared.fault.BindKind.{BindKind}
 use Rattle.bind_meaning.specs.Currencies.{Currencies, currencies}
 use Rattle.bind_meaning.specs.Seats.{Placed, rooms}
-use Rattle.bind_meaning.specs.Judging.{Found, found, Told, first_before, is_not_listed, breaks, Cause, first_cause, causes, place_at, fault_of, faults_behind, wrong_word, missing_in, seat_of, least}
+use Rattle.bind_meaning.specs.Judging.{Found, found, Told, first_before, is_not_listed, breaks, Cause, first_cause, causes, place_at, fault_of, faults_behind}
+use Rattle.bind_meaning.specs.Judging.{wrong_word, missing_in, seat_of, least}
 use Rattle.bind_meaning.specs.Terms.{Read, entries, told, term_picks, constant_picks, place_all, passed_over, all_faults, terms_of}
 use Rattle.reading_laws.proofs.ListLemmas.{none-of-both, neither, not-not}
 use Rattle.reading_laws.proofs.EntryLemmas.{HasValue}

@@ -1,5 +1,6 @@
 -- Each front of an invoice is an invoice, so its entries are taken one by one and none is refused.
-use Rattle.std.proofs.Common.{◌≡◌, ℕ, ◌-◌, ◌≤◌, Bool, true, false, ◌&&◌, ◌||◌, List, [], ◌∷◌, ◌++◌, inl, inr, Option, Some, None, refl, ap, sym, ◌∙◌, subst, append_assoc, arith}
+use Rattle.std.proofs.Common.{◌≡◌, ℕ, ◌-◌, ◌≤◌, Bool, true, false, ◌&&◌, ◌||◌, List, [], ◌∷◌, ◌++◌, inl, inr, Option, Some, None, refl, ap, sym, ◌∙◌, subst}
+use Rattle.std.proofs.Common.{append_assoc, arith}
 use Rattle.std.specs.Prelude.{◌==◌, ◌↔◌, nat_le, is_none}
 use Rattle.std.specs.List.{list_all, AllByRecursion}
 use Rattle.std.proofs.lemmas.Bool.{false≢true}
@@ -11,7 +12,8 @@ use Rattle.term_table.proofs.SeatLemmas.{before-from, outer_slot, outer-rises, i
 use Rattle.inv_terms.specs.declared.entries.Entry.{Entry}
 use Rattle.inv_terms.specs.Listing.{Fits, is_placed, comes_before, is_listed, occurs, is_counted, in_outer, in_inner, is_numbered, seat_of, refusal, IsInvoice}
 use Rattle.inv_terms.proofs.PushLemmas.{same_slot_is}
-use Rattle.reading_laws.proofs.ListLemmas.{both, and-true, bool-cases, any-append, any-here, each-both, each-weaker, each-of-all, all-of-each, tests-each, tests-hold}
+use Rattle.reading_laws.proofs.ListLemmas.{both, and-true, bool-cases, any-append, any-here, each-both, each-weaker, each-of-all, all-of-each, tests-each}
+use Rattle.reading_laws.proofs.ListLemmas.{tests-hold}
 
 each-front : {X : Type 0} (P : X → Type 0) (xs ys : List X) → AllByRecursion P (xs ++ ys) → AllByRecursion P xs
 each-front P [] ys h = tt

@@ -1,5 +1,6 @@
 -- What is missing in a context, over seats that stand for others.
-use Rattle.std.proofs.Common.{◌≡◌, ℕ, ◌+◌, Bool, true, false, not, ◌&&◌, ◌||◌, List, [], ◌∷◌, ◌++◌, map, filter, flat_map, Option, Some, None, refl, sym, ap, ◌∙◌}
+use Rattle.std.proofs.Common.{◌≡◌, ℕ, ◌+◌, Bool, true, false, not, ◌&&◌, ◌||◌, List, [], ◌∷◌, ◌++◌, map, filter, flat_map, Option, Some, None, refl, sym, ap}
+use Rattle.std.proofs.Common.{◌∙◌}
 use Rattle.std.specs.Prelude.{if◌then◌else◌, ◌==◌, slice_get}
 use Rattle.std.specs.List.{list_any}
 use Rattle.inv_base.specs.Tree.{Node}
@@ -18,7 +19,8 @@ use Rattle.term_table.specs.Contexts.{has_context, is_inside}
 use Rattle.term_table.specs.Places.{first_row, place}
 use Rattle.inv_terms.specs.declared.lacks.Name.TheVariants as names
 use Rattle.inv_terms.specs.declared.lacks.TermFault.TheVariants as faults
-use Rattle.inv_terms.specs.Lacking.{is_at, has, has_term, is_around, shows_its_group, stands, decided, first_decided, is_there, whole_term, is_needed, is_missing, is_slot_in, is_at_least_once, lacks_group, missing_at, first_missing, all_missing_from, all_missing}
+use Rattle.inv_terms.specs.Lacking.{is_at, has, has_term, is_around, shows_its_group, stands, decided, first_decided, is_there, whole_term, is_needed}
+use Rattle.inv_terms.specs.Lacking.{is_missing, is_slot_in, is_at_least_once, lacks_group, missing_at, first_missing, all_missing_from, all_missing}
 use Rattle.inv_terms.proofs.AllLemmas.{first-is}
 use Rattle.bind_meaning.specs.Seats.{Room}
 use Rattle.bind_meaning.specs.Faults.{lack_found, lacks_in}

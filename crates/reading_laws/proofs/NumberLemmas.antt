@@ -1,5 +1,6 @@
 -- The occurrences of what is read are numbered from 1 without a gap.
-use Rattle.std.proofs.Common.{◌≡◌, ℕ, Bool, true, false, ◌&&◌, ◌||◌, List, [], ◌∷◌, ◌++◌, filter, flat_map, ◌⊎◌, inl, inr, Option, Some, None, is_some, option_map, refl, ap, sym, ◌∙◌}
+use Rattle.std.proofs.Common.{◌≡◌, ℕ, Bool, true, false, ◌&&◌, ◌||◌, List, [], ◌∷◌, ◌++◌, filter, flat_map, ◌⊎◌, inl, inr, Option, Some, None, is_some}
+use Rattle.std.proofs.Common.{option_map, refl, ap, sym, ◌∙◌}
 use Rattle.std.specs.Prelude.{◌==◌, option_and_then, is_none}
 use Rattle.std.specs.List.{list_any, list_all, AllByRecursion}
 use Rattle.std.proofs.lemmas.Bool.{false≢true, eqb-true}
@@ -22,12 +23,14 @@ use Rattle.bind_rows.specs.declared.rows.Form.{Form}
 use Rattle.bind_rows.specs.Same.{same_or_none}
 use Rattle.bind_meaning.specs.Elements.{string_at}
 use Rattle.bind_meaning.specs.Picks.{Pick, term_in, carrier_in}
-use Rattle.bind_meaning.specs.Seats.{Placed, placed, context_of, slot_of, listed, is_of_outer, is_of_inner, is_inside_of, outer_elements, inner_elements, place_among, outer_at, inner_at, inner_within}
+use Rattle.bind_meaning.specs.Seats.{Placed, placed, context_of, slot_of, listed, is_of_outer, is_of_inner, is_inside_of, outer_elements, inner_elements}
+use Rattle.bind_meaning.specs.Seats.{place_among, outer_at, inner_at, inner_within}
 use Rattle.bind_meaning.specs.Values.{Said, said}
 use Rattle.bind_meaning.specs.Judging.{Told, told_by, said_by}
 use Rattle.bind_meaning.specs.Terms.{told, place_all, entries}
 use Rattle.reading_laws.specs.Nodes.{Rise}
-use Rattle.reading_laws.proofs.ListLemmas.{both, and-true, or-right, any-map, any-here, any-of-flat, each-map, each-unmap, each-weaker, each-filter, each-passes, each-both, tests-each, tests-hold}
+use Rattle.reading_laws.proofs.ListLemmas.{both, and-true, or-right, any-map, any-here, any-of-flat, each-map, each-unmap, each-weaker, each-filter}
+use Rattle.reading_laws.proofs.ListLemmas.{each-passes, each-both, tests-each, tests-hold}
 use Rattle.reading_laws.proofs.SayingLemmas.{of-said, of-placed}
 use Rattle.reading_laws.proofs.EntryLemmas.{HasValue, OfEntry, of-entries, seats-same}
 use Rattle.bind_table.specs.Sound.{IsSoundRow}

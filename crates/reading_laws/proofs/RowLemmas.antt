@@ -6,7 +6,8 @@ use Rattle.inv_base.specs.Tree.{Node}
 use Rattle.bind_rows.specs.declared.rows.Row.{Row}
 use Rattle.bind_rows.specs.declared.rows.Step.{Step}
 use Rattle.bind_meaning.specs.Elements.{met}
-use Rattle.bind_meaning.specs.Picks.{Pick, ways, last_of, leaves_of, picks_of_way, nodes_picked, has_any_term, Numbered, numbered, rows_where, all_picked, is_filler, without_fillers}
+use Rattle.bind_meaning.specs.Picks.{Pick, ways, last_of, leaves_of, picks_of_way, nodes_picked, has_any_term, Numbered, numbered, rows_where, all_picked}
+use Rattle.bind_meaning.specs.Picks.{is_filler, without_fillers}
 use Rattle.bind_meaning.specs.Currencies.{Currencies, is_in_its_currency, in_their_currencies}
 use Rattle.bind_meaning.specs.Terms.{term_picks}
 use Rattle.reading_laws.proofs.ListLemmas.{each-map, each-flat, each-weaker, each-filter, each-passes, each-both, each-any}

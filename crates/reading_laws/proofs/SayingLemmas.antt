@@ -12,7 +12,8 @@ use Rattle.bind_rows.specs.declared.rows.Form.TheVariants as forms
 use Rattle.bind_meaning.specs.Elements.{string_at}
 use Rattle.bind_meaning.specs.Picks.{term_in}
 use Rattle.bind_meaning.specs.Seats.{Placed}
-use Rattle.bind_meaning.specs.Values.{Said, said, said_in, suits, is_term, by_type, plain_date, due_date_type, note, subject_code, coded, plain_note, note_behind, note_of, is_subject_character}
+use Rattle.bind_meaning.specs.Values.{Said, said, said_in, suits, is_term, by_type, plain_date, due_date_type, note, subject_code, coded, plain_note}
+use Rattle.bind_meaning.specs.Values.{note_behind, note_of, is_subject_character}
 use Rattle.bind_meaning.specs.Judging.{Told, told_by, said_by}
 use Rattle.bind_meaning.specs.Terms.{told}
 use Rattle.reading_laws.proofs.ListLemmas.{both, each-map, each-flat, each-any}

@@ -1,5 +1,6 @@
 -- What strings say fits the terms that it is said of.
-use Rattle.std.proofs.Common.{◌≡◌, ℕ, ◌+◌, ◌/◌, ◌%◌, ◌^◌, ◌<◌, zero, suc, Bool, true, false, ◌&&◌, List, [], ◌∷◌, ◌++◌, Option, Some, None, refl, sym, ap, ◌∙◌, subst, arith}
+use Rattle.std.proofs.Common.{◌≡◌, ℕ, ◌+◌, ◌/◌, ◌%◌, ◌^◌, ◌<◌, zero, suc, Bool, true, false, ◌&&◌, List, [], ◌∷◌, ◌++◌, Option, Some, None, refl, sym, ap, ◌∙◌}
+use Rattle.std.proofs.Common.{subst, arith}
 use Rattle.std.specs.Prelude.{nat_le, ◌==◌, not, codes, option_map, option_and_then, bytes_eq}
 use Rattle.std.specs.List.{list_all}
 use Rattle.std.proofs.lemmas.Option.{same_Some}
@@ -24,7 +25,8 @@ use Rattle.inv_terms.specs.Values.{is_blank, trimmed, value_of}
 use Rattle.inv_terms.proofs.TrimLemmas.{HasEnds, trimmed-between}
 use Rattle.bind_rows.specs.declared.rows.Form.{Form}
 use Rattle.bind_rows.specs.declared.rows.Form.TheVariants as forms
-use Rattle.bind_meaning.specs.Values.{Said, letter_of, by_type, plain_date, Image, images, image_among, due_date_type, subject_code, note, plain_note, coded, is_subject_character, note_behind, note_of, is_term, is_day, suits, said_in, said}
+use Rattle.bind_meaning.specs.Values.{Said, letter_of, by_type, plain_date, Image, images, image_among, due_date_type, subject_code, note, plain_note, coded}
+use Rattle.bind_meaning.specs.Values.{is_subject_character, note_behind, note_of, is_term, is_day, suits, said_in, said}
 use Rattle.reading_laws.specs.Sayings.{FitsIts, AllFit}
 
 same-number : (a b : ℕ) → (a == b) ≡ true → a ≡ b

@@ -1,10 +1,12 @@
 -- What a rule file gives with its parts is a whole document.
-use Rattle.std.proofs.Common.{◌≡◌, ◌≢◌, ℕ, zero, suc, ◌+◌, ◌-◌, ◌≤◌, Bool, true, false, not, List, [], ◌∷◌, ◌++◌, length, map, Option, Some, None, Ok, Err, refl, sym, ap, subst, ◌∙◌, arith, option_map, if◌then◌else◌}
+use Rattle.std.proofs.Common.{◌≡◌, ◌≢◌, ℕ, zero, suc, ◌+◌, ◌-◌, ◌≤◌, Bool, true, false, not, List, [], ◌∷◌, ◌++◌, length, map, Option, Some, None, Ok, Err}
+use Rattle.std.proofs.Common.{refl, sym, ap, subst, ◌∙◌, arith, option_map, if◌then◌else◌}
 use Rattle.std.specs.Prelude.{◌&&◌, ◌==◌, nat_le, bytes_eq, codes}
 use Rattle.inv_base.specs.declared.tree.Kind.{Kind}
 use Rattle.inv_base.specs.declared.tree.Kind.TheVariants as kinds
 use Rattle.inv_base.specs.Files.{Files}
-use Rattle.inv_base.specs.Tree.{Name, Attribute, Node, Forest, no_more, a_text, an_element, begins_with_text, is_joined, IsDocument, nodes_of, nodes_of_attributes, document_nodes, size}
+use Rattle.inv_base.specs.Tree.{Name, Attribute, Node, Forest, no_more, a_text, an_element, begins_with_text, is_joined, IsDocument, nodes_of}
+use Rattle.inv_base.specs.Tree.{nodes_of_attributes, document_nodes, size}
 use Rattle.inv_base.proofs.TextLemmas.{both}
 use Rattle.xml_state.specs.Events.{name_at}
 use Rattle.xml_profile.specs.Profile as profile
@@ -15,7 +17,9 @@ use Rattle.xml_state.specs.Sizes.{rule_limits}
 use Rattle.rule_library.specs.Readings.{File, Joined, State, Readings, gives, reads, file_behind}
 use Rattle.rule_library.specs.Asked.{Given, Asked, stays, bad, root_of, inside_of, asked, given_at, is_schematron, included, extended, value_of}
 use Rattle.rule_library.specs.Joining.{nothing_joined, closed_to, with_element, with_text, passed_limit}
-use Rattle.rule_library.specs.Walk.{Next, Enter, Way, Going, Asking, going, entered, library, is_dropped, is_in, is_unfit, file_of, closed_for, around, at_kind, at_asked, stays_by, is_left_out, put_in, put_by, found_or_read, newly_read, read_by, checked, checked_by, unless_passed, with_joined, with_file, parent_name, own_name, element_name, nearest}
+use Rattle.rule_library.specs.Walk.{Next, Enter, Way, Going, Asking, going, entered, library, is_dropped, is_in, is_unfit, file_of, closed_for, around, at_kind}
+use Rattle.rule_library.specs.Walk.{at_asked, stays_by, is_left_out, put_in, put_by, found_or_read, newly_read, read_by, checked, checked_by, unless_passed}
+use Rattle.rule_library.specs.Walk.{with_joined, with_file, parent_name, own_name, element_name, nearest}
 use Rattle.rule_library.specs.Leads.{Leads, here, read}
 use Rattle.rule_library.specs.Whole.{TellsDocument, AreDocuments}
 use Rattle.rule_library.specs.declared.faults.LoadKind.{LoadKind}
@@ -70,7 +74,8 @@ forest_is m above n (an_element name attributes inside rest) joined h =
       (λ e. absurd (no_text e)),
       h,
       nodes-append m _ _ (attributes_are m (n ∷ above) (n + 1) attributes deeper)
-          (nodes-append m _ _ (forest_is m (n ∷ above) (n + (1 + length attributes)) inside parts.0 deeper) (forest_is m above (n + (1 + (length attributes + size inside))) rest parts.1 h)),
+          (nodes-append m _ _ (forest_is m (n ∷ above) (n + (1 + length attributes)) inside parts.0 deeper)
+          (forest_is m above (n + (1 + (length attributes + size inside))) rest parts.1 h)),
     )
   where
     no_text : kinds.Element ≢ kinds.Text
@@ -109,7 +114,8 @@ own_node = record { number = 0; kind = kinds.Document; name = None; above = []; 
 abbrev root_node : Name → Node
 root_node name = record { number = 1; kind = kinds.Element; name = Some name; above = 0 ∷ []; text = [] }
 
-shaped_by : (names : List Name) (name : Name) (others : List Node) (nodes : List Placed) → AreNodes 2 others → map (node_of names) nodes ≡ own_node ∷ (root_node name ∷ others) → IsShaped nodes
+shaped_by : (names : List Name) (name : Name) (others : List Node) (nodes : List Placed) → AreNodes 2 others →
+    map (node_of names) nodes ≡ own_node ∷ (root_node name ∷ others) → IsShaped nodes
 shaped_by names name others [] deep e = absurd (cc)
 shaped_by names name others (own ∷ []) deep e = absurd (cc)
 shaped_by names name others (own ∷ (root ∷ rest)) deep e =
@@ -158,7 +164,8 @@ abbrev Follows : (State → Type 0) → Next → Type 0
 Follows P next = (s : State) → IsSound s → AllGive P (next s)
 
 abbrev Enters : (State → Type 0) → Enter → Type 0
-Enters P enter = (file : File) (bare : Bool) (next : Next) (s : State) → AreDeep 0 file.document.nodes → IsSound s → Follows P next → AllGive P (enter file bare next s)
+Enters P enter = (file : File) (bare : Bool) (next : Next) (s : State) → AreDeep 0 file.document.nodes → IsSound s → Follows P next →
+    AllGive P (enter file bare next s)
 
 abbrev IsGoodOption : Option File → Type 0
 IsGoodOption None = Unit {0}
@@ -172,7 +179,8 @@ found_good name (file ∷ files) h = by (bytes_eq file.name name) (found_good na
     by true others = h.0
     by false others = others
 
-checked_gives : (P : State → Type 0) (enter : Enter) (a : Asking) (next : Next) (s : State) (file : File) → Enters P enter → AreDeep 0 file.document.nodes → IsSound s → Follows P next
+checked_gives : (P : State → Type 0) (enter : Enter) (a : Asking) (next : Next) (s : State) (file : File) → Enters P enter → AreDeep 0 file.document.nodes →
+    IsSound s → Follows P next
     → AllGive P (checked enter a next s file)
 checked_gives P enter a next s file enters good sound follows = by (is_unfit a file)
   where
@@ -180,7 +188,8 @@ checked_gives P enter a next s file enters good sound follows = by (is_unfit a f
     by true = tt
     by false = enters file a.bare next s good sound follows
 
-new_gives : (P : State → Type 0) (enter : Enter) (a : Asking) (name : List ℕ) (next : Next) (s : State) → AreDocuments → Enters P enter → IsSound s → Follows P next
+new_gives : (P : State → Type 0) (enter : Enter) (a : Asking) (name : List ℕ) (next : Next) (s : State) → AreDocuments → Enters P enter → IsSound s →
+    Follows P next
     → AllGive P (newly_read enter a name next s)
 new_gives P enter a name next s documents enters sound follows = by (nat_le 64 (length s.files))
   where
@@ -191,7 +200,8 @@ new_gives P enter a name next s documents enters sound follows = by (nat_le 64 (
         let good : AreDeep 0 file.document.nodes = all_deep file.document (documents content found is) in
         checked_gives P enter a next (with_file file s) file enters good (record { grown = sound.grown; good = good-more s.files file sound.good good }) follows
 
-put_gives : (P : State → Type 0) (enter : Enter) (a : Asking) (name : List ℕ) (next : Next) (s : State) → AreDocuments → Enters P enter → IsSound s → Follows P next
+put_gives : (P : State → Type 0) (enter : Enter) (a : Asking) (name : List ℕ) (next : Next) (s : State) → AreDocuments → Enters P enter → IsSound s →
+    Follows P next
     → AllGive P (put_in enter a name next s)
 put_gives P enter a name next s documents enters sound follows = by (is_in name a.way.stack)
   where
@@ -203,17 +213,22 @@ put_gives P enter a name next s documents enters sound follows = by (is_in name 
     by true = tt
     by false = found (file_of name s.files) (found_good name s.files sound.good)
 
-settled_gives : (P : State → Type 0) (w : Way) (node : Placed) (next : Next) (s : State) (limit : Option LoadKind) → IsSound s → Follows P next → AllGive P (unless_passed limit w node next s)
+settled_gives : (P : State → Type 0) (w : Way) (node : Placed) (next : Next) (s : State) (limit : Option LoadKind) → IsSound s → Follows P next →
+    AllGive P (unless_passed limit w node next s)
 settled_gives P w node next s None sound follows = follows s sound
 settled_gives P w node next s (Some kind) sound follows = tt
 
-element_gives : (P : State → Type 0) (enter : Enter) (w : Way) (node : Placed) (parent : Option Name) (name : Name) (given : List Given) (go : Going) (s : State)
-    → AreDocuments → Enters P enter → IsSound s → ((dropped : Option ℕ) → Follows P (go dropped)) → (a : Asked) → AllGive P (at_asked enter w node parent name given go s a)
+element_gives : (P : State → Type 0) (enter : Enter) (w : Way) (node : Placed) (parent : Option Name) (name : Name) (given : List Given) (go : Going)
+    (s : State)
+    → AreDocuments → Enters P enter → IsSound s → ((dropped : Option ℕ) → Follows P (go dropped)) → (a : Asked) →
+    AllGive P (at_asked enter w node parent name given go s a)
 element_gives P enter w node parent name given go s documents enters sound follows bad = tt
 element_gives P enter w node parent name given go s documents enters sound follows (root_of href) =
-    put_gives P enter (record { way = w; node = node; parent = parent; bare = false }) href (go (Some node.number)) s documents enters sound (follows (Some node.number))
+    put_gives P enter (record { way = w; node = node; parent = parent; bare = false }) href (go (Some node.number)) s documents enters sound
+    (follows (Some node.number))
 element_gives P enter w node parent name given go s documents enters sound follows (inside_of href) =
-    put_gives P enter (record { way = w; node = node; parent = parent; bare = true }) href (go (Some node.number)) s documents enters sound (follows (Some node.number))
+    put_gives P enter (record { way = w; node = node; parent = parent; bare = true }) href (go (Some node.number)) s documents enters sound
+    (follows (Some node.number))
 element_gives P enter w node parent name given go s documents enters sound follows stays = by (is_left_out w node)
   where
     by : (b : Bool) → AllGive P (stays_by w node name given go s b)
@@ -223,7 +238,8 @@ element_gives P enter w node parent name given go s documents enters sound follo
         (record { grown = grown_element s.joined name given (node.place + w.file.start) sound.grown; good = sound.good }) (follows None)
 
 node_gives : (P : State → Type 0) (enter : Enter) (w : Way) (node : Placed) (behind : List Placed) (go : Going) (s : State)
-    → AreDocuments → Enters P enter → IsSound s → ((dropped : Option ℕ) → Follows P (go dropped)) → (node.kind ≡ kinds.Text → not (length node.text == 0) ≡ true)
+    → AreDocuments → Enters P enter → IsSound s → ((dropped : Option ℕ) → Follows P (go dropped)) →
+    (node.kind ≡ kinds.Text → not (length node.text == 0) ≡ true)
     → (kind : Kind) → node.kind ≡ kind → AllGive P (at_kind enter w node behind go s kind)
 node_gives P enter w node behind go s documents enters sound follows some kinds.Document e = follows None s sound
 node_gives P enter w node behind go s documents enters sound follows some kinds.Attribute e = follows None s sound
@@ -242,7 +258,8 @@ going_gives : (P : State → Type 0) (enter : Enter) (w : Way) (nodes : List Pla
     → ((s : State) → IsSound s → AllGive P (next (record { files = s.files; joined = closed_to w.base s.joined })))
     → (dropped : Option ℕ) → Follows P (going enter w nodes next dropped)
 going_gives P enter w [] next m documents enters deep low end dropped s sound = end s sound
-going_gives P enter w (node ∷ nodes) next m documents enters deep low end dropped s sound = by (is_dropped dropped node) (λ d. going_gives P enter w nodes next m documents enters deep.2 low end d)
+going_gives P enter w (node ∷ nodes) next m documents enters deep low end dropped s sound =
+    by (is_dropped dropped node) (λ d. going_gives P enter w nodes next m documents enters deep.2 low end d)
   where
     closed : IsSound (closed_for w node s)
     closed = record { grown = grown_to (w.base + (length node.above - around w.bare)) s.joined (low (length node.above) deep.1) sound.grown; good = sound.good }
@@ -262,7 +279,8 @@ entered_gives P (suc room) stack part documents file bare next s good sound foll
     going_gives P (entered room (file.name ∷ stack) true)
     (record { file = file; stack = file.name ∷ stack; part = part; bare = bare; base = length s.joined.built.open_nodes }) file.document.nodes next 0
     documents (entered_gives P room (file.name ∷ stack) true documents) good (λ n h. omega (arith, base))
-    (λ t k. follows (record { files = t.files; joined = closed_to (length s.joined.built.open_nodes) t.joined }) (record { grown = grown_to (length s.joined.built.open_nodes) t.joined base k.grown; good = k.good }))
+    (λ t k. follows (record { files = t.files; joined = closed_to (length s.joined.built.open_nodes) t.joined })
+    (record { grown = grown_to (length s.joined.built.open_nodes) t.joined base k.grown; good = k.good }))
     None s sound
 
 -- ---- the rule file itself
@@ -270,7 +288,8 @@ entered_gives P (suc room) stack part documents file bare next s good sound foll
 nothing_asked : (name : Name) (given : List Given) → asked None name given ≡ stays
 nothing_asked name given = by (is_schematron (codes "include") name) (is_schematron (codes "extends") name)
   where
-    by : (a b : Bool) → (if a && false then included (value_of (codes "href") given) else (if b && false then extended (value_of (codes "rule") given) (value_of (codes "href") given) else stays)) ≡ stays
+    by : (a b : Bool) → (if a && false then included (value_of (codes "href") given) else
+        (if b && false then extended (value_of (codes "rule") given) (value_of (codes "href") given) else stays)) ≡ stays
     by true true = refl
     by true false = refl
     by false true = refl
@@ -301,28 +320,36 @@ from_shape file enter documents enters good sh =
     let place : ℕ = sh.root.place + file.start in
     let none : parent ≡ None =
     ap (λ (above : List ℕ). element_name file.document (nearest above)) sh.root_above
-    ∙ (ap (λ (nodes : List Placed). option_map (name_at file.document.names) (node_at nodes 0).name) sh.are ∙ ap (option_map (name_at file.document.names)) sh.own_name_is) in
+    ∙ (ap (λ (nodes : List Placed). option_map (name_at file.document.names) (node_at nodes 0).name) sh.are ∙
+    ap (option_map (name_at file.document.names)) sh.own_name_is) in
     let stay : asked parent name given ≡ stays = ap (λ (p : Option Name). asked p name given) none ∙ nothing_asked name given in
     let inside : AllGive Whole (at_asked enter w sh.root parent name given go s stays) =
     going_gives Whole enter w sh.rest done 2 documents enters sh.deep (λ n h. omega (arith, h)) (λ t k. tells_document t.joined k.grown) None
     (with_joined (with_element name given place nothing_joined) s) (record { grown = grown_first name given place; good = (good, tt) }) in
-    let root_asks : AllGive Whole (at_kind enter w sh.root sh.rest go s kinds.Element) = subst (λ (a : Asked). AllGive Whole (at_asked enter w sh.root parent name given go s a)) (sym stay) inside in
-    let root_is : AllGive Whole (at_kind enter w sh.root sh.rest go s sh.root.kind) = subst (λ (kind : Kind). AllGive Whole (at_kind enter w sh.root sh.rest go s kind)) (sym sh.root_kind) root_asks in
+    let root_asks : AllGive Whole (at_kind enter w sh.root sh.rest go s kinds.Element) =
+    subst (λ (a : Asked). AllGive Whole (at_asked enter w sh.root parent name given go s a)) (sym stay) inside in
+    let root_is : AllGive Whole (at_kind enter w sh.root sh.rest go s sh.root.kind) =
+    subst (λ (kind : Kind). AllGive Whole (at_kind enter w sh.root sh.rest go s kind)) (sym sh.root_kind) root_asks in
     let root_stands : AllGive Whole (going enter w (sh.root ∷ sh.rest) done None s) =
-    subst (λ (above : List ℕ). AllGive Whole (at_kind enter w sh.root sh.rest go (record { files = file ∷ []; joined = closed_to (1 + (length above - 1)) nothing_joined }) sh.root.kind)) (sym sh.root_above) root_is in
+    subst (λ (above : List ℕ). AllGive Whole (at_kind enter w sh.root sh.rest go
+    (record { files = file ∷ []; joined = closed_to (1 + (length above - 1)) nothing_joined }) sh.root.kind)) (sym sh.root_above) root_is in
     let own_is : AllGive Whole (at_kind enter w sh.own (sh.root ∷ sh.rest) (going enter w (sh.root ∷ sh.rest) done) s sh.own.kind) =
-    subst (λ (kind : Kind). AllGive Whole (at_kind enter w sh.own (sh.root ∷ sh.rest) (going enter w (sh.root ∷ sh.rest) done) s kind)) (sym sh.own_kind) root_stands in
+    subst (λ (kind : Kind). AllGive Whole (at_kind enter w sh.own (sh.root ∷ sh.rest) (going enter w (sh.root ∷ sh.rest) done) s kind))
+    (sym sh.own_kind) root_stands in
     let own_stands : AllGive Whole (going enter w (sh.own ∷ (sh.root ∷ sh.rest)) done None s) =
-    subst (λ (above : List ℕ). AllGive Whole (at_kind enter w sh.own (sh.root ∷ sh.rest) (going enter w (sh.root ∷ sh.rest) done) (record { files = file ∷ []; joined = closed_to (1 + (length above - 1)) nothing_joined }) sh.own.kind))
+    subst (λ (above : List ℕ). AllGive Whole (at_kind enter w sh.own (sh.root ∷ sh.rest) (going enter w (sh.root ∷ sh.rest) done)
+    (record { files = file ∷ []; joined = closed_to (1 + (length above - 1)) nothing_joined }) sh.own.kind))
     (sym sh.own_above) own_is in
     subst (λ (nodes : List Placed). AllGive Whole (going enter w nodes done None s)) (sym sh.are) own_stands
 
 first_gives : (file : File) (room : ℕ) → AreDocuments → IsOfATree file.document → AllGive Whole (entered (suc room) [] false file false done (first_state file))
 unfolding entered
 first_gives file room documents tree =
-    from_shape file (entered room (file.name ∷ []) true) documents (entered_gives Whole room (file.name ∷ []) true documents) (all_deep file.document tree) (shaped file.document tree)
+    from_shape file (entered room (file.name ∷ []) true) documents (entered_gives Whole room (file.name ∷ []) true documents) (all_deep file.document tree)
+    (shaped file.document tree)
 
 -- Whatever a rule file gives with its parts is a whole document.
-pub library_gives : (held : Option Files) (name : List ℕ) (s : State) (n : ℕ) → AreDocuments → Leads held (library name) n (gives (Ok s)) → TellsDocument s.joined
+pub library_gives : (held : Option Files) (name : List ℕ) (s : State) (n : ℕ) → AreDocuments → Leads held (library name) n (gives (Ok s)) →
+    TellsDocument s.joined
 library_gives held name s n documents leads = leads_give Whole held (library name) (gives (Ok s)) n leads
     (λ content found is. first_gives (file_behind [] name (length content) found) 63 documents (documents content found is))

@@ -1,9 +1,11 @@
 -- Events that tell elements which are still open.
-use Rattle.std.proofs.Common.{◌≡◌, ℕ, zero, suc, ◌+◌, ◌-◌, ◌^◌, ◌<◌, ◌≤◌, Bool, true, false, not, ◌||◌, List, [], ◌∷◌, ◌++◌, length, refl, sym, ap, subst, ◌∙◌, arith, append_assoc, append-nil, length-append, if◌then◌else◌}
+use Rattle.std.proofs.Common.{◌≡◌, ℕ, zero, suc, ◌+◌, ◌-◌, ◌^◌, ◌<◌, ◌≤◌, Bool, true, false, not, ◌||◌, List, [], ◌∷◌, ◌++◌, length, refl, sym, ap, subst, ◌∙◌}
+use Rattle.std.proofs.Common.{arith, append_assoc, append-nil, length-append, if◌then◌else◌}
 use Rattle.std.specs.Prelude.{◌&&◌, ◌==◌}
 use Rattle.std.proofs.lemmas.Bool.{false≢true}
 use Rattle.std.proofs.lemmas.Bool.Decides.{nat_tests}
-use Rattle.inv_base.specs.Tree.{Name, Attribute, Forest, no_more, a_text, an_element, begins_with_text, is_joined, IsDocument, size, nodes_of, nodes_of_attributes}
+use Rattle.inv_base.specs.Tree.{Name, Attribute, Forest, no_more, a_text, an_element, begins_with_text, is_joined, IsDocument, size, nodes_of}
+use Rattle.inv_base.specs.Tree.{nodes_of_attributes}
 use Rattle.inv_base.proofs.TextLemmas.{both}
 use Rattle.xml_state.specs.Events.{Event, starts, has_attribute, has_text, ends, with_event, name_at}
 use Rattle.xml_state.specs.Documents.{IsNumberOf, Tells, TellsAttributes}
@@ -30,7 +32,8 @@ behind_start : (number place : ℕ) (ys : List Event) (e : Event) → with_event
 behind_start number place [] e = refl
 behind_start number place (y ∷ ys) e = refl
 
-behind_attribute : (number : ℕ) (value : List ℕ) (ys : List Event) (e : Event) → with_event (has_attribute number value ∷ ys) e ≡ has_attribute number value ∷ with_event ys e
+behind_attribute : (number : ℕ) (value : List ℕ) (ys : List Event) (e : Event) →
+    with_event (has_attribute number value ∷ ys) e ≡ has_attribute number value ∷ with_event ys e
 behind_attribute number value [] e = refl
 behind_attribute number value (y ∷ ys) e = refl
 
@@ -40,7 +43,8 @@ behind_end (y ∷ ys) e = refl
 
 behind_attributes : (names : List Name) (attributes : List Attribute) (first inner : List Event) (e : Event) → TellsAttributes names attributes first
     → with_event (first ++ inner) e ≡ first ++ with_event inner e
-behind_attributes names [] first inner e told = ap (λ (f : List Event). with_event (f ++ inner) e) told ∙ sym (ap (λ (f : List Event). f ++ with_event inner e) told)
+behind_attributes names [] first inner e told = ap (λ (f : List Event). with_event (f ++ inner) e) told ∙
+    sym (ap (λ (f : List Event). f ++ with_event inner e) told)
 behind_attributes names (attribute ∷ attributes) first inner e told =
     let number = told.0 in
     let more = told.1 in
@@ -59,7 +63,8 @@ numbered_more names more name number h = record { within = omega (arith, length-
     at (name ∷ names) zero l = refl
     at (name ∷ names) (suc n) l = at names n (omega arith)
 
-attributes_more : (names more : List Name) (attributes : List Attribute) (events : List Event) → TellsAttributes names attributes events → TellsAttributes (names ++ more) attributes events
+attributes_more : (names more : List Name) (attributes : List Attribute) (events : List Event) → TellsAttributes names attributes events →
+    TellsAttributes (names ++ more) attributes events
 attributes_more names more [] events told = told
 attributes_more names more (attribute ∷ attributes) events told =
     (told.0, told.1, numbered_more names more attribute.name told.0 told.2, told.3, attributes_more names more attributes told.1 told.4)
@@ -89,15 +94,21 @@ with_text characters (a_text text (a_text other rest)) = a_text text (with_text 
 with_text characters (a_text text (an_element name attributes inside rest)) = a_text text (with_text characters (an_element name attributes inside rest))
 with_text characters (an_element name attributes inside rest) = an_element name attributes inside (with_text characters rest)
 
-behind_text : (text : List ℕ) (place : ℕ) (y : Event) (ys : List Event) (e : Event) → with_event (has_text text place ∷ (y ∷ ys)) e ≡ has_text text place ∷ with_event (y ∷ ys) e
+behind_text : (text : List ℕ) (place : ℕ) (y : Event) (ys : List Event) (e : Event) →
+    with_event (has_text text place ∷ (y ∷ ys)) e ≡ has_text text place ∷ with_event (y ∷ ys) e
 behind_text text place y ys e = refl
 
 tells_text : (names : List Name) (forest : Forest) (events : List Event) (characters : List ℕ) (place : ℕ) → Tells names forest events
     → Tells names (with_text characters forest) (with_event events (has_text characters place))
 tells_text names no_more events characters place told =
     (place, [], ap (λ (events : List Event). with_event events (has_text characters place)) told, refl)
-tells_text names (a_text text no_more) events characters place told =
-    (told.0, [], ap (λ (events : List Event). with_event events (has_text characters place)) (told.2 ∙ ap (λ (more : List Event). has_text text told.0 ∷ more) told.3), refl)
+tells_text names (a_text text no_more) events characters place told = (
+  told.0,
+  [],
+  ap (λ (events : List Event). with_event events (has_text characters place))
+      (told.2 ∙ ap (λ (more : List Event). has_text text told.0 ∷ more) told.3),
+  refl,
+)
 tells_text names (a_text text (a_text other rest)) events characters place told =
     let inner = tells_text names (a_text other rest) told.1 characters place told.3 in
     let first = told.3.2 in (
@@ -164,10 +175,24 @@ ended_events number place first inner = starts number place ∷ (first ++ (inner
 
 tells_child : (names : List Name) (forest : Forest) (events chunk : List Event) (o : OpenElement names chunk) → Tells names forest events
     → Tells names (with_child o.name o.attributes o.inside forest) (events ++ ended_events o.number o.place o.first o.inner)
-tells_child names no_more events chunk o told =
-    (o.number, o.place, o.first, o.inner, [], o.numbered, ap (λ (events : List Event). events ++ ended_events o.number o.place o.first o.inner) told, o.given, o.told, refl)
-tells_child names (a_text text rest) events chunk o told =
-    (told.0, told.1 ++ ended_events o.number o.place o.first o.inner, ap (λ (events : List Event). events ++ ended_events o.number o.place o.first o.inner) told.2, tells_child names rest told.1 chunk o told.3)
+tells_child names no_more events chunk o told = (
+  o.number,
+  o.place,
+  o.first,
+  o.inner,
+  [],
+  o.numbered,
+  ap (λ (events : List Event). events ++ ended_events o.number o.place o.first o.inner) told,
+  o.given,
+  o.told,
+  refl,
+)
+tells_child names (a_text text rest) events chunk o told = (
+  told.0,
+  told.1 ++ ended_events o.number o.place o.first o.inner,
+  ap (λ (events : List Event). events ++ ended_events o.number o.place o.first o.inner) told.2,
+  tells_child names rest told.1 chunk o told.3,
+)
 tells_child names (an_element name attributes inside rest) events chunk o told =
     let more = ended_events o.number o.place o.first o.inner in
     let start = starts told.0 told.1 in (
@@ -178,7 +203,8 @@ tells_child names (an_element name attributes inside rest) events chunk o told =
       told.4 ++ more,
       told.5,
       ap (λ (events : List Event). events ++ more) told.6
-          ∙ ap (λ (events : List Event). start ∷ events) (append_assoc told.2 (told.3 ++ (ends ∷ told.4)) more ∙ ap (λ (events : List Event). told.2 ++ events) (append_assoc told.3 (ends ∷ told.4) more)),
+          ∙ ap (λ (events : List Event). start ∷ events) (append_assoc told.2 (told.3 ++ (ends ∷ told.4)) more ∙
+          ap (λ (events : List Event). told.2 ++ events) (append_assoc told.3 (ends ∷ told.4) more)),
       told.7,
       told.8,
       tells_child names rest told.4 chunk o told.9,
@@ -186,12 +212,14 @@ tells_child names (an_element name attributes inside rest) events chunk o told =
 
 -- ---- texts stay joined
 
-begins_with_child : (name : Name) (attributes : List Attribute) (inside forest : Forest) → begins_with_text (with_child name attributes inside forest) ≡ begins_with_text forest
+begins_with_child : (name : Name) (attributes : List Attribute) (inside forest : Forest) →
+    begins_with_text (with_child name attributes inside forest) ≡ begins_with_text forest
 begins_with_child name attributes inside no_more = refl
 begins_with_child name attributes inside (a_text text rest) = refl
 begins_with_child name attributes inside (an_element other given within rest) = refl
 
-joined_child : (name : Name) (attributes : List Attribute) (inside forest : Forest) → is_joined inside ≡ true → is_joined forest ≡ true → is_joined (with_child name attributes inside forest) ≡ true
+joined_child : (name : Name) (attributes : List Attribute) (inside forest : Forest) → is_joined inside ≡ true → is_joined forest ≡ true →
+    is_joined (with_child name attributes inside forest) ≡ true
 joined_child name attributes inside no_more h k = rw h refl
 joined_child name attributes inside (a_text text rest) h k =
     let parts = both (not (length text == 0)) (not (begins_with_text rest) && is_joined rest) k in
@@ -205,7 +233,8 @@ joined_child name attributes inside (an_element other given within rest) h k =
 some_more : (text characters : List ℕ) → not (length text == 0) ≡ true → not (length (text ++ characters) == 0) ≡ true
 some_more text characters h = let l = length-append text characters in grind (arith, nat_tests)
 
-joined_text : (characters : List ℕ) (forest : Forest) → not (length characters == 0) ≡ true → is_joined forest ≡ true → is_joined (with_text characters forest) ≡ true
+joined_text : (characters : List ℕ) (forest : Forest) → not (length characters == 0) ≡ true → is_joined forest ≡ true →
+    is_joined (with_text characters forest) ≡ true
 joined_text characters no_more h k = rw h refl
 joined_text characters (a_text text no_more) h k =
     let parts = both (not (length text == 0)) (true && true) k in
@@ -245,7 +274,8 @@ pub with_name-more : (names : List Name) (x : Name) → (more : List Name) × (w
 with_name-more [] x = (x ∷ [], refl)
 with_name-more (n ∷ names) x = by (same_name n x) refl (with_name-more names x)
   where
-    by : (a : Bool) → same_name n x ≡ a → (more : List Name) × (with_name names x ≡ names ++ more) → (more : List Name) × (with_name (n ∷ names) x ≡ (n ∷ names) ++ more)
+    by : (a : Bool) → same_name n x ≡ a → (more : List Name) × (with_name names x ≡ names ++ more) → (more : List Name) ×
+        (with_name (n ∷ names) x ≡ (n ∷ names) ++ more)
     by true e rest = ([], ap (λ (c : Bool). if c then n ∷ names else n ∷ with_name names x) e ∙ sym (append-nil (n ∷ names)))
     by false e rest = (rest.0, ap (λ (c : Bool). if c then n ∷ names else n ∷ with_name names x) e ∙ ap (λ (ns : List Name). n ∷ ns) rest.1)
 
@@ -280,7 +310,8 @@ elements_more names more [] h = tt
 elements_more names more (chunk ∷ chunks) h = (element_more names more chunk h.0, elements_more names more chunks h.1)
 
 elements_named : (names : List Name) (x : Name) (chunks : List (List Event)) → AreElements names chunks → AreElements (with_name names x) chunks
-elements_named names x chunks h = let m = with_name-more names x in subst (λ (ns : List Name). AreElements ns chunks) (sym m.1) (elements_more names m.0 chunks h)
+elements_named names x chunks h = let m = with_name-more names x in
+    subst (λ (ns : List Name). AreElements ns chunks) (sym m.1) (elements_more names m.0 chunks h)
 
 element_text : (names : List Name) (chunk : List Event) (characters : List ℕ) (place : ℕ) → not (length characters == 0) ≡ true → OpenElement names chunk
     → OpenElement names (with_event chunk (has_text characters place))
@@ -297,18 +328,22 @@ element_text names chunk characters place some o = let e = has_text characters p
   told = tells_text names o.inside o.inner characters place o.told;
   joined = joined_text characters o.inside some o.joined;
   is = ap (λ (events : List Event). with_event events e) o.is
-      ∙ (behind_start o.number o.place (o.first ++ o.inner) e ∙ ap (λ (events : List Event). starts o.number o.place ∷ events) (behind_attributes names o.attributes o.first o.inner e o.given));
+      ∙ (behind_start o.number o.place (o.first ++ o.inner) e ∙
+      ap (λ (events : List Event). starts o.number o.place ∷ events) (behind_attributes names o.attributes o.first o.inner e o.given));
 }
 
-events_text : (names : List Name) (before chunk : List Event) (e : Event) → OpenElement names chunk → with_event (before ++ chunk) e ≡ before ++ with_event chunk e
+events_text : (names : List Name) (before chunk : List Event) (e : Event) → OpenElement names chunk → with_event (before ++ chunk) e ≡ before ++
+    with_event chunk e
 events_text names before chunk e o =
     ap (λ (events : List Event). with_event (before ++ events) e) o.is
     ∙ (with_event-append before (starts o.number o.place) (o.first ++ o.inner) e ∙ sym (ap (λ (events : List Event). before ++ with_event events e) o.is))
 
-element_child : (names : List Name) (chunk inner : List Event) → OpenElement names chunk → OpenElement names inner → OpenElement names (chunk ++ (inner ++ (ends ∷ [])))
+element_child : (names : List Name) (chunk inner : List Event) → OpenElement names chunk → OpenElement names inner →
+    OpenElement names (chunk ++ (inner ++ (ends ∷ [])))
 element_child names chunk inner o c =
     let closed = ended_events c.number c.place c.first c.inner in
-    let child : inner ++ (ends ∷ []) ≡ closed = ap (λ (events : List Event). events ++ (ends ∷ [])) c.is ∙ ap (λ (events : List Event). starts c.number c.place ∷ events) (append_assoc c.first c.inner (ends ∷ [])) in
+    let child : inner ++ (ends ∷ []) ≡ closed = ap (λ (events : List Event). events ++ (ends ∷ [])) c.is ∙
+    ap (λ (events : List Event). starts c.number c.place ∷ events) (append_assoc c.first c.inner (ends ∷ [])) in
     record {
       name = o.name;
       attributes = o.attributes;
@@ -343,10 +378,12 @@ pub record IsGrown (j : Joined) : Type 0 where
   pub is : j.built ≡ built (all_events chunks)
   pub depth : length j.built.open_nodes ≡ length chunks + 1
 
-pub grown_text : (j : Joined) (characters : List ℕ) (place : ℕ) → not (length characters == 0) ≡ true → IsGrown j → IsGrown (joining.with_text characters place j)
+pub grown_text : (j : Joined) (characters : List ℕ) (place : ℕ) → not (length characters == 0) ≡ true → IsGrown j →
+    IsGrown (joining.with_text characters place j)
 grown_text j characters place some g = by g.chunks g.elements g.some g.is g.depth
   where
-    by : (chunks : List (List Event)) → AreElements j.names chunks → 0 < length chunks → j.built ≡ built (all_events chunks) → length j.built.open_nodes ≡ length chunks + 1
+    by : (chunks : List (List Event)) → AreElements j.names chunks → 0 < length chunks → j.built ≡ built (all_events chunks) →
+        length j.built.open_nodes ≡ length chunks + 1
         → IsGrown (joining.with_text characters place j)
     by [] elements none is depth = absurd (omega (arith, none))
     by (chunk ∷ chunks) elements one is depth = let e = has_text characters place in record {
@@ -435,11 +472,23 @@ heads_first name place = record {
   depth = refl;
 }
 
-given_behind : (names : List Name) (attributes : List Attribute) (first : List Event) (attribute : Attribute) (number : ℕ) → IsNumberOf names attribute.name number → TellsAttributes names attributes first
+given_behind : (names : List Name) (attributes : List Attribute) (first : List Event) (attribute : Attribute) (number : ℕ) →
+    IsNumberOf names attribute.name number → TellsAttributes names attributes first
     → TellsAttributes names (attributes ++ attribute ∷ []) (first ++ has_attribute number attribute.value ∷ [])
-given_behind names [] first attribute number n told = (number, [], n, ap (λ (events : List Event). events ++ has_attribute number attribute.value ∷ []) told, refl)
-given_behind names (other ∷ attributes) first attribute number n told =
-    (told.0, told.1 ++ has_attribute number attribute.value ∷ [], told.2, ap (λ (events : List Event). events ++ has_attribute number attribute.value ∷ []) told.3, given_behind names attributes told.1 attribute number n told.4)
+given_behind names [] first attribute number n told = (
+  number,
+  [],
+  n,
+  ap (λ (events : List Event). events ++ has_attribute number attribute.value ∷ []) told,
+  refl,
+)
+given_behind names (other ∷ attributes) first attribute number n told = (
+  told.0,
+  told.1 ++ has_attribute number attribute.value ∷ [],
+  told.2,
+  ap (λ (events : List Event). events ++ has_attribute number attribute.value ∷ []) told.3,
+  given_behind names attributes told.1 attribute number n told.4,
+)
 
 heads_attribute : (j : Joined) (given : Given) → Heads j → Heads (with_attribute given j)
 heads_attribute j given h =
@@ -459,7 +508,8 @@ heads_attribute j given h =
       given = given_behind (with_name j.names given.name) h.attributes h.first attribute number (numbered_new given.name j.names)
           (subst (λ (ns : List Name). TellsAttributes ns h.attributes h.first) (sym m.1) (attributes_more j.names m.0 h.attributes h.first h.given));
       is = ap (after e) h.is
-          ∙ (sym (built-append (all_events h.chunks ++ (starts h.number h.place ∷ h.first)) (e ∷ [])) ∙ ap built (append_assoc (all_events h.chunks) (starts h.number h.place ∷ h.first) (e ∷ [])));
+          ∙ (sym (built-append (all_events h.chunks ++ (starts h.number h.place ∷ h.first)) (e ∷ [])) ∙
+          ap built (append_assoc (all_events h.chunks) (starts h.number h.place ∷ h.first) (e ∷ [])));
       depth = h.depth;
     }
 
@@ -493,14 +543,17 @@ heads_grown j h = record {
 }
 
 pub grown_element : (j : Joined) (name : Name) (givens : List Given) (place : ℕ) → IsGrown j → IsGrown (with_element name givens place j)
-grown_element j name givens place g = heads_grown (with_element name givens place j) (heads_attributes givens (with_start name place j) (heads_start j name place g))
+grown_element j name givens place g = heads_grown (with_element name givens place j)
+    (heads_attributes givens (with_start name place j) (heads_start j name place g))
 
 pub grown_first : (name : Name) (givens : List Given) (place : ℕ) → IsGrown (with_element name givens place nothing_joined)
-grown_first name givens place = heads_grown (with_element name givens place nothing_joined) (heads_attributes givens (with_start name place nothing_joined) (heads_first name place))
+grown_first name givens place = heads_grown (with_element name givens place nothing_joined)
+    (heads_attributes givens (with_start name place nothing_joined) (heads_first name place))
 
 -- ---- the end
 
-document_end : (j : Joined) (chunk : List Event) → OpenElement j.names chunk → j.built ≡ built ([] ++ chunk) → TellsDocument (record { built = after ends j.built; names = j.names })
+document_end : (j : Joined) (chunk : List Event) → OpenElement j.names chunk → j.built ≡ built ([] ++ chunk) →
+    TellsDocument (record { built = after ends j.built; names = j.names })
 document_end j chunk o is = record {
   tree = an_element o.name o.attributes o.inside no_more;
   events = ended_events o.number o.place o.first o.inner;
@@ -508,13 +561,16 @@ document_end j chunk o is = record {
   tells = tells_child j.names no_more [] chunk o refl;
   is = ap (after ends) is
       ∙ (sym (built-append chunk (ends ∷ []))
-      ∙ ap built (ap (λ (events : List Event). events ++ (ends ∷ [])) o.is ∙ ap (λ (events : List Event). starts o.number o.place ∷ events) (append_assoc o.first o.inner (ends ∷ []))));
+      ∙ ap built (ap (λ (events : List Event). events ++ (ends ∷ [])) o.is ∙
+      ap (λ (events : List Event). starts o.number o.place ∷ events) (append_assoc o.first o.inner (ends ∷ []))));
 }
 
-document_times : (n : ℕ) (j : Joined) → IsGrown j → n + 2 ≡ length j.built.open_nodes → TellsDocument (record { built = ended_times (suc n) j.built; names = j.names })
+document_times : (n : ℕ) (j : Joined) → IsGrown j → n + 2 ≡ length j.built.open_nodes →
+    TellsDocument (record { built = ended_times (suc n) j.built; names = j.names })
 document_times zero j g h = by g.chunks g.elements g.some g.is g.depth
   where
-    by : (chunks : List (List Event)) → AreElements j.names chunks → 0 < length chunks → j.built ≡ built (all_events chunks) → length j.built.open_nodes ≡ length chunks + 1
+    by : (chunks : List (List Event)) → AreElements j.names chunks → 0 < length chunks → j.built ≡ built (all_events chunks) →
+        length j.built.open_nodes ≡ length chunks + 1
         → TellsDocument (record { built = after ends j.built; names = j.names })
     by [] elements some is depth = absurd (omega (arith, some))
     by (chunk ∷ []) elements some is depth = document_end j chunk elements.0 is
@@ -552,8 +608,10 @@ tree_count names b tree h = let all = nodes_count (0 ∷ []) 1 tree in omega (ar
 
 -- What tells a document of numbered nodes can be finished.
 pub finishes : (j : Joined) → TellsDocument j
-    → ((names : List Name) (tree : Forest) (events : List Event) → IsDocument tree → Tells names tree events → HasNodesOf (record { nodes = (built events).nodes; names = names }) tree)
-    → ((names : List Name) (tree : Forest) (events : List Event) → IsDocument tree → Tells names tree events → size tree + 1 < 2 ^ 32 → IsWhole names (built events))
+    → ((names : List Name) (tree : Forest) (events : List Event) → IsDocument tree → Tells names tree events →
+    HasNodesOf (record { nodes = (built events).nodes; names = names }) tree)
+    → ((names : List Name) (tree : Forest) (events : List Event) → IsDocument tree → Tells names tree events → size tree + 1 < 2 ^ 32 →
+    IsWhole names (built events))
     → (count : ℕ) → count ≡ length j.built.nodes → count ≤ 4294967295 → IsWhole j.names j.built
 finishes j t nodes whole count is few =
     let all = tree_count j.names (built t.events) t.tree (nodes j.names t.tree t.events t.document t.tells) in

@@ -51,7 +51,8 @@ stops_behind a b r s t h k = record {
   opens = let e : h.count + suc k.count ≡ suc (h.count + k.count) = omega arith in
       k.opens ∙ (ap (counted (suc k.count)) h.has_read.opens ∙ (sym (counted-add h.count (suc k.count) r.opens) ∙ ap (λ n. counted n r.opens) e));
   rises = subst (λ n. n ≤ t.faults) h.has_read.faults k.rises;
-  leads = leads_join r.held a b (reads k.name k.next) h.count k.count h.leads (subst (λ held. Leads held b k.count (reads k.name k.next)) h.has_read.held k.leads);
+  leads = leads_join r.held a b (reads k.name k.next) h.count k.count h.leads
+      (subst (λ held. Leads held b k.count (reads k.name k.next)) h.has_read.held k.leads);
 }
 
 malformed_behind : (a b : Readings) (r s t : ShelfView) (wrong : XmlFault) → Reaches a b r s → IsMalformed b wrong s t → IsMalformed a wrong r t
@@ -104,16 +105,19 @@ fails_pure (Err f) a v h = refused_fails a f v h
 
 -- ---- calls behind others
 
-pub goes_behind : {T : Type 0} (r : Result T LoadFault) (a b c : Readings) (s t u : ShelfView) → Reaches a b s t → IfOk r (λ _. Reaches b c t u) → IfOk r (λ _. Reaches a c s u)
+pub goes_behind : {T : Type 0} (r : Result T LoadFault) (a b c : Readings) (s t u : ShelfView) → Reaches a b s t → IfOk r (λ _. Reaches b c t u) →
+    IfOk r (λ _. Reaches a c s u)
 goes_behind (Ok x) a b c s t u h k = reaches_join a b c s t u h k
 goes_behind (Err f) a b c s t u h k = k
 
 -- ---- readings that are others
 
-pub found_from : {T : Type 0} (r : Result T LoadFault) (found : T → Readings) (a b : Readings) (s t : ShelfView) → a ≡ b → IfOk r (λ k. Reaches b (found k) s t) → IfOk r (λ k. Reaches a (found k) s t)
+pub found_from : {T : Type 0} (r : Result T LoadFault) (found : T → Readings) (a b : Readings) (s t : ShelfView) → a ≡ b → IfOk r (λ k. Reaches b (found k) s t)
+    → IfOk r (λ k. Reaches a (found k) s t)
 found_from (Ok k) found a b s t e h = reaches_from a b (found k) s t e h
 found_from (Err f) found a b s t e h = h
 
-pub fails_from : {T : Type 0} (r : Result T LoadFault) (a b : Readings) (s t : ShelfView) → a ≡ b → IfErr r (λ fault. Fails b fault s t) → IfErr r (λ fault. Fails a fault s t)
+pub fails_from : {T : Type 0} (r : Result T LoadFault) (a b : Readings) (s t : ShelfView) → a ≡ b → IfErr r (λ fault. Fails b fault s t) →
+    IfErr r (λ fault. Fails a fault s t)
 fails_from (Ok k) a b s t e h = h
 fails_from (Err f) a b s t e h = fails_same a b f s t e h

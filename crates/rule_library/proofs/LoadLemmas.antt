@@ -25,7 +25,9 @@ begins w file b = λ i. rest_by (b.files i) (b.top i) (b.outer i) (b.joined i)
 
 pub stands_first : (w : Walk) (file : File) → Begins file w → w.length ≡ file.length → 0 < length file.document.nodes → Stands w
 stands_first w file b long some = record {
-  top = subst (λ (frame : Frame). IsOpen w.files.items frame) (sym b.top) (subst (λ (files : List File). IsOpen files first) (sym b.files) (record { file = omega arith; base = omega arith; at = λ n e. let same : 0 ≡ n = cc in subst (λ k. k < length file.document.nodes) same some }));
+  top = subst (λ (frame : Frame). IsOpen w.files.items frame) (sym b.top)
+      (subst (λ (files : List File). IsOpen files first) (sym b.files)
+      (record { file = omega arith; base = omega arith; at = λ n e. let same : 0 ≡ n = cc in subst (λ k. k < length file.document.nodes) same some }));
   outer = subst (λ (frames : List Frame). AreOpen w.files.items frames) (sym b.outer) tt;
   long = long ∙ (one file.length ∙ ap total (sym b.files));
   few = omega (arith, ap length b.files);
@@ -37,7 +39,8 @@ stands_first w file b long some = record {
     one : (n : ℕ) → n ≡ n + 0
     one n = omega arith
 
-pub library_reads : (name : List ℕ) (file : File) (before after : ShelfView) → IsReadAt name 0 file before after → Reaches (library name) (entered_first file) before after
+pub library_reads : (name : List ℕ) (file : File) (before after : ShelfView) → IsReadAt name 0 file before after →
+    Reaches (library name) (entered_first file) before after
 library_reads name file before after r = record {
   count = 1;
   has_read = r.has_read;
@@ -61,11 +64,13 @@ load_fails name file w fault before mid after r b h =
     (fails_same (entered_first file) (rest_of w) fault mid after (sym (begins w file b)) h)
 
 -- Memory ran out behind the first file.
-pub load_full : (name : List ℕ) (file : File) (fault : LoadFault) (before after : ShelfView) → IsReadAt name 0 file before after → fault ≡ want_of_memory → Fails (library name) fault before after
+pub load_full : (name : List ℕ) (file : File) (fault : LoadFault) (before after : ShelfView) → IsReadAt name 0 file before after → fault ≡ want_of_memory →
+    Fails (library name) fault before after
 load_full name file fault before after r is = full_between (entered_first file) is (library_reads name file before after r)
 
 -- Memory ran out when all was joined.
-pub load_full_behind : (name : List ℕ) (file : File) (w v : Walk) (fault : LoadFault) (before mid after : ShelfView) → IsReadAt name 0 file before mid → Begins file w
+pub load_full_behind : (name : List ℕ) (file : File) (w v : Walk) (fault : LoadFault) (before mid after : ShelfView) → IsReadAt name 0 file before mid →
+    Begins file w
     → Reaches (rest_of w) (gives (Ok (state_of v))) mid after → fault ≡ want_of_memory → Fails (library name) fault before after
 load_full_behind name file w v fault before mid after r b h is =
     full_between (gives (Ok (state_of v))) is (reaches_all name file w v before mid after r b h)

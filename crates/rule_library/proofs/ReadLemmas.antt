@@ -16,13 +16,15 @@ use Rattle.rule_library.specs.Reading.{IsReadAt}
 use Rattle.rule_library.specs.Leads.{Leads, here, read, Reaches, Stops, told_under}
 use Rattle.rule_library.specs.Faults.{TellsOfFile, want_of_memory, Fails, unreadable, no_document, full_between, full_inside}
 use Rattle.rule_library.specs.Walk.{with_file, read_by}
-use Rattle.rule_library.specs.Turns.{Open, top_of, outer_of, state_of, opened, all_opened, enter_in, asking, behind_part, new_rest, found_by, found_rest, IsOpen, AreOpen, Stands, StandsAt, Keeps}
+use Rattle.rule_library.specs.Turns.{Open, top_of, outer_of, state_of, opened, all_opened, enter_in, asking, behind_part, new_rest, found_by, found_rest}
+use Rattle.rule_library.specs.Turns.{IsOpen, AreOpen, Stands, StandsAt, Keeps}
 use Rattle.rule_library.specs.declared.faults.LoadFault.{LoadFault}
 use Rattle.rule_library.specs.declared.walk.Frame.{Frame}
 use Rattle.rule_library.specs.declared.walk.Walk.{Walk}
 use Rattle.rule_library.proofs.TurnLemmas.{all_opened-more_files, opened-more_files, IsOpen-more, AreOpen-more}
 
-pub was_read : (name kept : List ℕ) (start count : ℕ) (doc : Document) (before after : ShelfView) → kept ≡ name → IsLoadedOf rule_limits (told_under name before.held) count doc
+pub was_read : (name kept : List ℕ) (start count : ℕ) (doc : Document) (before after : ShelfView) → kept ≡ name →
+    IsLoadedOf rule_limits (told_under name before.held) count doc
     → after.held ≡ before.held → after.opens ≡ next_count before.opens → after.faults ≡ before.faults
     → IsReadAt name start (record { name = kept; length = count; start = start; document = doc }) before after
 was_read name kept start count doc before after e l h o f = record {
@@ -53,7 +55,8 @@ file_fails name next fault answer before after tells held opens rises rose quiet
         → ((wrong : XmlFault) → fault ≡ file_faults.Refused wrong → StopsInTime rule_limits (told_under name before.held) after.left)
         → Fails (reads name next) answer before after
     by_fault file_faults.Read (inl e) r q f s = unreadable stopped e (r refl)
-    by_fault (file_faults.Refused wrong) (inl e) r q f s = no_document wrong (record { stops = stopped; quiet = q (λ x. cc); refused = f wrong refl; in_time = s wrong refl }) e
+    by_fault (file_faults.Refused wrong) (inl e) r q f s =
+        no_document wrong (record { stops = stopped; quiet = q (λ x. cc); refused = f wrong refl; in_time = s wrong refl }) e
     by_fault file_faults.Memory e r q f s = full_inside e stopped
     by_fault file_faults.Read (inr e) r q f s = full_inside e stopped
     by_fault (file_faults.Refused wrong) (inr e) r q f s = full_inside e stopped
@@ -84,11 +87,14 @@ file-kept w v k file e =
 pub within-kept : (w v : Walk) (k : ℕ) (file : File) → Keeps k file w v → k < length v.files.items
 within-kept w v k file e = omega (arith, ap length e.files, length-append w.files.items (file ∷ []), e.number)
 
-pub stands-kept : (w v : Walk) (file : File) → Stands w → v.files.items ≡ w.files.items ++ file ∷ [] → v.top ≡ w.top → v.outer.items ≡ w.outer.items → length w.files.items < 64
+pub stands-kept : (w v : Walk) (file : File) → Stands w → v.files.items ≡ w.files.items ++ file ∷ [] → v.top ≡ w.top → v.outer.items ≡ w.outer.items →
+    length w.files.items < 64
     → v.length ≡ w.length + file.length → Stands v
 stands-kept w v file h files_are top_is outer_is few long = record {
-  top = subst (λ (frame : Frame). IsOpen v.files.items frame) (sym top_is) (subst (λ (files : List File). IsOpen files w.top) (sym files_are) (IsOpen-more w.files.items (file ∷ []) w.top h.top));
-  outer = subst (λ (frames : List Frame). AreOpen v.files.items frames) (sym outer_is) (subst (λ (files : List File). AreOpen files w.outer.items) (sym files_are) (AreOpen-more w.files.items (file ∷ []) w.outer.items h.outer));
+  top = subst (λ (frame : Frame). IsOpen v.files.items frame) (sym top_is)
+      (subst (λ (files : List File). IsOpen files w.top) (sym files_are) (IsOpen-more w.files.items (file ∷ []) w.top h.top));
+  outer = subst (λ (frames : List Frame). AreOpen v.files.items frames) (sym outer_is)
+      (subst (λ (files : List File). AreOpen files w.outer.items) (sym files_are) (AreOpen-more w.files.items (file ∷ []) w.outer.items h.outer));
   long = long ∙ (ap (λ n. n + file.length) h.long ∙ (sym (total-more w.files.items file) ∙ ap total (sym files_are)));
   few = omega (arith, ap length files_are, length-append w.files.items (file ∷ []));
 }
@@ -109,7 +115,8 @@ reads_part w v n k bare name file before after h few r e =
     let next = behind_part (top_of w) (outer_of w) n in
     let kept : File = file_behind w.files.items name (length r.content) r.found in
     let is : file ≡ kept = r.exactly ∙ (λ i. record { name = name; length = length r.content; start = h.long i; document = kept.document }) in
-    let state : with_file kept (state_of w) ≡ state_of v = λ i. record { files = (ap (λ (f : File). w.files.items ++ f ∷ []) (sym is) ∙ sym e.files) i; joined = sym e.joined i } in
+    let state : with_file kept (state_of w) ≡ state_of v =
+    λ i. record { files = (ap (λ (f : File). w.files.items ++ f ∷ []) (sym is) ∙ sym e.files) i; joined = sym e.joined i } in
     let there : found_by (top_of w) (outer_of w) n bare (with_file kept (state_of w)) kept ≡ found_rest v n bare k =
     λ i. found_by (sym (top-kept w v k file h e) i) (sym (outer-kept w v k file h e) i) n bare (state i) ((sym is ∙ sym (file-kept w v k file e)) i) in
     record {
@@ -129,7 +136,9 @@ part_fails w n bare name fault before after few fails =
     (sym (ap (read_by (enter_in (top_of w).way) (asking (top_of w) n bare) name (behind_part (top_of w) (outer_of w) n) (state_of w)) few)) (fails _)
 
 -- Memory ran out behind a part that was read.
-pub full_behind : (w : Walk) (n : ℕ) (bare : Bool) (name : List ℕ) (file : File) (fault : LoadFault) (before after : ShelfView) → nat_le 64 (length w.files.items) ≡ false
+pub full_behind : (w : Walk) (n : ℕ) (bare : Bool) (name : List ℕ) (file : File) (fault : LoadFault) (before after : ShelfView) →
+    nat_le 64 (length w.files.items) ≡ false
     → IsReadAt name w.length file before after → fault ≡ want_of_memory → Fails (new_rest w n bare name) fault before after
 full_behind w n bare name file fault before after few r is =
-    part_fails w n bare name fault before after few (λ next. full_between (next (length r.content) r.found) is (record { count = 1; has_read = r.has_read; leads = read {n = 0} r.whole r.is here }))
+    part_fails w n bare name fault before after few
+    (λ next. full_between (next (length r.content) r.found) is (record { count = 1; has_read = r.has_read; leads = read {n = 0} r.whole r.is here }))

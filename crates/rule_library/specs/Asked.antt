@@ -1,7 +1,8 @@
 -- What an element of a rule file asks for (ISO/IEC 19757-3, 5.4: `include`, and `extends` with href). Only its own name,
 -- its parent's and its attributes count. That an href is the name of a file as it stands, and what a good one is, is this
 -- project's own.
-use Rattle.std.specs.Prelude.{ℕ, Bool, true, false, ◌&&◌, ◌||◌, List, [], ◌∷◌, length, Option, Some, None, nat_le, ◌==◌, bytes_eq, codes, encode_utf8_all, if◌then◌else◌}
+use Rattle.std.specs.Prelude.{ℕ, Bool, true, false, ◌&&◌, ◌||◌, List, [], ◌∷◌, length, Option, Some, None, nat_le, ◌==◌, bytes_eq, codes, encode_utf8_all}
+use Rattle.std.specs.Prelude.{if◌then◌else◌}
 use Rattle.inv_base.specs.Tree.{Name}
 use Rattle.inv_base.specs.declared.tree.Kind.TheVariants as kinds
 use Rattle.xml_state.specs.Events.{name_at}

@@ -15,5 +15,11 @@ pub record IsReadAt (name : List ℕ) (start : ℕ) (file : File) (before after 
   pub found : profile.Document
   pub whole : WhereTold (told_under name before.held) (λ bytes. content ≡ bytes)
   pub is : document rule_limits content ≡ Ok found
-  pub exactly : file ≡ record { name = name; length = length content; start = start; document = record { nodes = (built found.events).nodes; names = found.names } }
+  pub exactly : file ≡ record {
+    name = name;
+    length = length content;
+    start = start;
+    document =
+        record { nodes = (built found.events).nodes; names = found.names };
+  }
   pub has_read : HasRead 1 before after

@@ -7,7 +7,8 @@ use Rattle.rule_library.specs.Readings.{File, State, Fault, Readings, gives, fil
 use Rattle.rule_library.specs.Asked.{Asked, given_at}
 use Rattle.rule_library.specs.Joining.{nothing_joined, passed_limit}
 use Rattle.rule_library.specs.Faults.{TellsOf, IsOfANode, want_of_memory}
-use Rattle.rule_library.specs.Walk.{Next, Enter, Way, Going, Asking, going, entered, unless_passed, at_node, at_asked, put_in, found_or_read, newly_read, checked, file_of, parent_name, own_name}
+use Rattle.rule_library.specs.Walk.{Next, Enter, Way, Going, Asking, going, entered, unless_passed, at_node, at_asked, put_in, found_or_read, newly_read}
+use Rattle.rule_library.specs.Walk.{checked, file_of, parent_name, own_name}
 use Rattle.rule_library.specs.Leads.{Reaches}
 use Rattle.rule_library.specs.declared.faults.LoadKind.{LoadKind}
 use Rattle.rule_library.specs.declared.faults.LoadFault.{LoadFault}
@@ -23,7 +24,8 @@ pub record Open : Type 0 where
 
 -- a fault at a node of the file that is gone over
 abbrev pub fault_at : Walk → ℕ → LoadKind → Fault
-fault_at w n kind = let file : File = file_at w.top.file w.files.items in record { kind = kind; file = file.name; place = (node_at file.document.nodes n).place }
+fault_at w n kind = let file : File = file_at w.top.file w.files.items in
+    record { kind = kind; file = file.name; place = (node_at file.document.nodes n).place }
 
 -- the nodes from that one on
 abbrev pub from : Option ℕ → List Placed → List Placed
@@ -89,7 +91,8 @@ passed w n = going_behind (top_of w) (outer_of w) n None (state_of w)
 
 -- what is still to be done at a node that was put in
 abbrev pub settled : Walk → ℕ → Readings
-settled w n = unless_passed (passed_limit (is_part (outer_of w)) w.joined) (top_of w).way (node_in (top_of w) n) (going_behind (top_of w) (outer_of w) n None) (state_of w)
+settled w n = unless_passed (passed_limit (is_part (outer_of w)) w.joined) (top_of w).way (node_in (top_of w) n) (going_behind (top_of w) (outer_of w) n None)
+    (state_of w)
 
 -- what is still to be done at a node, when what isn't around it is closed
 abbrev pub at_rest : Open → List Open → State → ℕ → Readings

@@ -2,7 +2,8 @@
 -- an element asks for another file, that file is gone over in its place, and what is inside the element is dropped. A file
 -- is read when its name is first met. Each `include` gives way to the root element of the file that it names, each
 -- `extends` with href to what is in that root, with what these ask for already put in.
-use Rattle.std.specs.Prelude.{ℕ, zero, suc, ◌+◌, ◌-◌, Bool, true, false, ◌&&◌, ◌||◌, not, List, [], ◌∷◌, ◌++◌, length, Option, Some, None, option_map, Result, Ok, Err, nat_le, ◌==◌, bytes_eq, if◌then◌else◌}
+use Rattle.std.specs.Prelude.{ℕ, zero, suc, ◌+◌, ◌-◌, Bool, true, false, ◌&&◌, ◌||◌, not, List, [], ◌∷◌, ◌++◌, length, Option, Some, None, option_map, Result}
+use Rattle.std.specs.Prelude.{Ok, Err, nat_le, ◌==◌, bytes_eq, if◌then◌else◌}
 use Rattle.inv_base.specs.Files.{Files, bytes_under}
 use Rattle.inv_base.specs.declared.tree.Kind.{Kind}
 use Rattle.inv_base.specs.declared.tree.Kind.TheVariants as nodes_are

@@ -107,10 +107,12 @@ fn read_part<'a, S: Shelf>(
     wanted: &Wanted<'_>,
 ) -> Result<usize, LoadFault>
     requires at { StandsAt walk.old wanted.now.node }
-    ensures found { let w = wanted.now in IfOk result (λ k. Reaches (spec.new_rest walk.old w.node w.bare w.name.now) (spec.found_rest walk.new w.node w.bare k) (S.view shelf.old) (S.view shelf.new)) }
+    ensures found { let w = wanted.now in IfOk result (λ k. Reaches (spec.new_rest walk.old w.node w.bare w.name.now) (spec.found_rest walk.new w.node w.bare k)
+        (S.view shelf.old) (S.view shelf.new)) }
     ensures at { IfOk result (λ k. StandsAt walk.new wanted.now.node) }
     ensures within { IfOk result (λ k. k < length walk.new.files.items) }
-    ensures fails { let w = wanted.now in IfErr result (λ fault. Fails (spec.new_rest walk.old w.node w.bare w.name.now) fault (S.view shelf.old) (S.view shelf.new)) }
+    ensures fails { let w = wanted.now in IfErr result (λ fault. Fails (spec.new_rest walk.old w.node w.bare w.name.now) fault (S.view shelf.old)
+        (S.view shelf.new)) }
 {
     if has_many(walk) {
         return Err(fault_in(alloc, walk, wanted.node, LoadKind::TooManyFiles));
@@ -155,10 +157,12 @@ fn find_part<'a, S: Shelf>(
     wanted: &Wanted<'_>,
 ) -> Result<usize, LoadFault>
     requires at { StandsAt walk.old wanted.now.node }
-    ensures found { let w = wanted.now in IfOk result (λ k. Reaches (spec.other_rest walk.old w.node w.bare w.name.now) (spec.found_rest walk.new w.node w.bare k) (S.view shelf.old) (S.view shelf.new)) }
+    ensures found { let w = wanted.now in IfOk result
+        (λ k. Reaches (spec.other_rest walk.old w.node w.bare w.name.now) (spec.found_rest walk.new w.node w.bare k) (S.view shelf.old) (S.view shelf.new)) }
     ensures at { IfOk result (λ k. StandsAt walk.new wanted.now.node) }
     ensures within { IfOk result (λ k. k < length walk.new.files.items) }
-    ensures fails { let w = wanted.now in IfErr result (λ fault. Fails (spec.other_rest walk.old w.node w.bare w.name.now) fault (S.view shelf.old) (S.view shelf.new)) }
+    ensures fails { let w = wanted.now in IfErr result (λ fault. Fails (spec.other_rest walk.old w.node w.bare w.name.now) fault (S.view shelf.old)
+        (S.view shelf.new)) }
 {
     match find(walk.files.as_slice(), wanted.name) {
         Some(k) => Ok(k),
@@ -238,9 +242,11 @@ pub(crate) fn put_part<'a, S: Shelf>(
     wanted: &Wanted<'_>,
 ) -> Result<(), LoadFault>
     requires at { StandsAt walk.old wanted.now.node }
-    ensures goes { let w = wanted.now in IfOk result (λ _. Reaches (spec.part_rest walk.old w.node w.bare w.name.now) (rest_of walk.new) (S.view shelf.old) (S.view shelf.new)) }
+    ensures goes { let w = wanted.now in IfOk result (λ _. Reaches (spec.part_rest walk.old w.node w.bare w.name.now) (rest_of walk.new) (S.view shelf.old)
+        (S.view shelf.new)) }
     ensures stands { OnOk result (Stands walk.new) }
-    ensures fails { let w = wanted.now in IfErr result (λ fault. Fails (spec.part_rest walk.old w.node w.bare w.name.now) fault (S.view shelf.old) (S.view shelf.new)) }
+    ensures fails { let w = wanted.now in IfErr result (λ fault. Fails (spec.part_rest walk.old w.node w.bare w.name.now) fault (S.view shelf.old)
+        (S.view shelf.new)) }
 {
     if is_open(walk, wanted.name) {
         return Err(fault_in(alloc, walk, wanted.node, LoadKind::IncludeCycle));

@@ -29,14 +29,16 @@ pub node_is : (document : Document) (answer : Result Compiled Refusal) → AreIn
     → ComesTo answer (rules_of (tree_nodes document)) → IfErr answer (IsOfANode (length document.nodes))
 node_is document (Ok rules) ordered tells e = tt
 node_is document (Err (refusal.Refused fault)) ordered tells e =
-    subst (λ n. fault.node < n) (length-map document.nodes (node_of document.names)) (tells (tree_nodes document) fault ordered (refused_first (tree_nodes document) fault e))
+    subst (λ n. fault.node < n) (length-map document.nodes (node_of document.names))
+    (tells (tree_nodes document) fault ordered (refused_first (tree_nodes document) fault e))
 node_is document (Err refusal.Memory) ordered tells e = tt
 
 pub refused_is : (nodes : List Node) (fault : Fault) (found : Option Fault) → found ≡ Some fault → found ≡ f.first_fault nodes → rules_of nodes ≡ Err fault
 unfolding rules_of
 refused_is nodes fault found is first = ap (λ answer. rules_unless answer (file_of (entries nodes))) (sym first ∙ is)
 
-pub accepted_is : (nodes : List Node) (file : File) (found : Option Fault) (answer : Result Compiled Refusal) → found ≡ None → found ≡ f.first_fault nodes → file ≡ file_of (entries nodes)
+pub accepted_is : (nodes : List Node) (file : File) (found : Option Fault) (answer : Result Compiled Refusal) → found ≡ None → found ≡ f.first_fault nodes →
+    file ≡ file_of (entries nodes)
     → ComesTo answer (Ok (compiled file)) → ComesTo answer (rules_of nodes)
 unfolding rules_of
 accepted_is nodes file found answer is first of h =

@@ -81,7 +81,8 @@ below_none n ns r = go (is_among n ns) refl
     go false e = e
     go true e = absurd (let l : suc n ≤ n = above (suc n) ns r n e in omega (arith, l))
 
-rest_same : (m n : ℕ) (xs ys : List ℕ) → Rises (suc n) xs → Rises (suc n) ys → (m == n || is_among m xs) ≡ (m == n || is_among m ys) → is_among m xs ≡ is_among m ys
+rest_same : (m n : ℕ) (xs ys : List ℕ) → Rises (suc n) xs → Rises (suc n) ys → (m == n || is_among m xs) ≡ (m == n || is_among m ys) →
+    is_among m xs ≡ is_among m ys
 rest_same m n xs ys r s e = go (m == n) refl e
   where
     go : (b : Bool) → (m == n) ≡ b → (b || is_among m xs) ≡ (b || is_among m ys) → is_among m xs ≡ is_among m ys

@@ -1,5 +1,6 @@
 -- A scope that grew by variables is cut back to what it was; lets, each in the scope of those before it.
-use Rattle.std.proofs.Common.{◌≡◌, ℕ, Bool, true, false, ◌+◌, ◌<◌, List, [], ◌∷◌, ◌++◌, map, length, get_or, take, drop, Option, Some, None, refl, ap, sym, ◌∙◌, append-nil, append_assoc, arith}
+use Rattle.std.proofs.Common.{◌≡◌, ℕ, Bool, true, false, ◌+◌, ◌<◌, List, [], ◌∷◌, ◌++◌, map, length, get_or, take, drop, Option, Some, None, refl, ap, sym, ◌∙◌}
+use Rattle.std.proofs.Common.{append-nil, append_assoc, arith}
 use Rattle.std.specs.Prelude.{if◌then◌else◌, flat_map}
 use Rattle.std.proofs.lemmas.List.{map-append}
 use Rattle.xpath_types.specs.Scopes.{Declared, declares, with_variable}
@@ -45,7 +46,8 @@ grows-declare s (Some name) = grows-variable s name
 pub grows-lets : (params : List Parameter) (s : Declared) (lets : List Entry) → Grows s (with_lets params s lets)
 grows-lets params s [] = grows-self s
 grows-lets params s (e ∷ lets) =
-    grows-on s (with_let params s e) (with_lets params (with_let params s e) lets) (grows-declare s (name_of params e)) (grows-lets params (with_let params s e) lets)
+    grows-on s (with_let params s e) (with_lets params (with_let params s e) lets) (grows-declare s (name_of params e))
+    (grows-lets params (with_let params s e) lets)
 
 front : (xs ys : List (List ℕ)) → take (length xs) (xs ++ ys) ≡ xs
 front [] ys = refl
@@ -62,7 +64,8 @@ pub cut_back : (params : List Parameter) (s grown cut : Declared) (lets : List E
 cut_back params s grown cut lets count counted is cutting =
     cutting
     ∙ (ap (λ n. record grown { variables = take n grown.variables }) counted
-    ∙ (ap (λ (g : Declared). record g { variables = take (length s.variables) g.variables }) is ∙ restored s (with_lets params s lets) (grows-lets params s lets)))
+    ∙ (ap (λ (g : Declared). record g { variables = take (length s.variables) g.variables }) is ∙
+    restored s (with_lets params s lets) (grows-lets params s lets)))
 
 -- ---- lets
 
@@ -71,7 +74,8 @@ pub record LetsTo (params : List Parameter) (all : List Entry) (start now : Decl
   pub lets : found ++ lets_behind params now rest ≡ lets_behind params start all
   pub scope : with_lets params now rest ≡ with_lets params start all
 
-pub lets_step : (params : List Parameter) (all : List Entry) (start now behind : Declared) (found more : List Let) (e : Entry) (rest others : List Entry) → rest ≡ e ∷ others → more ≡ found ++ let_of params now e ∷ []
+pub lets_step : (params : List Parameter) (all : List Entry) (start now behind : Declared) (found more : List Let) (e : Entry) (rest others : List Entry) →
+    rest ≡ e ∷ others → more ≡ found ++ let_of params now e ∷ []
     → behind ≡ with_let params now e → LetsTo params all start now found rest → LetsTo params all start behind more others
 lets_step params all start now behind found more e rest others first m b h = record {
   lets =
@@ -81,7 +85,8 @@ lets_step params all start now behind found more e rest others first m b h = rec
   scope = ap (λ s. with_lets params s others) b ∙ (ap (with_lets params now) (sym first) ∙ h.scope);
 }
 
-pub lets_end : (params : List Parameter) (all : List Entry) (start now : Declared) (found : List Let) (rest : List Entry) → rest ≡ [] → LetsTo params all start now found rest
+pub lets_end : (params : List Parameter) (all : List Entry) (start now : Declared) (found : List Let) (rest : List Entry) → rest ≡ [] →
+    LetsTo params all start now found rest
     → (found ≡ lets_behind params start all) × (now ≡ with_lets params start all)
 lets_end params all start now found rest none h = (
   sym (append-nil found) ∙ (ap (λ es. found ++ lets_behind params now es) (sym none) ∙ h.lets),
@@ -90,30 +95,37 @@ lets_end params all start now found rest none h = (
 
 -- ---- the same, of what is held and lent
 
-pub lets_begun : (params : List Parameter) (es items : List (Bor Read)) (start : Declared) (found : List Held) → found ≡ [] → items ≡ es → LetsTo params (lent_entries es) start start (seen_lets found) (lent_entries items)
+pub lets_begun : (params : List Parameter) (es items : List (Bor Read)) (start : Declared) (found : List Held) → found ≡ [] → items ≡ es →
+    LetsTo params (lent_entries es) start start (seen_lets found) (lent_entries items)
 lets_begun params es items start found none is = record {
   lets = (λ k. seen_lets (none k) ++ lets_behind params start (lent_entries (is k)));
   scope = ap (λ xs. with_lets params start (lent_entries xs)) is;
 }
 
-pub lets_on : (params : List Parameter) (all : List Entry) (start now behind : Declared) (found more : List Held) (x : Held) (e : Bor Read) (items others : List (Bor Read)) → items ≡ e ∷ others → more ≡ found ++ x ∷ []
-    → seen_let x ≡ let_of params now (seen_entry e.now) → behind ≡ with_let params now (seen_entry e.now) → LetsTo params all start now (seen_lets found) (lent_entries items)
+pub lets_on : (params : List Parameter) (all : List Entry) (start now behind : Declared) (found more : List Held) (x : Held) (e : Bor Read)
+    (items others : List (Bor Read)) → items ≡ e ∷ others → more ≡ found ++ x ∷ []
+    → seen_let x ≡ let_of params now (seen_entry e.now) → behind ≡ with_let params now (seen_entry e.now) →
+    LetsTo params all start now (seen_lets found) (lent_entries items)
     → LetsTo params all start behind (seen_lets more) (lent_entries others)
 lets_on params all start now behind found more x e items others first m is b h =
-    lets_step params all start now behind (seen_lets found) (seen_lets more) (seen_entry e.now) (lent_entries items) (lent_entries others) (ap lent_entries first)
+    lets_step params all start now behind (seen_lets found) (seen_lets more) (seen_entry e.now) (lent_entries items) (lent_entries others)
+    (ap lent_entries first)
     (ap seen_lets m ∙ (map-append seen_let found (x ∷ []) ∙ ap (λ y. seen_lets found ++ y ∷ []) is)) b h
 
-pub lets_over : (params : List Parameter) (all : List Entry) (start now : Declared) (found : List Let) (items : List (Bor Read)) (len : ℕ) → len ≡ 0 → len ≡ length items → LetsTo params all start now found (lent_entries items)
+pub lets_over : (params : List Parameter) (all : List Entry) (start now : Declared) (found : List Let) (items : List (Bor Read)) (len : ℕ) → len ≡ 0 →
+    len ≡ length items → LetsTo params all start now found (lent_entries items)
     → (found ≡ lets_behind params start all) × (now ≡ with_lets params start all)
 lets_over params all start now found [] len z l h = lets_end params all start now found [] refl h
 lets_over params all start now found (e ∷ items) len z l h = absurd (omega (arith, z, l))
 
-pub declared_on : (params : List Parameter) (now behind whole : Declared) (e : Bor Read) (items others : List (Bor Read)) → items ≡ e ∷ others → behind ≡ with_let params now (seen_entry e.now)
+pub declared_on : (params : List Parameter) (now behind whole : Declared) (e : Bor Read) (items others : List (Bor Read)) → items ≡ e ∷ others →
+    behind ≡ with_let params now (seen_entry e.now)
     → with_lets params now (lent_entries items) ≡ whole → with_lets params behind (lent_entries others) ≡ whole
 declared_on params now behind whole e items others first b h =
     ap (λ s. with_lets params s (lent_entries others)) b ∙ (ap (λ xs. with_lets params now (lent_entries xs)) (sym first) ∙ h)
 
-pub declared_over : (params : List Parameter) (now whole : Declared) (items : List (Bor Read)) (len : ℕ) → len ≡ 0 → len ≡ length items → with_lets params now (lent_entries items) ≡ whole → now ≡ whole
+pub declared_over : (params : List Parameter) (now whole : Declared) (items : List (Bor Read)) (len : ℕ) → len ≡ 0 → len ≡ length items →
+    with_lets params now (lent_entries items) ≡ whole → now ≡ whole
 declared_over params now whole [] len z l h = h
 declared_over params now whole (e ∷ items) len z l h = absurd (omega (arith, z, l))
 
@@ -122,18 +134,22 @@ declared_over params now whole (e ∷ items) len z l h = absurd (omega (arith, z
 abbrev pub lets_of_phases : List Entry → List Entry → List Entry
 lets_of_phases es phases = flat_map (λ (phase : Entry). inside is_let es phase.number) phases
 
-lets_in_two : (params : List Parameter) (s : Declared) (lets others : List Entry) → with_lets params s (lets ++ others) ≡ with_lets params (with_lets params s lets) others
+lets_in_two : (params : List Parameter) (s : Declared) (lets others : List Entry) →
+    with_lets params s (lets ++ others) ≡ with_lets params (with_lets params s lets) others
 lets_in_two params s [] others = refl
 lets_in_two params s (e ∷ lets) others = lets_in_two params (with_let params s e) lets others
 
 -- one phase less to come
-pub phase_declared : (es : List Entry) (now behind whole : Declared) (lets : List Entry) (e : Bor Read) (items others : List (Bor Read)) → items ≡ e ∷ others → lets ≡ inside is_let es (seen_entry e.now).number
-    → behind ≡ with_lets [] now lets → with_lets [] now (lets_of_phases es (lent_entries items)) ≡ whole → with_lets [] behind (lets_of_phases es (lent_entries others)) ≡ whole
+pub phase_declared : (es : List Entry) (now behind whole : Declared) (lets : List Entry) (e : Bor Read) (items others : List (Bor Read)) → items ≡ e ∷ others →
+    lets ≡ inside is_let es (seen_entry e.now).number
+    → behind ≡ with_lets [] now lets → with_lets [] now (lets_of_phases es (lent_entries items)) ≡ whole →
+    with_lets [] behind (lets_of_phases es (lent_entries others)) ≡ whole
 phase_declared es now behind whole lets e items others first l b h =
     ap (λ s. with_lets [] s (lets_of_phases es (lent_entries others))) (b ∙ ap (with_lets [] now) l)
     ∙ (sym (lets_in_two [] now (inside is_let es (seen_entry e.now).number) (lets_of_phases es (lent_entries others)))
     ∙ (ap (λ xs. with_lets [] now (lets_of_phases es (lent_entries xs))) (sym first) ∙ h))
 
-pub phases_over : (es : List Entry) (now whole : Declared) (items : List (Bor Read)) (len : ℕ) → len ≡ 0 → len ≡ length items → with_lets [] now (lets_of_phases es (lent_entries items)) ≡ whole → now ≡ whole
+pub phases_over : (es : List Entry) (now whole : Declared) (items : List (Bor Read)) (len : ℕ) → len ≡ 0 → len ≡ length items →
+    with_lets [] now (lets_of_phases es (lent_entries items)) ≡ whole → now ≡ whole
 phases_over es now whole [] len z l h = h
 phases_over es now whole (e ∷ items) len z l h = absurd (omega (arith, z, l))

@@ -140,7 +140,8 @@ fn unless_refused(
     file: &RuleFile<'_, '_>,
     found: Option<Fault>,
 ) -> Result<Compiled, Refusal>
-    ensures { (nodes : List Node) → AreInOrder nodes → file.now ≡ file_of (meaning.entries nodes) → found ≡ faults.first_fault nodes → ComesTo result (rules_of nodes) }
+    ensures { (nodes : List Node) → AreInOrder nodes → file.now ≡ file_of (meaning.entries nodes) → found ≡ faults.first_fault nodes →
+        ComesTo result (rules_of nodes) }
 {
     match found {
         Some(fault) => Err(Refusal::Refused(fault)),

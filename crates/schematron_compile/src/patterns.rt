@@ -40,7 +40,8 @@ fn lets_and_rules(
 ) -> Result<(Many<Let>, Many<Rule>), AllocError>
     ensures lets { IfOk result (λ both. seen_lets both.0 ≡ spec.lets_behind instance.now.params scope.old (inside is_let file.now.entries instance.now.body)) }
     ensures rules { IfOk result (λ both. map seen_rule both.1
-        ≡ map (spec.rule_of file.now (seen_instance instance.now) (pattern_scope file.now.entries scope.old (seen_instance instance.now))) (inside is_own_rule file.now.entries instance.now.body)) }
+        ≡ map (spec.rule_of file.now (seen_instance instance.now) (pattern_scope file.now.entries scope.old (seen_instance instance.now)))
+        (inside is_own_rule file.now.entries instance.now.body)) }
     ensures scope { OnOk result (scope.new ≡ pattern_scope file.now.entries scope.old (seen_instance instance.now)) }
 {
     let lets = lets_inside(alloc, budget, file, &instance.params, scope, instance.body)?;

@@ -62,7 +62,8 @@ fn patterns_of<'d>(
     element: u32,
 ) -> Result<Many<u32>, AllocError>
     requires { ArePlaces (places_in places.now) (ids_of (expansion.instances file.now.entries)) }
-    ensures { IfOk result (λ patterns. patterns ≡ spec.numbers_named (lookup.inside lookup.is_active file.now.entries element) 0 (expansion.instances file.now.entries)) }
+    ensures { IfOk result (λ patterns. patterns ≡ spec.numbers_named (lookup.inside lookup.is_active file.now.entries element) 0
+        (expansion.instances file.now.entries)) }
 {
     let actives = file.inside(alloc, Sort::Actives, element)?;
     let patterns = numbers_named(alloc, places, actives)?;
@@ -80,7 +81,8 @@ fn lets_and_patterns<'d>(
 ) -> Result<(Many<Let>, Many<u32>), AllocError>
     requires { ArePlaces (places_in places.now) (ids_of (expansion.instances file.now.entries)) }
     ensures lets { IfOk result (λ both. seen_lets both.0 ≡ spec.lets_behind [] scope.old (lookup.inside lookup.is_let file.now.entries element)) }
-    ensures patterns { IfOk result (λ both. both.1 ≡ spec.numbers_named (lookup.inside lookup.is_active file.now.entries element) 0 (expansion.instances file.now.entries)) }
+    ensures patterns { IfOk result (λ both. both.1 ≡ spec.numbers_named (lookup.inside lookup.is_active file.now.entries element) 0
+        (expansion.instances file.now.entries)) }
     ensures scope { OnOk result (scope.new ≡ scope.old) }
 {
     let lets = lets_of(alloc, budget, file, scope, element)?;

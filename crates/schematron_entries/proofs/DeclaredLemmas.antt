@@ -1,5 +1,6 @@
 -- The first declared fault, element by element.
-use Rattle.std.proofs.Common.{◌≡◌, ℕ, ◌+◌, ◌<◌, Bool, true, false, ◌&&◌, ◌||◌, not, cond, nat_eq, List, [], ◌∷◌, ◌++◌, length, get_or, take, drop, Option, Some, None, refl, ap, sym, ◌∙◌, append_assoc, append-nil, eqb-true}
+use Rattle.std.proofs.Common.{◌≡◌, ℕ, ◌+◌, ◌<◌, Bool, true, false, ◌&&◌, ◌||◌, not, cond, nat_eq, List, [], ◌∷◌, ◌++◌, length, get_or, take, drop, Option, Some}
+use Rattle.std.proofs.Common.{None, refl, ap, sym, ◌∙◌, append_assoc, append-nil, eqb-true}
 use Rattle.std.specs.Prelude.{is_none, is_some, option_map, find, filter}
 use Rattle.std.specs.List.{list_any, position_from}
 use Rattle.std.specs.Str.{bytes_eq}
@@ -21,7 +22,8 @@ use Rattle.schematron_meaning.specs.Showing as show
 use Rattle.schematron_meaning.specs.Showing.{first_in, key_of, declared_at, declared_behind}
 use Rattle.schematron_entries.specs.declared.keys.Sort.{Sort}
 use Rattle.schematron_entries.specs.declared.keys.Sort.TheVariants as t
-use Rattle.schematron_entries.specs.Keys.{SeenKey, is_same_sort, is_same, with_option, has, AreKeysOf, kept, sort_of, name_key, id_key, id_key_by, named_sort, id_of, is_there, unnamed_by, is_new, fault_unless, duplicate_in, duplicate_among}
+use Rattle.schematron_entries.specs.Keys.{SeenKey, is_same_sort, is_same, with_option, has, AreKeysOf, kept, sort_of, name_key, id_key, id_key_by, named_sort}
+use Rattle.schematron_entries.specs.Keys.{id_of, is_there, unnamed_by, is_new, fault_unless, duplicate_in, duplicate_among}
 use Rattle.schematron_entries.specs.declared.entry.Entry.{Entry as Read}
 use Rattle.schematron_entries.specs.Seen.{seen_entry, seen_entries}
 use Rattle.schematron_entries.specs.Firsts.{first_or, declared_by}
@@ -66,7 +68,8 @@ position_none : {X : Type 0} (p : X → Bool) (n : ℕ) (xs : List X) → is_non
 position_none p n [] = refl
 position_none p n (x ∷ xs) = by (p x) refl (position_none p (n + 1) xs)
   where
-    by : (b : Bool) → p x ≡ b → is_none (position_from p (n + 1) xs) ≡ not (list_any p xs) → is_none (cond (p x) (Some n) (position_from p (n + 1) xs)) ≡ not (p x || list_any p xs)
+    by : (b : Bool) → p x ≡ b → is_none (position_from p (n + 1) xs) ≡ not (list_any p xs) →
+        is_none (cond (p x) (Some n) (position_from p (n + 1) xs)) ≡ not (p x || list_any p xs)
     by true e h = ap (λ c. is_none (cond c (Some n) (position_from p (n + 1) xs))) e ∙ sym (ap (λ c. not (c || list_any p xs)) e)
     by false e h = ap (λ c. is_none (cond c (Some n) (position_from p (n + 1) xs))) e ∙ (h ∙ sym (ap (λ c. not (c || list_any p xs)) e))
 
@@ -74,8 +77,10 @@ any_filter : {X : Type 0} (p q : X → Bool) (xs : List X) → list_any p (filte
 any_filter p q [] = refl
 any_filter p q (x ∷ xs) = by (q x) refl (any_filter p q xs)
   where
-    by : (b : Bool) → q x ≡ b → list_any p (filter q xs) ≡ list_any (λ y. q y && p y) xs → list_any p (cond (q x) (x ∷ filter q xs) (filter q xs)) ≡ ((q x && p x) || list_any (λ y. q y && p y) xs)
-    by true e h = ap (λ c. list_any p (cond c (x ∷ filter q xs) (filter q xs))) e ∙ (ap (λ b. p x || b) h ∙ sym (ap (λ c. (c && p x) || list_any (λ y. q y && p y) xs) e))
+    by : (b : Bool) → q x ≡ b → list_any p (filter q xs) ≡ list_any (λ y. q y && p y) xs →
+        list_any p (cond (q x) (x ∷ filter q xs) (filter q xs)) ≡ ((q x && p x) || list_any (λ y. q y && p y) xs)
+    by true e h = ap (λ c. list_any p (cond c (x ∷ filter q xs) (filter q xs))) e ∙
+        (ap (λ b. p x || b) h ∙ sym (ap (λ c. (c && p x) || list_any (λ y. q y && p y) xs) e))
     by false e h = ap (λ c. list_any p (cond c (x ∷ filter q xs) (filter q xs))) e ∙ (h ∙ sym (ap (λ c. (c && p x) || list_any (λ y. q y && p y) xs) e))
 
 -- ---- keys
@@ -114,12 +119,15 @@ with_any k keys (Some m) = by (list_any (is_same m) keys) refl
     there true f e = (let found : list_any (is_same k) keys ≡ true = ap (λ x. list_any (is_same x) keys) (same_is k m f) ∙ e in
         found ∙ sym (ap (λ c. c || is_same k m) found))
 
-    by : (b : Bool) → list_any (is_same m) keys ≡ b → list_any (is_same k) (cond (list_any (is_same m) keys) keys (keys ++ m ∷ [])) ≡ (list_any (is_same k) keys || is_same k m)
+    by : (b : Bool) → list_any (is_same m) keys ≡ b → list_any (is_same k) (cond (list_any (is_same m) keys) keys (keys ++ m ∷ [])) ≡ (list_any (is_same k) keys
+        || is_same k m)
     by true e = ap (λ c. list_any (is_same k) (cond c keys (keys ++ m ∷ []))) e ∙ there (is_same k m) refl e
-    by false e = ap (λ c. list_any (is_same k) (cond c keys (keys ++ m ∷ []))) e ∙ (any_append (is_same k) keys (m ∷ []) ∙ ap (λ c. list_any (is_same k) keys || c) (sym (or_false (is_same k m))))
+    by false e = ap (λ c. list_any (is_same k) (cond c keys (keys ++ m ∷ []))) e ∙
+        (any_append (is_same k) keys (m ∷ []) ∙ ap (λ c. list_any (is_same k) keys || c) (sym (or_false (is_same k m))))
 
 -- one entry more
-pub keys_step : (key : Entry → Option SeenKey) (keys : List SeenKey) (es : List Entry) (e : Entry) → AreKeysOf key keys es → AreKeysOf key (with_option keys (key e)) (es ++ e ∷ [])
+pub keys_step : (key : Entry → Option SeenKey) (keys : List SeenKey) (es : List Entry) (e : Entry) → AreKeysOf key keys es →
+    AreKeysOf key (with_option keys (key e)) (es ++ e ∷ [])
 keys_step key keys es e h k = with_any k keys (key e) ∙ (ap (λ b. b || has k (key e)) (h k)
     ∙ (ap (λ b. list_any (λ (x : Entry). has k (key x)) es || b) (or_false (has k (key e))) ∙ sym (any_append (λ (x : Entry). has k (key x)) es (e ∷ []))))
 
@@ -151,14 +159,17 @@ duplicate_named before names e space (Some name) h =
     let k : show.Key = record { space = space; reach = show.reach_of space e.parent; name = name } in
     let f : Fault = show.fault q.DuplicateId (Some (show.naming space)) e in
     when_unless (list_any (λ (other : Entry). show.has_key k (key_of other)) before) f
-    ∙ ap (λ b. fault_unless (not b) f) (sym (h (kept k) ∙ any_alike (λ (other : Entry). has (kept k) (name_key other)) (λ (other : Entry). show.has_key k (key_of other)) before (λ other. has_kept k (key_of other))))
+    ∙ ap (λ b. fault_unless (not b) f)
+    (sym (h (kept k) ∙ any_alike (λ (other : Entry). has (kept k) (name_key other)) (λ (other : Entry). show.has_key k (key_of other)) before
+    (λ other. has_kept k (key_of other))))
 
 duplicate_spaced : (before : List Entry) (names : List SeenKey) (e : Entry) (space : Option Space) → AreKeysOf name_key names before
     → first_in (show.duplicate_by before e (show.key_in space e)) ≡ duplicate_in names space e
 duplicate_spaced before names e None h = refl
 duplicate_spaced before names e (Some space) h = duplicate_named before names e space (attribute (show.naming space) e) h
 
-duplicate_same : (before : List Entry) (names : List SeenKey) (e : Entry) → AreKeysOf name_key names before → first_in (show.duplicate_id before e) ≡ duplicate_among names e
+duplicate_same : (before : List Entry) (names : List SeenKey) (e : Entry) → AreKeysOf name_key names before →
+    first_in (show.duplicate_id before e) ≡ duplicate_among names e
 duplicate_same before names e h = duplicate_spaced before names e (show.space_of e.role) h
 
 -- ---- names that are nobody's
@@ -195,34 +206,44 @@ id_has sort name is_so (Some other) None e = and_false is_so
 id_has sort name is_so (Some other) (Some id) e = ap (λ b. b && bytes_eq name id) (sym e)
 
 -- what is there, by the names that are
-there : (sort : Sort) (is_so : Role → Bool) (es : List Entry) (ids : List SeenKey) (name : List ℕ) → AreKeysOf id_key ids es → ((role : Role) → is_so role ≡ is_sort sort (named_sort role))
+there : (sort : Sort) (is_so : Role → Bool) (es : List Entry) (ids : List SeenKey) (name : List ℕ) → AreKeysOf id_key ids es →
+    ((role : Role) → is_so role ≡ is_sort sort (named_sort role))
     → list_any (is_same (id_of sort name)) ids ≡ list_any (λ (o : Entry). is_so o.role && says a.Id name o) es
-there sort is_so es ids name h g = h (id_of sort name) ∙ any_alike (λ (o : Entry). has (id_of sort name) (id_key o)) (λ (o : Entry). is_so o.role && says a.Id name o) es
+there sort is_so es ids name h g = h (id_of sort name) ∙ any_alike (λ (o : Entry). has (id_of sort name) (id_key o))
+    (λ (o : Entry). is_so o.role && says a.Id name o) es
     (λ o. id_has sort name (is_so o.role) (named_sort o.role) (attribute a.Id o) (g o.role))
 
-there_identified : (sort : Sort) (is_so : Role → Bool) (es : List Entry) (ids : List SeenKey) (id : Option (List ℕ)) → AreKeysOf id_key ids es → ((role : Role) → is_so role ≡ is_sort sort (named_sort role))
+there_identified : (sort : Sort) (is_so : Role → Bool) (es : List Entry) (ids : List SeenKey) (id : Option (List ℕ)) → AreKeysOf id_key ids es →
+    ((role : Role) → is_so role ≡ is_sort sort (named_sort role))
     → is_none (identified is_so id es) ≡ not (is_there ids sort id)
 there_identified sort is_so es ids None h g = refl
-there_identified sort is_so es ids (Some name) h g = find_none (λ (o : Entry). is_so o.role && says a.Id name o) es ∙ ap not (sym (there sort is_so es ids name h g))
+there_identified sort is_so es ids (Some name) h g = find_none (λ (o : Entry). is_so o.role && says a.Id name o) es ∙
+    ap not (sym (there sort is_so es ids name h g))
 
-there_rule : (es : List Entry) (ids : List SeenKey) (id : Option (List ℕ)) → AreKeysOf id_key ids es → is_none (rule_named (abstract_rules es) id) ≡ not (is_there ids t.AbstractRules id)
+there_rule : (es : List Entry) (ids : List SeenKey) (id : Option (List ℕ)) → AreKeysOf id_key ids es →
+    is_none (rule_named (abstract_rules es) id) ≡ not (is_there ids t.AbstractRules id)
 there_rule es ids None h = refl
 there_rule es ids (Some name) h = position_none (says a.Id name) 0 (abstract_rules es)
     ∙ ap not (any_filter (says a.Id name) (λ (o : Entry). is_abstract_rule o.role) es ∙ sym (there t.AbstractRules is_abstract_rule es ids name h rule_sort))
 
 unnamed_role : (role : Role) (es : List Entry) (ids : List SeenKey) (e : Entry) → AreKeysOf id_key ids es
-    → first_in (show.no_such_pattern_by role es e ++ show.when (show.is_extends role && is_none (put_by (abstract_rules es) e)) (show.fault q.NoSuchRule (Some a.Rule) e)) ≡ first_in (unnamed_by role ids e)
+    → first_in (show.no_such_pattern_by role es e ++ show.when (show.is_extends role && is_none (put_by (abstract_rules es) e))
+    (show.fault q.NoSuchRule (Some a.Rule) e)) ≡ first_in (unnamed_by role ids e)
 unnamed_role r.Use es ids e h = ap first_in (append-nil (show.when (is_none (pattern_used es e)) (show.fault q.NoSuchPattern (Some a.IsA) e)))
-    ∙ ap (λ b. first_in (show.when b (show.fault q.NoSuchPattern (Some a.IsA) e))) (there_identified t.AbstractPatterns is_abstract_pattern es ids (attribute a.IsA e) h pattern_sort)
-unnamed_role r.Active es ids e h = ap first_in (append-nil (show.when (is_none (identified is_judged (attribute a.Pattern e) es)) (show.fault q.NoSuchPattern (Some a.Pattern) e)))
-    ∙ ap (λ b. first_in (show.when b (show.fault q.NoSuchPattern (Some a.Pattern) e))) (there_identified t.Judged is_judged es ids (attribute a.Pattern e) h judged_sort)
+    ∙ ap (λ b. first_in (show.when b (show.fault q.NoSuchPattern (Some a.IsA) e)))
+    (there_identified t.AbstractPatterns is_abstract_pattern es ids (attribute a.IsA e) h pattern_sort)
+unnamed_role r.Active es ids e h = ap first_in
+    (append-nil (show.when (is_none (identified is_judged (attribute a.Pattern e) es)) (show.fault q.NoSuchPattern (Some a.Pattern) e)))
+    ∙ ap (λ b. first_in (show.when b (show.fault q.NoSuchPattern (Some a.Pattern) e)))
+    (there_identified t.Judged is_judged es ids (attribute a.Pattern e) h judged_sort)
 unnamed_role r.Extends es ids e h = ap (λ b. first_in (show.when b (show.fault q.NoSuchRule (Some a.Rule) e))) (there_rule es ids (attribute a.Rule e) h)
 unnamed_role _ es ids e h = refl
 
 -- ---- all at an element
 
 join_four : (f g h k rest : List Fault) → f ++ (g ++ (h ++ (k ++ rest))) ≡ (f ++ (g ++ (h ++ k))) ++ rest
-join_four f g h k rest = ap (λ x. f ++ (g ++ x)) (sym (append_assoc h k rest)) ∙ (ap (λ x. f ++ x) (sym (append_assoc g (h ++ k) rest)) ∙ sym (append_assoc f (g ++ (h ++ k)) rest))
+join_four f g h k rest = ap (λ x. f ++ (g ++ x)) (sym (append_assoc h k rest)) ∙
+    (ap (λ x. f ++ x) (sym (append_assoc g (h ++ k) rest)) ∙ sym (append_assoc f (g ++ (h ++ k)) rest))
 
 pub declared_same : (es : List Entry) (ids names : List SeenKey) (before : List Entry) (e : Entry) → AreKeysOf id_key ids es → AreKeysOf name_key names before
     → first_in (declared_at es (abstract_rules es) before e) ≡ declared_by ids names e
@@ -234,7 +255,8 @@ declared_same es ids names before e hi hn =
     ∙ (first_append own (shared ++ nobody)
     ∙ ap (first_or (first_in own)) (first_append shared nobody ∙ (λ i. first_or (duplicate_same before names e hn i) (unnamed_role e.role es ids e hi i))))
 
-pub own_same : (e : Entry) (n b x m inner outer : Option Fault) → n ≡ first_in (show.not_schematron e) → b ≡ first_in (show.bad_binding e) → x ≡ first_in (show.bad_element e) → m ≡ first_in (show.missing_attribute e)
+pub own_same : (e : Entry) (n b x m inner outer : Option Fault) → n ≡ first_in (show.not_schematron e) → b ≡ first_in (show.bad_binding e) →
+    x ≡ first_in (show.bad_element e) → m ≡ first_in (show.missing_attribute e)
     → inner ≡ first_or x m → outer ≡ first_or b inner
     → first_or n outer ≡ first_in (show.not_schematron e ++ (show.bad_binding e ++ (show.bad_element e ++ show.missing_attribute e)))
 own_same e n b x m inner outer hn hb hx hm hi ho =
@@ -246,8 +268,10 @@ own_same e n b x m inner outer hn hb hx hm hi ho =
 
 -- ---- loops over entries
 
-one_more : (entries : List Read) (i : ℕ) (e : Read) → i < length entries → e ≡ get_or entries i e → seen_entries (take (i + 1) entries) ≡ seen_entries (take i entries) ++ seen_entry e ∷ []
-one_more entries i e within here = ap seen_entries (take_more entries i e within) ∙ (map-append seen_entry (take i entries) (get_or entries i e ∷ []) ∙ ap (λ x. seen_entries (take i entries) ++ seen_entry x ∷ []) (sym here))
+one_more : (entries : List Read) (i : ℕ) (e : Read) → i < length entries → e ≡ get_or entries i e →
+    seen_entries (take (i + 1) entries) ≡ seen_entries (take i entries) ++ seen_entry e ∷ []
+one_more entries i e within here = ap seen_entries (take_more entries i e within) ∙
+    (map-append seen_entry (take i entries) (get_or entries i e ∷ []) ∙ ap (λ x. seen_entries (take i entries) ++ seen_entry x ∷ []) (sym here))
 
 pub keys_loop : (key : Entry → Option SeenKey) (keys new : List SeenKey) (entries : List Read) (i : ℕ) (e : Read) → i < length entries → e ≡ get_or entries i e
     → AreKeysOf key keys (seen_entries (take i entries)) → new ≡ with_option keys (key (seen_entry e)) → AreKeysOf key new (seen_entries (take (i + 1) entries))
@@ -266,29 +290,35 @@ none_first (Some fault) rest h = absurd (true≢false h)
 behind_step : (es : List Entry) (ids names : List SeenKey) (entries : List Read) (i : ℕ) (e : Read) → i < length entries → e ≡ get_or entries i e
     → AreKeysOf id_key ids es → AreKeysOf name_key names (seen_entries (take i entries))
     → first_in (declared_behind es (abstract_rules es) (seen_entries (take i entries)) (seen_entries (drop i entries)))
-    ≡ first_or (declared_by ids names (seen_entry e)) (first_in (declared_behind es (abstract_rules es) (seen_entries (take (i + 1) entries)) (seen_entries (drop (i + 1) entries))))
+    ≡ first_or (declared_by ids names (seen_entry e))
+    (first_in (declared_behind es (abstract_rules es) (seen_entries (take (i + 1) entries)) (seen_entries (drop (i + 1) entries))))
 behind_step es ids names entries i e within here hi hn =
     let before = seen_entries (take i entries) in
     let rules = abstract_rules es in
     ap (λ x. first_in (declared_behind es rules before (seen_entries x))) (drop_more entries i e within ∙ ap (λ x. x ∷ drop (i + 1) entries) (sym here))
     ∙ (first_append (declared_at es rules before (seen_entry e)) (declared_behind es rules (before ++ seen_entry e ∷ []) (seen_entries (drop (i + 1) entries)))
-    ∙ (λ k. first_or (declared_same es ids names before (seen_entry e) hi hn k) (first_in (declared_behind es rules (sym (one_more entries i e within here) k) (seen_entries (drop (i + 1) entries))))))
+    ∙ (λ k. first_or (declared_same es ids names before (seen_entry e) hi hn k)
+    (first_in (declared_behind es rules (sym (one_more entries i e within here) k) (seen_entries (drop (i + 1) entries))))))
 
-pub declared_found : (all : Option Fault) (es : List Entry) (ids names : List SeenKey) (entries : List Read) (i : ℕ) (e : Read) (found : Option Fault) → i < length entries → e ≡ get_or entries i e
+pub declared_found : (all : Option Fault) (es : List Entry) (ids names : List SeenKey) (entries : List Read) (i : ℕ) (e : Read) (found : Option Fault) →
+    i < length entries → e ≡ get_or entries i e
     → AreKeysOf id_key ids es → AreKeysOf name_key names (seen_entries (take i entries)) → found ≡ declared_by ids names (seen_entry e) → is_some found ≡ true
     → all ≡ first_in (declared_behind es (abstract_rules es) (seen_entries (take i entries)) (seen_entries (drop i entries))) → found ≡ all
 declared_found all es ids names entries i e found within here hi hn f there left =
     sym (left ∙ (behind_step es ids names entries i e within here hi hn
-    ∙ (ap (λ x. first_or x (first_in (declared_behind es (abstract_rules es) (seen_entries (take (i + 1) entries)) (seen_entries (drop (i + 1) entries))))) (sym f)
+    ∙ (ap (λ x. first_or x (first_in (declared_behind es (abstract_rules es) (seen_entries (take (i + 1) entries)) (seen_entries (drop (i + 1) entries)))))
+    (sym f)
     ∙ some_first found _ there)))
 
-pub declared_on : (all : Option Fault) (es : List Entry) (ids names : List SeenKey) (entries : List Read) (i : ℕ) (e : Read) (found : Option Fault) → i < length entries → e ≡ get_or entries i e
+pub declared_on : (all : Option Fault) (es : List Entry) (ids names : List SeenKey) (entries : List Read) (i : ℕ) (e : Read) (found : Option Fault) →
+    i < length entries → e ≡ get_or entries i e
     → AreKeysOf id_key ids es → AreKeysOf name_key names (seen_entries (take i entries)) → found ≡ declared_by ids names (seen_entry e) → is_some found ≡ false
     → all ≡ first_in (declared_behind es (abstract_rules es) (seen_entries (take i entries)) (seen_entries (drop i entries)))
     → all ≡ first_in (declared_behind es (abstract_rules es) (seen_entries (take (i + 1) entries)) (seen_entries (drop (i + 1) entries)))
 declared_on all es ids names entries i e found within here hi hn f none left =
     left ∙ (behind_step es ids names entries i e within here hi hn
-    ∙ (ap (λ x. first_or x (first_in (declared_behind es (abstract_rules es) (seen_entries (take (i + 1) entries)) (seen_entries (drop (i + 1) entries))))) (sym f)
+    ∙ (ap (λ x. first_or x (first_in (declared_behind es (abstract_rules es) (seen_entries (take (i + 1) entries)) (seen_entries (drop (i + 1) entries)))))
+    (sym f)
     ∙ none_first found _ none))
 
 pub declared_begun : (es : List Entry) → show.first_declared es ≡ first_in (declared_behind es (abstract_rules es) [] es)

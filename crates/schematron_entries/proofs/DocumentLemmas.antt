@@ -25,9 +25,11 @@ nodes_inner : (above : List ℕ) (n : ℕ) (forest : Forest) → All IsInner (no
 nodes_inner above n no_more = All-nil IsInner
 nodes_inner above n (a_text characters rest) = All-cons IsInner _ _ refl (nodes_inner above (n + 1) rest)
 nodes_inner above n (an_element name attributes inside rest) = All-cons IsInner _ _ refl
-    (All-append IsInner _ _ (attributes_inner (n ∷ above) (n + 1) attributes) (All-append IsInner _ _ (nodes_inner (n ∷ above) _ inside) (nodes_inner above _ rest)))
+    (All-append IsInner _ _ (attributes_inner (n ∷ above) (n + 1) attributes)
+    (All-append IsInner _ _ (nodes_inner (n ∷ above) _ inside) (nodes_inner above _ rest)))
 
-inner_at : (nodes : List Node) (node : Node) (behind : List Node) → nodes ≡ node ∷ behind → All IsInner behind → (n : ℕ) → 0 < n → n < length nodes → is_document (tree_node nodes n) ≡ false
+inner_at : (nodes : List Node) (node : Node) (behind : List Node) → nodes ≡ node ∷ behind → All IsInner behind → (n : ℕ) → 0 < n → n < length nodes →
+    is_document (tree_node nodes n) ≡ false
 inner_at nodes node behind e all zero l h = absurd (omega (arith, l))
 inner_at nodes node behind e all (suc n) l h = ap (λ xs. is_document (tree_node xs (suc n))) e ∙ all n _ (omega (arith, h, ap length e))
 
@@ -69,12 +71,14 @@ module _ (nodes : List Node) (leads : (n : ℕ) → n < length nodes → LeadsOn
       (λ (some : 0 < p).
       let within : n ≤ last_inside nodes p = (parts p n (omega (arith, l, g, h)) h (first_among (tree_node nodes n).above some)).1 in
       not_before p m (omega (arith, l, g, h)) (omega (arith, g, h))
-      (intervals p m (omega (arith, l, g, h)) (omega (arith, g, h)) ∙ and_from (nat_lt p m) (nat_le m (last_inside nodes p)) (lt-ltb p m l) (le-leb m (last_inside nodes p) (omega (arith, within, g)))))
+      (intervals p m (omega (arith, l, g, h)) (omega (arith, g, h)) ∙
+      and_from (nat_lt p m) (nat_le m (last_inside nodes p)) (lt-ltb p m l) (le-leb m (last_inside nodes p) (omega (arith, within, g)))))
       (λ (none : p ≤ 0). omega (arith, none))
       (cases_lt 0 p)
 
 pub in_order : (d : Document) (tree : Forest) → HasNodesOf d tree → AreNumbered 0 d.nodes → ((n : ℕ) → n < length d.nodes → LeadsOn (tree_nodes d) n)
-    → ((n k : ℕ) → n < length d.nodes → k < length d.nodes → is_inside n (tree_node (tree_nodes d) k) ≡ is_between n (last_inside (tree_nodes d) n) k) → AreInOrder (tree_nodes d)
+    → ((n k : ℕ) → n < length d.nodes → k < length d.nodes → is_inside n (tree_node (tree_nodes d) k) ≡ is_between n (last_inside (tree_nodes d) n) k) →
+    AreInOrder (tree_nodes d)
 in_order d tree is numbers leads intervals =
     let long : length (tree_nodes d) ≡ length d.nodes = length-map d.nodes (node_of d.names) in
     record {

@@ -123,7 +123,8 @@ module _ (nodes : List Node) (o : AreInOrder nodes) where
 
   all_read : All IsRead (entries nodes)
   unfolding entries
-  all_read = All-weaker (IsOf all 0 nodes) IsRead (λ e w. read_at e w.0 w.1 (subst (λ n. IsEntry all n (tree_node nodes w.0) e) (omega arith) w.2)) _ (entries_seen all [] nodes refl)
+  all_read = All-weaker (IsOf all 0 nodes) IsRead (λ e w. read_at e w.0 w.1 (subst (λ n. IsEntry all n (tree_node nodes w.0) e) (omega arith) w.2)) _
+      (entries_seen all [] nodes refl)
 
   pub behind : ItemsStandBehind (entries nodes)
   behind = All-weaker IsRead (λ (e : Entry). is_item e.role ≡ true → e.parent < e.number) (λ e w i. omega (arith, (w.item i).0, (w.item i).1)) _ all_read
@@ -134,7 +135,9 @@ module _ (nodes : List Node) (o : AreInOrder nodes) where
   rule_found [] read abstract n k h = absurd (false≢true h)
   rule_found (rule ∷ rules) read abstract n k h = ⊎_elim
       (λ (is : nat_eq rule.number n ≡ true).
-      ap (λ m. rank (role_at m)) (sym (eqb-true rule.number n is)) ∙ (ap rank (All-head IsRead rule rules read).role ∙ abstract_rank rule.role (All-head (λ (e : Entry). is_abstract_rule e.role ≡ true) rule rules abstract)))
+      ap (λ m. rank (role_at m)) (sym (eqb-true rule.number n is)) ∙
+      (ap rank (All-head IsRead rule rules read).role ∙
+      abstract_rank rule.role (All-head (λ (e : Entry). is_abstract_rule e.role ≡ true) rule rules abstract)))
       (λ (not_so : nat_eq rule.number n ≡ false).
       rule_found rules (All-tail IsRead rule rules read) (All-tail (λ (e : Entry). is_abstract_rule e.role ≡ true) rule rules abstract) n (k + 1)
       (sym (ap (λ b. is_some (cond b (Some k) (position_from (λ (other : Entry). nat_eq other.number n) (k + 1) rules))) not_so) ∙ h))
@@ -144,7 +147,8 @@ module _ (nodes : List Node) (o : AreInOrder nodes) where
   rule_rank n h = rule_found (abstract_rules (entries nodes)) (All-filter (λ (e : Entry). is_abstract_rule e.role) IsRead (entries nodes) all_read)
       (filter_passes (λ (e : Entry). is_abstract_rule e.role) (entries nodes)) n 0 h
 
-  follow : (a b : Entry) → IsRead a → IsRead b → a.number < b.number → is_in_abstract_rule (entries nodes) a ≡ true → is_in_abstract_rule (entries nodes) b ≡ true → a.parent ≤ b.parent
+  follow : (a b : Entry) → IsRead a → IsRead b → a.number < b.number → is_in_abstract_rule (entries nodes) a ≡ true →
+      is_in_abstract_rule (entries nodes) b ≡ true → a.parent ≤ b.parent
   follow a b x y l i j =
       let in_a = and_parts (is_item a.role) (is_some (rule_at (abstract_rules (entries nodes)) a.parent)) i in
       let in_b = and_parts (is_item b.role) (is_some (rule_at (abstract_rules (entries nodes)) b.parent)) j in
@@ -157,4 +161,5 @@ module _ (nodes : List Node) (o : AreInOrder nodes) where
       (cases_lt b.parent a.parent)
 
   pub rules_in_order : RulesFollow (entries nodes)
-  rules_in_order = λ i j d l m. follow (get_or (entries nodes) i d) (get_or (entries nodes) j d) (all_read i d (omega (arith, l, m))) (all_read j d m) (entries_rise nodes o i j d l m)
+  rules_in_order = λ i j d l m. follow (get_or (entries nodes) i d) (get_or (entries nodes) j d) (all_read i d (omega (arith, l, m))) (all_read j d m)
+      (entries_rise nodes o i j d l m)

@@ -1,5 +1,6 @@
 -- Keys as they are kept and as they are seen.
-use Rattle.std.proofs.Common.{◌≡◌, ℕ, Bool, true, false, ◌&&◌, ◌||◌, nat_eq, List, [], ◌∷◌, ◌++◌, map, chars, encode_utf8_all, refl, ap, sym, ◌∙◌, if◌then◌else◌}
+use Rattle.std.proofs.Common.{◌≡◌, ℕ, Bool, true, false, ◌&&◌, ◌||◌, nat_eq, List, [], ◌∷◌, ◌++◌, map, chars, encode_utf8_all, refl, ap, sym, ◌∙◌}
+use Rattle.std.proofs.Common.{if◌then◌else◌}
 use Rattle.std.specs.List.{list_any}
 use Rattle.std.specs.Str.{bytes_eq}
 use Rattle.std.proofs.lemmas.List.{map-append}
@@ -42,11 +43,14 @@ pub any_same : (k : Key) (keys : List Key) → encode_utf8_all (chars k.name.now
 any_same k [] t ts = refl
 any_same k (m ∷ keys) t ts = λ i. key_same k m t ts.0 i || any_same k keys t ts.1 i
 
-seen_put : (k : Key) (keys : List Key) (b : Bool) → map spec.seen_key (if b then keys else keys ++ k ∷ []) ≡ (if b then map spec.seen_key keys else map spec.seen_key keys ++ spec.seen_key k ∷ [])
+seen_put : (k : Key) (keys : List Key) (b : Bool) →
+    map spec.seen_key (if b then keys else keys ++ k ∷ []) ≡ (if b then map spec.seen_key keys else map spec.seen_key keys ++ spec.seen_key k ∷ [])
 seen_put k keys true = refl
 seen_put k keys false = map-append spec.seen_key keys (k ∷ [])
 
-pub put_same : (k : Key) (keys more : List Key) (seen : List spec.SeenKey) → encode_utf8_all (chars k.name.now) ≡ k.name.now → spec.AreTexts keys → map spec.seen_key keys ≡ seen
+pub put_same : (k : Key) (keys more : List Key) (seen : List spec.SeenKey) → encode_utf8_all (chars k.name.now) ≡ k.name.now → spec.AreTexts keys →
+    map spec.seen_key keys ≡ seen
     → more ≡ (if list_any (key_eq.eq-value.it k) keys then keys else keys ++ k ∷ []) → map spec.seen_key more ≡ spec.with_key seen (spec.seen_key k)
 put_same k keys more seen t ts v e = ap (map spec.seen_key) e ∙ (seen_put k keys (list_any (key_eq.eq-value.it k) keys)
-    ∙ (ap (λ (b : Bool). if b then map spec.seen_key keys else map spec.seen_key keys ++ spec.seen_key k ∷ []) (any_same k keys t ts) ∙ ap (λ x. spec.with_key x (spec.seen_key k)) v))
+    ∙ (ap (λ (b : Bool). if b then map spec.seen_key keys else map spec.seen_key keys ++ spec.seen_key k ∷ []) (any_same k keys t ts) ∙
+    ap (λ x. spec.with_key x (spec.seen_key k)) v))

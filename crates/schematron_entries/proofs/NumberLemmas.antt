@@ -31,12 +31,14 @@ listed_pairs R false e rest all pairs = pairs
 abbrev IsBetween : ℕ → ℕ → Entry → Type 0
 IsBetween from to e = (from ≤ e.number) × (e.number < to)
 
-pub between : (from : ℕ) (seen : List Around) (nodes : List Node) → NumberedFrom from nodes → All (IsBetween from (from + length nodes)) (entries_behind seen nodes)
+pub between : (from : ℕ) (seen : List Around) (nodes : List Node) → NumberedFrom from nodes →
+    All (IsBetween from (from + length nodes)) (entries_behind seen nodes)
 between from seen [] h = All-nil _
 between from seen (node ∷ nodes) h =
     let n : node.number ≡ from = number_first from node nodes h in
     listed_all (IsBetween from (from + length (node ∷ nodes))) _ _ _ (λ _. (omega (arith, n), omega (arith, n)))
-    (All-weaker (IsBetween (from + 1) (from + 1 + length nodes)) (IsBetween from (from + length (node ∷ nodes))) (λ e w. (omega (arith, w.0), omega (arith, w.1))) _
+    (All-weaker (IsBetween (from + 1) (from + 1 + length nodes)) (IsBetween from (from + length (node ∷ nodes)))
+    (λ e w. (omega (arith, w.0), omega (arith, w.1))) _
     (between (from + 1) _ nodes (numbered_rest from node nodes h)))
 
 pub rise : (from : ℕ) (seen : List Around) (nodes : List Node) → NumberedFrom from nodes → NumbersRise (entries_behind seen nodes)
@@ -57,4 +59,5 @@ entries_rise nodes o = rise 0 [] nodes (from_start nodes o)
 
 pub entries_below : (nodes : List Node) → AreInOrder nodes → NumbersAreBelow (length nodes) (entries nodes)
 unfolding entries
-entries_below nodes o = All-weaker (IsBetween 0 (0 + length nodes)) (λ (e : Entry). e.number < length nodes) (λ e w. omega (arith, w.1)) _ (between 0 [] nodes (from_start nodes o))
+entries_below nodes o = All-weaker (IsBetween 0 (0 + length nodes)) (λ (e : Entry). e.number < length nodes) (λ e w. omega (arith, w.1)) _
+    (between 0 [] nodes (from_start nodes o))

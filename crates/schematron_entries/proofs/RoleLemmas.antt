@@ -13,7 +13,8 @@ use Rattle.schematron_meaning.specs.declared.role.Role.TheVariants as r
 use Rattle.schematron_meaning.specs.declared.tag.Tag.{Tag}
 use Rattle.schematron_meaning.specs.declared.tag.Tag.TheVariants as t
 use Rattle.schematron_meaning.specs.Words.{schematron, tag_word}
-use Rattle.schematron_meaning.specs.Entries.{Given, children, role_among, pattern_role, rule_role, by_attributes, root_role, child_role, element_role, text_role, named_role, role_of, around_of}
+use Rattle.schematron_meaning.specs.Entries.{Given, children, role_among, pattern_role, rule_role, by_attributes, root_role, child_role, element_role}
+use Rattle.schematron_meaning.specs.Entries.{text_role, named_role, role_of, around_of}
 use Rattle.schematron_meaning.specs.Lookup.{is_item}
 use Rattle.schematron_entries.specs.Order.{is_document}
 
@@ -53,13 +54,15 @@ fits p _ = true
 
 -- ---- elements
 
-among : (test : Role → Bool) → test r.Misplaced ≡ true → (table : List (Tag × Role)) → list_all (λ (entry : Tag × Role). test entry.1) table ≡ true → (local : List ℕ) → test (role_among table local) ≡ true
+among : (test : Role → Bool) → test r.Misplaced ≡ true → (table : List (Tag × Role)) → list_all (λ (entry : Tag × Role). test entry.1) table ≡ true →
+    (local : List ℕ) → test (role_among table local) ≡ true
 among test none [] h local = none
 among test none (entry ∷ table) h local =
     let parts : (test entry.1 ≡ true) × (list_all (λ (other : Tag × Role). test other.1) table ≡ true) = and_parts _ _ h in
     by (bytes_eq (tag_word entry.0) local) parts.0 (among test none table parts.1 local)
   where
-    by : (b : Bool) → test entry.1 ≡ true → test (role_among table local) ≡ true → test (elim b as (λ _. Role) [ true ↦ entry.1 | false ↦ role_among table local ]) ≡ true
+    by : (b : Bool) → test entry.1 ≡ true → test (role_among table local) ≡ true →
+        test (elim b as (λ _. Role) [ true ↦ entry.1 | false ↦ role_among table local ]) ≡ true
     by true here there = here
     by false here there = there
 
@@ -78,7 +81,8 @@ attributes_fit p given r.Pattern h = pattern_fits p _ _ h
 attributes_fit p given r.Rule h = rule_fits p _ h
 attributes_fit p given _ h = h
 
-child_fits : (p : Role) (b : Bool) (local : List ℕ) (given : List Given) → list_all (λ (entry : Tag × Role). fits p entry.1) (children p) ≡ true → fits p (child_role p b local given) ≡ true
+child_fits : (p : Role) (b : Bool) (local : List ℕ) (given : List Given) → list_all (λ (entry : Tag × Role). fits p entry.1) (children p) ≡ true →
+    fits p (child_role p b local given) ≡ true
 child_fits p true local given h = attributes_fit p given (role_among (children p) local) (among (fits p) refl (children p) h local)
 child_fits p false local given h = refl
 
@@ -107,12 +111,23 @@ text_fits r.Wording = refl
 text_fits _ = refl
 
 -- A node is the document's own, or its role fits what it stands in.
-pub role_fits : (p : Role) (node : Node) (given : List Given) → ((is_document node ≡ true) × (role_of p node given ≡ r.Outside)) ⊎ (fits p (role_of p node given) ≡ true)
+pub role_fits : (p : Role) (node : Node) (given : List Given) →
+    ((is_document node ≡ true) × (role_of p node given ≡ r.Outside)) ⊎ (fits p (role_of p node given) ≡ true)
 role_fits p node given = by node.kind
   where
     by : (kind : Kind) → ((elim kind as (λ _. Bool) [ kinds.Document ↦ true | kinds.Element ↦ false | kinds.Attribute ↦ false | kinds.Text ↦ false ] ≡ true)
-        × (elim kind as (λ _. Role) [ kinds.Document ↦ r.Outside | kinds.Element ↦ named_role p node.name given | kinds.Attribute ↦ r.Passed | kinds.Text ↦ text_role p ] ≡ r.Outside))
-        ⊎ (fits p (elim kind as (λ _. Role) [ kinds.Document ↦ r.Outside | kinds.Element ↦ named_role p node.name given | kinds.Attribute ↦ r.Passed | kinds.Text ↦ text_role p ]) ≡ true)
+        × (elim kind as (λ _. Role) [
+          | kinds.Document ↦ r.Outside
+          | kinds.Element ↦ named_role p node.name given
+          | kinds.Attribute ↦ r.Passed
+          | kinds.Text ↦ text_role p
+        ] ≡ r.Outside))
+        ⊎ (fits p (elim kind as (λ _. Role) [
+          | kinds.Document ↦ r.Outside
+          | kinds.Element ↦ named_role p node.name given
+          | kinds.Attribute ↦ r.Passed
+          | kinds.Text ↦ text_role p
+        ]) ≡ true)
     by kinds.Document = inl (refl, refl)
     by kinds.Element = inr (named_fits p node.name given)
     by kinds.Attribute = inr refl

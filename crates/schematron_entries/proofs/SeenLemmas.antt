@@ -63,7 +63,8 @@ first_seen all seen node nodes e =
     }
 
 -- Each node is seen so.
-pub nodes_seen : (all seen : List Around) (nodes : List Node) → all ≡ seen_of seen nodes → (k : ℕ) → k < length nodes → IsSeen all (length seen + k) (tree_node nodes k)
+pub nodes_seen : (all seen : List Around) (nodes : List Node) → all ≡ seen_of seen nodes → (k : ℕ) → k < length nodes →
+    IsSeen all (length seen + k) (tree_node nodes k)
 nodes_seen all seen [] e k h = absurd (omega (arith, h))
 nodes_seen all seen (node ∷ nodes) e zero h = subst (λ n. IsSeen all n node) (omega arith) (first_seen all seen node nodes e)
 nodes_seen all seen (node ∷ nodes) e (suc k) h =
@@ -74,7 +75,8 @@ nodes_seen all seen (node ∷ nodes) e (suc k) h =
 abbrev pub IsOf : List Around → ℕ → List Node → Entry → Type 0
 IsOf all from nodes e = (k : ℕ) × (k < length nodes) × IsEntry all (from + k) (tree_node nodes k) e
 
-later : (all : List Around) (from next : ℕ) (node : Node) (nodes : List Node) → next ≡ from + 1 → (e : Entry) → IsOf all next nodes e → IsOf all from (node ∷ nodes) e
+later : (all : List Around) (from next : ℕ) (node : Node) (nodes : List Node) → next ≡ from + 1 → (e : Entry) → IsOf all next nodes e →
+    IsOf all from (node ∷ nodes) e
 later all from next node nodes h e of = (suc of.0, omega (arith, of.1), subst (λ n. IsEntry all n (tree_node nodes of.0) e) (omega (arith, h)) of.2)
 
 pub entries_seen : (all seen : List Around) (nodes : List Node) → all ≡ seen_of seen nodes → All (IsOf all (length seen) nodes) (entries_behind seen nodes)
@@ -86,6 +88,12 @@ entries_seen all seen (node ∷ nodes) e =
     let given : List Given = given_behind node nodes in
     let role : Role = role_of parent.role node given in
     listed_all (IsOf all (length seen) (node ∷ nodes)) (is_listed role) (entry_of parent node role given) (entries_behind (seen ++ a ∷ []) nodes)
-    (λ _. (0, omega arith, subst (λ n. IsEntry all n node (entry_of parent node role given)) (omega arith) (record { at = first_seen all seen node nodes e; is = refl })))
-    (All-weaker (IsOf all (length (seen ++ a ∷ [])) nodes) (IsOf all (length seen) (node ∷ nodes)) (later all (length seen) (length (seen ++ a ∷ [])) node nodes (length_push seen a)) (entries_behind (seen ++ a ∷ []) nodes)
+    (λ _. (
+      0,
+      omega arith,
+      subst (λ n. IsEntry all n node (entry_of parent node role given)) (omega arith)
+          (record { at = first_seen all seen node nodes e; is = refl }),
+    ))
+    (All-weaker (IsOf all (length (seen ++ a ∷ [])) nodes) (IsOf all (length seen) (node ∷ nodes))
+    (later all (length seen) (length (seen ++ a ∷ [])) node nodes (length_push seen a)) (entries_behind (seen ++ a ∷ []) nodes)
     (entries_seen all (seen ++ a ∷ []) nodes e))

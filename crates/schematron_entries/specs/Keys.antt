@@ -1,5 +1,6 @@
 -- Names of elements as they are kept in a set.
-use Rattle.std.specs.Prelude.{◌≡◌, ℕ, Bool, true, false, ◌&&◌, not, nat_eq, List, [], ◌∷◌, ◌++◌, chars, encode_utf8_all, if◌then◌else◌, Option, Some, None, option_map}
+use Rattle.std.specs.Prelude.{◌≡◌, ℕ, Bool, true, false, ◌&&◌, not, nat_eq, List, [], ◌∷◌, ◌++◌, chars, encode_utf8_all, if◌then◌else◌, Option, Some, None}
+use Rattle.std.specs.Prelude.{option_map}
 use Rattle.std.specs.List.{list_any, AllByRecursion}
 use Rattle.std.specs.Str.{bytes_eq}
 use Rattle.schematron_meaning.specs.declared.attribute.Attribute.TheVariants as a
@@ -116,7 +117,8 @@ fault_unless false fault = Some fault
 abbrev pub duplicate_in : List SeenKey → Option Space → spec.Entry → Option Fault
 duplicate_in keys None e = None
 duplicate_in keys (Some space) e =
-    fault_unless (is_new keys (option_map kept (show.key_by space e.parent (attribute (show.naming space) e)))) (show.fault q.DuplicateId (Some (show.naming space)) e)
+    fault_unless (is_new keys (option_map kept (show.key_by space e.parent (attribute (show.naming space) e))))
+    (show.fault q.DuplicateId (Some (show.naming space)) e)
 
 -- the fault of an element whose name is among these
 abbrev pub duplicate_among : List SeenKey → spec.Entry → Option Fault

@@ -10,20 +10,25 @@ use Rattle.schematron_meaning.specs.Faults.{spelled, tree_fault, expression_faul
 use Rattle.schematron_faults.proofs.CopyLemmas.{Keeps}
 
 abbrev pub Accepts : Type 0
-Accepts = (scope : Declared) (name : List ℕ) (x : Tree) (typing : Typing) → typing_of scope x ≡ Ok typing → (wider : Typing) × (typing_of (with_variable scope name) x ≡ Ok wider)
+Accepts = (scope : Declared) (name : List ℕ) (x : Tree) (typing : Typing) → typing_of scope x ≡ Ok typing → (wider : Typing) ×
+    (typing_of (with_variable scope name) x ≡ Ok wider)
 
 none_left : (fault : ExpressionFault) → Some fault ≡ None → ⊥
 none_left fault h = cc
 
-spelled_right : Accepts → (scope : Declared) (name : List ℕ) (tree : Tree) → tree_fault scope (Ok tree) ≡ None → tree_fault (with_variable scope name) (Ok tree) ≡ None
+spelled_right : Accepts → (scope : Declared) (name : List ℕ) (tree : Tree) → tree_fault scope (Ok tree) ≡ None →
+    tree_fault (with_variable scope name) (Ok tree) ≡ None
 spelled_right accepts scope name tree h = by (typing_of scope tree) refl h
   where
-    by : (t : Result Typing _) → typing_of scope tree ≡ t → (elim t as (λ _. Option ExpressionFault) [ Ok typing ↦ None | Err refusal ↦ Some (x.Type refusal.kind refusal.token) ]) ≡ None
+    by : (t : Result Typing _) → typing_of scope tree ≡ t →
+        (elim t as (λ _. Option ExpressionFault) [ Ok typing ↦ None | Err refusal ↦ Some (x.Type refusal.kind refusal.token) ]) ≡ None
         → tree_fault (with_variable scope name) (Ok tree) ≡ None
-    by (Ok typing) e h = ap (λ a. elim a as (λ _. Option ExpressionFault) [ Ok typing ↦ None | Err refusal ↦ Some (x.Type refusal.kind refusal.token) ]) (accepts scope name tree typing e).1
+    by (Ok typing) e h = ap (λ a. elim a as (λ _. Option ExpressionFault) [ Ok typing ↦ None | Err refusal ↦ Some (x.Type refusal.kind refusal.token) ])
+        (accepts scope name tree typing e).1
     by (Err refusal) e h = absurd (none_left _ h)
 
-tree_right : Accepts → (scope : Declared) (name : List ℕ) (read : Result Tree SyntaxFault) → tree_fault scope read ≡ None → tree_fault (with_variable scope name) read ≡ None
+tree_right : Accepts → (scope : Declared) (name : List ℕ) (read : Result Tree SyntaxFault) → tree_fault scope read ≡ None →
+    tree_fault (with_variable scope name) read ≡ None
 tree_right accepts scope name (Err fault) h = absurd (none_left _ h)
 tree_right accepts scope name (Ok tree) h = spelled_right accepts scope name tree h
 

@@ -1,5 +1,6 @@
 -- What was right at a use of an abstract pattern is right at a later one, but for what parameters change.
-use Rattle.std.proofs.Common.{◌≡◌, ℕ, ◌<◌, ◌≤◌, Bool, true, false, List, [], ◌∷◌, ◌++◌, length, take, get_or, map, Option, Some, None, refl, ap, sym, ◌∙◌, subst, arith}
+use Rattle.std.proofs.Common.{◌≡◌, ℕ, ◌<◌, ◌≤◌, Bool, true, false, List, [], ◌∷◌, ◌++◌, length, take, get_or, map, Option, Some, None, refl, ap, sym, ◌∙◌}
+use Rattle.std.proofs.Common.{subst, arith}
 use Rattle.std.specs.Prelude.{◌&&◌, not, nat_eq, flat_map, find, cond, option_to_list}
 use Rattle.std.specs.List.{list_any}
 use Rattle.std.proofs.lemmas.Bool.{false≢true, and_parts}
@@ -17,7 +18,8 @@ use Rattle.schematron_meaning.specs.Lookup.{attribute, is_let, is_part, is_item,
 use Rattle.schematron_texts.specs.Replacing.{Parameter, replaced}
 use Rattle.schematron_meaning.specs.Bodies.{put_by}
 use Rattle.schematron_meaning.specs.Expansion.{File, Put, Instance, put_at_stand, put_at, puts_by, puts, instances}
-use Rattle.schematron_meaning.specs.Written.{Written, name_of, declare, with_let, with_lets, lets_among, written_text, written, written_let, written_assertion, written_puts, written_rule, is_let_or_rule, written_items, outer_scope, pattern_scope, written_pattern}
+use Rattle.schematron_meaning.specs.Written.{Written, name_of, declare, with_let, with_lets, lets_among, written_text, written, written_let, written_assertion}
+use Rattle.schematron_meaning.specs.Written.{written_puts, written_rule, is_let_or_rule, written_items, outer_scope, pattern_scope, written_pattern}
 use Rattle.schematron_meaning.specs.Faults.{expression_fault, fault_of_written}
 use Rattle.schematron_expansion.specs.declared.found.Found.{Found}
 use Rattle.schematron_expansion.specs.declared.instances.Instance.{Instance as Made}

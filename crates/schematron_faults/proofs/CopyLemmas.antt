@@ -12,7 +12,8 @@ use Rattle.schematron_meaning.specs.Entries.{Entry}
 use Rattle.schematron_meaning.specs.Lookup.{attribute, is_let, is_part, inside}
 use Rattle.schematron_texts.specs.Replacing.{Parameter, replaced}
 use Rattle.schematron_meaning.specs.Expansion.{Put, put_at_stand, or_itself}
-use Rattle.schematron_meaning.specs.Written.{Written, name_of, with_let, with_lets, lets_among, written_text, written, written_let, written_assertion, written_puts}
+use Rattle.schematron_meaning.specs.Written.{Written, name_of, with_let, with_lets, lets_among, written_text, written, written_let, written_assertion}
+use Rattle.schematron_meaning.specs.Written.{written_puts}
 use Rattle.schematron_meaning.specs.Faults.{expression_fault, fault_of_written}
 use Rattle.schematron_expansion.specs.declared.found.Found.{Found}
 use Rattle.schematron_expansion.specs.Found.{first_at, sooner}
@@ -27,7 +28,8 @@ use Rattle.schematron_faults.proofs.ScopeLemmas.{knows, declared_known, knows_de
 
 -- What is right in a scope is right with one variable more.
 abbrev pub Keeps : Type 0
-Keeps = (is_pattern : Bool) (text : List ℕ) (scope : Declared) (name : List ℕ) → expression_fault is_pattern text scope ≡ None → expression_fault is_pattern text (with_variable scope name) ≡ None
+Keeps = (is_pattern : Bool) (text : List ℕ) (scope : Declared) (name : List ℕ) → expression_fault is_pattern text scope ≡ None →
+    expression_fault is_pattern text (with_variable scope name) ≡ None
 
 -- ---- the same expressions, further behind and in a wider scope
 
@@ -50,7 +52,8 @@ later-append (w ∷ ws) (v ∷ vs) ws' vs' h k = (h.0, h.1, later-append ws vs w
 covers_one : (best : Option Found) (w v : Written) → w.stand ≤ v.stand → (IsRight w → IsRight v) → Covers (sooner best (found_of w)) (found_of v)
 covers_one best w v l right = by (expression_fault w.is_pattern w.text w.scope) (expression_fault v.is_pattern v.text v.scope) right
   where
-    by : (x y : Option ExpressionFault) → (x ≡ None → y ≡ None) → Covers (sooner best (first_at w.stand (fault_of_written w x))) (first_at v.stand (fault_of_written v y))
+    by : (x y : Option ExpressionFault) → (x ≡ None → y ≡ None) →
+        Covers (sooner best (first_at w.stand (fault_of_written w x))) (first_at v.stand (fault_of_written v y))
     by x None h = tt
     by None (Some g) h = let e : Some g ≡ None = h refl in absurd (cc)
     by (Some f) (Some g) h = covers_behind best _ _ l
@@ -76,7 +79,8 @@ covered best last (w ∷ ws) (v ∷ vs) h = subst (λ (x : Option Found). Covers
     by true t rest = subst (λ (c : Bool). Covers (soonest (soonest best last (w ∷ [])) last ws) (least (cond c (v ∷ up_to last vs) (up_to last vs)))) (sym t)
         (covers_both (soonest (soonest best last (w ∷ [])) last ws) (found_of v) (least (up_to last vs))
         (covers-sooner (soonest best last (w ∷ [])) (least (up_to last ws)) (found_of v) (here t)) rest)
-    by false t rest = subst (λ (c : Bool). Covers (soonest (soonest best last (w ∷ [])) last ws) (least (cond c (v ∷ up_to last vs) (up_to last vs)))) (sym t) rest
+    by false t rest = subst (λ (c : Bool). Covers (soonest (soonest best last (w ∷ [])) last ws) (least (cond c (v ∷ up_to last vs) (up_to last vs))))
+        (sym t) rest
 
 -- Of two that are put at other elements, or of two that stand where they are, the second isn't sooner.
 abbrev pub NotBefore : Option ℕ → Option ℕ → Type 0
@@ -97,7 +101,8 @@ not_before_itself None (Some k) n h = absurd h
 not_before_itself (Some m) None n h = absurd h
 not_before_itself (Some m) (Some k) n h = h
 
-later_written : Keeps → (name : Attribute) (is_pattern : Bool) (s t : Option ℕ) (params : List Parameter) (scope wider : Declared) (e : Entry) → NotBefore s t → Wider scope wider
+later_written : Keeps → (name : Attribute) (is_pattern : Bool) (s t : Option ℕ) (params : List Parameter) (scope wider : Declared) (e : Entry) → NotBefore s t →
+    Wider scope wider
     → AreLater (written name is_pattern s params scope e) (written name is_pattern t params wider e)
 later_written keeps name is_pattern s t params scope wider e l w = by (attribute name e)
   where
@@ -105,12 +110,14 @@ later_written keeps name is_pattern s t params scope wider e l w = by (attribute
     by None = tt
     by (Some text) = (
       not_before_itself s t e.number l,
-      (λ right. kept_wider (λ (d : Declared). expression_fault is_pattern (replaced params text) d ≡ None) (λ d name. keeps is_pattern (replaced params text) d name) scope wider w right),
+      (λ right. kept_wider (λ (d : Declared). expression_fault is_pattern (replaced params text) d ≡ None)
+          (λ d name. keeps is_pattern (replaced params text) d name) scope wider w right),
       tt,
     )
 
 later_parts : Keeps → (s t : Option ℕ) (params : List Parameter) (all : Declared) (parts : List Entry) → NotBefore s t
-    → AreLater (flat_map (λ (part : Entry). written a.Select false s params all part) parts) (flat_map (λ (part : Entry). written a.Select false t params all part) parts)
+    → AreLater (flat_map (λ (part : Entry). written a.Select false s params all part) parts)
+    (flat_map (λ (part : Entry). written a.Select false t params all part) parts)
 later_parts keeps s t params all [] l = tt
 later_parts keeps s t params all (part ∷ parts) l = later-append (written a.Select false s params all part) (written a.Select false t params all part) _ _
     (later_written keeps a.Select false s t params all all part l (wider-refl all)) (later_parts keeps s t params all parts l)
@@ -122,26 +129,35 @@ later_put keeps es params all before wider s t e l w = by (is_let e.role)
     by : (test : Bool) → AreLater (elim test [ true ↦ written_let s params before e | false ↦ written_assertion es params all (put_at_stand s e) ])
         (elim test [ true ↦ written_let t params wider e | false ↦ written_assertion es params all (put_at_stand t e) ])
     by true = later_written keeps a.Value false s t params before wider e l w
-    by false = later-append (written a.Test false s params all e) (written a.Test false t params all e) _ _ (later_written keeps a.Test false s t params all all e l (wider-refl all))
+    by false = later-append (written a.Test false s params all e) (written a.Test false t params all e) _ _
+        (later_written keeps a.Test false s t params all all e l (wider-refl all))
         (later_parts keeps s t params all (inside is_part es e.number) l)
 
 -- ---- the next of what is put
 
 pub puts_next : (es : List Entry) (params : List Parameter) (all before : Declared) (put : Put) (puts : List Put)
-    → written_puts es params all before (put ∷ puts) ≡ written_put es params all before put ++ written_puts es params all (with_entry params before put.entry) puts
+    → written_puts es params all before (put ∷ puts) ≡ written_put es params all before put ++
+    written_puts es params all (with_entry params before put.entry) puts
 puts_next es params all before put puts = by (is_let put.entry.role)
   where
     by : (test : Bool)
-        → (elim test as (λ _. List Written) [ true ↦ written_let put.stand params before put.entry ++ written_puts es params all (with_let params before put.entry) puts | false ↦ written_assertion es params all put ++ written_puts es params all before puts ])
+        → (elim test as (λ _. List Written) [
+          | true ↦ written_let put.stand params before put.entry ++
+              written_puts es params all (with_let params before put.entry) puts
+          | false ↦ written_assertion es params all put ++
+              written_puts es params all before puts
+        ])
         ≡ (elim test as (λ _. List Written) [ true ↦ written_let put.stand params before put.entry | false ↦ written_assertion es params all put ])
         ++ written_puts es params all (elim test as (λ _. Declared) [ true ↦ with_let params before put.entry | false ↦ before ]) puts
     by true = refl
     by false = refl
 
-pub lets_next : (params : List Parameter) (scope : Declared) (put : Put) (puts : List Put) → with_lets params scope (lets_among (put ∷ puts)) ≡ with_lets params (with_entry params scope put.entry) (lets_among puts)
+pub lets_next : (params : List Parameter) (scope : Declared) (put : Put) (puts : List Put) →
+    with_lets params scope (lets_among (put ∷ puts)) ≡ with_lets params (with_entry params scope put.entry) (lets_among puts)
 lets_next params scope put puts = by (is_let put.entry.role)
   where
-    by : (test : Bool) → with_lets params scope (cond test (put.entry ∷ lets_among puts) (lets_among puts)) ≡ with_lets params (elim test as (λ _. Declared) [ true ↦ with_let params scope put.entry | false ↦ scope ]) (lets_among puts)
+    by : (test : Bool) → with_lets params scope (cond test (put.entry ∷ lets_among puts) (lets_among puts)) ≡ with_lets params
+        (elim test as (λ _. Declared) [ true ↦ with_let params scope put.entry | false ↦ scope ]) (lets_among puts)
     by true = refl
     by false = refl
 
@@ -159,23 +175,29 @@ is_told n told = list_any (nat_eq n) told
 
 -- The names of the lets that were told are declared.
 abbrev Settled : List Entry → List Parameter → List ℕ → Declared → Type 0
-Settled es params told scope = (n : ℕ) (e : Entry) → is_told n told ≡ true → entry_at es n ≡ Some e → is_let e.role ≡ true → knows scope (name_of params e) ≡ true
+Settled es params told scope = (n : ℕ) (e : Entry) → is_told n told ≡ true → entry_at es n ≡ Some e → is_let e.role ≡ true →
+    knows scope (name_of params e) ≡ true
 
 same_entry : (es : List Entry) (n : ℕ) (e f : Entry) → IsOf es e → nat_eq n e.number ≡ true → entry_at es n ≡ Some f → e ≡ f
 same_entry es n e f h t g = let k : n ≡ e.number = grind (arith, nat_tests) in let s : Some e ≡ Some f = sym h ∙ (ap (entry_at es) (sym k) ∙ g) in cc
 
 let_known : (params : List Parameter) (scope : Declared) (e : Entry) → is_let e.role ≡ true → knows (with_entry params scope e) (name_of params e) ≡ true
-let_known params scope e t = subst (λ (c : Bool). knows (elim c as (λ _. Declared) [ true ↦ with_let params scope e | false ↦ scope ]) (name_of params e) ≡ true) (sym t) (knows_declared scope (name_of params e))
+let_known params scope e t = subst (λ (c : Bool). knows (elim c as (λ _. Declared) [ true ↦ with_let params scope e | false ↦ scope ])
+    (name_of params e) ≡ true) (sym t) (knows_declared scope (name_of params e))
 
-settled_more : (es : List Entry) (params : List Parameter) (told : List ℕ) (scope : Declared) (e : Entry) → IsOf es e → Settled es params told scope → Settled es params (e.number ∷ told) (with_entry params scope e)
+settled_more : (es : List Entry) (params : List Parameter) (told : List ℕ) (scope : Declared) (e : Entry) → IsOf es e → Settled es params told scope →
+    Settled es params (e.number ∷ told) (with_entry params scope e)
 settled_more es params told scope e is settled n f t g is_let_f = ⊎_elim
     (λ (here : nat_eq n e.number ≡ true). let s : e ≡ f = same_entry es n e f is here g in
-    subst (λ (x : Entry). knows (with_entry params scope e) (name_of params x) ≡ true) s (let_known params scope e (subst (λ (x : Entry). is_let x.role ≡ true) (sym s) is_let_f)))
-    (λ (there : is_told n told ≡ true). knows_wider (name_of params f) scope (with_entry params scope e) (wider_entry params scope e) (settled n f there g is_let_f))
+    subst (λ (x : Entry). knows (with_entry params scope e) (name_of params x) ≡ true) s
+    (let_known params scope e (subst (λ (x : Entry). is_let x.role ≡ true) (sym s) is_let_f)))
+    (λ (there : is_told n told ≡ true). knows_wider (name_of params f) scope (with_entry params scope e) (wider_entry params scope e)
+    (settled n f there g is_let_f))
     (or_cases (nat_eq n e.number) (is_told n told) t)
 
 -- what was told declares nothing new
-settled_scope : (es : List Entry) (params : List Parameter) (told : List ℕ) (scope : Declared) (e : Entry) → IsOf es e → Settled es params told scope → is_told e.number told ≡ true → with_entry params scope e ≡ scope
+settled_scope : (es : List Entry) (params : List Parameter) (told : List ℕ) (scope : Declared) (e : Entry) → IsOf es e → Settled es params told scope →
+    is_told e.number told ≡ true → with_entry params scope e ≡ scope
 settled_scope es params told scope e is settled t = by (is_let e.role) refl
   where
     by : (test : Bool) → is_let e.role ≡ test → (elim test as (λ _. Declared) [ true ↦ with_let params scope e | false ↦ scope ]) ≡ scope
@@ -188,19 +210,24 @@ settled_scope es params told scope e is settled t = by (is_let e.role) refl
 abbrev pub Known : List Entry → (Entry → Bool) → Put → Type 0
 Known es is_put put = IsOf es put.entry × (is_some put.stand ≡ is_put put.entry)
 
-first_lets_behind : (es : List Entry) (is_put : Entry → Bool) (params : List Parameter) (told : List ℕ) (scope : Declared) (puts : List Put) → Settled es params told scope → Each (Known es is_put) puts
+first_lets_behind : (es : List Entry) (is_put : Entry → Bool) (params : List Parameter) (told : List ℕ) (scope : Declared) (puts : List Put) →
+    Settled es params told scope → Each (Known es is_put) puts
     → with_lets params scope (lets_among (first_puts_behind told puts)) ≡ with_lets params scope (lets_among puts)
 first_lets_behind es is_put params told scope [] settled known = refl
 first_lets_behind es is_put params told scope (put ∷ puts) settled known = by (is_told put.entry.number told) refl
     (first_lets_behind es is_put params told scope puts settled known.1)
-    (first_lets_behind es is_put params (put.entry.number ∷ told) (with_entry params scope put.entry) puts (settled_more es params told scope put.entry known.0.0 settled) known.1)
+    (first_lets_behind es is_put params (put.entry.number ∷ told) (with_entry params scope put.entry) puts
+    (settled_more es params told scope put.entry known.0.0 settled) known.1)
   where
     by : (test : Bool) → is_told put.entry.number told ≡ test
         → with_lets params scope (lets_among (first_puts_behind told puts)) ≡ with_lets params scope (lets_among puts)
-        → with_lets params (with_entry params scope put.entry) (lets_among (first_puts_behind (put.entry.number ∷ told) puts)) ≡ with_lets params (with_entry params scope put.entry) (lets_among puts)
-        → with_lets params scope (lets_among (elim test as (λ _. List Put) [ true ↦ first_puts_behind told puts | false ↦ put ∷ first_puts_behind (put.entry.number ∷ told) puts ]))
+        → with_lets params (with_entry params scope put.entry) (lets_among (first_puts_behind (put.entry.number ∷ told) puts)) ≡ with_lets params
+        (with_entry params scope put.entry) (lets_among puts)
+        → with_lets params scope
+        (lets_among (elim test as (λ _. List Put) [ true ↦ first_puts_behind told puts | false ↦ put ∷ first_puts_behind (put.entry.number ∷ told) puts ]))
         ≡ with_lets params scope (lets_among (put ∷ puts))
-    by true t same new = same ∙ (ap (λ (s : Declared). with_lets params s (lets_among puts)) (sym (settled_scope es params told scope put.entry known.0.0 settled t)) ∙ sym (lets_next params scope put puts))
+    by true t same new = same ∙ (ap (λ (s : Declared). with_lets params s (lets_among puts))
+        (sym (settled_scope es params told scope put.entry known.0.0 settled t)) ∙ sym (lets_next params scope put puts))
     by false t same new = lets_next params scope put (first_puts_behind (put.entry.number ∷ told) puts) ∙ (new ∙ sym (lets_next params scope put puts))
 
 -- first copies declare what all do
@@ -210,12 +237,16 @@ first_lets es is_put params scope puts known = first_lets_behind es is_put param
 
 -- ---- what holds of all copies holds of the first
 
-first_each_behind : (P : Written → Type 0) (es : List Entry) (is_put : Entry → Bool) (params : List Parameter) (all : Declared) (told : List ℕ) (before : Declared) (puts : List Put)
-    → Settled es params told before → Each (Known es is_put) puts → Each P (written_puts es params all before puts) → Each P (written_puts es params all before (first_puts_behind told puts))
+first_each_behind : (P : Written → Type 0) (es : List Entry) (is_put : Entry → Bool) (params : List Parameter) (all : Declared) (told : List ℕ)
+    (before : Declared) (puts : List Put)
+    → Settled es params told before → Each (Known es is_put) puts → Each P (written_puts es params all before puts) →
+    Each P (written_puts es params all before (first_puts_behind told puts))
 first_each_behind P es is_put params all told before [] settled known h = tt
 first_each_behind P es is_put params all told before (put ∷ puts) settled known h = by (is_told put.entry.number told) refl
-    (λ (scope : Declared) same others. first_each_behind P es is_put params all told before puts settled known.1 (subst (λ (s : Declared). Each P (written_puts es params all s puts)) same others))
-    (first_each_behind P es is_put params all (put.entry.number ∷ told) (with_entry params before put.entry) puts (settled_more es params told before put.entry known.0.0 settled) known.1)
+    (λ (scope : Declared) same others. first_each_behind P es is_put params all told before puts settled known.1
+    (subst (λ (s : Declared). Each P (written_puts es params all s puts)) same others))
+    (first_each_behind P es is_put params all (put.entry.number ∷ told) (with_entry params before put.entry) puts
+    (settled_more es params told before put.entry known.0.0 settled) known.1)
   where
     both : Each P (written_put es params all before put ++ written_puts es params all (with_entry params before put.entry) puts)
     both = subst (Each P) (puts_next es params all before put puts) h
@@ -224,12 +255,16 @@ first_each_behind P es is_put params all told before (put ∷ puts) settled know
     rest = each-behind P (written_put es params all before put) (written_puts es params all (with_entry params before put.entry) puts) both
 
     by : (test : Bool) → is_told put.entry.number told ≡ test
-        → ((scope : Declared) → scope ≡ before → Each P (written_puts es params all scope puts) → Each P (written_puts es params all before (first_puts_behind told puts)))
-        → (Each P (written_puts es params all (with_entry params before put.entry) puts) → Each P (written_puts es params all (with_entry params before put.entry) (first_puts_behind (put.entry.number ∷ told) puts)))
-        → Each P (written_puts es params all before (elim test as (λ _. List Put) [ true ↦ first_puts_behind told puts | false ↦ put ∷ first_puts_behind (put.entry.number ∷ told) puts ]))
+        → ((scope : Declared) → scope ≡ before → Each P (written_puts es params all scope puts) →
+        Each P (written_puts es params all before (first_puts_behind told puts)))
+        → (Each P (written_puts es params all (with_entry params before put.entry) puts) →
+        Each P (written_puts es params all (with_entry params before put.entry) (first_puts_behind (put.entry.number ∷ told) puts)))
+        → Each P (written_puts es params all before
+        (elim test as (λ _. List Put) [ true ↦ first_puts_behind told puts | false ↦ put ∷ first_puts_behind (put.entry.number ∷ told) puts ]))
     by true t same new = same (with_entry params before put.entry) (settled_scope es params told before put.entry known.0.0 settled t) rest
     by false t same new = subst (Each P) (sym (puts_next es params all before put (first_puts_behind (put.entry.number ∷ told) puts)))
-        (each-append P (written_put es params all before put) (written_puts es params all (with_entry params before put.entry) (first_puts_behind (put.entry.number ∷ told) puts))
+        (each-append P (written_put es params all before put)
+        (written_puts es params all (with_entry params before put.entry) (first_puts_behind (put.entry.number ∷ told) puts))
         (each-front P (written_put es params all before put) (written_puts es params all (with_entry params before put.entry) puts) both) (new rest))
 
 pub first_each : (P : Written → Type 0) (es : List Entry) (is_put : Entry → Bool) (params : List Parameter) (all before : Declared) (puts : List Put)
@@ -248,53 +283,74 @@ Climbs low (put ∷ puts) = (low ≤ stand_of put) × Climbs (stand_of put) puts
 
 -- What was told is covered, wherever it is put again from an element on, in whatever wider scope.
 abbrev Covered : List Entry → (Entry → Bool) → List Parameter → Declared → List ℕ → ℕ → Option Found → Option ℕ → Declared → Type 0
-Covered es is_put params all told low best last before = (n : ℕ) (e : Entry) (stand : Option ℕ) (wider : Declared) → is_told n told ≡ true → entry_at es n ≡ Some e → low ≤ or_itself stand e.number
+Covered es is_put params all told low best last before = (n : ℕ) (e : Entry) (stand : Option ℕ) (wider : Declared) → is_told n told ≡ true →
+    entry_at es n ≡ Some e → low ≤ or_itself stand e.number
     → is_some stand ≡ is_put e → Wider before wider → Covers best (least (up_to last (written_put es params all wider (put_at_stand stand e))))
 
-covered_more : Keeps → (es : List Entry) (is_put : Entry → Bool) (params : List Parameter) (all : Declared) (told : List ℕ) (low : ℕ) (best : Option Found) (last : Option ℕ) (before : Declared) (put : Put)
+covered_more : Keeps → (es : List Entry) (is_put : Entry → Bool) (params : List Parameter) (all : Declared) (told : List ℕ) (low : ℕ) (best : Option Found)
+    (last : Option ℕ) (before : Declared) (put : Put)
     → Known es is_put put → low ≤ stand_of put → Covered es is_put params all told low best last before
-    → Covered es is_put params all (put.entry.number ∷ told) (stand_of put) (soonest best last (written_put es params all before put)) last (with_entry params before put.entry)
+    → Covered es is_put params all (put.entry.number ∷ told) (stand_of put) (soonest best last (written_put es params all before put)) last
+    (with_entry params before put.entry)
 covered_more keeps es is_put params all told low best last before put known l cover n f stand wider t g k s w = ⊎_elim
     (λ (here : nat_eq n put.entry.number ≡ true). let same : put.entry ≡ f = same_entry es n put.entry f known.0 here g in
-    subst (λ (x : Entry). Covers (soonest best last (written_put es params all before put)) (least (up_to last (written_put es params all wider (put_at_stand stand x))))) same
+    subst (λ (x : Entry). Covers (soonest best last (written_put es params all before put))
+    (least (up_to last (written_put es params all wider (put_at_stand stand x))))) same
     (covered best last (written_put es params all before put) (written_put es params all wider (put_at_stand stand put.entry))
     (later_put keeps es params all before wider put.stand stand put.entry
-    (not_before put.stand stand put.entry.number (known.1 ∙ (ap is_put same ∙ sym s)) (subst (λ (x : Entry). stand_of put ≤ or_itself stand x.number) (sym same) k))
+    (not_before put.stand stand put.entry.number (known.1 ∙ (ap is_put same ∙ sym s))
+    (subst (λ (x : Entry). stand_of put ≤ or_itself stand x.number) (sym same) k))
     (wider-trans before (with_entry params before put.entry) wider (wider_entry params before put.entry) w))))
-    (λ (there : is_told n told ≡ true). covers-sooner best (least (up_to last (written_put es params all before put))) (least (up_to last (written_put es params all wider (put_at_stand stand f))))
-    (cover n f stand wider there g (omega (arith, l, k)) s (wider-trans before (with_entry params before put.entry) wider (wider_entry params before put.entry) w)))
+    (λ (there : is_told n told ≡ true). covers-sooner best (least (up_to last (written_put es params all before put)))
+    (least (up_to last (written_put es params all wider (put_at_stand stand f))))
+    (cover n f stand wider there g (omega (arith, l, k)) s
+    (wider-trans before (with_entry params before put.entry) wider (wider_entry params before put.entry) w)))
     (or_cases (nat_eq n put.entry.number) (is_told n told) t)
 
-covered_from : (es : List Entry) (is_put : Entry → Bool) (params : List Parameter) (all : Declared) (told : List ℕ) (low from : ℕ) (best : Option Found) (last : Option ℕ) (before : Declared) → low ≤ from
+covered_from : (es : List Entry) (is_put : Entry → Bool) (params : List Parameter) (all : Declared) (told : List ℕ) (low from : ℕ) (best : Option Found)
+    (last : Option ℕ) (before : Declared) → low ≤ from
     → Covered es is_put params all told low best last before → Covered es is_put params all told from best last before
 covered_from es is_put params all told low from best last before l cover n f stand wider t g k s w = cover n f stand wider t g (omega (arith, l, k)) s w
 
-first_copies_behind : Keeps → (es : List Entry) (is_put : Entry → Bool) (params : List Parameter) (all : Declared) (told : List ℕ) (low : ℕ) (best : Option Found) (last : Option ℕ) (before : Declared) (puts : List Put)
+first_copies_behind : Keeps → (es : List Entry) (is_put : Entry → Bool) (params : List Parameter) (all : Declared) (told : List ℕ) (low : ℕ)
+    (best : Option Found) (last : Option ℕ) (before : Declared) (puts : List Put)
     → Settled es params told before → Covered es is_put params all told low best last before → Climbs low puts → Each (Known es is_put) puts
     → soonest best last (written_puts es params all before (first_puts_behind told puts)) ≡ soonest best last (written_puts es params all before puts)
 first_copies_behind keeps es is_put params all told low best last before [] settled cover climbs known = refl
 first_copies_behind keeps es is_put params all told low best last before (put ∷ puts) settled cover climbs known = by (is_told put.entry.number told) refl
-    (first_copies_behind keeps es is_put params all told (stand_of put) best last before puts settled (covered_from es is_put params all told low (stand_of put) best last before climbs.0 cover) climbs.1 known.1)
-    (first_copies_behind keeps es is_put params all (put.entry.number ∷ told) (stand_of put) (soonest best last (written_put es params all before put)) last (with_entry params before put.entry) puts
-    (settled_more es params told before put.entry known.0.0 settled) (covered_more keeps es is_put params all told low best last before put known.0 climbs.0 cover) climbs.1 known.1)
+    (first_copies_behind keeps es is_put params all told (stand_of put) best last before puts settled
+    (covered_from es is_put params all told low (stand_of put) best last before climbs.0 cover) climbs.1 known.1)
+    (first_copies_behind keeps es is_put params all (put.entry.number ∷ told) (stand_of put) (soonest best last (written_put es params all before put)) last
+    (with_entry params before put.entry) puts
+    (settled_more es params told before put.entry known.0.0 settled)
+    (covered_more keeps es is_put params all told low best last before put known.0 climbs.0 cover) climbs.1 known.1)
   where
-    all_next : (others : List Put) → soonest best last (written_puts es params all before (put ∷ others)) ≡ soonest (soonest best last (written_put es params all before put)) last (written_puts es params all (with_entry params before put.entry) others)
-    all_next others = ap (soonest best last) (puts_next es params all before put others) ∙ soonest-append best last (written_put es params all before put) (written_puts es params all (with_entry params before put.entry) others)
+    all_next : (others : List Put) → soonest best last (written_puts es params all before (put ∷ others)) ≡ soonest
+        (soonest best last (written_put es params all before put)) last (written_puts es params all (with_entry params before put.entry) others)
+    all_next others = ap (soonest best last) (puts_next es params all before put others) ∙
+        soonest-append best last (written_put es params all before put) (written_puts es params all (with_entry params before put.entry) others)
 
     by : (test : Bool) → is_told put.entry.number told ≡ test
         → soonest best last (written_puts es params all before (first_puts_behind told puts)) ≡ soonest best last (written_puts es params all before puts)
-        → soonest (soonest best last (written_put es params all before put)) last (written_puts es params all (with_entry params before put.entry) (first_puts_behind (put.entry.number ∷ told) puts))
+        → soonest (soonest best last (written_put es params all before put)) last
+        (written_puts es params all (with_entry params before put.entry) (first_puts_behind (put.entry.number ∷ told) puts))
         ≡ soonest (soonest best last (written_put es params all before put)) last (written_puts es params all (with_entry params before put.entry) puts)
-        → soonest best last (written_puts es params all before (elim test as (λ _. List Put) [ true ↦ first_puts_behind told puts | false ↦ put ∷ first_puts_behind (put.entry.number ∷ told) puts ]))
+        → soonest best last (written_puts es params all before
+        (elim test as (λ _. List Put) [ true ↦ first_puts_behind told puts | false ↦ put ∷ first_puts_behind (put.entry.number ∷ told) puts ]))
         ≡ soonest best last (written_puts es params all before (put ∷ puts))
     by true t same new = same ∙ (sym (ap (λ (x : Option Found). soonest x last (written_puts es params all before puts))
-        (covers_keeps best (least (up_to last (written_put es params all before put))) (cover put.entry.number put.entry put.stand before t known.0.0 climbs.0 known.0.1 (wider-refl before))))
-        ∙ (ap (λ (s : Declared). soonest (soonest best last (written_put es params all before put)) last (written_puts es params all s puts)) (sym (settled_scope es params told before put.entry known.0.0 settled t))
+        (covers_keeps best (least (up_to last (written_put es params all before put)))
+        (cover put.entry.number put.entry put.stand before t known.0.0 climbs.0 known.0.1 (wider-refl before))))
+        ∙ (ap (λ (s : Declared). soonest (soonest best last (written_put es params all before put)) last (written_puts es params all s puts))
+        (sym (settled_scope es params told before put.entry known.0.0 settled t))
         ∙ sym (all_next puts)))
     by false t same new = all_next (first_puts_behind (put.entry.number ∷ told) puts) ∙ (new ∙ sym (all_next puts))
 
 -- first copies have the soonest fault of all
-pub first_copies : Keeps → (es : List Entry) (is_put : Entry → Bool) (params : List Parameter) (all : Declared) (best : Option Found) (last : Option ℕ) (before : Declared) (puts : List Put)
-    → Climbs 0 puts → Each (Known es is_put) puts → soonest best last (written_puts es params all before (first_puts puts)) ≡ soonest best last (written_puts es params all before puts)
+pub first_copies : Keeps → (es : List Entry) (is_put : Entry → Bool) (params : List Parameter) (all : Declared) (best : Option Found) (last : Option ℕ)
+    (before : Declared) (puts : List Put)
+    → Climbs 0 puts → Each (Known es is_put) puts → soonest best last (written_puts es params all before (first_puts puts)) ≡ soonest best last
+    (written_puts es params all before puts)
 first_copies keeps es is_put params all best last before puts climbs known =
-    first_copies_behind keeps es is_put params all [] 0 best last before puts (λ n e t g l. absurd (false≢true t)) (λ n e s w t g k i h. absurd (false≢true t)) climbs known
+    first_copies_behind keeps es is_put params all [] 0 best last before puts (λ n e t g l. absurd (false≢true t))
+    (λ n e s w t g k i h. absurd (false≢true t)) climbs known

@@ -1,5 +1,6 @@
 -- The first cycle, by the first part that leads back to its own rule.
-use Rattle.std.proofs.Common.{◌≡◌, ℕ, ◌+◌, ◌<◌, ◌≤◌, Bool, true, false, cond, ◌&&◌, ◌||◌, ◌⊎◌, inl, inr, ⊎_elim, List, [], ◌∷◌, ◌++◌, map, length, get_or, take, Option, Some, None, refl, ap, sym, ◌∙◌, subst, arith}
+use Rattle.std.proofs.Common.{◌≡◌, ℕ, ◌+◌, ◌<◌, ◌≤◌, Bool, true, false, cond, ◌&&◌, ◌||◌, ◌⊎◌, inl, inr, ⊎_elim, List, [], ◌∷◌, ◌++◌, map, length, get_or, take}
+use Rattle.std.proofs.Common.{Option, Some, None, refl, ap, sym, ◌∙◌, subst, arith}
 use Rattle.std.specs.Prelude.{filter, find, slice_get, nat_eq, option_map, is_some}
 use Rattle.std.specs.List.{All, AllPairs, AllZip, Contains, list_any}
 use Rattle.std.proofs.lemmas.Bool.{cases_lt, false≢true, true≢false, true_from_ne_false, false_from_ne_true, and_parts, and_from, or_parts, eqb-true, eq-eqb}
@@ -41,7 +42,8 @@ chunk rules n e = cond (is_item e.role && nat_eq e.parent n) (part_by e.role rul
 
 -- It puts one part, or none.
 abbrev Puts_one : List Entry → Entry → Role → Bool → Type 0
-Puts_one rules e role here = (((here && is_putting role rules e) ≡ true) × ((part : Part) × (cond (is_item role && here) (part_by role rules e) [] ≡ part ∷ []) × (part_by role rules e ≡ part ∷ [])))
+Puts_one rules e role here = (((here && is_putting role rules e) ≡ true) ×
+    ((part : Part) × (cond (is_item role && here) (part_by role rules e) [] ≡ part ∷ []) × (part_by role rules e ≡ part ∷ [])))
     ⊎ (((here && is_putting role rules e) ≡ false) × (cond (is_item role && here) (part_by role rules e) [] ≡ []))
 
 abbrev own_part : Role → Entry → Part
@@ -65,7 +67,8 @@ puts_one rules e _ true = inr (refl, refl)
 puts_one rules e _ false = inr (refl, refl)
 
 body_cons : (rules : List Entry) (n : ℕ) (e : Entry) (es : List Entry) → body_at (e ∷ es) rules n ≡ chunk rules n e ++ body_at es rules n
-body_cons rules n e es = flat_cons (λ (x : Entry). part_by x.role rules x) (is_item e.role && nat_eq e.parent n) e (filter (λ (x : Entry). is_item x.role && nat_eq x.parent n) es)
+body_cons rules n e es = flat_cons (λ (x : Entry). part_by x.role rules x) (is_item e.role && nat_eq e.parent n) e
+    (filter (λ (x : Entry). is_item x.role && nat_eq x.parent n) es)
 
 -- the parts of a rule and the entries that put them, side by side
 zipped : (rules : List Entry) (n : ℕ) (es : List Entry) → AllZip (IsPutBy rules n) (filter (is_part rules n) es) (body_at es rules n)
@@ -92,7 +95,8 @@ none_in : (t : Part → Bool) (rules : List Entry) (n : ℕ) (es : List Entry) �
 none_in t rules n [] h = All-nil _
 none_in t rules n (e ∷ es) h =
     let parts : (list_any t (chunk rules n e) ≡ false) × (list_any t (body_at es rules n) ≡ false) =
-    or_parts (list_any t (chunk rules n e)) (list_any t (body_at es rules n)) (sym (list_any-append t (chunk rules n e) (body_at es rules n)) ∙ (sym (ap (list_any t) (body_cons rules n e es)) ∙ h)) in
+    or_parts (list_any t (chunk rules n e)) (list_any t (body_at es rules n)) (sym (list_any-append t (chunk rules n e) (body_at es rules n)) ∙
+    (sym (ap (list_any t) (body_cons rules n e es)) ∙ h)) in
     All-cons (PutsNone t rules n) e es
     (λ i p. sym (ap (λ b. list_any t (cond b (part_by e.role rules e) [])) (and_from (is_item e.role) (nat_eq e.parent n) i (eq-eqb e.parent n p))) ∙ parts.0)
     (none_in t rules n es parts.1)
@@ -148,7 +152,8 @@ module _ (es : List Entry) (rise : NumbersRise es) (follow : RulesFollow es) whe
   body_is n rule h = ap (λ (b : List (List Part)). get_or b n []) bodies_are ∙ map_get (λ (one : Entry). body_at es rules one.number) rules n rule [] h
 
   rule_of : (n k : ℕ) (part : Part) → slice_get (body_of all n) k ≡ Some part → (rule : Entry) × (slice_get rules n ≡ Some rule)
-  rule_of n k part h = some_of (λ (one : Entry). body_at es rules one.number) rules n k part (sym (ap (λ (b : List (List Part)). slice_get (get_or b n []) k) bodies_are) ∙ h)
+  rule_of n k part h = some_of (λ (one : Entry). body_at es rules one.number) rules n k part
+      (sym (ap (λ (b : List (List Part)). slice_get (get_or b n []) k) bodies_are) ∙ h)
 
   -- what stands in a rule by its number
   cycle_by : (n : Option ℕ) (e : Entry) → rule_at rules e.parent ≡ n → is_cycle_at e ≡ (is_extends e.role && is_cycle_in n all (putting (put_by rules e)))
@@ -172,10 +177,12 @@ module _ (es : List Entry) (rise : NumbersRise es) (follow : RulesFollow es) whe
       by : (o : Option ℕ) → rule_at rules e.parent ≡ o → is_extends e.role ≡ true → is_cycle_in o all (putting (put_by rules e)) ≡ true → IsBackIn e
       by None is extends c = absurd (false≢true c)
       by (Some place) is extends c =
-          let w : (j : ℕ) × (rule : Entry) × (place ≡ 0 + j) × (slice_get rules j ≡ Some rule) × (rule.number ≡ e.parent) = place_found rules e.parent 0 place is in
+          let w : (j : ℕ) × (rule : Entry) × (place ≡ 0 + j) × (slice_get rules j ≡ Some rule) × (rule.number ≡ e.parent) =
+          place_found rules e.parent 0 place is in
           let t : Part → Bool = is_back all place in
           let there : slice_get rules place ≡ Some w.1 = ap (slice_get rules) (w.2 ∙ omega arith) ∙ w.3 in
-          let own : list_any t (part_by e.role rules e) ≡ true = sym (cycle_role e.role t rules e (λ n d. refl)) ∙ and_from (is_extends e.role) (list_any t (putting (put_by rules e))) extends c in
+          let own : list_any t (part_by e.role rules e) ≡ true = sym (cycle_role e.role t rules e (λ n d. refl)) ∙
+          and_from (is_extends e.role) (list_any t (putting (put_by rules e))) extends c in
           record {
             place = place;
             rule = w.1;
@@ -183,7 +190,8 @@ module _ (es : List Entry) (rise : NumbersRise es) (follow : RulesFollow es) whe
             parent = sym w.4;
             back = true_from_ne_false (list_any t (body_of all place)) (λ none. true≢false (sym own
                 ∙ All-contains (PutsNone t rules e.parent) es e
-                (none_in t rules e.parent es (sym (ap (list_any t) (body_is place w.1 there ∙ ap (λ n. body_at es rules n) w.4)) ∙ none)) inside (item_extends e.role extends) refl));
+                (none_in t rules e.parent es (sym (ap (list_any t) (body_is place w.1 there ∙ ap (λ n. body_at es rules n) w.4)) ∙ none)) inside
+                (item_extends e.role extends) refl));
             extends = extends;
             puts = some_put t (put_by rules e) c;
           }
@@ -193,7 +201,12 @@ module _ (es : List Entry) (rise : NumbersRise es) (follow : RulesFollow es) whe
   no_cycle : NoneBefore (is_back all) all (length all) → find is_cycle_at es ≡ None
   no_cycle none = find_none is_cycle_at es (λ j d l. false_from_ne_true (is_cycle_at (get_or es j d)) (λ h.
       let w : IsBackIn (get_or es j d) = back_in (get_or es j d) (Contains-get_or es j d l) h in
-      true≢false (sym w.back ∙ none w.place (omega (arith, slice_get_within rules w.place w.rule w.there, ap length bodies_are, length-map rules (λ (rule : Entry). body_at es rules rule.number))))))
+      true≢false (sym w.back ∙ none w.place (omega (
+        arith,
+        slice_get_within rules w.place w.rule w.there,
+        ap length bodies_are,
+        length-map rules (λ (rule : Entry). body_at es rules rule.number),
+      )))))
 
   -- ---- the first
 
@@ -211,11 +224,13 @@ module _ (es : List Entry) (rise : NumbersRise es) (follow : RulesFollow es) whe
   place_at n rule h = place_is rules rules_rise 0 n rule h ∙ ap Some (omega arith)
 
   -- what stands before in another rule is no cycle
-  before_is_none : (n : ℕ) (rule : Entry) → slice_get rules n ≡ Some rule → NoneBefore (is_back all) all n → (x y : Entry) → Follows x y → is_part rules rule.number y ≡ true
+  before_is_none : (n : ℕ) (rule : Entry) → slice_get rules n ≡ Some rule → NoneBefore (is_back all) all n → (x y : Entry) → Follows x y →
+      is_part rules rule.number y ≡ true
       → is_part rules rule.number x ≡ false → is_cycle_at x ≡ true → ⊥
   before_is_none n rule h none x y f part_y part_x c =
       let w : IsBackIn x = back_in x f.0 c in
-      let y_parts : (nat_eq y.parent rule.number ≡ true) × (is_putting y.role rules y ≡ true) = and_parts (nat_eq y.parent rule.number) (is_putting y.role rules y) part_y in
+      let y_parts : (nat_eq y.parent rule.number ≡ true) × (is_putting y.role rules y ≡ true) =
+      and_parts (nat_eq y.parent rule.number) (is_putting y.role rules y) part_y in
       let y_in : y.parent ≡ rule.number = eqb-true y.parent rule.number y_parts.0 in
       let at_most : w.rule.number ≤ rule.number = omega (
         arith,
@@ -231,20 +246,23 @@ module _ (es : List Entry) (rise : NumbersRise es) (follow : RulesFollow es) whe
       ⊎_elim
       (λ (more : n < w.place).
       let later : rule.number < w.rule.number = subst (λ (z : Entry). rule.number < z.number) (get_or_from_slice_get rules w.place w.rule rule w.there)
-      (subst (λ (z : Entry). z.number < (get_or rules w.place rule).number) (get_or_from_slice_get rules n rule rule h) (rules_rise n w.place rule more (slice_get_within rules w.place w.rule w.there))) in
+      (subst (λ (z : Entry). z.number < (get_or rules w.place rule).number) (get_or_from_slice_get rules n rule rule h)
+      (rules_rise n w.place rule more (slice_get_within rules w.place w.rule w.there))) in
       omega (arith, later, at_most))
       (λ (least : w.place ≤ n).
       let same : w.place ≡ n = omega (arith, least, most) in
       let one : w.rule ≡ rule = some_same (sym w.there ∙ (ap (slice_get rules) same ∙ h)) in
       let in_it : x.parent ≡ rule.number = w.parent ∙ ap (λ (z : Entry). z.number) one in
-      true≢false (sym (and_from (nat_eq x.parent rule.number) (is_putting x.role rules x) (eq-eqb x.parent rule.number in_it) (putting_extends x.role rules x w.extends w.puts)) ∙ part_x))
+      true≢false (sym (and_from (nat_eq x.parent rule.number) (is_putting x.role rules x) (eq-eqb x.parent rule.number in_it)
+      (putting_extends x.role rules x w.extends w.puts)) ∙ part_x))
       (cases_lt n w.place))
       (cases_lt w.place n)
     where
       some_same : {p q : Entry} → Some p ≡ Some q → p ≡ q
       some_same e = cc
 
-  cycle_is : (n : ℕ) (rule : Entry) → slice_get rules n ≡ Some rule → (e : Entry) (part : Part) → IsPutBy rules rule.number e part → is_cycle_at e ≡ is_back all n part
+  cycle_is : (n : ℕ) (rule : Entry) → slice_get rules n ≡ Some rule → (e : Entry) (part : Part) → IsPutBy rules rule.number e part →
+      is_cycle_at e ≡ is_back all n part
   cycle_is n rule h e part w =
       let parent : e.parent ≡ rule.number = eqb-true e.parent rule.number (and_parts (nat_eq e.parent rule.number) (is_putting e.role rules e) w.0).0 in
       cycle_by (Some n) e (ap (rule_at rules) parent ∙ place_at n rule h)
@@ -254,12 +272,15 @@ module _ (es : List Entry) (rise : NumbersRise es) (follow : RulesFollow es) whe
   first_cycle spot f =
       let rule : (rule : Entry) × (slice_get rules spot.rule ≡ Some rule) = rule_of spot.rule spot.part f.part.part f.part.there in
       let body : body_of all spot.rule ≡ body_at es rules rule.0.number = body_is spot.rule rule.0 rule.1 in
-      let pairs : AllZip (IsPutBy rules rule.0.number) (filter (is_part rules rule.0.number) es) (body_at es rules rule.0.number) = zipped rules rule.0.number es in
+      let pairs : AllZip (IsPutBy rules rule.0.number) (filter (is_part rules rule.0.number) es) (body_at es rules rule.0.number) =
+      zipped rules rule.0.number es in
       let e : (e : Entry) × (slice_get (filter (is_part rules rule.0.number) es) spot.part ≡ Some e) × IsPutBy rules rule.0.number e f.part.part =
-      zip_get (IsPutBy rules rule.0.number) (filter (is_part rules rule.0.number) es) (body_at es rules rule.0.number) pairs spot.part f.part.part (sym (ap (λ b. slice_get b spot.part) body) ∙ f.part.there) in
+      zip_get (IsPutBy rules rule.0.number) (filter (is_part rules rule.0.number) es) (body_at es rules rule.0.number) pairs spot.part f.part.part
+      (sym (ap (λ b. slice_get b spot.part) body) ∙ f.part.there) in
       find_at (is_part rules rule.0.number) is_cycle_at Follows (before_is_none spot.rule rule.0 rule.1 f.rule) es follows spot.part e.0 e.1
       (cycle_is spot.rule rule.0 rule.1 e.0 f.part.part e.2 ∙ f.part.passes)
-      (zip_any (IsPutBy rules rule.0.number) is_cycle_at (is_back all spot.rule) (cycle_is spot.rule rule.0 rule.1) (filter (is_part rules rule.0.number) es) (body_at es rules rule.0.number) pairs spot.part
+      (zip_any (IsPutBy rules rule.0.number) is_cycle_at (is_back all spot.rule) (cycle_is spot.rule rule.0 rule.1) (filter (is_part rules rule.0.number) es)
+      (body_at es rules rule.0.number) pairs spot.part
       ∙ (sym (ap (λ b. list_any (is_back all spot.rule) (take spot.part b)) body) ∙ f.part.first))
       ∙ (sym e.1 ∙ sym (ap (part_in (file_of es) spot.part) rule.1))
 
@@ -269,7 +290,8 @@ module _ (es : List Entry) (rise : NumbersRise es) (follow : RulesFollow es) whe
 
 -- ---- the first of the file's entries
 
-first_among : (file : File) (es : List Entry) → first_by (cycle file) es ≡ option_map cycle_found (find (λ (e : Entry). is_extends e.role && is_cycle file.rules file.bodies e) es)
+first_among : (file : File) (es : List Entry) → first_by (cycle file) es ≡ option_map cycle_found
+    (find (λ (e : Entry). is_extends e.role && is_cycle file.rules file.bodies e) es)
 first_among file [] = refl
 first_among file (e ∷ es) = by (is_extends e.role && is_cycle file.rules file.bodies e) (first_among file es)
   where
@@ -280,7 +302,8 @@ first_among file (e ∷ es) = by (is_extends e.role && is_cycle file.rules file.
     by false rest = rest
 
 -- the cycle at the first part that leads back is the first cycle
-pub cycle_found_at : (es : List Entry) → NumbersRise es → RulesFollow es → (file : File) (spot : Option Spot) (result : Option Found) → result ≡ option_map cycle_found (part_of file spot)
+pub cycle_found_at : (es : List Entry) → NumbersRise es → RulesFollow es → (file : File) (spot : Option Spot) (result : Option Found) →
+    result ≡ option_map cycle_found (part_of file spot)
     → file ≡ file_of es → IsFirstBack file.bodies spot → result ≡ first_by (cycle file) file.entries
 cycle_found_at es rise follow file spot result e is f =
     e ∙ subst (λ (x : File). IsFirstBack x.bodies spot → option_map cycle_found (part_of x spot) ≡ first_by (cycle x) x.entries) (sym is)

@@ -34,7 +34,8 @@ pub each-filter : {X : Type 0} (P : X → Type 0) (test : X → Bool) (xs : List
 each-filter P test [] h = tt
 each-filter {X} P test (x ∷ xs) h = by (test x) refl (each-filter P test xs h.1)
   where
-    by : (b : Bool) → test x ≡ b → Each (λ (y : X). P y × (test y ≡ true)) (filter test xs) → Each (λ (y : X). P y × (test y ≡ true)) (cond (test x) (x ∷ filter test xs) (filter test xs))
+    by : (b : Bool) → test x ≡ b → Each (λ (y : X). P y × (test y ≡ true)) (filter test xs) →
+        Each (λ (y : X). P y × (test y ≡ true)) (cond (test x) (x ∷ filter test xs) (filter test xs))
     by true t rest = subst (λ (c : Bool). Each (λ (y : X). P y × (test y ≡ true)) (cond c (x ∷ filter test xs) (filter test xs))) (sym t) ((h.0, t), rest)
     by false t rest = subst (λ (c : Bool). Each (λ (y : X). P y × (test y ≡ true)) (cond c (x ∷ filter test xs) (filter test xs))) (sym t) rest
 
@@ -56,7 +57,8 @@ pub each-any : {X : Type 0} (P : X → Type 0) (test : X → Bool) (xs : List X)
 each-any P test [] h t = absurd (cc)
 each-any {X} P test (x ∷ xs) h t = by (test x) refl t (each-any P test xs h.1)
   where
-    by : (b : Bool) → test x ≡ b → (b || list_any test xs) ≡ true → (list_any test xs ≡ true → (y : X) × (test y ≡ true) × P y) → (y : X) × (test y ≡ true) × P y
+    by : (b : Bool) → test x ≡ b → (b || list_any test xs) ≡ true → (list_any test xs ≡ true → (y : X) × (test y ≡ true) × P y) → (y : X) × (test y ≡ true) ×
+        P y
     by true e t rest = (x, e, h.0)
     by false e t rest = rest t
 
@@ -66,5 +68,6 @@ find_passes test [] x h = absurd (cc)
 find_passes {X} test (y ∷ xs) x h = by (test y) refl (find_passes test xs x)
   where
     by : (b : Bool) → test y ≡ b → (find test xs ≡ Some x → test x ≡ true) → test x ≡ true
-    by true t rest = let e : Some y ≡ Some x = sym (ap (λ c. cond c (Some y) (find test xs)) t) ∙ h in let s : y ≡ x = cc in subst (λ (z : X). test z ≡ true) s t
+    by true t rest = let e : Some y ≡ Some x = sym (ap (λ c. cond c (Some y) (find test xs)) t) ∙ h in let s : y ≡ x = cc in
+        subst (λ (z : X). test z ≡ true) s t
     by false t rest = rest (sym (ap (λ c. cond c (Some y) (find test xs)) t) ∙ h)

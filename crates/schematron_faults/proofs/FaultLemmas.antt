@@ -36,7 +36,8 @@ is_read nodes file rise e = record {
 }
 
 -- what the calls found, joined
-joined : (file : File) (declared : Option Fault) (turned passing best found : Option Found) → IsRead file → declared ≡ first_declared file.entries → turned ≡ first_by (cycle file) file.entries
+joined : (file : File) (declared : Option Fault) (turned passing best found : Option Found) → IsRead file → declared ≡ first_declared file.entries →
+    turned ≡ first_by (cycle file) file.entries
     → passing ≡ first_passing file → best ≡ sooner (at_itself declared) turned → found ≡ soonest best (place_of passing) (all_written file)
     → fault_of (sooner found passing) ≡ first_in (all_faults file)
 joined file declared turned passing best found is d c p b x =
@@ -44,17 +45,22 @@ joined file declared turned passing best found is d c p b x =
     let whole : Option Found = sooner (least ws) passing in
     let rules : file.rules ≡ abstract_rules file.entries = ap (λ (f : File). f.rules) is.is in
     let itself : at_itself declared ≡ declared_found file.entries file.rules [] file.entries =
-    ap at_itself (d ∙ (declared_same file.entries ∙ sym (ap (λ (rs : List Entry). first_in (declared_behind file.entries rs [] file.entries)) rules))) ∙ sym (declared_itself file.entries file.rules [] file.entries) in
+    ap at_itself (d ∙ (declared_same file.entries ∙ sym (ap (λ (rs : List Entry). first_in (declared_behind file.entries rs [] file.entries)) rules))) ∙
+    sym (declared_itself file.entries file.rules [] file.entries) in
     ap (λ (y : Option Found). fault_of (sooner y passing)) x
     ∙ (ap fault_of (soonest_last best passing ws ∙ (ap (λ (y : Option Found). sooner y whole) b ∙ sooner-assoc (at_itself declared) turned whole))
     ∙ (ap (λ (y : Option Found). fault_of (sooner y (sooner turned whole))) itself
     ∙ (ap (λ (y : Option Found). fault_of (sooner (declared_found file.entries file.rules [] file.entries) (sooner y whole))) c
-    ∙ (ap (λ (y : Option Found). fault_of (sooner (declared_found file.entries file.rules [] file.entries) (sooner (first_by (cycle file) file.entries) (sooner (least ws) y)))) p
-    ∙ sym (first_joined file is.rises (each-weaker (IsTold file.entries) (λ (w : Written). IsThere file.entries w.stand) ws (λ w t. t.stand) (told_all file is.rises)))))))
+    ∙ (ap (λ (y : Option Found). fault_of (sooner (declared_found file.entries file.rules [] file.entries)
+    (sooner (first_by (cycle file) file.entries) (sooner (least ws) y)))) p
+    ∙ sym (first_joined file is.rises (each-weaker (IsTold file.entries) (λ (w : Written). IsThere file.entries w.stand) ws (λ w t. t.stand)
+    (told_all file is.rises)))))))
 
-pub first_found : (nodes : List Node) (file : File) (declared : Option Fault) (turned passing best found : Option Found) → NumbersRise (entries nodes) → file ≡ file_of (entries nodes)
+pub first_found : (nodes : List Node) (file : File) (declared : Option Fault) (turned passing best found : Option Found) → NumbersRise (entries nodes) →
+    file ≡ file_of (entries nodes)
     → declared ≡ first_declared file.entries → turned ≡ first_by (cycle file) file.entries
     → passing ≡ first_passing file → best ≡ sooner (at_itself declared) turned → (IsRead file → found ≡ soonest best (place_of passing) (all_written file))
     → fault_of (sooner found passing) ≡ first_fault nodes
-first_found nodes file declared turned passing best found rise e d c p b x = joined file declared turned passing best found (is_read nodes file rise e) d c p b (x (is_read nodes file rise e))
+first_found nodes file declared turned passing best found rise e d c p b x = joined file declared turned passing best found (is_read nodes file rise e) d c p b
+    (x (is_read nodes file rise e))
     ∙ (ap (λ (f : File). first_in (all_faults f)) e ∙ sym (first_same nodes))

@@ -15,13 +15,17 @@ pick test a b = elim test [ true ↦ a | false ↦ b ]
 of_test : (a b : Found) (test : Bool) → nat_le a.at b.at ≡ test → sooner_of a b ≡ pick test a b
 of_test a b test h = ap (λ t. pick t a b) h
 
-assoc_of : (a b c : Found) (ab bc ac : Bool) → nat_le a.at b.at ≡ ab → nat_le b.at c.at ≡ bc → nat_le a.at c.at ≡ ac → sooner_of (sooner_of a b) c ≡ sooner_of a (sooner_of b c)
-assoc_of a b c true true true p q r = ap (λ x. sooner_of x c) (of_test a b true p) ∙ (of_test a c true r ∙ (sym (of_test a b true p) ∙ ap (sooner_of a) (sym (of_test b c true q))))
+assoc_of : (a b c : Found) (ab bc ac : Bool) → nat_le a.at b.at ≡ ab → nat_le b.at c.at ≡ bc → nat_le a.at c.at ≡ ac →
+    sooner_of (sooner_of a b) c ≡ sooner_of a (sooner_of b c)
+assoc_of a b c true true true p q r = ap (λ x. sooner_of x c) (of_test a b true p) ∙
+    (of_test a c true r ∙ (sym (of_test a b true p) ∙ ap (sooner_of a) (sym (of_test b c true q))))
 assoc_of a b c true true false p q r = absurd (grind (arith, nat_tests))
 assoc_of a b c true false ac p q r = ap (λ x. sooner_of x c) (of_test a b true p) ∙ ap (sooner_of a) (sym (of_test b c false q))
-assoc_of a b c false true ac p q r = ap (λ x. sooner_of x c) (of_test a b false p) ∙ (of_test b c true q ∙ (sym (of_test a b false p) ∙ ap (sooner_of a) (sym (of_test b c true q))))
+assoc_of a b c false true ac p q r = ap (λ x. sooner_of x c) (of_test a b false p) ∙
+    (of_test b c true q ∙ (sym (of_test a b false p) ∙ ap (sooner_of a) (sym (of_test b c true q))))
 assoc_of a b c false false true p q r = absurd (grind (arith, nat_tests))
-assoc_of a b c false false false p q r = ap (λ x. sooner_of x c) (of_test a b false p) ∙ (of_test b c false q ∙ (sym (of_test a c false r) ∙ ap (sooner_of a) (sym (of_test b c false q))))
+assoc_of a b c false false false p q r = ap (λ x. sooner_of x c) (of_test a b false p) ∙
+    (of_test b c false q ∙ (sym (of_test a c false r) ∙ ap (sooner_of a) (sym (of_test b c false q))))
 
 pub sooner-assoc : (a b c : Option Found) → sooner (sooner a b) c ≡ sooner a (sooner b c)
 sooner-assoc None b c = refl

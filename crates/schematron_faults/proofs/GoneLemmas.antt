@@ -13,7 +13,8 @@ use Rattle.schematron_faults.specs.Things.{written_patterns}
 use Rattle.schematron_faults.proofs.SearchLemmas.{none_passed, goes-append, on_ok}
 
 -- lets of the schema, and of phases
-pub goes_outside : {A E : Type 0} (es all : List Entry) (s t u : Search) (scope behind : Declared) (r : Result A E) → scope ≡ prefixes all → all ≡ es → behind ≡ with_lets [] scope (inside is_let es the_schema)
+pub goes_outside : {A E : Type 0} (es all : List Entry) (s t u : Search) (scope behind : Declared) (r : Result A E) → scope ≡ prefixes all → all ≡ es →
+    behind ≡ with_lets [] scope (inside is_let es the_schema)
     → Goes s t (written_lets scope (inside is_let es the_schema)) → OnOk r (Goes t u (written_phases_of es behind es)) → OnOk r (Goes s u (written_outside es))
 goes_outside es all s t u scope behind r p a b lets phases =
     let same : scope ≡ prefixes es = p ∙ ap prefixes a in
@@ -23,9 +24,12 @@ goes_outside es all s t u scope behind r p a b lets phases =
 
 written_same : (file : File) → written_outside file.entries ++ written_patterns file ≡ all_written file
 unfolding all_written
-written_same file = append_assoc (written_lets (prefixes file.entries) (inside is_let file.entries the_schema)) (written_phases file.entries) (written_patterns file)
+written_same file = append_assoc (written_lets (prefixes file.entries) (inside is_let file.entries the_schema)) (written_phases file.entries)
+    (written_patterns file)
 
-pub all_gone : (file : File) (s t u : Search) → s.again ≡ false → Goes s t (written_outside file.entries) → Goes t u (written_patterns file) → u.best ≡ soonest s.best s.last (all_written file)
+pub all_gone : (file : File) (s t u : Search) → s.again ≡ false → Goes s t (written_outside file.entries) → Goes t u (written_patterns file) →
+    u.best ≡ soonest s.best s.last (all_written file)
 all_gone file s t u a outside patterns =
-    (goes-append s t u (written_outside file.entries) (written_patterns file) outside patterns).best (none_passed s (written_outside file.entries ++ written_patterns file) a)
+    (goes-append s t u (written_outside file.entries) (written_patterns file) outside patterns).best
+    (none_passed s (written_outside file.entries ++ written_patterns file) a)
     ∙ ap (soonest s.best s.last) (written_same file)

@@ -15,7 +15,15 @@ use Rattle.schematron_meaning.specs.Faults.{tree_spelled, tree_fault, expression
 longer : (m n : ℕ) → m < n → nat_lt m n ≡ true
 longer m n h = grind (arith, nat_tests)
 
-pub too_long : (is_pattern : Bool) (text : List ℕ) (scope : Declared) → most_bytes < bytes_of text → Some (x.Syntax f.TooLong) ≡ expression_fault is_pattern text scope
+pub too_long : (is_pattern : Bool) (text : List ℕ) (scope : Declared) → most_bytes < bytes_of text →
+    Some (x.Syntax f.TooLong) ≡ expression_fault is_pattern text scope
 unfolding expression_fault
-too_long is_pattern text scope h = sym (ap (λ (b : Bool). tree_fault scope (elim b as (λ _. Result Tree SyntaxFault) [ true ↦ Err f.TooLong | false ↦ elim (answer_of_characters text) as (λ _. Result Tree SyntaxFault) [ Err fault ↦ Err fault | Ok tokens ↦ tree_spelled is_pattern (tree_of tokens) ] ]))
+too_long is_pattern text scope h =
+    sym (ap (λ (b : Bool). tree_fault scope (elim b as (λ _. Result Tree SyntaxFault) [
+      | true ↦ Err f.TooLong
+      | false ↦ elim (answer_of_characters text) as (λ _. Result Tree SyntaxFault) [
+        | Err fault ↦ Err fault
+        | Ok tokens ↦ tree_spelled is_pattern (tree_of tokens)
+      ]
+    ]))
     (longer most_bytes (length (encode_utf8_all text)) h))

@@ -52,7 +52,8 @@ least_last last (w ∷ ws) = by (nat_le w.stand last.at) refl (least_last last w
   where
     by : (test : Bool) → nat_le w.stand last.at ≡ test → sooner (least (up_to (Some last.at) ws)) (Some last) ≡ sooner (least ws) (Some last)
         → sooner (least (cond test (w ∷ up_to (Some last.at) ws) (up_to (Some last.at) ws))) (Some last) ≡ sooner (sooner (found_of w) (least ws)) (Some last)
-    by true t rest = sooner-assoc (found_of w) (least (up_to (Some last.at) ws)) (Some last) ∙ (ap (sooner (found_of w)) rest ∙ sym (sooner-assoc (found_of w) (least ws) (Some last)))
+    by true t rest = sooner-assoc (found_of w) (least (up_to (Some last.at) ws)) (Some last) ∙
+        (ap (sooner (found_of w)) rest ∙ sym (sooner-assoc (found_of w) (least ws) (Some last)))
     by false t rest = rest ∙ sym (passed last (found_of w) (least ws) (behind_one w last t))
 
 all_up_to : (ws : List Written) → up_to None ws ≡ ws

@@ -14,7 +14,8 @@ use Rattle.schematron_meaning.specs.Showing.{is_extends, declared_at, first_in}
 use Rattle.schematron_meaning.specs.Expansion.{File, file_of}
 use Rattle.schematron_meaning.specs.Written.{Written, all_written}
 use Rattle.schematron_meaning.specs.Counts.{Tally, no_tally, added, tally_of, passes_any}
-use Rattle.schematron_meaning.specs.Faults.{cycle, expression_fault, fault_of_written, refused, bad_expressions, too_many, faults_at, faults_behind, all_faults, first_fault}
+use Rattle.schematron_meaning.specs.Faults.{cycle, expression_fault, fault_of_written, refused, bad_expressions, too_many, faults_at, faults_behind, all_faults}
+use Rattle.schematron_meaning.specs.Faults.{first_fault}
 use Rattle.schematron_entries.specs.Order.{NumbersRise, NumbersAreBelow}
 use Rattle.schematron_faults.specs.Read.{entry_at}
 use Rattle.schematron_faults.proofs.EachLemmas.{Each}
@@ -47,22 +48,28 @@ head_bad es e [] h = tt
 head_bad es e (w ∷ ws) h = by (nat_eq w.stand e.number) (head_bad es e ws h.1)
   where
     by : (test : Bool) → HeadThere es (bad_expressions ws e)
-        → HeadThere es (flat_map refused (cond test (w ∷ filter (λ (v : Written). nat_eq v.stand e.number) ws) (filter (λ (v : Written). nat_eq v.stand e.number) ws)))
+        → HeadThere es (flat_map refused (cond test (w ∷ filter (λ (v : Written). nat_eq v.stand e.number) ws)
+        (filter (λ (v : Written). nat_eq v.stand e.number) ws)))
     by true rest = head-append es (refused w) (bad_expressions ws e) (head_refused es w h.0) rest
     by false rest = rest
 
-head_faults : (file : File) (ws : List Written) (before : List Entry) (tally after : Tally) (e : Entry) → IsThere file.entries e.number → AreTold file.entries ws → HeadThere file.entries (faults_at file ws before tally after e)
+head_faults : (file : File) (ws : List Written) (before : List Entry) (tally after : Tally) (e : Entry) → IsThere file.entries e.number →
+    AreTold file.entries ws → HeadThere file.entries (faults_at file ws before tally after e)
 head_faults file ws before tally after e there told =
-    head-append file.entries (declared_at file.entries file.rules before e) _ (head_at file.entries e.number (declared_at file.entries file.rules before e) there (at-declared file.entries file.rules before e))
-    (head-append file.entries (cycle file e) _ (head_at file.entries e.number (cycle file e) there (at-when (is_extends e.role && is_cycle file.rules file.bodies e) k.Cycle (Some a.Rule) e))
+    head-append file.entries (declared_at file.entries file.rules before e) _
+    (head_at file.entries e.number (declared_at file.entries file.rules before e) there (at-declared file.entries file.rules before e))
+    (head-append file.entries (cycle file e) _ (head_at file.entries e.number (cycle file e) there
+    (at-when (is_extends e.role && is_cycle file.rules file.bodies e) k.Cycle (Some a.Rule) e))
     (head-append file.entries (bad_expressions ws e) _ (head_bad file.entries e ws told)
     (head_at file.entries e.number (too_many tally after e) there (at-when (passes_any tally after) k.TooMany None e))))
 
-head_behind : (file : File) (ws : List Written) (before : List Entry) (tally : Tally) (es : List Entry) → Each (EntryThere file.entries) es → AreTold file.entries ws → HeadThere file.entries (faults_behind file ws before tally es)
+head_behind : (file : File) (ws : List Written) (before : List Entry) (tally : Tally) (es : List Entry) → Each (EntryThere file.entries) es →
+    AreTold file.entries ws → HeadThere file.entries (faults_behind file ws before tally es)
 head_behind file ws before tally [] h told = tt
 head_behind file ws before tally (e ∷ es) h told =
     let after : Tally = added tally (tally_of file e) in
-    head-append file.entries (faults_at file ws before tally after e) (faults_behind file ws (before ++ e ∷ []) after es) (head_faults file ws before tally after e h.0 told) (head_behind file ws (before ++ e ∷ []) after es h.1 told)
+    head-append file.entries (faults_at file ws before tally after e) (faults_behind file ws (before ++ e ∷ []) after es)
+    (head_faults file ws before tally after e h.0 told) (head_behind file ws (before ++ e ∷ []) after es h.1 told)
 
 there_below : (count n : ℕ) (es : List Entry) → NumbersAreBelow count es → IsThere es n → n < count
 there_below count n [] h k = absurd (false≢true k)
@@ -76,8 +83,11 @@ told_first : (es : List Entry) (fs : List Fault) (fault : Fault) → HeadThere e
 told_first es [] fault h e = absurd (cc)
 told_first es (f ∷ fs) fault h e = let same : f ≡ fault = cc in subst (λ (g : Fault). IsThere es g.node) same h
 
-pub tells_node : (nodes : List Node) (fault : Fault) → NumbersRise (entries nodes) → NumbersAreBelow (length nodes) (entries nodes) → first_fault nodes ≡ Some fault → fault.node < length nodes
+pub tells_node : (nodes : List Node) (fault : Fault) → NumbersRise (entries nodes) → NumbersAreBelow (length nodes) (entries nodes) →
+    first_fault nodes ≡ Some fault → fault.node < length nodes
 tells_node nodes fault rise below e =
     let file : File = file_of (entries nodes) in
     there_below (length nodes) fault.node (entries nodes) below
-    (told_first (entries nodes) (all_faults file) fault (head_behind file (all_written file) [] no_tally (entries nodes) (entries_there (entries nodes) (rising (entries nodes) rise)) (told_all file rise)) (sym (first_same nodes) ∙ e))
+    (told_first (entries nodes) (all_faults file) fault
+    (head_behind file (all_written file) [] no_tally (entries nodes) (entries_there (entries nodes) (rising (entries nodes) rise)) (told_all file rise))
+    (sym (first_same nodes) ∙ e))

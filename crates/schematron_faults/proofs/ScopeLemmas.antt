@@ -1,5 +1,6 @@
 -- Scopes that grow by variables, and that are cut back.
-use Rattle.std.proofs.Common.{◌≡◌, ℕ, Bool, true, false, List, [], ◌∷◌, ◌++◌, length, take, Option, Some, None, refl, ap, sym, ◌∙◌, subst, append-nil, append_assoc}
+use Rattle.std.proofs.Common.{◌≡◌, ℕ, Bool, true, false, List, [], ◌∷◌, ◌++◌, length, take, Option, Some, None, refl, ap, sym, ◌∙◌, subst, append-nil}
+use Rattle.std.proofs.Common.{append_assoc}
 use Rattle.std.specs.Prelude.{if◌then◌else◌, fold}
 use Rattle.std.specs.List.{list_any}
 use Rattle.std.specs.Str.{bytes_eq}
@@ -21,7 +22,8 @@ knows scope None = true
 knows scope (Some name) = declares scope name
 
 -- what a variable more makes of a scope, by whether it is there
-by_test : (scope : Declared) (name : List ℕ) (test : Bool) → declares scope name ≡ test → with_variable scope name ≡ (if test then scope else record scope { variables = scope.variables ++ name ∷ [] })
+by_test : (scope : Declared) (name : List ℕ) (test : Bool) → declares scope name ≡ test →
+    with_variable scope name ≡ (if test then scope else record scope { variables = scope.variables ++ name ∷ [] })
 by_test scope name test t = ap (λ (b : Bool). if b then scope else record scope { variables = scope.variables ++ name ∷ [] }) t
 
 pub declared_known : (scope : Declared) (name : Option (List ℕ)) → knows scope name ≡ true → declare scope name ≡ scope
@@ -34,16 +36,19 @@ same_bytes name = (bytes_eq-Decides name name).1 refl
 knows_new : (scope : Declared) (name : List ℕ) (test : Bool) → declares scope name ≡ test → declares (with_variable scope name) name ≡ true
 knows_new scope name true t = ap (λ (s : Declared). declares s name) (by_test scope name true t) ∙ t
 knows_new scope name false t = ap (λ (s : Declared). declares s name) (by_test scope name false t)
-    ∙ (list_any-append (bytes_eq name) scope.variables (name ∷ []) ∙ or_right (list_any (bytes_eq name) scope.variables) (list_any (bytes_eq name) (name ∷ [])) (or_left (bytes_eq name name) false (same_bytes name)))
+    ∙ (list_any-append (bytes_eq name) scope.variables (name ∷ []) ∙ or_right (list_any (bytes_eq name) scope.variables) (list_any (bytes_eq name) (name ∷ []))
+    (or_left (bytes_eq name name) false (same_bytes name)))
 
 pub knows_declared : (scope : Declared) (name : Option (List ℕ)) → knows (declare scope name) name ≡ true
 knows_declared scope None = refl
 knows_declared scope (Some name) = knows_new scope name (declares scope name) refl
 
-knows_more : (scope : Declared) (name other : List ℕ) (test : Bool) → declares scope other ≡ test → declares scope name ≡ true → declares (with_variable scope other) name ≡ true
+knows_more : (scope : Declared) (name other : List ℕ) (test : Bool) → declares scope other ≡ test → declares scope name ≡ true →
+    declares (with_variable scope other) name ≡ true
 knows_more scope name other true t h = ap (λ (s : Declared). declares s name) (by_test scope other true t) ∙ h
 knows_more scope name other false t h = ap (λ (s : Declared). declares s name) (by_test scope other false t)
-    ∙ (list_any-append (bytes_eq name) scope.variables (other ∷ []) ∙ or_left (list_any (bytes_eq name) scope.variables) (list_any (bytes_eq name) (other ∷ [])) h)
+    ∙ (list_any-append (bytes_eq name) scope.variables (other ∷ []) ∙
+    or_left (list_any (bytes_eq name) scope.variables) (list_any (bytes_eq name) (other ∷ [])) h)
 
 -- ---- wider scopes
 
@@ -62,7 +67,8 @@ wider_declared scope None = wider-refl scope
 wider_declared scope (Some name) = (name ∷ [], refl)
 
 -- what a variable more keeps, any number of them do
-pub kept_wider : (P : Declared → Type 0) → ((scope : Declared) (name : List ℕ) → P scope → P (with_variable scope name)) → (a b : Declared) → Wider a b → P a → P b
+pub kept_wider : (P : Declared → Type 0) → ((scope : Declared) (name : List ℕ) → P scope → P (with_variable scope name)) → (a b : Declared) → Wider a b → P a →
+    P b
 kept_wider P keeps a b w p = subst P (sym w.1) (along a w.0 p)
   where
     along : (s : Declared) (names : List (List ℕ)) → P s → P (fold with_variable s names)
@@ -75,7 +81,8 @@ knows_wider (Some name) a b w h = kept_wider (λ (s : Declared). declares s name
 
 pub wider_lets : (params : List Parameter) (scope : Declared) (lets : List Entry) → Wider scope (with_lets params scope lets)
 wider_lets params scope [] = wider-refl scope
-wider_lets params scope (e ∷ lets) = wider-trans scope (with_let params scope e) (with_lets params (with_let params scope e) lets) (wider_declared scope (name_of params e)) (wider_lets params (with_let params scope e) lets)
+wider_lets params scope (e ∷ lets) = wider-trans scope (with_let params scope e) (with_lets params (with_let params scope e) lets)
+    (wider_declared scope (name_of params e)) (wider_lets params (with_let params scope e) lets)
 
 -- ---- scopes that are cut back
 
@@ -90,7 +97,8 @@ begins_more a b name h = by (declares b name) refl
     by true t = (h.0, by_test b name true t ∙ h.1)
     by false t = (
       h.0 ++ name ∷ [],
-      by_test b name false t ∙ (ap (λ (s : Declared). record s { variables = s.variables ++ name ∷ [] }) h.1 ∙ ap (λ (vs : List (List ℕ)). record a { variables = vs }) (append_assoc a.variables h.0 (name ∷ []))),
+      by_test b name false t ∙ (ap (λ (s : Declared). record s { variables = s.variables ++ name ∷ [] }) h.1 ∙
+          ap (λ (vs : List (List ℕ)). record a { variables = vs }) (append_assoc a.variables h.0 (name ∷ []))),
     )
 
 begins_itself : (a : Declared) → Begins a a

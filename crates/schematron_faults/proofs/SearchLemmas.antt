@@ -1,5 +1,6 @@
 -- How a search goes on.
-use Rattle.std.proofs.Common.{◌≡◌, ℕ, ◌+◌, ◌<◌, ◌≤◌, true, false, List, [], ◌∷◌, ◌++◌, length, drop, get_or, map, Option, Result, Ok, Err, OnOk, refl, ap, sym, ◌∙◌, subst}
+use Rattle.std.proofs.Common.{◌≡◌, ℕ, ◌+◌, ◌<◌, ◌≤◌, true, false, List, [], ◌∷◌, ◌++◌, length, drop, get_or, map, Option, Result, Ok, Err, OnOk, refl, ap, sym}
+use Rattle.std.proofs.Common.{◌∙◌, subst}
 use Rattle.std.specs.Prelude.{◌&&◌, not}
 use Rattle.std.proofs.lemmas.Bool.{false≢true, and_parts}
 use Rattle.std.proofs.lemmas.List.{drop_more, drop_all}
@@ -71,7 +72,8 @@ goes_known s w p = record { best = λ known. sym (right_skipped s.best s.last w 
 -- ---- loops
 
 -- One turn goes over the first of what is left.
-pub goes_turn : (init s t : Search) (whole left xs ys : List Written) → left ≡ xs ++ ys → Goes s t xs → ((u : Search) → Goes s u left → Goes init u whole) → (u : Search) → Goes t u ys → Goes init u whole
+pub goes_turn : (init s t : Search) (whole left xs ys : List Written) → left ≡ xs ++ ys → Goes s t xs → ((u : Search) → Goes s u left → Goes init u whole) →
+    (u : Search) → Goes t u ys → Goes init u whole
 goes_turn init s t whole left xs ys e g h u k = h u (subst (Goes s u) (sym e) (goes-append s t u xs ys g k))
 
 -- Where nothing is left, the whole was gone over.

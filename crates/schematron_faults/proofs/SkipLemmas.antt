@@ -21,11 +21,13 @@ covers_at (Some b) w h = by (expression_fault w.is_pattern w.text w.scope)
     by None = tt
     by (Some f) = grind (arith, nat_tests)
 
-covers_cond : (best : Option Found) (test : Bool) (w : Written) (ws : List Written) → (test ≡ true → Covers best (found_of w)) → Covers best (least ws) → Covers best (least (cond test (w ∷ ws) ws))
+covers_cond : (best : Option Found) (test : Bool) (w : Written) (ws : List Written) → (test ≡ true → Covers best (found_of w)) → Covers best (least ws) →
+    Covers best (least (cond test (w ∷ ws) ws))
 covers_cond best true w ws h k = covers_both best (found_of w) (least ws) (h refl) k
 covers_cond best false w ws h k = k
 
-covers_unwanted : (best : Option Found) (last : Option ℕ) (n : ℕ) (ws : List Written) → (is_sooner best n && is_up_to last n) ≡ false → Each (IsAt n) ws → Covers best (least (up_to last ws))
+covers_unwanted : (best : Option Found) (last : Option ℕ) (n : ℕ) (ws : List Written) → (is_sooner best n && is_up_to last n) ≡ false → Each (IsAt n) ws →
+    Covers best (least (up_to last ws))
 covers_unwanted best last n [] h at = tt
 covers_unwanted best last n (w ∷ ws) h at = covers_cond best (is_up_to last w.stand) w (up_to last ws)
     (λ t. ⊎_elim
@@ -35,10 +37,13 @@ covers_unwanted best last n (w ∷ ws) h at = covers_cond best (is_up_to last w.
     (covers_unwanted best last n ws h at.1)
 
 -- nothing of what stands at an element is sooner where a fault there wouldn't be told
-pub skipped : (best : Option Found) (last : Option ℕ) (n : ℕ) (ws : List Written) → (is_sooner best n && is_up_to last n) ≡ false → Each (IsAt n) ws → soonest best last ws ≡ best
+pub skipped : (best : Option Found) (last : Option ℕ) (n : ℕ) (ws : List Written) → (is_sooner best n && is_up_to last n) ≡ false → Each (IsAt n) ws →
+    soonest best last ws ≡ best
 skipped best last n ws h at = covers_keeps best (least (up_to last ws)) (covers_unwanted best last n ws h at)
 
 -- and one that is right is none
-pub right_skipped : (best : Option Found) (last : Option ℕ) (w : Written) → expression_fault w.is_pattern w.text w.scope ≡ None → soonest best last (w ∷ []) ≡ best
+pub right_skipped : (best : Option Found) (last : Option ℕ) (w : Written) → expression_fault w.is_pattern w.text w.scope ≡ None →
+    soonest best last (w ∷ []) ≡ best
 right_skipped best last w h = covers_keeps best (least (up_to last (w ∷ [])))
-    (covers_cond best (is_up_to last w.stand) w [] (λ t. subst (Covers best) (sym (ap (λ (x : Option ExpressionFault). first_at w.stand (fault_of_written w x)) h)) tt) tt)
+    (covers_cond best (is_up_to last w.stand) w []
+    (λ t. subst (Covers best) (sym (ap (λ (x : Option ExpressionFault). first_at w.stand (fault_of_written w x)) h)) tt) tt)

@@ -90,7 +90,8 @@ fn judge_instance(
     instance: &Instance<'_, '_>,
 ) -> Result<(), AllocError>
     requires { spec.AreAll scopes.old (written.outer_scope file.now.entries) }
-    ensures goes { OnOk result ((first : Searched) → IsRead file.now → spec.IsBehind file.now first search.old (map seen_instance earlier.now) (seen_instance instance.now)
+    ensures goes { OnOk result ((first : Searched) → IsRead file.now →
+        spec.IsBehind file.now first search.old (map seen_instance earlier.now) (seen_instance instance.now)
         → spec.Goes search.old search.new (written.written_pattern file.now (written.outer_scope file.now.entries) (seen_instance instance.now))) }
     ensures scopes { OnOk result (spec.AreAll scopes.new (written.outer_scope file.now.entries)) }
 {
@@ -151,7 +152,8 @@ fn judge_pattern(
     instance: &Instance<'_, '_>,
 ) -> Result<(), AllocError>
     requires { spec.AreAll scopes.old (written.outer_scope file.now.entries) }
-    ensures goes { OnOk result (IsRead file.now → spec.Goes search.old search.new (written.written_pattern file.now (written.outer_scope file.now.entries) (seen_instance instance.now))) }
+    ensures goes { OnOk result (IsRead file.now → spec.Goes search.old search.new
+        (written.written_pattern file.now (written.outer_scope file.now.entries) (seen_instance instance.now))) }
     ensures scopes { OnOk result (spec.AreAll scopes.new (written.outer_scope file.now.entries)) }
 {
     let count = scopes.pattern.count();
@@ -190,7 +192,8 @@ fn judge_items(
 ) -> Result<(), AllocError>
     requires { scopes.old.rule ≡ scopes.old.all }
     ensures goes { OnOk result (IsRead file.now → spec.Goes search.old search.new
-        (written.written_items file.now (seen_instance instance.now) scopes.old.all scopes.old.pattern (inside written.is_let_or_rule file.now.entries instance.now.body))) }
+        (written.written_items file.now (seen_instance instance.now) scopes.old.all scopes.old.pattern
+        (inside written.is_let_or_rule file.now.entries instance.now.body))) }
     ensures pattern { OnOk result (scopes.new.pattern
         ≡ things.with_entries instance.now.params scopes.old.pattern (inside written.is_let_or_rule file.now.entries instance.now.body)) }
     ensures rule { OnOk result (scopes.new.rule ≡ scopes.old.rule) }

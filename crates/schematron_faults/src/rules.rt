@@ -32,7 +32,8 @@ pub(crate) fn judge_rule(
     rule: &Entry<'_>,
 ) -> Result<(), AllocError>
     requires { before.old ≡ all.old }
-    ensures goes { OnOk result (IsRead file.now → IsRule file.now.entries (seen_entry rule.now) → spec.Goes search.old search.new (written.written_rule file.now (seen_instance instance.now) all.old (seen_entry rule.now))) }
+    ensures goes { OnOk result (IsRead file.now → IsRule file.now.entries (seen_entry rule.now) →
+        spec.Goes search.old search.new (written.written_rule file.now (seen_instance instance.now) all.old (seen_entry rule.now))) }
     ensures before { OnOk result (before.new ≡ before.old) }
     ensures all { OnOk result (all.new ≡ all.old) }
 {
@@ -64,7 +65,8 @@ fn judge_context(
     scope: &Scope,
     rule: &Entry<'_>,
 ) -> Result<(), AllocError>
-    ensures { OnOk result (spec.Goes search.old search.new (written.written name.Context true instance.now.stand instance.now.params scope.now (seen_entry rule.now))) }
+    ensures { OnOk result (spec.Goes search.old search.new
+        (written.written name.Context true instance.now.stand instance.now.params scope.now (seen_entry rule.now))) }
 {
     let params = &instance.params;
     judge(
@@ -183,7 +185,8 @@ fn judge_parts(
     all: &Scope,
     e: &Entry<'_>,
 ) -> Result<(), AllocError>
-    ensures { OnOk result (spec.Goes search.old search.new (things.written_parts stand params.now all.now (inside is_part file.now.entries (seen_entry e.now).number))) }
+    ensures { OnOk result (spec.Goes search.old search.new
+        (things.written_parts stand params.now all.now (inside is_part file.now.entries (seen_entry e.now).number))) }
 {
     let number = e.node.number();
     let parts = file.inside_within(alloc, &mut search.turns, Sort::MessageParts, number)?;

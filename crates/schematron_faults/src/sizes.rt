@@ -53,7 +53,8 @@ fn take_entry(
 
 /// Counts a rule of an element.
 fn add_rule(sizes: &mut IndexMap<u32, Size>, parent: u32, assertions: u64) -> Result<(), AllocError>
-    ensures { OnOk result ((n : ℕ) → spec.size_found (get nat_eq sizes.new n) ≡ spec.grown_if (nat_eq parent n) (spec.size_found (get nat_eq sizes.old n)) assertions) }
+    ensures { OnOk result ((n : ℕ) → spec.size_found (get nat_eq sizes.new n) ≡ spec.grown_if (nat_eq parent n)
+        (spec.size_found (get nat_eq sizes.old n)) assertions) }
 {
     let old = size_at(sizes, parent);
     let new = Size {

@@ -14,10 +14,14 @@ unfolding chars
 information-ascii = refl
 
 abbrev said_by : Bool → Bool → Option Level
-said_by warning information = elim warning as (λ _. Option Level) [ true ↦ Some Warning | false ↦ elim information as (λ _. Option Level) [ true ↦ Some Information | false ↦ None ] ]
+said_by warning information = elim warning as (λ _. Option Level) [
+  | true ↦ Some Warning
+  | false ↦ elim information as (λ _. Option Level) [ true ↦ Some Information | false ↦ None ]
+]
 
 -- by the two comparisons of a word
-pub said : (word : List ℕ) (warning information : Bool) → warning ≡ bytes_eq word (chars (codes "warning")) → information ≡ bytes_eq word (chars (codes "information"))
+pub said : (word : List ℕ) (warning information : Bool) → warning ≡ bytes_eq word (chars (codes "warning")) →
+    information ≡ bytes_eq word (chars (codes "information"))
     → said_by warning information ≡ level_said word
 said word warning information p q =
     ap (λ b. said_by b information) (p ∙ ap (bytes_eq word) warning-ascii)

@@ -1,5 +1,6 @@
 -- Rules that were built: what one more changes, and what none is left for.
-use Rattle.std.proofs.Common.{◌≡◌, ℕ, zero, suc, ◌+◌, ◌-◌, ◌<◌, ◌≤◌, Bool, true, false, ◌&&◌, true≢false, List, [], ◌∷◌, ◌++◌, length, set, get_or, Option, Some, None, is_some, cond, refl, ap, sym, subst, ◌∙◌, append-nil, length-append, zero-add, arith, ◌⊎◌, inl, inr}
+use Rattle.std.proofs.Common.{◌≡◌, ℕ, zero, suc, ◌+◌, ◌-◌, ◌<◌, ◌≤◌, Bool, true, false, ◌&&◌, true≢false, List, [], ◌∷◌, ◌++◌, length, set, get_or, Option}
+use Rattle.std.proofs.Common.{Some, None, is_some, cond, refl, ap, sym, subst, ◌∙◌, append-nil, length-append, zero-add, arith, ◌⊎◌, inl, inr}
 use Rattle.std.specs.Prelude.{slice_get, nat_eq, nat_lt}
 use Rattle.std.specs.List.{list_all, flat_map}
 use Rattle.std.proofs.Math.ListN.{get_or-append}
@@ -15,7 +16,8 @@ use Rattle.schematron_graph.specs.declared.part.Part.TheVariants.{Own, Puts}
 use Rattle.schematron_graph.specs.declared.building.Put.{Put}
 use Rattle.schematron_graph.specs.Rules.{body_of, part_ends, most_depth, ends_within, ends, things_of, things_within, things_where, things_put, expansion}
 use Rattle.schematron_graph.specs.Ranked.{found, things_behind, is_below}
-use Rattle.schematron_graph.specs.Built.{parts_put, parts_found, built_body, is_built_found, is_built, is_ready, built_count, FitsRule, Fits, IsClosed, is_unbuilt_found, is_next, ranked_with, put_with}
+use Rattle.schematron_graph.specs.Built.{parts_put, parts_found, built_body, is_built_found, is_built, is_ready, built_count, FitsRule, Fits, IsClosed}
+use Rattle.schematron_graph.specs.Built.{is_unbuilt_found, is_next, ranked_with, put_with}
 use Rattle.schematron_graph.proofs.RankedLemmas.{and-left, and-right, and-both, behind-push, length-behind, things_of-Agrees}
 use Rattle.schematron_graph.proofs.DepthLemmas.{ends-le, things-le, absent-body, absent-ends, absent-things}
 
@@ -47,7 +49,8 @@ module _ (rules ranked : List (List Part)) (puts : List (Option Put)) (fits : Fi
   ready-things (Own thing ∷ body) e = ap (λ t. thing ∷ t) (ready-things body e)
   ready-things (Puts rule ∷ body) e =
       flat_map-append (things_of (found (things_behind ranked))) (parts_found (slice_get puts rule)) (built_body puts body)
-      ∙ (ap (λ t. t ++ flat_map (things_of (found (things_behind ranked))) (built_body puts body)) (things-found rule (slice_get puts rule) refl (and-left (is_built puts rule) (is_ready puts body) e))
+      ∙ (ap (λ t. t ++ flat_map (things_of (found (things_behind ranked))) (built_body puts body))
+      (things-found rule (slice_get puts rule) refl (and-left (is_built puts rule) (is_ready puts body) e))
       ∙ ap (λ t. things_within (most_depth rules) rules rule ++ t) (ready-things body (and-right (is_built puts rule) (is_ready puts body) e)))
 
   below-found : (rule : ℕ) (f : Option (Option Put)) → slice_get puts rule ≡ f → list_all (is_below (length ranked)) (parts_found f) ≡ true
@@ -68,12 +71,14 @@ module _ (rules ranked : List (List Part)) (puts : List (Option Put)) (fits : Fi
 behind-length : (ranked : List (List Part)) → length (things_behind ranked) ≡ length ranked
 behind-length ranked = length-behind things_of [] ranked ∙ zero-add (length ranked)
 
-found-kept : (ranked : List (List Part)) (parts : List Part) (k : ℕ) → k < length ranked → found (things_behind (ranked ++ parts ∷ [])) k ≡ found (things_behind ranked) k
+found-kept : (ranked : List (List Part)) (parts : List Part) (k : ℕ) → k < length ranked →
+    found (things_behind (ranked ++ parts ∷ [])) k ≡ found (things_behind ranked) k
 found-kept ranked parts k h =
     ap (λ t. found t k) (behind-push things_of [] ranked parts)
     ∙ get_or-append (things_behind ranked) (flat_map (things_of (found (things_behind ranked))) parts ∷ []) [] k (omega (arith, h, behind-length ranked))
 
-found-new : (ranked : List (List Part)) (parts : List Part) → found (things_behind (ranked ++ parts ∷ [])) (length ranked) ≡ flat_map (things_of (found (things_behind ranked))) parts
+found-new : (ranked : List (List Part)) (parts : List Part) →
+    found (things_behind (ranked ++ parts ∷ [])) (length ranked) ≡ flat_map (things_of (found (things_behind ranked))) parts
 found-new ranked parts =
     ap (λ t. found t (length ranked)) (behind-push things_of [] ranked parts)
     ∙ (ap (found (things_behind ranked ++ flat_map (things_of (found (things_behind ranked))) parts ∷ [])) (sym (behind-length ranked))
@@ -86,7 +91,8 @@ parts-kept ranked more (part ∷ parts) e =
     ap (λ t. t ++ flat_map (things_of (found (things_behind (ranked ++ more ∷ [])))) parts)
     (things_of-Agrees.below (found (things_behind (ranked ++ more ∷ []))) (found (things_behind ranked)) (length ranked) part
     (and-left (is_below (length ranked) part) (list_all (is_below (length ranked)) parts) e) (λ k h. found-kept ranked more k h))
-    ∙ ap (λ t. things_of (found (things_behind ranked)) part ++ t) (parts-kept ranked more parts (and-right (is_below (length ranked) part) (list_all (is_below (length ranked)) parts) e))
+    ∙ ap (λ t. things_of (found (things_behind ranked)) part ++ t)
+    (parts-kept ranked more parts (and-right (is_below (length ranked) part) (list_all (is_below (length ranked)) parts) e))
 
 pub ranked-kept : (ranked : List (List Part)) (more parts : List Part) → list_all (is_below (length ranked)) parts ≡ true
     → flat_map (things_of (found (things_behind (ranked_with ranked more)))) parts ≡ flat_map (things_of (found (things_behind ranked))) parts
@@ -95,10 +101,12 @@ ranked-kept ranked (one ∷ []) parts e = refl
 ranked-kept ranked (one ∷ two ∷ more) parts e = parts-kept ranked (one ∷ two ∷ more) parts e
 
 pub ranked-new : (ranked : List (List Part)) (parts : List Part)
-    → flat_map (things_of (found (things_behind (ranked_with ranked parts)))) (parts_put (put_with ranked parts)) ≡ flat_map (things_of (found (things_behind ranked))) parts
+    → flat_map (things_of (found (things_behind (ranked_with ranked parts)))) (parts_put (put_with ranked parts)) ≡ flat_map
+    (things_of (found (things_behind ranked))) parts
 ranked-new ranked [] = refl
 ranked-new ranked (one ∷ []) = refl
-ranked-new ranked (one ∷ two ∷ parts) = append-nil (found (things_behind (ranked ++ (one ∷ two ∷ parts) ∷ [])) (length ranked)) ∙ found-new ranked (one ∷ two ∷ parts)
+ranked-new ranked (one ∷ two ∷ parts) = append-nil (found (things_behind (ranked ++ (one ∷ two ∷ parts) ∷ [])) (length ranked)) ∙
+    found-new ranked (one ∷ two ∷ parts)
 
 ranked-longer : (ranked : List (List Part)) (parts : List Part) → length ranked ≤ length (ranked_with ranked parts)
 ranked-longer ranked [] = omega arith
@@ -109,18 +117,21 @@ below-le : (m n : ℕ) → m ≤ n → (parts : List Part) → list_all (is_belo
 below-le m n h [] e = refl
 below-le m n h (Own thing ∷ parts) e = below-le m n h parts e
 below-le m n h (Puts rule ∷ parts) e =
-    and-both (nat_lt rule n) (list_all (is_below n) parts) (less (and-left (nat_lt rule m) (list_all (is_below m) parts) e)) (below-le m n h parts (and-right (nat_lt rule m) (list_all (is_below m) parts) e))
+    and-both (nat_lt rule n) (list_all (is_below n) parts) (less (and-left (nat_lt rule m) (list_all (is_below m) parts) e))
+    (below-le m n h parts (and-right (nat_lt rule m) (list_all (is_below m) parts) e))
   where
     less : nat_lt rule m ≡ true → nat_lt rule n ≡ true
     less l = grind (arith, nat_tests)
 
-pub kept-below : (ranked : List (List Part)) (more parts : List Part) → list_all (is_below (length ranked)) parts ≡ true → list_all (is_below (length (ranked_with ranked more))) parts ≡ true
+pub kept-below : (ranked : List (List Part)) (more parts : List Part) → list_all (is_below (length ranked)) parts ≡ true →
+    list_all (is_below (length (ranked_with ranked more))) parts ≡ true
 kept-below ranked more parts e = below-le (length ranked) (length (ranked_with ranked more)) (ranked-longer ranked more) parts e
 
 last-below : (n m : ℕ) → m ≡ n + 1 → nat_lt n m ≡ true
 last-below n m e = grind (arith, nat_tests)
 
-pub new-below : (ranked : List (List Part)) (parts : List Part) → list_all (is_below (length ranked)) parts ≡ true → list_all (is_below (length (ranked_with ranked parts))) (parts_put (put_with ranked parts)) ≡ true
+pub new-below : (ranked : List (List Part)) (parts : List Part) → list_all (is_below (length ranked)) parts ≡ true →
+    list_all (is_below (length (ranked_with ranked parts))) (parts_put (put_with ranked parts)) ≡ true
 new-below ranked [] e = refl
 new-below ranked (one ∷ []) e = e
 new-below ranked (one ∷ two ∷ parts) e =
@@ -138,7 +149,8 @@ get-set (a ∷ xs) (suc k) (suc j) x y e = elim (get-set xs k j x y e) [ inl h �
 count-more : (puts : List (Option Put)) (rule : ℕ) (put : Put) → slice_get puts rule ≡ Some None → built_count (set puts rule (Some put)) ≡ built_count puts + 1
 count-more puts rule put e =
     let f : Option Put → ℕ = λ x. cond (is_some x) 1 0 in
-    let s : built_count (set puts rule (Some put)) + f (get_or puts rule None) ≡ built_count puts + 1 = sum_by-set f puts rule (Some put) None (slice_get_within puts rule None e) in
+    let s : built_count (set puts rule (Some put)) + f (get_or puts rule None) ≡ built_count puts + 1 =
+    sum_by-set f puts rule (Some put) None (slice_get_within puts rule None e) in
     let n : f (get_or puts rule None) ≡ 0 = ap f (get_or_from_slice_get puts rule None None e) in
     omega (arith, s, n)
 
@@ -147,7 +159,8 @@ unbuilt-found None e = absurd (true≢false (sym e))
 unbuilt-found (Some None) e = refl
 unbuilt-found (Some (Some put)) e = absurd (true≢false (sym e))
 
-module _ (rules ranked : List (List Part)) (puts : List (Option Put)) (fits : Fits rules ranked puts) (rule : ℕ) (unbuilt : slice_get puts rule ≡ Some None) (ready : is_ready puts (body_of rules rule) ≡ true) where
+module _ (rules ranked : List (List Part)) (puts : List (Option Put)) (fits : Fits rules ranked puts) (rule : ℕ) (unbuilt : slice_get puts rule ≡ Some None)
+    (ready : is_ready puts (body_of rules rule) ≡ true) where
   abbrev parts : List Part
   parts = built_body puts (body_of rules rule)
 
@@ -173,7 +186,8 @@ module _ (rules ranked : List (List Part)) (puts : List (Option Put)) (fits : Fi
   things-new =
       ranked-new ranked parts
       ∙ (ready-things rules ranked puts fits (body_of rules rule) ready
-      ∙ sym (things-le (most_depth rules) (suc (most_depth rules)) (omega arith) rules rule (ends-le (suc (built_count after)) (most_depth rules) (omega (arith, count-within)) rules rule ends-new)))
+      ∙ sym (things-le (most_depth rules) (suc (most_depth rules)) (omega arith) rules rule
+      (ends-le (suc (built_count after)) (most_depth rules) (omega (arith, count-within)) rules rule ends-new)))
 
   fits-new : FitsRule rules (ranked_with ranked parts) (built_count after) rule put
   fits-new = record { ends_there = ends-new; below = new-below ranked parts (built-below rules ranked puts fits (body_of rules rule)); things = things-new }
@@ -212,21 +226,25 @@ and_false false = refl
 not_all-later : (a built ready all : Bool) → built ≡ true → (built && ready) ≡ false → (ready ≡ false → all ≡ false) → (a && all) ≡ false
 not_all-later a built ready all t e h = ap (λ b. a && b) (h (ap (λ b. b && ready) (sym t) ∙ e)) ∙ and_false a
 
-not_all-by : (puts : List (Option Put)) (rule : ℕ) (a ready all : Bool) (f : Option (Option Put)) → slice_get puts rule ≡ f → (slice_get puts rule ≡ Some None → a ≡ false)
+not_all-by : (puts : List (Option Put)) (rule : ℕ) (a ready all : Bool) (f : Option (Option Put)) → slice_get puts rule ≡ f →
+    (slice_get puts rule ≡ Some None → a ≡ false)
     → (is_built puts rule && ready) ≡ false → (ready ≡ false → all ≡ false) → (a && all) ≡ false
 not_all-by puts rule a ready all None k none e h = not_all-later a (is_built puts rule) ready all (ap is_built_found k) e h
 not_all-by puts rule a ready all (Some None) k none e h = ap (λ b. b && all) (none k)
 not_all-by puts rule a ready all (Some (Some put)) k none e h = not_all-later a (is_built puts rule) ready all (ap is_built_found k) e h
 
-not_all : (test : ℕ → Bool) (puts : List (Option Put)) (body : List Part) → ((x : ℕ) → slice_get puts x ≡ Some None → test x ≡ false) → is_ready puts body ≡ false → list_all (part_ends test) body ≡ false
+not_all : (test : ℕ → Bool) (puts : List (Option Put)) (body : List Part) → ((x : ℕ) → slice_get puts x ≡ Some None → test x ≡ false) →
+    is_ready puts body ≡ false → list_all (part_ends test) body ≡ false
 not_all test puts [] h e = absurd (true≢false e)
 not_all test puts (Own thing ∷ body) h e = not_all test puts body h e
 not_all test puts (Puts rule ∷ body) h e =
     not_all-by puts rule (test rule) (is_ready puts body) (list_all (part_ends test) body) (slice_get puts rule) refl (h rule) e (not_all test puts body h)
 
-not-ends : (rules : List (List Part)) (puts : List (Option Put)) → IsClosed rules puts → (depth rule : ℕ) → slice_get puts rule ≡ Some None → ends_within depth rules rule ≡ false
+not-ends : (rules : List (List Part)) (puts : List (Option Put)) → IsClosed rules puts → (depth rule : ℕ) → slice_get puts rule ≡ Some None →
+    ends_within depth rules rule ≡ false
 not-ends rules puts closed zero rule e = refl
-not-ends rules puts closed (suc depth) rule e = not_all (ends_within depth rules) puts (body_of rules rule) (λ x h. not-ends rules puts closed depth x h) (closed rule e)
+not-ends rules puts closed (suc depth) rule e = not_all (ends_within depth rules) puts (body_of rules rule) (λ x h. not-ends rules puts closed depth x h)
+    (closed rule e)
 
 -- Once no rule is left
 
@@ -244,9 +262,11 @@ module _ (rules ranked : List (List Part)) (puts : List (Option Put)) (fits : Fi
   pub built-ends : (rule : ℕ) → is_built puts rule ≡ ends rules rule
   built-ends rule = ends-by rule (slice_get puts rule) refl
 
-  put-by : (rule : ℕ) (f : Option (Option Put)) → slice_get puts rule ≡ f → flat_map (things_of (found (things_behind ranked))) (parts_found f) ≡ things_put rules rule
+  put-by : (rule : ℕ) (f : Option (Option Put)) → slice_get puts rule ≡ f →
+      flat_map (things_of (found (things_behind ranked))) (parts_found f) ≡ things_put rules rule
   put-by rule None e =
-      sym (ap (λ b. things_where b (most_depth rules) rules rule) (sym (built-ends rule) ∙ ap is_built_found e) ∙ absent-things rules rule (length rules) (absent-body puts rules rule fits.whole e))
+      sym (ap (λ b. things_where b (most_depth rules) rules rule) (sym (built-ends rule) ∙ ap is_built_found e) ∙
+      absent-things rules rule (length rules) (absent-body puts rules rule fits.whole e))
   put-by rule (Some None) e = sym (ap (λ b. things_where b (most_depth rules) rules rule) (sym (built-ends rule) ∙ ap is_built_found e))
   put-by rule (Some (Some put)) e =
       let r : FitsRule rules ranked (built_count puts) rule put = fits.each rule put e in
@@ -262,7 +282,8 @@ module _ (rules ranked : List (List Part)) (puts : List (Option Put)) (fits : Fi
 
 -- Loops
 
-pub next-parts : (rules : List (List Part)) (puts : List (Option Put)) (rule : ℕ) → is_next rules puts rule ≡ true → (slice_get puts rule ≡ Some None) × (is_ready puts (body_of rules rule) ≡ true)
+pub next-parts : (rules : List (List Part)) (puts : List (Option Put)) (rule : ℕ) → is_next rules puts rule ≡ true → (slice_get puts rule ≡ Some None) ×
+    (is_ready puts (body_of rules rule) ≡ true)
 next-parts rules puts rule e = (
   unbuilt-found (slice_get puts rule) (and-left (is_unbuilt_found (slice_get puts rule)) (is_ready puts (body_of rules rule)) e),
   and-right (is_unbuilt_found (slice_get puts rule)) (is_ready puts (body_of rules rule)) e,
@@ -272,7 +293,8 @@ next-parts rules puts rule e = (
 abbrev pub NoneNext : List (List Part) → List (Option Put) → ℕ → Type 0
 NoneNext rules puts n = (rule : ℕ) → rule < n → is_next rules puts rule ≡ false
 
-pub none-more : (rules : List (List Part)) (puts : List (Option Put)) (n : ℕ) → NoneNext rules puts n → is_next rules puts n ≡ false → NoneNext rules puts (n + 1)
+pub none-more : (rules : List (List Part)) (puts : List (Option Put)) (n : ℕ) → NoneNext rules puts n → is_next rules puts n ≡ false →
+    NoneNext rules puts (n + 1)
 none-more rules puts n h e = λ rule l. by rule l (nat_eq rule n) refl
   where
     by : (rule : ℕ) → rule < n + 1 → (b : Bool) → nat_eq rule n ≡ b → is_next rules puts rule ≡ false
@@ -281,21 +303,27 @@ none-more rules puts n h e = λ rule l. by rule l (nat_eq rule n) refl
 
 pub none-closed : (rules : List (List Part)) (puts : List (Option Put)) (n : ℕ) → length puts ≤ n → NoneNext rules puts n → IsClosed rules puts
 none-closed rules puts n h none = λ rule e.
-    ap (λ f. is_unbuilt_found f && is_ready puts (body_of rules rule)) (sym e) ∙ none rule (let l : rule < length puts = slice_get_within puts rule None e in omega (arith, l, h))
+    ap (λ f. is_unbuilt_found f && is_ready puts (body_of rules rule)) (sym e) ∙
+    none rule (let l : rule < length puts = slice_get_within puts rule None e in omega (arith, l, h))
 
-pub fewer-unbuilt : (rules ranked : List (List Part)) (before after : List (Option Put)) (n m k : ℕ) → n ≡ length rules → Fits rules ranked after → m ≡ built_count before → k ≡ m + 1 → k ≡ built_count after → n - k < n - m
+pub fewer-unbuilt : (rules ranked : List (List Part)) (before after : List (Option Put)) (n m k : ℕ) → n ≡ length rules → Fits rules ranked after →
+    m ≡ built_count before → k ≡ m + 1 → k ≡ built_count after → n - k < n - m
 fewer-unbuilt rules ranked before after n m k e fits a b c =
     let h : built_count after ≤ length after = count_by-le-length is_some after in
     omega (arith, e, fits.whole, a, b, c, h)
 
 -- a rule built
-pub build-fits : (rules ranked ranked_after : List (List Part)) (puts puts_after : List (Option Put)) (rule : ℕ) (made : List Part) (put_there : Put) → Fits rules ranked puts → is_next rules puts rule ≡ true
-    → made ≡ built_body puts (body_of rules rule) → ranked_after ≡ ranked_with ranked made → put_there ≡ put_with ranked made → puts_after ≡ set puts rule (Some put_there)
+pub build-fits : (rules ranked ranked_after : List (List Part)) (puts puts_after : List (Option Put)) (rule : ℕ) (made : List Part) (put_there : Put) →
+    Fits rules ranked puts → is_next rules puts rule ≡ true
+    → made ≡ built_body puts (body_of rules rule) → ranked_after ≡ ranked_with ranked made → put_there ≡ put_with ranked made →
+    puts_after ≡ set puts rule (Some put_there)
     → Fits rules ranked_after puts_after × (built_count puts_after ≡ built_count puts + 1)
 build-fits rules ranked ranked_after puts puts_after rule made put_there fits next p q r s =
     let n = next-parts rules puts rule next in
     let e : ranked_after ≡ ranked_with ranked (built_body puts (body_of rules rule)) = q ∙ ap (ranked_with ranked) p in
-    let f : puts_after ≡ set puts rule (Some (put_with ranked (built_body puts (body_of rules rule)))) = s ∙ ap (λ x. set puts rule (Some x)) (r ∙ ap (put_with ranked) p) in (
-      subst (λ x. Fits rules x puts_after) (sym e) (subst (λ x. Fits rules (ranked_with ranked (built_body puts (body_of rules rule))) x) (sym f) (Fits-more rules ranked puts fits rule n.0 n.1)),
+    let f : puts_after ≡ set puts rule (Some (put_with ranked (built_body puts (body_of rules rule)))) = s ∙
+    ap (λ x. set puts rule (Some x)) (r ∙ ap (put_with ranked) p) in (
+      subst (λ x. Fits rules x puts_after) (sym e) (subst (λ x. Fits rules (ranked_with ranked (built_body puts (body_of rules rule))) x) (sym f)
+          (Fits-more rules ranked puts fits rule n.0 n.1)),
       ap built_count f ∙ count-after rules ranked puts fits rule n.0 n.1,
     )

@@ -1,5 +1,6 @@
 -- Bodies in their order: what is found stays found, and fits its body.
-use Rattle.std.proofs.Common.{◌≡◌, ℕ, zero, suc, ◌+◌, add-zero, ◌<◌, Bool, true, false, ◌&&◌, List, [], ◌∷◌, ◌++◌, length, refl, ap, sym, ◌∙◌, length-append, zero-add, arith}
+use Rattle.std.proofs.Common.{◌≡◌, ℕ, zero, suc, ◌+◌, add-zero, ◌<◌, Bool, true, false, ◌&&◌, List, [], ◌∷◌, ◌++◌, length, refl, ap, sym, ◌∙◌, length-append}
+use Rattle.std.proofs.Common.{zero-add, arith}
 use Rattle.std.specs.List.{list_all, flat_map}
 use Rattle.std.specs.Prelude.{map, Vec, Result, Ok, Err, OnOk, OnErr}
 use Rattle.std.proofs.Math.ListN.{get_or-append}
@@ -57,7 +58,8 @@ are_ranked-push rank (first ∷ bodies) body p q =
 pub record Agrees {A : Type 0} (value : (ℕ → List A) → Part → List A) : Type 0 where
   pub below : (g h : ℕ → List A) (rank : ℕ) (part : Part) → is_below rank part ≡ true → ((k : ℕ) → k < rank → g k ≡ h k) → value g part ≡ value h part
 
-things_of-below : (g h : ℕ → List Thing) (rank : ℕ) (part : Part) → is_below rank part ≡ true → ((k : ℕ) → k < rank → g k ≡ h k) → things_of g part ≡ things_of h part
+things_of-below : (g h : ℕ → List Thing) (rank : ℕ) (part : Part) → is_below rank part ≡ true → ((k : ℕ) → k < rank → g k ≡ h k) →
+    things_of g part ≡ things_of h part
 things_of-below g h rank (Own thing) e same = refl
 things_of-below g h rank (Puts rule) e same = same rule (grind (arith, nat_tests))
 
@@ -81,7 +83,8 @@ flat_map-below : {A : Type 0} (value : (ℕ → List A) → Part → List A) →
 flat_map-below value agrees g h rank [] e same = refl
 flat_map-below value agrees g h rank (part ∷ body) e same =
     let here : value g part ≡ value h part = agrees.below g h rank part (and-left (is_below rank part) (list_all (is_below rank) body) e) same in
-    let later : flat_map (value g) body ≡ flat_map (value h) body = flat_map-below value agrees g h rank body (and-right (is_below rank part) (list_all (is_below rank) body) e) same in
+    let later : flat_map (value g) body ≡ flat_map (value h) body =
+    flat_map-below value agrees g h rank body (and-right (is_below rank part) (list_all (is_below rank) body) e) same in
     cc
 
 -- what was found before stays
@@ -91,7 +94,8 @@ behind-earlier value so_far [] k h = refl
 behind-earlier value so_far (body ∷ bodies) k h =
     let v : List (List _) = flat_map (value (found so_far)) body ∷ [] in
     behind-earlier value (so_far ++ flat_map (value (found so_far)) body ∷ []) bodies k
-    (let e : length (so_far ++ flat_map (value (found so_far)) body ∷ []) ≡ length so_far + 1 = length-append so_far (flat_map (value (found so_far)) body ∷ []) in omega arith)
+    (let e : length (so_far ++ flat_map (value (found so_far)) body ∷ []) ≡ length so_far + 1 =
+    length-append so_far (flat_map (value (found so_far)) body ∷ []) in omega arith)
     ∙ get_or-append so_far (flat_map (value (found so_far)) body ∷ []) [] k h
 
 -- What is found of a rule fits its body.
@@ -103,7 +107,8 @@ behind-fits value agrees so_far (body ∷ bodies) zero e =
     let v : List _ = flat_map (value (found so_far)) body in
     let final : List (List _) = behind value (so_far ++ v ∷ []) bodies in
     ap (found final) (add-zero (length so_far))
-    ∙ (behind-earlier value (so_far ++ v ∷ []) bodies (length so_far) (let e : length (so_far ++ v ∷ []) ≡ length so_far + 1 = length-append so_far (v ∷ []) in omega arith)
+    ∙ (behind-earlier value (so_far ++ v ∷ []) bodies (length so_far) (let e : length (so_far ++ v ∷ []) ≡ length so_far + 1 = length-append so_far (v ∷ []) in
+    omega arith)
     ∙ (get_or-append_seam so_far v [] []
     ∙ flat_map-below value agrees (found so_far) (found final) (length so_far) body
     (and-left (list_all (is_below (length so_far)) body) (are_ranked (length so_far + 1) bodies) e)
@@ -132,12 +137,14 @@ counts-push (first ∷ things) last = ap (λ t. count_of first ∷ t) (counts-pu
 Sized-more : {Z : Type 0} (bodies after : List (Vec Part Z)) (sizes sizes_after : List ℕ) (body : Vec Part Z)
     → Sized bodies sizes → list_all (is_below (length (bodies_of bodies))) body.items ≡ true
     → after ≡ bodies ++ body ∷ []
-    → ((things : List (List Thing)) → sizes ≡ map count_of things → sizes_after ≡ map count_of things ++ count_of (flat_map (things_of (found things)) body.items) ∷ [])
+    → ((things : List (List Thing)) → sizes ≡ map count_of things → sizes_after ≡ map count_of things ++
+    count_of (flat_map (things_of (found things)) body.items) ∷ [])
     → Sized after sizes_after
 Sized-more bodies after sizes sizes_after body held below p q =
     let all : bodies_of after ≡ bodies_of bodies ++ body.items ∷ [] = ap bodies_of p ∙ bodies_of-push bodies body in
     let things : List (List Thing) = things_behind (bodies_of bodies) in (
-      ap (are_ranked 0) all ∙ are_ranked-push 0 (bodies_of bodies) body.items held.0 (ap (λ n. list_all (is_below n) body.items) (zero-add (length (bodies_of bodies))) ∙ below),
+      ap (are_ranked 0) all ∙ are_ranked-push 0 (bodies_of bodies) body.items held.0
+          (ap (λ n. list_all (is_below n) body.items) (zero-add (length (bodies_of bodies))) ∙ below),
       q things held.1
           ∙ (sym (counts-push things (flat_map (things_of (found things)) body.items))
           ∙ ap (map count_of) (sym (ap things_behind all ∙ behind-push things_of [] (bodies_of bodies) body.items))),
@@ -146,7 +153,8 @@ Sized-more bodies after sizes sizes_after body held below p q =
 pub Sized-push : {Z T E : Type 0} (result : Result T E) (bodies after : List (Vec Part Z)) (sizes sizes_after : List ℕ) (body : Vec Part Z)
     → Sized bodies sizes → list_all (is_below (length (bodies_of bodies))) body.items ≡ true
     → OnOk result (after ≡ bodies ++ body ∷ [])
-    → OnOk result ((things : List (List Thing)) → sizes ≡ map count_of things → sizes_after ≡ map count_of things ++ count_of (flat_map (things_of (found things)) body.items) ∷ [])
+    → OnOk result ((things : List (List Thing)) → sizes ≡ map count_of things → sizes_after ≡ map count_of things ++
+    count_of (flat_map (things_of (found things)) body.items) ∷ [])
     → OnErr result ((after ≡ bodies) × (sizes_after ≡ sizes))
     → Sized after sizes_after
 Sized-push (Ok x) bodies after sizes sizes_after body held below p q r = Sized-more bodies after sizes sizes_after body held below p q

@@ -1,6 +1,7 @@
 -- A walk through ranked bodies: what is still to come at a place, and at the places above to which it goes back, the
 -- last of them first.
-use Rattle.std.proofs.Common.{◌≡◌, ℕ, zero, suc, ◌+◌, true, List, [], ◌∷◌, ◌++◌, length, Some, None, drop, refl, ap, sym, ◌∙◌, add-one, zero-add, append_assoc, append-nil, length-append, arith}
+use Rattle.std.proofs.Common.{◌≡◌, ℕ, zero, suc, ◌+◌, true, List, [], ◌∷◌, ◌++◌, length, Some, None, drop, refl, ap, sym, ◌∙◌, add-one, zero-add, append_assoc}
+use Rattle.std.proofs.Common.{append-nil, length-append, arith}
 use Rattle.std.specs.List.{flat_map}
 use Rattle.std.specs.Prelude.{slice_get}
 use Rattle.schematron_graph.specs.declared.part.Thing.{Thing}
@@ -61,7 +62,8 @@ rest-first value agrees bodies rule e =
     ap (found (behind value [] bodies)) (sym (zero-add rule)) ∙ behind-fits value agrees [] bodies rule e
 
 abbrev pub things_left : List (List Part) → Place → List Place → List Thing
-things_left bodies place above = let value : Part → List Thing = things_of (found (things_behind bodies)) in rest_of value bodies place ++ to_come value bodies above
+things_left bodies place above = let value : Part → List Thing = things_of (found (things_behind bodies)) in rest_of value bodies place ++
+    to_come value bodies above
 
 abbrev pub turn_value : List (List Part) → Part → List ℕ
 turn_value bodies = turns_of (found (behind turns_of [] bodies))
@@ -74,7 +76,8 @@ pub things_left-own : (bodies : List (List Part)) (place : Place) (above : List 
     → slice_get (body_of bodies place.rank) place.next ≡ Some (Own thing)
     → things_left bodies place above ≡ thing ∷ things_left bodies (behind_one place) above
 things_left-own bodies place above thing e =
-    ap (λ t. t ++ to_come (things_of (found (things_behind bodies))) bodies above) (rest-part (things_of (found (things_behind bodies))) bodies place (Own thing) e)
+    ap (λ t. t ++ to_come (things_of (found (things_behind bodies))) bodies above)
+    (rest-part (things_of (found (things_behind bodies))) bodies place (Own thing) e)
 
 pub things_left-puts : (bodies : List (List Part)) (place : Place) (above : List Place) (rule : ℕ) → are_ranked 0 bodies ≡ true
     → slice_get (body_of bodies place.rank) place.next ≡ Some (Puts rule)
@@ -82,7 +85,8 @@ pub things_left-puts : (bodies : List (List Part)) (place : Place) (above : List
 things_left-puts bodies place above rule ranked e =
     let value : Part → List Thing = things_of (found (things_behind bodies)) in
     let later : Place = behind_one place in
-    ap (λ t. t ++ to_come value bodies above) (rest-part value bodies place (Puts rule) e ∙ ap (λ t. t ++ rest_of value bodies later) (rest-first things_of things_of-Agrees bodies rule ranked))
+    ap (λ t. t ++ to_come value bodies above) (rest-part value bodies place (Puts rule) e ∙
+    ap (λ t. t ++ rest_of value bodies later) (rest-first things_of things_of-Agrees bodies rule ranked))
     ∙ (append_assoc (rest_of value bodies (first_of rule)) (rest_of value bodies later) (to_come value bodies above)
     ∙ ap (λ t. rest_of value bodies (first_of rule) ++ t) (sym (to_come-push value bodies above later)))
 
@@ -96,7 +100,8 @@ things_left-back bodies place last above e =
 pub things_left-end : (bodies : List (List Part)) (place : Place)
     → slice_get (body_of bodies place.rank) place.next ≡ None → things_left bodies place [] ≡ []
 things_left-end bodies place e =
-    append-nil (rest_of (things_of (found (things_behind bodies))) bodies place) ∙ rest-end (things_of (found (things_behind bodies))) (body_of bodies place.rank) place.next e
+    append-nil (rest_of (things_of (found (things_behind bodies))) bodies place) ∙
+    rest-end (things_of (found (things_behind bodies))) (body_of bodies place.rank) place.next e
 
 pub turns_left-own : (bodies : List (List Part)) (place : Place) (above : List Place) (thing : Thing)
     → slice_get (body_of bodies place.rank) place.next ≡ Some (Own thing)
@@ -116,12 +121,15 @@ pub turns_left-puts : (bodies : List (List Part)) (place : Place) (above : List 
 turns_left-puts bodies place above rule ranked e =
     let value : Part → List ℕ = turn_value bodies in
     let later : Place = behind_one place in
-    let all : rest_of value bodies place ++ to_come value bodies above ≡ 0 ∷ 0 ∷ (rest_of value bodies (first_of rule) ++ to_come value bodies (above ++ later ∷ [])) =
-    ap (λ t. t ++ to_come value bodies above) (rest-part value bodies place (Puts rule) e ∙ ap (λ t. (0 ∷ 0 ∷ t) ++ rest_of value bodies later) (rest-first turns_of turns_of-Agrees bodies rule ranked))
+    let all : rest_of value bodies place ++ to_come value bodies above ≡ 0 ∷ 0 ∷ (rest_of value bodies (first_of rule) ++
+    to_come value bodies (above ++ later ∷ [])) =
+    ap (λ t. t ++ to_come value bodies above) (rest-part value bodies place (Puts rule) e ∙
+    ap (λ t. (0 ∷ 0 ∷ t) ++ rest_of value bodies later) (rest-first turns_of turns_of-Agrees bodies rule ranked))
     ∙ ap (λ t. 0 ∷ 0 ∷ t) (append_assoc (rest_of value bodies (first_of rule)) (rest_of value bodies later) (to_come value bodies above)
     ∙ ap (λ t. rest_of value bodies (first_of rule) ++ t) (sym (to_come-push value bodies above later))) in
     let long : length (above ++ later ∷ []) ≡ length above + 1 = length-append above (later ∷ []) in
-    let same : length (rest_of value bodies place ++ to_come value bodies above) ≡ length (rest_of value bodies (first_of rule) ++ to_come value bodies (above ++ later ∷ [])) + 2 = ap length all ∙ two_more _ in
+    let same : length (rest_of value bodies place ++ to_come value bodies above) ≡ length
+    (rest_of value bodies (first_of rule) ++ to_come value bodies (above ++ later ∷ [])) + 2 = ap length all ∙ two_more _ in
     omega arith
 
 pub turns_left-back : (bodies : List (List Part)) (place last : Place) (above : List Place)
@@ -129,7 +137,9 @@ pub turns_left-back : (bodies : List (List Part)) (place last : Place) (above : 
     → turns_left bodies place (above ++ last ∷ []) ≡ turns_left bodies last above + 1
 turns_left-back bodies place last above e =
     let value : Part → List ℕ = turn_value bodies in
-    let all : length (rest_of value bodies place ++ to_come value bodies (above ++ last ∷ [])) ≡ length (rest_of value bodies last ++ to_come value bodies above) =
-    ap length (ap (λ t. t ++ to_come value bodies (above ++ last ∷ [])) (rest-end value (body_of bodies place.rank) place.next e) ∙ to_come-push value bodies above last) in
+    let all : length (rest_of value bodies place ++ to_come value bodies (above ++ last ∷ [])) ≡ length
+    (rest_of value bodies last ++ to_come value bodies above) =
+    ap length (ap (λ t. t ++ to_come value bodies (above ++ last ∷ [])) (rest-end value (body_of bodies place.rank) place.next e) ∙
+    to_come-push value bodies above last) in
     let long : length (above ++ last ∷ []) ≡ length above + 1 = length-append above (last ∷ []) in
     omega arith

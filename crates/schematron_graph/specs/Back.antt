@@ -1,6 +1,7 @@
 -- The first part that leads back to its own rule, and what proves that one is: labels that rise along no part, and a
 -- way back.
-use Rattle.std.specs.Prelude.{◌≡◌, ℕ, zero, suc, ◌<◌, Bool, true, false, nat_eq, nat_le, List, [], ◌∷◌, length, map, take, slice_get, slice_index_or, Option, Some, None}
+use Rattle.std.specs.Prelude.{◌≡◌, ℕ, zero, suc, ◌<◌, Bool, true, false, nat_eq, nat_le, List, [], ◌∷◌, length, map, take, slice_get, slice_index_or, Option}
+use Rattle.std.specs.Prelude.{Some, None}
 use Rattle.std.specs.List.{list_all, list_any}
 use Rattle.schematron_graph.specs.declared.part.Part.{Part}
 use Rattle.schematron_graph.specs.declared.part.Part.TheVariants.{Own, Puts}

@@ -47,7 +47,8 @@ fn push_first(
     found: &mut Vec<Thing>,
     thing: Thing,
 ) -> Result<(), AllocError>
-    ensures { OnOk result ((things : List Thing) → found.new.items ++ firsts_behind told.new.keys things ≡ found.old.items ++ firsts_behind told.old.keys (thing ∷ things)) }
+    ensures { OnOk result ((things : List Thing) → found.new.items ++ firsts_behind told.new.keys things ≡ found.old.items ++
+        firsts_behind told.old.keys (thing ∷ things)) }
 {
     if told.insert(thing.number)? {
         found.push(thing)?;

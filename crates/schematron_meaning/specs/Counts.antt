@@ -80,4 +80,5 @@ abbrev pub passes : ℕ → ℕ → ℕ → Bool
 passes limit before after = nat_le before limit && nat_lt limit after
 
 abbrev pub passes_any : Tally → Tally → Bool
-passes_any before after = passes most_patterns before.patterns after.patterns || (passes most_rules before.rules after.rules || passes most_assertions before.assertions after.assertions)
+passes_any before after = passes most_patterns before.patterns after.patterns ||
+    (passes most_rules before.rules after.rules || passes most_assertions before.assertions after.assertions)

@@ -126,7 +126,12 @@ named_role parent (Some name) given = element_role parent name given
 
 -- a node in one of the role
 abbrev pub role_of : Role → Node → List Given → Role
-role_of parent node given = elim node.kind [ kinds.Document ↦ r.Outside | kinds.Element ↦ named_role parent node.name given | kinds.Attribute ↦ r.Passed | kinds.Text ↦ text_role parent ]
+role_of parent node given = elim node.kind [
+  | kinds.Document ↦ r.Outside
+  | kinds.Element ↦ named_role parent node.name given
+  | kinds.Attribute ↦ r.Passed
+  | kinds.Text ↦ text_role parent
+]
 
 -- The scan
 

@@ -1,6 +1,7 @@
 -- The first fault of a rule file: the first in document order of the elements at which they stand, at one element in
 -- the order of the kinds, and of one kind by attribute.
-use Rattle.std.specs.Prelude.{ℕ, Bool, true, false, ◌&&◌, nat_eq, nat_lt, List, [], ◌∷◌, ◌++◌, length, filter, flat_map, Option, Some, None, Result, Ok, Err, encode_utf8_all}
+use Rattle.std.specs.Prelude.{ℕ, Bool, true, false, ◌&&◌, nat_eq, nat_lt, List, [], ◌∷◌, ◌++◌, length, filter, flat_map, Option, Some, None, Result, Ok, Err}
+use Rattle.std.specs.Prelude.{encode_utf8_all}
 use Rattle.xpath_tokens.specs.declared.token.SyntaxFault.{SyntaxFault}
 use Rattle.xpath_tokens.specs.declared.token.SyntaxFault.TheVariants as f
 use Rattle.xpath_tokens.specs.Tokens.{most_bytes, answer_of_characters}

@@ -24,7 +24,10 @@ has_id name phase = elim phase.id [ None ↦ false | Some id ↦ bytes_eq id nam
 -- the first phase of the name from one on, of which the number is given
 abbrev pub phase_from : List ℕ → ℕ → List Phase → Option Active
 phase_from name n [] = None
-phase_from name n (phase ∷ phases) = elim (has_id name phase) [ true ↦ Some (record { phase = Some n; patterns = phase.patterns }) | false ↦ phase_from name (suc n) phases ]
+phase_from name n (phase ∷ phases) = elim (has_id name phase) [
+  | true ↦ Some (record { phase = Some n; patterns = phase.patterns })
+  | false ↦ phase_from name (suc n) phases
+]
 
 abbrev pub by_name : Rules → List ℕ → Option Active
 by_name rules name = elim (bytes_eq name all_phases) [ true ↦ Some (all_active rules) | false ↦ phase_from name 0 rules.phases ]

@@ -127,7 +127,15 @@ abbrev pub assertion_of : List Entry → List Parameter → Declared → Entry �
 assertion_of es params scope e =
     let flag : Option (List ℕ) = text_at a.Flag params e in
     let role : Option (List ℕ) = text_at a.Role params e in
-    record { kind = kind_of e.role; test = shown a.Test false params scope e; id = text_at a.Id params e; flag = flag; role = role; level = level_of flag role; message = message_of es params scope e }
+    record {
+      kind = kind_of e.role;
+      test = shown a.Test false params scope e;
+      id = text_at a.Id params e;
+      flag = flag;
+      role = role;
+      level = level_of flag role;
+      message = message_of es params scope e;
+    }
 
 -- the assertions among what a rule has
 abbrev pub assertions_among : List Put → List Entry

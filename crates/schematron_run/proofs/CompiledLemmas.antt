@@ -34,8 +34,10 @@ all_map P g (x ∷ xs) h (suc k) d l = all_map P g xs h k d (omega (arith, l))
 module _
     (reads : (tokens : List Token) (x : Tree) → ((tree_of tokens ≡ Some x) ↔ Spells tokens x))
     (patterns : (tokens : List Token) (x : Tree) → (IsPattern tokens x ↔ Spells tokens x × (trees.is_pattern x ≡ true)))
-    (shapes : (declared : Declared) (names : List (List ℕ)) (tokens : List Token) (pattern : Tree) → IsPattern tokens pattern → is_pattern (resolved declared names pattern) ≡ true) where
-  by_tree : (scope : Declared) (tokens : List Token) (o : Option Tree) → tree_of tokens ≡ o → is_pattern (expression_spelled scope (answer_of_pattern_tree o)) ≡ true
+    (shapes : (declared : Declared) (names : List (List ℕ)) (tokens : List Token) (pattern : Tree) → IsPattern tokens pattern →
+    is_pattern (resolved declared names pattern) ≡ true) where
+  by_tree : (scope : Declared) (tokens : List Token) (o : Option Tree) → tree_of tokens ≡ o →
+      is_pattern (expression_spelled scope (answer_of_pattern_tree o)) ≡ true
   by_tree scope tokens None e = refl
   by_tree scope tokens (Some x) e = by_test (trees.is_pattern x) refl
     where

@@ -1,5 +1,6 @@
 -- The first rule of each node, and what it finds.
-use Rattle.std.proofs.Common.{◌≡◌, ℕ, suc, ◌+◌, ◌<◌, ◌≤◌, Bool, true, false, cond, ⊎_elim, List, [], ◌∷◌, ◌++◌, length, map, drop, get_or, Option, Some, None, refl, ap, sym, subst, ◌∙◌, arith}
+use Rattle.std.proofs.Common.{◌≡◌, ℕ, suc, ◌+◌, ◌<◌, ◌≤◌, Bool, true, false, cond, ⊎_elim, List, [], ◌∷◌, ◌++◌, length, map, drop, get_or, Option, Some, None}
+use Rattle.std.proofs.Common.{refl, ap, sym, subst, ◌∙◌, arith}
 use Rattle.std.specs.Prelude.{filter, slice_get, option_map}
 use Rattle.std.proofs.lemmas.Option.{slice_get-map}
 use Rattle.std.specs.List.{flat_map}
@@ -34,12 +35,15 @@ marked_by nodes w outer rule found k old new e h n l =
 -- what the table keeps, and what the rules to come would
 abbrev pub Coming : List Node → Variables → List SeenRule → ℕ → List SeenRule → List (Option ℕ) → Type 0
 Coming nodes outer rules i rest table =
-    (n : ℕ) → n < length nodes → first_there (entry table n) (first_rule nodes outer (tree_node nodes n) i rest) ≡ first_rule nodes outer (tree_node nodes n) 0 rules
+    (n : ℕ) → n < length nodes → first_there (entry table n) (first_rule nodes outer (tree_node nodes n) i rest) ≡ first_rule nodes outer
+    (tree_node nodes n) 0 rules
 
-pub coming_begin : (nodes : List Node) (outer : Variables) (rules : List SeenRule) (table : List (Option ℕ)) → IsClear table → Coming nodes outer rules 0 rules table
+pub coming_begin : (nodes : List Node) (outer : Variables) (rules : List SeenRule) (table : List (Option ℕ)) → IsClear table →
+    Coming nodes outer rules 0 rules table
 coming_begin nodes outer rules table h n l = ap (λ o. first_there o (first_rule nodes outer (tree_node nodes n) 0 rules)) (h n)
 
-pub coming_next : (nodes : List Node) (outer : Variables) (rules : List Rule) (i : ℕ) (rule : Rule) (old new : List (Option ℕ)) → rule ≡ get_or rules i rule → i < length rules
+pub coming_next : (nodes : List Node) (outer : Variables) (rules : List Rule) (i : ℕ) (rule : Rule) (old new : List (Option ℕ)) → rule ≡ get_or rules i rule →
+    i < length rules
     → MarkedBy nodes outer (seen_rule rule) i old new → Coming nodes outer (map seen_rule rules) i (map seen_rule (drop i rules)) old
     → Coming nodes outer (map seen_rule rules) (i + 1) (map seen_rule (drop (i + 1) rules)) new
 coming_next nodes outer rules i rule old new at l marked h n within =
@@ -60,7 +64,8 @@ coming_end nodes outer rules i table l h n within =
 abbrev pub kept_nodes : List Node → List (Option ℕ) → List ℕ
 kept_nodes nodes table = node_numbers (filter (λ (node : Node). is_there (entry table node.number)) nodes)
 
-pub are_numbers : (nodes : List Node) (w : IsWalkable nodes) (table : List (Option ℕ)) (touched : List ℕ) → length table ≡ length nodes → AreTouched table touched → AreNumbers nodes touched
+pub are_numbers : (nodes : List Node) (w : IsWalkable nodes) (table : List (Option ℕ)) (touched : List ℕ) → length table ≡ length nodes →
+    AreTouched table touched → AreNumbers nodes touched
 are_numbers nodes w table touched long h = record {
   counted = w.counted;
   within = λ n e. subst (λ k. n < k) long (kept_within table touched h n e);
@@ -70,16 +75,20 @@ pub kept_of : (nodes : List Node) (table : List (Option ℕ)) (touched : List �
     → node_numbers (filter (λ (node : Node). is_among node.number touched) nodes) ≡ kept_nodes nodes table
 kept_of nodes table touched h = λ i. node_numbers (filter (λ (node : Node). h node.number i) nodes)
 
-pub kept_below : (nodes : List Node) (w : IsWalkable nodes) (table : List (Option ℕ)) (touched : List ℕ) → touched ≡ kept_nodes nodes table → AreBelow (length nodes) touched
+pub kept_below : (nodes : List Node) (w : IsWalkable nodes) (table : List (Option ℕ)) (touched : List ℕ) → touched ≡ kept_nodes nodes table →
+    AreBelow (length nodes) touched
 kept_below nodes w table touched is n e =
-    let at : IsNumberOf (λ (node : Node). is_there (entry table node.number)) nodes n = filtered_from (λ node. is_there (entry table node.number)) nodes n (ap (is_among n) (sym is) ∙ e) in
+    let at : IsNumberOf (λ (node : Node). is_there (entry table node.number)) nodes n =
+    filtered_from (λ node. is_there (entry table node.number)) nodes n (ap (is_among n) (sym is) ∙ e) in
     subst (λ k. k < length nodes) (sym (w.counted at.place at.within) ∙ at.number) at.within
 
-pub kept_touched : (nodes : List Node) (w : IsWalkable nodes) (table : List (Option ℕ)) (touched : List ℕ) → length table ≡ length nodes → touched ≡ kept_nodes nodes table
+pub kept_touched : (nodes : List Node) (w : IsWalkable nodes) (table : List (Option ℕ)) (touched : List ℕ) → length table ≡ length nodes →
+    touched ≡ kept_nodes nodes table
     → AreTouched table touched
 kept_touched nodes w table touched long is n = ⊎_elim
     (λ (l : n < length nodes).
-    ap (is_among n) is ∙ (among_passing (λ (node : Node). is_there (entry table node.number)) nodes n w.counted l ∙ ap (λ k. is_there (entry table k)) (w.counted n l)))
+    ap (is_among n) is ∙ (among_passing (λ (node : Node). is_there (entry table node.number)) nodes n w.counted l ∙
+    ap (λ k. is_there (entry table k)) (w.counted n l)))
     (λ (past : length nodes ≤ n).
     false_from_ne_true (is_among n touched) (λ e. let l : n < length nodes = kept_below nodes w table touched is n e in absurd (omega (arith, l, past)))
     ∙ sym (ap is_there (get_or_past table n None (subst (λ k. k ≤ n) (sym long) past))))
@@ -117,7 +126,8 @@ flat_kept p g h (x ∷ xs) at =
     by_test (p x) ∙ (ap (λ ls. ls ++ flat_map g (node_numbers (filter p xs))) (sym (at 0 (omega arith)))
     ∙ (ap (λ ls. h x ++ ls) (flat_kept p g h xs (λ k l. at (suc k) (omega (arith, l)))) ∙ sym (flat_map-cons h x xs)))
   where
-    by_test : (b : Bool) → flat_map g (node_numbers (cond b (x ∷ filter p xs) (filter p xs))) ≡ cond b (g x.number) [] ++ flat_map g (node_numbers (filter p xs))
+    by_test : (b : Bool) → flat_map g (node_numbers (cond b (x ∷ filter p xs) (filter p xs))) ≡ cond b (g x.number) [] ++
+        flat_map g (node_numbers (filter p xs))
     by_test true = flat_map-cons g x.number (node_numbers (filter p xs))
     by_test false = refl
 
@@ -127,7 +137,8 @@ pub all_found : (nodes : List Node) (w : IsWalkable nodes) (outer : Variables) (
     → flat_map (λ n. by_entry nodes outer rules n (entry table n)) touched ≡ flat_map (λ (node : Node). by_first nodes outer node 0 rules) nodes
 all_found nodes w outer rules table touched firsts is =
     ap (flat_map (λ n. by_entry nodes outer rules n (entry table n))) is
-    ∙ flat_kept (λ (node : Node). is_there (entry table node.number)) (λ n. by_entry nodes outer rules n (entry table n)) (λ (node : Node). by_first nodes outer node 0 rules) nodes
+    ∙ flat_kept (λ (node : Node). is_there (entry table node.number)) (λ n. by_entry nodes outer rules n (entry table n))
+    (λ (node : Node). by_first nodes outer node 0 rules) nodes
     (λ k l.
     let node : Node = tree_node nodes k in
     first_found nodes outer node rules 0 rules (λ i. ap (slice_get rules) (from_none i))
@@ -145,11 +156,13 @@ all_found nodes w outer rules table touched firsts is =
 pub untouched : (table : List (Option ℕ)) (touched : List ℕ) → IsClear table → touched ≡ [] → AreTouched table touched
 untouched table touched h e n = ap (is_among n) e ∙ sym (ap is_there (h n))
 
-pub no_entry : (nodes : List Node) (outer : Variables) (rules : List ReadyRule) (n k : ℕ) → slice_get rules k ≡ None → by_entry nodes outer (map ready_rule rules) n (Some k) ≡ []
+pub no_entry : (nodes : List Node) (outer : Variables) (rules : List ReadyRule) (n k : ℕ) → slice_get rules k ≡ None →
+    by_entry nodes outer (map ready_rule rules) n (Some k) ≡ []
 no_entry nodes outer rules n k e =
     ap (λ o. elim o [ None ↦ [] | Some rule ↦ by_rule nodes outer n k rule ]) (slice_get-map ready_rule rules k ∙ ap (option_map ready_rule) e)
 
-pub no_number : (nodes : List Node) (outer : Variables) (patterns : List Expanded) (k : ℕ) → slice_get patterns k ≡ None → by_number nodes outer (map seen_pattern patterns) k ≡ []
+pub no_number : (nodes : List Node) (outer : Variables) (patterns : List Expanded) (k : ℕ) → slice_get patterns k ≡ None →
+    by_number nodes outer (map seen_pattern patterns) k ≡ []
 no_number nodes outer patterns k e =
     ap (λ o. elim o [ None ↦ [] | Some pattern ↦ by_pattern nodes outer pattern ]) (slice_get-map seen_pattern patterns k ∙ ap (option_map seen_pattern) e)
 

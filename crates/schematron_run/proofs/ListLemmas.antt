@@ -1,5 +1,6 @@
 -- What loops over slices keep.
-use Rattle.std.proofs.Common.{◌≡◌, ℕ, ◌+◌, ◌<◌, ◌≤◌, zero, suc, true, ⊎_elim, List, [], ◌∷◌, ◌++◌, length, map, drop, get_or, Some, Result, Ok, Err, OnOk, ap, sym, subst, ◌∙◌, append_assoc, append-nil, arith}
+use Rattle.std.proofs.Common.{◌≡◌, ℕ, ◌+◌, ◌<◌, ◌≤◌, zero, suc, true, ⊎_elim, List, [], ◌∷◌, ◌++◌, length, map, drop, get_or, Some, Result, Ok, Err, OnOk, ap}
+use Rattle.std.proofs.Common.{sym, subst, ◌∙◌, append_assoc, append-nil, arith}
 use Rattle.std.specs.Prelude.{◌==◌, slice_get, Vec}
 use Rattle.std.specs.Vec.{with_items}
 use Rattle.std.specs.List.{All, flat_map}

@@ -1,5 +1,6 @@
 -- A table that keeps the first number of each node.
-use Rattle.std.proofs.Common.{◌≡◌, ℕ, ◌+◌, ◌<◌, ◌≤◌, Bool, true, false, ⊎_elim, List, [], ◌∷◌, ◌++◌, length, set, drop, get_or, Option, Some, None, refl, ap, sym, subst, ◌∙◌}
+use Rattle.std.proofs.Common.{◌≡◌, ℕ, ◌+◌, ◌<◌, ◌≤◌, Bool, true, false, ⊎_elim, List, [], ◌∷◌, ◌++◌, length, set, drop, get_or, Option, Some, None, refl, ap}
+use Rattle.std.proofs.Common.{sym, subst, ◌∙◌}
 use Rattle.std.specs.Prelude.{◌==◌, ◌||◌}
 use Rattle.std.proofs.lemmas.Bool.{cases_Bool, cases_lt, eqb-true, eq-eqb, false≢true, true≢false}
 use Rattle.std.proofs.lemmas.List.{get_or-set_same, get_or-set_other, get_or_past, drop_all}
@@ -28,8 +29,10 @@ pub touches : (table : List (Option ℕ)) (touched touched' : List ℕ) (n rule 
     → AreTouched (set table n (Some rule)) touched'
 touches table touched touched' n rule l h e m =
     ap (is_among m) e ∙ (among_both m touched (n ∷ []) ∙ ⊎_elim
-    (λ (same : (m == n) ≡ true). ap (λ b. is_among m touched || (b || false)) same ∙ (or_true (is_among m touched) ∙ sym (ap is_there (marked_here table n m (Some rule) l same))))
-    (λ (other : (m == n) ≡ false). ap (λ b. is_among m touched || (b || false)) other ∙ (or_false (is_among m touched) ∙ (h m ∙ sym (ap is_there (marked_elsewhere table n m (Some rule) other)))))
+    (λ (same : (m == n) ≡ true). ap (λ b. is_among m touched || (b || false)) same ∙
+    (or_true (is_among m touched) ∙ sym (ap is_there (marked_here table n m (Some rule) l same))))
+    (λ (other : (m == n) ≡ false). ap (λ b. is_among m touched || (b || false)) other ∙
+    (or_false (is_among m touched) ∙ (h m ∙ sym (ap is_there (marked_elsewhere table n m (Some rule) other)))))
     (cases_Bool (m == n)))
   where
     or_true : (b : Bool) → (b || true) ≡ true

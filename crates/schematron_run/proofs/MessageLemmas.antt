@@ -29,7 +29,8 @@ module _ {X : Type 0} (h : X → List ℕ) (g : List X → List ℕ) (more : (x 
 
 -- Items that are changed one after the other, and seen as they were
 module _ {X Y : Type 0} (h : Y → List ℕ) (see : X → Y) where
-  pub says_seen : (xs first : List X) (k : ℕ) (d : X) (m0 m1 m2 : Written) {whole : List ℕ} → k < length xs → map see xs ≡ map see first → Says (h (see (get_or xs k d))) m1 m2
+  pub says_seen : (xs first : List X) (k : ℕ) (d : X) (m0 m1 m2 : Written) {whole : List ℕ} → k < length xs → map see xs ≡ map see first →
+      Says (h (see (get_or xs k d))) m1 m2
       → ((new : Written) → Says (flat_map h (drop k (map see first))) m1 new → Says whole m0 new)
       → (new : Written) → Says (flat_map h (drop (k + 1) (map see first))) m2 new → Says whole m0 new
   says_seen xs first k d m0 m1 m2 within same s ahead =

@@ -24,7 +24,8 @@ is_there (Some k) = true
 -- the number of the first rule whose context matches the node, where the first rule has the number
 abbrev pub first_rule : List Node → Variables → Node → ℕ → List Rule → Option ℕ
 first_rule nodes outer node k [] = None
-first_rule nodes outer node k (rule ∷ rules) = first_there (given (matches nodes outer rule.context.expression node) k) (first_rule nodes outer node (k + 1) rules)
+first_rule nodes outer node k (rule ∷ rules) = first_there (given (matches nodes outer rule.context.expression node) k)
+    (first_rule nodes outer node (k + 1) rules)
 
 -- a node judged by the rule of a number, where there is one
 abbrev pub by_entry : List Node → Variables → List Rule → ℕ → Option ℕ → List Line

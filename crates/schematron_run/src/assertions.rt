@@ -169,7 +169,8 @@ pub(crate) fn judge_assertions<'r, 'a, L: Ledger>(
     requires within { n < count scene.now }
     requires set { IsSet scene.now }
     requires variables { ValuesWithin (count scene.now) env.now }
-    ensures found { OnOk result (findings.new ≡ findings.old ++ flat_map (spec.by_assertion (nodes_of scene.now) n env.now) (map ready_assertion assertions.old)) }
+    ensures found { OnOk result (findings.new ≡ findings.old ++
+        flat_map (spec.by_assertion (nodes_of scene.now) n env.now) (map ready_assertion assertions.old)) }
     ensures same { OnOk result (map ready_assertion assertions.new ≡ map ready_assertion assertions.old) }
     ensures ready { OnOk result (All (IsAssertionFor scene.now.doc.now) assertions.new) }
 {

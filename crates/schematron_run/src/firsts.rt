@@ -116,7 +116,8 @@ pub(crate) fn first_rules<'a, L: Ledger>(
     requires long { length table.old ≡ count scene.now }
     requires clear { IsClear table.old }
     ensures firsts { OnOk result (AreFirsts (nodes_of scene.now) env.now (map seen_rule rules.now) table.new) }
-    ensures touched { IfOk result (λ touched. touched.items ≡ node_numbers (filter (λ (node : Node). is_there (entry table.new node.number)) (nodes_of scene.now))) }
+    ensures touched { IfOk result (λ touched. touched.items ≡ node_numbers
+        (filter (λ (node : Node). is_there (entry table.new node.number)) (nodes_of scene.now))) }
     ensures long { length table.new ≡ length table.old }
 {
     documents_are_walkable(scene.doc);

@@ -33,7 +33,9 @@ fn judge_inside<'r, 'a, L: Ledger>(
     requires within { n < count scene.now }
     requires set { IsSet scene.now }
     requires variables { ValuesWithin (count scene.now) env.old }
-    ensures found { OnOk result (findings.new ≡ findings.old ++ flat_map (spec.by_assertion (nodes_of scene.now) n (spec.filled (nodes_of scene.now) n (map ready_let rule.old.lets.items) env.old)) (map ready_assertion rule.old.assertions.items)) }
+    ensures found { OnOk result (findings.new ≡ findings.old ++
+        flat_map (spec.by_assertion (nodes_of scene.now) n (spec.filled (nodes_of scene.now) n (map ready_let rule.old.lets.items) env.old))
+        (map ready_assertion rule.old.assertions.items)) }
     ensures env { OnOk result (env.new ≡ env.old) }
     ensures same { OnOk result (ready_rule rule.new ≡ ready_rule rule.old) }
     ensures ready { OnOk result (IsRuleFor scene.now.doc.now rule.new) }

@@ -16,12 +16,14 @@ same_text a b u v = same_from_decides _ _ (bytes_eq-Decides (chars a) (chars b))
     (Decides-like _ (λ e. ap chars e) (λ e. sym (encodes-chars a u) ∙ (ap encode_utf8_all e ∙ encodes-chars b v)) (bytes_eq-Decides a b))
 
 pub one_character : (c : ℕ) → IsUtf8 (encode c) → chars (encode c) ≡ c ∷ []
-one_character c u = ap chars (sym (append-nil (encode c))) ∙ (chars_past_char (encode c ++ []) [] c (let e : IsUtf8 (encode c ++ []) = rw append-nil u in e) refl ∙ ap (λ x. c ∷ x) chars-nil)
+one_character c u = ap chars (sym (append-nil (encode c))) ∙
+    (chars_past_char (encode c ++ []) [] c (let e : IsUtf8 (encode c ++ []) = rw append-nil u in e) refl ∙ ap (λ x. c ∷ x) chars-nil)
 
 pub character_behind : (old new : List ℕ) (c : ℕ) → IsUtf8 old → IsUtf8 (encode c) → new ≡ old ++ encode c → chars new ≡ chars old ++ c ∷ []
 character_behind old new c uo uc e = ap chars e ∙ (chars-append old (encode c) uo ∙ ap (λ x. chars old ++ x) (one_character c uc))
 
-pub character_pushed : {E : Type 0} (r : Result (Unit {0}) E) (old new : List ℕ) (c : ℕ) → IsUtf8 old → IsUtf8 (encode c) → new ≡ (if is_ok r then old ++ encode c else old) → OnOk r (chars new ≡ chars old ++ c ∷ [])
+pub character_pushed : {E : Type 0} (r : Result (Unit {0}) E) (old new : List ℕ) (c : ℕ) → IsUtf8 old → IsUtf8 (encode c) →
+    new ≡ (if is_ok r then old ++ encode c else old) → OnOk r (chars new ≡ chars old ++ c ∷ [])
 character_pushed (Ok x) old new c uo uc e = character_behind old new c uo uc e
 character_pushed (Err x) old new c uo uc e = tt
 

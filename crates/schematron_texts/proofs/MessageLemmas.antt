@@ -9,15 +9,20 @@ squeezed-step : (white begun waits : Bool) (c : ℕ) (xs ys : List ℕ)
     → squeezed_behind true false (xs ++ ys) ≡ squeezed_behind true false xs ++ squeezed_behind (begun_behind true xs) (waits_behind true false xs) ys
     → (elim white as (λ _. List ℕ) [ true ↦ squeezed_behind begun begun (xs ++ ys) | false ↦ spaced waits c ++ squeezed_behind true false (xs ++ ys) ])
     ≡ (elim white as (λ _. List ℕ) [ true ↦ squeezed_behind begun begun xs | false ↦ spaced waits c ++ squeezed_behind true false xs ])
-    ++ squeezed_behind (elim white as (λ _. Bool) [ true ↦ begun_behind begun xs | false ↦ begun_behind true xs ]) (elim white as (λ _. Bool) [ true ↦ waits_behind begun begun xs | false ↦ waits_behind true false xs ]) ys
+    ++ squeezed_behind (elim white as (λ _. Bool) [ true ↦ begun_behind begun xs | false ↦ begun_behind true xs ])
+    (elim white as (λ _. Bool) [ true ↦ waits_behind begun begun xs | false ↦ waits_behind true false xs ]) ys
 squeezed-step true begun waits c xs ys p q = p
-squeezed-step false begun waits c xs ys p q = ap (λ t. spaced waits c ++ t) q ∙ sym (append_assoc (spaced waits c) (squeezed_behind true false xs) (squeezed_behind (begun_behind true xs) (waits_behind true false xs) ys))
+squeezed-step false begun waits c xs ys p q = ap (λ t. spaced waits c ++ t) q ∙
+    sym (append_assoc (spaced waits c) (squeezed_behind true false xs) (squeezed_behind (begun_behind true xs) (waits_behind true false xs) ys))
 
-squeezed-append : (begun waits : Bool) (xs ys : List ℕ) → squeezed_behind begun waits (xs ++ ys) ≡ squeezed_behind begun waits xs ++ squeezed_behind (begun_behind begun xs) (waits_behind begun waits xs) ys
+squeezed-append : (begun waits : Bool) (xs ys : List ℕ) → squeezed_behind begun waits (xs ++ ys) ≡ squeezed_behind begun waits xs ++
+    squeezed_behind (begun_behind begun xs) (waits_behind begun waits xs) ys
 squeezed-append begun waits [] ys = refl
-squeezed-append begun waits (c ∷ xs) ys = squeezed-step (is_white_space c) begun waits c xs ys (squeezed-append begun begun xs ys) (squeezed-append true false xs ys)
+squeezed-append begun waits (c ∷ xs) ys = squeezed-step (is_white_space c) begun waits c xs ys (squeezed-append begun begun xs ys)
+    (squeezed-append true false xs ys)
 
-begun-step : (white a b c d : Bool) → a ≡ c → b ≡ d → (elim white as (λ _. Bool) [ true ↦ a | false ↦ b ]) ≡ (elim white as (λ _. Bool) [ true ↦ c | false ↦ d ])
+begun-step : (white a b c d : Bool) → a ≡ c → b ≡ d →
+    (elim white as (λ _. Bool) [ true ↦ a | false ↦ b ]) ≡ (elim white as (λ _. Bool) [ true ↦ c | false ↦ d ])
 begun-step true a b c d p q = p
 begun-step false a b c d p q = q
 
@@ -30,12 +35,18 @@ begun-append begun (c ∷ xs) ys = begun-step (is_white_space c) _ _ _ _ (begun-
     moved true = refl
     moved false = refl
 
-waits-append : (begun waits : Bool) (xs ys : List ℕ) → waits_behind begun waits (xs ++ ys) ≡ waits_behind (begun_behind begun xs) (waits_behind begun waits xs) ys
+waits-append : (begun waits : Bool) (xs ys : List ℕ) → waits_behind begun waits (xs ++ ys) ≡ waits_behind (begun_behind begun xs)
+    (waits_behind begun waits xs) ys
 waits-append begun waits [] ys = refl
-waits-append begun waits (c ∷ xs) ys = begun-step (is_white_space c) _ _ _ _ (waits-append begun begun xs ys) (waits-append true false xs ys) ∙ moved (is_white_space c)
+waits-append begun waits (c ∷ xs) ys = begun-step (is_white_space c) _ _ _ _ (waits-append begun begun xs ys) (waits-append true false xs ys) ∙
+    moved (is_white_space c)
   where
-    moved : (white : Bool) → (elim white as (λ _. Bool) [ true ↦ waits_behind (begun_behind begun xs) (waits_behind begun begun xs) ys | false ↦ waits_behind (begun_behind true xs) (waits_behind true false xs) ys ])
-        ≡ waits_behind (elim white as (λ _. Bool) [ true ↦ begun_behind begun xs | false ↦ begun_behind true xs ]) (elim white as (λ _. Bool) [ true ↦ waits_behind begun begun xs | false ↦ waits_behind true false xs ]) ys
+    moved : (white : Bool) → (elim white as (λ _. Bool) [
+      | true ↦ waits_behind (begun_behind begun xs) (waits_behind begun begun xs) ys
+      | false ↦ waits_behind (begun_behind true xs) (waits_behind true false xs) ys
+    ])
+        ≡ waits_behind (elim white as (λ _. Bool) [ true ↦ begun_behind begun xs | false ↦ begun_behind true xs ])
+        (elim white as (λ _. Bool) [ true ↦ waits_behind begun begun xs | false ↦ waits_behind true false xs ]) ys
     moved true = refl
     moved false = refl
 
@@ -55,19 +66,23 @@ message_of-more told c = λ i. record {
 }
 
 -- a character that is white space
-pub message-white : (text : List ℕ) (begun waits : Bool) (c : ℕ) → is_white_space c ≡ true → (told : List ℕ) → record { text = text; begun = begun; waits = waits } ≡ message_of told
+pub message-white : (text : List ℕ) (begun waits : Bool) (c : ℕ) → is_white_space c ≡ true → (told : List ℕ) →
+    record { text = text; begun = begun; waits = waits } ≡ message_of told
     → record { text = text; begun = begun; waits = begun } ≡ message_of (told ++ c ∷ [])
 message-white text begun waits c white told e =
     let w : Written = record { text = text; begun = begun; waits = waits } in
-    let more : one_more true w c ≡ message_of (told ++ c ∷ []) = ap (λ b. one_more b w c) (sym white) ∙ (ap (λ m. one_more (is_white_space c) m c) e ∙ sym (message_of-more told c)) in
+    let more : one_more true w c ≡ message_of (told ++ c ∷ []) = ap (λ b. one_more b w c) (sym white) ∙
+    (ap (λ m. one_more (is_white_space c) m c) e ∙ sym (message_of-more told c)) in
     ap (λ t. let r : Written = record { text = t; begun = begun; waits = begun } in r) (sym (append-nil text)) ∙ more
 
 -- one that is none
-pub message-plain : (text grown : List ℕ) (begun waits : Bool) (c : ℕ) → is_white_space c ≡ false → grown ≡ text ++ spaced waits c → (told : List ℕ) → record { text = text; begun = begun; waits = waits } ≡ message_of told
+pub message-plain : (text grown : List ℕ) (begun waits : Bool) (c : ℕ) → is_white_space c ≡ false → grown ≡ text ++ spaced waits c → (told : List ℕ) →
+    record { text = text; begun = begun; waits = waits } ≡ message_of told
     → record { text = grown; begun = true; waits = false } ≡ message_of (told ++ c ∷ [])
 message-plain text grown begun waits c white g told e =
     let w : Written = record { text = text; begun = begun; waits = waits } in
-    let more : one_more false w c ≡ message_of (told ++ c ∷ []) = ap (λ b. one_more b w c) (sym white) ∙ (ap (λ m. one_more (is_white_space c) m c) e ∙ sym (message_of-more told c)) in
+    let more : one_more false w c ≡ message_of (told ++ c ∷ []) = ap (λ b. one_more b w c) (sym white) ∙
+    (ap (λ m. one_more (is_white_space c) m c) e ∙ sym (message_of-more told c)) in
     ap (λ t. let r : Written = record { text = t; begun = true; waits = false } in r) (g ∙ ap (λ t. text ++ t) (sym (append-nil (spaced waits c)))) ∙ more
 
 -- one character more of those that were told

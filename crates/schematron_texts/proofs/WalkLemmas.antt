@@ -1,5 +1,6 @@
 -- One walk over a text makes what `replaced` says.
-use Rattle.std.proofs.Common.{◌≡◌, ℕ, zero, suc, ◌+◌, ◌<◌, ◌≤◌, Bool, true, false, cond, List, [], ◌∷◌, ◌++◌, length, take, Option, Some, None, refl, ap, sym, subst, ◌∙◌, append_assoc, append-nil, arith, length-append, ◌⊎◌, inl, inr, true≢false, chars}
+use Rattle.std.proofs.Common.{◌≡◌, ℕ, zero, suc, ◌+◌, ◌<◌, ◌≤◌, Bool, true, false, cond, List, [], ◌∷◌, ◌++◌, length, take, Option, Some, None, refl, ap, sym}
+use Rattle.std.proofs.Common.{subst, ◌∙◌, append_assoc, append-nil, arith, length-append, ◌⊎◌, inl, inr, true≢false, chars}
 use Rattle.std.specs.Prelude.{◌==◌, nat_eq, unwrap_or, encode_utf8_all, Result, Ok, Err, IfOk}
 use Rattle.std.specs.Str.{IsUtf8}
 use Rattle.std.proofs.lemmas.Str.{chars-nil, encodes-chars, encodes-append}
@@ -47,12 +48,17 @@ abbrev stays : List Parameter → ℕ → List ℕ → List ℕ
 stays parameters n text = take n text ++ replaced_behind parameters n text
 
 abbrev chosen : List Parameter → Option (List ℕ) → ℕ → List ℕ → List ℕ
-chosen parameters value c text = elim value as (λ _. List ℕ) [ None ↦ c ∷ replaced_behind parameters zero text | Some v ↦ v ++ replaced_behind parameters (name_length text) text ]
+chosen parameters value c text = elim value as (λ _. List ℕ) [
+  | None ↦ c ∷ replaced_behind parameters zero text
+  | Some v ↦ v ++
+      replaced_behind parameters (name_length text) text
+]
 
 value_at-plain : (parameters : List Parameter) (c : ℕ) (text : List ℕ) → (c == 36) ≡ false → value_at parameters c text ≡ None
 value_at-plain parameters c text e = ap (λ b. elim b as (λ _. Option (List ℕ)) [ true ↦ value_before parameters text | false ↦ None ]) e
 
-replaced-plain : (parameters : List Parameter) (c : ℕ) (text : List ℕ) → (c == 36) ≡ false → replaced_behind parameters 0 (c ∷ text) ≡ c ∷ replaced_behind parameters 0 text
+replaced-plain : (parameters : List Parameter) (c : ℕ) (text : List ℕ) → (c == 36) ≡ false →
+    replaced_behind parameters 0 (c ∷ text) ≡ c ∷ replaced_behind parameters 0 text
 replaced-plain parameters c text e = ap (λ v. chosen parameters v c text) (value_at-plain parameters c text e)
 
 -- a name stands as it is
@@ -104,7 +110,8 @@ behind_name parameters name n text = put parameters (name ++ take n text) ++ rep
 
 -- `$` before a text, by the length of the name there
 dollar_by : (parameters : List Parameter) (text : List ℕ) (n : ℕ) → name_length text ≡ n → replaced_behind parameters 0 text ≡ stays parameters n text
-    → behind_name parameters [] n text ≡ chosen parameters (elim n as (λ _. Option (List ℕ)) [ zero ↦ None | suc m ↦ value_of parameters (take (suc m) text) ]) 36 text
+    → behind_name parameters [] n text ≡ chosen parameters (elim n as (λ _. Option (List ℕ)) [ zero ↦ None | suc m ↦ value_of parameters (take (suc m) text) ])
+    36 text
 dollar_by parameters text zero e stay = refl
 dollar_by parameters [] (suc m) e stay = cc
 dollar_by parameters (d ∷ text) (suc m) e stay = by (value_of parameters (d ∷ take m text))
@@ -121,7 +128,8 @@ record Walks (parameters : List Parameter) (text : List ℕ) : Type 0 where
   inside : (name : List ℕ) → walked parameters true name text ≡ behind_name parameters name (more name text) text
 
 outside-step : (parameters : List Parameter) (name : List ℕ) (c : ℕ) (text : List ℕ) → Walks parameters text
-    → (elim (c == 36) as (λ _. List ℕ) [ true ↦ walked parameters true [] text | false ↦ c ∷ walked parameters false name text ]) ≡ replaced_behind parameters 0 (c ∷ text)
+    → (elim (c == 36) as (λ _. List ℕ) [ true ↦ walked parameters true [] text | false ↦ c ∷ walked parameters false name text ]) ≡ replaced_behind parameters 0
+    (c ∷ text)
 outside-step parameters name c text walks = elim (bool_cases (c == 36)) [
   | inl same ↦ ap (λ b. elim b as (λ _. List ℕ) [ true ↦ walked parameters true [] text | false ↦ c ∷ walked parameters false name text ]) same
       ∙ (walks.inside [] ∙ (at_dollar parameters text ∙ ap (λ d. replaced_behind parameters 0 (d ∷ text)) (sym (same_number c 36 same))))
@@ -196,18 +204,21 @@ some_name name (d ∷ ds) u e is = (d, ds, refl)
 pub goes_on-more : (name : List ℕ) (c : ℕ) → IsUtf8 name → nat_eq (length name) 0 ≡ false → is_name_char c ≡ goes_on (chars name) c
 goes_on-more name c u e = let s = some_name name (chars name) u e refl in ap (λ n. goes_on n c) (sym s.2)
 
-pub value_for-more : (parameters : List Parameter) (name : List ℕ) → IsUtf8 name → nat_eq (length name) 0 ≡ false → value_of parameters (chars name) ≡ value_for parameters (chars name)
+pub value_for-more : (parameters : List Parameter) (name : List ℕ) → IsUtf8 name → nat_eq (length name) 0 ≡ false →
+    value_of parameters (chars name) ≡ value_for parameters (chars name)
 value_for-more parameters name u e = let s = some_name name (chars name) u e refl in ap (value_of parameters) s.2 ∙ ap (value_for parameters) (sym s.2)
 
 -- a character where no name is open
-pub outside-dollar : (parameters : List Parameter) (out name new_name : List ℕ) (opened : Bool) (c : ℕ) (rest : List ℕ) → opened ≡ false → (c == 36) ≡ true → new_name ≡ []
+pub outside-dollar : (parameters : List Parameter) (out name new_name : List ℕ) (opened : Bool) (c : ℕ) (rest : List ℕ) → opened ≡ false → (c == 36) ≡ true →
+    new_name ≡ []
     → out ++ walked parameters true new_name rest ≡ out ++ walked parameters opened name (c ∷ rest)
 outside-dollar parameters out name new_name opened c rest o e n =
     ap (λ m. out ++ walked parameters true m rest) n
     ∙ (sym (ap (λ b. out ++ (elim b as (λ _. List ℕ) [ true ↦ walked parameters true [] rest | false ↦ c ∷ walked parameters false name rest ])) e)
     ∙ ap (λ b. out ++ walked parameters b name (c ∷ rest)) (sym o))
 
-pub outside-plain : (parameters : List Parameter) (out grown name : List ℕ) (opened : Bool) (c : ℕ) (rest : List ℕ) → opened ≡ false → (c == 36) ≡ false → grown ≡ out ++ c ∷ []
+pub outside-plain : (parameters : List Parameter) (out grown name : List ℕ) (opened : Bool) (c : ℕ) (rest : List ℕ) → opened ≡ false → (c == 36) ≡ false →
+    grown ≡ out ++ c ∷ []
     → grown ++ walked parameters opened name rest ≡ out ++ walked parameters opened name (c ∷ rest)
 outside-plain parameters out grown name opened c rest o e g =
     ap (λ b. grown ++ walked parameters b name rest) o
@@ -230,11 +241,14 @@ too_much most false whole made e h = h
 longer : (most : ℕ) (front rest : List ℕ) → most < bytes_of front → most < bytes_of (front ++ rest)
 longer most front rest h = omega (arith, h, ap length (encodes-append front rest), length-append (encodes front) (encodes rest))
 
-pub outside-pushed : {E : Type 0} (r : Result Bool E) (most : ℕ) (out grown name : List ℕ) (opened : Bool) (c : ℕ) → opened ≡ false → (c == 36) ≡ false → IfOk r (λ fits. IsMade most fits (out ++ c ∷ []) grown)
-    → IfOk r (λ fits. (parameters : List Parameter) (rest : List ℕ) → IsMade most fits (out ++ walked parameters opened name (c ∷ rest)) (grown ++ walked parameters opened name rest))
+pub outside-pushed : {E : Type 0} (r : Result Bool E) (most : ℕ) (out grown name : List ℕ) (opened : Bool) (c : ℕ) → opened ≡ false → (c == 36) ≡ false →
+    IfOk r (λ fits. IsMade most fits (out ++ c ∷ []) grown)
+    → IfOk r (λ fits. (parameters : List Parameter) (rest : List ℕ) →
+    IsMade most fits (out ++ walked parameters opened name (c ∷ rest)) (grown ++ walked parameters opened name rest))
 outside-pushed (Ok true) most out grown name opened c o e g = λ parameters rest. outside-plain parameters out grown name opened c rest o e g
 outside-pushed (Ok false) most out grown name opened c o e g = λ parameters rest.
-    subst (λ t. most < bytes_of t) (outside-plain parameters out (out ++ c ∷ []) name opened c rest o e refl) (longer most (out ++ c ∷ []) (walked parameters opened name rest) g)
+    subst (λ t. most < bytes_of t) (outside-plain parameters out (out ++ c ∷ []) name opened c rest o e refl)
+    (longer most (out ++ c ∷ []) (walked parameters opened name rest) g)
 outside-pushed (Err x) most out grown name opened c o e g = tt
 
 -- what is made for any parameters is made for these
@@ -254,7 +268,8 @@ inside-more parameters out name longer opened c o goes g rest =
 
 -- a character before which the name ends
 inside-ended : (parameters : List Parameter) (out grown name after : List ℕ) (opened closed : Bool) (c : ℕ) → opened ≡ true → goes_on name c ≡ false
-    → grown ≡ out ++ put parameters name → closed ≡ false → (rest : List ℕ) → grown ++ walked parameters closed after (c ∷ rest) ≡ out ++ walked parameters opened name (c ∷ rest)
+    → grown ≡ out ++ put parameters name → closed ≡ false → (rest : List ℕ) → grown ++ walked parameters closed after (c ∷ rest) ≡ out ++
+    walked parameters opened name (c ∷ rest)
 inside-ended parameters out grown name after opened closed c o ends g k rest =
     ap (λ b. grown ++ walked parameters b after (c ∷ rest)) k
     ∙ (ap (λ t. t ++ walked parameters false after (c ∷ rest)) g
@@ -262,16 +277,19 @@ inside-ended parameters out grown name after opened closed c o ends g k rest =
     ∙ (ap (λ t. out ++ (put parameters name ++ t)) (walked-is parameters after (c ∷ rest) ∙ sym (walked-is parameters name (c ∷ rest)))
     ∙ (sym (ap (λ b. out ++ inside_by parameters b name c rest) ends) ∙ ap (λ b. out ++ walked parameters b name (c ∷ rest)) (sym o)))))
 
-pub inside-closed : {E : Type 0} (r : Result Bool E) (most : ℕ) (parameters : List Parameter) (out grown name after : List ℕ) (opened closed : Bool) (c : ℕ) (made : List Parameter → List ℕ → List ℕ) → opened ≡ true → goes_on name c ≡ false
+pub inside-closed : {E : Type 0} (r : Result Bool E) (most : ℕ) (parameters : List Parameter) (out grown name after : List ℕ) (opened closed : Bool) (c : ℕ)
+    (made : List Parameter → List ℕ → List ℕ) → opened ≡ true → goes_on name c ≡ false
     → grown ≡ out ++ put parameters name → closed ≡ false
-    → IfOk r (λ fits. (parameters : List Parameter) (rest : List ℕ) → IsMade most fits (grown ++ walked parameters closed after (c ∷ rest)) (made parameters rest))
+    → IfOk r (λ fits. (parameters : List Parameter) (rest : List ℕ) →
+    IsMade most fits (grown ++ walked parameters closed after (c ∷ rest)) (made parameters rest))
     → IfOk r (λ fits. (rest : List ℕ) → IsMade most fits (out ++ walked parameters opened name (c ∷ rest)) (made parameters rest))
 inside-closed (Ok fits) most parameters out grown name after opened closed c made o ends g k h = λ rest.
     subst (λ t. IsMade most fits t (made parameters rest)) (inside-ended parameters out grown name after opened closed c o ends g k rest) (h parameters rest)
 inside-closed (Err x) most parameters out grown name after opened closed c made o ends g k h = tt
 
 -- what stands for the name is too long
-pub inside-long : (most : ℕ) (parameters : List Parameter) (out name : List ℕ) (opened : Bool) (c : ℕ) → opened ≡ true → goes_on name c ≡ false → most < bytes_of (out ++ put parameters name)
+pub inside-long : (most : ℕ) (parameters : List Parameter) (out name : List ℕ) (opened : Bool) (c : ℕ) → opened ≡ true → goes_on name c ≡ false →
+    most < bytes_of (out ++ put parameters name)
     → (rest : List ℕ) → most < bytes_of (out ++ walked parameters opened name (c ∷ rest))
 inside-long most parameters out name opened c o ends h rest =
     subst (λ t. most < bytes_of t) (inside-ended parameters out (out ++ put parameters name) name name opened false c o ends refl refl rest)
@@ -284,7 +302,8 @@ back-long most out name h = subst (λ t. most < bytes_of t) (append_assoc out (3
 -- Lengths
 
 bytes-front : (out rest : List ℕ) → IsUtf8 out → bytes_of (chars out ++ rest) ≡ length out + bytes_of rest
-bytes-front out rest u = ap length (encodes-append (chars out) rest) ∙ (length-append (encodes (chars out)) (encodes rest) ∙ ap (λ t. length t + bytes_of rest) (encodes-chars out u))
+bytes-front out rest u = ap length (encodes-append (chars out) rest) ∙
+    (length-append (encodes (chars out)) (encodes rest) ∙ ap (λ t. length t + bytes_of rest) (encodes-chars out u))
 
 pub not_too_long : (out : List ℕ) (most : ℕ) → IsUtf8 out → length out ≤ most → bytes_of (chars out) ≤ most
 not_too_long out most u h = omega (arith, ap length (encodes-chars out u))
@@ -292,5 +311,6 @@ not_too_long out most u h = omega (arith, ap length (encodes-chars out u))
 pub text_too_long : (out piece : List ℕ) (most : ℕ) → IsUtf8 out → IsUtf8 piece → most < length out + length piece → most < bytes_of (chars out ++ chars piece)
 text_too_long out piece most u v h = omega (arith, h, bytes-front out (chars piece) u, ap length (encodes-chars piece v))
 
-pub character_too_long : (out : List ℕ) (c most : ℕ) → IsUtf8 out → IsUtf8 (encode c) → most < length out + length (encode c) → most < bytes_of (chars out ++ c ∷ [])
+pub character_too_long : (out : List ℕ) (c most : ℕ) → IsUtf8 out → IsUtf8 (encode c) → most < length out + length (encode c) →
+    most < bytes_of (chars out ++ c ∷ [])
 character_too_long out c most u v h = subst (λ t. most < bytes_of (chars out ++ t)) (one_character c v) (text_too_long out (encode c) most u v h)

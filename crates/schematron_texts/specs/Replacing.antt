@@ -3,7 +3,8 @@
 -- may begin a variable of an expression. The text is gone over once from left to right, and what is put in isn't read
 -- again.
 -- Deviation: the value is put into texts in quotes too.
-use Rattle.std.specs.Prelude.{◌≡◌, ℕ, zero, suc, true, false, ◌+◌, ◌<◌, ◌≤◌, ◌==◌, List, [], ◌∷◌, ◌++◌, length, take, map, Option, Some, None, is_some, if◌then◌else◌, chars, String, string_bytes, encode_utf8_all, MatchOption}
+use Rattle.std.specs.Prelude.{◌≡◌, ℕ, zero, suc, true, false, ◌+◌, ◌<◌, ◌≤◌, ◌==◌, List, [], ◌∷◌, ◌++◌, length, take, map, Option, Some, None, is_some}
+use Rattle.std.specs.Prelude.{if◌then◌else◌, chars, String, string_bytes, encode_utf8_all, MatchOption}
 use Rattle.std.specs.Global.{Global}
 use Rattle.std.specs.List.{prefix_len}
 use Rattle.std.specs.Str.{bytes_eq}

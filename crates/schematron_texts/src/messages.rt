@@ -84,7 +84,8 @@ impl Message {
 
 fn push_piece(text: &mut String, spacing: Spacing, piece: &str) -> Result<Spacing, AllocError>
     ensures { (told : List ℕ) → record { text = chars (string_bytes text.old); begun = spacing.begun; waits = spacing.waits } ≡ spec.message_of told
-        → IfOk result (λ behind. record { text = chars (string_bytes text.new); begun = behind.begun; waits = behind.waits } ≡ spec.message_of (told ++ chars piece.now)) }
+        → IfOk result (λ behind. record { text = chars (string_bytes text.new); begun = behind.begun; waits = behind.waits } ≡ spec.message_of
+        (told ++ chars piece.now)) }
 {
     let mut spacing = spacing;
     'characters: for c in piece.chars() {

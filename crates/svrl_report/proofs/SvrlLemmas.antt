@@ -1,5 +1,6 @@
 -- The calls that are made are those of the tree.
-use Rattle.std.proofs.Common.{◌≡◌, ℕ, ◌<◌, List, [], ◌∷◌, ◌++◌, length, Option, Some, None, Result, map, refl, ap, sym, subst, ◌∙◌, append_assoc, length-append, codes, arith}
+use Rattle.std.proofs.Common.{◌≡◌, ℕ, ◌<◌, List, [], ◌∷◌, ◌++◌, length, Option, Some, None, Result, map, refl, ap, sym, subst, ◌∙◌, append_assoc, length-append}
+use Rattle.std.proofs.Common.{codes, arith}
 use Rattle.std.specs.Prelude.{encode_utf8_all}
 use Rattle.std.specs.Result.{IsErr}
 use Rattle.std.specs.Str.{chars, IsUtf8}
@@ -15,7 +16,8 @@ use Rattle.xml_write.specs.declared.pen.PenState.{PenState}
 use Rattle.xml_write.specs.declared.pen.PenState.TheVariants.{Fresh}
 use Rattle.xml_write.specs.Canonical.{Declaration, canonical_text}
 use Rattle.xml_write.specs.Writers.{WriterView, writing, Made, Broke}
-use Rattle.xml_write.specs.Calls.{Call, call_start, call_declare, call_text, call_end, call_close, appended_by_all, attribute_calls, calls_inside, calls_of, encoded}
+use Rattle.xml_write.specs.Calls.{Call, call_start, call_declare, call_text, call_end, call_close, appended_by_all, attribute_calls, calls_inside, calls_of}
+use Rattle.xml_write.specs.Calls.{encoded}
 use Rattle.xml_write.proofs.CallsLemmas.{appended_by_all-append}
 use Rattle.schematron_findings.specs.declared.finding.FindingKind.{FindingKind}
 use Rattle.schematron_findings.specs.declared.finding.FindingKind.TheVariants as k
@@ -26,8 +28,10 @@ use Rattle.xpath_items.specs.declared.outcome.DynError.{DynError}
 use Rattle.xpath_items.specs.declared.outcome.DynError.TheVariants as e
 use Rattle.xpath_items.specs.Codes.{code_text}
 use Rattle.svrl_report.specs.Plain.{all_lines}
-use Rattle.svrl_report.specs.Svrl.{svrl, svrl_uri, svrl_declarations, svrl_tree, svrl_report, given_if, flag_of, role_of, outcome_name, finding_attributes, text_if, line_element, line_elements}
-use Rattle.svrl_report.specs.Calls.{given_calls, element_of, place_calls, flag_calls, mark_calls, byte_calls, text_calls, message_calls, start_calls, finding_calls, line_calls, lines_calls, files_calls, report_calls}
+use Rattle.svrl_report.specs.Svrl.{svrl, svrl_uri, svrl_declarations, svrl_tree, svrl_report, given_if, flag_of, role_of, outcome_name, finding_attributes}
+use Rattle.svrl_report.specs.Svrl.{text_if, line_element, line_elements}
+use Rattle.svrl_report.specs.Calls.{given_calls, element_of, place_calls, flag_calls, mark_calls, byte_calls, text_calls, message_calls, start_calls}
+use Rattle.svrl_report.specs.Calls.{finding_calls, line_calls, lines_calls, files_calls, report_calls}
 use lib.Utf8.{encode}
 
 -- a text is the bytes of its characters
@@ -71,11 +75,13 @@ unfolding lib.Utf8.encode
 role-bytes = refl
 
 marks-are : (f : Finding)
-    → attributes_made (given_if (codes "id") f.id ++ (given_if (codes "flag") (flag_of f.outcome f.flag) ++ given_if (codes "role") (role_of f.outcome f.role))) ≡ mark_calls f
+    → attributes_made (given_if (codes "id") f.id ++
+    (given_if (codes "flag") (flag_of f.outcome f.flag) ++ given_if (codes "role") (role_of f.outcome f.role))) ≡ mark_calls f
 marks-are f =
     attributes-append (given_if (codes "id") f.id) _
     ∙ (ap (λ t. attributes_made (given_if (codes "id") f.id) ++ t) (attributes-append (given_if (codes "flag") (flag_of f.outcome f.flag)) _)
-    ∙ (ap (λ t. t ++ (attributes_made (given_if (codes "flag") (flag_of f.outcome f.flag)) ++ attributes_made (given_if (codes "role") (role_of f.outcome f.role))))
+    ∙ (ap (λ t. t ++ (attributes_made (given_if (codes "flag") (flag_of f.outcome f.flag)) ++
+    attributes_made (given_if (codes "role") (role_of f.outcome f.role))))
     (given-are (codes "id") f.id ∙ ap (λ n. given_calls n f.id) id-bytes)
     ∙ (ap (λ t. given_calls (codes "id") f.id ++ (t ++ attributes_made (given_if (codes "role") (role_of f.outcome f.role))))
     (given-are (codes "flag") (flag_of f.outcome f.flag) ∙ ap (λ n. given_calls n (flag_of f.outcome f.flag)) flag-bytes)
@@ -146,14 +152,16 @@ unfolding lib.Utf8.encode
 calls-are files =
     let end : List Call = call_end (codes "svrl:schematron-output") ∷ [] in
     let start : List Call → List Call = λ t. call_start (codes "svrl:schematron-output") ∷ encoded (call_declare (codes "svrl") svrl_uri) ∷ t in
-    ap start (map-append encoded (calls_inside svrl_declarations (line_elements (all_lines files))) (call_end (codes "svrl:schematron-output") ∷ call_close ∷ [])
+    ap start (map-append encoded (calls_inside svrl_declarations (line_elements (all_lines files)))
+    (call_end (codes "svrl:schematron-output") ∷ call_close ∷ [])
     ∙ (ap (λ t. t ++ call_end (codes "svrl:schematron-output") ∷ call_close ∷ []) (lines-are (all_lines files) ∙ files-are files)
     ∙ sym (append_assoc (files_calls files) end (call_close ∷ []))))
 
 -- The report in bytes, by the law of the pen
 
 abbrev IsLaw : Type 0
-IsLaw = (declarations : List Declaration) (document : Forest) → appended_by_all Fresh (map encoded (calls_of declarations document)) ≡ encode_utf8_all (canonical_text declarations document)
+IsLaw = (declarations : List Declaration) (document : Forest) → appended_by_all Fresh (map encoded (calls_of declarations document)) ≡ encode_utf8_all
+    (canonical_text declarations document)
 
 module _ (files : List (List Line)) (law : IsLaw) (pen : PenState) (fresh : pen ≡ Fresh) where
   whole-text : appended_by_all pen (report_calls files) ++ 0xA ∷ [] ≡ encode_utf8_all (svrl_report files)
@@ -163,12 +171,14 @@ module _ (files : List (List Line)) (law : IsLaw) (pen : PenState) (fresh : pen 
       ∙ (ap (λ state. appended_by_all state (report_calls files ++ call_close ∷ [])) fresh
       ∙ (ap (appended_by_all Fresh) (sym (calls-are files)) ∙ law svrl_declarations (svrl_tree files)))
 
-  pub report-broke : {T E : Type 0} (result : Result T E) (before after : SinkView) → Broke (writing pen) before (report_calls files) after → IsErr result → Writes result (encode_utf8_all (svrl_report files)) before after
+  pub report-broke : {T E : Type 0} (result : Result T E) (before after : SinkView) → Broke (writing pen) before (report_calls files) after → IsErr result →
+      Writes result (encode_utf8_all (svrl_report files)) before after
   report-broke result before after b i =
       let P : List ℕ → Type 0 = λ x. Writes result x before after in
       subst P whole-text (Writes-at_err result _ _ _ i (WritesFront-more (appended_by_all pen (report_calls files)) (0xA ∷ []) before after b))
 
-  pub report-written : {T E : Type 0} (result : Result T E) (v : WriterView) (before between after : SinkView) → Made (writing pen) before (report_calls files) v between → Writes result (0xA ∷ []) between after
+  pub report-written : {T E : Type 0} (result : Result T E) (v : WriterView) (before between after : SinkView) →
+      Made (writing pen) before (report_calls files) v between → Writes result (0xA ∷ []) between after
       → Writes result (encode_utf8_all (svrl_report files)) before after
   report-written result v before between after m c =
       let P : List ℕ → Type 0 = λ x. Writes result x before after in

@@ -87,7 +87,13 @@ count_of test lines = min (count_by test lines) last_count
 
 -- how many lines there are of each sort
 abbrev pub tally_of : List Line → Tally
-tally_of lines = record { failed = count_of is_failed lines; reported = count_of is_reported lines; errors = count_of is_error lines; minor = count_of is_minor lines }
+tally_of lines = record {
+  failed = count_of is_failed lines;
+  reported = count_of is_reported lines;
+  errors = count_of is_error lines;
+  minor =
+      count_of is_minor lines;
+}
 
 abbrev pub number_text : ℕ → List ℕ
 number_text n = decimal n

@@ -120,7 +120,8 @@ fn put_location<W: Writer, K: Sink>(
     location: &Txt,
 ) -> Result<(), WriteFault>
     requires { state_of (W.view pen.old) ≡ InsideTag }
-    ensures makes { Makes result (W.view pen.old) (K.view out.old) (call_attribute (codes "location") (encode_utf8_all location.now) ∷ []) (W.view pen.new) (K.view out.new) }
+    ensures makes { Makes result (W.view pen.old) (K.view out.old) (call_attribute (codes "location") (encode_utf8_all location.now) ∷ []) (W.view pen.new)
+        (K.view out.new) }
     ensures state { state_of (W.view pen.new) ≡ InsideTag }
 {
     pen.attribute(out, "location", location.as_str())
@@ -163,7 +164,8 @@ fn put_given_id<W: Writer, K: Sink>(
     id: &Str<'_>,
 ) -> Result<(), WriteFault>
     requires { state_of (W.view pen.old) ≡ InsideTag }
-    ensures makes { Makes result (W.view pen.old) (K.view out.old) (call_attribute (codes "id") (encode_utf8_all id.now) ∷ []) (W.view pen.new) (K.view out.new) }
+    ensures makes { Makes result (W.view pen.old) (K.view out.old) (call_attribute (codes "id") (encode_utf8_all id.now) ∷ []) (W.view pen.new)
+        (K.view out.new) }
     ensures state { state_of (W.view pen.new) ≡ InsideTag }
 {
     pen.attribute(out, "id", id.as_str())
@@ -261,7 +263,8 @@ fn put_attribute<W: Writer, K: Sink>(
     value: &Lent<'_>,
 ) -> Result<(), WriteFault>
     requires { state_of (W.view pen.old) ≡ InsideTag }
-    ensures makes { Makes result (W.view pen.old) (K.view out.old) (call_attribute name.now (encode_utf8_all value.now) ∷ []) (W.view pen.new) (K.view out.new) }
+    ensures makes { Makes result (W.view pen.old) (K.view out.old) (call_attribute name.now (encode_utf8_all value.now) ∷ []) (W.view pen.new)
+        (K.view out.new) }
     ensures state { state_of (W.view pen.new) ≡ InsideTag }
 {
     pen.attribute(out, name, value.as_str())

@@ -1,5 +1,6 @@
 -- The rows of terms that tables add: behind those of the semantic model, two for each number.
-use Rattle.std.proofs.Common.{◌≡◌, ℕ, ◌+◌, ◌-◌, ◌*◌, ◌≤◌, ◌<◌, zero, suc, Bool, true, false, ◌&&◌, List, [], ◌∷◌, ◌++◌, length, Option, Some, None, refl, sym, ap, ◌∙◌, ◌⊎◌, inl, inr, arith}
+use Rattle.std.proofs.Common.{◌≡◌, ℕ, ◌+◌, ◌-◌, ◌*◌, ◌≤◌, ◌<◌, zero, suc, Bool, true, false, ◌&&◌, List, [], ◌∷◌, ◌++◌, length, Option, Some, None, refl, sym}
+use Rattle.std.proofs.Common.{ap, ◌∙◌, ◌⊎◌, inl, inr, arith}
 use Rattle.std.specs.Prelude.{◌==◌, nat_lt, nat_le, find, position, option_map}
 use Rattle.std.specs.List.{list_all, list_any}
 use Rattle.std.proofs.lemmas.Bool.{false≢true}
@@ -26,7 +27,8 @@ add_none None = refl
 add_none (Some k) = ap Some (omega arith)
 
 -- Where none of the first passes, the place is among the others.
-pub position-behind : {X : Type 0} (p : X → Bool) (xs ys : List X) → list_any p xs ≡ false → position p (xs ++ ys) ≡ option_map (λ k. length xs + k) (position p ys)
+pub position-behind : {X : Type 0} (p : X → Bool) (xs ys : List X) → list_any p xs ≡ false →
+    position p (xs ++ ys) ≡ option_map (λ k. length xs + k) (position p ys)
 position-behind p [] ys h = add_none (position p ys)
 position-behind p (x ∷ xs) ys h = go (p x) refl h (position-behind p xs ys)
   where
@@ -100,25 +102,32 @@ module _ (term : Term) (outer inner : Option Group) (whole : term.part ≡ 0) wh
       cases : (a b : ℕ) → a ≤ b → (a ≡ b) ⊎ (a < b)
       cases a b h = grind (arith, h)
 
-      here : number ≡ term.number → position passes ((first number) ∷ ((second number) ∷ extension_rows_from m (number + 1))) ≡ option_map (λ k. (term.number - number) * 2 + k) (extension_place in_line in_root)
+      here : number ≡ term.number → position passes ((first number) ∷ ((second number) ∷ extension_rows_from m (number + 1))) ≡ option_map
+          (λ k. (term.number - number) * 2 + k) (extension_place in_line in_root)
       here e = by in_line in_root refl refl
         where
           z : (k : ℕ) → k ≡ (term.number - number) * 2 + k
           z k = omega (arith, e)
 
           by : (x y : Bool) → in_line ≡ x → in_root ≡ y
-              → position passes ((first number) ∷ ((second number) ∷ extension_rows_from m (number + 1))) ≡ option_map (λ k. (term.number - number) * 2 + k) (extension_place x y)
-          by true y f g = position-here passes (first number) (second number ∷ extension_rows_from m (number + 1)) (ap (λ b. b && in_line) (same-number number e) ∙ f) ∙ ap Some (z 0)
+              → position passes ((first number) ∷ ((second number) ∷ extension_rows_from m (number + 1))) ≡ option_map (λ k. (term.number - number) * 2 + k)
+              (extension_place x y)
+          by true y f g = position-here passes (first number) (second number ∷ extension_rows_from m (number + 1))
+              (ap (λ b. b && in_line) (same-number number e) ∙ f) ∙ ap Some (z 0)
           by false true f g =
               position-there passes (first number) (second number ∷ extension_rows_from m (number + 1)) (ap (λ b. b && in_line) (same-number number e) ∙ f)
-              ∙ (ap (option_map (λ k. 1 + k)) (position-here passes (second number) (extension_rows_from m (number + 1)) (ap (λ b. b && in_root) (same-number number e) ∙ g)) ∙ ap Some (z 1))
+              ∙ (ap (option_map (λ k. 1 + k)) (position-here passes (second number) (extension_rows_from m (number + 1))
+              (ap (λ b. b && in_root) (same-number number e) ∙ g)) ∙ ap Some (z 1))
           by false false f g =
               position-there passes (first number) (second number ∷ extension_rows_from m (number + 1)) (ap (λ b. b && in_line) (same-number number e) ∙ f)
-              ∙ (ap (option_map (λ k. 1 + k)) (position-there passes (second number) (extension_rows_from m (number + 1)) (ap (λ b. b && in_root) (same-number number e) ∙ g))
+              ∙ (ap (option_map (λ k. 1 + k)) (position-there passes (second number) (extension_rows_from m (number + 1))
+              (ap (λ b. b && in_root) (same-number number e) ∙ g))
               ∙ ap (λ o. option_map (λ k. 1 + k) (option_map (λ k. 1 + k) o)) (none-later m (number + 1) (omega (arith, e))))
 
-      later : number < term.number → (number + 1 ≤ term.number → term.number < number + 1 + m → position passes (extension_rows_from m (number + 1)) ≡ option_map (λ k. (term.number - (number + 1)) * 2 + k) (extension_place in_line in_root))
-          → position passes ((first number) ∷ ((second number) ∷ extension_rows_from m (number + 1))) ≡ option_map (λ k. (term.number - number) * 2 + k) (extension_place in_line in_root)
+      later : number < term.number → (number + 1 ≤ term.number → term.number < number + 1 + m →
+          position passes (extension_rows_from m (number + 1)) ≡ option_map (λ k. (term.number - (number + 1)) * 2 + k) (extension_place in_line in_root))
+          → position passes ((first number) ∷ ((second number) ∷ extension_rows_from m (number + 1))) ≡ option_map (λ k. (term.number - number) * 2 + k)
+          (extension_place in_line in_root)
       later g f =
           let a : passes (first number) ≡ false = ap (λ b. b && in_line) (other-number number g) in
           let b : passes (second number) ≡ false = ap (λ b. b && in_root) (other-number number g) in
@@ -135,7 +144,8 @@ small_numbers : list_all (λ (r : TermRow). nat_lt r.term.number 1001) terms ≡
 unfolding terms
 small_numbers = refl
 
-none_of : (term : Term) (outer inner : Option Group) → 1001 ≤ term.number → (rows : List TermRow) → list_all (λ (r : TermRow). nat_lt r.term.number 1001) rows ≡ true
+none_of : (term : Term) (outer inner : Option Group) → 1001 ≤ term.number → (rows : List TermRow) →
+    list_all (λ (r : TermRow). nat_lt r.term.number 1001) rows ≡ true
     → list_any (is_row_in term outer inner) rows ≡ false
 none_of term outer inner l [] h = refl
 none_of term outer inner l (r ∷ rows) h =
@@ -192,7 +202,8 @@ none_from term outer inner (suc m) number h =
         let p : term.part ≡ 0 = grind (arith, nat_tests, y) in
         absurd (h p (omega (arith, n)) (omega (arith, n)))
 
-pub modelled-row_is : (term : Term) (outer inner : Option Group) → is_extension term ≡ false → position (is_row_in term outer inner) terms ≡ row_in term outer inner
+pub modelled-row_is : (term : Term) (outer inner : Option Group) → is_extension term ≡ false →
+    position (is_row_in term outer inner) terms ≡ row_in term outer inner
 unfolding listing_rows extension_rows
 modelled-row_is term outer inner h =
     sym (position-ahead (is_row_in term outer inner) terms (extension_rows_from 99 1001)
@@ -217,11 +228,13 @@ no-type term h =
     none_found term (grind (arith, nat_tests, x)) terms small_numbers
 
 -- So where the semantic model has one, that is its type.
-pub one-type : (term : Term) (letter other : Letter) → HasType term letter → option_map (λ (r : TermRow). r.letter) (find (λ (r : TermRow). same_term r.term term) terms) ≡ Some other → letter ≡ other
+pub one-type : (term : Term) (letter other : Letter) → HasType term letter →
+    option_map (λ (r : TermRow). r.letter) (find (λ (r : TermRow). same_term r.term term) terms) ≡ Some other → letter ≡ other
 one-type term letter other (modelled e) h = same_Some _ _ (sym e ∙ h)
 one-type term letter other (added e k) h = absurd (let z : None ≡ Some other = sym (no-type term e) ∙ h in cc)
 
 -- The type of a term of the semantic model is that of the model.
-pub modelled-type : (term : Term) (letter : Letter) → HasType term letter → is_extension term ≡ false → option_map (λ (r : TermRow). r.letter) (find (λ (r : TermRow). same_term r.term term) terms) ≡ Some letter
+pub modelled-type : (term : Term) (letter : Letter) → HasType term letter → is_extension term ≡ false →
+    option_map (λ (r : TermRow). r.letter) (find (λ (r : TermRow). same_term r.term term) terms) ≡ Some letter
 modelled-type term letter (modelled e) h = e
 modelled-type term letter (added e k) h = absurd (false≢true (sym h ∙ e))

@@ -1,5 +1,6 @@
 -- Groups are the same where their numbers are, and rows that begin with the same group stand in the same one.
-use Rattle.std.proofs.Common.{◌≡◌, ℕ, ◌+◌, zero, suc, Bool, true, false, ◌&&◌, List, [], ◌∷◌, Option, Some, None, refl, sym, ap, ◌∙◌, subst, add-zero, zero-add, find, arith}
+use Rattle.std.proofs.Common.{◌≡◌, ℕ, ◌+◌, zero, suc, Bool, true, false, ◌&&◌, List, [], ◌∷◌, Option, Some, None, refl, sym, ap, ◌∙◌, subst, add-zero, zero-add}
+use Rattle.std.proofs.Common.{find, arith}
 use Rattle.std.proofs.lemmas.Bool.{false≢true}
 use Rattle.std.specs.Prelude.{◌==◌, slice_get}
 use Rattle.std.specs.Option.{option_map}
@@ -15,7 +16,12 @@ use Rattle.term_table.specs.Places.{first_row}
 
 all_groups : List Group
 all_groups =
-    groups.Root ∷ groups.InvoiceNote ∷ groups.ProcessControl ∷ groups.PrecedingInvoice ∷ groups.Seller ∷ groups.SellerAddress ∷ groups.SellerContact ∷ groups.Buyer ∷ groups.BuyerAddress ∷ groups.BuyerContact ∷ groups.Payee ∷ groups.TaxRepresentative ∷ groups.TaxRepresentativeAddress ∷ groups.Delivery ∷ groups.InvoicingPeriod ∷ groups.DeliveryAddress ∷ groups.PaymentInstructions ∷ groups.CreditTransfer ∷ groups.PaymentCard ∷ groups.DirectDebit ∷ groups.DocumentAllowance ∷ groups.DocumentCharge ∷ groups.DocumentTotals ∷ groups.VatBreakdown ∷ groups.SupportingDocument ∷ groups.InvoiceLine ∷ groups.LinePeriod ∷ groups.LineAllowance ∷ groups.LineCharge ∷ groups.PriceDetails ∷ groups.LineVat ∷ groups.ItemInformation ∷ groups.ItemAttribute ∷ groups.SellerIdentifier ∷ groups.SellerSchemedIdentifier ∷ groups.ItemClassification ∷ []
+    groups.Root ∷ groups.InvoiceNote ∷ groups.ProcessControl ∷ groups.PrecedingInvoice ∷ groups.Seller ∷ groups.SellerAddress ∷ groups.SellerContact ∷
+    groups.Buyer ∷ groups.BuyerAddress ∷ groups.BuyerContact ∷ groups.Payee ∷ groups.TaxRepresentative ∷ groups.TaxRepresentativeAddress ∷ groups.Delivery ∷
+    groups.InvoicingPeriod ∷ groups.DeliveryAddress ∷ groups.PaymentInstructions ∷ groups.CreditTransfer ∷ groups.PaymentCard ∷ groups.DirectDebit ∷
+    groups.DocumentAllowance ∷ groups.DocumentCharge ∷ groups.DocumentTotals ∷ groups.VatBreakdown ∷ groups.SupportingDocument ∷ groups.InvoiceLine ∷
+    groups.LinePeriod ∷ groups.LineAllowance ∷ groups.LineCharge ∷ groups.PriceDetails ∷ groups.LineVat ∷ groups.ItemInformation ∷ groups.ItemAttribute ∷
+    groups.SellerIdentifier ∷ groups.SellerSchemedIdentifier ∷ groups.ItemClassification ∷ []
 
 group_at : ℕ → Option Group
 group_at n = find (λ g. number_of g == n) all_groups

@@ -1,5 +1,6 @@
 -- Seats in listing order: those of a context stand together, behind those that come before it.
-use Rattle.std.proofs.Common.{◌≡◌, ℕ, ◌+◌, ◌-◌, ◌<◌, ◌≤◌, zero, suc, Bool, true, false, ◌&&◌, ◌||◌, List, [], ◌∷◌, length, get_or, Option, Some, None, take, drop, refl, sym, ap, ◌∙◌, subst, ◌⊎◌, inl, inr, arith, length-drop}
+use Rattle.std.proofs.Common.{◌≡◌, ℕ, ◌+◌, ◌-◌, ◌<◌, ◌≤◌, zero, suc, Bool, true, false, ◌&&◌, ◌||◌, List, [], ◌∷◌, length, get_or, Option, Some, None, take}
+use Rattle.std.proofs.Common.{drop, refl, sym, ap, ◌∙◌, subst, ◌⊎◌, inl, inr, arith, length-drop}
 use Rattle.std.specs.Prelude.{slice_get, is_some, is_none, filter, map}
 use Rattle.std.specs.Ordering.{is_lt, nat_cmp, ordering_reverse}
 use Rattle.std.specs.Cmp.Lexicographic.{slice_cmp}
@@ -37,15 +38,18 @@ filter-run p [] zero (suc m) before within behind = refl
 filter-run p [] (suc n) zero before within behind = refl
 filter-run p [] (suc n) (suc m) before within behind = refl
 filter-run p (x ∷ xs) (suc n) m before within behind =
-    let rest = filter-run p xs n m (λ k y e l. before (suc k) y e (omega (arith, l))) (λ k y e l u. within (suc k) y e (omega (arith, l)) (omega (arith, u))) (λ k y e l. behind (suc k) y e (omega (arith, l))) in
+    let rest = filter-run p xs n m (λ k y e l. before (suc k) y e (omega (arith, l))) (λ k y e l u. within (suc k) y e (omega (arith, l)) (omega (arith, u)))
+    (λ k y e l. behind (suc k) y e (omega (arith, l))) in
     let fails : p x ≡ false = before 0 x refl (omega arith) in
     rw fails rest
 filter-run p (x ∷ xs) zero (suc m) before within behind =
-    let rest = filter-run p xs 0 m (λ k y e l. absurd (omega (arith, l))) (λ k y e l u. within (suc k) y e (omega arith) (omega (arith, u))) (λ k y e l. behind (suc k) y e (omega (arith, l))) in
+    let rest = filter-run p xs 0 m (λ k y e l. absurd (omega (arith, l))) (λ k y e l u. within (suc k) y e (omega arith) (omega (arith, u)))
+    (λ k y e l. behind (suc k) y e (omega (arith, l))) in
     let passes : p x ≡ true = within 0 x refl (omega arith) (omega arith) in
     rw passes (ap (λ z. x ∷ z) rest)
 filter-run p (x ∷ xs) zero zero before within behind =
-    let rest = filter-run p xs 0 0 (λ k y e l. absurd (omega (arith, l))) (λ k y e l u. absurd (omega (arith, l, u))) (λ k y e l. behind (suc k) y e (omega arith)) in
+    let rest = filter-run p xs 0 0 (λ k y e l. absurd (omega (arith, l))) (λ k y e l u. absurd (omega (arith, l, u)))
+    (λ k y e l. behind (suc k) y e (omega arith)) in
     let fails : p x ≡ false = behind 0 x refl (omega arith) in
     rw fails rest
 
@@ -83,7 +87,8 @@ not_before a b p q h = elim (nat_cases a b) [
     less_first a b p q l = grind (arith, nat_tests)
 
 -- Behind the start of a context, and at most where one in the context is: the same first number, and so on behind it.
-squeezed : (a b : ℕ) (p q r : List ℕ) → precedes (a ∷ p) (b ∷ q) ≡ false → precedes (b ∷ r) (a ∷ p) ≡ false → (a ≡ b) × (precedes p q ≡ false) × (precedes r p ≡ false)
+squeezed : (a b : ℕ) (p q r : List ℕ) → precedes (a ∷ p) (b ∷ q) ≡ false → precedes (b ∷ r) (a ∷ p) ≡ false → (a ≡ b) × (precedes p q ≡ false) ×
+    (precedes r p ≡ false)
 squeezed a b p q r h k = elim (not_before a b p q h) [
   | inl g ↦ elim (not_before b a r p k) [ inl l ↦ absurd (omega (arith, g, l)) | inr e ↦ absurd (let s = e.0 in omega (arith, g, s)) ]
   | inr e ↦ elim (not_before b a r p k) [ inl l ↦ absurd (let s = e.0 in omega (arith, s, l)) | inr f ↦ (e.0, e.1, f.1) ]
@@ -119,10 +124,12 @@ slot_with slot group o h g i =
     pair : (a b : Bool) → a ≡ true → b ≡ true → (a && b) ≡ true
     pair a b e f = rw (e, f) refl
 
-group_of_slot : (row : ℕ) (slot : Option Slot) (group : Option Group) (o : Slot) → is_slot_of slot group ≡ true → same_slot (Some o) slot ≡ true → group ≡ Some o.group
+group_of_slot : (row : ℕ) (slot : Option Slot) (group : Option Group) (o : Slot) → is_slot_of slot group ≡ true → same_slot (Some o) slot ≡ true →
+    group ≡ Some o.group
 group_of_slot row None group o h k = absurd (false≢true k)
 group_of_slot row (Some t) None o h k = absurd (false≢true h)
-group_of_slot row (Some t) (Some g) o h k = ap Some (sym (same_group_is t.group g h) ∙ sym (same_group_is o.group t.group (both (same_group o.group t.group) _ k).0))
+group_of_slot row (Some t) (Some g) o h k = ap Some (sym (same_group_is t.group g h) ∙
+    sym (same_group_is o.group t.group (both (same_group o.group t.group) _ k).0))
 
 and_true : (a : Bool) → a ≡ true → (a && true) ≡ true
 and_true a h = rw h refl
@@ -201,7 +208,8 @@ between_numbers (Some o) None a b x y n order behind h =
     let same = (both (same_slot (Some o) b.context.outer) _ h).0 in
     let p = slot_numbers y.row b.context.outer (outer_group y.line.group) o y.outer same in
     let l = level _ _ _ _ _ _ (rest a x) [] (rest b y) behind order p.0 p.1 in
-    let g = same_outer_start x.row y.row x.line y.line x.found y.found (l.0 ∙ sym p.0) ∙ group_of_slot y.row b.context.outer (outer_group y.line.group) o y.outer same in
+    let g = same_outer_start x.row y.row x.line y.line x.found y.found (l.0 ∙ sym p.0) ∙
+    group_of_slot y.row b.context.outer (outer_group y.line.group) o y.outer same in
     and_true _ (slot_with a.context.outer (outer_group x.line.group) o x.outer g l.1)
 between_numbers (Some o) (Some i) a b x y n order behind h =
     let both_same = both (same_slot (Some o) b.context.outer) _ h in
@@ -209,8 +217,10 @@ between_numbers (Some o) (Some i) a b x y n order behind h =
     let q = slot_numbers y.row b.context.inner (inner_group y.line.group) i y.inner both_same.1 in
     let l = level _ _ _ _ _ _ (rest a x) (slot_start (Some i)) (rest b y) behind order p.0 p.1 in
     let m = level _ _ _ _ _ _ (x.row ∷ []) [] (y.row ∷ []) l.2 l.3 q.0 q.1 in
-    let g = same_outer_start x.row y.row x.line y.line x.found y.found (l.0 ∙ sym p.0) ∙ group_of_slot y.row b.context.outer (outer_group y.line.group) o y.outer both_same.0 in
-    let f = same_inner_start x.row y.row x.line y.line x.found y.found (m.0 ∙ sym q.0) ∙ group_of_slot y.row b.context.inner (inner_group y.line.group) i y.inner both_same.1 in
+    let g = same_outer_start x.row y.row x.line y.line x.found y.found (l.0 ∙ sym p.0) ∙
+    group_of_slot y.row b.context.outer (outer_group y.line.group) o y.outer both_same.0 in
+    let f = same_inner_start x.row y.row x.line y.line x.found y.found (m.0 ∙ sym q.0) ∙
+    group_of_slot y.row b.context.inner (inner_group y.line.group) i y.inner both_same.1 in
     and_both _ _ (slot_with a.context.outer (outer_group x.line.group) o x.outer g l.1) (slot_with a.context.inner (inner_group x.line.group) i x.inner f m.1)
 
 follow_inside : (c : Context) (a b : Seat) → IsNested c → MayFollow a b → stands_before c a ≡ false → is_in c b ≡ true → is_in c a ≡ true
@@ -230,7 +240,8 @@ module _ {A : Type 0} (f : A → Seat) (xs : List A) (c : Context) (n : IsNested
   follows i j d l u =
       let v : i < length xs = omega (arith, l, u) in
       let w : j < length (map f xs) = rw (length-map xs f) u in
-      subst (λ s. MayFollow s (f (get_or xs j d))) (get_or-map f xs i d (f d) v) (subst (λ s. MayFollow (get_or (map f xs) i (f d)) s) (get_or-map f xs j d (f d) u) (o.order i j (f d) l w))
+      subst (λ s. MayFollow s (f (get_or xs j d))) (get_or-map f xs i d (f d) v)
+      (subst (λ s. MayFollow (get_or (map f xs) i (f d)) s) (get_or-map f xs j d (f d) u) (o.order i j (f d) l w))
 
   pub up_to : (i j : ℕ) → i ≤ j → (i ≡ j) ⊎ (i < j)
   up_to i j l = grind arith
@@ -241,14 +252,16 @@ module _ {A : Type 0} (f : A → Seat) (xs : List A) (c : Context) (n : IsNested
     | inr m ↦ follow_before c _ _ (follows i j d m u) h
   ]
 
-  pub inside_first : (k : ℕ) → IsPartitionPoint (λ x. stands_before c (f x) ≡ true) (λ x. stands_before c (f x) ≡ false) xs k → IsPartitionedBy (λ x. is_in c (f x)) (drop k xs)
+  pub inside_first : (k : ℕ) → IsPartitionPoint (λ x. stands_before c (f x) ≡ true) (λ x. stands_before c (f x) ≡ false) xs k →
+      IsPartitionedBy (λ x. is_in c (f x)) (drop k xs)
   inside_first k point i j d l u h =
       let v : k + j < length xs = omega (arith, u, length-drop k xs) in
       elim (up_to i j l) [
         | inl e ↦ ap (λ m. is_in c (f (get_or (drop k xs) m d))) e ∙ h
         | inr m ↦
             let behind : stands_before c (f (get_or xs (k + i) d)) ≡ false = point.1 (k + i) d (omega arith) (omega (arith, m, v)) in
-            ap (λ y. is_in c (f y)) (get_or-drop k xs i d) ∙ follow_inside c _ _ n (follows (k + i) (k + j) d (omega (arith, m)) v) behind (ap (λ y. is_in c (f y)) (sym (get_or-drop k xs j d)) ∙ h)
+            ap (λ y. is_in c (f y)) (get_or-drop k xs i d) ∙ follow_inside c _ _ n (follows (k + i) (k + j) d (omega (arith, m)) v) behind
+            (ap (λ y. is_in c (f y)) (sym (get_or-drop k xs j d)) ∙ h)
       ]
 
   pub run-is : (k m : ℕ) → IsPartitionPoint (λ x. stands_before c (f x) ≡ true) (λ x. stands_before c (f x) ≡ false) xs k

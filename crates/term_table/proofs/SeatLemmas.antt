@@ -69,7 +69,8 @@ abbrev pub index_of : Option Slot → ℕ
 index_of None = 0
 index_of (Some slot) = slot.index
 
-slot_place-start : (row : ℕ) (slot : Option Slot) (group : Option Group) → is_slot_of slot group ≡ true → slot_place row slot ≡ start row group ∷ index_of slot ∷ []
+slot_place-start : (row : ℕ) (slot : Option Slot) (group : Option Group) → is_slot_of slot group ≡ true →
+    slot_place row slot ≡ start row group ∷ index_of slot ∷ []
 slot_place-start row None None h = refl
 slot_place-start row None (Some g) h = absurd (false≢true h)
 slot_place-start row (Some s) None h = absurd (false≢true h)
@@ -192,7 +193,8 @@ outer_at f l e a b c h k t s ft es same =
     let ge : outer_group c.line.group ≡ Some s.group = slot_group-is _ _ c.outer ∙ ap slot_group es in
     let starts : start a.row (outer_group a.line.group) ≡ start c.row (outer_group c.line.group) =
     ap (start a.row) gf ∙ (ap first_row same ∙ sym (ap (start c.row) ge)) in
-    let w : Between (start a.row (outer_group a.line.group)) (start b.row (outer_group b.line.group)) (index_of f.context.outer ∷ rest f a) (index_of l.context.outer ∷ rest l b) (index_of e.context.outer ∷ rest e c) =
+    let w : Between (start a.row (outer_group a.line.group)) (start b.row (outer_group b.line.group)) (index_of f.context.outer ∷ rest f a)
+    (index_of l.context.outer ∷ rest l b) (index_of e.context.outer ∷ rest e c) =
     between _ _ _ (index_of f.context.outer ∷ rest f a) (index_of l.context.outer ∷ rest l b) (index_of e.context.outer ∷ rest e c) h k starts in
     let gl : outer_group b.line.group ≡ Some s.group = sym (same_outer_start a.row b.row a.line b.line a.found b.found w.first) ∙ (gf ∙ ap Some same) in
     let u = slot_of_group l.context.outer s.group (sym (slot_group-is _ _ b.outer) ∙ gl) in
@@ -227,7 +229,8 @@ inner_at f l e a b c h k t s ft es same =
     let ge : inner_group c.line.group ≡ Some s.group = slot_group-is _ _ c.inner ∙ ap slot_group es in
     let starts : start a.row (inner_group a.line.group) ≡ start c.row (inner_group c.line.group) =
     ap (start a.row) gf ∙ (ap first_row same ∙ sym (ap (start c.row) ge)) in
-    let w : Between (start a.row (inner_group a.line.group)) (start b.row (inner_group b.line.group)) (index_of f.context.inner ∷ a.row ∷ []) (index_of l.context.inner ∷ b.row ∷ []) (index_of e.context.inner ∷ c.row ∷ []) =
+    let w : Between (start a.row (inner_group a.line.group)) (start b.row (inner_group b.line.group)) (index_of f.context.inner ∷ a.row ∷ [])
+    (index_of l.context.inner ∷ b.row ∷ []) (index_of e.context.inner ∷ c.row ∷ []) =
     between _ _ _ (index_of f.context.inner ∷ a.row ∷ []) (index_of l.context.inner ∷ b.row ∷ []) (index_of e.context.inner ∷ c.row ∷ []) h k starts in
     let gl : inner_group b.line.group ≡ Some s.group = sym (same_inner_start a.row b.row a.line b.line a.found b.found w.first) ∙ (gf ∙ ap Some same) in
     let u = slot_of_group l.context.inner s.group (sym (slot_group-is _ _ b.inner) ∙ gl) in
@@ -303,7 +306,8 @@ precedes-trans p q r h k = ap is_lt (nat_list_cmp_total.trans p q r (less_is _ h
 pub comes_before-trans : (a b c : Seat) → comes_before a b ≡ true → comes_before b c ≡ true → comes_before a c ≡ true
 comes_before-trans a b c h k =
     let o = orders-from a b c h k in
-    let t : placed_test (Some (numbers a o.first)) (Some (numbers c o.last)) ≡ true = precedes-trans (numbers a o.first) (numbers b o.middle) (numbers c o.last) o.before o.behind in
+    let t : placed_test (Some (numbers a o.first)) (Some (numbers c o.last)) ≡ true =
+    precedes-trans (numbers a o.first) (numbers b o.middle) (numbers c o.last) o.before o.behind in
     ap (λ x. placed_test x (seat_place c)) (placed-at a o.first) ∙ (ap (placed_test (Some (numbers a o.first))) (placed-at c o.last) ∙ t)
 
 -- ---- numbers rise
@@ -317,11 +321,13 @@ outer-rises f e b t s ft es same =
     let y = b.second in
     let gf : outer_group x.line.group ≡ Some t.group = slot_group-is _ _ x.outer ∙ ap slot_group ft in
     let ge : outer_group y.line.group ≡ Some s.group = slot_group-is _ _ y.outer ∙ ap slot_group es in
-    let starts : start x.row (outer_group x.line.group) ≡ start y.row (outer_group y.line.group) = ap (start x.row) gf ∙ (ap first_row same ∙ sym (ap (start y.row) ge)) in
+    let starts : start x.row (outer_group x.line.group) ≡ start y.row (outer_group y.line.group) = ap (start x.row) gf ∙
+    (ap first_row same ∙ sym (ap (start y.row) ge)) in
     let it : index_of f.context.outer ≡ t.index = ap index_of ft in
     let is : index_of e.context.outer ≡ s.index = ap index_of es in
     let w : precedes (index_of f.context.outer ∷ rest f x) (index_of e.context.outer ∷ rest e y) ≡ true =
-    behind_first (start x.row (outer_group x.line.group)) (start y.row (outer_group y.line.group)) (index_of f.context.outer ∷ rest f x) (index_of e.context.outer ∷ rest e y) b.order starts in
+    behind_first (start x.row (outer_group x.line.group)) (start y.row (outer_group y.line.group)) (index_of f.context.outer ∷ rest f x)
+    (index_of e.context.outer ∷ rest e y) b.order starts in
     let l : index_of f.context.outer ≤ index_of e.context.outer = at_most (index_of f.context.outer) (index_of e.context.outer) (rest f x) (rest e y) w in
     (omega (arith, l, it, is), λ q. behind_first (index_of f.context.outer) (index_of e.context.outer) (rest f x) (rest e y) w (it ∙ (q ∙ sym is)))
 
@@ -332,11 +338,13 @@ inner-rises f e b outer t s fo eo ft es same =
     let y = b.second in
     let gf : inner_group x.line.group ≡ Some t.group = slot_group-is _ _ x.inner ∙ ap slot_group ft in
     let ge : inner_group y.line.group ≡ Some s.group = slot_group-is _ _ y.inner ∙ ap slot_group es in
-    let starts : start x.row (inner_group x.line.group) ≡ start y.row (inner_group y.line.group) = ap (start x.row) gf ∙ (ap first_row same ∙ sym (ap (start y.row) ge)) in
+    let starts : start x.row (inner_group x.line.group) ≡ start y.row (inner_group y.line.group) = ap (start x.row) gf ∙
+    (ap first_row same ∙ sym (ap (start y.row) ge)) in
     let it : index_of f.context.inner ≡ t.index = ap index_of ft in
     let is : index_of e.context.inner ≡ s.index = ap index_of es in
     let w : precedes (index_of f.context.inner ∷ x.row ∷ []) (index_of e.context.inner ∷ y.row ∷ []) ≡ true =
-    behind_first (start x.row (inner_group x.line.group)) (start y.row (inner_group y.line.group)) (index_of f.context.inner ∷ x.row ∷ []) (index_of e.context.inner ∷ y.row ∷ [])
+    behind_first (start x.row (inner_group x.line.group)) (start y.row (inner_group y.line.group)) (index_of f.context.inner ∷ x.row ∷ [])
+    (index_of e.context.inner ∷ y.row ∷ [])
     ((outer-rises f e b outer outer fo eo refl).1 refl) starts in
     let l : index_of f.context.inner ≤ index_of e.context.inner = at_most (index_of f.context.inner) (index_of e.context.inner) (x.row ∷ []) (y.row ∷ []) w in
     omega (arith, l, it, is)

@@ -1,6 +1,7 @@
 -- The table of terms in the code is the one of the semantic model, and the rows of a number are where the code looks
 -- for them.
-use Rattle.std.proofs.Common.{◌≡◌, ℕ, ◌+◌, ◌≤◌, ◌<◌, zero, suc, Bool, true, false, ◌&&◌, List, [], ◌∷◌, length, Option, Some, None, take, drop, refl, sym, ap, ◌∙◌, subst, ◌⊎◌, inl, inr, arith}
+use Rattle.std.proofs.Common.{◌≡◌, ℕ, ◌+◌, ◌≤◌, ◌<◌, zero, suc, Bool, true, false, ◌&&◌, List, [], ◌∷◌, length, Option, Some, None, take, drop, refl, sym, ap}
+use Rattle.std.proofs.Common.{◌∙◌, subst, ◌⊎◌, inl, inr, arith}
 use Rattle.std.specs.Prelude.{◌==◌, nat_lt, nat_le, position, slice_get, option_map}
 use Rattle.std.specs.List.{list_all, position_or_len}
 use Rattle.std.proofs.lemmas.Option.{same_Some}
@@ -40,7 +41,8 @@ position-there p x xs h = elim (bool_cases (nat_lt (position_or_len p xs) (lengt
 ]
 
 -- Where only the first m can pass, the place is the one among them.
-among_first : {X : Type 0} (p : X → Bool) (xs : List X) (m : ℕ) → ((k : ℕ) (x : X) → slice_get xs k ≡ Some x → p x ≡ true → k < m) → position p (take m xs) ≡ position p xs
+among_first : {X : Type 0} (p : X → Bool) (xs : List X) (m : ℕ) → ((k : ℕ) (x : X) → slice_get xs k ≡ Some x → p x ≡ true → k < m) →
+    position p (take m xs) ≡ position p xs
 among_first p [] zero h = refl
 among_first p [] (suc m) h = refl
 among_first p (x ∷ xs) zero h = elim (bool_cases (p x)) [
@@ -81,7 +83,8 @@ position-among p (x ∷ xs) (suc a) m h = elim (bool_cases (p x)) [
 
 rows_behind : List ℕ → ℕ → List TermRow → Bool
 rows_behind firsts k [] = true
-rows_behind firsts k (row ∷ rows) = (nat_le (first_of firsts row.term.number) k && nat_lt k (first_of firsts row.term.number + 3)) && rows_behind firsts (k + 1) rows
+rows_behind firsts k (row ∷ rows) = (nat_le (first_of firsts row.term.number) k && nat_lt k (first_of firsts row.term.number + 3)) &&
+    rows_behind firsts (k + 1) rows
 
 rows_are : rows_behind FIRST_ROWS 0 terms ≡ true
 unfolding rows_behind terms
@@ -96,8 +99,11 @@ row_at firsts n (r ∷ rows) zero row h e =
     let p = both (nat_le (first_of firsts r.term.number) n && nat_lt n (first_of firsts r.term.number + 3)) _ h in
     let q = both (nat_le (first_of firsts r.term.number) n) _ p.0 in
     let same : r ≡ row = same_Some _ _ e in
-    subst (λ (x : TermRow). (first_of firsts x.term.number ≤ n + 0) × (n + 0 < first_of firsts x.term.number + 3)) same
-    (let l : first_of firsts r.term.number ≤ n = grind (arith, nat_tests, q.0) in omega (arith, l), let l : n < first_of firsts r.term.number + 3 = grind (arith, nat_tests, q.1) in omega (arith, l))
+    subst (λ (x : TermRow). (first_of firsts x.term.number ≤ n + 0) × (n + 0 < first_of firsts x.term.number + 3)) same (
+      let l : first_of firsts r.term.number ≤ n = grind (arith, nat_tests, q.0) in omega (arith, l),
+      let l : n < first_of firsts r.term.number + 3 =
+          grind (arith, nat_tests, q.1) in omega (arith, l),
+    )
 row_at firsts n (r ∷ rows) (suc k) row h e =
     let p = both (nat_le (first_of firsts r.term.number) n && nat_lt n (first_of firsts r.term.number + 3)) _ h in
     let l = row_at firsts (n + 1) rows k row p.1 e in
@@ -123,7 +129,8 @@ first_fits n = rw table_length (first_within FIRST_ROWS n firsts_fit)
 numbered : (row term : Term) → same_term row term ≡ true → row.number ≡ term.number
 numbered row term h = let p = (both (row.number == term.number) _ h).0 in grind (arith, nat_tests, p)
 
-pub row_from-is : (term : Term) (outer inner : Option Group) → row_from TERMS (first_of FIRST_ROWS term.number) term outer inner ≡ position (is_row_in term outer inner) terms
+pub row_from-is : (term : Term) (outer inner : Option Group) → row_from TERMS (first_of FIRST_ROWS term.number) term outer inner ≡ position
+    (is_row_in term outer inner) terms
 row_from-is term outer inner =
     let passes : (k : ℕ) (row : TermRow) → slice_get terms k ≡ Some row → is_row_in term outer inner row ≡ true
     → (first_of FIRST_ROWS term.number ≤ k) × (k < first_of FIRST_ROWS term.number + 3) =
@@ -131,4 +138,5 @@ row_from-is term outer inner =
     let same = numbered row.term term (both (same_term row.term term) _ h).0 in
     let l = row_at FIRST_ROWS 0 terms k row rows_are e in
     subst (λ n. (first_of FIRST_ROWS n ≤ k) × (k < first_of FIRST_ROWS n + 3)) same (omega (arith, l.0), omega (arith, l.1)) in
-    ap (λ rows. row_from rows (first_of FIRST_ROWS term.number) term outer inner) table_is ∙ position-among (is_row_in term outer inner) terms (first_of FIRST_ROWS term.number) 3 passes
+    ap (λ rows. row_from rows (first_of FIRST_ROWS term.number) term outer inner) table_is ∙
+    position-among (is_row_in term outer inner) terms (first_of FIRST_ROWS term.number) 3 passes

@@ -22,4 +22,5 @@ extension_place false true = Some 1
 extension_place false false = None
 
 abbrev pub extension_row : ℕ → Option Group → Option Group → Option ℕ
-extension_row number outer inner = option_map (λ k. 181 + ((number - 1001) * 2 + k)) (extension_place (stands_in groups.InvoiceLine outer inner) (stands_in groups.Root outer inner))
+extension_row number outer inner = option_map (λ k. 181 + ((number - 1001) * 2 + k))
+    (extension_place (stands_in groups.InvoiceLine outer inner) (stands_in groups.Root outer inner))

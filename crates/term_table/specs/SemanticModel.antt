@@ -48,7 +48,8 @@ part_code number mark list = line number 1 letters.C mark (Some list)
 
 -- an address: three lines, city, post code, country subdivision, country
 abbrev pub address : ℕ → ℕ → ℕ → ℕ → ℕ → ℕ → ℕ → List Line
-address a b c d e f g = may a letters.T ∷ may b letters.T ∷ may c letters.T ∷ may d letters.T ∷ may e letters.T ∷ may f letters.T ∷ needs_code g lists.Country ∷ []
+address a b c d e f g = may a letters.T ∷ may b letters.T ∷ may c letters.T ∷ may d letters.T ∷ may e letters.T ∷ may f letters.T ∷ needs_code g
+    lists.Country ∷ []
 
 -- an allowance or a charge begins with its amount, base amount and percentage, and ends with its reason and the
 -- reason's code

@@ -82,8 +82,13 @@ totals-fit : ReadsBack → (sum : ℕ) → sum < 10 ^ 12 → AllFit (totals sum)
 totals-fit law sum h =
     let whole : 100 * sum < 10 ^ 18 = omega arith in
     let tax : 20 * sum < 10 ^ 18 = omega arith in
-    let both : 120 * sum < 10 ^ 18 = omega arith in
-    (fits-amount law (bt 106) _ t.type-106 whole, (fits-amount law (bt 109) _ t.type-109 whole, (fits-amount law (bt 110) _ t.type-110 tax, (fits-amount law (bt 112) _ t.type-112 both, (fits-amount law (bt 115) _ t.type-115 both, tt)))))
+    let both : 120 * sum < 10 ^ 18 = omega arith in (
+      fits-amount law (bt 106) _ t.type-106 whole,
+      (
+        fits-amount law (bt 109) _ t.type-109 whole,
+        (fits-amount law (bt 110) _ t.type-110 tax, (fits-amount law (bt 112) _ t.type-112 both, (fits-amount law (bt 115) _ t.type-115 both, tt))),
+      ),
+    )
 
 breakdown-fits : ReadsBack → (sum : ℕ) → sum < 10 ^ 12 → AllFit (breakdown sum)
 breakdown-fits law sum h =

@@ -1,5 +1,6 @@
 -- The generated entries are an invoice: each stands behind the one before it, and the lines are numbered from 1.
-use Rattle.std.proofs.Common.{◌≡◌, ℕ, ◌+◌, ◌-◌, ◌≤◌, Bool, true, false, ◌&&◌, ◌||◌, List, [], ◌∷◌, ◌++◌, length, Option, Some, None, refl, ap, ◌∙◌, arith, ◌⊎◌, inl, inr, length-append}
+use Rattle.std.proofs.Common.{◌≡◌, ℕ, ◌+◌, ◌-◌, ◌≤◌, Bool, true, false, ◌&&◌, ◌||◌, List, [], ◌∷◌, ◌++◌, length, Option, Some, None, refl, ap, ◌∙◌, arith, ◌⊎◌}
+use Rattle.std.proofs.Common.{inl, inr, length-append}
 use Rattle.std.specs.Prelude.{◌↔◌, ◌==◌, nat_le, slice_get, is_some, fold, max, map, if◌then◌else◌}
 use Rattle.std.proofs.lemmas.Bool.Decides.{nat_tests}
 use Rattle.std.proofs.lemmas.List.{map-append}
@@ -39,7 +40,8 @@ last_behind es e =
 
 -- ---- the number of the last line
 
-outer_behind : (es : List Entry) (e : Entry) → last_outer (es ++ e ∷ []) groups.InvoiceLine ≡ max (last_outer es groups.InvoiceLine) (index_in groups.InvoiceLine e.context.outer)
+outer_behind : (es : List Entry) (e : Entry) → last_outer (es ++ e ∷ []) groups.InvoiceLine ≡ max (last_outer es groups.InvoiceLine)
+    (index_in groups.InvoiceLine e.context.outer)
 outer_behind es e =
     let f : Entry → ℕ = λ (x : Entry). index_in groups.InvoiceLine x.context.outer in
     ap (fold max 0) (map-append f es (e ∷ [])) ∙ fold-append max 0 (map f es) (f e ∷ [])
@@ -73,7 +75,8 @@ pub one-more : Pushes → (es : List Entry) (place : List ℕ) (k i number : ℕ
 one-more law es place k i number value row ends fits placed order numbered from =
     let e : Entry = entry (occurrence groups.InvoiceLine i) number value in
     let stands : is_placed e ≡ true = ap is_some placed in
-    let behind : is_behind es e ≡ true = ap (λ last. is_behind_last last e) ends.last_is ∙ before (seat_of ends.last) (in_line i number) place row ends.placed placed order in
+    let behind : is_behind es e ≡ true = ap (λ last. is_behind_last last e) ends.last_is ∙
+    before (seat_of ends.last) (in_line i number) place row ends.placed placed order in
     let is_the_next : is_next es e.context ≡ true =
     and-true _ (ap (λ n. nat_le 1 i && ((i == n) || (i == n + 1))) ends.numbered ∙ next-test i k from numbered) in
     record {

@@ -26,7 +26,8 @@ range-more a (suc n) = ap (λ t. a ∷ t) (range-more (a + 1) n ∙ ap (λ m. ra
 
 pub sum-more : (n : ℕ) → sum_of_nets (suc n) ≡ sum_of_nets n + net (suc n)
 unfolding sum_of_nets
-sum-more n = ap (sum_by net) (range-more 1 n) ∙ (sum_by-append net (range_with_len 1 n) ((1 + n) ∷ []) ∙ (let number : net (1 + n) ≡ net (suc n) = ap net (omega arith) in omega arith))
+sum-more n = ap (sum_by net) (range-more 1 n) ∙ (sum_by-append net (range_with_len 1 n) ((1 + n) ∷ []) ∙
+    (let number : net (1 + n) ≡ net (suc n) = ap net (omega arith) in omega arith))
 
 pub sum-le : (n : ℕ) → sum_of_nets n ≤ 9000 * n
 unfolding sum_of_nets

@@ -33,7 +33,8 @@ hundredths-ascii n h = plain-ascii (hundredths_text n) (plain-hundredths n h)
 
 behind-ascii : (front text : List ℕ) → is_ascii front ≡ true → IsAscii text → IsAscii (front ++ text)
 behind-ascii [] text h k = k
-behind-ascii (c ∷ front) text h k = let parts = both (nat_lt c 128) (is_ascii front) h in IsAscii-cons c (front ++ text) (ltb-true c 128 parts.0) (behind-ascii front text parts.1 k)
+behind-ascii (c ∷ front) text h k = let parts = both (nat_lt c 128) (is_ascii front) h in
+    IsAscii-cons c (front ++ text) (ltb-true c 128 parts.0) (behind-ascii front text parts.1 k)
 
 pub item-ascii : (n : ℕ) → n < 2 ^ 64 → IsAscii (codes "Item " ++ decimal n)
 item-ascii n h = behind-ascii (codes "Item ") (decimal n) refl (plain-ascii (decimal n) (plain-decimal n h))
@@ -62,7 +63,8 @@ hundredths-read law n h text e =
 
 -- ---- texts made of parts
 
-pub hundredths-made : (n : ℕ) (front : List ℕ) (a b : ℕ) → front ≡ decimal (n / 100) → a ≡ last_digit (n / 10) → b ≡ last_digit n → front ++ (46 ∷ (a ∷ (b ∷ []))) ≡ hundredths_text n
+pub hundredths-made : (n : ℕ) (front : List ℕ) (a b : ℕ) → front ≡ decimal (n / 100) → a ≡ last_digit (n / 10) → b ≡ last_digit n → front ++
+    (46 ∷ (a ∷ (b ∷ []))) ≡ hundredths_text n
 hundredths-made n front a b e h k = λ i. e i ++ (46 ∷ (h i ∷ (k i ∷ [])))
 
 pub item-made : (n : ℕ) (front back : List ℕ) → front ≡ codes "Item " → back ≡ decimal n → front ++ back ≡ codes "Item " ++ decimal n

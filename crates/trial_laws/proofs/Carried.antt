@@ -1,5 +1,6 @@
 -- The generated invoice is carried by the tables of UBL's invoice and of CII: no entry fails a condition, and the document keeps the limits.
-use Rattle.std.proofs.Common.{◌≡◌, ℕ, ◌+◌, ◌≤◌, Bool, true, false, not, ◌&&◌, ◌||◌, List, [], ◌∷◌, length, Option, Some, None, refl, sym, ap, ◌∙◌, subst, arith, lit≤}
+use Rattle.std.proofs.Common.{◌≡◌, ℕ, ◌+◌, ◌≤◌, Bool, true, false, not, ◌&&◌, ◌||◌, List, [], ◌∷◌, length, Option, Some, None, refl, sym, ap, ◌∙◌, subst, arith}
+use Rattle.std.proofs.Common.{lit≤}
 use Rattle.std.specs.Prelude.{Ok, nat_lt, find, option_map, encode_utf8_all}
 use Rattle.std.specs.List.{list_all}
 use Rattle.std.proofs.lemmas.Bool.Decides.{nat_tests}
@@ -27,10 +28,12 @@ use Rattle.bind_meaning.specs.Trees.{document_of}
 use Rattle.bind_write.specs.Documents.{declarations_for, document_text, root_alone, node_count}
 use Rattle.bind_carrying.specs.declared.carrying.NotCarried.{NotCarried}
 use Rattle.bind_carrying.specs.Tables.{which_of, target}
-use Rattle.bind_carrying.specs.Carrying.{fails, all_conditions, first_term, told, first_failing, is_unplaced, first_unplaced, entries_fail, is_too_large, answer, carrying}
+use Rattle.bind_carrying.specs.Carrying.{fails, all_conditions, first_term, told, first_failing, is_unplaced, first_unplaced, entries_fail, is_too_large}
+use Rattle.bind_carrying.specs.Carrying.{answer, carrying}
 use Rattle.trial_invoice.specs.Generated.{head, line, trial_entries}
 use Rattle.trial_laws.proofs.Entries.{both, and-true, none-found, all-entries}
-use Rattle.trial_laws.proofs.Weights.{bytes, around, by_bytes, by_tags, by_nodes, weight, bytes-scale, tags-scale, nodes-scale, document-bytes, document-tags, forest-nodes}
+use Rattle.trial_laws.proofs.Weights.{bytes, around, by_bytes, by_tags, by_nodes, weight, bytes-scale, tags-scale, nodes-scale, document-bytes, document-tags}
+use Rattle.trial_laws.proofs.Weights.{forest-nodes}
 use Rattle.trial_laws.proofs.Rooms.{room, document-weighs}
 use Rattle.trial_laws.proofs.Known.{known, trial-known}
 
@@ -60,17 +63,20 @@ all-both p q (x ∷ xs) h =
     let later = all-both p q xs w.1 in
     (and-true (p x) (list_all p xs) now.0 later.0, and-true (q x) (list_all q xs) now.1 later.1)
 
-none-fails : (conditions : List _) (table : Which) (es : List Entry) → list_all (λ (e : Entry). list_all (λ c. not (fails c table es e)) conditions) es ≡ true → first_failing conditions table es ≡ None
+none-fails : (conditions : List _) (table : Which) (es : List Entry) → list_all (λ (e : Entry). list_all (λ c. not (fails c table es e)) conditions) es ≡ true →
+    first_failing conditions table es ≡ None
 none-fails [] table es h = refl
 none-fails (condition ∷ conditions) table es h =
     let w = all-both (λ (e : Entry). not (fails condition table es e)) (λ (e : Entry). list_all (λ c. not (fails c table es e)) conditions) es h in
-    ap (λ (o : Option Entry). told condition (first_term o) (first_failing conditions table es)) (none-found (fails condition table es) es w.0) ∙ none-fails conditions table es w.1
+    ap (λ (o : Option Entry). told condition (first_term o) (first_failing conditions table es)) (none-found (fails condition table es) es w.0) ∙
+    none-fails conditions table es w.1
 
 -- the conditions of one table
 keep-all : (rows : List Row) (table : Which) → which_of rows ≡ table → (n : ℕ) → ((sum : ℕ) → list_all (keeps table (trial_entries n)) (head sum) ≡ true)
     → ((i : ℕ) → list_all (keeps table (trial_entries n)) (line i) ≡ true) → entries_fail rows (trial_entries n) ≡ None
 keep-all rows table is n h k =
-    ap (λ (t : Which). first_failing all_conditions t (trial_entries n)) is ∙ none-fails all_conditions table (trial_entries n) (all-entries (keeps table (trial_entries n)) h k n)
+    ap (λ (t : Which). first_failing all_conditions t (trial_entries n)) is ∙
+    none-fails all_conditions table (trial_entries n) (all-entries (keeps table (trial_entries n)) h k n)
 
 -- ---- the ninth
 
@@ -118,17 +124,25 @@ small rows declarations roomy n h =
     let known_all = trial-known n h in
     let few_bytes : bytes (document_text rows es) ≤ document_limits.bytes =
     subst (λ (ds : List Declaration). bytes (canonical_text ds (document_of rows es)) ≤ document_limits.bytes) (sym roomy.declared)
-    (sum (bytes (canonical_text declarations (document_of rows es))) (around declarations) (weight (by_bytes declarations) (document_of rows es)) (room (by_bytes declarations) known (plan_of rows) None) document_limits.bytes
-    (document-bytes declarations (document_of rows es)) (document-weighs known es known_all (by_bytes declarations) (bytes-scale declarations) rows) roomy.few_bytes) in
+    (sum (bytes (canonical_text declarations (document_of rows es))) (around declarations) (weight (by_bytes declarations) (document_of rows es))
+    (room (by_bytes declarations) known (plan_of rows) None) document_limits.bytes
+    (document-bytes declarations (document_of rows es)) (document-weighs known es known_all (by_bytes declarations) (bytes-scale declarations) rows)
+    roomy.few_bytes) in
     let short_tags : longest (canonical_tags (declarations_for rows) (document_of rows es)) ≤ greatest_tag =
     subst (λ (ds : List Declaration). longest (canonical_tags ds (document_of rows es)) ≤ greatest_tag) (sym roomy.declared)
-    (sum (longest (canonical_tags declarations (document_of rows es))) (bytes (declarations_text declarations)) (weight (by_tags declarations) (document_of rows es)) (room (by_tags declarations) known (plan_of rows) None) greatest_tag
-    (document-tags declarations (document_of rows es)) (document-weighs known es known_all (by_tags declarations) (tags-scale declarations) rows) roomy.short_tags) in
+    (sum (longest (canonical_tags declarations (document_of rows es))) (bytes (declarations_text declarations))
+    (weight (by_tags declarations) (document_of rows es)) (room (by_tags declarations) known (plan_of rows) None) greatest_tag
+    (document-tags declarations (document_of rows es)) (document-weighs known es known_all (by_tags declarations) (tags-scale declarations) rows)
+    roomy.short_tags) in
     let few_nodes : node_count (document_of rows es) ≤ document_limits.nodes =
-    nodes (size (root_alone (document_of rows es))) (size (document_of rows es)) (weight by_nodes (document_of rows es)) (room by_nodes known (plan_of rows) None) document_limits.nodes
+    nodes (size (root_alone (document_of rows es))) (size (document_of rows es)) (weight by_nodes (document_of rows es))
+    (room by_nodes known (plan_of rows) None) document_limits.nodes
     (alone-nodes (document_of rows es)) (forest-nodes (document_of rows es)) (document-weighs known es known_all by_nodes nodes-scale rows) roomy.few_nodes in
-    neither (nat_lt document_limits.bytes (length (encode_utf8_all (document_text rows es)))) (nat_lt greatest_tag (longest (canonical_tags (declarations_for rows) (document_of rows es)))) (nat_lt document_limits.nodes (node_count (document_of rows es)))
-    (not-less document_limits.bytes (bytes (document_text rows es)) few_bytes) (not-less greatest_tag (longest (canonical_tags (declarations_for rows) (document_of rows es))) short_tags)
+    neither (nat_lt document_limits.bytes (length (encode_utf8_all (document_text rows es))))
+    (nat_lt greatest_tag (longest (canonical_tags (declarations_for rows) (document_of rows es))))
+    (nat_lt document_limits.nodes (node_count (document_of rows es)))
+    (not-less document_limits.bytes (bytes (document_text rows es)) few_bytes)
+    (not-less greatest_tag (longest (canonical_tags (declarations_for rows) (document_of rows es))) short_tags)
     (not-less document_limits.nodes (node_count (document_of rows es)) few_nodes)
   where
     sum : (a b c d m : ℕ) → a ≤ b + c → c ≤ d → b + d ≤ m → a ≤ m
@@ -137,7 +151,8 @@ small rows declarations roomy n h =
     nodes : (a b c d m : ℕ) → a ≤ b → b ≤ c → c ≤ d → d + 1 ≤ m → a + 1 ≤ m
     nodes a b c d m h k l o = omega arith
 
-carried : (rows : List Row) (es : List Entry) → entries_fail rows es ≡ None → is_too_large rows es ≡ false → first_unplaced rows es ≡ None → carrying rows es ≡ Ok tt
+carried : (rows : List Row) (es : List Entry) → entries_fail rows es ≡ None → is_too_large rows es ≡ false → first_unplaced rows es ≡ None →
+    carrying rows es ≡ Ok tt
 carried rows es h k l = λ i. answer (h i) (k i) (l i)
 
 -- ---- the two tables
@@ -158,11 +173,13 @@ cii-declared : declarations_for cii_rows ≡ declarations_of spaces.CiiInvoice
 unfolding cii_listing cii_rows
 cii-declared = refl
 
-invoice-bytes : around (declarations_of spaces.UblInvoice) + room (by_bytes (declarations_of spaces.UblInvoice)) known (plan_of invoice_rows) None ≤ document_limits.bytes
+invoice-bytes : around (declarations_of spaces.UblInvoice) + room (by_bytes (declarations_of spaces.UblInvoice)) known
+    (plan_of invoice_rows) None ≤ document_limits.bytes
 unfolding encode in_value in_text declaration_line terms invoice_listing invoice_rows
 invoice-bytes = lit≤ tt
 
-invoice-tags : bytes (declarations_text (declarations_of spaces.UblInvoice)) + room (by_tags (declarations_of spaces.UblInvoice)) known (plan_of invoice_rows) None ≤ greatest_tag
+invoice-tags : bytes (declarations_text (declarations_of spaces.UblInvoice)) + room (by_tags (declarations_of spaces.UblInvoice)) known
+    (plan_of invoice_rows) None ≤ greatest_tag
 unfolding encode in_value in_text terms invoice_listing invoice_rows
 invoice-tags = lit≤ tt
 
@@ -170,11 +187,13 @@ invoice-nodes : room by_nodes known (plan_of invoice_rows) None + 1 ≤ document
 unfolding terms invoice_listing invoice_rows
 invoice-nodes = lit≤ tt
 
-cii-bytes : around (declarations_of spaces.CiiInvoice) + room (by_bytes (declarations_of spaces.CiiInvoice)) known (plan_of cii_rows) None ≤ document_limits.bytes
+cii-bytes : around (declarations_of spaces.CiiInvoice) + room (by_bytes (declarations_of spaces.CiiInvoice)) known
+    (plan_of cii_rows) None ≤ document_limits.bytes
 unfolding encode in_value in_text declaration_line terms cii_listing cii_rows
 cii-bytes = lit≤ tt
 
-cii-tags : bytes (declarations_text (declarations_of spaces.CiiInvoice)) + room (by_tags (declarations_of spaces.CiiInvoice)) known (plan_of cii_rows) None ≤ greatest_tag
+cii-tags : bytes (declarations_text (declarations_of spaces.CiiInvoice)) + room (by_tags (declarations_of spaces.CiiInvoice)) known
+    (plan_of cii_rows) None ≤ greatest_tag
 unfolding encode in_value in_text terms cii_listing cii_rows
 cii-tags = lit≤ tt
 
@@ -184,13 +203,17 @@ cii-nodes = lit≤ tt
 
 pub invoice-carried : (n : ℕ) → n ≤ 10000 → carrying invoice_rows (trial_entries n) ≡ Ok tt
 invoice-carried n h =
-    carried invoice_rows (trial_entries n) (keep-all invoice_rows which.Invoice invoice-is n (head-keeps-invoice (trial_entries n)) (line-keeps-invoice (trial_entries n)))
-    (small invoice_rows (declarations_of spaces.UblInvoice) (record { declared = invoice-declared; few_bytes = invoice-bytes; short_tags = invoice-tags; few_nodes = invoice-nodes }) n h) (all-placed invoice_rows n)
+    carried invoice_rows (trial_entries n) (keep-all invoice_rows which.Invoice invoice-is n (head-keeps-invoice (trial_entries n))
+    (line-keeps-invoice (trial_entries n)))
+    (small invoice_rows (declarations_of spaces.UblInvoice)
+    (record { declared = invoice-declared; few_bytes = invoice-bytes; short_tags = invoice-tags; few_nodes = invoice-nodes }) n h)
+    (all-placed invoice_rows n)
 
 pub cii-carried : (n : ℕ) → n ≤ 10000 → carrying cii_rows (trial_entries n) ≡ Ok tt
 cii-carried n h =
     carried cii_rows (trial_entries n) (keep-all cii_rows which.Cii cii-is n (head-keeps-cii (trial_entries n)) (line-keeps-cii (trial_entries n)))
-    (small cii_rows (declarations_of spaces.CiiInvoice) (record { declared = cii-declared; few_bytes = cii-bytes; short_tags = cii-tags; few_nodes = cii-nodes }) n h) (all-placed cii_rows n)
+    (small cii_rows (declarations_of spaces.CiiInvoice)
+    (record { declared = cii-declared; few_bytes = cii-bytes; short_tags = cii-tags; few_nodes = cii-nodes }) n h) (all-placed cii_rows n)
 
 -- ---- by syntax
 

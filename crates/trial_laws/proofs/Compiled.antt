@@ -34,27 +34,121 @@ use Rattle.trial_laws.proofs.RuleText.{rule_events, rule_names, text-read}
 abbrev pub rule_nodes : List Node
 rule_nodes =
     record { number = 0; kind = kinds.Document; name = None; above = []; text = [] }
-    ∷ record { number = 1; kind = kinds.Element; name = Some (record { uri = (codes "http://purl.oclc.org/dsdl/schematron"); local = (codes "schema") }); above = 0 ∷ []; text = [] }
-    ∷ record { number = 2; kind = kinds.Attribute; name = Some (record { uri = []; local = (codes "queryBinding") }); above = 1 ∷ 0 ∷ []; text = (codes "xslt2") }
+    ∷ record {
+      number = 1;
+      kind = kinds.Element;
+      name = Some (record { uri = (codes "http://purl.oclc.org/dsdl/schematron"); local = (codes "schema") });
+      above = 0 ∷ [];
+      text = [];
+    }
+    ∷ record {
+      number = 2;
+      kind = kinds.Attribute;
+      name = Some (record { uri = []; local = (codes "queryBinding") });
+      above = 1 ∷ 0 ∷ [];
+      text =
+          (codes "xslt2");
+    }
     ∷ record { number = 3; kind = kinds.Text; name = None; above = 1 ∷ 0 ∷ []; text = (codes "\n") }
-    ∷ record { number = 4; kind = kinds.Element; name = Some (record { uri = (codes "http://purl.oclc.org/dsdl/schematron"); local = (codes "ns") }); above = 1 ∷ 0 ∷ []; text = [] }
+    ∷ record {
+      number = 4;
+      kind = kinds.Element;
+      name = Some (record { uri = (codes "http://purl.oclc.org/dsdl/schematron"); local = (codes "ns") });
+      above =
+          1 ∷ 0 ∷ [];
+      text = [];
+    }
     ∷ record { number = 5; kind = kinds.Attribute; name = Some (record { uri = []; local = (codes "prefix") }); above = 4 ∷ 1 ∷ 0 ∷ []; text = (codes "cac") }
-    ∷ record { number = 6; kind = kinds.Attribute; name = Some (record { uri = []; local = (codes "uri") }); above = 4 ∷ 1 ∷ 0 ∷ []; text = (codes "urn:oasis:names:specification:ubl:schema:xsd:CommonAggregateComponents-2") }
+    ∷ record {
+      number = 6;
+      kind = kinds.Attribute;
+      name = Some (record { uri = []; local = (codes "uri") });
+      above = 4 ∷ 1 ∷ 0 ∷ [];
+      text =
+          (codes "urn:oasis:names:specification:ubl:schema:xsd:CommonAggregateComponents-2");
+    }
     ∷ record { number = 7; kind = kinds.Text; name = None; above = 1 ∷ 0 ∷ []; text = (codes "\n") }
-    ∷ record { number = 8; kind = kinds.Element; name = Some (record { uri = (codes "http://purl.oclc.org/dsdl/schematron"); local = (codes "ns") }); above = 1 ∷ 0 ∷ []; text = [] }
+    ∷ record {
+      number = 8;
+      kind = kinds.Element;
+      name = Some (record { uri = (codes "http://purl.oclc.org/dsdl/schematron"); local = (codes "ns") });
+      above =
+          1 ∷ 0 ∷ [];
+      text = [];
+    }
     ∷ record { number = 9; kind = kinds.Attribute; name = Some (record { uri = []; local = (codes "prefix") }); above = 8 ∷ 1 ∷ 0 ∷ []; text = (codes "cbc") }
-    ∷ record { number = 10; kind = kinds.Attribute; name = Some (record { uri = []; local = (codes "uri") }); above = 8 ∷ 1 ∷ 0 ∷ []; text = (codes "urn:oasis:names:specification:ubl:schema:xsd:CommonBasicComponents-2") }
+    ∷ record {
+      number = 10;
+      kind = kinds.Attribute;
+      name = Some (record { uri = []; local = (codes "uri") });
+      above = 8 ∷ 1 ∷ 0 ∷ [];
+      text =
+          (codes "urn:oasis:names:specification:ubl:schema:xsd:CommonBasicComponents-2");
+    }
     ∷ record { number = 11; kind = kinds.Text; name = None; above = 1 ∷ 0 ∷ []; text = (codes "\n") }
-    ∷ record { number = 12; kind = kinds.Element; name = Some (record { uri = (codes "http://purl.oclc.org/dsdl/schematron"); local = (codes "pattern") }); above = 1 ∷ 0 ∷ []; text = [] }
-    ∷ record { number = 13; kind = kinds.Element; name = Some (record { uri = (codes "http://purl.oclc.org/dsdl/schematron"); local = (codes "rule") }); above = 12 ∷ 1 ∷ 0 ∷ []; text = [] }
-    ∷ record { number = 14; kind = kinds.Attribute; name = Some (record { uri = []; local = (codes "context") }); above = 13 ∷ 12 ∷ 1 ∷ 0 ∷ []; text = (codes "cac:InvoiceLine") }
+    ∷ record {
+      number = 12;
+      kind = kinds.Element;
+      name = Some (record { uri = (codes "http://purl.oclc.org/dsdl/schematron"); local = (codes "pattern") });
+      above = 1 ∷ 0 ∷ [];
+      text = [];
+    }
+    ∷ record {
+      number = 13;
+      kind = kinds.Element;
+      name = Some (record { uri = (codes "http://purl.oclc.org/dsdl/schematron"); local = (codes "rule") });
+      above =
+          12 ∷ 1 ∷ 0 ∷ [];
+      text = [];
+    }
+    ∷ record {
+      number = 14;
+      kind = kinds.Attribute;
+      name = Some (record { uri = []; local = (codes "context") });
+      above = 13 ∷ 12 ∷ 1 ∷ 0 ∷ [];
+      text =
+          (codes "cac:InvoiceLine");
+    }
     ∷ record { number = 15; kind = kinds.Text; name = None; above = 13 ∷ 12 ∷ 1 ∷ 0 ∷ []; text = (codes "\n") }
-    ∷ record { number = 16; kind = kinds.Element; name = Some (record { uri = (codes "http://purl.oclc.org/dsdl/schematron"); local = (codes "assert") }); above = 13 ∷ 12 ∷ 1 ∷ 0 ∷ []; text = [] }
-    ∷ record { number = 17; kind = kinds.Attribute; name = Some (record { uri = []; local = (codes "test") }); above = 16 ∷ 13 ∷ 12 ∷ 1 ∷ 0 ∷ []; text = (codes "xs:decimal(cbc:LineExtensionAmount) = cbc:InvoicedQuantity * cac:Price/cbc:PriceAmount") }
-    ∷ record { number = 18; kind = kinds.Text; name = None; above = 16 ∷ 13 ∷ 12 ∷ 1 ∷ 0 ∷ []; text = (codes "\nThe net amount of a line is its quantity times its price.") }
+    ∷ record {
+      number = 16;
+      kind = kinds.Element;
+      name = Some (record { uri = (codes "http://purl.oclc.org/dsdl/schematron"); local = (codes "assert") });
+      above = 13 ∷ 12 ∷ 1 ∷ 0 ∷ [];
+      text = [];
+    }
+    ∷ record {
+      number = 17;
+      kind = kinds.Attribute;
+      name = Some (record { uri = []; local = (codes "test") });
+      above = 16 ∷ 13 ∷ 12 ∷ 1 ∷ 0 ∷ [];
+      text =
+          (codes "xs:decimal(cbc:LineExtensionAmount) = cbc:InvoicedQuantity * cac:Price/cbc:PriceAmount");
+    }
+    ∷ record {
+      number = 18;
+      kind = kinds.Text;
+      name = None;
+      above = 16 ∷ 13 ∷ 12 ∷ 1 ∷ 0 ∷ [];
+      text =
+          (codes "\nThe net amount of a line is its quantity times its price.");
+    }
     ∷ record { number = 19; kind = kinds.Text; name = None; above = 13 ∷ 12 ∷ 1 ∷ 0 ∷ []; text = (codes "\n") }
-    ∷ record { number = 20; kind = kinds.Element; name = Some (record { uri = (codes "http://purl.oclc.org/dsdl/schematron"); local = (codes "report") }); above = 13 ∷ 12 ∷ 1 ∷ 0 ∷ []; text = [] }
-    ∷ record { number = 21; kind = kinds.Attribute; name = Some (record { uri = []; local = (codes "test") }); above = 20 ∷ 13 ∷ 12 ∷ 1 ∷ 0 ∷ []; text = (codes "cbc:ID = count(//cac:InvoiceLine)") }
+    ∷ record {
+      number = 20;
+      kind = kinds.Element;
+      name = Some (record { uri = (codes "http://purl.oclc.org/dsdl/schematron"); local = (codes "report") });
+      above = 13 ∷ 12 ∷ 1 ∷ 0 ∷ [];
+      text = [];
+    }
+    ∷ record {
+      number = 21;
+      kind = kinds.Attribute;
+      name = Some (record { uri = []; local = (codes "test") });
+      above = 20 ∷ 13 ∷ 12 ∷ 1 ∷ 0 ∷ [];
+      text =
+          (codes "cbc:ID = count(//cac:InvoiceLine)");
+    }
     ∷ record { number = 22; kind = kinds.Text; name = None; above = 20 ∷ 13 ∷ 12 ∷ 1 ∷ 0 ∷ []; text = (codes "This is the last line.") }
     ∷ record { number = 23; kind = kinds.Text; name = None; above = 13 ∷ 12 ∷ 1 ∷ 0 ∷ []; text = (codes "\n") }
     ∷ []
@@ -64,8 +158,10 @@ unfolding built
 nodes-are = refl
 
 rules-are : rules_of rule_nodes ≡ Ok the_rules
-unfolding encode chars is_char is_name_start is_name_char is_white_space longest many_then words_from comment_rest comment_at separator_length closes is_symbol answer_of_characters token_of tk.judged
-    g.level g.deepest g.written g.parts_written close run append pn.kind_of pn.first_kind pn.all_steps pn.all_paths function_in type_in j.judged j.operands pt.placed pt.placed_inside pt.uses pt.uses_of_parts pt.has_free pt.parts_have_free typing_of resolved operands expression_fault
+unfolding encode chars is_char is_name_start is_name_char is_white_space longest many_then words_from comment_rest comment_at separator_length closes is_symbol
+    answer_of_characters token_of tk.judged
+    g.level g.deepest g.written g.parts_written close run append pn.kind_of pn.first_kind pn.all_steps pn.all_paths function_in type_in j.judged j.operands
+    pt.placed pt.placed_inside pt.uses pt.uses_of_parts pt.has_free pt.parts_have_free typing_of resolved operands expression_fault
     entries bodies first_declared all_written first_fault rules_of
 rules-are = refl
 

@@ -1,5 +1,6 @@
 -- What holds of each generated entry: of those before the lines, and of those of a line, whatever its number is.
-use Rattle.std.proofs.Common.{◌≡◌, ℕ, zero, suc, ◌+◌, ◌<◌, ◌≤◌, Bool, true, false, not, ◌&&◌, ◌||◌, List, [], ◌∷◌, ◌++◌, Option, Some, None, refl, sym, ap, ◌∙◌, subst, arith, ◌⊎◌, inl, inr}
+use Rattle.std.proofs.Common.{◌≡◌, ℕ, zero, suc, ◌+◌, ◌<◌, ◌≤◌, Bool, true, false, not, ◌&&◌, ◌||◌, List, [], ◌∷◌, ◌++◌, Option, Some, None, refl, sym, ap, ◌∙◌}
+use Rattle.std.proofs.Common.{subst, arith, ◌⊎◌, inl, inr}
 use Rattle.std.specs.Prelude.{◌==◌, find, flat_map, Contains, if◌then◌else◌}
 use Rattle.std.specs.List.{list_all, list_any, range_with_len}
 use Rattle.std.proofs.lemmas.Bool.{false≢true}
@@ -93,7 +94,8 @@ all-lines : (p : Entry → Bool) → ((i : ℕ) → list_all p (line i) ≡ true
 all-lines p h a zero = refl
 all-lines p h a (suc n) = all-append p (line a) (flat_map line (range_with_len (a + 1) n)) (h a) (all-lines p h (a + 1) n)
 
-pub all-entries : (p : Entry → Bool) → ((sum : ℕ) → list_all p (head sum) ≡ true) → ((i : ℕ) → list_all p (line i) ≡ true) → (n : ℕ) → list_all p (trial_entries n) ≡ true
+pub all-entries : (p : Entry → Bool) → ((sum : ℕ) → list_all p (head sum) ≡ true) → ((i : ℕ) → list_all p (line i) ≡ true) → (n : ℕ) →
+    list_all p (trial_entries n) ≡ true
 unfolding trial_entries lines_of
 all-entries p h k n = all-append p (head (sum_of_nets n)) (flat_map line (range_with_len 1 n)) (h (sum_of_nets n)) (all-lines p k 1 n)
 

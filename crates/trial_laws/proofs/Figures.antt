@@ -1,5 +1,6 @@
 -- The numbers of a line as the expression language reads them, and their product.
-use Rattle.std.proofs.Common.{◌≡◌, ℕ, ◌+◌, ◌*◌, ◌/◌, ◌%◌, ◌^◌, ◌<◌, ◌≤◌, Bool, true, false, ◌&&◌, List, [], ◌∷◌, ◌++◌, reverse, Some, Ok, pos, ℤ, ◌<ℤ◌, refl, sym, ap, ◌∙◌, subst, arith, lit<}
+use Rattle.std.proofs.Common.{◌≡◌, ℕ, ◌+◌, ◌*◌, ◌/◌, ◌%◌, ◌^◌, ◌<◌, ◌≤◌, Bool, true, false, ◌&&◌, List, [], ◌∷◌, ◌++◌, reverse, Some, Ok, pos, ℤ, ◌<ℤ◌, refl}
+use Rattle.std.proofs.Common.{sym, ap, ◌∙◌, subst, arith, lit<}
 use Rattle.std.specs.Prelude.{decimal, nat_le, option_map}
 use Rattle.std.proofs.lemmas.Bool.{leb-true, le-leb}
 use Rattle.std.proofs.lemmas.Fmt.{decimal_by_steps}
@@ -84,7 +85,8 @@ plain-back (c ∷ text) h =
 
 plain-trimmed : (text : List ℕ) → are_plain text ≡ true → trimmed text ≡ text
 plain-trimmed text h =
-    ap (λ t. reverse (without_leading_space (reverse t))) (plain-led text h) ∙ (ap reverse (plain-led (reverse text) (plain-back text h)) ∙ reverse-reverse text)
+    ap (λ t. reverse (without_leading_space (reverse t))) (plain-led text h) ∙
+    (ap reverse (plain-led (reverse text) (plain-back text h)) ∙ reverse-reverse text)
 
 -- ---- numbers that are read
 
@@ -95,7 +97,8 @@ AreRead = (s : ScaledDecimal) → IsScaled s → read_scaled (scaled_text s) ≡
 read-scaled : AreRead → (s : ScaledDecimal) → IsScaled s → are_plain (scaled_text s) ≡ true → read_number (scaled_text s) ≡ Ok s.value
 unfolding read_decimal
 read-scaled law s h plain =
-    ap (λ t. formed (option_map (λ (d : ScaledDecimal). d.value) (read_scaled t))) (plain-trimmed (scaled_text s) plain) ∙ ap (λ o. formed (option_map (λ (d : ScaledDecimal). d.value) o)) (law s h)
+    ap (λ t. formed (option_map (λ (d : ScaledDecimal). d.value) (read_scaled t))) (plain-trimmed (scaled_text s) plain) ∙
+    ap (λ o. formed (option_map (λ (d : ScaledDecimal). d.value) o)) (law s h)
 
 pub hundredths-read : AreRead → (n : ℕ) → n < 10 ^ 18 → read_number (scaled_text (hundredths n)) ≡ Ok (pos (n * 10 ^ 16))
 hundredths-read law n h =
@@ -124,7 +127,8 @@ pub product-is : (q p : ℕ) → q * p < 10 ^ 12 → product_of (pos (q * 10 ^ 1
 product-is q p h =
     let value : q * 10 ^ 18 * (100 * p * 10 ^ 16) / 10 ^ 18 ≡ 100 * (q * p) * 10 ^ 16 = scaled-product q p in
     let small : q * 10 ^ 18 * (100 * p * 10 ^ 16) / 10 ^ 18 < 10 ^ 36 = subst (λ m. m < 10 ^ 36) (sym value) (few (q * p) h) in
-    sym (product_some (pos (q * 10 ^ 18)) (pos (100 * p * 10 ^ 16)) (pos (100 * (q * p) * 10 ^ 16)) (q * 10 ^ 18) (100 * p * 10 ^ 16) (100 * (q * p) * 10 ^ 16) false false refl refl (sym (not-negative (q * 10 ^ 18))) (sym (not-negative (100 * p * 10 ^ 16))) (small, sym value) refl)
+    sym (product_some (pos (q * 10 ^ 18)) (pos (100 * p * 10 ^ 16)) (pos (100 * (q * p) * 10 ^ 16)) (q * 10 ^ 18) (100 * p * 10 ^ 16)
+    (100 * (q * p) * 10 ^ 16) false false refl refl (sym (not-negative (q * 10 ^ 18))) (sym (not-negative (100 * p * 10 ^ 16))) (small, sym value) refl)
   where
     few : (m : ℕ) → m < 10 ^ 12 → 100 * m * 10 ^ 16 < 10 ^ 36
     few m k = omega (arith, k)
@@ -140,12 +144,14 @@ equal-itself z = go (int_cmp z z) (int_cmp_total.antisymm z z)
     go Greater h = absurd (let k : Greater ≡ Less = h in cc)
 
 pub less-differs : (a b : ℕ) → a < b → is_eq (int_cmp (pos (a * unit)) (pos (b * unit))) ≡ false
-less-differs a b h = go (int_cmp (pos (a * unit)) (pos (b * unit))) (int_ranked (pos (a * unit)) (pos (b * unit)) (int_cmp (pos (a * unit)) (pos (b * unit))) refl)
+less-differs a b h = go (int_cmp (pos (a * unit)) (pos (b * unit)))
+    (int_ranked (pos (a * unit)) (pos (b * unit)) (int_cmp (pos (a * unit)) (pos (b * unit))) refl)
   where
     pos-same : (m n : ℕ) → pos m ≡ pos n → m ≡ n
     pos-same m n e = cc
 
-    go : (o : Ordering) → MatchOrdering o (pos (a * unit) <ℤ pos (b * unit)) (pos (a * unit) ≡ pos (b * unit)) (pos (b * unit) <ℤ pos (a * unit)) → is_eq o ≡ false
+    go : (o : Ordering) → MatchOrdering o (pos (a * unit) <ℤ pos (b * unit)) (pos (a * unit) ≡ pos (b * unit)) (pos (b * unit) <ℤ pos (a * unit)) →
+        is_eq o ≡ false
     go Less w = refl
     go Equal w = absurd (let e = pos-same (a * unit) (b * unit) w in omega (arith, e, h))
     go Greater w = refl

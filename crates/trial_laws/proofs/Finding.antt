@@ -1,5 +1,6 @@
 -- What expressions of paths find in a document of a tree, and which nodes a pattern of one name matches.
-use Rattle.std.proofs.Common.{◌≡◌, ℕ, zero, suc, ◌<◌, Bool, true, false, not, ◌&&◌, ◌||◌, List, [], ◌∷◌, ◌++◌, length, get_or, map, filter, flat_map, Result, Ok, Err, refl, sym, ap, ◌∙◌, arith, append-nil}
+use Rattle.std.proofs.Common.{◌≡◌, ℕ, zero, suc, ◌<◌, Bool, true, false, not, ◌&&◌, ◌||◌, List, [], ◌∷◌, ◌++◌, length, get_or, map, filter, flat_map, Result}
+use Rattle.std.proofs.Common.{Ok, Err, refl, sym, ap, ◌∙◌, arith, append-nil}
 use Rattle.std.specs.Prelude.{◌==◌, if◌then◌else◌}
 use Rattle.std.specs.List.{list_any, list_all}
 use Rattle.std.proofs.lemmas.Bool.{false≢true}
@@ -44,12 +45,15 @@ has-among k (y ∷ ys) = λ i. swapped y.number i || has-among k ys i
     swapped : (m : ℕ) → (m == k) ≡ (k == m)
     swapped m = grind (arith, nat_tests)
 
-pub has-each : (p : Node → Bool) (m : ℕ) (nodes : List Node) → AreNumbered 0 m nodes → Each (λ x. has_node (map node_item (filter p nodes)) x.number ≡ p x) nodes
-has-each p m nodes h = each-weaker (λ x. is_among x.number (map number (filter p nodes)) ≡ p x) (λ x. has_node (map node_item (filter p nodes)) x.number ≡ p x) nodes
+pub has-each : (p : Node → Bool) (m : ℕ) (nodes : List Node) → AreNumbered 0 m nodes →
+    Each (λ x. has_node (map node_item (filter p nodes)) x.number ≡ p x) nodes
+has-each p m nodes h = each-weaker (λ x. is_among x.number (map number (filter p nodes)) ≡ p x)
+    (λ x. has_node (map node_item (filter p nodes)) x.number ≡ p x) nodes
     (λ x e. has-among x.number (filter p nodes) ∙ e) (among-each p m nodes h)
 
 -- Those that pass a test are in document order.
-pub ordered : (p : Node → Bool) (m : ℕ) (nodes : List Node) → AreNumbered 0 m nodes → in_document_order nodes (map node_item (filter p nodes)) ≡ map node_item (filter p nodes)
+pub ordered : (p : Node → Bool) (m : ℕ) (nodes : List Node) → AreNumbered 0 m nodes →
+    in_document_order nodes (map node_item (filter p nodes)) ≡ map node_item (filter p nodes)
 ordered p m nodes h = ap (map node_item) (filter-same (λ x. has_node (map node_item (filter p nodes)) x.number) p nodes (has-each p m nodes h))
 
 pub then-is : {X Y : Type 0} (v : Result X DynError) (r : X) (next : X → Result Y DynError) → v ≡ Ok r → then_ v next ≡ next r
@@ -83,7 +87,8 @@ any-never p [] h = refl
 any-never p (y ∷ ys) h = ap (λ b. b || list_any p ys) (h y) ∙ any-never p ys h
 
 -- one of them passes
-any-got : (d p : Node → Bool) (y : Node) (k : ℕ) (ys : List Node) → k < length ys → d (get_or ys k y) ≡ true → p (get_or ys k y) ≡ true → list_any p (filter d ys) ≡ true
+any-got : (d p : Node → Bool) (y : Node) (k : ℕ) (ys : List Node) → k < length ys → d (get_or ys k y) ≡ true → p (get_or ys k y) ≡ true →
+    list_any p (filter d ys) ≡ true
 any-got d p y k [] l h e = absurd (omega (arith, l))
 any-got d p y zero (z ∷ ys) l h e = ap (λ b. list_any p (if b then z ∷ filter d ys else filter d ys)) h ∙ ap (λ b. b || list_any p (filter d ys)) e
 any-got d p y (suc k) (z ∷ ys) l h e = go (d z) (any-got d p y k ys (omega (arith, l)) h e)
@@ -127,14 +132,16 @@ and-false : (b : Bool) → (b && false) ≡ false
 and-false true = refl
 and-false false = refl
 
-element-only : (kind : Kind) (b : Bool) → (is_principal a.Child kind && b) ≡ true → not (elim kind [ kinds.Document ↦ false | kinds.Element ↦ false | kinds.Attribute ↦ true | kinds.Text ↦ false ]) ≡ true
+element-only : (kind : Kind) (b : Bool) → (is_principal a.Child kind && b) ≡ true →
+    not (elim kind [ kinds.Document ↦ false | kinds.Element ↦ false | kinds.Attribute ↦ true | kinds.Text ↦ false ]) ≡ true
 element-only kinds.Document b h = refl
 element-only kinds.Element b h = refl
 element-only kinds.Attribute b h = absurd (false≢true h)
 element-only kinds.Text b h = refl
 
 -- a child of the nearest node around
-called-child : (name : Name) (m : ℕ) (above : List ℕ) (node : Node) → node.above ≡ m ∷ above → is_called name node ≡ true → (is_child m node && is_called name node) ≡ true
+called-child : (name : Name) (m : ℕ) (above : List ℕ) (node : Node) → node.above ≡ m ∷ above → is_called name node ≡ true →
+    (is_child m node && is_called name node) ≡ true
 called-child name m above node e h =
     let near : is_nearest m node.above ≡ true = ap (is_nearest m) e ∙ same-is m in
     let no : not (is_attribute node) ≡ true = element-only node.kind (has_name name node) h in
@@ -147,7 +154,8 @@ some-parent nodes name node false h stands =
     (λ (y : Node). ap (λ b. is_child (tree_node nodes y.number).number node && b) h ∙ and-false (is_child (tree_node nodes y.number).number node))
 some-parent nodes name node true h stands = go node.above refl (stands h)
   where
-    go : (above : List ℕ) → node.above ≡ above → FineAbove nodes above → list_any (λ (y : Node). child_called nodes name y.number node) (filter (is_reached nodes) nodes) ≡ true
+    go : (above : List ℕ) → node.above ≡ above → FineAbove nodes above →
+        list_any (λ (y : Node). child_called nodes name y.number node) (filter (is_reached nodes) nodes) ≡ true
     go [] e w = absurd w
     go (m ∷ above) e w =
         any-got (is_reached nodes) (λ (y : Node). child_called nodes name y.number node) _ m nodes w.below w.reached
@@ -164,7 +172,8 @@ all-append : (xs ys : List Item) → list_all is_node xs ≡ true → list_all i
 all-append [] ys h k = k
 all-append (x ∷ xs) ys h k = go (is_node x) (λ e. all-append xs ys e k) h
   where
-    go : (b : Bool) → (list_all is_node xs ≡ true → list_all is_node (xs ++ ys) ≡ true) → (b && list_all is_node xs) ≡ true → (b && list_all is_node (xs ++ ys)) ≡ true
+    go : (b : Bool) → (list_all is_node xs ≡ true → list_all is_node (xs ++ ys) ≡ true) → (b && list_all is_node xs) ≡ true →
+        (b && list_all is_node (xs ++ ys)) ≡ true
     go true later e = later e
     go false later e = absurd (false≢true e)
 
@@ -188,10 +197,12 @@ module _ (m : ℕ) (nodes : List Node) (h : AreNumbered 0 m nodes) (name : Name)
   inside-value : (context : Context) (position last : ℕ) → mean nodes inside_all (at context (i.Node 0) position last) ≡ Ok (map node_item reached)
   inside-value context position last = ap Ok (ordered (is_reached nodes) m nodes h)
 
-  rooted-value : (context : Context) (n position last : ℕ) → mean nodes (x.slash x.the_root inside_all) (at context (i.Node n) position last) ≡ Ok (map node_item reached)
+  rooted-value : (context : Context) (n position last : ℕ) → mean nodes (x.slash x.the_root inside_all) (at context (i.Node n) position last) ≡ Ok
+      (map node_item reached)
   rooted-value context n position last =
       ap (λ v. then_ (joined v (Ok [])) (of_turns nodes)) (inside-value (at context (i.Node n) position last) 1 1)
-      ∙ (ap (of_turns nodes) (append-nil (map node_item reached)) ∙ (of-nodes nodes (map node_item reached) (all-nodes reached) ∙ ap Ok (ordered (is_reached nodes) m nodes h)))
+      ∙ (ap (of_turns nodes) (append-nil (map node_item reached)) ∙
+      (of-nodes nodes (map node_item reached) (all-nodes reached) ∙ ap Ok (ordered (is_reached nodes) m nodes h)))
 
   abbrev of_parent : Node → List Item
   of_parent y = map node_item (filter (child_called nodes name y.number) nodes)
@@ -199,33 +210,39 @@ module _ (m : ℕ) (nodes : List Node) (h : AreNumbered 0 m nodes) (name : Name)
   turns-are : (context : Context) (last position : ℕ) (ys : List Node)
       → turns (λ item p l. mean nodes (children name) (at context item p l)) last position (map node_item ys) ≡ Ok (flat_map of_parent ys)
   turns-are context last position [] = refl
-  turns-are context last position (y ∷ ys) = λ i. joined (children-value m nodes h name y.number context position last i) (turns-are context last (suc position) ys i)
+  turns-are context last position (y ∷ ys) = λ i. joined (children-value m nodes h name y.number context position last i)
+      (turns-are context last (suc position) ys i)
 
   -- Each node of the name stands right inside one that is reached.
   found-each : Each (λ x. has_node (flat_map of_parent reached) x.number ≡ is_called name x) nodes
   found-each =
       let Told : Node → Type 0 = λ x. (n : ℕ) → has_node (map node_item (filter (child_called nodes name n) nodes)) x.number ≡ child_called nodes name n x in
-      let told : Each Told nodes = each-for-all (λ n x. has_node (map node_item (filter (child_called nodes name n) nodes)) x.number ≡ child_called nodes name n x) nodes
+      let told : Each Told nodes = each-for-all
+      (λ n x. has_node (map node_item (filter (child_called nodes name n) nodes)) x.number ≡ child_called nodes name n x) nodes
       (λ n. has-each (child_called nodes name n) m nodes h) in
       each-weaker (λ x. Told x × StandsWell nodes name x) (λ x. has_node (flat_map of_parent reached) x.number ≡ is_called name x) nodes
       (λ x w. has-flat of_parent x.number reached
-      ∙ (any-same (λ y. has_node (of_parent y) x.number) (λ y. child_called nodes name y.number x) reached (λ y. w.0 y.number) ∙ some-parent nodes name x (is_called name x) refl w.1))
+      ∙ (any-same (λ y. has_node (of_parent y) x.number) (λ y. child_called nodes name y.number x) reached (λ y. w.0 y.number) ∙
+      some-parent nodes name x (is_called name x) refl w.1))
       (each-both Told (StandsWell nodes name) nodes told stands)
 
   pub all-value : (context : Context) (n position last : ℕ)
-      → mean nodes (x.slash (x.slash x.the_root inside_all) (children name)) (at context (i.Node n) position last) ≡ Ok (map node_item (filter (is_called name) nodes))
+      → mean nodes (x.slash (x.slash x.the_root inside_all) (children name)) (at context (i.Node n) position last) ≡ Ok
+      (map node_item (filter (is_called name) nodes))
   all-value context n position last =
       let here : Context = at context (i.Node n) position last in
       let step : Item → ℕ → ℕ → Value = λ item p l. mean nodes (children name) (at here item p l) in
       then-is (mean nodes (x.slash x.the_root inside_all) here) (map node_item reached) (path nodes step) (rooted-value context n position last)
-      ∙ (ap (λ b. elim b [ true ↦ then_ (turns step (length (map node_item reached)) 1 (map node_item reached)) (of_turns nodes) | false ↦ Err e.XPTY0019 ]) (all-nodes reached)
+      ∙ (ap (λ b. elim b [ true ↦ then_ (turns step (length (map node_item reached)) 1 (map node_item reached)) (of_turns nodes) | false ↦ Err e.XPTY0019 ])
+      (all-nodes reached)
       ∙ (ap (λ v. then_ v (of_turns nodes)) (turns-are here (length (map node_item reached)) 1 reached)
       ∙ (of-nodes nodes (flat_map of_parent reached) (all-flat (λ y. filter (child_called nodes name y.number) nodes) reached)
       ∙ ap (λ l. Ok (map node_item l)) (filter-same (λ x. has_node (flat_map of_parent reached) x.number) (is_called name) nodes found-each))))
 
   -- ---- a pattern of one name
 
-  matched : (node : Node) → ((n : ℕ) → is_among node.number (map number (filter (child_called nodes name n) nodes)) ≡ child_called nodes name n node) → (b : Bool) → is_called name node ≡ b
+  matched : (node : Node) → ((n : ℕ) → is_among node.number (map number (filter (child_called nodes name n) nodes)) ≡ child_called nodes name n node) →
+      (b : Bool) → is_called name node ≡ b
       → StandsWell nodes name node → list_any (λ n. child_called nodes name n node) (node.number ∷ node.above) ≡ b
   matched node told false e stand =
       any-never (λ n. child_called nodes name n node) (node.number ∷ node.above)
@@ -235,9 +252,11 @@ module _ (m : ℕ) (nodes : List Node) (h : AreNumbered 0 m nodes) (name : Name)
       go : (above : List ℕ) → node.above ≡ above → FineAbove nodes above → list_any (λ n. child_called nodes name n node) (node.number ∷ node.above) ≡ true
       go [] k w = absurd w
       go (p ∷ above) k w =
-          let near : child_called nodes name p node ≡ true = ap (λ j. is_child j node && is_called name node) w.number_is ∙ called-child name p above node k e in
+          let near : child_called nodes name p node ≡ true = ap (λ j. is_child j node && is_called name node) w.number_is ∙
+          called-child name p above node k e in
           ap (λ l. child_called nodes name node.number node || list_any (λ n. child_called nodes name n node) l) k
-          ∙ (ap (λ b. child_called nodes name node.number node || (b || list_any (λ n. child_called nodes name n node) above)) near ∙ or-true (child_called nodes name node.number node))
+          ∙ (ap (λ b. child_called nodes name node.number node || (b || list_any (λ n. child_called nodes name n node) above)) near ∙
+          or-true (child_called nodes name node.number node))
         where
           or-true : (b : Bool) → (b || true) ≡ true
           or-true true = refl
@@ -247,10 +266,12 @@ module _ (m : ℕ) (nodes : List Node) (h : AreNumbered 0 m nodes) (name : Name)
   pub matches-each : (outer : List (List ℕ × Value)) → Each (λ x. matches nodes outer (children name) x ≡ is_called name x) nodes
   matches-each outer =
       let Told : Node → Type 0 = λ x. (n : ℕ) → is_among x.number (map number (filter (child_called nodes name n) nodes)) ≡ child_called nodes name n x in
-      let told : Each Told nodes = each-for-all (λ n x. is_among x.number (map number (filter (child_called nodes name n) nodes)) ≡ child_called nodes name n x) nodes
+      let told : Each Told nodes = each-for-all (λ n x. is_among x.number (map number (filter (child_called nodes name n) nodes)) ≡ child_called nodes name n x)
+      nodes
       (λ n. among-each (child_called nodes name n) m nodes h) in
       each-weaker (λ x. Told x × StandsWell nodes name x) (λ x. matches nodes outer (children name) x ≡ is_called name x) nodes
-      (λ x w. same-any (λ n. is_among x.number (map number (filter (child_called nodes name n) nodes))) (λ n. child_called nodes name n x) (x.number ∷ x.above) w.0
+      (λ x w. same-any (λ n. is_among x.number (map number (filter (child_called nodes name n) nodes))) (λ n. child_called nodes name n x)
+      (x.number ∷ x.above) w.0
       ∙ matched x w.0 (is_called name x) refl w.1)
       (each-both Told (StandsWell nodes name) nodes told stands)
     where

@@ -1,5 +1,6 @@
 -- What the built-in rules find in a document whose lines are numbered and have their net amounts: nothing but the last line.
-use Rattle.std.proofs.Common.{◌≡◌, ℕ, zero, suc, ◌+◌, ◌*◌, ◌^◌, ◌<◌, ◌≤◌, min, Bool, true, false, cond, List, [], ◌∷◌, ◌++◌, length, map, filter, flat_map, None, Ok, pos, ℤ, refl, sym, ap, ◌∙◌, subst, arith}
+use Rattle.std.proofs.Common.{◌≡◌, ℕ, zero, suc, ◌+◌, ◌*◌, ◌^◌, ◌<◌, ◌≤◌, min, Bool, true, false, cond, List, [], ◌∷◌, ◌++◌, length, map, filter, flat_map}
+use Rattle.std.proofs.Common.{None, Ok, pos, ℤ, refl, sym, ap, ◌∙◌, subst, arith}
 use Rattle.std.specs.Prelude.{nat_lt, if◌then◌else◌, codes}
 use Rattle.std.specs.List.{count_by}
 use Rattle.std.specs.Ordering.{int_cmp, is_eq}
@@ -68,7 +69,13 @@ tells-append j k xs ys h w = (
 )
 
 tallied : (ls : List Line) → Tells 1 ls → tally_of ls ≡ record { failed = 0; reported = 1; errors = 0; minor = 0 }
-tallied ls h = λ i. record { failed = min (h.0 i) last_count; reported = min (h.1 i) last_count; errors = min (h.2 i) last_count; minor = min (h.3 i) last_count }
+tallied ls h = λ i. record {
+  failed = min (h.0 i) last_count;
+  reported = min (h.1 i) last_count;
+  errors = min (h.2 i) last_count;
+  minor =
+      min (h.3 i) last_count;
+}
 
 -- ---- all nodes
 
@@ -78,7 +85,8 @@ chosen : (p : Node → Bool) (g : Node → List Line) (h : ℕ → List Line) (x
 chosen p g h [] e = refl
 chosen p g h (x ∷ xs) e = ap (λ l. l ++ flat_map g xs) e.0 ∙ (ap (λ l. elim (p x) [ true ↦ h x.number | false ↦ [] ] ++ l) (chosen p g h xs e.1) ∙ go (p x))
   where
-    go : (b : Bool) → elim b [ true ↦ h x.number | false ↦ [] ] ++ flat_map h (map number (filter p xs)) ≡ flat_map h (map number (if b then x ∷ filter p xs else filter p xs))
+    go : (b : Bool) → elim b [ true ↦ h x.number | false ↦ [] ] ++
+        flat_map h (map number (filter p xs)) ≡ flat_map h (map number (if b then x ∷ filter p xs else filter p xs))
     go true = refl
     go false = refl
 
@@ -93,21 +101,26 @@ module _ (m : ℕ) (nodes : List Node) (numbered : AreNumbered 0 m nodes) (stand
 
   asserted : (i n : ℕ) → IsLine nodes i n → truth_of (mean nodes assert_test (at_top n [])) ≡ Ok true
   asserted i n is =
-      net-test m nodes numbered n is.own (at_top n []) 1 1 (in_basic (codes "LineExtensionAmount")) (in_basic (codes "InvoicedQuantity")) (in_aggregate (codes "Price")) (in_basic (codes "PriceAmount"))
-      is.net_text is.quantity_text is.price_text is.a is.b is.z is.net is.quantity is.price_node is.price_own is.price_only is.price is.net_read is.quantity_read is.price_read is.product (same is.z)
+      net-test m nodes numbered n is.own (at_top n []) 1 1 (in_basic (codes "LineExtensionAmount")) (in_basic (codes "InvoicedQuantity"))
+      (in_aggregate (codes "Price")) (in_basic (codes "PriceAmount"))
+      is.net_text is.quantity_text is.price_text is.a is.b is.z is.net is.quantity is.price_node is.price_own is.price_only is.price is.net_read
+      is.quantity_read is.price_read is.product (same is.z)
 
   reported : (i n : ℕ) → IsLine nodes i n → truth_of (mean nodes report_test (at_top n [])) ≡ Ok (is_eq (int_cmp (pos (i * unit)) (pos (count * unit))))
   reported i n is =
-      count-test m nodes numbered n is.own (at_top n []) 1 1 (in_basic (codes "ID")) is.number_text (pos (i * unit)) all_lines (filter (is_called line_name) nodes) count is.number is.number_read
+      count-test m nodes numbered n is.own (at_top n []) 1 1 (in_basic (codes "ID")) is.number_text (pos (i * unit)) all_lines
+      (filter (is_called line_name) nodes) count is.number is.number_read
       (all-value m nodes numbered line_name stands (at_top n []) n 1 1) long few-lines
 
   -- what the rule tells at a line, by whether the number is the count
   abbrev told_at : ℕ → Bool → List Line
-  told_at n b = l.Fired n 0 the_rule.context.text ∷ (lines_told nodes n [] the_assert None ++ (lines_told nodes n [] the_report (told_of the_report.kind (Ok b)) ++ []))
+  told_at n b = l.Fired n 0 the_rule.context.text ∷ (lines_told nodes n [] the_assert None ++
+      (lines_told nodes n [] the_report (told_of the_report.kind (Ok b)) ++ []))
 
   line-told : (i n : ℕ) (b : Bool) → IsLine nodes i n → is_eq (int_cmp (pos (i * unit)) (pos (count * unit))) ≡ b → at_line n ≡ told_at n b
   line-told i n b is e =
-      λ j. l.Fired n 0 the_rule.context.text ∷ (lines_told nodes n [] the_assert (told_of the_assert.kind (asserted i n is j)) ++ (lines_told nodes n [] the_report (told_of the_report.kind ((reported i n is ∙ ap Ok e) j)) ++ []))
+      λ j. l.Fired n 0 the_rule.context.text ∷ (lines_told nodes n [] the_assert (told_of the_assert.kind (asserted i n is j)) ++
+      (lines_told nodes n [] the_report (told_of the_report.kind ((reported i n is ∙ ap Ok e) j)) ++ []))
 
   last-tells : (n : ℕ) → IsLine nodes count n → Tells 1 (at_line n)
   last-tells n is = subst (λ (ls : List Line). Tells 1 ls) (sym (line-told count n true is (same (pos (count * unit))))) (refl, refl, refl, refl)
@@ -126,7 +139,8 @@ module _ (m : ℕ) (nodes : List Node) (numbered : AreNumbered 0 m nodes) (stand
 
   judged-each : Each (λ x. by_first nodes [] x 0 (the_rule ∷ []) ≡ elim (is_called line_name x) [ true ↦ at_line x.number | false ↦ [] ]) nodes
   judged-each =
-      each-weaker (λ x. matches nodes [] (children line_name) x ≡ is_called line_name x) (λ x. by_first nodes [] x 0 (the_rule ∷ []) ≡ elim (is_called line_name x) [ true ↦ at_line x.number | false ↦ [] ])
+      each-weaker (λ x. matches nodes [] (children line_name) x ≡ is_called line_name x)
+      (λ x. by_first nodes [] x 0 (the_rule ∷ []) ≡ elim (is_called line_name x) [ true ↦ at_line x.number | false ↦ [] ])
       nodes (λ x e. ap (λ b. elim b [ true ↦ at_line x.number | false ↦ [] ]) e) (matches-each m nodes numbered line_name stands [])
 
   -- The rules find the last line, and nothing else.
@@ -134,12 +148,16 @@ module _ (m : ℕ) (nodes : List Node) (numbered : AreNumbered 0 m nodes) (stand
       → tally_of (findings the_rules (record { phase = None; patterns = 0 ∷ [] }) nodes) ≡ record { failed = 0; reported = 1; errors = 0; minor = 0 }
   found-once some are = tallied (findings the_rules (record { phase = None; patterns = 0 ∷ [] }) nodes) (tells count some refl are)
     where
-      behind : (k : ℕ) → k ≡ count → AreLines (IsLine nodes) 1 k (map number (filter (is_called line_name) nodes)) → 1 ≤ k → Tells 1 (flat_map at_line (map number (filter (is_called line_name) nodes)))
+      behind : (k : ℕ) → k ≡ count → AreLines (IsLine nodes) 1 k (map number (filter (is_called line_name) nodes)) → 1 ≤ k →
+          Tells 1 (flat_map at_line (map number (filter (is_called line_name) nodes)))
       behind zero e w h = absurd (omega (arith, h))
       behind (suc k) e w h = all-tell k 1 (map number (filter (is_called line_name) nodes)) w (omega (arith, e))
 
-      tells : (k : ℕ) → 1 ≤ k → k ≡ count → AreLines (IsLine nodes) 1 k (map number (filter (is_called line_name) nodes)) → Tells 1 (findings the_rules (record { phase = None; patterns = 0 ∷ [] }) nodes)
+      tells : (k : ℕ) → 1 ≤ k → k ≡ count → AreLines (IsLine nodes) 1 k (map number (filter (is_called line_name) nodes)) →
+          Tells 1 (findings the_rules (record { phase = None; patterns = 0 ∷ [] }) nodes)
       tells k h e w =
           let at_nodes : List Line = flat_map (λ (x : Node). by_first nodes [] x 0 (the_rule ∷ [])) nodes in
-          let inner : Tells 1 at_nodes = subst (λ (ls : List Line). Tells 1 ls) (sym (chosen (is_called line_name) (λ x. by_first nodes [] x 0 (the_rule ∷ [])) at_line nodes judged-each)) (behind k e w h) in
-          tells-append 1 0 (l.Pattern None ∷ at_nodes) [] (tells-append 0 1 (l.Pattern None ∷ []) at_nodes (refl, refl, refl, refl) inner) (refl, refl, refl, refl)
+          let inner : Tells 1 at_nodes = subst (λ (ls : List Line). Tells 1 ls)
+          (sym (chosen (is_called line_name) (λ x. by_first nodes [] x 0 (the_rule ∷ [])) at_line nodes judged-each)) (behind k e w h) in
+          tells-append 1 0 (l.Pattern None ∷ at_nodes) [] (tells-append 0 1 (l.Pattern None ∷ []) at_nodes (refl, refl, refl, refl) inner)
+          (refl, refl, refl, refl)

@@ -1,5 +1,6 @@
 -- What is known of the generated entries: which terms stand where, how often groups occur, and how long their texts are.
-use Rattle.std.proofs.Common.{◌≡◌, ℕ, suc, ◌+◌, ◌*◌, ◌/◌, ◌^◌, ◌<◌, ◌≤◌, max, Bool, true, false, ◌&&◌, List, [], ◌∷◌, ◌++◌, map, length, Option, Some, None, refl, sym, ◌∙◌, subst, arith, lit≤, lit<, inl, inr, length-append}
+use Rattle.std.proofs.Common.{◌≡◌, ℕ, suc, ◌+◌, ◌*◌, ◌/◌, ◌^◌, ◌<◌, ◌≤◌, max, Bool, true, false, ◌&&◌, List, [], ◌∷◌, ◌++◌, map, length, Option, Some, None}
+use Rattle.std.proofs.Common.{refl, sym, ◌∙◌, subst, arith, lit≤, lit<, inl, inr, length-append}
 use Rattle.std.specs.Prelude.{◌==◌, codes, decimal, find, fold, option_map, bytes_eq}
 use Rattle.std.specs.List.{list_all, list_any}
 use Rattle.std.specs.Fmt.{digits}
@@ -117,7 +118,8 @@ number-short : (i : ℕ) → i ≤ 10000 → length (decimal i) ≤ 5
 number-short i h = length-decimal-le 5 i (lit< tt) (omega arith) (omega arith)
 
 item-short : (i : ℕ) → i ≤ 10000 → length (codes "Item " ++ decimal i) ≤ 23
-item-short i h = let n : length (decimal i) ≤ 5 = number-short i h in let all : length (codes "Item " ++ decimal i) ≡ 5 + length (decimal i) = length-append (codes "Item ") (decimal i) in omega arith
+item-short i h = let n : length (decimal i) ≤ 5 = number-short i h in let all : length (codes "Item " ++ decimal i) ≡ 5 + length (decimal i) =
+    length-append (codes "Item ") (decimal i) in omega arith
 
 abbrev Short : Entry → Type 0
 Short e = IsShort e.value
@@ -183,7 +185,10 @@ line-short i h =
           code-short (codes "C62") (lit≤ tt),
           (
             amount-short (100 * net i) small_net,
-            (amount-short (100 * price i) small_price, (code-short (codes "S") (lit≤ tt), (rate-short, (text-short (codes "Item " ++ decimal i) (item-short i h), tt)))),
+            (
+              amount-short (100 * price i) small_price,
+              (code-short (codes "S") (lit≤ tt), (rate-short, (text-short (codes "Item " ++ decimal i) (item-short i h), tt))),
+            ),
           ),
         ),
       ),
@@ -207,7 +212,8 @@ record IsThere (term : Term) (c : Context) (value : Value) : Type 0 where
 value-there : (n : ℕ) → n ≤ 10000 → (term : Term) (c : Context) (value : Value) → value_in (trial_entries n) term c ≡ Some value → IsThere term c value
 value-there n h term c value is =
     let w = map-some (λ (e : Entry). e.value) (find (is_at term c) (trial_entries n)) value is in
-    let k = each-found (λ (e : Entry). Stands e × Short e) (is_at term c) (trial_entries n) (each-both Stands Short (trial_entries n) (each-stands n) (each-short n h)) w.0 w.1 in
+    let k = each-found (λ (e : Entry). Stands e × Short e) (is_at term c) (trial_entries n)
+    (each-both Stands Short (trial_entries n) (each-stands n) (each-short n h)) w.0 w.1 in
     let t = both (same_term w.0.term term) (same_context w.0.context c) k.1 in
     let here : w.0.context ≡ c = context_is w.0.context c t.1 in
     let this : w.0.term ≡ term = same_term_is w.0.term term t.0 in

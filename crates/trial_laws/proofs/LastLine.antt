@@ -1,5 +1,6 @@
 -- In the UBL document of a trial there is one element for each generated line, in their order, so the built-in rules find the last one alone.
-use Rattle.std.proofs.Common.{◌≡◌, ℕ, zero, suc, ◌+◌, ◌*◌, ◌^◌, ◌<◌, ◌≤◌, Bool, true, false, ◌||◌, List, [], ◌∷◌, length, map, filter, Some, None, Ok, pos, refl, sym, ap, ◌∙◌, subst, arith}
+use Rattle.std.proofs.Common.{◌≡◌, ℕ, zero, suc, ◌+◌, ◌*◌, ◌^◌, ◌<◌, ◌≤◌, Bool, true, false, ◌||◌, List, [], ◌∷◌, length, map, filter, Some, None, Ok, pos}
+use Rattle.std.proofs.Common.{refl, sym, ap, ◌∙◌, subst, arith}
 use Rattle.std.specs.Prelude.{decimal, encode_utf8_all}
 use Rattle.std.specs.List.{list_any}
 use Rattle.std.proofs.lemmas.Bool.{false≢true}
@@ -39,9 +40,12 @@ use Rattle.trial_laws.proofs.Numbered.{document-numbered}
 use Rattle.trial_laws.proofs.Finding.{is_called}
 use Rattle.trial_laws.proofs.Standing.{document-stands}
 use Rattle.trial_laws.proofs.Tests.{SaysOnce}
-use Rattle.trial_laws.proofs.Walks.{is_line, group_at, cells_at, inside_at, rest_at, skip, is_step, either-first, either-true, first-holds, IsOnlyChild, only-child, leaf-string, child-holds}
+use Rattle.trial_laws.proofs.Walks.{is_line, group_at, cells_at, inside_at, rest_at, skip, is_step, either-first, either-true, first-holds, IsOnlyChild}
+use Rattle.trial_laws.proofs.Walks.{only-child, leaf-string, child-holds}
 use Rattle.trial_laws.proofs.Lines.{number, AreLines, document-lines}
-use Rattle.trial_laws.proofs.Table.{IsLeafOf, tells-text, tells-hold, line_plan, invoice_plan, price_plan, inside_line, has-line, id_name, net_name, quantity_name, price_name, amount_name, id-leaf, quantity-leaf, net-leaf, price-stands, price-untold, amount-leaf, id-first, amount-first, line-untold}
+use Rattle.trial_laws.proofs.Table.{IsLeafOf, tells-text, tells-hold, line_plan, invoice_plan, price_plan, inside_line, has-line, id_name, net_name}
+use Rattle.trial_laws.proofs.Table.{quantity_name, price_name, amount_name, id-leaf, quantity-leaf, net-leaf, price-stands, price-untold, amount-leaf, id-first}
+use Rattle.trial_laws.proofs.Table.{amount-first, line-untold}
 use Rattle.trial_laws.proofs.LineTerms.{term, in_line, number-in, quantity-in, net-in, price-in, line-spots}
 use Rattle.trial_laws.proofs.Figures.{AreRead, hundredths-read, ones-read, decimal-read, product-is, equal-itself, less-differs}
 use Rattle.trial_laws.proofs.Findings.{IsLine, found-once}
@@ -49,8 +53,10 @@ use Rattle.trial_laws.proofs.Findings.{IsLine, found-once}
 -- ---- children of a line
 
 -- The one child of a name says the value of its term.
-child-says : (nodes : List Node) (es : List Entry) (slot : Slot) (name : Name) (t : Term) (value : Value) (plan : Plan) → IsLeafOf name t plan → value_in es t (record { outer = Some slot; inner = None }) ≡ Some value
-    → (p : ℕ) (more : List ℕ) (n : ℕ) (held : Bool) → Holds nodes p more n (written_lines es plan held (record { outer = Some slot; inner = None })) → SaysOnce nodes p name (spelled value)
+child-says : (nodes : List Node) (es : List Entry) (slot : Slot) (name : Name) (t : Term) (value : Value) (plan : Plan) → IsLeafOf name t plan →
+    value_in es t (record { outer = Some slot; inner = None }) ≡ Some value
+    → (p : ℕ) (more : List ℕ) (n : ℕ) (held : Bool) → Holds nodes p more n (written_lines es plan held (record { outer = Some slot; inner = None })) →
+    SaysOnce nodes p name (spelled value)
 child-says nodes es slot name t value plan leaf there p more n held holding =
     let c : Context = record { outer = Some slot; inner = None } in
     let here : Plan = skip (is_step name) plan in
@@ -79,11 +85,13 @@ unfolding price_plan
 price-holds es c h = h
 
 price-child : (nodes : List Node) (es : List Entry) (p : ℕ) (more : List ℕ) (c : Context) (deeper : Bool)
-    → IsOnlyChild nodes p more price_name (element_text es (cells_at (skip (is_step price_name) inside_line)) c) (written_lines es (inside_at (skip (is_step price_name) inside_line)) deeper c)
+    → IsOnlyChild nodes p more price_name (element_text es (cells_at (skip (is_step price_name) inside_line)) c)
+    (written_lines es (inside_at (skip (is_step price_name) inside_line)) deeper c)
     → IsOnlyChild nodes p more price_name [] (written_lines es price_plan deeper c)
 unfolding price_plan
 price-child nodes es p more c deeper one =
-    subst (λ (cells : List Cell). IsOnlyChild nodes p more price_name (element_text es cells c) (written_lines es (inside_at (skip (is_step price_name) inside_line)) deeper c)) price-untold one
+    subst (λ (cells : List Cell). IsOnlyChild nodes p more price_name (element_text es cells c)
+    (written_lines es (inside_at (skip (is_step price_name) inside_line)) deeper c)) price-untold one
 
 multiplied : (i : ℕ) → product_of (pos (quantity i * 10 ^ 18)) (pos (100 * price i * 10 ^ 16)) ≡ Ok (pos (100 * net i * 10 ^ 16))
 unfolding net
@@ -112,24 +120,32 @@ module _ (read : AreRead) (count : ℕ) (few : count ≤ 10000) where
       let here : Plan = skip (is_step price_name) inside_line in
       let dear : value_in es (term 146) (in_line i) ≡ Some _ = price-in count i low high in
       let priced : holds es price_plan (in_line i) ≡ true = first-there es (slot_of i) amount_name (term 146) _ price_plan amount-leaf amount-first dear in
-      let priced-here : line_holds es (cells_at here) (inside_at here) (in_line i) ≡ true = either-true (cells_hold es (cells_at here) (in_line i)) (λ _. holds es (inside_at here) (in_line i)) (price-holds es (in_line i) priced) in
+      let priced-here : line_holds es (cells_at here) (inside_at here) (in_line i) ≡ true =
+      either-true (cells_hold es (cells_at here) (in_line i)) (λ _. holds es (inside_at here) (in_line i)) (price-holds es (in_line i) priced) in
       let deeper : Bool = holds_further es (cells_at here) (inside_at here) further (in_line i) in
       let one : IsOnlyChild nodes n (1 ∷ (0 ∷ [])) price_name [] (written_lines es price_plan deeper (in_line i)) =
-      price-child nodes es n (1 ∷ (0 ∷ [])) (in_line i) deeper (only-child nodes es n (1 ∷ (0 ∷ [])) price_name inside_line further (in_line i) (n + (1 + length attrs)) price-stands.before price-stands.line price-stands.named price-stands.once priced-here price-stands.behind holding) in
+      price-child nodes es n (1 ∷ (0 ∷ [])) (in_line i) deeper
+      (only-child nodes es n (1 ∷ (0 ∷ [])) price_name inside_line further (in_line i)
+      (n + (1 + length attrs)) price-stands.before price-stands.line price-stands.named price-stands.once priced-here price-stands.behind holding) in
       record {
         own = ap (λ (x : Node). x.number) (at-element nodes (1 ∷ (0 ∷ [])) n name attrs inner later lies);
         number_text = decimal i;
-        number = child-says nodes es (slot_of i) id_name (term 126) _ inside_line id-leaf (number-in count i low high) n (1 ∷ (0 ∷ [])) (n + (1 + length attrs)) further holding;
+        number = child-says nodes es (slot_of i) id_name (term 126) _ inside_line id-leaf (number-in count i low high) n (1 ∷ (0 ∷ []))
+            (n + (1 + length attrs)) further holding;
         number_read = decimal-read read i (omega (arith, high, few));
         net_text = _;
-        net = child-says nodes es (slot_of i) net_name (term 131) _ inside_line net-leaf (net-in count i low high) n (1 ∷ (0 ∷ [])) (n + (1 + length attrs)) further holding;
+        net = child-says nodes es (slot_of i) net_name (term 131) _ inside_line net-leaf (net-in count i low high) n (1 ∷ (0 ∷ []))
+            (n + (1 + length attrs)) further holding;
         quantity_text = _;
-        quantity = child-says nodes es (slot_of i) quantity_name (term 129) _ inside_line quantity-leaf (quantity-in count i low high) n (1 ∷ (0 ∷ [])) (n + (1 + length attrs)) further holding;
+        quantity = child-says nodes es (slot_of i) quantity_name (term 129) _ inside_line quantity-leaf (quantity-in count i low high) n (1 ∷ (0 ∷ []))
+            (n + (1 + length attrs)) further holding;
         price_node = element_node (n ∷ (1 ∷ (0 ∷ []))) one.place one.written;
-        price_own = ap (λ (x : Node). x.number) (at-element nodes (n ∷ (1 ∷ (0 ∷ []))) one.place one.written one.attrs (written_lines es price_plan deeper (in_line i)) one.rest one.lies);
+        price_own = ap (λ (x : Node). x.number) (at-element nodes (n ∷ (1 ∷ (0 ∷ []))) one.place one.written one.attrs
+            (written_lines es price_plan deeper (in_line i)) one.rest one.lies);
         price_only = one.only;
         price_text = _;
-        price = child-says nodes es (slot_of i) amount_name (term 146) _ price_plan amount-leaf dear one.place (n ∷ (1 ∷ (0 ∷ []))) (one.place + (1 + length one.attrs)) deeper
+        price = child-says nodes es (slot_of i) amount_name (term 146) _ price_plan amount-leaf dear one.place (n ∷ (1 ∷ (0 ∷ [])))
+            (one.place + (1 + length one.attrs)) deeper
             (child-holds nodes n (1 ∷ (0 ∷ [])) price_name (written_lines es price_plan deeper (in_line i)) one);
         a = pos (quantity i * 10 ^ 18);
         b = pos (100 * price i * 10 ^ 16);
@@ -141,7 +157,8 @@ module _ (read : AreRead) (count : ℕ) (few : count ≤ 10000) where
       }
 
   -- Each occurrence of the group holds an entry: its number.
-  line-held : (i : ℕ) → 1 ≤ i → i < 1 + count → line_holds es (cells_at (skip (is_step line_name) (inside_at (plan_of invoice_rows)))) (inside_at (skip (is_step line_name) (inside_at (plan_of invoice_rows)))) (in_line i) ≡ true
+  line-held : (i : ℕ) → 1 ≤ i → i < 1 + count → line_holds es (cells_at (skip (is_step line_name) (inside_at (plan_of invoice_rows))))
+      (inside_at (skip (is_step line_name) (inside_at (plan_of invoice_rows)))) (in_line i) ≡ true
   unfolding line_plan invoice_plan
   line-held i low high =
       either-true (cells_hold es (cells_at line_plan) (in_line i)) (λ _. holds es inside_line (in_line i))
@@ -149,23 +166,29 @@ module _ (read : AreRead) (count : ℕ) (few : count ≤ 10000) where
 
   line-there : (i n : ℕ) (name : Name) (attrs : List Attribute) (later : Forest) (further : Bool) → 1 ≤ i → i < 1 + count
       → Lies nodes (1 ∷ (0 ∷ [])) n
-      (an_element name attrs (with_text (element_text es (cells_at (skip (is_step line_name) (inside_at (plan_of invoice_rows)))) (in_line i)) (written_lines es (inside_at (skip (is_step line_name) (inside_at (plan_of invoice_rows)))) further (in_line i))) later)
+      (an_element name attrs (with_text (element_text es (cells_at (skip (is_step line_name) (inside_at (plan_of invoice_rows)))) (in_line i))
+      (written_lines es (inside_at (skip (is_step line_name) (inside_at (plan_of invoice_rows)))) further (in_line i))) later)
       → IsLine nodes i n
   unfolding line_plan invoice_plan
   line-there i n name attrs later further low high lies =
       line-is i n name attrs later further low (omega (arith, high))
-      (subst (λ (cells : List Cell). Lies nodes (1 ∷ (0 ∷ [])) n (an_element name attrs (with_text (element_text es cells (in_line i)) (written_lines es inside_line further (in_line i))) later)) line-untold lies)
+      (subst (λ (cells : List Cell). Lies nodes (1 ∷ (0 ∷ [])) n
+      (an_element name attrs (with_text (element_text es cells (in_line i)) (written_lines es inside_line further (in_line i))) later)) line-untold lies)
 
-  pub lines-are : 1 ≤ count → line_holds es (cells_at (plan_of invoice_rows)) (inside_at (plan_of invoice_rows)) root_context ≡ true → AreLines (IsLine nodes) 1 count (map number (filter (is_called line_name) nodes))
+  pub lines-are : 1 ≤ count → line_holds es (cells_at (plan_of invoice_rows)) (inside_at (plan_of invoice_rows)) root_context ≡ true →
+      AreLines (IsLine nodes) 1 count (map number (filter (is_called line_name) nodes))
   lines-are some held =
       document-lines es line_name in_line groups.InvoiceLine invoice_rows has-line held count (line-spots count some) line-held (IsLine nodes) line-there
 
 -- ---- the document
 
-root-holds : (entries : List Entry) (plan : Plan) (c : Context) → is_line plan ≡ true → group_at plan ≡ None → rest_at plan ≡ nothing → holds entries plan c ≡ true → line_holds entries (cells_at plan) (inside_at plan) c ≡ true
+root-holds : (entries : List Entry) (plan : Plan) (c : Context) → is_line plan ≡ true → group_at plan ≡ None → rest_at plan ≡ nothing →
+    holds entries plan c ≡ true → line_holds entries (cells_at plan) (inside_at plan) c ≡ true
 root-holds entries nothing c ok once alone h = absurd (false≢true ok)
 root-holds entries (a_line s cells inside rest) c ok once alone h =
-    within (line_holds entries cells inside c) (sym (ap (λ g. either (list_any (λ d. line_holds entries cells inside d) (spots entries c g)) (λ _. holds entries rest c)) once ∙ ap (λ (behind : Plan). either (line_holds entries cells inside c || false) (λ _. holds entries behind c)) alone) ∙ h)
+    within (line_holds entries cells inside c)
+    (sym (ap (λ g. either (list_any (λ d. line_holds entries cells inside d) (spots entries c g)) (λ _. holds entries rest c)) once ∙
+    ap (λ (behind : Plan). either (line_holds entries cells inside c || false) (λ _. holds entries behind c)) alone) ∙ h)
   where
     within : (b : Bool) → either (b || false) (λ _. false) ≡ true → b ≡ true
     within true k = refl
@@ -178,18 +201,27 @@ lines-long L (suc k) a [] are = absurd are
 lines-long L (suc k) a (x ∷ xs) are = ap suc (lines-long L k (a + 1) xs are.1)
 
 pub found-in-document : AreRead → (count : ℕ) → 1 ≤ count → count ≤ 10000 → holds_any invoice_rows (trial_entries count) ≡ true
-    → tally_of (found_by the_ready (document_nodes (document_of invoice_rows (trial_entries count)))) ≡ record { failed = 0; reported = 1; errors = 0; minor = 0 }
+    → tally_of (found_by the_ready (document_nodes (document_of invoice_rows (trial_entries count)))) ≡ record {
+      failed = 0;
+      reported = 1;
+      errors = 0;
+      minor =
+          0;
+    }
 found-in-document read count some few held =
     let tree : Forest = document_of invoice_rows (trial_entries count) in
     let root : line_holds (trial_entries count) (cells_at (plan_of invoice_rows)) (inside_at (plan_of invoice_rows)) root_context ≡ true =
     root-holds (trial_entries count) (plan_of invoice_rows) root_context has-line.root has-line.once has-line.alone held in
     let are = lines-are read count few some root in
-    let long : length (filter (is_called line_name) (document_nodes tree)) ≡ count = lines-long (IsLine (document_nodes tree)) count 1 (filter (is_called line_name) (document_nodes tree)) are in
-    found-once (1 + size tree) (document_nodes tree) (document-numbered tree) (document-stands tree line_name) count (omega (arith, few)) long equal-itself less-differs some are
+    let long : length (filter (is_called line_name) (document_nodes tree)) ≡ count =
+    lines-long (IsLine (document_nodes tree)) count 1 (filter (is_called line_name) (document_nodes tree)) are in
+    found-once (1 + size tree) (document_nodes tree) (document-numbered tree) (document-stands tree line_name) count
+    (omega (arith, few)) long equal-itself less-differs some are
 
 -- ---- what a trial finds
 
-pub tally-is : AreRead → (count : ℕ) → 1 ≤ count → count ≤ 10000 → holds_any (rows_of which.Invoice) (trial_entries count) ≡ true → IsReadBack reading_limits (rows_of which.Invoice) (trial_entries count)
+pub tally-is : AreRead → (count : ℕ) → 1 ≤ count → count ≤ 10000 → holds_any (rows_of which.Invoice) (trial_entries count) ≡ true →
+    IsReadBack reading_limits (rows_of which.Invoice) (trial_entries count)
     → tally_of (trial_findings (ubl_text count)) ≡ record { failed = 0; reported = 1; errors = 0; minor = 0 }
 unfolding trial_findings nodes_in written
 tally-is read count some few held back =

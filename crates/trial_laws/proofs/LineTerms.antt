@@ -29,7 +29,8 @@ find-behind p (x ∷ xs) ys h = go (p x) (find-behind p xs ys) h
     some-none : Some x ≡ None → ⊥
     some-none e = cc
 
-    go : (b : Bool) → (find p xs ≡ None → find p (xs ++ ys) ≡ find p ys) → (if b then Some x else find p xs) ≡ None → (if b then Some x else find p (xs ++ ys)) ≡ find p ys
+    go : (b : Bool) → (find p xs ≡ None → find p (xs ++ ys) ≡ find p ys) → (if b then Some x else find p xs) ≡ None →
+        (if b then Some x else find p (xs ++ ys)) ≡ find p ys
     go true later e = absurd (some-none e)
     go false later e = later e
 
@@ -40,7 +41,8 @@ find-front p [] ys e h = absurd (none-some h)
     none-some k = cc
 find-front p (x ∷ xs) ys e h = go (p x) (find-front p xs ys e) h
   where
-    go : (b : Bool) → (find p xs ≡ Some e → find p (xs ++ ys) ≡ Some e) → (if b then Some x else find p xs) ≡ Some e → (if b then Some x else find p (xs ++ ys)) ≡ Some e
+    go : (b : Bool) → (find p xs ≡ Some e → find p (xs ++ ys) ≡ Some e) → (if b then Some x else find p xs) ≡ Some e →
+        (if b then Some x else find p (xs ++ ys)) ≡ Some e
     go true later k = k
     go false later k = later k
 
@@ -58,16 +60,19 @@ found-in-lines : (p : Entry → Bool) (i : ℕ) (e : Entry) → ((j : ℕ) → (
 found-in-lines p i e others own zero a low high = absurd (omega (arith, low, high))
 found-in-lines p i e others own (suc k) a low high = go (a == i) refl (λ low. found-in-lines p i e others own k (a + 1) low (omega (arith, high)))
   where
-    go : (b : Bool) → (a == i) ≡ b → (a + 1 ≤ i → find p (flat_map line (range_with_len (a + 1) k)) ≡ Some e) → find p (line a ++ flat_map line (range_with_len (a + 1) k)) ≡ Some e
+    go : (b : Bool) → (a == i) ≡ b → (a + 1 ≤ i → find p (flat_map line (range_with_len (a + 1) k)) ≡ Some e) →
+        find p (line a ++ flat_map line (range_with_len (a + 1) k)) ≡ Some e
     go true h later =
         find-front p (line a) (flat_map line (range_with_len (a + 1) k)) e (ap (λ m. find p (line m)) (same-number a i h) ∙ own)
     go false h later = find-behind p (line a) (flat_map line (range_with_len (a + 1) k)) (others a h) ∙ later (other-number a i h low)
 
-found-entry : (p : Entry → Bool) (n i : ℕ) (e : Entry) → ((sum : ℕ) → find p (head sum) ≡ None) → ((j : ℕ) → (j == i) ≡ false → find p (line j) ≡ None) → find p (line i) ≡ Some e
+found-entry : (p : Entry → Bool) (n i : ℕ) (e : Entry) → ((sum : ℕ) → find p (head sum) ≡ None) → ((j : ℕ) → (j == i) ≡ false → find p (line j) ≡ None) →
+    find p (line i) ≡ Some e
     → 1 ≤ i → i ≤ n → find p (trial_entries n) ≡ Some e
 unfolding trial_entries lines_of
 found-entry p n i e none others own low high =
-    find-behind p (head (sum_of_nets n)) (flat_map line (range_with_len 1 n)) (none (sum_of_nets n)) ∙ found-in-lines p i e others own n 1 low (omega (arith, high))
+    find-behind p (head (sum_of_nets n)) (flat_map line (range_with_len 1 n)) (none (sum_of_nets n)) ∙
+    found-in-lines p i e others own n 1 low (omega (arith, high))
 
 -- ---- the four values of a line
 
@@ -77,22 +82,26 @@ not-in-head k i sum = refl
 pub number-in : (n i : ℕ) → 1 ≤ i → i ≤ n → value_in (trial_entries n) (term 126) (in_line i) ≡ Some (values.Identifier (decimal i))
 number-in n i low high =
     ap (option_map (λ (e : Entry). e.value))
-    (found-entry (is_at (term 126) (in_line i)) n i (record { context = in_line i; term = term 126; value = values.Identifier (decimal i) }) (λ sum. refl) (λ j h. rw h refl) (rw (same-is i) refl) low high)
+    (found-entry (is_at (term 126) (in_line i)) n i (record { context = in_line i; term = term 126; value = values.Identifier (decimal i) }) (λ sum. refl)
+    (λ j h. rw h refl) (rw (same-is i) refl) low high)
 
 pub quantity-in : (n i : ℕ) → 1 ≤ i → i ≤ n → value_in (trial_entries n) (term 129) (in_line i) ≡ Some (values.Quantity (ones (quantity i)))
 quantity-in n i low high =
     ap (option_map (λ (e : Entry). e.value))
-    (found-entry (is_at (term 129) (in_line i)) n i (record { context = in_line i; term = term 129; value = values.Quantity (ones (quantity i)) }) (λ sum. refl) (λ j h. rw h refl) (rw (same-is i) refl) low high)
+    (found-entry (is_at (term 129) (in_line i)) n i (record { context = in_line i; term = term 129; value = values.Quantity (ones (quantity i)) }) (λ sum. refl)
+    (λ j h. rw h refl) (rw (same-is i) refl) low high)
 
 pub net-in : (n i : ℕ) → 1 ≤ i → i ≤ n → value_in (trial_entries n) (term 131) (in_line i) ≡ Some (amount (100 * net i))
 net-in n i low high =
     ap (option_map (λ (e : Entry). e.value))
-    (found-entry (is_at (term 131) (in_line i)) n i (record { context = in_line i; term = term 131; value = amount (100 * net i) }) (λ sum. refl) (λ j h. rw h refl) (rw (same-is i) refl) low high)
+    (found-entry (is_at (term 131) (in_line i)) n i (record { context = in_line i; term = term 131; value = amount (100 * net i) }) (λ sum. refl)
+    (λ j h. rw h refl) (rw (same-is i) refl) low high)
 
 pub price-in : (n i : ℕ) → 1 ≤ i → i ≤ n → value_in (trial_entries n) (term 146) (in_line i) ≡ Some (amount (100 * price i))
 price-in n i low high =
     ap (option_map (λ (e : Entry). e.value))
-    (found-entry (is_at (term 146) (in_line i)) n i (record { context = in_line i; term = term 146; value = amount (100 * price i) }) (λ sum. refl) (λ j h. rw h refl) (rw (same-is i) refl) low high)
+    (found-entry (is_at (term 146) (in_line i)) n i (record { context = in_line i; term = term 146; value = amount (100 * price i) }) (λ sum. refl)
+    (λ j h. rw h refl) (rw (same-is i) refl) low high)
 
 -- ---- how many lines there are
 
@@ -124,7 +133,8 @@ fold-lines : (k a s : ℕ) → a + 1 ≡ s → fold max a (map index (flat_map l
 fold-lines zero a s h = omega arith
 fold-lines (suc k) a s h =
     fold-append a (line s) (flat_map line (range_with_len (s + 1) k))
-    ∙ (ap (λ m. fold max m (map index (flat_map line (range_with_len (s + 1) k)))) (fold-line a s (omega (arith, h))) ∙ (fold-lines k s (s + 1) refl ∙ omega (arith, h)))
+    ∙ (ap (λ m. fold max m (map index (flat_map line (range_with_len (s + 1) k)))) (fold-line a s (omega (arith, h))) ∙
+    (fold-lines k s (s + 1) refl ∙ omega (arith, h)))
 
 pub lines-counted : (n : ℕ) → outer_count (trial_entries n) groups.InvoiceLine ≡ n
 unfolding trial_entries lines_of

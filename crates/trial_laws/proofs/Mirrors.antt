@@ -42,7 +42,17 @@ module _ (es : List Entry) (c : Context) (fs : List Entry) (d : Context) (mirror
   shows : (group : Group) → ShowsGroup es c group → ShowsGroup fs d group
   shows group s =
       let w = mirrors.forth s.entry s.member s.within in
-      record { entry = w.other; member = w.member; within = w.within; row = s.row; is_row = s.is_row; term_is = w.term ∙ s.term_is; around = s.around; counts = s.counts }
+      record {
+        entry = w.other;
+        member = w.member;
+        within = w.within;
+        row = s.row;
+        is_row = s.is_row;
+        term_is = w.term ∙ s.term_is;
+        around = s.around;
+        counts =
+            s.counts;
+      }
 
   there : (group : Group) → IsThere es c group → IsThere fs d group
   there g IsThere.invoice = IsThere.invoice

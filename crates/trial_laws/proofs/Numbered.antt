@@ -1,5 +1,6 @@
 -- The nodes of a document have the numbers of their places, so a node is one of those that pass a test exactly where it passes.
-use Rattle.std.proofs.Common.{◌≡◌, ℕ, zero, suc, ◌+◌, ◌<◌, ◌≤◌, Bool, true, false, ◌||◌, List, [], ◌∷◌, ◌++◌, length, get_or, map, filter, inl, inr, refl, sym, ap, ◌∙◌, subst, arith}
+use Rattle.std.proofs.Common.{◌≡◌, ℕ, zero, suc, ◌+◌, ◌<◌, ◌≤◌, Bool, true, false, ◌||◌, List, [], ◌∷◌, ◌++◌, length, get_or, map, filter, inl, inr, refl, sym}
+use Rattle.std.proofs.Common.{ap, ◌∙◌, subst, arith}
 use Rattle.std.specs.Prelude.{if◌then◌else◌}
 use Rattle.inv_base.specs.Tree.{Forest, no_more, a_text, an_element, Attribute, Node, size, nodes_of, nodes_of_attributes, document_nodes, is_among}
 use Rattle.node_arena.specs.Moves.{tree_node}
@@ -23,14 +24,16 @@ attributes-numbered : (above : List ℕ) (n : ℕ) (attributes : List Attribute)
 attributes-numbered above n [] = omega arith
 attributes-numbered above n (attribute ∷ attributes) = (
   refl,
-  from-to (n + 1) (n + 1 + length attributes) (n + 1) (n + length (attribute ∷ attributes)) (nodes_of_attributes above (n + 1) attributes) (attributes-numbered above (n + 1) attributes) refl (omega arith),
+  from-to (n + 1) (n + 1 + length attributes) (n + 1) (n + length (attribute ∷ attributes)) (nodes_of_attributes above (n + 1) attributes)
+      (attributes-numbered above (n + 1) attributes) refl (omega arith),
 )
 
 pub forest-numbered : (above : List ℕ) (n : ℕ) (f : Forest) → AreNumbered n (n + size f) (nodes_of above n f)
 forest-numbered above n no_more = omega arith
 forest-numbered above n (a_text characters rest) = (
   refl,
-  from-to (n + 1) (n + 1 + size rest) (n + 1) (n + size (a_text characters rest)) (nodes_of above (n + 1) rest) (forest-numbered above (n + 1) rest) refl (omega arith),
+  from-to (n + 1) (n + 1 + size rest) (n + 1) (n + size (a_text characters rest)) (nodes_of above (n + 1) rest) (forest-numbered above (n + 1) rest) refl
+      (omega arith),
 )
 forest-numbered above n (an_element name attributes inside rest) =
     let a : ℕ = length attributes in
@@ -43,8 +46,10 @@ forest-numbered above n (an_element name attributes inside rest) =
       numbered-append (n + 1) (n + (1 + a)) (n + (1 + (a + (b + c)))) own (within ++ later)
           (from-to (n + 1) (n + 1 + a) (n + 1) (n + (1 + a)) own (attributes-numbered (n ∷ above) (n + 1) attributes) refl (omega arith))
           (numbered-append (n + (1 + a)) (n + (1 + (a + b))) (n + (1 + (a + (b + c)))) within later
-          (from-to (n + (1 + a)) (n + (1 + a) + b) (n + (1 + a)) (n + (1 + (a + b))) within (forest-numbered (n ∷ above) (n + (1 + a)) inside) refl (omega arith))
-          (from-to (n + (1 + (a + b))) (n + (1 + (a + b)) + c) (n + (1 + (a + b))) (n + (1 + (a + (b + c)))) later (forest-numbered above (n + (1 + (a + b))) rest) refl (omega arith))),
+          (from-to (n + (1 + a)) (n + (1 + a) + b) (n + (1 + a)) (n + (1 + (a + b))) within (forest-numbered (n ∷ above) (n + (1 + a)) inside) refl
+          (omega arith))
+          (from-to (n + (1 + (a + b))) (n + (1 + (a + b)) + c) (n + (1 + (a + b))) (n + (1 + (a + (b + c)))) later
+          (forest-numbered above (n + (1 + (a + b))) rest) refl (omega arith))),
     )
 
 pub document-numbered : (f : Forest) → AreNumbered 0 (1 + size f) (document_nodes f)
@@ -79,14 +84,16 @@ told-each : (p : Node → Bool) (n m : ℕ) (xs : List Node) → AreNumbered n m
 told-each p n m [] h = tt
 told-each p n m (x ∷ xs) h = (
   (omega (arith, h.0), here (p x)),
-  each-weaker (Told p xs (n + 1)) (Told p (x ∷ xs) n) xs (λ y t. (omega (arith, t.0), past y (omega (arith, t.0, h.0)) (p x) ∙ t.1)) (told-each p (n + 1) m xs h.1),
+  each-weaker (Told p xs (n + 1)) (Told p (x ∷ xs) n) xs (λ y t. (omega (arith, t.0), past y (omega (arith, t.0, h.0)) (p x) ∙ t.1))
+      (told-each p (n + 1) m xs h.1),
 )
   where
     here : (b : Bool) → is_among x.number (map number (if b then x ∷ filter p xs else filter p xs)) ≡ b
     here true = ap (λ c. c || is_among x.number (map number (filter p xs))) (same-is x.number)
     here false = none-among p x.number (n + 1) m xs h.1 (omega (arith, h.0))
 
-    past : (y : Node) → x.number < y.number → (b : Bool) → is_among y.number (map number (if b then x ∷ filter p xs else filter p xs)) ≡ is_among y.number (map number (filter p xs))
+    past : (y : Node) → x.number < y.number → (b : Bool) → is_among y.number (map number (if b then x ∷ filter p xs else filter p xs)) ≡ is_among y.number
+        (map number (filter p xs))
     past y l true = ap (λ c. c || is_among y.number (map number (filter p xs))) (other-is y.number x.number (inr l))
     past y l false = refl
 
@@ -101,16 +108,19 @@ abbrev pub IsWithin : ℕ → List ℕ → Type 0
 IsWithin count [] = ⊥
 IsWithin count (n ∷ above) = n < count
 
-attributes-within : (count : ℕ) (above : List ℕ) (n : ℕ) (attributes : List Attribute) → IsWithin count above → Each (λ (x : Node). IsWithin count x.above) (nodes_of_attributes above n attributes)
+attributes-within : (count : ℕ) (above : List ℕ) (n : ℕ) (attributes : List Attribute) → IsWithin count above →
+    Each (λ (x : Node). IsWithin count x.above) (nodes_of_attributes above n attributes)
 attributes-within count above n [] h = tt
 attributes-within count above n (attribute ∷ attributes) h = (h, attributes-within count above (n + 1) attributes h)
 
-forest-within : (count : ℕ) (above : List ℕ) (n : ℕ) (f : Forest) → IsWithin count above → n + size f ≤ count → Each (λ (x : Node). IsWithin count x.above) (nodes_of above n f)
+forest-within : (count : ℕ) (above : List ℕ) (n : ℕ) (f : Forest) → IsWithin count above → n + size f ≤ count →
+    Each (λ (x : Node). IsWithin count x.above) (nodes_of above n f)
 forest-within count above n no_more h l = tt
 forest-within count above n (a_text characters rest) h l = (h, forest-within count above (n + 1) rest h (omega (arith, l)))
 forest-within count above n (an_element name attributes inside rest) h l = (
   h,
-  each-append (λ (x : Node). IsWithin count x.above) (nodes_of_attributes (n ∷ above) (n + 1) attributes) _ (attributes-within count (n ∷ above) (n + 1) attributes (omega (arith, l)))
+  each-append (λ (x : Node). IsWithin count x.above) (nodes_of_attributes (n ∷ above) (n + 1) attributes) _
+      (attributes-within count (n ∷ above) (n + 1) attributes (omega (arith, l)))
       (each-append (λ (x : Node). IsWithin count x.above) (nodes_of (n ∷ above) (n + (1 + length attributes)) inside) _
       (forest-within count (n ∷ above) (n + (1 + length attributes)) inside (omega (arith, l)) (omega (arith, l)))
       (forest-within count above (n + (1 + (length attributes + size inside))) rest h (omega (arith, l)))),

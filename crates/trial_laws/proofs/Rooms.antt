@@ -1,6 +1,7 @@
 -- How much the document of an invoice weighs at most, by the lines of its table alone: by the terms that may stand in each kind of context, how often
 -- groups occur, and how long texts are.
-use Rattle.std.proofs.Common.{◌≡◌, ℕ, zero, suc, ◌+◌, ◌≤◌, Bool, true, false, not, ◌&&◌, ◌||◌, List, [], ◌∷◌, ◌++◌, map, length, Option, Some, None, refl, sym, ap, ◌∙◌, subst, arith, le_refl, ◌⊎◌, inl, inr, length-append}
+use Rattle.std.proofs.Common.{◌≡◌, ℕ, zero, suc, ◌+◌, ◌≤◌, Bool, true, false, not, ◌&&◌, ◌||◌, List, [], ◌∷◌, ◌++◌, map, length, Option, Some, None, refl, sym}
+use Rattle.std.proofs.Common.{ap, ◌∙◌, subst, arith, le_refl, ◌⊎◌, inl, inr, length-append}
 use Rattle.std.specs.Prelude.{is_some, is_none, option_and_then, flat_map}
 use Rattle.std.specs.List.{list_any, range_with_len}
 use Rattle.std.proofs.lemmas.Bool.{false≢true}
@@ -29,8 +30,12 @@ use Rattle.bind_rows.specs.Added.{is_typed, letter_of_form}
 use Rattle.bind_table.specs.Lines.{Plan, Cell, nothing, a_line, plan_of}
 use Rattle.bind_meaning.specs.Currencies.{currency_id}
 use Rattle.bind_meaning.specs.Values.{form_for}
-use Rattle.bind_meaning.specs.Writing.{is_iban, scheme_of, slot_for, context_for, formed, if_so, if_due, filled, has_slots, is_of_type, of_type, of_form, value_for, term_text, row_text, writes_entry}
-use Rattle.bind_meaning.specs.Trees.{outer_count, inner_count, outer_spots, inner_spots, or_here, spots, cells_hold, either, holds, name_of, shows_currency, currency_term, attribute, currency_attribute, is_at_element, currency_of_cell, constant_or_text, attribute_of_cell, attributes, text_of_cell, with_text, element_text, has_constant, is_constant, line_holds, is_due, is_emitted, holds_further, elements, written_lines, document_of}
+use Rattle.bind_meaning.specs.Writing.{is_iban, scheme_of, slot_for, context_for, formed, if_so, if_due, filled, has_slots, is_of_type, of_type, of_form}
+use Rattle.bind_meaning.specs.Writing.{value_for, term_text, row_text, writes_entry}
+use Rattle.bind_meaning.specs.Trees.{outer_count, inner_count, outer_spots, inner_spots, or_here, spots, cells_hold, either, holds, name_of, shows_currency}
+use Rattle.bind_meaning.specs.Trees.{currency_term, attribute, currency_attribute, is_at_element, currency_of_cell, constant_or_text, attribute_of_cell}
+use Rattle.bind_meaning.specs.Trees.{attributes, text_of_cell, with_text, element_text, has_constant, is_constant, line_holds, is_due, is_emitted}
+use Rattle.bind_meaning.specs.Trees.{holds_further, elements, written_lines, document_of}
 use Rattle.trial_laws.proofs.Weights.{Scale, IsScale, attributes_weight, weight}
 
 -- ---- what is known of an invoice
@@ -104,7 +109,8 @@ may_hold known (a_line s cells inside rest) kind =
 
 abbrev pub may_emit : Known → Step → List Cell → Plan → Option Group → Bool
 may_emit known s cells inside kind =
-    either (either (cells_may_hold known cells kind) (λ _. may_hold known inside kind)) (λ _. either s.always (λ _. either (has_constant cells) (λ _. is_constant cells inside)))
+    either (either (cells_may_hold known cells kind) (λ _. may_hold known inside kind))
+    (λ _. either s.always (λ _. either (has_constant cells) (λ _. is_constant cells inside)))
 
 -- ---- how much they weigh at most
 
@@ -121,7 +127,10 @@ attribute_room scale known kind cell = elim cell.row.leaf [
 ]
 
 abbrev pub text_room : Known → Option Group → Cell → ℕ
-text_room known kind cell = elim (is_at_element cell) [ true ↦ elim (has_text known kind cell.row) [ true ↦ text_length known cell.row | false ↦ 0 ] | false ↦ 0 ]
+text_room known kind cell = elim (is_at_element cell) [
+  | true ↦ elim (has_text known kind cell.row) [ true ↦ text_length known cell.row | false ↦ 0 ]
+  | false ↦ 0
+]
 
 abbrev pub added : (Cell → ℕ) → List Cell → ℕ
 added f [] = 0
@@ -236,7 +245,8 @@ module _ (known : Known) (es : List Entry) (are : AreKnown known es) where
   value-from : (row : Row) (term : Term) (c : Context) (v : Value) → value_for row es term c ≡ Some v → value_in es term c ≡ Some v
   value-from row term c v h = go (is_typed (form_for row.form term)) h
     where
-      within : (b : Bool) → ◌≡◌ {A = Option Value} (elim b [ true ↦ option_and_then (of_form (form_for row.form term)) (value_in es term c) | false ↦ None ]) (Some v) → value_in es term c ≡ Some v
+      within : (b : Bool) → ◌≡◌ {A = Option Value} (elim b [ true ↦ option_and_then (of_form (form_for row.form term)) (value_in es term c) | false ↦ None ])
+          (Some v) → value_in es term c ≡ Some v
       within true k = and-then-some (form_for row.form term) (value_in es term c) v k
       within false k = absurd (some-not-none v k)
 
@@ -262,7 +272,8 @@ module _ (known : Known) (es : List Entry) (are : AreKnown known es) where
   value-stands : (c : Context) (term : Term) → is_some (value_in es term c) ≡ true → known.stands (slot_group c.outer) term ≡ true
   value-stands c term h = let w = some-found (value_in es term c) h in are.terms c term w.0 w.1
 
-  filled-text : (w : Written) (c : Context) (t : List ℕ) → filled w es c ≡ Some t → (stands_beside known w (slot_group c.outer) ≡ true) × (length t ≤ filler_length w)
+  filled-text : (w : Written) (c : Context) (t : List ℕ) → filled w es c ≡ Some t → (stands_beside known w (slot_group c.outer) ≡ true) ×
+      (length t ≤ filler_length w)
   filled-text written.Always c t h = absurd (some-not-none t h)
   filled-text written.Never c t h = absurd (some-not-none t h)
   filled-text written.IfIban c t h = absurd (some-not-none t h)
@@ -282,33 +293,42 @@ module _ (known : Known) (es : List Entry) (are : AreKnown known es) where
       go None = refl
       go (Some group) = refl
 
-  term-roomy : (row : Row) (slot : Option Slot) (term : Term) (text : List ℕ) → term_text row es term (context_for row (in_slot slot)) ≡ Some text → IsRoomy known row (slot_group slot) term text
+  term-roomy : (row : Row) (slot : Option Slot) (term : Term) (text : List ℕ) → term_text row es term (context_for row (in_slot slot)) ≡ Some text →
+      IsRoomy known row (slot_group slot) term text
   term-roomy row slot term text h = go (value_for row es term (context_for row (in_slot slot))) refl h
     where
       go : (o : Option Value) → value_for row es term (context_for row (in_slot slot)) ≡ o
           → ◌≡◌ {A = Option (List ℕ)} (elim o [
             | None ↦ filled row.written es (context_for row (in_slot slot))
-            | Some value ↦ if_due row.written es term (context_for row (in_slot slot)) (formed (form_for row.form term) es (context_for row (in_slot slot)) value)
+            | Some value ↦ if_due row.written es term (context_for row (in_slot slot))
+                (formed (form_for row.form term) es (context_for row (in_slot slot)) value)
           ]) (Some text) → IsRoomy known row (slot_group slot) term text
       go None e k =
           let w = filled-text row.written (context_for row (in_slot slot)) text k in
           record {
-            may = either-right (known.stands (group_at row (slot_group slot)) term) (λ _. stands_beside known row.written (group_at row (slot_group slot))) (ap (stands_beside known row.written) (sym (kind-is row slot)) ∙ w.0);
+            may = either-right (known.stands (group_at row (slot_group slot)) term) (λ _. stands_beside known row.written (group_at row (slot_group slot)))
+                (ap (stands_beside known row.written) (sym (kind-is row slot)) ∙ w.0);
             fits = second-part (length text) known.long (filler_length row.written) w.1;
           }
       go (Some value) e k =
           let there = value-from row term (context_for row (in_slot slot)) value e in
-          let same = due-text row.written term (context_for row (in_slot slot)) (formed (form_for row.form term) es (context_for row (in_slot slot)) value) text k in
+          let same = due-text row.written term (context_for row (in_slot slot)) (formed (form_for row.form term) es (context_for row (in_slot slot)) value) text
+          k in
           record {
-            may = either-left (known.stands (group_at row (slot_group slot)) term) (λ _. stands_beside known row.written (group_at row (slot_group slot))) (ap (λ (x : Option Group). known.stands x term) (sym (kind-is row slot)) ∙ are.terms (context_for row (in_slot slot)) term value there);
+            may = either-left (known.stands (group_at row (slot_group slot)) term) (λ _. stands_beside known row.written (group_at row (slot_group slot)))
+                (ap (λ (x : Option Group). known.stands x term) (sym (kind-is row slot)) ∙ are.terms (context_for row (in_slot slot)) term value there);
             fits = first-part (length text) known.long (filler_length row.written)
-                (subst (λ (x : List ℕ). length x ≤ known.long) same (are.texts (form_for row.form term) (context_for row (in_slot slot)) (context_for row (in_slot slot)) term value there));
+                (subst (λ (x : List ℕ). length x ≤ known.long) same
+                (are.texts (form_for row.form term) (context_for row (in_slot slot)) (context_for row (in_slot slot)) term value there));
           }
 
   row-may : (row : Row) (slot : Option Slot) → writes_entry row es (in_slot slot) ≡ true → may_write known (slot_group slot) row ≡ true
   row-may row slot h = go row.content h
     where
-      go : (content : Content) → is_some (elim content [ (contents.Term term) ↦ term_text row es term (context_for row (in_slot slot)) | (contents.Constant text) ↦ None ]) ≡ true
+      go : (content : Content) → is_some (elim content [
+        | (contents.Term term) ↦ term_text row es term (context_for row (in_slot slot))
+        | (contents.Constant text) ↦ None
+      ]) ≡ true
           → elim content [ (contents.Term term) ↦ may_write_term known row (slot_group slot) term | (contents.Constant text) ↦ false ] ≡ true
       go (contents.Term term) k = let w = some-found (term_text row es term (context_for row (in_slot slot))) k in (term-roomy row slot term w.0 w.1).may
       go (contents.Constant text) k = absurd (false≢true k)
@@ -317,10 +337,14 @@ module _ (known : Known) (es : List Entry) (are : AreKnown known es) where
       → (has_text known (slot_group slot) row ≡ true) × (length text ≤ text_length known row)
   text-roomy row slot text h = go row.content refl h
     where
-      row_is : (content : Content) → row.content ≡ content → ◌≡◌ {A = Option (List ℕ)} (row_text row es (in_slot slot)) (elim content [ (contents.Term term) ↦ term_text row es term (context_for row (in_slot slot)) | (contents.Constant text) ↦ None ])
+      row_is : (content : Content) → row.content ≡ content →
+          ◌≡◌ {A = Option (List ℕ)} (row_text row es (in_slot slot))
+          (elim content [ (contents.Term term) ↦ term_text row es term (context_for row (in_slot slot)) | (contents.Constant text) ↦ None ])
       row_is content e = λ i. elim (e i) [ (contents.Term term) ↦ term_text row es term (context_for row (in_slot slot)) | (contents.Constant text) ↦ None ]
 
-      go : (content : Content) → row.content ≡ content → ◌≡◌ {A = Option (List ℕ)} (elim content [ (contents.Constant constant) ↦ Some constant | (contents.Term term) ↦ row_text row es (in_slot slot) ]) (Some text)
+      go : (content : Content) → row.content ≡ content →
+          ◌≡◌ {A = Option (List ℕ)} (elim content [ (contents.Constant constant) ↦ Some constant | (contents.Term term) ↦ row_text row es (in_slot slot) ])
+          (Some text)
           → (elim content [ (contents.Term term) ↦ may_write_term known row (slot_group slot) term | (contents.Constant text) ↦ true ] ≡ true)
           × (length text ≤ elim content [ (contents.Term term) ↦ known.long + filler_length row.written | (contents.Constant constant) ↦ length constant ])
       go (contents.Term term) e k = let w = term-roomy row slot term text (sym (row_is (contents.Term term) e) ∙ k) in (w.may, w.fits)
@@ -329,7 +353,8 @@ module _ (known : Known) (es : List Entry) (are : AreKnown known es) where
   -- ---- contexts in which a line is written
 
   cells-may : (cells : List Cell) (slot : Option Slot) → cells_hold es cells (in_slot slot) ≡ true → cells_may_hold known cells (slot_group slot) ≡ true
-  cells-may cells slot h = any-weaker (λ (cell : Cell). writes_entry cell.row es (in_slot slot)) (λ (cell : Cell). may_write known (slot_group slot) cell.row) cells (λ cell k. row-may cell.row slot k) h
+  cells-may cells slot h = any-weaker (λ (cell : Cell). writes_entry cell.row es (in_slot slot))
+      (λ (cell : Cell). may_write known (slot_group slot) cell.row) cells (λ cell k. row-may cell.row slot k) h
 
   no-inner : (slot : Slot) (group : Group) → spots es (in_slot (Some slot)) (Some group) ≡ in_slot (Some slot) ∷ []
   no-inner slot group = ap (λ n. or_here (in_slot (Some slot)) (inner_spots slot group n)) (are.inner slot group)
@@ -342,14 +367,19 @@ module _ (known : Known) (es : List Entry) (are : AreKnown known es) where
   any-one p c h = elim (or-cases (p c) false h) [ inl now ↦ now | inr later ↦ absurd (false≢true later) ]
 
   module _ (p : Context → Bool) (q : Option Group → Bool) (weaker : (slot : Option Slot) → p (in_slot slot) ≡ true → q (slot_group slot) ≡ true) where
-    range-any : (group : Group) (a n : ℕ) → list_any p (map (λ k. record { outer = Some (record { group = group; index = k }); inner = None }) (range_with_len a n)) ≡ true → q (Some group) ≡ true
+    range-any : (group : Group) (a n : ℕ) → list_any p (map (λ k. record { outer = Some (record { group = group; index = k }); inner = None })
+        (range_with_len a n)) ≡ true → q (Some group) ≡ true
     range-any group a zero h = absurd (false≢true h)
     range-any group a (suc n) h =
         let one : Context = in_slot (Some (record { group = group; index = a })) in
         let others : List Context = map (λ k. record { outer = Some (record { group = group; index = k }); inner = None }) (range_with_len (a + 1) n) in
-        elim (or-cases (p one) (list_any p others) h) [ inl now ↦ weaker (Some (record { group = group; index = a })) now | inr later ↦ range-any group (a + 1) n later ]
+        elim (or-cases (p one) (list_any p others) h) [
+          | inl now ↦ weaker (Some (record { group = group; index = a })) now
+          | inr later ↦ range-any group (a + 1) n later
+        ]
 
-    spots-any : (slot : Option Slot) (group : Option Group) → list_any p (spots es (in_slot slot) group) ≡ true → list_any q (reached (slot_group slot) group) ≡ true
+    spots-any : (slot : Option Slot) (group : Option Group) → list_any p (spots es (in_slot slot) group) ≡ true →
+        list_any q (reached (slot_group slot) group) ≡ true
     spots-any slot None h = or-left (q (slot_group slot)) false (weaker slot (any-one p (in_slot slot) h))
     spots-any None (Some group) h = elim (or-here-any p (in_slot None) (outer_spots group (outer_count es group)) h) [
       | inl here ↦ or-left (q None) (list_any q (Some group ∷ [])) (weaker None here)
@@ -372,20 +402,23 @@ module _ (known : Known) (es : List Entry) (are : AreKnown known es) where
         | inr later ↦ either-right (list_any q (reached (slot_group slot) s.group)) (λ _. may_hold known rest (slot_group slot)) (hold-may rest slot later)
       ]
 
-  line-may : (cells : List Cell) (inside : Plan) (slot : Option Slot) → line_holds es cells inside (in_slot slot) ≡ true → either (cells_may_hold known cells (slot_group slot)) (λ _. may_hold known inside (slot_group slot)) ≡ true
+  line-may : (cells : List Cell) (inside : Plan) (slot : Option Slot) → line_holds es cells inside (in_slot slot) ≡ true →
+      either (cells_may_hold known cells (slot_group slot)) (λ _. may_hold known inside (slot_group slot)) ≡ true
   line-may cells inside slot h = elim (either-cases (cells_hold es cells (in_slot slot)) (λ _. holds es inside (in_slot slot)) h) [
     | inl own ↦ either-left (cells_may_hold known cells (slot_group slot)) (λ _. may_hold known inside (slot_group slot)) (cells-may cells slot own)
     | inr deep ↦ either-right (cells_may_hold known cells (slot_group slot)) (λ _. may_hold known inside (slot_group slot)) (hold-may inside slot deep)
   ]
 
-  due-may : (held : Bool) (cells : List Cell) (inside : Plan) → is_due held cells inside ≡ true → either (has_constant cells) (λ _. is_constant cells inside) ≡ true
+  due-may : (held : Bool) (cells : List Cell) (inside : Plan) → is_due held cells inside ≡ true →
+      either (has_constant cells) (λ _. is_constant cells inside) ≡ true
   due-may true cells inside h = elim (or-cases (has_constant cells) (is_constant cells inside) h) [
     | inl own ↦ either-left (has_constant cells) (λ _. is_constant cells inside) own
     | inr all ↦ either-right (has_constant cells) (λ _. is_constant cells inside) all
   ]
   due-may false cells inside h = absurd (false≢true h)
 
-  emit-may : (s : Step) (cells : List Cell) (inside : Plan) (held : Bool) (slot : Option Slot) → is_emitted es s cells inside held (in_slot slot) ≡ true → may_emit known s cells inside (slot_group slot) ≡ true
+  emit-may : (s : Step) (cells : List Cell) (inside : Plan) (held : Bool) (slot : Option Slot) → is_emitted es s cells inside held (in_slot slot) ≡ true →
+      may_emit known s cells inside (slot_group slot) ≡ true
   emit-may s cells inside held slot h =
       let own : Bool = either (cells_may_hold known cells (slot_group slot)) (λ _. may_hold known inside (slot_group slot)) in
       let fixed : Unit {0} → Bool = λ _. either s.always (λ _. either (has_constant cells) (λ _. is_constant cells inside)) in
@@ -402,18 +435,22 @@ module _ (known : Known) (es : List Entry) (are : AreKnown known es) where
   module _ (scale : Scale) (is : IsScale scale) where
     attributes-append : (xs ys : List Attribute) → attributes_weight scale (xs ++ ys) ≡ attributes_weight scale xs + attributes_weight scale ys
     attributes-append [] ys = omega arith
-    attributes-append (x ∷ xs) ys = let e : attributes_weight scale (xs ++ ys) ≡ attributes_weight scale xs + attributes_weight scale ys = attributes-append xs ys in omega arith
+    attributes-append (x ∷ xs) ys = let e : attributes_weight scale (xs ++ ys) ≡ attributes_weight scale xs + attributes_weight scale ys =
+        attributes-append xs ys in omega arith
 
-    all-attributes : (f : Cell → List Attribute) (g : Cell → ℕ) → ((cell : Cell) → attributes_weight scale (f cell) ≤ g cell) → (cells : List Cell) → attributes_weight scale (flat_map f cells) ≤ added g cells
+    all-attributes : (f : Cell → List Attribute) (g : Cell → ℕ) → ((cell : Cell) → attributes_weight scale (f cell) ≤ g cell) → (cells : List Cell) →
+        attributes_weight scale (flat_map f cells) ≤ added g cells
     all-attributes f g each [] = le_refl 0
     all-attributes f g each (cell ∷ cells) =
         let first : attributes_weight scale (f cell) ≤ g cell = each cell in
         let others : attributes_weight scale (flat_map f cells) ≤ added g cells = all-attributes f g each cells in
-        let sum : attributes_weight scale (f cell ++ flat_map f cells) ≡ attributes_weight scale (f cell) + attributes_weight scale (flat_map f cells) = attributes-append (f cell) (flat_map f cells) in
+        let sum : attributes_weight scale (f cell ++ flat_map f cells) ≡ attributes_weight scale (f cell) + attributes_weight scale (flat_map f cells) =
+        attributes-append (f cell) (flat_map f cells) in
         omega arith
 
     one-attribute : (local value : List ℕ) (n : ℕ) → length value ≤ n → attributes_weight scale (attribute local value ∷ []) ≤ scale.given (unspaced local) n
-    one-attribute local value n h = let k : scale.given (unspaced local) (length value) ≤ scale.given (unspaced local) n = is.longer (unspaced local) (length value) n h in omega arith
+    one-attribute local value n h = let k : scale.given (unspaced local) (length value) ≤ scale.given (unspaced local) n =
+        is.longer (unspaced local) (length value) n h in omega arith
 
     none-at-all : (n : ℕ) → 0 ≤ n
     none-at-all n = omega arith
@@ -422,41 +459,61 @@ module _ (known : Known) (es : List Entry) (are : AreKnown known es) where
     currency-weighs row = go (value_in es (currency_term row.written) root_context) refl
       where
         go : (o : Option Value) → value_in es (currency_term row.written) root_context ≡ o
-            → attributes_weight scale (elim o [ None ↦ [] | Some value ↦ attribute currency_id (spelled value) ∷ [] ]) ≤ scale.given (unspaced currency_id) known.long
+            → attributes_weight scale (elim o [ None ↦ [] | Some value ↦ attribute currency_id (spelled value) ∷ [] ]) ≤ scale.given
+            (unspaced currency_id) known.long
         go None e = none-at-all (scale.given (unspaced currency_id) known.long)
-        go (Some value) e = one-attribute currency_id (spelled value) known.long (are.texts forms.Model root_context root_context (currency_term row.written) value e)
+        go (Some value) e = one-attribute currency_id (spelled value) known.long
+            (are.texts forms.Model root_context root_context (currency_term row.written) value e)
 
     currency-roomy : (s : Step) (c : Context) (cell : Cell) → attributes_weight scale (currency_of_cell es s c cell) ≤ currency_room scale known s cell
     currency-roomy s c cell = go (is_at_element cell) (shows_currency s cell.row) (is_some (row_text cell.row es c))
       where
-        go : (a b d : Bool) → attributes_weight scale (elim (a && (b && d)) [ true ↦ currency_attribute es cell.row | false ↦ [] ]) ≤ elim (a && b) [ true ↦ scale.given (unspaced currency_id) known.long | false ↦ 0 ]
+        go : (a b d : Bool) → attributes_weight scale (elim (a && (b && d)) [ true ↦ currency_attribute es cell.row | false ↦ [] ]) ≤ elim (a &&
+            b) [ true ↦ scale.given (unspaced currency_id) known.long | false ↦ 0 ]
         go true true true = currency-weighs cell.row
         go true true false = none-at-all (scale.given (unspaced currency_id) known.long)
         go true false d = le_refl 0
         go false b d = le_refl 0
 
-    attribute-roomy : (slot : Option Slot) (cell : Cell) → attributes_weight scale (attribute_of_cell es (in_slot slot) cell) ≤ attribute_room scale known (slot_group slot) cell
+    attribute-roomy : (slot : Option Slot) (cell : Cell) → attributes_weight scale (attribute_of_cell es (in_slot slot) cell) ≤ attribute_room scale known
+        (slot_group slot) cell
     attribute-roomy slot cell = go cell.row.leaf
       where
         text_of : (local : List ℕ) (o : Option (List ℕ)) → constant_or_text es (in_slot slot) cell.row ≡ o
-            → attributes_weight scale (elim o [ None ↦ [] | Some text ↦ attribute local text ∷ [] ]) ≤ elim (has_text known (slot_group slot) cell.row) [ true ↦ scale.given (unspaced local) (text_length known cell.row) | false ↦ 0 ]
-        text_of local None e = none-at-all (elim (has_text known (slot_group slot) cell.row) [ true ↦ scale.given (unspaced local) (text_length known cell.row) | false ↦ 0 ])
+            → attributes_weight scale (elim o [ None ↦ [] | Some text ↦ attribute local text ∷ [] ]) ≤ elim (has_text known (slot_group slot) cell.row)
+            [ true ↦ scale.given (unspaced local) (text_length known cell.row) | false ↦ 0 ]
+        text_of local None e = none-at-all (elim (has_text known (slot_group slot) cell.row) [
+          | true ↦ scale.given (unspaced local) (text_length known cell.row)
+          | false ↦ 0
+        ])
         text_of local (Some text) e =
             let w = text-roomy cell.row slot text e in
-            subst (λ (b : Bool). attributes_weight scale (attribute local text ∷ []) ≤ elim b [ true ↦ scale.given (unspaced local) (text_length known cell.row) | false ↦ 0 ]) (sym w.0)
+            subst (λ (b : Bool). attributes_weight scale (attribute local text ∷ []) ≤ elim b [
+              | true ↦ scale.given (unspaced local) (text_length known cell.row)
+              | false ↦ 0
+            ]) (sym w.0)
             (one-attribute local text (text_length known cell.row) w.1)
 
         go : (leaf : Leaf)
-            → attributes_weight scale (elim leaf [ leaves.Element ↦ [] | (leaves.Attribute local) ↦ elim (constant_or_text es (in_slot slot) cell.row) [ None ↦ [] | Some text ↦ attribute local text ∷ [] ] ])
-            ≤ elim leaf [ leaves.Element ↦ 0 | (leaves.Attribute local) ↦ elim (has_text known (slot_group slot) cell.row) [ true ↦ scale.given (unspaced local) (text_length known cell.row) | false ↦ 0 ] ]
+            → attributes_weight scale (elim leaf [
+              | leaves.Element ↦ []
+              | (leaves.Attribute local) ↦ elim (constant_or_text es (in_slot slot) cell.row) [ None ↦ [] | Some text ↦ attribute local text ∷ [] ]
+            ])
+            ≤ elim leaf [
+              | leaves.Element ↦ 0
+              | (leaves.Attribute local) ↦ elim (has_text known (slot_group slot) cell.row)
+                  [ true ↦ scale.given (unspaced local) (text_length known cell.row) | false ↦ 0 ]
+            ]
         go leaves.Element = le_refl 0
         go (leaves.Attribute local) = text_of local (constant_or_text es (in_slot slot) cell.row) refl
 
     line-attributes : (s : Step) (cells : List Cell) (slot : Option Slot)
-        → attributes_weight scale (attributes es s cells (in_slot slot)) ≤ added (currency_room scale known s) cells + added (attribute_room scale known (slot_group slot)) cells
+        → attributes_weight scale (attributes es s cells (in_slot slot)) ≤ added (currency_room scale known s) cells + added
+        (attribute_room scale known (slot_group slot)) cells
     line-attributes s cells slot =
         let c : Context = in_slot slot in
-        let sum : attributes_weight scale (attributes es s cells c) ≡ attributes_weight scale (flat_map (currency_of_cell es s c) cells) + attributes_weight scale (flat_map (attribute_of_cell es c) cells) =
+        let sum : attributes_weight scale (attributes es s cells c) ≡ attributes_weight scale
+        (flat_map (currency_of_cell es s c) cells) + attributes_weight scale (flat_map (attribute_of_cell es c) cells) =
         attributes-append (flat_map (currency_of_cell es s c) cells) (flat_map (attribute_of_cell es c) cells) in
         let currencies : attributes_weight scale (flat_map (currency_of_cell es s c) cells) ≤ added (currency_room scale known s) cells =
         all-attributes (currency_of_cell es s c) (currency_room scale known s) (currency-roomy s c) cells in
@@ -468,9 +525,13 @@ module _ (known : Known) (es : List Entry) (are : AreKnown known es) where
     cell-text slot cell = go (is_at_element cell)
       where
         text_of : (o : Option (List ℕ)) → constant_or_text es (in_slot slot) cell.row ≡ o
-            → length {A = ℕ} (elim o [ None ↦ [] | Some text ↦ text ]) ≤ elim (has_text known (slot_group slot) cell.row) [ true ↦ text_length known cell.row | false ↦ 0 ]
+            → length {A = ℕ} (elim o [ None ↦ [] | Some text ↦ text ]) ≤ elim (has_text known (slot_group slot) cell.row) [
+              | true ↦ text_length known cell.row
+              | false ↦ 0
+            ]
         text_of None e = none-at-all (elim (has_text known (slot_group slot) cell.row) [ true ↦ text_length known cell.row | false ↦ 0 ])
-        text_of (Some text) e = let w = text-roomy cell.row slot text e in subst (λ (b : Bool). length text ≤ elim b [ true ↦ text_length known cell.row | false ↦ 0 ]) (sym w.0) w.1
+        text_of (Some text) e = let w = text-roomy cell.row slot text e in
+            subst (λ (b : Bool). length text ≤ elim b [ true ↦ text_length known cell.row | false ↦ 0 ]) (sym w.0) w.1
 
         go : (b : Bool) → length {A = ℕ} (elim b [ true ↦ elim (constant_or_text es (in_slot slot) cell.row) [ None ↦ [] | Some text ↦ text ] | false ↦ [] ])
             ≤ elim b [ true ↦ elim (has_text known (slot_group slot) cell.row) [ true ↦ text_length known cell.row | false ↦ 0 ] | false ↦ 0 ]
@@ -482,7 +543,8 @@ module _ (known : Known) (es : List Entry) (are : AreKnown known es) where
     line-text slot (cell ∷ cells) =
         let first : length (text_of_cell es (in_slot slot) cell) ≤ text_room known (slot_group slot) cell = cell-text slot cell in
         let others : length (element_text es cells (in_slot slot)) ≤ added (text_room known (slot_group slot)) cells = line-text slot cells in
-        let sum : length (text_of_cell es (in_slot slot) cell ++ element_text es cells (in_slot slot)) ≡ length (text_of_cell es (in_slot slot) cell) + length (element_text es cells (in_slot slot)) =
+        let sum : length (text_of_cell es (in_slot slot) cell ++ element_text es cells (in_slot slot)) ≡ length (text_of_cell es (in_slot slot) cell) + length
+        (element_text es cells (in_slot slot)) =
         length-append (text_of_cell es (in_slot slot) cell) (element_text es cells (in_slot slot)) in
         omega arith
 
@@ -502,17 +564,22 @@ module _ (known : Known) (es : List Entry) (are : AreKnown known es) where
         let attributes_fit : given ≤ own = let a = line-attributes s cells slot in omega arith in
         let text_fits : weight scale (with_text text f) ≤ scale.join words n =
         up (weight scale (with_text text f)) (scale.join (scale.text (length text)) (weight scale f)) (scale.join words n) (text-weighs text f)
-        (is.both (scale.text (length text)) (weight scale f) words n (is.longer_text (length text) (added (text_room known (slot_group slot)) cells) (line-text slot cells)) h) in
-        let inner : scale.join (weight scale (with_text text f)) (weight scale behind) ≤ scale.join (scale.join words n) m = is.both (weight scale (with_text text f)) (weight scale behind) (scale.join words n) m text_fits k in
-        up (scale.join given (scale.join (weight scale (with_text text f)) (weight scale behind))) (scale.join own (scale.join (scale.join words n) m)) (scale.join (scale.join own (scale.join words n)) m)
+        (is.both (scale.text (length text)) (weight scale f) words n
+        (is.longer_text (length text) (added (text_room known (slot_group slot)) cells) (line-text slot cells)) h) in
+        let inner : scale.join (weight scale (with_text text f)) (weight scale behind) ≤ scale.join (scale.join words n) m =
+        is.both (weight scale (with_text text f)) (weight scale behind) (scale.join words n) m text_fits k in
+        up (scale.join given (scale.join (weight scale (with_text text f)) (weight scale behind))) (scale.join own (scale.join (scale.join words n) m))
+        (scale.join (scale.join own (scale.join words n)) m)
         (is.both given (scale.join (weight scale (with_text text f)) (weight scale behind)) own (scale.join (scale.join words n) m) attributes_fit inner)
         (is.grouped own (scale.join words n) m)
 
     -- ---- all contexts of a line
 
     module _ (p : Context → Bool) (make : Context → Forest → Forest) (own : Option Group → ℕ)
-        (each : (slot : Option Slot) → p (in_slot slot) ≡ true → (f : Forest) (m : ℕ) → weight scale f ≤ m → weight scale (make (in_slot slot) f) ≤ scale.join (own (slot_group slot)) m) where
-      one-weighs : (slot : Option Slot) (f : Forest) (m : ℕ) → weight scale f ≤ m → weight scale (elim (p (in_slot slot)) [ true ↦ make (in_slot slot) f | false ↦ f ]) ≤ scale.join (own (slot_group slot)) m
+        (each : (slot : Option Slot) → p (in_slot slot) ≡ true → (f : Forest) (m : ℕ) → weight scale f ≤ m →
+        weight scale (make (in_slot slot) f) ≤ scale.join (own (slot_group slot)) m) where
+      one-weighs : (slot : Option Slot) (f : Forest) (m : ℕ) → weight scale f ≤ m →
+          weight scale (elim (p (in_slot slot)) [ true ↦ make (in_slot slot) f | false ↦ f ]) ≤ scale.join (own (slot_group slot)) m
       one-weighs slot f m h = go (p (in_slot slot)) refl
         where
           go : (b : Bool) → p (in_slot slot) ≡ b → weight scale (elim b [ true ↦ make (in_slot slot) f | false ↦ f ]) ≤ scale.join (own (slot_group slot)) m
@@ -520,27 +587,37 @@ module _ (known : Known) (es : List Entry) (are : AreKnown known es) where
           go false e = up (weight scale f) m (scale.join (own (slot_group slot)) m) h (is.more (own (slot_group slot)) m)
 
       range-weighs : (group : Group) (a n : ℕ) (f : Forest) (m : ℕ) → weight scale f ≤ m
-          → weight scale (elements p make (map (λ k. record { outer = Some (record { group = group; index = k }); inner = None }) (range_with_len a n)) f) ≤ scale.join (scale.times n (own (Some group))) m
+          → weight scale (elements p make (map (λ k. record { outer = Some (record { group = group; index = k }); inner = None }) (range_with_len a n))
+          f) ≤ scale.join (scale.times n (own (Some group))) m
       range-weighs group a zero f m h = up (weight scale f) m (scale.join (scale.times 0 (own (Some group))) m) h (is.more (scale.times 0 (own (Some group))) m)
       range-weighs group a (suc n) f m h =
-          let others : Forest = elements p make (map (λ k. record { outer = Some (record { group = group; index = k }); inner = None }) (range_with_len (a + 1) n)) f in
-          let first : Forest = elim (p (in_slot (Some (record { group = group; index = a })))) [ true ↦ make (in_slot (Some (record { group = group; index = a }))) others | false ↦ others ] in
+          let others : Forest = elements p make (map (λ k. record { outer = Some (record { group = group; index = k }); inner = None })
+          (range_with_len (a + 1) n)) f in
+          let first : Forest = elim (p (in_slot (Some (record { group = group; index = a }))))
+          [ true ↦ make (in_slot (Some (record { group = group; index = a }))) others | false ↦ others ] in
           up (weight scale first)
           (scale.join (own (Some group)) (scale.join (scale.times n (own (Some group))) m)) (scale.join (scale.times (suc n) (own (Some group))) m)
-          (one-weighs (Some (record { group = group; index = a })) others (scale.join (scale.times n (own (Some group))) m) (range-weighs group (a + 1) n f m h))
+          (one-weighs (Some (record { group = group; index = a })) others (scale.join (scale.times n (own (Some group))) m)
+          (range-weighs group (a + 1) n f m h))
           (is.again n (own (Some group)) m)
 
       outer-weighs : (group : Group) (n : ℕ) (f : Forest) (m : ℕ) → n ≤ known.most group → weight scale f ≤ m
-          → weight scale (elements p make (or_here (in_slot None) (outer_spots group n)) f) ≤ scale.join (own None) (scale.join (scale.times (known.most group) (own (Some group))) m)
+          → weight scale (elements p make (or_here (in_slot None) (outer_spots group n)) f) ≤ scale.join (own None)
+          (scale.join (scale.times (known.most group) (own (Some group))) m)
       outer-weighs group zero f m few h =
-          up (weight scale (elim (p (in_slot None)) [ true ↦ make (in_slot None) f | false ↦ f ])) (scale.join (own None) m) (scale.join (own None) (scale.join (scale.times (known.most group) (own (Some group))) m))
-          (one-weighs None f m h) (is.both (own None) m (own None) (scale.join (scale.times (known.most group) (own (Some group))) m) (le_refl (own None)) (is.more (scale.times (known.most group) (own (Some group))) m))
+          up (weight scale (elim (p (in_slot None)) [ true ↦ make (in_slot None) f | false ↦ f ])) (scale.join (own None) m)
+          (scale.join (own None) (scale.join (scale.times (known.most group) (own (Some group))) m))
+          (one-weighs None f m h) (is.both (own None) m (own None) (scale.join (scale.times (known.most group) (own (Some group))) m) (le_refl (own None))
+          (is.more (scale.times (known.most group) (own (Some group))) m))
       outer-weighs group (suc n) f m few h =
           let all : Forest = elements p make (outer_spots group (suc n)) f in
           let so_many : scale.join (scale.times (suc n) (own (Some group))) m ≤ scale.join (scale.times (known.most group) (own (Some group))) m =
-          is.both (scale.times (suc n) (own (Some group))) m (scale.times (known.most group) (own (Some group))) m (is.fewer (suc n) (known.most group) (own (Some group)) few) (le_refl m) in
-          up (weight scale all) (scale.join (scale.times (known.most group) (own (Some group))) m) (scale.join (own None) (scale.join (scale.times (known.most group) (own (Some group))) m))
-          (up (weight scale all) (scale.join (scale.times (suc n) (own (Some group))) m) (scale.join (scale.times (known.most group) (own (Some group))) m) (range-weighs group 1 (suc n) f m h) so_many)
+          is.both (scale.times (suc n) (own (Some group))) m (scale.times (known.most group) (own (Some group))) m
+          (is.fewer (suc n) (known.most group) (own (Some group)) few) (le_refl m) in
+          up (weight scale all) (scale.join (scale.times (known.most group) (own (Some group))) m)
+          (scale.join (own None) (scale.join (scale.times (known.most group) (own (Some group))) m))
+          (up (weight scale all) (scale.join (scale.times (suc n) (own (Some group))) m) (scale.join (scale.times (known.most group) (own (Some group))) m)
+          (range-weighs group 1 (suc n) f m h) so_many)
           (is.more (own None) (scale.join (scale.times (known.most group) (own (Some group))) m))
 
       spots-weigh : (slot : Option Slot) (group : Option Group) (f : Forest) (m : ℕ) → weight scale f ≤ m
@@ -548,21 +625,25 @@ module _ (known : Known) (es : List Entry) (are : AreKnown known es) where
       spots-weigh slot None f m h = one-weighs slot f m h
       spots-weigh None (Some group) f m h = outer-weighs group (outer_count es group) f m (are.outer group) h
       spots-weigh (Some slot) (Some group) f m h =
-          subst (λ (cs : List Context). weight scale (elements p make cs f) ≤ scale.join (own (Some slot.group)) m) (sym (no-inner slot group)) (one-weighs (Some slot) f m h)
+          subst (λ (cs : List Context). weight scale (elements p make cs f) ≤ scale.join (own (Some slot.group)) m) (sym (no-inner slot group))
+          (one-weighs (Some slot) f m h)
 
     -- ---- all lines
 
-    pub lines-weigh : (plan : Plan) (held : Bool) (slot : Option Slot) → weight scale (written_lines es plan held (in_slot slot)) ≤ room scale known plan (slot_group slot)
+    pub lines-weigh : (plan : Plan) (held : Bool) (slot : Option Slot) → weight scale (written_lines es plan held (in_slot slot)) ≤ room scale known plan
+        (slot_group slot)
     lines-weigh nothing held slot = le_refl 0
     lines-weigh (a_line s cells inside rest) held slot =
         let deeper : Option Group → ℕ = λ k. room scale known inside k in
         spots-weigh (is_emitted es s cells inside held)
-        (λ d f. an_element (name_of s.name) (attributes es s cells d) (with_text (element_text es cells d) (written_lines es inside (holds_further es cells inside held d) d)) f)
+        (λ d f. an_element (name_of s.name) (attributes es s cells d)
+        (with_text (element_text es cells d) (written_lines es inside (holds_further es cells inside held d) d)) f)
         (once scale known s cells inside deeper)
         (λ o there f m h.
         let line : ℕ = line_room scale known s cells (slot_group o) (deeper (slot_group o)) in
         let element : Forest =
-        an_element (name_of s.name) (attributes es s cells (in_slot o)) (with_text (element_text es cells (in_slot o)) (written_lines es inside (holds_further es cells inside held (in_slot o)) (in_slot o))) f in
+        an_element (name_of s.name) (attributes es s cells (in_slot o))
+        (with_text (element_text es cells (in_slot o)) (written_lines es inside (holds_further es cells inside held (in_slot o)) (in_slot o))) f in
         subst (λ (b : Bool). weight scale element ≤ scale.join (elim b [ true ↦ line | false ↦ 0 ]) m) (sym (emit-may s cells inside held o there))
         (element-weighs s cells o (written_lines es inside (holds_further es cells inside held (in_slot o)) (in_slot o)) f (deeper (slot_group o)) m
         (lines-weigh inside (holds_further es cells inside held (in_slot o)) o) h))

@@ -68,5 +68,7 @@ rule_names =
     ∷ []
 
 pub text-read : document document_limits rule_text ≡ Ok (record { events = rule_events; names = rule_names })
-unfolding rule_text document first_fault resume read beginning extent comment section is_declaration instruction attribute_at tag_inside value_of start_tag end_tag is_qname character_at reference_at referred fault_of state_behind events_of is_utf8 chars encode_utf8 is_char is_white_space is_name_start is_name_char
+unfolding rule_text document first_fault resume read beginning extent comment section is_declaration instruction attribute_at tag_inside value_of start_tag
+    end_tag is_qname character_at reference_at referred fault_of state_behind events_of is_utf8 chars encode_utf8 is_char is_white_space is_name_start
+    is_name_char
 text-read = refl

@@ -58,7 +58,8 @@ module _ (es : List Entry) (slot : Slot) (term : Term) (value : Value) (there : 
       let valued : value_for row es term c ≡ Some value = untyped (form_for row.form term) plain.form ∙ there in
       ap (λ content. elim content [ (contents.Term t) ↦ term_text row es t (context_for row c) | (contents.Constant text) ↦ None ]) plain.content
       ∙ (ap (term_text row es term) here
-      ∙ (ap (λ (o : Option Value). elim o [ None ↦ filled row.written es c | Some v ↦ if_due row.written es term c (formed (form_for row.form term) es c v) ]) valued
+      ∙ (ap (λ (o : Option Value). elim o [ None ↦ filled row.written es c | Some v ↦ if_due row.written es term c (formed (form_for row.form term) es c v) ])
+      valued
       ∙ λ i. if_due (plain.always i) es term c (formed (plain.form i) es c value)))
     where
       untyped : (f : Form) → f ≡ forms.Model → elim (is_typed f) [
@@ -71,7 +72,8 @@ module _ (es : List Entry) (slot : Slot) (term : Term) (value : Value) (there : 
       ]) h
 
   row-told : (row : Row) → IsPlain term row → constant_or_text es c row ≡ Some (spelled value)
-  row-told row plain = ap (λ content. elim content [ (contents.Constant text) ↦ Some text | (contents.Term t) ↦ row_text row es c ]) plain.content ∙ row-writes row plain
+  row-told row plain = ap (λ content. elim content [ (contents.Constant text) ↦ Some text | (contents.Term t) ↦ row_text row es c ]) plain.content ∙
+      row-writes row plain
 
   abbrev told : Option (List ℕ) → List ℕ
   told o = elim o [ None ↦ [] | Some text ↦ text ]
@@ -161,7 +163,15 @@ unfolding invoice_listing invoice_rows invoice_plan line_plan
 id-leaf = record {
   stands = record { before = refl; line = refl; named = refl; once = refl; behind = refl };
   leaf = refl;
-  tells = record { cell = _; others = _; is = refl; element = refl; apart = refl; plain = record { content = refl; form = refl; always = refl; outer = refl; inner = refl } };
+  tells = record {
+    cell = _;
+    others = _;
+    is = refl;
+    element = refl;
+    apart = refl;
+    plain =
+        record { content = refl; form = refl; always = refl; outer = refl; inner = refl };
+  };
 }
 
 pub quantity-leaf : IsLeafOf quantity_name (term_of 129) inside_line
@@ -169,7 +179,15 @@ unfolding invoice_listing invoice_rows invoice_plan line_plan
 quantity-leaf = record {
   stands = record { before = refl; line = refl; named = refl; once = refl; behind = refl };
   leaf = refl;
-  tells = record { cell = _; others = _; is = refl; element = refl; apart = refl; plain = record { content = refl; form = refl; always = refl; outer = refl; inner = refl } };
+  tells = record {
+    cell = _;
+    others = _;
+    is = refl;
+    element = refl;
+    apart = refl;
+    plain =
+        record { content = refl; form = refl; always = refl; outer = refl; inner = refl };
+  };
 }
 
 pub net-leaf : IsLeafOf net_name (term_of 131) inside_line
@@ -177,7 +195,15 @@ unfolding invoice_listing invoice_rows invoice_plan line_plan
 net-leaf = record {
   stands = record { before = refl; line = refl; named = refl; once = refl; behind = refl };
   leaf = refl;
-  tells = record { cell = _; others = _; is = refl; element = refl; apart = refl; plain = record { content = refl; form = refl; always = refl; outer = refl; inner = refl } };
+  tells = record {
+    cell = _;
+    others = _;
+    is = refl;
+    element = refl;
+    apart = refl;
+    plain =
+        record { content = refl; form = refl; always = refl; outer = refl; inner = refl };
+  };
 }
 
 unfoldable pub price_plan : Plan
@@ -196,7 +222,15 @@ unfolding invoice_listing invoice_rows invoice_plan line_plan price_plan
 amount-leaf = record {
   stands = record { before = refl; line = refl; named = refl; once = refl; behind = refl };
   leaf = refl;
-  tells = record { cell = _; others = _; is = refl; element = refl; apart = refl; plain = record { content = refl; form = refl; always = refl; outer = refl; inner = refl } };
+  tells = record {
+    cell = _;
+    others = _;
+    is = refl;
+    element = refl;
+    apart = refl;
+    plain =
+        record { content = refl; form = refl; always = refl; outer = refl; inner = refl };
+  };
 }
 
 -- the first lines inside a line and inside its price are those of its number and of the amount

@@ -59,7 +59,8 @@ entry-itself : (e : Entry) → same_entry e e ≡ true
 unfolding same_entry
 entry-itself e =
     and_pair (same_term e.term e.term) (same_context e.context e.context && same_value e.value e.value) (term-itself e.term)
-    (and_pair (same_context e.context e.context) (same_value e.value e.value) (and_pair _ _ (same_slot_itself e.context.outer) (same_slot_itself e.context.inner)) (value-itself e.value))
+    (and_pair (same_context e.context e.context) (same_value e.value e.value)
+    (and_pair _ _ (same_slot_itself e.context.outer) (same_slot_itself e.context.inner)) (value-itself e.value))
 
 entries-itself : (es : List Entry) → same_entries es es ≡ true
 entries-itself [] = refl
@@ -87,7 +88,8 @@ terms-same n steps read =
     let moved : same_terms (trial_entries n) (terms_of_ubl n) (terms_of_cii n) ≡ same_terms (trial_entries n) (trial_entries n) (trial_entries n) =
     λ i. same_terms (trial_entries n) (first-terms n read i) (last-terms n read i) in
     moved
-    ∙ and_pair (same_entries (trial_entries n) (trial_entries n)) (same_entries (trial_entries n) (trial_entries n)) (entries-itself (trial_entries n)) (entries-itself (trial_entries n))
+    ∙ and_pair (same_entries (trial_entries n) (trial_entries n)) (same_entries (trial_entries n) (trial_entries n)) (entries-itself (trial_entries n))
+    (entries-itself (trial_entries n))
 
 total-is : (n : ℕ) → total_in (trial_entries n) ≡ Some (spelled (amount (120 * sum_of_nets n)))
 unfolding trial_entries

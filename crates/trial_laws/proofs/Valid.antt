@@ -1,5 +1,6 @@
 -- The generated entries are valid: in each context they have the terms that a sample with one line has, which lacks nothing.
-use Rattle.std.proofs.Common.{◌≡◌, ℕ, ◌*◌, ◌≤◌, Bool, true, false, not, ◌&&◌, ◌||◌, List, ◌++◌, Option, Some, None, refl, sym, ap, ◌∙◌, subst, arith, lit<, ◌⊎◌, inl, inr}
+use Rattle.std.proofs.Common.{◌≡◌, ℕ, ◌*◌, ◌≤◌, Bool, true, false, not, ◌&&◌, ◌||◌, List, ◌++◌, Option, Some, None, refl, sym, ap, ◌∙◌, subst, arith, lit<, ◌⊎◌}
+use Rattle.std.proofs.Common.{inl, inr}
 use Rattle.std.specs.Prelude.{is_some, is_none, option_map, Contains, decimal}
 use Rattle.std.specs.List.{list_all, list_any}
 use Rattle.std.proofs.lemmas.Bool.{false≢true}
@@ -23,7 +24,8 @@ use Rattle.inv_terms.proofs.ContextLemmas.{append_cases, context_is}
 use Rattle.inv_terms.proofs.ValidLemmas.{valid}
 use Rattle.trial_invoice.specs.Amounts.{sum_of_nets}
 use Rattle.trial_invoice.specs.Generated.{occurrence, amount, head, line, trial_entries}
-use Rattle.trial_laws.proofs.Entries.{Each, both, not-true, or-cases, each-test, each-map, each-member, any-found, all-entries, each-entries, head-member, line-member}
+use Rattle.trial_laws.proofs.Entries.{Each, both, not-true, or-cases, each-test, each-map, each-member, any-found, all-entries, each-entries, head-member}
+use Rattle.trial_laws.proofs.Entries.{line-member}
 use Rattle.trial_laws.proofs.Mirrors.{HasLike, inside-itself, whole}
 
 -- ---- the sample
@@ -55,13 +57,15 @@ inside-like None x h = refl
 inside-like (Some s) x h =
     let w = both (false || same_slot (Some s) x.outer) (true || same_slot None x.inner) h in
     let same : Some s ≡ x.outer = same_slot_is (Some s) x.outer w.0 in
-    and_pair (false || same_slot (Some (first_of s)) (option_map first_of x.outer)) (true || same_slot None None) (ap (λ (o : Option Slot). same_slot (Some (first_of s)) (option_map first_of o)) (sym same) ∙ same_slot_itself (Some (first_of s))) refl
+    and_pair (false || same_slot (Some (first_of s)) (option_map first_of x.outer)) (true || same_slot None None)
+    (ap (λ (o : Option Slot). same_slot (Some (first_of s)) (option_map first_of o)) (sym same) ∙ same_slot_itself (Some (first_of s))) refl
 
 has-like : (slot : Option Slot) (group : Group) → has_context group (in_slot slot) ≡ has_context group (like (in_slot slot))
 has-like None group = refl
 has-like (Some s) group = refl
 
-in-group-like : (group : Group) (x : Context) → is_none x.inner ≡ true → (is_slot_in group x.outer || is_slot_in group x.inner) ≡ true → (is_slot_in group (option_map first_of x.outer) || false) ≡ true
+in-group-like : (group : Group) (x : Context) → is_none x.inner ≡ true → (is_slot_in group x.outer || is_slot_in group x.inner) ≡ true →
+    (is_slot_in group (option_map first_of x.outer) || false) ≡ true
 in-group-like group x none h = go x.outer x.inner none h
   where
     go : (o i : Option Slot) → is_none i ≡ true → (is_slot_in group o || is_slot_in group i) ≡ true → (is_slot_in group (option_map first_of o) || false) ≡ true
@@ -89,7 +93,8 @@ twins n =
     each-map (λ (e : Entry). p e ≡ true) HasTwin (trial_entries n) (λ e h. both (list_any (is_twin e) sample) (is_none e.context.inner) h)
     (each-test p (trial_entries n) (all-entries p head-twins line-twins n))
 
-forth : (n : ℕ) (slot : Option Slot) (e : Entry) → Contains (trial_entries n) e → is_inside (in_slot slot) e.context ≡ true → HasLike (in_slot slot) (like (in_slot slot)) sample e
+forth : (n : ℕ) (slot : Option Slot) (e : Entry) → Contains (trial_entries n) e → is_inside (in_slot slot) e.context ≡ true →
+    HasLike (in_slot slot) (like (in_slot slot)) sample e
 forth n slot e member within =
     let t = each-member HasTwin (trial_entries n) (twins n) e member in
     let w = any-found (is_twin e) sample t.0 in
@@ -113,10 +118,12 @@ is_same f e = same_term e.term f.term && same_context e.context f.context
 same-there : (sum : ℕ) → list_all (λ f. list_any (is_same f) (head sum ++ line 1)) sample ≡ true
 same-there sum = refl
 
-back-same : (n : ℕ) → 1 ≤ n → (slot : Option Slot) → like (in_slot slot) ≡ in_slot slot → (f : Entry) → Contains sample f → is_inside (like (in_slot slot)) f.context ≡ true
+back-same : (n : ℕ) → 1 ≤ n → (slot : Option Slot) → like (in_slot slot) ≡ in_slot slot → (f : Entry) → Contains sample f →
+    is_inside (like (in_slot slot)) f.context ≡ true
     → HasLike (like (in_slot slot)) (in_slot slot) (trial_entries n) f
 back-same n some slot same f member within =
-    let t = each-member (λ (x : Entry). list_any (is_same x) (head (sum_of_nets n) ++ line 1) ≡ true) sample (each-test (λ x. list_any (is_same x) (head (sum_of_nets n) ++ line 1)) sample (same-there (sum_of_nets n))) f member in
+    let t = each-member (λ (x : Entry). list_any (is_same x) (head (sum_of_nets n) ++ line 1) ≡ true) sample
+    (each-test (λ x. list_any (is_same x) (head (sum_of_nets n) ++ line 1)) sample (same-there (sum_of_nets n))) f member in
     let w = any-found (is_same f) (head (sum_of_nets n) ++ line 1) t in
     let k = both (same_term w.0.term f.term) (same_context w.0.context f.context) w.2 in
     let at : w.0.context ≡ f.context = context_is w.0.context f.context k.1 in
@@ -146,10 +153,12 @@ not-neither : (a b : Bool) → a ≡ true → (not a || b) ≡ true → b ≡ tr
 not-neither true b h k = k
 not-neither false b h k = absurd (false≢true h)
 
-back-line : (n i : ℕ) → 1 ≤ i → i ≤ n → (f : Entry) → Contains sample f → is_inside (in_line 1) f.context ≡ true → HasLike (in_line 1) (in_line i) (trial_entries n) f
+back-line : (n i : ℕ) → 1 ≤ i → i ≤ n → (f : Entry) → Contains sample f → is_inside (in_line 1) f.context ≡ true →
+    HasLike (in_line 1) (in_line i) (trial_entries n) f
 back-line n i low high f member within =
     let t = each-member (λ (x : Entry). is_like_in i x ≡ true) sample (each-test (is_like_in i) sample (like-there i)) f member in
-    let u = not-neither (is_inside (in_line 1) f.context) (same_context f.context (in_line 1) && list_any (λ (e : Entry). same_term e.term f.term) (line i)) within t in
+    let u = not-neither (is_inside (in_line 1) f.context) (same_context f.context (in_line 1) && list_any (λ (e : Entry). same_term e.term f.term) (line i))
+    within t in
     let v = both (same_context f.context (in_line 1)) (list_any (λ (e : Entry). same_term e.term f.term) (line i)) u in
     let w = any-found (λ (e : Entry). same_term e.term f.term) (line i) v.1 in
     let first : f.context ≡ in_line 1 = context_is f.context (in_line 1) v.0 in
@@ -160,7 +169,8 @@ back-line n i low high f member within =
       term = same_term_is w.0.term f.term w.2;
       within = ap (is_inside (in_line i)) at ∙ inside-itself (in_line i);
       here = λ h. at;
-      groups = λ group h. ap (λ (x : Context). is_slot_in group x.outer || is_slot_in group x.inner) at ∙ (sym (ap (λ (x : Context). is_slot_in group x.outer || is_slot_in group x.inner) first) ∙ h);
+      groups = λ group h. ap (λ (x : Context). is_slot_in group x.outer || is_slot_in group x.inner) at ∙
+          (sym (ap (λ (x : Context). is_slot_in group x.outer || is_slot_in group x.inner) first) ∙ h);
     }
 
 -- ---- each context
@@ -168,9 +178,11 @@ back-line n i low high f member within =
 abbrev pub breakdown : Context
 breakdown = occurrence groups.VatBreakdown 1
 
-whole-same : (n : ℕ) → 1 ≤ n → (slot : Option Slot) → like (in_slot slot) ≡ in_slot slot → IsWhole sample (like (in_slot slot)) → IsWhole (trial_entries n) (in_slot slot)
+whole-same : (n : ℕ) → 1 ≤ n → (slot : Option Slot) → like (in_slot slot) ≡ in_slot slot → IsWhole sample (like (in_slot slot)) →
+    IsWhole (trial_entries n) (in_slot slot)
 whole-same n some slot same k =
-    whole (trial_entries n) (in_slot slot) sample (like (in_slot slot)) (record { contexts = has-like slot; forth = forth n slot; back = back-same n some slot same }) k
+    whole (trial_entries n) (in_slot slot) sample (like (in_slot slot))
+    (record { contexts = has-like slot; forth = forth n slot; back = back-same n some slot same }) k
 
 whole-line : (n i : ℕ) → 1 ≤ i → i ≤ n → IsWhole (trial_entries n) (in_line i)
 whole-line n i low high =
@@ -186,7 +198,8 @@ whole-root n some = whole-same n some None refl (sample-valid.whole root_context
 
 whole-breakdown : (n : ℕ) → 1 ≤ n → IsWhole (trial_entries n) breakdown
 whole-breakdown n some =
-    whole-same n some (Some (record { group = groups.VatBreakdown; index = 1 })) refl (sample-valid.whole breakdown (inr (sample_entry, (14, lit< tt, refl), inl (refl, refl))))
+    whole-same n some (Some (record { group = groups.VatBreakdown; index = 1 })) refl
+    (sample-valid.whole breakdown (inr (sample_entry, (14, lit< tt, refl), inl (refl, refl))))
   where
     sample_entry : Entry
     sample_entry = record { context = occurrence groups.VatBreakdown 1; term = record { number = 116; part = 0 }; value = amount (100 * 0) }
@@ -202,7 +215,10 @@ pub places : (n : ℕ) → Each (Place n) (trial_entries n)
 places n =
     each-entries (Place n) n
     (each-map (λ (e : Entry). (same_context e.context root_context || same_context e.context breakdown) ≡ true) (Place n) (head (sum_of_nets n))
-    (λ e h. inl (elim (or-cases (same_context e.context root_context) (same_context e.context breakdown) h) [ inl a ↦ inl (context_is e.context root_context a) | inr b ↦ inr (context_is e.context breakdown b) ]))
+    (λ e h. inl (elim (or-cases (same_context e.context root_context) (same_context e.context breakdown) h) [
+      | inl a ↦ inl (context_is e.context root_context a)
+      | inr b ↦ inr (context_is e.context breakdown b)
+    ]))
     (each-test (λ (e : Entry). same_context e.context root_context || same_context e.context breakdown) (head (sum_of_nets n)) (head-contexts (sum_of_nets n))))
     (λ i low high. each-map (λ (e : Entry). e.context ≡ in_line i) (Place n) (line i) (λ e h. inr (i, low, high, h)) (of-line i))
 
@@ -243,8 +259,11 @@ not-false false h = absurd (false≢true (sym h))
 listed : (n : ℕ) → IsListed (trial_entries n) built_in_lists
 listed n = λ e list code member list_is code_is.
     let p : Entry → Bool = λ (x : Entry). not (is_unlisted built_in_lists x) in
-    let inside : is_unlisted built_in_lists e ≡ false = not-true (is_unlisted built_in_lists e) (each-member (λ (x : Entry). p x ≡ true) (trial_entries n) (each-test p (trial_entries n) (all-entries p head-listed line-listed n)) e member) in
-    let moved : is_outside built_in_lists (list_of e.term e.context) (code_in e.value) ≡ not (allows built_in_lists list code) = λ i. is_outside built_in_lists (list_is i) (code_in (code_is i)) in
+    let inside : is_unlisted built_in_lists e ≡ false =
+    not-true (is_unlisted built_in_lists e) (each-member (λ (x : Entry). p x ≡ true) (trial_entries n)
+    (each-test p (trial_entries n) (all-entries p head-listed line-listed n)) e member) in
+    let moved : is_outside built_in_lists (list_of e.term e.context) (code_in e.value) ≡ not (allows built_in_lists list code) =
+    λ i. is_outside built_in_lists (list_is i) (code_in (code_is i)) in
     not-false (allows built_in_lists list code) (sym moved ∙ inside)
 
 pub trial-valid : (n : ℕ) → 1 ≤ n → IsValid (trial_entries n) built_in_lists

@@ -1,5 +1,6 @@
 -- Lines of a table that are written before one of a name, and at it: which nodes pass a test.
-use Rattle.std.proofs.Common.{◌≡◌, ℕ, ◌+◌, ◌<◌, Bool, true, false, not, ◌&&◌, ◌||◌, List, [], ◌∷◌, ◌++◌, length, filter, Option, Some, None, refl, ap, ◌∙◌, subst, arith, inr}
+use Rattle.std.proofs.Common.{◌≡◌, ℕ, ◌+◌, ◌<◌, Bool, true, false, not, ◌&&◌, ◌||◌, List, [], ◌∷◌, ◌++◌, length, filter, Option, Some, None, refl, ap, ◌∙◌}
+use Rattle.std.proofs.Common.{subst, arith, inr}
 use Rattle.std.specs.Prelude.{if◌then◌else◌}
 use Rattle.std.specs.List.{list_any}
 use Rattle.std.proofs.lemmas.Bool.{false≢true}
@@ -14,7 +15,8 @@ use Rattle.inv_terms.specs.declared.entries.Entry.{Entry}
 use Rattle.bind_rows.specs.declared.rows.Step.{Step}
 use Rattle.bind_table.specs.Lines.{Cell, Plan, nothing, a_line}
 use Rattle.bind_meaning.specs.Elements.{both, string_at}
-use Rattle.bind_meaning.specs.Trees.{spots, cells_hold, either, holds, name_of, attributes, with_text, element_text, line_holds, is_emitted, holds_further, elements, written_lines}
+use Rattle.bind_meaning.specs.Trees.{spots, cells_hold, either, holds, name_of, attributes, with_text, element_text, line_holds, is_emitted, holds_further}
+use Rattle.bind_meaning.specs.Trees.{elements, written_lines}
 use Rattle.binding_laws.proofs.TreeLemmas.{Each, each-weaker, filter-none, same-is, other-is, element_node, Lies, behind-element}
 use Rattle.binding_laws.proofs.NodeLemmas.{unboth, no-child, far-forest, Holds, texts, inside-holds, string-is, and-false}
 use Rattle.trial_laws.proofs.Finding.{is_called}
@@ -68,7 +70,8 @@ two false b h = absurd (false≢true h)
 -- what a line writes in a context, before others
 abbrev pub made : List Entry → Step → List Cell → Plan → Bool → Context → Forest → Forest
 made es s cells inside held d rest =
-    an_element (name_of s.name) (attributes es s cells d) (with_text (element_text es cells d) (written_lines es inside (holds_further es cells inside held d) d)) rest
+    an_element (name_of s.name) (attributes es s cells d)
+    (with_text (element_text es cells d) (written_lines es inside (holds_further es cells inside held d) d)) rest
 
 -- From a number on a forest lies that has the same nodes that pass.
 pub record Reaches (nodes : List Node) (above : List ℕ) (t : Node → Bool) (n : ℕ) (f g : Forest) : Type 0 where
@@ -97,12 +100,15 @@ module _ (nodes : List Node) (es : List Entry) (above : List ℕ) (t : Node → 
     (dull : (s : Step) (plan : Plan) (attrs : List Attribute) (text : List ℕ) (held : Bool) (d : Context) (n : ℕ) (rest : Forest) → fine s plan ≡ true
     → Lies nodes above n (an_element (name_of s.name) attrs (with_text text (written_lines es plan held d)) rest)
     → IsDull above t n (name_of s.name) attrs (with_text text (written_lines es plan held d))) where
-  elements-passed : (s : Step) (cells : List Cell) (plan : Plan) (held : Bool) → fine s plan ≡ true → (p : Context → Bool) (cs : List Context) (rest : Forest) (n : ℕ)
+  elements-passed : (s : Step) (cells : List Cell) (plan : Plan) (held : Bool) → fine s plan ≡ true →
+      (p : Context → Bool) (cs : List Context) (rest : Forest) (n : ℕ)
       → Lies nodes above n (elements p (made es s cells plan held) cs rest) → Reaches nodes above t n (elements p (made es s cells plan held) cs rest) rest
   elements-passed s cells plan held ok p [] rest n lies = record { place = n; lies = lies; same = refl }
-  elements-passed s cells plan held ok p (d ∷ ds) rest n lies = go (elements p (made es s cells plan held) ds rest) (p d) (λ m l. elements-passed s cells plan held ok p ds rest m l) lies
+  elements-passed s cells plan held ok p (d ∷ ds) rest n lies =
+      go (elements p (made es s cells plan held) ds rest) (p d) (λ m l. elements-passed s cells plan held ok p ds rest m l) lies
     where
-      go : (later : Forest) (b : Bool) → ((m : ℕ) → Lies nodes above m later → Reaches nodes above t m later rest) → Lies nodes above n (elim b [ true ↦ made es s cells plan held d later | false ↦ later ])
+      go : (later : Forest) (b : Bool) → ((m : ℕ) → Lies nodes above m later → Reaches nodes above t m later rest) →
+          Lies nodes above n (elim b [ true ↦ made es s cells plan held d later | false ↦ later ])
           → Reaches nodes above t n (elim b [ true ↦ made es s cells plan held d later | false ↦ later ]) rest
       go later true on l =
           let attrs : List Attribute = attributes es s cells d in
@@ -116,30 +122,42 @@ module _ (nodes : List Node) (es : List Entry) (above : List ℕ) (t : Node → 
           }
       go later false on l = on n l
 
-  then-reaches : (n : ℕ) (f g h : Forest) → Reaches nodes above t n f g → ((m : ℕ) → Lies nodes above m g → Reaches nodes above t m g h) → Reaches nodes above t n f h
+  then-reaches : (n : ℕ) (f g h : Forest) → Reaches nodes above t n f g → ((m : ℕ) → Lies nodes above m g → Reaches nodes above t m g h) →
+      Reaches nodes above t n f h
   then-reaches n f g h one on = let next = on one.place one.lies in record { place = next.place; lies = next.lies; same = one.same ∙ next.same }
 
   -- what is written from the line on that is so
   pub skipped : (plan : Plan) (held : Bool) (c : Context) (n : ℕ) → fine_before stop fine plan ≡ true → Lies nodes above n (written_lines es plan held c)
       → Reaches nodes above t n (written_lines es plan held c) (written_lines es (skip stop plan) held c)
   skipped nothing held c n ok lies = record { place = n; lies = lies; same = refl }
-  skipped (a_line s cells inside rest) held c n ok lies = go (written_lines es (a_line s cells inside rest) held c) refl (stop s) ok (λ m k l. skipped rest held c m k l)
+  skipped (a_line s cells inside rest) held c n ok lies = go (written_lines es (a_line s cells inside rest) held c) refl (stop s) ok
+      (λ m k l. skipped rest held c m k l)
     where
-      go : (whole : Forest) → whole ≡ written_lines es (a_line s cells inside rest) held c → (b : Bool) → elim b [ true ↦ true | false ↦ fine s inside && fine_before stop fine rest ] ≡ true
-          → ((m : ℕ) → fine_before stop fine rest ≡ true → Lies nodes above m (written_lines es rest held c) → Reaches nodes above t m (written_lines es rest held c) (written_lines es (skip stop rest) held c))
+      go : (whole : Forest) → whole ≡ written_lines es (a_line s cells inside rest) held c → (b : Bool) →
+          elim b [ true ↦ true | false ↦ fine s inside && fine_before stop fine rest ] ≡ true
+          → ((m : ℕ) → fine_before stop fine rest ≡ true → Lies nodes above m (written_lines es rest held c) →
+          Reaches nodes above t m (written_lines es rest held c) (written_lines es (skip stop rest) held c))
           → Reaches nodes above t n whole (written_lines es (elim b [ true ↦ a_line s cells inside rest | false ↦ skip stop rest ]) held c)
-      go whole is true k on = record { place = n; lies = subst (λ (f : Forest). Lies nodes above n f) refl lies; same = ap (λ (f : Forest). filter t (nodes_of above n f)) is }
+      go whole is true k on = record {
+        place = n;
+        lies = subst (λ (f : Forest). Lies nodes above n f) refl lies;
+        same =
+            ap (λ (f : Forest). filter t (nodes_of above n f)) is;
+      }
       go whole is false k on =
           let w = two (fine s inside) (fine_before stop fine rest) k in
           then-reaches n whole (written_lines es rest held c) (written_lines es (skip stop rest) held c)
-          (moved whole is (elements-passed s cells inside held w.0 (is_emitted es s cells inside held) (spots es c s.group) (written_lines es rest held c) n lies)) (λ m l. on m w.1 l)
+          (moved whole is (elements-passed s cells inside held w.0 (is_emitted es s cells inside held) (spots es c s.group)
+          (written_lines es rest held c) n lies)) (λ m l. on m w.1 l)
         where
-          moved : (f : Forest) → f ≡ written_lines es (a_line s cells inside rest) held c → Reaches nodes above t n (written_lines es (a_line s cells inside rest) held c) (written_lines es rest held c)
+          moved : (f : Forest) → f ≡ written_lines es (a_line s cells inside rest) held c →
+              Reaches nodes above t n (written_lines es (a_line s cells inside rest) held c) (written_lines es rest held c)
               → Reaches nodes above t n f (written_lines es rest held c)
           moved f e r = record { place = r.place; lies = r.lies; same = ap (λ (g : Forest). filter t (nodes_of above n g)) e ∙ r.same }
 
   -- nothing passes where all lines are fine
-  pub none-left : (plan : Plan) (held : Bool) (c : Context) (n : ℕ) → all_fine fine plan ≡ true → Lies nodes above n (written_lines es plan held c) → filter t (nodes_of above n (written_lines es plan held c)) ≡ []
+  pub none-left : (plan : Plan) (held : Bool) (c : Context) (n : ℕ) → all_fine fine plan ≡ true → Lies nodes above n (written_lines es plan held c) →
+      filter t (nodes_of above n (written_lines es plan held c)) ≡ []
   none-left nothing held c n ok lies = refl
   none-left (a_line s cells inside rest) held c n ok lies =
       let w = two (fine s inside) (all_fine fine rest) ok in
@@ -155,7 +173,8 @@ either-true false f h = h
 pub either-first : (b : Bool) (f : Unit {0} → Bool) → b ≡ true → either b f ≡ true
 either-first b f h = ap (λ a. either a f) h
 
-pub line-alone : (es : List Entry) (s : Step) (cells : List Cell) (inside rest : Plan) (held : Bool) (c : Context) → s.group ≡ None → line_holds es cells inside c ≡ true
+pub line-alone : (es : List Entry) (s : Step) (cells : List Cell) (inside rest : Plan) (held : Bool) (c : Context) → s.group ≡ None →
+    line_holds es cells inside c ≡ true
     → written_lines es (a_line s cells inside rest) held c ≡ made es s cells inside held c (written_lines es rest held c)
 line-alone es s cells inside rest held c none holding =
     let later : Forest = written_lines es rest held c in
@@ -163,7 +182,8 @@ line-alone es s cells inside rest held c none holding =
     ∙ ap (λ b. elim b [ true ↦ made es s cells inside held c later | false ↦ later ]) (either-first (line_holds es cells inside c) (λ _. _) holding)
 
 -- lines hold an entry where the first does
-pub first-holds : (es : List Entry) (plan : Plan) (c : Context) → is_line plan ≡ true → group_at plan ≡ None → cells_hold es (cells_at plan) c ≡ true → holds es plan c ≡ true
+pub first-holds : (es : List Entry) (plan : Plan) (c : Context) → is_line plan ≡ true → group_at plan ≡ None → cells_hold es (cells_at plan) c ≡ true →
+    holds es plan c ≡ true
 first-holds es nothing c ok none h = absurd (false≢true ok)
 first-holds es (a_line s cells inside rest) c ok none h =
     ap (λ g. either (list_any (λ d. either (cells_hold es cells d) (λ _. holds es inside d)) (spots es c g)) (λ _. holds es rest c)) none
@@ -189,10 +209,14 @@ second-false p q x h = go (p x) h
     go false e = refl
 
 -- attributes are no children
-attributes-no-children : (p n : ℕ) (above : List ℕ) (q : Node → Bool) (attributes : List Attribute) → Each (λ x. both (is_child p) q x ≡ false) (nodes_of_attributes above n attributes)
+attributes-no-children : (p n : ℕ) (above : List ℕ) (q : Node → Bool) (attributes : List Attribute) →
+    Each (λ x. both (is_child p) q x ≡ false) (nodes_of_attributes above n attributes)
 attributes-no-children p n above q [] = tt
-attributes-no-children p n above q (a ∷ others) =
-    (ap (λ b. elim b [ true ↦ q (record { number = n; kind = kinds.Attribute; name = Some a.name; above = above; text = a.value }) | false ↦ false ]) (and-false (is_nearest p above)), attributes-no-children p (n + 1) above q others)
+attributes-no-children p n above q (a ∷ others) = (
+  ap (λ b. elim b [ true ↦ q (record { number = n; kind = kinds.Attribute; name = Some a.name; above = above; text = a.value }) | false ↦ false ])
+      (and-false (is_nearest p above)),
+  attributes-no-children p (n + 1) above q others,
+)
 
 -- The one child of a node that has the name is this element.
 pub record IsOnlyChild (nodes : List Node) (p : ℕ) (more : List ℕ) (name : Name) (text : List ℕ) (inside : Forest) : Type 0 where
@@ -208,14 +232,17 @@ module _ (nodes : List Node) (es : List Entry) (p : ℕ) (more : List ℕ) (name
   named = both (is_child p) (is_called name)
 
   within-dull : (n : ℕ) (attrs : List Attribute) (inside : Forest) → p < n
-      → Each (λ x. named x ≡ false) (nodes_of_attributes (n ∷ (p ∷ more)) (n + 1) attrs) × Each (λ x. named x ≡ false) (nodes_of (n ∷ (p ∷ more)) (n + (1 + length attrs)) inside)
+      → Each (λ x. named x ≡ false) (nodes_of_attributes (n ∷ (p ∷ more)) (n + 1) attrs) ×
+      Each (λ x. named x ≡ false) (nodes_of (n ∷ (p ∷ more)) (n + (1 + length attrs)) inside)
   within-dull n attrs inside l = (
     attributes-no-children p (n + 1) (n ∷ (p ∷ more)) (is_called name) attrs,
     each-weaker (λ (x : Node). is_nearest p x.above ≡ false) (λ x. named x ≡ false) (nodes_of (n ∷ (p ∷ more)) (n + (1 + length attrs)) inside)
-        (λ x h. unboth (is_child p) (is_called name) x (no-child p x h)) (far-forest p (n + (1 + length attrs)) (n ∷ (p ∷ more)) inside (other-is n p (inr l)) (omega (arith, l))),
+        (λ x h. unboth (is_child p) (is_called name) x (no-child p x h))
+        (far-forest p (n + (1 + length attrs)) (n ∷ (p ∷ more)) inside (other-is n p (inr l)) (omega (arith, l))),
   )
 
-  child-dull : (s : Step) (plan : Plan) (attrs : List Attribute) (text : List ℕ) (held : Bool) (d : Context) (n : ℕ) (rest : Forest) → other_step name s plan ≡ true
+  child-dull : (s : Step) (plan : Plan) (attrs : List Attribute) (text : List ℕ) (held : Bool) (d : Context) (n : ℕ) (rest : Forest) →
+      other_step name s plan ≡ true
       → Lies nodes (p ∷ more) n (an_element (name_of s.name) attrs (with_text text (written_lines es plan held d)) rest)
       → IsDull (p ∷ more) named n (name_of s.name) attrs (with_text text (written_lines es plan held d))
   child-dull s plan attrs text held d n rest ok lies =
@@ -223,10 +250,12 @@ module _ (nodes : List Node) (es : List Entry) (p : ℕ) (more : List ℕ) (name
       (second-false (is_child p) (is_called name) (element_node (p ∷ more) n (name_of s.name)) (not-so (is_step name s) ok), w.0, w.1)
 
   -- what is written at a line of the name, where it stands once and no other is so named
-  at-line : (plan : Plan) (held : Bool) (c : Context) (n : ℕ) → is_line plan ≡ true → is_so (is_step name) plan ≡ true → group_at plan ≡ None → line_holds es (cells_at plan) (inside_at plan) c ≡ true
+  at-line : (plan : Plan) (held : Bool) (c : Context) (n : ℕ) → is_line plan ≡ true → is_so (is_step name) plan ≡ true → group_at plan ≡ None →
+      line_holds es (cells_at plan) (inside_at plan) c ≡ true
       → all_fine (other_step name) (rest_at plan) ≡ true → Lies nodes (p ∷ more) n (written_lines es plan held c)
       → filter named nodes ≡ filter named (nodes_of (p ∷ more) n (written_lines es plan held c))
-      → IsOnlyChild nodes p more name (element_text es (cells_at plan) c) (written_lines es (inside_at plan) (holds_further es (cells_at plan) (inside_at plan) held c) c)
+      → IsOnlyChild nodes p more name (element_text es (cells_at plan) c)
+      (written_lines es (inside_at plan) (holds_further es (cells_at plan) (inside_at plan) held c) c)
   at-line nothing held c n ok so none holding clear lies alone = absurd (false≢true ok)
   at-line (a_line s cells inside rest) held c n ok so none holding clear lies alone =
       let same = line-alone es s cells inside rest held c none holding in
@@ -253,19 +282,23 @@ module _ (nodes : List Node) (es : List Entry) (p : ℕ) (more : List ℕ) (name
         rest = later;
         lies = there;
         only = alone ∙ (ap (λ (f : Forest). filter named (nodes_of (p ∷ more) n f)) same
-            ∙ (ap (λ b. if b then el ∷ filter named (own ++ (within ++ behind)) else filter named (own ++ (within ++ behind))) here ∙ ap (λ l. el ∷ l) nothing-more));
+            ∙ (ap (λ b. if b then el ∷ filter named (own ++ (within ++ behind)) else filter named (own ++ (within ++ behind))) here ∙
+            ap (λ l. el ∷ l) nothing-more));
       }
     where
       child-of : (k : ℕ) (others : List ℕ) (n : ℕ) (e : Name) → is_child k (element_node (k ∷ others) n e) ≡ true
       child-of k others n e = ap (λ b. b && true) (same-is k)
 
   -- the same from the front of the lines on
-  pub only-child : (plan : Plan) (held : Bool) (c : Context) (n : ℕ) → fine_before (is_step name) (other_step name) plan ≡ true → is_line (skip (is_step name) plan) ≡ true
+  pub only-child : (plan : Plan) (held : Bool) (c : Context) (n : ℕ) → fine_before (is_step name) (other_step name) plan ≡ true →
+      is_line (skip (is_step name) plan) ≡ true
       → is_so (is_step name) (skip (is_step name) plan) ≡ true → group_at (skip (is_step name) plan) ≡ None
-      → line_holds es (cells_at (skip (is_step name) plan)) (inside_at (skip (is_step name) plan)) c ≡ true → all_fine (other_step name) (rest_at (skip (is_step name) plan)) ≡ true
+      → line_holds es (cells_at (skip (is_step name) plan)) (inside_at (skip (is_step name) plan)) c ≡ true →
+      all_fine (other_step name) (rest_at (skip (is_step name) plan)) ≡ true
       → Holds nodes p more n (written_lines es plan held c)
       → IsOnlyChild nodes p more name (element_text es (cells_at (skip (is_step name) plan)) c)
-      (written_lines es (inside_at (skip (is_step name) plan)) (holds_further es (cells_at (skip (is_step name) plan)) (inside_at (skip (is_step name) plan)) held c) c)
+      (written_lines es (inside_at (skip (is_step name) plan))
+      (holds_further es (cells_at (skip (is_step name) plan)) (inside_at (skip (is_step name) plan)) held c) c)
   only-child plan held c n before ok so none holding clear within =
       let w = skipped nodes es (p ∷ more) named (is_step name) (other_step name) child-dull plan held c n before within.lies in
       at-line (skip (is_step name) plan) held c w.place ok so none holding clear w.lies (within.alone (is_called name) ∙ w.same)
@@ -279,8 +312,10 @@ texts-alone (c ∷ text) = nothing-behind (c ∷ text)
     nothing-behind [] = refl
     nothing-behind (x ∷ xs) = ap (λ l. x ∷ l) (nothing-behind xs)
 
-pub leaf-string : (nodes : List Node) (p : ℕ) (more : List ℕ) (name : Name) (text : List ℕ) → (one : IsOnlyChild nodes p more name text no_more) → string_at nodes one.place ≡ text
-leaf-string nodes p more name text one = string-is nodes (p ∷ more) one.place one.written one.attrs (with_text text no_more) one.rest one.lies ∙ texts-alone text
+pub leaf-string : (nodes : List Node) (p : ℕ) (more : List ℕ) (name : Name) (text : List ℕ) → (one : IsOnlyChild nodes p more name text no_more) →
+    string_at nodes one.place ≡ text
+leaf-string nodes p more name text one = string-is nodes (p ∷ more) one.place one.written one.attrs (with_text text no_more) one.rest one.lies ∙
+    texts-alone text
 
 -- and all that is inside it
 pub child-holds : (nodes : List Node) (p : ℕ) (more : List ℕ) (name : Name) (inside : Forest) → (one : IsOnlyChild nodes p more name [] inside)

@@ -41,7 +41,8 @@ all_lines = x.slash (x.slash x.the_root (x.stepped (x.axis_step a.DescendantOrSe
 abbrev pub assert_test : Exp
 assert_test =
     x.operated o.Equal (x.called f.XsDecimal (x.argument (children (in_basic (codes "LineExtensionAmount"))) x.no_more))
-    (x.operated o.Times (children (in_basic (codes "InvoicedQuantity"))) (x.slash (children (in_aggregate (codes "Price"))) (children (in_basic (codes "PriceAmount")))))
+    (x.operated o.Times (children (in_basic (codes "InvoicedQuantity")))
+    (x.slash (children (in_aggregate (codes "Price"))) (children (in_basic (codes "PriceAmount")))))
 
 abbrev pub report_test : Exp
 report_test = x.operated o.Equal (children (in_basic (codes "ID"))) (x.called f.Count (x.argument all_lines x.no_more))

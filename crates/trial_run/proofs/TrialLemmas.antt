@@ -9,10 +9,20 @@ use Rattle.trial_run.specs.declared.trial.Trial.{Trial}
 use Rattle.trial_run.specs.Memory.{written, terms_read}
 use Rattle.trial_run.specs.Trials.{ubl_text, terms_of_ubl, cii_text, terms_of_cii, total_in, same_terms, trial_findings, trial_of}
 
-pub trial-made : (lines steps : ℕ) (es first last : List Entry) (ubl cii : List ℕ) (total : Option (List ℕ)) (same : Bool) (ubl_bytes cii_bytes : ℕ) (tally : Tally)
+pub trial-made : (lines steps : ℕ) (es first last : List Entry) (ubl cii : List ℕ) (total : Option (List ℕ)) (same : Bool) (ubl_bytes cii_bytes : ℕ)
+    (tally : Tally)
     → es ≡ trial_entries lines → ubl ≡ written syntaxes.Ubl es → first ≡ terms_read ubl → cii ≡ written syntaxes.Cii first → last ≡ terms_read cii
     → total ≡ total_in last → same ≡ same_terms es first last → ubl_bytes ≡ length ubl → cii_bytes ≡ length cii → tally ≡ tally_of (trial_findings ubl)
-    → let trial : Trial = record { lines = lines; total = total; same_terms = same; ubl_bytes = ubl_bytes; cii_bytes = cii_bytes; tally = tally; steps = steps } in
+    → let trial : Trial = record {
+      lines = lines;
+      total = total;
+      same_terms = same;
+      ubl_bytes = ubl_bytes;
+      cii_bytes = cii_bytes;
+      tally = tally;
+      steps =
+          steps;
+    } in
     trial ≡ trial_of lines steps
 unfolding trial_of
 trial-made lines steps es first last ubl cii total same ubl_bytes cii_bytes tally e u f c l t s ub cb y =

@@ -106,4 +106,5 @@ documents_text trial =
 
 unfoldable pub trial_text : Trial → List ℕ
 trial_text trial =
-    codes "lines " ++ (decimal trial.lines ++ (0xA ∷ (documents_text trial ++ (counts_line trial.tally ++ (codes "steps " ++ (decimal trial.steps ++ 0xA ∷ []))))))
+    codes "lines " ++ (decimal trial.lines ++
+    (0xA ∷ (documents_text trial ++ (counts_line trial.tally ++ (codes "steps " ++ (decimal trial.steps ++ 0xA ∷ []))))))

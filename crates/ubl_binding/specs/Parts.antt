@@ -8,7 +8,8 @@ use Rattle.bind_rows.specs.declared.names.Leaf.TheVariants as leaves
 use Rattle.bind_rows.specs.declared.guards.Guard.{Guard}
 use Rattle.bind_rows.specs.declared.guards.Test.{Test}
 use Rattle.bind_rows.specs.declared.rows.Check.TheVariants as checks
-use Rattle.bind_table.specs.Listings.{Listing, nothing, Value, Placed, bt, term, part, constant, checked, named, element, at_element, at, ◌◂◌, each, given, guard, one_of, none_of}
+use Rattle.bind_table.specs.Listings.{Listing, nothing, Value, Placed, bt, term, part, constant, checked, named, element, at_element, at, ◌◂◌, each, given}
+use Rattle.bind_table.specs.Listings.{guard, one_of, none_of}
 
 -- Below the root an element that holds elements is in the namespace of aggregates, and one that holds a value in that
 -- of basic components.

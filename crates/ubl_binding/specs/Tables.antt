@@ -7,8 +7,10 @@ use Rattle.bind_rows.specs.declared.guards.Test.TheVariants as tests
 use Rattle.bind_rows.specs.declared.rows.Form.TheVariants as forms
 use Rattle.bind_rows.specs.declared.rows.Row.{Row}
 use Rattle.bind_rows.specs.declared.rows.Written.TheVariants as written
-use Rattle.bind_table.specs.Listings.{Listing, bt, term, part, constant, agreeing, spread, in_form, when, named, element, at, nothing, ◌◂◌, each, given, one_of, none_of, rows_of}
-use Rattle.ubl_binding.specs.Parts.{holding, leaf, leaf_with, identifier, document_type, scheme, tax_scheme, address, vat, document_allowance, document_charge, line_allowance, line_charge}
+use Rattle.bind_table.specs.Listings.{Listing, bt, term, part, constant, agreeing, spread, in_form, when, named, element, at, nothing, ◌◂◌, each, given, one_of}
+use Rattle.bind_table.specs.Listings.{none_of, rows_of}
+use Rattle.ubl_binding.specs.Parts.{holding, leaf, leaf_with, identifier, document_type, scheme, tax_scheme, address, vat, document_allowance, document_charge}
+use Rattle.ubl_binding.specs.Parts.{line_allowance, line_charge}
 
 -- ---- what both have
 

@@ -31,7 +31,8 @@ use Rattle.job_course.proofs.FileLemmas.{refused_here}
 use Rattle.invoice_jobs.specs.Sources.{Basis}
 use Rattle.invoice_jobs.specs.Invoices.{invoice_line, IsInvoiceRefusal}
 use Rattle.rule_texts.specs.Texts.{code_lists_text}
-use Rattle.validation_jobs.specs.Validation.{built_in_rules, built_in_lists, not_built_in, by_built_in, listed_course, validated, status_by, text_in, told_by, reported, by_rules, by_faults, judged_next, document_next, IsListed, IsListRefusal, IsUnlisted}
+use Rattle.validation_jobs.specs.Validation.{built_in_rules, built_in_lists, not_built_in, by_built_in, listed_course, validated, status_by, text_in, told_by}
+use Rattle.validation_jobs.specs.Validation.{reported, by_rules, by_faults, judged_next, document_next, IsListed, IsListRefusal, IsUnlisted}
 
 -- ---- the built-in lists
 
@@ -49,13 +50,15 @@ lists_refused bytes (list_faults.NotALists key) status before after is fails ref
 lists_refused bytes (list_faults.BadCode key) status before after is fails refused =
     inr ((list_faults.BadCode key, built_in_is bytes (Err (list_faults.BadCode key)) is (fails (λ e. cc))), refused.0, refused.1)
 
-built_in_goes_on : (lists : Lists) (shelf : ShelfView) (err err' : SinkView) → IsListed lists err err' → Continues (listed_course None) lists shelf shelf err err'
+built_in_goes_on : (lists : Lists) (shelf : ShelfView) (err err' : SinkView) → IsListed lists err err' →
+    Continues (listed_course None) lists shelf shelf err err'
 built_in_goes_on lists shelf err err' is = λ next shelf' out out' err'' status further.
     subst (λ course. Runs course (record { shelf = shelf; out = out; err = err }) (record { shelf = shelf'; out = out'; err = err'' }) status)
     (sym (ap (by_built_in next) is.are))
     (subst (λ e. Runs (next lists) (record { shelf = shelf; out = out; err = e }) (record { shelf = shelf'; out = out'; err = err'' }) status) is.quiet further)
 
-built_in_fails : (status : Status) (shelf : ShelfView) (err err' : SinkView) → IsUnlisted status err err' → Fails (listed_course None) status shelf shelf err err'
+built_in_fails : (status : Status) (shelf : ShelfView) (err err' : SinkView) → IsUnlisted status err err' →
+    Fails (listed_course None) status shelf shelf err err'
 built_in_fails status shelf err err' (inl memory) = λ next out.
     rw (memory.0, memory.1) (memory_here (listed_course None next) shelf out err)
 built_in_fails status shelf err err' (inr refused) = λ next out.
@@ -95,15 +98,19 @@ module _ (svrl : Bool) (file : List ℕ) (basis : Basis) (content : List ℕ) (d
   pub document_faulted : (faulted : Faulted) (out out' err err' : SinkView) (status : Status)
       → faults_by (rows_for basis.terms) (tree_nodes doc) basis.lists ≡ Ok faulted
       → Runs (judged_next svrl content doc faulted) (record { shelf = shelf; out = out; err = err }) (record { shelf = shelf; out = out'; err = err' }) status
-      → Runs (document_next svrl file basis content doc) (record { shelf = shelf; out = out; err = err }) (record { shelf = shelf; out = out'; err = err' }) status
+      → Runs (document_next svrl file basis content doc) (record { shelf = shelf; out = out; err = err })
+      (record { shelf = shelf; out = out'; err = err' }) status
   document_faulted faulted out out' err err' status is further =
       subst (λ course. Runs course (record { shelf = shelf; out = out; err = err }) (record { shelf = shelf; out = out'; err = err' }) status)
       (sym (ap follows is)) further
 
   pub document_refused : (fault : BindFault) (out err err' : SinkView) (status : Status)
-      → (fault.kind ≢ kinds.Memory → faults_by (rows_for basis.terms) (tree_nodes doc) basis.lists ≡ Err fault) → IsInvoiceRefusal doc file fault status err err'
-      → Runs (document_next svrl file basis content doc) (record { shelf = shelf; out = out; err = err }) (record { shelf = shelf; out = out; err = err' }) status
-  document_refused fault out err err' status fails (inl memory) = rw (memory.1, memory.2) (memory_here (document_next svrl file basis content doc) shelf out err)
+      → (fault.kind ≢ kinds.Memory → faults_by (rows_for basis.terms) (tree_nodes doc) basis.lists ≡ Err fault) →
+      IsInvoiceRefusal doc file fault status err err'
+      → Runs (document_next svrl file basis content doc) (record { shelf = shelf; out = out; err = err })
+      (record { shelf = shelf; out = out; err = err' }) status
+  document_refused fault out err err' status fails (inl memory) =
+      rw (memory.1, memory.2) (memory_here (document_next svrl file basis content doc) shelf out err)
   document_refused fault out err err' status fails (inr told) =
       rw told.1
       (subst (λ course. Runs course (record { shelf = shelf; out = out; err = err }) (record { shelf = shelf; out = out; err = err' }) statuses.DocumentRefused)
@@ -113,14 +120,16 @@ module _ (svrl : Bool) (file : List ℕ) (basis : Basis) (content : List ℕ) (d
 module _ (svrl : Bool) (content : List ℕ) (doc : Document) (shelf : ShelfView) where
   -- The rules can be had, or can't.
   pub document_judged : (faulted : Faulted) (ready : Ready) (out out' err err' : SinkView) (status : Status) → built_in_rules faulted.which ≡ Some ready
-      → Runs (ends (reported svrl (validated content doc faulted ready))) (record { shelf = shelf; out = out; err = err }) (record { shelf = shelf; out = out'; err = err' }) status
+      → Runs (ends (reported svrl (validated content doc faulted ready))) (record { shelf = shelf; out = out; err = err })
+      (record { shelf = shelf; out = out'; err = err' }) status
       → Runs (judged_next svrl content doc faulted) (record { shelf = shelf; out = out; err = err }) (record { shelf = shelf; out = out'; err = err' }) status
   document_judged faulted ready out out' err err' status is further =
       subst (λ course. Runs course (record { shelf = shelf; out = out; err = err }) (record { shelf = shelf; out = out'; err = err' }) status)
       (sym (ap (by_rules (λ r. ends (reported svrl (validated content doc faulted r)))) is)) further
 
   pub document_unjudged : (faulted : Faulted) (out err err' : SinkView) → built_in_rules faulted.which ≡ None → TakesOrFails not_built_in.err err err'
-      → Runs (judged_next svrl content doc faulted) (record { shelf = shelf; out = out; err = err }) (record { shelf = shelf; out = out; err = err' }) statuses.RulesRefused
+      → Runs (judged_next svrl content doc faulted) (record { shelf = shelf; out = out; err = err })
+      (record { shelf = shelf; out = out; err = err' }) statuses.RulesRefused
   document_unjudged faulted out err err' is takes =
       subst (λ course. Runs course (record { shelf = shelf; out = out; err = err }) (record { shelf = shelf; out = out; err = err' }) statuses.RulesRefused)
       (sym (ap (by_rules (λ r. ends (reported svrl (validated content doc faulted r)))) is))
@@ -130,7 +139,8 @@ module _ (svrl : Bool) (content : List ℕ) (doc : Document) (shelf : ShelfView)
 
 -- It was written, or a front of it where a write failed.
 pub report_written : (svrl : Bool) (report : Report) (status : Status) (shelf : ShelfView) (out out' err : SinkView)
-    → ((status ≡ status_by report.findings) × WritesAll (text_in svrl report) out out') ⊎ ((status ≡ statuses.WriteFault) × WritesFront (text_in svrl report) out out')
+    → ((status ≡ status_by report.findings) × WritesAll (text_in svrl report) out out') ⊎
+    ((status ≡ statuses.WriteFault) × WritesFront (text_in svrl report) out out')
     → Runs (ends (told_by svrl report)) (record { shelf = shelf; out = out; err = err }) (record { shelf = shelf; out = out'; err = err }) status
 report_written svrl report status shelf out out' err written =
     written_here (status_by report.findings) status (text_in svrl report) shelf out out' err (accepted report.findings) written
@@ -144,4 +154,5 @@ pub report_is_written : (svrl : Bool) (v : Validated) (report : Report) (status 
     → Runs (ends (told_by svrl report)) (record { shelf = shelf; out = out; err = err }) (record { shelf = shelf; out = out'; err = err }) status
     → Runs (ends (reported svrl v)) (record { shelf = shelf; out = out; err = err }) (record { shelf = shelf; out = out'; err = err }) status
 report_is_written svrl v report status shelf out out' err is further =
-    subst (λ (r : Report). Runs (ends (told_by svrl r)) (record { shelf = shelf; out = out; err = err }) (record { shelf = shelf; out = out'; err = err }) status) is further
+    subst (λ (r : Report). Runs (ends (told_by svrl r)) (record { shelf = shelf; out = out; err = err })
+    (record { shelf = shelf; out = out'; err = err }) status) is further

@@ -9,7 +9,8 @@ ghost use Rattle.inv_base.specs.Writing.{Writes};
 ghost use Rattle.job_course.specs.Runs.{Runs};
 ghost use Rattle.invoice_jobs.specs.Sources.{basis_of, sources_of};
 ghost use Rattle.job_course.specs.Course.{ends, told_course};
-ghost use Rattle.validation_jobs.specs.Validation.{status_by, text_in, told_by, reported, validated, judged_next, document_next, found_next, validate_course, faulted_of};
+ghost use Rattle.validation_jobs.specs.Validation.{status_by, text_in, told_by, reported, validated, judged_next, document_next, found_next, validate_course};
+ghost use Rattle.validation_jobs.specs.Validation.{faulted_of};
 
 use crate::built_in::{built_in_rules, load_given, tell_not_built_in};
 use bind_run::{Faulted, faults_of_document};

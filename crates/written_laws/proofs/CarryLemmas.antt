@@ -1,5 +1,6 @@
 -- The document of an invoice that a table carries keeps the limits, and its root is the one by which the table is told.
-use Rattle.std.proofs.Common.{◌≡◌, ℕ, ◌≤◌, Bool, true, false, ◌||◌, List, length, Option, Some, None, option_and_then, Result, Ok, Err, nat_lt, refl, ap, sym, ◌∙◌, subst, arith, encode_utf8_all}
+use Rattle.std.proofs.Common.{◌≡◌, ℕ, ◌≤◌, Bool, true, false, ◌||◌, List, length, Option, Some, None, option_and_then, Result, Ok, Err, nat_lt, refl, ap, sym}
+use Rattle.std.proofs.Common.{◌∙◌, subst, arith, encode_utf8_all}
 use Rattle.std.proofs.lemmas.Bool.Decides.{nat_tests}
 use Rattle.inv_base.specs.Tree.{Node, Forest, document_nodes}
 use Rattle.code_lists.specs.CodeFiles.{Lists}
@@ -49,17 +50,20 @@ carried rows es h = go (entries_fail rows es) (is_too_large rows es) (first_unpl
 
 -- ---- the root
 
-pub root-is : (rows : List Row) (es : List Entry) → is_one_root (plan_of rows) ≡ true → holds es (plan_of rows) root_context ≡ true → which_of (document_nodes (document_of rows es)) ≡ root_table rows
+pub root-is : (rows : List Row) (es : List Entry) → is_one_root (plan_of rows) ≡ true → holds es (plan_of rows) root_context ≡ true →
+    which_of (document_nodes (document_of rows es)) ≡ root_table rows
 unfolding document_of
 root-is rows es h there =
     let r = one-root (plan_of rows) h in
-    let e = ap (λ q. written_lines es q false root_context) r.is ∙ root-written es r.step r.cells r.inside r.once (subst (λ q. holds es q root_context ≡ true) r.is there) in
+    let e = ap (λ q. written_lines es q false root_context) r.is ∙
+    root-written es r.step r.cells r.inside r.once (subst (λ q. holds es q root_context ≡ true) r.is there) in
     ap (λ (f : Forest). which_of (document_nodes f)) e ∙ ap (λ q. option_and_then which_named (root_name q)) (sym r.is)
 
 pub by-table : (table : Which) (nodes : List Node) (lists : Lists) → which_of nodes ≡ Some table → invoice_of nodes lists ≡ terms_of nodes (rows_of table) lists
 by-table table nodes lists e = ap (by_root rows_of nodes lists) e
 
-pub read-by-table : (table : Which) (es : List Entry) (lists : Lists) → which_of (document_nodes (document_of (rows_of table) es)) ≡ Some table → IsReadBack reading_limits (rows_of table) es → IsReadByTable table es lists
+pub read-by-table : (table : Which) (es : List Entry) (lists : Lists) → which_of (document_nodes (document_of (rows_of table) es)) ≡ Some table →
+    IsReadBack reading_limits (rows_of table) es → IsReadByTable table es lists
 read-by-table table es lists e back =
     record {
       found = back.found;

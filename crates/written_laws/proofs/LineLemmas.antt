@@ -1,6 +1,7 @@
 -- What is written at an element of a line: attributes whose names are some of the line's, in their order, and a text;
 -- all of Chars.
-use Rattle.std.proofs.Common.{◌≡◌, ℕ, ◌≤◌, Bool, true, false, ◌&&◌, ◌||◌, List, [], ◌∷◌, ◌++◌, map, filter, flat_map, length, Option, Some, None, inl, refl, ap, sym, ◌∙◌, subst, suc, arith, if◌then◌else◌, is_some}
+use Rattle.std.proofs.Common.{◌≡◌, ℕ, ◌≤◌, Bool, true, false, ◌&&◌, ◌||◌, List, [], ◌∷◌, ◌++◌, map, filter, flat_map, length, Option, Some, None, inl, refl, ap}
+use Rattle.std.proofs.Common.{sym, ◌∙◌, subst, suc, arith, if◌then◌else◌, is_some}
 use Rattle.std.specs.Str.{bytes_eq}
 use Rattle.std.specs.List.{list_all, list_any}
 use Rattle.inv_base.specs.Characters.{is_char}
@@ -20,7 +21,8 @@ use Rattle.bind_rows.specs.declared.rows.Step.{Step}
 use Rattle.bind_table.specs.Lines.{Cell}
 use Rattle.bind_meaning.specs.Currencies.{currency_id}
 use Rattle.bind_meaning.specs.Writing.{row_text}
-use Rattle.bind_meaning.specs.Trees.{shows_currency, currency_term, attribute, currency_attribute, currency_of_cell, is_at_element, constant_or_text, attribute_of_cell, attributes, text_of_cell, element_text}
+use Rattle.bind_meaning.specs.Trees.{shows_currency, currency_term, attribute, currency_attribute, currency_of_cell, is_at_element, constant_or_text}
+use Rattle.bind_meaning.specs.Trees.{attribute_of_cell, attributes, text_of_cell, element_text}
 use Rattle.written_laws.specs.Readable.{local_of, locals, unspaced, constant_of, filler_of, has_chars}
 use Rattle.written_laws.proofs.ListLemmas.{both, and-true, neither, all-append, one-longer, no-longer, Within, within-more}
 use Rattle.written_laws.proofs.ValueLemmas.{IsChars, AreChars, ValueChars, TextChars, row-chars, currency-chars}
@@ -29,9 +31,11 @@ use Rattle.written_laws.proofs.ValueLemmas.{IsChars, AreChars, ValueChars, TextC
 pub data Has : List Attribute → List (List ℕ) → Type 0 where
   has_none : Has [] []
   has_not : (local : List ℕ) {given : List Attribute} {names : List (List ℕ)} → Has given names → Has given (local ∷ names)
-  has_one : (local value : List ℕ) {given : List Attribute} {names : List (List ℕ)} → IsChars value → Has given names → Has (attribute local value ∷ given) (local ∷ names)
+  has_one : (local value : List ℕ) {given : List Attribute} {names : List (List ℕ)} → IsChars value → Has given names →
+      Has (attribute local value ∷ given) (local ∷ names)
 
-has-append : (given : List Attribute) (names : List (List ℕ)) (others : List Attribute) (more : List (List ℕ)) → Has given names → Has others more → Has (given ++ others) (names ++ more)
+has-append : (given : List Attribute) (names : List (List ℕ)) (others : List Attribute) (more : List (List ℕ)) → Has given names → Has others more →
+    Has (given ++ others) (names ++ more)
 has-append given names others more has_none k = k
 has-append given names others more (has_not local {given = g} {names = n} h) k = has_not local (has-append g n others more h k)
 has-append given names others more (has_one local value {given = g} {names = n} c h) k = has_one local value c (has-append g n others more h k)
@@ -44,7 +48,8 @@ has-few given names (has_not local {given = g} {names = n} h) = no-longer (lengt
 has-few given names (has_one local value {given = g} {names = n} c h) = one-longer (length g) (length n) (has-few g n h)
 
 -- A test passes the attributes where it passes all names.
-pub has-all : (named : List ℕ → Bool) (test : Attribute → Bool) → ((local value : List ℕ) → IsChars value → named local ≡ true → test (attribute local value) ≡ true)
+pub has-all : (named : List ℕ → Bool) (test : Attribute → Bool) →
+    ((local value : List ℕ) → IsChars value → named local ≡ true → test (attribute local value) ≡ true)
     → (given : List Attribute) (names : List (List ℕ)) → list_all named names ≡ true → Has given names → list_all test given ≡ true
 has-all named test f given names h has_none = refl
 has-all named test f given names h (has_not local {given = g} {names = n} k) = has-all named test f g n (both (named local) (list_all named n) h).1 k
@@ -55,13 +60,15 @@ has-all named test f given names h (has_one local value {given = g} {names = n} 
 has-other : (local : List ℕ) (given : List Attribute) (names : List (List ℕ)) → list_any (bytes_eq local) names ≡ false → Has given names
     → list_any (λ (a : Attribute). same_name (unspaced local) a.name) given ≡ false
 has-other local given names h has_none = refl
-has-other local given names h (has_not other {given = g} {names = n} k) = has-other local g n (neither (bytes_eq local other) (list_any (bytes_eq local) n) h).1 k
+has-other local given names h (has_not other {given = g} {names = n} k) =
+    has-other local g n (neither (bytes_eq local other) (list_any (bytes_eq local) n) h).1 k
 has-other local given names h (has_one other value {given = g} {names = n} c k) =
     let w = neither (bytes_eq local other) (list_any (bytes_eq local) n) h in
     ap (λ t. t || list_any (λ (a : Attribute). same_name (unspaced local) a.name) g) w.0 ∙ has-other local g n w.1 k
 
 -- Where no name is there twice, no two attributes have one name.
-pub has-apart : (given : List Attribute) (names : List (List ℕ)) → has_twice bytes_eq names ≡ false → Has given names → has_twice (λ (a b : Attribute). same_name a.name b.name) given ≡ false
+pub has-apart : (given : List Attribute) (names : List (List ℕ)) → has_twice bytes_eq names ≡ false → Has given names →
+    has_twice (λ (a b : Attribute). same_name a.name b.name) given ≡ false
 has-apart given names h has_none = refl
 has-apart given names h (has_not local {given = g} {names = n} k) = has-apart g n (neither (list_any (bytes_eq local) n) (has_twice bytes_eq n) h).1 k
 has-apart given names h (has_one local value {given = g} {names = n} c k) =
@@ -71,8 +78,10 @@ has-apart given names h (has_one local value {given = g} {names = n} c k) =
 -- The names of the attributes are among all names.
 pub has-within : (given : List Attribute) (names : List (List ℕ)) → Has given names → Within (map (λ (a : Attribute). a.name) given) (map unspaced names)
 has-within given names has_none = tt
-has-within given names (has_not local {given = g} {names = n} h) = within-more (unspaced local) (map (λ (a : Attribute). a.name) g) (map unspaced n) (has-within g n h)
-has-within given names (has_one local value {given = g} {names = n} c h) = (inl refl, within-more (unspaced local) (map (λ (a : Attribute). a.name) g) (map unspaced n) (has-within g n h))
+has-within given names (has_not local {given = g} {names = n} h) = within-more (unspaced local) (map (λ (a : Attribute). a.name) g) (map unspaced n)
+    (has-within g n h)
+has-within given names (has_one local value {given = g} {names = n} c h) =
+    (inl refl, within-more (unspaced local) (map (λ (a : Attribute). a.name) g) (map unspaced n) (has-within g n h))
 
 -- ---- what is written at an element
 
@@ -98,7 +107,8 @@ module _ (es : List Entry) (chars : AreChars es) (s : Step) (c : Context) where
   cell-attributes [] h = has_none
   cell-attributes (cell ∷ cells) h =
       let w = both (has_chars cell) (list_all has_chars cells) h in
-      has-append (attribute_of_cell es c cell) (local_of cell) (flat_map (attribute_of_cell es c) cells) (flat_map local_of cells) (cell-attribute cell w.0) (cell-attributes cells w.1)
+      has-append (attribute_of_cell es c cell) (local_of cell) (flat_map (attribute_of_cell es c) cells) (flat_map local_of cells) (cell-attribute cell w.0)
+      (cell-attributes cells w.1)
 
   row-currency : (row : Row) → Has (currency_attribute es row) (currency_id ∷ [])
   row-currency row = go (value_in es (currency_term row.written) root_context) (currency-chars es chars (currency_term row.written))
@@ -108,7 +118,10 @@ module _ (es : List Entry) (chars : AreChars es) (s : Step) (c : Context) where
       go (Some value) h = has_one currency_id (spelled value) h has_none
 
   no-currency : (cell : Cell) → is_at_element cell ≡ false → currency_of_cell es s c cell ≡ []
-  no-currency cell h = ap (λ b. elim (b && (shows_currency s cell.row && is_some (row_text cell.row es c))) [ true ↦ currency_attribute es cell.row | false ↦ [] ]) h
+  no-currency cell h = ap (λ b. elim (b && (shows_currency s cell.row && is_some (row_text cell.row es c))) [
+    | true ↦ currency_attribute es cell.row
+    | false ↦ []
+  ]) h
 
   no-currencies : (cells : List Cell) → length (filter is_at_element cells) ≤ 0 → flat_map (currency_of_cell es s c) cells ≡ []
   no-currencies [] h = refl
@@ -132,14 +145,18 @@ module _ (es : List Entry) (chars : AreChars es) (s : Step) (c : Context) where
           → (length (filter is_at_element cells) ≤ 1 → Has (flat_map (currency_of_cell es s c) cells) (currency_id ∷ []))
           → Has (currency_of_cell es s c cell ++ flat_map (currency_of_cell es s c) cells) (currency_id ∷ [])
       go true e k f =
-          subst (λ l. Has (currency_of_cell es s c cell ++ l) (currency_id ∷ [])) (sym (no-currencies cells (let z : suc (length (filter is_at_element cells)) ≤ 1 = k in omega arith)))
-          (has-append (currency_of_cell es s c cell) (currency_id ∷ []) [] [] (shown (is_at_element cell && (shows_currency s cell.row && is_some (row_text cell.row es c)))) has_none)
+          subst (λ l. Has (currency_of_cell es s c cell ++ l) (currency_id ∷ []))
+          (sym (no-currencies cells (let z : suc (length (filter is_at_element cells)) ≤ 1 = k in omega arith)))
+          (has-append (currency_of_cell es s c cell) (currency_id ∷ []) [] []
+          (shown (is_at_element cell && (shows_currency s cell.row && is_some (row_text cell.row es c)))) has_none)
       go false e k f = subst (λ l. Has (l ++ flat_map (currency_of_cell es s c) cells) (currency_id ∷ [])) (sym (no-currency cell e)) (f k)
 
   -- the attributes of an element
-  pub line-attributes : (cells : List Cell) → list_all has_chars cells ≡ true → length (filter is_at_element cells) ≤ 1 → Has (attributes es s cells c) (locals cells)
+  pub line-attributes : (cells : List Cell) → list_all has_chars cells ≡ true → length (filter is_at_element cells) ≤ 1 →
+      Has (attributes es s cells c) (locals cells)
   line-attributes cells h few =
-      has-append (flat_map (currency_of_cell es s c) cells) (currency_id ∷ []) (flat_map (attribute_of_cell es c) cells) (flat_map local_of cells) (one-currency cells few) (cell-attributes cells h)
+      has-append (flat_map (currency_of_cell es s c) cells) (currency_id ∷ []) (flat_map (attribute_of_cell es c) cells) (flat_map local_of cells)
+      (one-currency cells few) (cell-attributes cells h)
 
   cell-text : (cell : Cell) → has_chars cell ≡ true → IsChars (text_of_cell es c cell)
   cell-text cell h = go (is_at_element cell)

@@ -1,5 +1,6 @@
 -- A table of names that holds each name once has no more of them than a list that has them all.
-use Rattle.std.proofs.Common.{◌≡◌, ℕ, ◌+◌, ◌≤◌, Bool, true, false, ◌||◌, List, [], ◌∷◌, ◌++◌, length, inl, inr, refl, ap, sym, ◌∙◌, subst, suc, arith, if◌then◌else◌, bytes_eq, length-append}
+use Rattle.std.proofs.Common.{◌≡◌, ℕ, ◌+◌, ◌≤◌, Bool, true, false, ◌||◌, List, [], ◌∷◌, ◌++◌, length, inl, inr, refl, ap, sym, ◌∙◌, subst, suc, arith}
+use Rattle.std.proofs.Common.{if◌then◌else◌, bytes_eq, length-append}
 use Rattle.std.specs.List.{list_any}
 use Rattle.std.proofs.lemmas.Bool.{false≢true}
 use Rattle.std.proofs.lemmas.Slice.Eq.{bytes_eq-Decides}
@@ -21,7 +22,8 @@ known : (table : List Name) (name : Name) → has table name ≡ true → with_n
 known [] name h = absurd (false≢true h)
 known (n ∷ table) name h = go (same_name n name) h (known table name)
   where
-    go : (b : Bool) → (b || has table name) ≡ true → (has table name ≡ true → with_name table name ≡ table) → (if b then n ∷ table else n ∷ with_name table name) ≡ n ∷ table
+    go : (b : Bool) → (b || has table name) ≡ true → (has table name ≡ true → with_name table name ≡ table) →
+        (if b then n ∷ table else n ∷ with_name table name) ≡ n ∷ table
     go true k f = refl
     go false k f = ap (λ l. n ∷ l) (f k)
 
@@ -29,7 +31,8 @@ new : (table : List Name) (name : Name) → has table name ≡ false → with_na
 new [] name h = refl
 new (n ∷ table) name h = go (same_name n name) h (new table name)
   where
-    go : (b : Bool) → (b || has table name) ≡ false → (has table name ≡ false → with_name table name ≡ table ++ name ∷ []) → (if b then n ∷ table else n ∷ with_name table name) ≡ n ∷ (table ++ name ∷ [])
+    go : (b : Bool) → (b || has table name) ≡ false → (has table name ≡ false → with_name table name ≡ table ++ name ∷ []) →
+        (if b then n ∷ table else n ∷ with_name table name) ≡ n ∷ (table ++ name ∷ [])
     go true k f = absurd (false≢true (sym k))
     go false k f = ap (λ l. n ∷ l) (f k)
 
@@ -41,7 +44,8 @@ has-behind [] last name = or-false (same_name last name)
     or-false false = refl
 has-behind (n ∷ table) last name = go (same_name n name) (has-behind table last name)
   where
-    go : (b : Bool) → has (table ++ last ∷ []) name ≡ (has table name || same_name last name) → (b || has (table ++ last ∷ []) name) ≡ ((b || has table name) || same_name last name)
+    go : (b : Bool) → has (table ++ last ∷ []) name ≡ (has table name || same_name last name) →
+        (b || has (table ++ last ∷ []) name) ≡ ((b || has table name) || same_name last name)
     go true e = refl
     go false e = e
 
@@ -72,10 +76,12 @@ sum-fewer a b c d e f g h = omega arith
 fewer : (table : List Name) (last : Name) (names : List Name) → lacking (table ++ last ∷ []) names ≤ lacking table names
 fewer table last [] = let z : 0 ≤ 0 = omega arith in z
 fewer table last (n ∷ names) =
-    sum-fewer (none_if (has (table ++ last ∷ []) n)) (none_if (has table n || same_name last n)) (none_if (has table n)) (lacking (table ++ last ∷ []) names) (lacking table names)
+    sum-fewer (none_if (has (table ++ last ∷ []) n)) (none_if (has table n || same_name last n)) (none_if (has table n)) (lacking (table ++ last ∷ []) names)
+    (lacking table names)
     (ap none_if (has-behind table last n)) (or-fewer (has table n) (same_name last n)) (fewer table last names)
 
-one-fewer : (table : List Name) (last : Name) (names : List Name) → Among last names → has table last ≡ false → 1 + lacking (table ++ last ∷ []) names ≤ lacking table names
+one-fewer : (table : List Name) (last : Name) (names : List Name) → Among last names → has table last ≡ false →
+    1 + lacking (table ++ last ∷ []) names ≤ lacking table names
 one-fewer table last [] a h = absurd a
 one-fewer table last (n ∷ names) (inl e) h =
     here (none_if (has (table ++ last ∷ []) n)) (none_if (has table n)) (lacking (table ++ last ∷ []) names) (lacking table names)
@@ -85,7 +91,8 @@ one-fewer table last (n ∷ names) (inl e) h =
     here : (a b c d : ℕ) → a ≡ 0 → b ≡ 1 → c ≤ d → 1 + (a + c) ≤ b + d
     here a b c d e f g = omega arith
 one-fewer table last (n ∷ names) (inr a) h =
-    there (none_if (has (table ++ last ∷ []) n)) (none_if (has table n || same_name last n)) (none_if (has table n)) (lacking (table ++ last ∷ []) names) (lacking table names)
+    there (none_if (has (table ++ last ∷ []) n)) (none_if (has table n || same_name last n)) (none_if (has table n)) (lacking (table ++ last ∷ []) names)
+    (lacking table names)
     (ap none_if (has-behind table last n)) (or-fewer (has table n) (same_name last n)) (one-fewer table last names a h)
   where
     there : (a b c d e : ℕ) → a ≡ b → b ≤ c → 1 + d ≤ e → 1 + (a + d) ≤ c + e
@@ -95,7 +102,8 @@ module _ (names : List Name) where
   abbrev Few : List Name → List Name → Type 0
   Few table more = length (with_names table more) ≤ length table + lacking table names
 
-  few-behind : (table : List Name) (n : Name) (more : List Name) → Among n names → ((next : List Name) → Few next more) → length (with_names (with_name table n) more) ≤ length table + lacking table names
+  few-behind : (table : List Name) (n : Name) (more : List Name) → Among n names → ((next : List Name) → Few next more) →
+      length (with_names (with_name table n) more) ≤ length table + lacking table names
   few-behind table n more a further = go (has table n) refl
     where
       more-one : (a b c d e : ℕ) → a ≤ b + c → b ≡ d + 1 → 1 + c ≤ e → a ≤ d + e
@@ -105,7 +113,8 @@ module _ (names : List Name) where
       go true e = subst (λ t. length (with_names t more) ≤ length table + lacking table names) (sym (known table n e)) (further table)
       go false e =
           subst (λ t. length (with_names t more) ≤ length table + lacking table names) (sym (new table n e))
-          (more-one (length (with_names (table ++ n ∷ []) more)) (length (table ++ n ∷ [])) (lacking (table ++ n ∷ []) names) (length table) (lacking table names)
+          (more-one (length (with_names (table ++ n ∷ []) more)) (length (table ++ n ∷ [])) (lacking (table ++ n ∷ []) names) (length table)
+          (lacking table names)
           (further (table ++ n ∷ [])) (length-append table (n ∷ [])) (one-fewer table n names a e))
 
   few : (table more : List Name) → Within more names → Few table more

@@ -1,5 +1,6 @@
 -- An invoice that is read has its number: else the number would be missing, and reading would find that fault.
-use Rattle.std.proofs.Common.{◌≡◌, suc, Bool, true, false, not, ◌||◌, List, [], ◌∷◌, ◌++◌, map, filter, flat_map, length, drop, Option, Some, None, is_some, is_none, option_map, find, Result, Ok, Err, refl, ap, sym, ◌∙◌, subst, arith, if◌then◌else◌}
+use Rattle.std.proofs.Common.{◌≡◌, suc, Bool, true, false, not, ◌||◌, List, [], ◌∷◌, ◌++◌, map, filter, flat_map, length, drop, Option, Some, None, is_some}
+use Rattle.std.proofs.Common.{is_none, option_map, find, Result, Ok, Err, refl, ap, sym, ◌∙◌, subst, arith, if◌then◌else◌}
 use Rattle.std.specs.List.{list_any, AllByRecursion}
 use Rattle.std.proofs.lemmas.Bool.{false≢true}
 use Rattle.inv_base.specs.Tree.{Node}
@@ -28,8 +29,10 @@ use Rattle.bind_meaning.specs.declared.fault.BindKind.{BindKind}
 use Rattle.bind_meaning.specs.declared.fault.BindKind.TheVariants as kinds
 use Rattle.bind_meaning.specs.Currencies.{Currencies, currencies}
 use Rattle.bind_meaning.specs.Seats.{Placed, context_of, whole, each_once, outer_room, inner_room, rooms}
-use Rattle.bind_meaning.specs.Judging.{Found, found, Told, is_of_seat, first_before, is_bad, breaks, Cause, first_cause, causes, place_at, fault_of, faults_behind, wrong_word, missing_place, missing_in, name_of, seat_of, least}
-use Rattle.bind_meaning.specs.Terms.{Read, firsts_behind, entry_of, seat_of_entry, put, listed, entries, told, term_picks, constant_picks, place_all, passed_over, all_faults, terms_of}
+use Rattle.bind_meaning.specs.Judging.{Found, found, Told, is_of_seat, first_before, is_bad, breaks, Cause, first_cause, causes, place_at, fault_of}
+use Rattle.bind_meaning.specs.Judging.{faults_behind, wrong_word, missing_place, missing_in, name_of, seat_of, least}
+use Rattle.bind_meaning.specs.Terms.{Read, firsts_behind, entry_of, seat_of_entry, put, listed, entries, told, term_picks, constant_picks, place_all}
+use Rattle.bind_meaning.specs.Terms.{passed_over, all_faults, terms_of}
 use Rattle.written_laws.specs.Readable.{invoice_number}
 use Rattle.written_laws.proofs.ListLemmas.{both, and-true, or-left, or-right, neither}
 use Rattle.written_laws.proofs.RootLemmas.{first_row, term-is}
@@ -65,7 +68,8 @@ any-filter : {X : Type 0} (p q : X → Bool) (xs : List X) → list_any q (filte
 any-filter p q [] h = h
 any-filter p q (x ∷ xs) h = go (p x) h (any-filter p q xs)
   where
-    go : (b : Bool) → list_any q (if b then x ∷ filter p xs else filter p xs) ≡ true → (list_any q (filter p xs) ≡ true → list_any q xs ≡ true) → (q x || list_any q xs) ≡ true
+    go : (b : Bool) → list_any q (if b then x ∷ filter p xs else filter p xs) ≡ true → (list_any q (filter p xs) ≡ true → list_any q xs ≡ true) →
+        (q x || list_any q xs) ≡ true
     go true k f = or-more (q x) (list_any q (filter p xs)) (list_any q xs) k f
     go false k f = or-right (q x) (list_any q xs) (f k)
 
@@ -125,7 +129,8 @@ module _ (nodes : List Node) where
   unfolding terms
   terms-are = refl
 
-  head-there : (seats : List Seat) (row : TermRow) (rows : List TermRow) → missing_from seats root_context 0 (row ∷ rows) ≡ None → missing_at seats root_context 0 row ≡ None
+  head-there : (seats : List Seat) (row : TermRow) (rows : List TermRow) → missing_from seats root_context 0 (row ∷ rows) ≡ None →
+      missing_at seats root_context 0 row ≡ None
   head-there seats row rows h = go (missing_at seats root_context 0 row) h
     where
       go : (o : Option Name)
@@ -183,7 +188,8 @@ seat-same a t h k = go (same_term a.said.term t.said.term) refl h
     w : (same_term t.said.term invoice_number ≡ true) × (same_context (context_of t.placed) root_context ≡ true)
     w = both (same_term t.said.term invoice_number) (same_context (context_of t.placed) root_context) k
 
-    go : (b : Bool) → same_term a.said.term t.said.term ≡ b → (elim b [ true ↦ same_context (context_of a.placed) (context_of t.placed) | false ↦ false ]) ≡ true → at_number a ≡ true
+    go : (b : Bool) → same_term a.said.term t.said.term ≡ b →
+        (elim b [ true ↦ same_context (context_of a.placed) (context_of t.placed) | false ↦ false ]) ≡ true → at_number a ≡ true
     go true e l =
         and-true (same_term a.said.term invoice_number) (same_context (context_of a.placed) root_context)
         (ap (λ x. same_term x invoice_number) (term-is a.said.term t.said.term e) ∙ w.0) (context-same (context_of a.placed) (context_of t.placed) l w.1)
@@ -193,7 +199,8 @@ found-before : (before : List Told) (t : Told) → is_some (first_before before 
 found-before [] t h k = absurd (false≢true h)
 found-before (a ∷ before) t h k = go (is_of_seat a t) refl h (λ l. found-before before t l k)
   where
-    go : (b : Bool) → is_of_seat a t ≡ b → is_some (elim b [ true ↦ Some a | false ↦ first_before before t ]) ≡ true → (is_some (first_before before t) ≡ true → list_any at_number before ≡ true)
+    go : (b : Bool) → is_of_seat a t ≡ b → is_some (elim b [ true ↦ Some a | false ↦ first_before before t ]) ≡ true →
+        (is_some (first_before before t) ≡ true → list_any at_number before ≡ true)
         → (at_number a || list_any at_number before) ≡ true
     go true e l f = or-left (at_number a) (list_any at_number before) (seat-same a t e k)
     go false e l f = or-right (at_number a) (list_any at_number before) (f l)
@@ -205,12 +212,14 @@ first-kept before (t ∷ ts) h = go (first_before before t) refl (at_number t) r
     go : (o : Option Told) → first_before before t ≡ o → (b : Bool) → at_number t ≡ b → (b || list_any at_number ts) ≡ true
         → (list_any at_number ts ≡ true → (list_any at_number (before ++ (t ∷ [])) || list_any at_number (firsts_behind (before ++ (t ∷ [])) ts)) ≡ true)
         → (list_any at_number ts ≡ true → (list_any at_number before || list_any at_number (firsts_behind before ts)) ≡ true)
-        → (list_any at_number before || list_any at_number (elim o [ None ↦ t ∷ firsts_behind (before ++ (t ∷ [])) ts | Some first ↦ firsts_behind before ts ])) ≡ true
+        → (list_any at_number before || list_any at_number (elim o [ None ↦ t ∷ firsts_behind (before ++ (t ∷ [])) ts | Some first ↦ firsts_behind before ts ]))
+        ≡ true
     go None e true d k f g =
         or-right (list_any at_number before) (at_number t || list_any at_number (firsts_behind (before ++ (t ∷ [])) ts))
         (or-left (at_number t) (list_any at_number (firsts_behind (before ++ (t ∷ [])) ts)) d)
     go None e false d k f g =
-        or-behind (list_any at_number before) (at_number t) (list_any at_number (firsts_behind (before ++ (t ∷ [])) ts)) (list_any at_number (before ++ (t ∷ []))) (any-append at_number before (t ∷ [])) (f k)
+        or-behind (list_any at_number before) (at_number t) (list_any at_number (firsts_behind (before ++ (t ∷ [])) ts))
+        (list_any at_number (before ++ (t ∷ []))) (any-append at_number before (t ∷ [])) (f k)
     go (Some first) e true d k f g = or-left (list_any at_number before) (list_any at_number (firsts_behind before ts)) (found-before before t (ap is_some e) d)
     go (Some first) e false d k f g = g k
 
@@ -223,12 +232,15 @@ firsts-values before (t ∷ ts) h = go (first_before before t) (firsts-values (b
     go None f g = (h.0, f)
     go (Some first) f g = g
 
-entry-there : (ts : List Told) → AllByRecursion HasValue ts → list_any at_number ts ≡ true → list_any (is_at invoice_number root_context) (flat_map entry_of ts) ≡ true
+entry-there : (ts : List Told) → AllByRecursion HasValue ts → list_any at_number ts ≡ true →
+    list_any (is_at invoice_number root_context) (flat_map entry_of ts) ≡ true
 entry-there [] v h = h
 entry-there (t ∷ ts) v h = go t.said.value v.0 (entry-there ts v.1)
   where
     go : (o : Option Value) → is_some o ≡ true → (list_any at_number ts ≡ true → list_any (is_at invoice_number root_context) (flat_map entry_of ts) ≡ true)
-        → list_any (is_at invoice_number root_context) ((elim o [ None ↦ [] | Some value ↦ record { context = context_of t.placed; term = t.said.term; value = value } ∷ [] ]) ++ flat_map entry_of ts) ≡ true
+        → list_any (is_at invoice_number root_context)
+        ((elim o [ None ↦ [] | Some value ↦ record { context = context_of t.placed; term = t.said.term; value = value } ∷ [] ]) ++
+        flat_map entry_of ts) ≡ true
     go None k f = absurd (false≢true k)
     go (Some value) k f = or-more (at_number t) (list_any at_number ts) (list_any (is_at invoice_number root_context) (flat_map entry_of ts)) h f
 
@@ -236,7 +248,8 @@ any-put : (q : Entry → Bool) (e : Entry) (es : List Entry) → (q e || list_an
 any-put q e [] h = h
 any-put q e (other ∷ es) h = go (comes_before (seat_of_entry e) (seat_of_entry other)) (any-put q e es)
   where
-    go : (b : Bool) → ((q e || list_any q es) ≡ true → list_any q (put e es) ≡ true) → list_any q (elim b [ true ↦ e ∷ (other ∷ es) | false ↦ other ∷ put e es ]) ≡ true
+    go : (b : Bool) → ((q e || list_any q es) ≡ true → list_any q (put e es) ≡ true) →
+        list_any q (elim b [ true ↦ e ∷ (other ∷ es) | false ↦ other ∷ put e es ]) ≡ true
     go true f = h
     go false f = or-past (q e) (q other) (list_any q es) (list_any q (put e es)) h f
 
@@ -259,20 +272,24 @@ abbrev read_entries : Result Read BindFault → List Entry
 read_entries (Ok read) = read.entries
 read_entries (Err fault) = []
 
-placed-number : (nodes : List Node) (lists : Lists) (c : Currencies) (rows : List Row) (ps : List Placed) → all_faults nodes lists c rows ps ≡ [] → is_some (value_in (entries (told nodes ps)) invoice_number root_context) ≡ true
+placed-number : (nodes : List Node) (lists : Lists) (c : Currencies) (rows : List Row) (ps : List Placed) → all_faults nodes lists c rows ps ≡ [] →
+    is_some (value_in (entries (told nodes ps)) invoice_number root_context) ≡ true
 placed-number nodes lists c rows ps h =
     let ts = told nodes ps in
     let seats = map seat_of ts in
     let others = flat_map (missing_in nodes seats) (each_once (flat_map (λ p. outer_room p ++ inner_room p) ps)) in
-    let a = none-of-both (faults_behind nodes lists c [] ts) (flat_map (wrong_word nodes) (constant_picks nodes rows) ++ flat_map (missing_in nodes seats) (rooms ps)) h in
+    let a = none-of-both (faults_behind nodes lists c [] ts) (flat_map (wrong_word nodes) (constant_picks nodes rows) ++
+    flat_map (missing_in nodes seats) (rooms ps)) h in
     let b = none-of-both (flat_map (wrong_word nodes) (constant_picks nodes rows)) (flat_map (missing_in nodes seats) (rooms ps)) a.1 in
     let d = none-of-both (missing_in nodes seats whole) others b.1 in
     let there : list_any at_number ts ≡ true = sym (any-map seat_of (lacking.is_at root_context invoice_number) ts) ∙ number-told nodes seats d.0 in
     let values = told-values nodes lists c [] ts a.0 in
     value-found (entries ts) invoice_number root_context
-    (any-listed (is_at invoice_number root_context) (flat_map entry_of (firsts_behind [] ts)) (entry-there (firsts_behind [] ts) (firsts-values [] ts values) (first-kept [] ts there)))
+    (any-listed (is_at invoice_number root_context) (flat_map entry_of (firsts_behind [] ts))
+    (entry-there (firsts_behind [] ts) (firsts-values [] ts values) (first-kept [] ts there)))
 
-number-placed : (nodes : List Node) (lists : Lists) (c : Currencies) (rows : List Row) (ps : List Placed) (read : Read) (o : Option Found) → least (all_faults nodes lists c rows ps) ≡ o
+number-placed : (nodes : List Node) (lists : Lists) (c : Currencies) (rows : List Row) (ps : List Placed) (read : Read) (o : Option Found) →
+    least (all_faults nodes lists c rows ps) ≡ o
     → ◌≡◌ {A = Result Read BindFault} (elim o [
       | Some first ↦ Err first.fault
       | None ↦ Ok (record { entries = entries (told nodes ps); passed_over = passed_over nodes rows })
@@ -283,7 +300,8 @@ number-placed nodes lists c rows ps read None e k =
     subst (λ es. is_some (value_in es invoice_number root_context) ≡ true) (ap read_entries k)
     (placed-number nodes lists c rows ps (no-least (all_faults nodes lists c rows ps) e))
 
-pub number-read : (nodes : List Node) (rows : List Row) (lists : Lists) (read : Read) → terms_of nodes rows lists ≡ Ok read → is_some (value_in read.entries invoice_number root_context) ≡ true
+pub number-read : (nodes : List Node) (rows : List Row) (lists : Lists) (read : Read) → terms_of nodes rows lists ≡ Ok read →
+    is_some (value_in read.entries invoice_number root_context) ≡ true
 unfolding terms_of
 number-read nodes rows lists read h =
     let c = currencies nodes rows in

@@ -32,24 +32,34 @@ pub record Laws : Type 0 where
       → HasNodesOf (record { nodes = (built events).nodes; names = names }) tree
 
 -- The document can be written within the limits.
-pub writable : SpelledBack → (limits : Limits) (rows : List Row) (es : List Entry) → IsInvoice es → is_readable limits rows ≡ true → holds es (plan_of rows) root_context ≡ true → IsSmall limits rows es
+pub writable : SpelledBack → (limits : Limits) (rows : List Row) (es : List Entry) → IsInvoice es → is_readable limits rows ≡ true →
+    holds es (plan_of rows) root_context ≡ true → IsSmall limits rows es
     → IsWritable limits (declarations_for rows) (document_of rows es)
 unfolding document_of document_text
 writable back limits rows es invoice readable there small =
-    document-writable limits (declarations_for rows) es (invoice-chars back es invoice) (plan_of rows) readable there (record { bytes = small.bytes; tags = small.tags; nodes = small.nodes })
+    document-writable limits (declarations_for rows) es (invoice-chars back es invoice) (plan_of rows) readable there
+    (record { bytes = small.bytes; tags = small.tags; nodes = small.nodes })
 
 -- Its text is XML of exactly that tree.
-pub written-xml : SpelledBack → ((limits : Limits) (declarations : List Declaration) (tree : Forest) → IsWritable limits declarations tree → IsXml limits (encode_utf8_all (canonical_text declarations tree)) tree)
-    → (limits : Limits) (rows : List Row) (es : List Entry) → IsInvoice es → is_readable limits rows ≡ true → holds es (plan_of rows) root_context ≡ true → IsSmall limits rows es
+pub written-xml : SpelledBack → ((limits : Limits) (declarations : List Declaration) (tree : Forest) → IsWritable limits declarations tree →
+    IsXml limits (encode_utf8_all (canonical_text declarations tree)) tree)
+    → (limits : Limits) (rows : List Row) (es : List Entry) → IsInvoice es → is_readable limits rows ≡ true → holds es (plan_of rows) root_context ≡ true →
+    IsSmall limits rows es
     → IsXml limits (encode_utf8_all (document_text rows es)) (document_of rows es)
 unfolding document_text
 written-xml spelled canonical limits rows es invoice readable there small =
     canonical limits (declarations_for rows) (document_of rows es) (writable spelled limits rows es invoice readable there small)
 
-pub read-back : Laws → (limits : Limits) (rows : List Row) (es : List Entry) → IsInvoice es → is_readable limits rows ≡ true → holds es (plan_of rows) root_context ≡ true → IsSmall limits rows es
+pub read-back : Laws → (limits : Limits) (rows : List Row) (es : List Entry) → IsInvoice es → is_readable limits rows ≡ true →
+    holds es (plan_of rows) root_context ≡ true → IsSmall limits rows es
     → IsReadBack limits rows es
 unfolding document_text
 read-back laws limits rows es invoice readable there small =
     let x = laws.canonical limits (declarations_for rows) (document_of rows es) (writable laws.spelled limits rows es invoice readable there small) in
     let t = laws.told limits (encode_utf8_all (canonical_text (declarations_for rows) (document_of rows es))) x.found x.is in
-    record { found = x.found; is = x.is; nodes = laws.nodes x.found.names (tree_of x.found) x.found.events t.document t.tells ∙ ap document_nodes (sym x.tells) }
+    record {
+      found = x.found;
+      is = x.is;
+      nodes = laws.nodes x.found.names (tree_of x.found) x.found.events t.document t.tells ∙
+          ap document_nodes (sym x.tells);
+    }

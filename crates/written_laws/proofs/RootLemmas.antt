@@ -1,6 +1,7 @@
 -- The root of an invoice's document: where some line holds an entry, the document is that one element. So it is where a
 -- term stands that a row outside all groups always writes.
-use Rattle.std.proofs.Common.{◌≡◌, ℕ, zero, suc, ◌<◌, Bool, true, false, ◌&&◌, ◌||◌, List, [], ◌∷◌, length, Contains, slice_index_or, Option, Some, None, is_some, is_none, option_map, option_and_then, find, refl, ap, sym, ◌∙◌, arith, if◌then◌else◌, inl, lit<}
+use Rattle.std.proofs.Common.{◌≡◌, ℕ, zero, suc, ◌<◌, Bool, true, false, ◌&&◌, ◌||◌, List, [], ◌∷◌, length, Contains, slice_index_or, Option, Some, None}
+use Rattle.std.proofs.Common.{is_some, is_none, option_map, option_and_then, find, refl, ap, sym, ◌∙◌, arith, if◌then◌else◌, inl, lit<}
 use Rattle.std.specs.Prelude.{◌==◌, not}
 use Rattle.std.specs.List.{list_any}
 use Rattle.std.proofs.lemmas.Bool.{false≢true}
@@ -32,7 +33,8 @@ use Rattle.bind_table.specs.Lines.{Cell, Plan, nothing, a_line}
 use Rattle.bind_meaning.specs.Values.{form_for}
 use Rattle.bind_meaning.specs.Picks.{term_in, has_term}
 use Rattle.bind_meaning.specs.Writing.{slot_for, context_for, formed, if_due, filled, has_slots, of_form, value_for, term_text, writes_entry}
-use Rattle.bind_meaning.specs.Trees.{spots, either, cells_hold, holds, name_of, attributes, element_text, with_text, line_holds, is_due, is_emitted, holds_further, elements, written_lines}
+use Rattle.bind_meaning.specs.Trees.{spots, either, cells_hold, holds, name_of, attributes, element_text, with_text, line_holds, is_due, is_emitted}
+use Rattle.bind_meaning.specs.Trees.{holds_further, elements, written_lines}
 use Rattle.written_laws.specs.Readable.{is_one_root, is_always, always_writes, shows, invoice_number}
 use Rattle.written_laws.proofs.ListLemmas.{both, and-true, or-left, or-right}
 
@@ -59,7 +61,8 @@ module _ (es : List Entry) where
   alone-holds true h = refl
   alone-holds false h = h
 
-  root-holds : (s : Step) (cells : List Cell) (inside : Plan) → s.group ≡ None → holds es (a_line s cells inside nothing) root_context ≡ true → line_holds es cells inside root_context ≡ true
+  root-holds : (s : Step) (cells : List Cell) (inside : Plan) → s.group ≡ None → holds es (a_line s cells inside nothing) root_context ≡ true →
+      line_holds es cells inside root_context ≡ true
   root-holds s cells inside e h =
       alone-holds (line_holds es cells inside root_context)
       (sym (ap (λ g. either (list_any (λ d. either (cells_hold es cells d) (λ _. holds es inside d)) (spots es root_context g)) (λ _. false)) e) ∙ h)
@@ -67,10 +70,13 @@ module _ (es : List Entry) where
   -- the document is the root, with what is inside it
   pub root-written : (s : Step) (cells : List Cell) (inside : Plan) → s.group ≡ None → holds es (a_line s cells inside nothing) root_context ≡ true
       → written_lines es (a_line s cells inside nothing) false root_context
-      ≡ an_element (name_of s.name) (attributes es s cells root_context) (with_text (element_text es cells root_context) (written_lines es inside (holds_further es cells inside false root_context) root_context)) no_more
+      ≡ an_element (name_of s.name) (attributes es s cells root_context)
+      (with_text (element_text es cells root_context) (written_lines es inside (holds_further es cells inside false root_context) root_context)) no_more
   root-written s cells inside e h =
-      let make : Context → Forest → Forest = λ d. an_element (name_of s.name) (attributes es s cells d) (with_text (element_text es cells d) (written_lines es inside (holds_further es cells inside false d) d)) in
-      let there : is_emitted es s cells inside false root_context ≡ true = ap (λ b. either b (λ _. s.always || is_due false cells inside)) (root-holds s cells inside e h) in
+      let make : Context → Forest → Forest = λ d. an_element (name_of s.name) (attributes es s cells d)
+      (with_text (element_text es cells d) (written_lines es inside (holds_further es cells inside false d) d)) in
+      let there : is_emitted es s cells inside false root_context ≡ true =
+      ap (λ b. either b (λ _. s.always || is_due false cells inside)) (root-holds s cells inside e h) in
       ap (λ g. elements (is_emitted es s cells inside false) make (spots es root_context g) no_more) e
       ∙ ap (λ b. elim b [ true ↦ make root_context no_more | false ↦ no_more ]) there
 
@@ -89,7 +95,8 @@ term-is a b h =
     let q = number-is a.part b.part w.1 in
     λ i. record { number = p i; part = q i }
 
-always-due : (es : List Entry) (rule : Written) (term : Term) (c : Context) (text : List ℕ) → is_always rule ≡ true → is_some (if_due rule es term c text) ≡ true
+always-due : (es : List Entry) (rule : Written) (term : Term) (c : Context) (text : List ℕ) → is_always rule ≡ true →
+    is_some (if_due rule es term c text) ≡ true
 always-due es written.Always term c text h = refl
 always-due es written.Never term c text h = absurd (false≢true h)
 always-due es written.IfIban term c text h = absurd (false≢true h)
@@ -115,7 +122,14 @@ module _ (es : List Entry) (term : Term) (stands : is_some (value_in es term roo
   -- the row takes what stands
   value-taken : (row : Row) → is_typed (form_for row.form term) ≡ false → is_some (value_for row es term root_context) ≡ true
   value-taken row h =
-      ap (λ b. is_some (elim b [ true ↦ elim (has_slots row root_context) [ true ↦ option_and_then (of_form (form_for row.form term)) (value_in es term root_context) | false ↦ None ] | false ↦ value_in es term root_context ])) h
+      ap (λ b. is_some (elim b [
+        | true ↦ elim (has_slots row root_context) [
+          | true ↦ option_and_then (of_form (form_for row.form term))
+              (value_in es term root_context)
+          | false ↦ None
+        ]
+        | false ↦ value_in es term root_context
+      ])) h
       ∙ stands
 
   text-there : (row : Row) → is_always row.written ≡ true → is_typed (form_for row.form term) ≡ false → is_some (term_text row es term root_context) ≡ true
@@ -130,7 +144,8 @@ module _ (es : List Entry) (term : Term) (stands : is_some (value_in es term roo
       go None k = absurd (false≢true k)
       go (Some value) k = always-due es row.written term root_context (formed (form_for row.form term) es root_context value) h
 
-  row-there : (row : Row) → is_always row.written ≡ true → has_term term row ≡ true → is_typed (form_for row.form term) ≡ false → writes_entry row es root_context ≡ true
+  row-there : (row : Row) → is_always row.written ≡ true → has_term term row ≡ true → is_typed (form_for row.form term) ≡ false →
+      writes_entry row es root_context ≡ true
   row-there row h k f = go row.content k
     where
       go : (content : Content) → (elim (term_in content) [ None ↦ false | Some t ↦ same_term t term ]) ≡ true
@@ -144,7 +159,8 @@ module _ (es : List Entry) (term : Term) (stands : is_some (value_in es term roo
   cells-there [] h = h
   cells-there (cell ∷ cells) h = go (always_writes term cell) refl h (cells-there cells)
     where
-      go : (b : Bool) → always_writes term cell ≡ b → (b || list_any (always_writes term) cells) ≡ true → (list_any (always_writes term) cells ≡ true → cells_hold es cells root_context ≡ true)
+      go : (b : Bool) → always_writes term cell ≡ b → (b || list_any (always_writes term) cells) ≡ true →
+          (list_any (always_writes term) cells ≡ true → cells_hold es cells root_context ≡ true)
           → (writes_entry cell.row es root_context || cells_hold es cells root_context) ≡ true
       go true e k f =
           let typed = is_typed (form_for cell.row.form term) in
@@ -166,21 +182,25 @@ module _ (es : List Entry) (term : Term) (stands : is_some (value_in es term roo
   lines-hold (a_line s cells inside rest) h =
       go (is_none s.group && (list_any (always_writes term) cells || shows term inside)) refl h (lines-hold inside) (lines-hold rest)
     where
-      here : (b : Bool) → list_any (always_writes term) cells ≡ b → (b || shows term inside) ≡ true → (shows term inside ≡ true → holds es inside root_context ≡ true) → line_holds es cells inside root_context ≡ true
+      here : (b : Bool) → list_any (always_writes term) cells ≡ b → (b || shows term inside) ≡ true →
+          (shows term inside ≡ true → holds es inside root_context ≡ true) → line_holds es cells inside root_context ≡ true
       here true e k f = either-left (cells_hold es cells root_context) (λ _. holds es inside root_context) (cells-there cells e)
       here false e k f = either-right (cells_hold es cells root_context) (λ _. holds es inside root_context) (f k)
 
       go : (b : Bool) → (is_none s.group && (list_any (always_writes term) cells || shows term inside)) ≡ b → (b || shows term rest) ≡ true
           → (shows term inside ≡ true → holds es inside root_context ≡ true) → (shows term rest ≡ true → holds es rest root_context ≡ true)
-          → either (list_any (λ d. either (cells_hold es cells d) (λ _. holds es inside d)) (spots es root_context s.group)) (λ _. holds es rest root_context) ≡ true
+          → either (list_any (λ d. either (cells_hold es cells d) (λ _. holds es inside d)) (spots es root_context s.group))
+          (λ _. holds es rest root_context) ≡ true
       go true e k f g =
           let w = both (is_none s.group) (list_any (always_writes term) cells || shows term inside) e in
           let l = here (list_any (always_writes term) cells) refl w.1 f in
-          either-left (list_any (λ d. either (cells_hold es cells d) (λ _. holds es inside d)) (spots es root_context s.group)) (λ _. holds es rest root_context)
+          either-left (list_any (λ d. either (cells_hold es cells d) (λ _. holds es inside d)) (spots es root_context s.group))
+          (λ _. holds es rest root_context)
           (ap (λ o. list_any (λ d. either (cells_hold es cells d) (λ _. holds es inside d)) (spots es root_context o)) (none-there s.group w.0)
           ∙ or-left (line_holds es cells inside root_context) false l)
       go false e k f g =
-          either-right (list_any (λ d. either (cells_hold es cells d) (λ _. holds es inside d)) (spots es root_context s.group)) (λ _. holds es rest root_context) (g k)
+          either-right (list_any (λ d. either (cells_hold es cells d) (λ _. holds es inside d)) (spots es root_context s.group))
+          (λ _. holds es rest root_context) (g k)
 
 -- ---- the number of an invoice stands in a valid one
 
@@ -198,16 +218,19 @@ is-found term e h k = go
     same = and-true (term.number == term.number) (term.part == term.part) (number-itself term.number) (number-itself term.part)
 
     go : is_at term root_context e ≡ true
-    go = ap (λ x. is_at term root_context (record e { term = x })) h ∙ (ap (λ x. is_at term root_context (record { context = x; term = term; value = e.value })) k ∙ and-true (same_term term term) true same refl)
+    go = ap (λ x. is_at term root_context (record e { term = x })) h ∙
+        (ap (λ x. is_at term root_context (record { context = x; term = term; value = e.value })) k ∙ and-true (same_term term term) true same refl)
 
-value-there : (es : List Entry) (term : Term) (e : Entry) → e.term ≡ term → e.context ≡ root_context → (k : ℕ) → k < length es → slice_index_or es k e ≡ e → is_some (value_in es term root_context) ≡ true
+value-there : (es : List Entry) (term : Term) (e : Entry) → e.term ≡ term → e.context ≡ root_context → (k : ℕ) → k < length es → slice_index_or es k e ≡ e →
+    is_some (value_in es term root_context) ≡ true
 value-there [] term e h c k l is = absurd (omega arith)
 value-there (x ∷ es) term e h c zero l is =
     ap (λ b. is_some (option_map (λ (e : Entry). e.value) (if b then Some x else find (is_at term root_context) es)))
     (is-found term x (ap (λ (y : Entry). y.term) is ∙ h) (ap (λ (y : Entry). y.context) is ∙ c))
 value-there (x ∷ es) term e h c (suc k) l is = go (is_at term root_context x) (value-there es term e h c k (omega arith) is)
   where
-    go : (b : Bool) → is_some (value_in es term root_context) ≡ true → is_some (option_map (λ (e : Entry). e.value) (if b then Some x else find (is_at term root_context) es)) ≡ true
+    go : (b : Bool) → is_some (value_in es term root_context) ≡ true →
+        is_some (option_map (λ (e : Entry). e.value) (if b then Some x else find (is_at term root_context) es)) ≡ true
     go true m = refl
     go false m = m
 

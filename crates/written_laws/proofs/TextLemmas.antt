@@ -29,12 +29,14 @@ use Rattle.written_laws.proofs.Rows.{all-readable}
 -- ---- documents
 
 module _ (spelled : SpelledBack)
-    (canonical : (limits : Limits) (declarations : List Declaration) (tree : Forest) → IsWritable limits declarations tree → IsXml limits (encode_utf8_all (canonical_text declarations tree)) tree)
+    (canonical : (limits : Limits) (declarations : List Declaration) (tree : Forest) → IsWritable limits declarations tree →
+    IsXml limits (encode_utf8_all (canonical_text declarations tree)) tree)
   where
     pub table-xml : (table : Which) (es : List Entry) → IsInvoice es → holds_any (rows_of table) es ≡ true → carrying (rows_of table) es ≡ Ok tt
         → IsXml reading_limits (encode_utf8_all (document_text (rows_of table) es)) (document_of (rows_of table) es)
     table-xml table es invoice there by =
-        written-xml spelled canonical reading_limits (rows_of table) es invoice (all-readable table) there (small (rows_of table) es (carried (rows_of table) es by))
+        written-xml spelled canonical reading_limits (rows_of table) es invoice (all-readable table) there
+        (small (rows_of table) es (carried (rows_of table) es by))
 
     pub valid-xml : (table : Which) (es : List Entry) (lists : Lists) → IsInvoice es → IsValid es lists → carrying (rows_of table) es ≡ Ok tt
         → IsXml reading_limits (encode_utf8_all (document_text (rows_of table) es)) (document_of (rows_of table) es)
@@ -57,7 +59,8 @@ module _ (laws : Laws)
         let back = valid-read laws table es lists invoice valid by in
         record { found = back.found; is = back.is; invoice = back.invoice ∙ read_exactly table es lists invoice valid (meets (rows_of table) es by) }
 
-    pub syntax-round : (syntax : Syntax) (es : List Entry) (lists : Lists) → IsInvoice es → IsValid es lists → IsCarriedBy syntax es → AreReadAs (text_in syntax es) lists (exactly es)
+    pub syntax-round : (syntax : Syntax) (es : List Entry) (lists : Lists) → IsInvoice es → IsValid es lists → IsCarriedBy syntax es →
+        AreReadAs (text_in syntax es) lists (exactly es)
     syntax-round syntax es lists invoice valid by = table-round (target es syntax) es lists invoice valid by
 
 -- ---- conversions
@@ -68,12 +71,17 @@ pub read-converted : (syntax : Syntax) (lists : Lists) (bytes : List ℕ) (read 
 read-converted syntax lists bytes read is by =
     ap (if_document syntax lists) is.is ∙ (ap (if_invoice syntax) is.invoice ∙ ap (if_carried (text_in syntax read.entries)) by)
 
-module _ (round : (syntax : Syntax) (es : List Entry) (lists : Lists) → IsInvoice es → IsValid es lists → IsCarriedBy syntax es → AreReadAs (text_in syntax es) lists (exactly es)) where
-  pub converted-there : (first second : Syntax) (es : List Entry) (lists : Lists) → IsInvoice es → IsValid es lists → IsCarriedBy first es → IsCarriedBy second es
+module _ (round : (syntax : Syntax) (es : List Entry) (lists : Lists) → IsInvoice es → IsValid es lists → IsCarriedBy syntax es →
+    AreReadAs (text_in syntax es) lists (exactly es)) where
+  pub converted-there : (first second : Syntax) (es : List Entry) (lists : Lists) → IsInvoice es → IsValid es lists → IsCarriedBy first es →
+      IsCarriedBy second es
       → conversion second lists (text_in first es) ≡ Some (text_in second es)
-  converted-there first second es lists invoice valid by too = read-converted second lists (text_in first es) (exactly es) (round first es lists invoice valid by) too
+  converted-there first second es lists invoice valid by too =
+      read-converted second lists (text_in first es) (exactly es) (round first es lists invoice valid by) too
 
-  pub converted-back : (first second : Syntax) (es : List Entry) (lists : Lists) → IsInvoice es → IsValid es lists → IsCarriedBy first es → IsCarriedBy second es
+  pub converted-back : (first second : Syntax) (es : List Entry) (lists : Lists) → IsInvoice es → IsValid es lists → IsCarriedBy first es →
+      IsCarriedBy second es
       → option_and_then (conversion first lists) (conversion second lists (text_in first es)) ≡ Some (text_in first es)
   converted-back first second es lists invoice valid by too =
-      ap (option_and_then (conversion first lists)) (converted-there first second es lists invoice valid by too) ∙ converted-there second first es lists invoice valid too by
+      ap (option_and_then (conversion first lists)) (converted-there first second es lists invoice valid by too) ∙
+      converted-there second first es lists invoice valid too by

@@ -1,5 +1,6 @@
 -- The tree that lines write: its elements, texts, names and levels, whatever the invoice is.
-use Rattle.std.proofs.Common.{◌≡◌, ℕ, ◌+◌, ◌≤◌, Bool, true, false, not, ◌&&◌, List, [], ◌∷◌, ◌++◌, map, filter, length, max, inl, inr, refl, ap, subst, suc, arith, nat_le}
+use Rattle.std.proofs.Common.{◌≡◌, ℕ, ◌+◌, ◌≤◌, Bool, true, false, not, ◌&&◌, List, [], ◌∷◌, ◌++◌, map, filter, length, max, inl, inr, refl, ap, subst, suc}
+use Rattle.std.proofs.Common.{arith, nat_le}
 use Rattle.std.specs.Prelude.{bytes_eq, ◌==◌}
 use Rattle.std.specs.List.{list_all}
 use Rattle.inv_base.specs.Characters.{is_char}
@@ -15,7 +16,8 @@ use Rattle.bind_rows.specs.declared.rows.Step.{Step}
 use Rattle.bind_table.specs.Lines.{Cell, Plan, nothing, a_line}
 use Rattle.bind_meaning.specs.Trees.{spots, name_of, is_at_element, attributes, element_text, with_text, is_emitted, holds_further, elements, written_lines}
 use Rattle.written_laws.specs.Readable.{levels, locals, unspaced, names_of, has_chars, all_lines, is_fine_local, is_fine_line}
-use Rattle.written_laws.proofs.ListLemmas.{both, and-true, not-true, at-most, Among, Within, each-append, each-weaker, other-than-none, up, left-below, right-below}
+use Rattle.written_laws.proofs.ListLemmas.{both, and-true, not-true, at-most, Among, Within, each-append, each-weaker, other-than-none, up, left-below}
+use Rattle.written_laws.proofs.ListLemmas.{right-below}
 use Rattle.written_laws.proofs.ValueLemmas.{IsChars, AreChars}
 use Rattle.written_laws.proofs.LineLemmas.{Has, has-few, has-all, has-apart, has-within, line-attributes, line-text}
 
@@ -37,7 +39,8 @@ Elements P no_more = Unit {0}
 Elements P (a_text characters rest) = Elements P rest
 Elements P (an_element name given inside rest) = P name given × Elements P inside × Elements P rest
 
-pub elements-pass : (P : Name → List Attribute → Type 0) (test : Name → List Attribute → Bool) → ((name : Name) (given : List Attribute) → P name given → test name given ≡ true)
+pub elements-pass : (P : Name → List Attribute → Type 0) (test : Name → List Attribute → Bool) →
+    ((name : Name) (given : List Attribute) → P name given → test name given ≡ true)
     → (f : Forest) → Elements P f → all_elements test f ≡ true
 elements-pass P test h no_more k = refl
 elements-pass P test h (a_text characters rest) k = elements-pass P test h rest k
@@ -87,7 +90,10 @@ module _ (limits : Limits) (declarations : List Declaration) (names : List Name)
   Alone deep f = StandsAlone limits declarations names deep f
 
   nothing-alone : (deep : ℕ) → Alone deep no_more
-  nothing-alone deep = record { written = record { elements = tt; texts = refl; joined = refl; levels_are = let z : 0 ≤ deep = omega arith in z; named = tt }; begins = refl }
+  nothing-alone deep = record {
+    written = record { elements = tt; texts = refl; joined = refl; levels_are = let z : 0 ≤ deep = omega arith in z; named = tt };
+    begins = refl;
+  }
 
   deeper : (low deep : ℕ) (f : Forest) → low ≤ deep → Alone low f → Alone deep f
   deeper low deep f e k =
@@ -104,13 +110,16 @@ module _ (limits : Limits) (declarations : List Declaration) (names : List Name)
       record {
         elements = w.elements;
         texts = and-true (list_all is_char (c ∷ text)) (all_texts (list_all is_char) f) h w.texts;
-        joined = and-true (not (length (c ∷ text) == 0)) (not (begins_with_text f) && is_joined f) (ap not (other-than-none (length (c ∷ text)) (let z : 1 ≤ suc (length text) = omega arith in z))) (and-true (not (begins_with_text f)) (is_joined f) (ap not k.begins) w.joined);
+        joined = and-true (not (length (c ∷ text) == 0)) (not (begins_with_text f) && is_joined f)
+            (ap not (other-than-none (length (c ∷ text)) (let z : 1 ≤ suc (length text) = omega arith in z)))
+            (and-true (not (begins_with_text f)) (is_joined f) (ap not k.begins) w.joined);
         levels_are = w.levels_are;
         named = w.named;
       }
 
   element-written : (low deep : ℕ) (name : Name) (given : List Attribute) (inside rest : Forest) → IsFine limits declarations name given → Among name names
-      → Within (map (λ (a : Attribute). a.name) given) names → IsWritten limits declarations names low inside → 1 + low ≤ deep → Alone deep rest → Alone deep (an_element name given inside rest)
+      → Within (map (λ (a : Attribute). a.name) given) names → IsWritten limits declarations names low inside → 1 + low ≤ deep → Alone deep rest →
+      Alone deep (an_element name given inside rest)
   element-written low deep name given inside rest fine among within w e k =
       let r = k.written in
       record {
@@ -131,12 +140,14 @@ module _ (limits : Limits) (declarations : List Declaration) (names : List Name)
       higher : (a b low deep : ℕ) → a ≤ low → 1 + low ≤ deep → b ≤ deep → max (1 + a) b ≤ deep
       higher a b low deep h k l = omega arith
 
-  all-elements : (deep : ℕ) (is_there : Context → Bool) (make : Context → Forest → Forest) (cs : List Context) (rest : Forest) → ((c : Context) (f : Forest) → Alone deep f → Alone deep (make c f))
+  all-elements : (deep : ℕ) (is_there : Context → Bool) (make : Context → Forest → Forest) (cs : List Context) (rest : Forest) →
+      ((c : Context) (f : Forest) → Alone deep f → Alone deep (make c f))
       → Alone deep rest → Alone deep (elements is_there make cs rest)
   all-elements deep is_there make [] rest h k = k
   all-elements deep is_there make (c ∷ cs) rest h k = go (is_there c) (all-elements deep is_there make cs rest h k)
     where
-      go : (b : Bool) → Alone deep (elements is_there make cs rest) → Alone deep (elim b [ true ↦ make c (elements is_there make cs rest) | false ↦ elements is_there make cs rest ])
+      go : (b : Bool) → Alone deep (elements is_there make cs rest) →
+          Alone deep (elim b [ true ↦ make c (elements is_there make cs rest) | false ↦ elements is_there make cs rest ])
       go true l = h c (elements is_there make cs rest) l
       go false l = l
 
@@ -167,18 +178,22 @@ module _ (limits : Limits) (declarations : List Declaration) (names : List Name)
         words = f.1;
       }
 
-  fine-element : (s : Step) (cells : List Cell) → IsFineLine limits declarations s cells → (given : List Attribute) → Has given (locals cells) → IsFine limits declarations (name_of s.name) given
+  fine-element : (s : Step) (cells : List Cell) → IsFineLine limits declarations s cells → (given : List Attribute) → Has given (locals cells) →
+      IsFine limits declarations (name_of s.name) given
   fine-element s cells line given has =
       record {
         named = line.named;
         all_named = has-all (is_fine_local limits declarations) (λ (a : Attribute). is_attribute_name declarations a.name)
-            (λ local value c k. (both (is_attribute_name declarations (unspaced local)) (is_short limits (attribute_name declarations (unspaced local))) k).0) given (locals cells) line.all_fine has;
+            (λ local value c k. (both (is_attribute_name declarations (unspaced local)) (is_short limits (attribute_name declarations (unspaced local))) k).0)
+            given (locals cells) line.all_fine has;
         apart = has-apart given (locals cells) line.apart has;
-        values = has-all (is_fine_local limits declarations) (λ (a : Attribute). list_all is_char a.value) (λ local value c k. c) given (locals cells) line.all_fine has;
+        values = has-all (is_fine_local limits declarations) (λ (a : Attribute). list_all is_char a.value) (λ local value c k. c) given
+            (locals cells) line.all_fine has;
         few = fewer (length declarations) (length given) (length (locals cells)) limits.attributes (has-few given (locals cells) has) line.few;
         short = line.short;
         all_short = has-all (is_fine_local limits declarations) (λ (a : Attribute). is_short limits (attribute_name declarations a.name))
-            (λ local value c k. (both (is_attribute_name declarations (unspaced local)) (is_short limits (attribute_name declarations (unspaced local))) k).1) given (locals cells) line.all_fine has;
+            (λ local value c k. (both (is_attribute_name declarations (unspaced local)) (is_short limits (attribute_name declarations (unspaced local))) k).1)
+            given (locals cells) line.all_fine has;
       }
     where
       fewer : (a b c most : ℕ) → b ≤ c → a + c ≤ most → a + b ≤ most
@@ -187,18 +202,23 @@ module _ (limits : Limits) (declarations : List Declaration) (names : List Name)
   -- ---- what lines write
 
   module _ (es : List Entry) (chars : AreChars es) where
-    line-element : (s : Step) (cells : List Cell) (inside rest : Plan) → IsFineLine limits declarations s cells → Within (names_of (a_line s cells inside rest)) names
+    line-element : (s : Step) (cells : List Cell) (inside rest : Plan) → IsFineLine limits declarations s cells →
+        Within (names_of (a_line s cells inside rest)) names
         → (c : Context) (f behind : Forest) → Alone (levels inside) f → Alone (levels (a_line s cells inside rest)) behind
         → Alone (levels (a_line s cells inside rest)) (an_element (name_of s.name) (attributes es s cells c) (with_text (element_text es cells c) f) behind)
     line-element s cells inside rest line within c f behind alone k =
         let has = line-attributes es chars s c cells line.words line.alone in
         let own = front-within names (map unspaced (locals cells)) (names_of inside ++ names_of rest) within.1 in
-        element-written (levels inside) (levels (a_line s cells inside rest)) (name_of s.name) (attributes es s cells c) (with_text (element_text es cells c) f) behind
+        element-written (levels inside) (levels (a_line s cells inside rest)) (name_of s.name) (attributes es s cells c)
+        (with_text (element_text es cells c) f) behind
         (fine-element s cells line (attributes es s cells c) has) within.0
-        (each-weaker (λ n. Among n (map unspaced (locals cells))) (λ n. Among n names) (map (λ (a : Attribute). a.name) (attributes es s cells c)) (λ n a. from-each names n (map unspaced (locals cells)) own a) (has-within (attributes es s cells c) (locals cells) has))
-        (text-written (levels inside) (element_text es cells c) f (line-text es chars s c cells line.words) alone) (left-below (1 + levels inside) (levels rest)) k
+        (each-weaker (λ n. Among n (map unspaced (locals cells))) (λ n. Among n names) (map (λ (a : Attribute). a.name) (attributes es s cells c))
+        (λ n a. from-each names n (map unspaced (locals cells)) own a) (has-within (attributes es s cells c) (locals cells) has))
+        (text-written (levels inside) (element_text es cells c) f (line-text es chars s c cells line.words) alone)
+        (left-below (1 + levels inside) (levels rest)) k
 
-    pub lines-written : (plan : Plan) (held : Bool) (c : Context) → all_lines (is_fine_line limits declarations) plan ≡ true → Within (names_of plan) names → Alone (levels plan) (written_lines es plan held c)
+    pub lines-written : (plan : Plan) (held : Bool) (c : Context) → all_lines (is_fine_line limits declarations) plan ≡ true → Within (names_of plan) names →
+        Alone (levels plan) (written_lines es plan held c)
     lines-written nothing held c h within = nothing-alone (levels nothing)
     lines-written (a_line s cells inside rest) held c h within =
         let test = is_fine_line limits declarations in
@@ -206,7 +226,8 @@ module _ (limits : Limits) (declarations : List Declaration) (names : List Name)
         let b = both (all_lines test inside) (all_lines test rest) a.1 in
         let further = back-within names (map unspaced (locals cells)) (names_of inside ++ names_of rest) within.1 in
         all-elements (levels (a_line s cells inside rest)) (is_emitted es s cells inside held)
-        (λ d. an_element (name_of s.name) (attributes es s cells d) (with_text (element_text es cells d) (written_lines es inside (holds_further es cells inside held d) d)))
+        (λ d. an_element (name_of s.name) (attributes es s cells d)
+        (with_text (element_text es cells d) (written_lines es inside (holds_further es cells inside held d) d)))
         (spots es c s.group) (written_lines es rest held c)
         (λ d f k. line-element s cells inside rest (fine-line s cells a.0) within d (written_lines es inside (holds_further es cells inside held d) d) f
         (lines-written inside (holds_further es cells inside held d) d b.0 (front-within names (names_of inside) (names_of rest) further)) k)

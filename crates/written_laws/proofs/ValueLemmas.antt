@@ -1,5 +1,6 @@
 -- What is written of an invoice is of Chars: its values are, and so is what rows write by themselves.
-use Rattle.std.proofs.Common.{◌≡◌, ℕ, zero, suc, ◌+◌, ◌<◌, ◌/◌, ◌%◌, ◌^◌, Bool, true, false, ◌||◌, List, [], ◌∷◌, ◌++◌, Option, Some, None, option_map, refl, arith, mod-lt, lit<, nat_le, if◌then◌else◌, find, is_some, is_none, option_and_then}
+use Rattle.std.proofs.Common.{◌≡◌, ℕ, zero, suc, ◌+◌, ◌<◌, ◌/◌, ◌%◌, ◌^◌, Bool, true, false, ◌||◌, List, [], ◌∷◌, ◌++◌, Option, Some, None, option_map, refl}
+use Rattle.std.proofs.Common.{arith, mod-lt, lit<, nat_le, if◌then◌else◌, find, is_some, is_none, option_and_then}
 use Rattle.std.specs.Prelude.{◌==◌, not}
 use Rattle.std.specs.Str.{bytes_eq}
 use Rattle.std.specs.List.{list_all, AllByRecursion}
@@ -26,7 +27,8 @@ use Rattle.bind_rows.specs.declared.rows.Written.{Written}
 use Rattle.bind_rows.specs.declared.rows.Written.TheVariants as written
 use Rattle.bind_rows.specs.Added.{letter_of_form, is_typed}
 use Rattle.bind_meaning.specs.Values.{Image, images, subject_code, form_for}
-use Rattle.bind_meaning.specs.Writing.{context_for, written_among, plain_date, coded_note, formed, is_iban, if_so, scheme_of, if_due, filled, has_slots, is_of_type, of_type, of_form, value_for, term_text}
+use Rattle.bind_meaning.specs.Writing.{context_for, written_among, plain_date, coded_note, formed, is_iban, if_so, scheme_of, if_due, filled, has_slots}
+use Rattle.bind_meaning.specs.Writing.{is_of_type, of_type, of_form, value_for, term_text}
 use Rattle.bind_meaning.specs.Trees.{constant_or_text}
 use Rattle.written_laws.specs.Readable.{constant_of, filler_of}
 use Rattle.written_laws.proofs.ListLemmas.{and-true, or-left, or-right, is-at-most, all-append}
@@ -42,13 +44,15 @@ fourth a b c d e h = or-right a (b || (c || (d || e))) (or-right b (c || (d || e
 digit-char : (r : ℕ) → r < 10 → is_char (48 + r) ≡ true
 unfolding is_char
 digit-char r h =
-    fourth (48 + r == 0x9) (48 + r == 0xA) (48 + r == 0xD) (is_within 0x20 0xD7FF (48 + r)) (is_within 0xE000 0xFFFD (48 + r) || is_within 0x10000 0x10FFFF (48 + r))
+    fourth (48 + r == 0x9) (48 + r == 0xA) (48 + r == 0xD) (is_within 0x20 0xD7FF (48 + r))
+    (is_within 0xE000 0xFFFD (48 + r) || is_within 0x10000 0x10FFFF (48 + r))
     (and-true (nat_le 0x20 (48 + r)) (nat_le (48 + r) 0xD7FF) (is-at-most 0x20 (48 + r) (omega arith)) (is-at-most (48 + r) 0xD7FF (omega arith)))
 
 last-chars : (k n : ℕ) → IsChars (last_digits k n)
 unfolding last_digits
 last-chars zero n = refl
-last-chars (suc k) n = and-true (is_char (48 + n / 10 ^ k % 10)) (list_all is_char (last_digits k n)) (digit-char (n / 10 ^ k % 10) (mod-lt (n / 10 ^ k) {m = 10} (lit< tt))) (last-chars k n)
+last-chars (suc k) n = and-true (is_char (48 + n / 10 ^ k % 10)) (list_all is_char (last_digits k n))
+    (digit-char (n / 10 ^ k % 10) (mod-lt (n / 10 ^ k) {m = 10} (lit< tt))) (last-chars k n)
 
 day-chars : (day : CivilDay) → IsChars (plain_day_text day)
 unfolding plain_day_text
@@ -108,14 +112,16 @@ date-chars (values.Quantity number) h = h
 date-chars (values.Percent number) h = h
 date-chars (values.Base64 text) h = h
 
-image-chars : (image : Image) (code others : List ℕ) → IsChars image.written → IsChars others → IsChars (elim (bytes_eq image.code code) [ true ↦ image.written | false ↦ others ])
+image-chars : (image : Image) (code others : List ℕ) → IsChars image.written → IsChars others →
+    IsChars (elim (bytes_eq image.code code) [ true ↦ image.written | false ↦ others ])
 image-chars image code others h k = go (bytes_eq image.code code)
   where
     go : (b : Bool) → IsChars (elim b [ true ↦ image.written | false ↦ others ])
     go true = h
     go false = k
 
-among-chars : (list : List Image) → AllByRecursion (λ (image : Image). IsChars image.written) list → (code : List ℕ) → IsChars code → IsChars (written_among list code)
+among-chars : (list : List Image) → AllByRecursion (λ (image : Image). IsChars image.written) list → (code : List ℕ) → IsChars code →
+    IsChars (written_among list code)
 among-chars [] h code k = k
 among-chars (image ∷ list) h code k = image-chars image code (written_among list code) h.0 (among-chars list h.1 code k)
 
@@ -190,7 +196,8 @@ module _ (es : List Entry) (chars : AreChars es) where
   filled-chars written.AccountingVatTotal c h = tt
 
   taken-chars : (row : Row) (term : Term) (c : Context) → ValueChars (value_for row es term c)
-  taken-chars row term c = value-chars (form_for row.form term) (is_typed (form_for row.form term)) (has_slots row c) (value_in es term c) (standing-chars es chars term c)
+  taken-chars row term c = value-chars (form_for row.form term) (is_typed (form_for row.form term)) (has_slots row c) (value_in es term c)
+      (standing-chars es chars term c)
 
   term-chars : (row : Row) (term : Term) (c : Context) → IsChars (filler_of row.written) → TextChars (term_text row es term c)
   term-chars row term c h = go (value_for row es term c) (taken-chars row term c)

@@ -78,7 +78,8 @@ all-within names = go names names (λ n a. a)
 
 module _ (limits : Limits) (declarations : List Declaration) where
   -- a root that lines write
-  tree-writable : (plan : Plan) → Passes limits declarations plan → (name : Name) (given : List Attribute) (inside : Forest) → StandsAlone limits declarations (names_of plan) (levels plan) (an_element name given inside no_more)
+  tree-writable : (plan : Plan) → Passes limits declarations plan → (name : Name) (given : List Attribute) (inside : Forest) →
+      StandsAlone limits declarations (names_of plan) (levels plan) (an_element name given inside no_more)
       → IsSmallTree limits declarations (an_element name given inside no_more) → IsWritable limits declarations (an_element name given inside no_more)
   tree-writable plan p name given inside alone small =
       let tree = an_element name given inside no_more in
@@ -88,11 +89,13 @@ module _ (limits : Limits) (declarations : List Declaration) where
         declarable = p.declarable;
         apart = p.apart;
         elements = elements-pass (IsFine limits declarations) (λ name given. is_element_name declarations name) (λ name given fine. fine.named) tree w.elements;
-        attributes = elements-pass (IsFine limits declarations) (λ name given. list_all (λ (a : Attribute). is_attribute_name declarations a.name) given) (λ name given fine. fine.all_named) tree w.elements;
+        attributes = elements-pass (IsFine limits declarations) (λ name given. list_all (λ (a : Attribute). is_attribute_name declarations a.name) given)
+            (λ name given fine. fine.all_named) tree w.elements;
         distinct =
             elements-pass (IsFine limits declarations) (λ name given. not (has_twice (λ (a b : Attribute). same_name a.name b.name) given))
             (λ name given fine. not-false (has_twice (λ (a b : Attribute). same_name a.name b.name) given) fine.apart) tree w.elements;
-        values = elements-pass (IsFine limits declarations) (λ name given. list_all (λ (a : Attribute). list_all is_char a.value) given) (λ name given fine. fine.values) tree w.elements;
+        values = elements-pass (IsFine limits declarations) (λ name given. list_all (λ (a : Attribute). list_all is_char a.value) given)
+            (λ name given fine. fine.values) tree w.elements;
         texts = w.texts;
         within = record {
           bytes = small.bytes;
@@ -110,8 +113,10 @@ module _ (limits : Limits) (declarations : List Declaration) where
       let r = one-root plan p.rooted in
       let e : written_lines es plan false root_context
       ≡ an_element (name_of r.step.name) (attributes es r.step r.cells root_context)
-      (with_text (element_text es r.cells root_context) (written_lines es r.inside (holds_further es r.cells r.inside false root_context) root_context)) no_more =
-      ap (λ q. written_lines es q false root_context) r.is ∙ root-written es r.step r.cells r.inside r.once (subst (λ q. holds es q root_context ≡ true) r.is there) in
+      (with_text (element_text es r.cells root_context) (written_lines es r.inside (holds_further es r.cells r.inside false root_context) root_context)) no_more
+      =
+      ap (λ q. written_lines es q false root_context) r.is ∙
+      root-written es r.step r.cells r.inside r.once (subst (λ q. holds es q root_context ≡ true) r.is there) in
       let alone = lines-written limits declarations (names_of plan) es chars plan false root_context p.lines (all-within (names_of plan)) in
       subst (IsWritable limits declarations) (sym e)
       (tree-writable plan p (name_of r.step.name) (attributes es r.step r.cells root_context)

@@ -92,7 +92,8 @@ is_fine_line limits declarations s cells =
 abbrev pub are_fine : Limits → List Declaration → Bool
 are_fine limits declarations =
     list_all is_declarable declarations
-    && (not (has_twice (λ (a b : Declaration). bytes_eq a.prefix b.prefix) declarations) && list_all (λ (d : Declaration). is_short limits (declaring_name d.prefix)) declarations)
+    && (not (has_twice (λ (a b : Declaration). bytes_eq a.prefix b.prefix) declarations) &&
+    list_all (λ (d : Declaration). is_short limits (declaring_name d.prefix)) declarations)
 
 -- ---- the root
 

@@ -111,7 +111,8 @@ pub fn carried_invoices_are_read_by_their_tables()
         → IsReadByTable table es lists }
     ensures valid { (table : Which) (es : List Entry) (lists : Lists) → IsInvoice es → IsValid es lists → carrying (rows_of table) es ≡ Ok tt
         → IsReadByTable table es lists }
-    ensures read { (table : Which) (nodes : List Node) (rows : List Row) (lists others : Lists) (read : Read) → terms_of nodes rows lists ≡ Ok read → IsInvoice read.entries
+    ensures read { (table : Which) (nodes : List Node) (rows : List Row) (lists others : Lists) (read : Read) → terms_of nodes rows lists ≡ Ok read →
+        IsInvoice read.entries
         → carrying (rows_of table) read.entries ≡ Ok tt → IsReadByTable table read.entries others }
 {
     spelled_values_are_read_back();

@@ -1,5 +1,6 @@
 -- What isn't refused yet is short: at most one byte behind the limit on bytes was read.
-use Rattle.std.proofs.Common.{◌≡◌, ℕ, zero, suc, pred, ◌+◌, ◌≤◌, ◌==◌, Bool, true, false, ◌&&◌, nat_le, List, [], ◌∷◌, length, refl, ap, subst, ◌∙◌, arith, Option, Some, None, if◌then◌else◌}
+use Rattle.std.proofs.Common.{◌≡◌, ℕ, zero, suc, pred, ◌+◌, ◌≤◌, ◌==◌, Bool, true, false, ◌&&◌, nat_le, List, [], ◌∷◌, length, refl, ap, subst, ◌∙◌, arith}
+use Rattle.std.proofs.Common.{Option, Some, None, if◌then◌else◌}
 use Rattle.std.proofs.lemmas.Bool.Decides.{nat_tests}
 use Rattle.xml_tokens.specs.declared.kind.XmlKind.{XmlKind}
 use Rattle.xml_tokens.specs.declared.kind.XmlKind.TheVariants.{TooLong, BadMarkup}
@@ -28,7 +29,10 @@ short_bracket [] is = omega arith
 short_bracket (b ∷ []) is = omega arith
 short_bracket (b ∷ (c ∷ bytes)) is = by (b == 0x5D) (c == 0x3E) is
   where
-    by : (s t : Bool) → (elim (s && (t && true)) [ true ↦ bad BadMarkup 3 | false ↦ elim (s && (t && false)) [ true ↦ later | false ↦ good (Rattle.xml_tokens.specs.Markup.a_character 0x5D) 1 ] ]) ≡ later
+    by : (s t : Bool) → (elim (s && (t && true)) [
+      | true ↦ bad BadMarkup 3
+      | false ↦ elim (s && (t && false)) [ true ↦ later | false ↦ good (Rattle.xml_tokens.specs.Markup.a_character 0x5D) 1 ]
+    ]) ≡ later
         → length (b ∷ (c ∷ bytes)) ≤ 1
     by true true is = cc
     by true false is = cc
@@ -50,7 +54,8 @@ short_later position place limit c bytes is within = by (c == 0x5D) refl
 
 -- Reading goes on with what is short, behind one more byte.
 abbrev GoesOnShort : Limits → ℕ → List ℕ → Type 0
-GoesOnShort limits place bytes = (s : State) (skip : ℕ) → place + 1 + skip ≤ limits.bytes + 1 → IsShort limits (place + 1 + length bytes) (read false limits s (place + 1) skip bytes).stands
+GoesOnShort limits place bytes = (s : State) (skip : ℕ) → place + 1 + skip ≤ limits.bytes + 1 →
+    IsShort limits (place + 1 + length bytes) (read false limits s (place + 1) skip bytes).stands
 
 pub short_read : (limits : Limits) (s : State) (place skip : ℕ) (bytes : List ℕ) → place + skip ≤ limits.bytes + 1
     → IsShort limits (place + length bytes) (read false limits s place skip bytes).stands
@@ -59,10 +64,12 @@ short_read limits s place skip [] within = λ none. (refl, omega arith)
 short_read limits s place (suc skip) (b ∷ bytes) within = λ none.
     let rest = short_read limits s (place + 1) skip bytes (omega arith) none in
     (rest.0 ∙ (omega arith), omega (arith, rest.1))
-short_read limits s place zero (b ∷ bytes) within = by (λ s' skip h. short_read limits s' (place + 1) skip bytes h) (beginning s.position false (b ∷ bytes)) refl
+short_read limits s place zero (b ∷ bytes) within = by (λ s' skip h. short_read limits s' (place + 1) skip bytes h)
+    (beginning s.position false (b ∷ bytes)) refl
   where
     unread : (t : Bool) → nat_le (place + sure_length b bytes) limits.bytes ≡ t → beginning s.position false (b ∷ bytes) ≡ later
-        → IsShort limits (place + length (b ∷ bytes)) (if t then record { events = []; stands = waits s place (b ∷ bytes) } else stops_at TooLong limits.bytes).stands
+        → IsShort limits (place + length (b ∷ bytes))
+        (if t then record { events = []; stands = waits s place (b ∷ bytes) } else stops_at TooLong limits.bytes).stands
     unread true h is = λ none.
         let sure : place + sure_length b bytes ≤ limits.bytes = grind (arith, nat_tests, h) in
         (refl, short_later s.position place limits.bytes b bytes is sure)
@@ -91,7 +98,8 @@ short_read limits s place zero (b ∷ bytes) within = by (λ s' skip h. short_re
         let behind = rest (state_behind s token) (pred n) (room n within) none in
         (behind.0 ∙ (omega arith), omega (arith, behind.1))
 
-    by : GoesOnShort limits place bytes → (x : Beginning) → beginning s.position false (b ∷ bytes) ≡ x → IsShort limits (place + length (b ∷ bytes)) (turn false limits s place b bytes x).stands
+    by : GoesOnShort limits place bytes → (x : Beginning) → beginning s.position false (b ∷ bytes) ≡ x →
+        IsShort limits (place + length (b ∷ bytes)) (turn false limits s place b bytes x).stands
     by rest later is = unread (nat_le (place + sure_length b bytes) limits.bytes) refl is
     by rest (bad kind n) is = faulty (nat_le (place + n) limits.bytes) kind
     by rest (good token n) is = found rest (nat_le (place + n) limits.bytes) (fault_of limits s token) token n refl

@@ -1,5 +1,6 @@
 -- The reader that is given a file's pieces, and the document that it tells.
-use Rattle.std.proofs.Common.{◌≡◌, ℕ, ◌+◌, ◌-◌, ◌<◌, Bool, true, false, nat_le, List, [], ◌++◌, length, take, drop, length-append, append-nil, refl, ap, sym, subst, ◌∙◌, arith, Option, Some, None, Ok, Err}
+use Rattle.std.proofs.Common.{◌≡◌, ℕ, ◌+◌, ◌-◌, ◌<◌, Bool, true, false, nat_le, List, [], ◌++◌, length, take, drop, length-append, append-nil, refl, ap, sym}
+use Rattle.std.proofs.Common.{subst, ◌∙◌, arith, Option, Some, None, Ok, Err}
 use Rattle.std.specs.Prelude.{Result, ◌≢◌, ◌≤◌}
 use Rattle.std.proofs.lemmas.Bool.Decides.{nat_tests}
 use Rattle.std.proofs.lemmas.List.{take-append-drop, take-append-le}
@@ -44,7 +45,8 @@ pub record Feeding (begun now : ShelfView) (limits : Limits) (reader : Progress)
   pub going : fault_of_kept reader.stands ≡ None
   pub events : Moves [] (read_front limits fed).events before after
 
-pub feeding_nothing : (begun : ShelfView) (reader : Progress) (before : List Event → Type 0) → HasRead reader [] → Feeding begun begun reader.limits reader before before
+pub feeding_nothing : (begun : ShelfView) (reader : Progress) (before : List Event → Type 0) → HasRead reader [] →
+    Feeding begun begun reader.limits reader before before
 unfolding read resume
 feeding_nothing begun reader before read = record {
   held = refl;
@@ -60,7 +62,8 @@ feeding_nothing begun reader before read = record {
 
 -- Behind one more piece.
 pub feeding_more : (begun now after : ShelfView) (limits : Limits) (old new : Progress) (piece : List ℕ) (before mid behind : List Event → Type 0)
-    → (so_far : Feeding begun now limits old before mid) → after.held ≡ now.held → after.opens ≡ now.opens → after.faults ≡ now.faults → now.left ≡ ahead_of piece after.left
+    → (so_far : Feeding begun now limits old before mid) → after.held ≡ now.held → after.opens ≡ now.opens → after.faults ≡ now.faults →
+    now.left ≡ ahead_of piece after.left
     → new.limits ≡ old.limits → fault_of_reader new ≡ None
     → (HasMemory new → (fed : List ℕ) → HasRead old fed → HasRead new (fed ++ piece))
     → ((fed : List ℕ) → HasRead old fed → Tells new fed (fed ++ piece) mid behind)
@@ -68,7 +71,8 @@ pub feeding_more : (begun now after : ShelfView) (limits : Limits) (old new : Pr
 feeding_more begun now after limits old new piece before mid behind so_far held opens faults left kept none read told =
     let going = going_reader new none in
     let same : new.limits ≡ limits = kept ∙ so_far.kept in
-    let tells : Moves (read_front new.limits so_far.fed).events (read_front new.limits (so_far.fed ++ piece)).events mid behind = (told so_far.fed so_far.read).all going in
+    let tells : Moves (read_front new.limits so_far.fed).events (read_front new.limits (so_far.fed ++ piece)).events mid behind =
+    (told so_far.fed so_far.read).all going in
     let moves : Moves (read_front limits so_far.fed).events (read_front limits (so_far.fed ++ piece)).events mid behind =
     subst (λ l. Moves (read_front l so_far.fed).events (read_front l (so_far.fed ++ piece)).events mid behind) same tells in
     record {
@@ -84,7 +88,8 @@ feeding_more begun now after limits old new piece before mid behind so_far held 
     }
 
 -- The same, how many bytes were fed, and a receiver of bytes has taken them.
-pub record Counting (count : ℕ) (begun now : ShelfView) (limits : Limits) (reader : Progress) (before after : List Event → Type 0) (bytes_before bytes_after : List ℕ → Type 0) : Type 0 where
+pub record Counting (count : ℕ) (begun now : ShelfView) (limits : Limits) (reader : Progress) (before after : List Event → Type 0)
+    (bytes_before bytes_after : List ℕ → Type 0) : Type 0 where
   pub feeding : Feeding begun now limits reader before after
   pub counted : count ≡ length feeding.fed
   pub given : bytes_before [] → bytes_after feeding.fed
@@ -94,7 +99,8 @@ pub counting_nothing : (begun : ShelfView) (reader : Progress) (before : List Ev
 unfolding feeding_nothing
 counting_nothing begun reader before bytes_before read = record { feeding = feeding_nothing begun reader before read; counted = refl; given = λ taken. taken }
 
-pub counting_more : (count new_count : ℕ) (begun now after : ShelfView) (limits : Limits) (old new : Progress) (piece : List ℕ) (before mid behind : List Event → Type 0)
+pub counting_more : (count new_count : ℕ) (begun now after : ShelfView) (limits : Limits) (old new : Progress) (piece : List ℕ)
+    (before mid behind : List Event → Type 0)
     (bytes_before bytes_mid bytes_behind : List ℕ → Type 0)
     → (so_far : Counting count begun now limits old before mid bytes_before bytes_mid) → new_count ≡ count + length piece
     → after.held ≡ now.held → after.opens ≡ now.opens → after.faults ≡ now.faults → now.left ≡ ahead_of piece after.left
@@ -104,14 +110,16 @@ pub counting_more : (count new_count : ℕ) (begun now after : ShelfView) (limit
     → ((fed : List ℕ) → bytes_mid fed → bytes_behind (fed ++ piece))
     → Counting new_count begun after limits new before behind bytes_before bytes_behind
 unfolding feeding_more
-counting_more count new_count begun now after limits old new piece before mid behind bytes_before bytes_mid bytes_behind so_far more held opens faults left kept none read told given = record {
-  feeding = feeding_more begun now after limits old new piece before mid behind so_far.feeding held opens faults left kept none read told;
-  counted = more ∙ (ap (λ n. n + length piece) so_far.counted ∙ sym (length-append so_far.feeding.fed piece));
-  given = λ taken. given so_far.feeding.fed (so_far.given taken);
-}
+counting_more count new_count begun now after limits old new piece before mid behind bytes_before bytes_mid bytes_behind so_far more held opens faults left kept
+    none read told given = record {
+      feeding = feeding_more begun now after limits old new piece before mid behind so_far.feeding held opens faults left kept none read told;
+      counted = more ∙ (ap (λ n. n + length piece) so_far.counted ∙ sym (length-append so_far.feeding.fed piece));
+      given = λ taken. given so_far.feeding.fed (so_far.given taken);
+    }
 
 -- What is kept tells how many bytes were read.
-short_kept : (limits : Limits) (n : ℕ) (s : Standing) → IsShort limits n s → fault_of_kept (kept_of s) ≡ None → (bytes_taken (kept_of s) ≡ n) × (n ≤ limits.bytes + 1)
+short_kept : (limits : Limits) (n : ℕ) (s : Standing) → IsShort limits n s → fault_of_kept (kept_of s) ≡ None → (bytes_taken (kept_of s) ≡ n) ×
+    (n ≤ limits.bytes + 1)
 short_kept limits n (waits s place rest) short none = let is = short refl in (taken-kept s place rest ∙ is.0, is.1)
 short_kept limits n (stopped fault) short none = absurd (none-some fault (sym none))
 
@@ -134,7 +142,8 @@ feeding_falls limits old new fed piece kept read going same more goes some =
 -- At the end of the input all was fed.
 pub fed_whole : (count : ℕ) (begun now after : ShelfView) (limits : Limits) (reader : Progress) (front : List ℕ) (before behind : List Event → Type 0)
     (bytes_before bytes_behind : List ℕ → Type 0)
-    → (all : Counting count begun now limits reader before behind bytes_before bytes_behind) → now.left ≡ ahead_of front after.left → front ≡ [] → WhereTold after.left (λ rest. length rest ≡ 0)
+    → (all : Counting count begun now limits reader before behind bytes_before bytes_behind) → now.left ≡ ahead_of front after.left → front ≡ [] →
+    WhereTold after.left (λ rest. length rest ≡ 0)
     → HasFed count begun.left after.left reader before behind bytes_before bytes_behind
 unfolding settled_fault
 fed_whole count begun now after limits reader front before behind bytes_before bytes_behind all left none end = let so_far = all.feeding in record {
@@ -143,7 +152,8 @@ fed_whole count begun now after limits reader front before behind bytes_before b
   read = so_far.read;
   events = subst (λ l. Moves [] (read_front l so_far.fed).events before behind) (sym so_far.kept) so_far.events;
   whole = read_all begun.left now.left after.left so_far.fed front so_far.content left none end;
-  content = ahead_of-append so_far.fed front so_far.fed begun.left now.left after.left so_far.content left (sym (ap (λ x. so_far.fed ++ x) none ∙ append-nil so_far.fed));
+  content = ahead_of-append so_far.fed front so_far.fed begun.left now.left after.left so_far.content left
+      (sym (ap (λ x. so_far.fed ++ x) none ∙ append-nil so_far.fed));
   going = sym (ap fault_of_kept so_far.read.stands ∙ fault-kept (read_front reader.limits so_far.fed).stands) ∙ so_far.going;
   given = all.given;
 }
@@ -161,7 +171,8 @@ module _ (limits : Limits) (stays : Stays) (front last : List ℕ) (going : sett
       ap (settled_fault limits) (sym (take-append-drop n front)) ∙ stays limits (take n front) (drop n front) fault is in
       absurd (none-some fault (sym going ∙ whole))
 
-  farther : (n : ℕ) (rest : List ℕ) → settled_fault limits (take n ((front ++ last) ++ rest)) ≢ None → (t : Bool) → nat_le n (length front) ≡ t → length (front ++ last) ≤ n + 65535
+  farther : (n : ℕ) (rest : List ℕ) → settled_fault limits (take n ((front ++ last) ++ rest)) ≢ None → (t : Bool) → nat_le n (length front) ≡ t →
+      length (front ++ last) ≤ n + 65535
   farther n rest settled true h =
       let within : n ≤ length front = grind (arith, nat_tests, h) in
       let long : length (front ++ last) ≡ length front + length last = length-append front last in
@@ -188,11 +199,13 @@ pub stops_with_piece : (begun now after : ShelfView) (limits : Limits) (reader :
 unfolding settled_fault
 stops_with_piece begun now after limits reader piece before behind stays so_far left short =
     stops_in_time limits stays so_far.fed piece
-    (sym (ap fault_of_kept (so_far.read.stands ∙ ap (λ l. kept_of (read_front l so_far.fed).stands) so_far.kept) ∙ fault-kept (read_front limits so_far.fed).stands) ∙ so_far.going) short begun.left after.left
+    (sym (ap fault_of_kept (so_far.read.stands ∙ ap (λ l. kept_of (read_front l so_far.fed).stands) so_far.kept) ∙
+    fault-kept (read_front limits so_far.fed).stands) ∙ so_far.going) short begun.left after.left
     (ahead_of-append so_far.fed piece (so_far.fed ++ piece) begun.left now.left after.left so_far.content left refl)
 
 -- .. or at the end.
-pub stops_at_end : (count : ℕ) (limits : Limits) (told left : Option (List ℕ)) (reader : Progress) (before behind : List Event → Type 0) (bytes_before bytes_behind : List ℕ → Type 0)
+pub stops_at_end : (count : ℕ) (limits : Limits) (told left : Option (List ℕ)) (reader : Progress) (before behind : List Event → Type 0)
+    (bytes_before bytes_behind : List ℕ → Type 0)
     → Stays → reader.limits ≡ limits → HasFed count told left reader before behind bytes_before bytes_behind → StopsInTime limits told left
 stops_at_end count limits told left reader before behind bytes_before bytes_behind stays kept fed =
     stops_in_time limits stays fed.fed [] (ap (λ l. settled_fault l fed.fed) (sym kept) ∙ fed.going) (omega arith) told left
@@ -207,20 +220,23 @@ unfolding settled_fault
 refused_settled limits told left reader fed fault content kept read settled law = by left content
   where
     now : settled_fault limits fed ≡ Some fault
-    now = sym (fault-kept (read_front limits fed).stands) ∙ (ap fault_of_kept (ap (λ l. kept_of (read_front l fed).stands) (sym kept) ∙ sym read.stands) ∙ settled)
+    now = sym (fault-kept (read_front limits fed).stands) ∙
+        (ap fault_of_kept (ap (λ l. kept_of (read_front l fed).stands) (sym kept) ∙ sym read.stands) ∙ settled)
 
     by : (left : Option (List ℕ)) → told ≡ ahead_of fed left → IsRefused limits told fault
     by None content = record { content = fed; is = ap (first_fault limits) (sym (append-nil fed)) ∙ law limits fed [] fault now; whole = λ bytes is. cc }
     by (Some rest) content = record { content = fed ++ rest; is = law limits fed rest fault now; whole = λ bytes is. cc }
 
 -- The first fault of a whole input.
-pub refused_whole : (limits : Limits) (told : Option (List ℕ)) (fed : List ℕ) (before after : List Event → Type 0) (answer : XmlFault) → Fails limits fed before after answer
+pub refused_whole : (limits : Limits) (told : Option (List ℕ)) (fed : List ℕ) (before after : List Event → Type 0) (answer : XmlFault) →
+    Fails limits fed before after answer
     → answer ≢ WANT_OF_MEMORY → WhereTold told (λ content. fed ≡ content) → IsRefused limits told answer
 refused_whole limits told fed before after answer (of_document fault first moves) other whole = record { content = fed; is = first; whole = whole }
 refused_whole limits told fed before after answer (of_memory moves) other whole = absurd (other refl)
 
 -- The same of a reader that has these limits.
-pub refused_at_end : (limits l : Limits) (told : Option (List ℕ)) (fed : List ℕ) (before after : List Event → Type 0) (fault answer : XmlFault) → l ≡ limits → Fails l fed before after fault
+pub refused_at_end : (limits l : Limits) (told : Option (List ℕ)) (fed : List ℕ) (before after : List Event → Type 0) (fault answer : XmlFault) → l ≡ limits →
+    Fails l fed before after fault
     → fault ≢ WANT_OF_MEMORY → answer ≡ fault → WhereTold told (λ content. fed ≡ content) → IsRefused limits told answer
 refused_at_end limits l told fed before after fault answer kept fails other same whole =
     subst (λ x. IsRefused x told answer) kept (subst (λ x. IsRefused l told x) (sym same) (refused_whole l told fed before after fault fails other whole))
@@ -236,7 +252,8 @@ abbrev pub told_whole : Limits → List ℕ → profile.Document
 told_whole limits bytes = record { events = with_events [] (read_whole limits bytes).events; names = names_of (read_whole limits bytes).stands }
 
 -- The events of a whole document were taken, and have built it; and its bytes were.
-pub record Wholly (count : ℕ) (limits : Limits) (told : Option (List ℕ)) (names : List Name) (b : Built) (bytes_before bytes_after : List ℕ → Type 0) : Type 0 where
+pub record Wholly (count : ℕ) (limits : Limits) (told : Option (List ℕ)) (names : List Name) (b : Built)
+    (bytes_before bytes_after : List ℕ → Type 0) : Type 0 where
   pub fed : List ℕ
   pub counted : count ≡ length fed
   pub whole : WhereTold told (λ content. fed ≡ content)
@@ -246,7 +263,8 @@ pub record Wholly (count : ℕ) (limits : Limits) (told : Option (List ℕ)) (na
   pub made : IsBuilt (told_whole limits fed) (built (told_whole limits fed).events)
   pub given : bytes_before [] → bytes_after fed
 
-pub read_wholly : (count : ℕ) (limits : Limits) (told left : Option (List ℕ)) (reader : Progress) (first mid last : Built) (names : List Name) (bytes_before bytes_after : List ℕ → Type 0) → reader.limits ≡ limits → first ≡ arena.begun
+pub read_wholly : (count : ℕ) (limits : Limits) (told left : Option (List ℕ)) (reader : Progress) (first mid last : Built) (names : List Name)
+    (bytes_before bytes_after : List ℕ → Type 0) → reader.limits ≡ limits → first ≡ arena.begun
     → (all : HasFed count told left reader (λ events. first ≡ built events) (λ events. mid ≡ built events) bytes_before bytes_after)
     → Finishes reader.limits all.fed names (λ events. mid ≡ built events) (λ events. last ≡ built events)
     → ((found : profile.Document) → document limits all.fed ≡ Ok found → IsBuilt found (built found.events))
@@ -267,11 +285,13 @@ read_wholly count limits told left reader first mid last names bytes_before byte
       given = all.given;
     }
 
-pub wholly_built : (count : ℕ) (limits : Limits) (told : Option (List ℕ)) (names : List Name) (b : Built) (bytes_before bytes_after : List ℕ → Type 0) → Wholly count limits told names b bytes_before bytes_after → IsWhole names b
+pub wholly_built : (count : ℕ) (limits : Limits) (told : Option (List ℕ)) (names : List Name) (b : Built) (bytes_before bytes_after : List ℕ → Type 0) →
+    Wholly count limits told names b bytes_before bytes_after → IsWhole names b
 wholly_built count limits told names b bytes_before bytes_after wholly =
     subst (λ all. IsWhole all b) (sym wholly.named) (subst (IsWhole (told_whole limits wholly.fed).names) (sym wholly.events) wholly.made.whole)
 
-wholly_loaded : (count : ℕ) (limits : Limits) (told : Option (List ℕ)) (names : List Name) (b : Built) (doc : Document) (bytes_before bytes_after : List ℕ → Type 0)
+wholly_loaded : (count : ℕ) (limits : Limits) (told : Option (List ℕ)) (names : List Name) (b : Built) (doc : Document)
+    (bytes_before bytes_after : List ℕ → Type 0)
     → Wholly count limits told names b bytes_before bytes_after → doc ≡ record { nodes = b.nodes; names = names } → IsLoaded limits told doc
 wholly_loaded count limits told names b doc bytes_before bytes_after wholly is =
     let found = told_whole limits wholly.fed in
@@ -286,7 +306,8 @@ wholly_loaded count limits told names b doc bytes_before bytes_after wholly is =
       whole = wholly.whole;
     }
 
-pub wholly_given : (count : ℕ) (limits : Limits) (told : Option (List ℕ)) (names : List Name) (b : Built) (doc : Document) (bytes_before bytes_after : List ℕ → Type 0)
+pub wholly_given : (count : ℕ) (limits : Limits) (told : Option (List ℕ)) (names : List Name) (b : Built) (doc : Document)
+    (bytes_before bytes_after : List ℕ → Type 0)
     → Wholly count limits told names b bytes_before bytes_after → doc ≡ record { nodes = b.nodes; names = names }
     → IsLoadedAndGiven limits told count doc bytes_before bytes_after
 unfolding wholly_loaded

@@ -11,7 +11,8 @@ ahead_of-nil (Some left) bytes none = rw none refl
 
 pub ahead_of-append : (a b c : List ℕ) (told mid left : Option (List ℕ)) → told ≡ ahead_of a mid → mid ≡ ahead_of b left → c ≡ a ++ b → told ≡ ahead_of c left
 ahead_of-append a b c told mid None so_far more is = so_far ∙ ap (ahead_of a) more
-ahead_of-append a b c told mid (Some left) so_far more is = so_far ∙ (ap (ahead_of a) more ∙ ap Some (sym (append_assoc a b left) ∙ ap (λ x. x ++ left) (sym is)))
+ahead_of-append a b c told mid (Some left) so_far more is = so_far ∙
+    (ap (ahead_of a) more ∙ ap Some (sym (append_assoc a b left) ∙ ap (λ x. x ++ left) (sym is)))
 
 no_items : (xs : List ℕ) → length xs ≡ 0 → xs ≡ []
 no_items [] none = refl
@@ -56,7 +57,8 @@ fine_on result fault begun after other held opens faults = record {
 -- A file that couldn't be opened, and one that was opened and then read.
 pub failed_from : {T E : Type 0} (result : Result T E) (fault : E) (begun after : ShelfView) → result ≡ Err fault → after.held ≡ begun.held
     → after.opens ≡ next_count begun.opens → begun.faults ≤ after.faults → Rose begun.faults after.faults → ReadsFrom result fault begun after
-failed_from result fault begun after is held opens rises rose = record { held = held; opens = opens; rose = λ _. rose; rises = rises; quiet = λ other. absurd (other is) }
+failed_from result fault begun after is held opens rises rose =
+    record { held = held; opens = opens; rose = λ _. rose; rises = rises; quiet = λ other. absurd (other is) }
 
 pub opened_from : {T E : Type 0} (result : Result T E) (fault : E) (begun now after : ShelfView) → now.held ≡ begun.held
     → now.opens ≡ next_count begun.opens → now.faults ≡ begun.faults → ReadsOn result fault now after → ReadsFrom result fault begun after

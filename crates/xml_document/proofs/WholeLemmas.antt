@@ -13,9 +13,17 @@ pub record Taking (begun now : ShelfView) (limit : ℕ) (bytes : List ℕ) : Typ
   pub within : length bytes ≤ limit
 
 pub taking_nothing : (begun : ShelfView) (limit : ℕ) (bytes : List ℕ) → bytes ≡ [] → Taking begun begun limit bytes
-taking_nothing begun limit bytes none = record { held = refl; opens = refl; faults = refl; content = ahead_of-nil begun.left bytes none; within = let short = ap length none in omega (arith, short) }
+taking_nothing begun limit bytes none = record {
+  held = refl;
+  opens = refl;
+  faults = refl;
+  content = ahead_of-nil begun.left bytes none;
+  within = let short =
+      ap length none in omega (arith, short);
+}
 
-pub taking_more : (begun now after : ShelfView) (limit : ℕ) (bytes piece more : List ℕ) → Taking begun now limit bytes → after.held ≡ now.held → after.opens ≡ now.opens → after.faults ≡ now.faults
+pub taking_more : (begun now after : ShelfView) (limit : ℕ) (bytes piece more : List ℕ) → Taking begun now limit bytes → after.held ≡ now.held →
+    after.opens ≡ now.opens → after.faults ≡ now.faults
     → now.left ≡ ahead_of piece after.left → more ≡ bytes ++ piece → length piece ≤ limit - length bytes → Taking begun after limit more
 taking_more begun now after limit bytes piece more so_far held opens faults left is room =
     let long = ap length is ∙ length-append bytes piece in
@@ -28,7 +36,8 @@ taking_more begun now after limit bytes piece more so_far held opens faults left
     }
 
 -- At the end of the input all was taken.
-pub taken_whole : (begun now : ShelfView) (left : Option (List ℕ)) (limit : ℕ) (bytes front : List ℕ) → Taking begun now limit bytes → now.left ≡ ahead_of front left → front ≡ []
+pub taken_whole : (begun now : ShelfView) (left : Option (List ℕ)) (limit : ℕ) (bytes front : List ℕ) → Taking begun now limit bytes →
+    now.left ≡ ahead_of front left → front ≡ []
     → WhereTold left (λ rest. length rest ≡ 0) → IsReadWhole limit begun.left bytes
 taken_whole begun now left limit bytes front so_far last none end = record {
   whole = read_all begun.left now.left left bytes front so_far.content last none end;
@@ -36,7 +45,8 @@ taken_whole begun now left limit bytes front so_far last none end = record {
 }
 
 -- A piece is too much.
-pub taken_too_much : (begun now : ShelfView) (left : Option (List ℕ)) (limit : ℕ) (bytes piece : List ℕ) → Taking begun now limit bytes → now.left ≡ ahead_of piece left
+pub taken_too_much : (begun now : ShelfView) (left : Option (List ℕ)) (limit : ℕ) (bytes piece : List ℕ) → Taking begun now limit bytes →
+    now.left ≡ ahead_of piece left
     → limit - length bytes < length piece → length piece ≤ 65536 → IsTooLong limit begun.left left
 taken_too_much begun now left limit bytes piece so_far last much short =
     let long = length-append bytes piece in
@@ -44,7 +54,8 @@ taken_too_much begun now left limit bytes piece so_far last much short =
     let past : limit < length (bytes ++ piece) = omega (arith, long, much) in
     record { front = bytes; last = piece; read = all; within = so_far.within; past = past; short = short; long = told left all past }
   where
-    told : (o : Option (List ℕ)) → begun.left ≡ ahead_of (bytes ++ piece) o → limit < length (bytes ++ piece) → WhereTold begun.left (λ content. limit < length content)
+    told : (o : Option (List ℕ)) → begun.left ≡ ahead_of (bytes ++ piece) o → limit < length (bytes ++ piece) →
+        WhereTold begun.left (λ content. limit < length content)
     told None all past = λ content is. cc
     told (Some rest) all past = λ content is.
         let same : content ≡ (bytes ++ piece) ++ rest = cc in

@@ -31,7 +31,8 @@ pub record ReadsOn {T E : Type 0} (result : Result T E) (fault : E) (before afte
 
 -- A reader was given a whole content of so many bytes, which is this one where it is told, and a receiver has taken what
 -- it tells so far, another one the bytes. No fault is settled, and nothing is left.
-pub record HasFed (count : ℕ) (told left : Option (List ℕ)) (reader : Progress) (before after : List Event → Type 0) (bytes_before bytes_after : List ℕ → Type 0) : Type 0 where
+pub record HasFed (count : ℕ) (told left : Option (List ℕ)) (reader : Progress) (before after : List Event → Type 0)
+    (bytes_before bytes_after : List ℕ → Type 0) : Type 0 where
   pub fed : List ℕ
   pub counted : count ≡ length fed
   pub read : HasRead reader fed

@@ -1,5 +1,6 @@
 -- Attributes as canonical text writes them, by their bytes.
-use Rattle.std.proofs.Common.{◌≡◌, ℕ, pred, ◌+◌, ◌-◌, Bool, true, false, not, ◌&&◌, ◌||◌, ◌==◌, List, [], ◌∷◌, ◌++◌, length, drop, refl, sym, ap, ◌∙◌, arith, if◌then◌else◌, cond, Option, Some, None, option_map, option_and_then, chars, encode_utf8_all, true≢false}
+use Rattle.std.proofs.Common.{◌≡◌, ℕ, pred, ◌+◌, ◌-◌, Bool, true, false, not, ◌&&◌, ◌||◌, ◌==◌, List, [], ◌∷◌, ◌++◌, length, drop, refl, sym, ap, ◌∙◌, arith}
+use Rattle.std.proofs.Common.{if◌then◌else◌, cond, Option, Some, None, option_map, option_and_then, chars, encode_utf8_all, true≢false}
 use Rattle.std.specs.List.{list_all, list_any, flat_map, prefix_len, after_first}
 use Rattle.std.proofs.Math.Seq.{drop-append_seam}
 use Rattle.std.proofs.lemmas.List.{append_assoc, length-append}
@@ -66,7 +67,8 @@ behind-one : (b : ℕ) (x : List ℕ) → is_white_space b ≡ false → behind_
 unfolding is_white_space
 behind-one b x h = ap (λ t. drop (1 + cond t (1 + prefix_len is_white_space x) 0) (0x20 ∷ (b ∷ x))) h
 
-literal-of : (value rest : List ℕ) → list_all (λ b. not (b == 0x22)) value ≡ true → literal_at (0x3D ∷ (0x22 ∷ (value ++ (0x22 ∷ rest)))) ≡ Some (record { value = value; rest = rest })
+literal-of : (value rest : List ℕ) → list_all (λ b. not (b == 0x22)) value ≡ true →
+    literal_at (0x3D ∷ (0x22 ∷ (value ++ (0x22 ∷ rest)))) ≡ Some (record { value = value; rest = rest })
 unfolding is_white_space
 literal-of value rest h =
     let q = λ (b : ℕ). b == 0x22 in
@@ -74,7 +76,8 @@ literal-of value rest h =
     ∙ (ap (λ v. Some (record { value = v; rest = after_first q (value ++ (0x22 ∷ rest)) })) (before-front q value 0x22 rest h refl)
     ∙ ap (λ r. Some (record { value = value; rest = r })) (after-front q value 0x22 rest h refl))
 
-module _ (name value rest : List ℕ) (n : IsWrittenName name) (quoted : list_all (λ b. not (b == 0x22)) value ≡ true) (untagged : list_all (λ b. not (b == 0x3C)) value ≡ true) where
+module _ (name value rest : List ℕ) (n : IsWrittenName name) (quoted : list_all (λ b. not (b == 0x22)) value ≡ true)
+    (untagged : list_all (λ b. not (b == 0x3C)) value ≡ true) where
   found : Found
   found = record { name = name; value = value; rest = rest }
 
@@ -89,7 +92,8 @@ module _ (name value rest : List ℕ) (n : IsWrittenName name) (quoted : list_al
   attribute-found =
       let tail = 0x3D ∷ (0x22 ∷ (value ++ (0x22 ∷ rest))) in
       let named : name_at_front (name ++ tail) ≡ name = before-front ends_name name 0x3D (0x22 ∷ (value ++ (0x22 ∷ rest))) (name-ends name n.plain) refl in
-      ap (λ front. if is_qname (name_at_front front) then option_and_then (found_literal (name_at_front front)) (literal_at (drop (length (name_at_front front)) front)) else None) front-is
+      ap (λ front. if is_qname (name_at_front front) then option_and_then (found_literal (name_at_front front))
+      (literal_at (drop (length (name_at_front front)) front)) else None) front-is
       ∙ (ap (λ x. if is_qname x then option_and_then (found_literal x) (literal_at (drop (length x) (name ++ tail))) else None) named
       ∙ (chosen (is_qname name) _ _ n.qname
       ∙ (ap (λ x. option_and_then (found_literal name) (literal_at x)) (drop-append_seam name tail)
@@ -111,13 +115,15 @@ more_inside bytes whole x = elim x [
   | (Some found) ↦ option_map (with_attribute found) (tag_inside (pred (length whole - length found.rest)) bytes)
 ]
 
-pub attribute-inside : (name value rest : List ℕ) → IsWrittenName name → list_all (λ b. not (b == 0x22)) value ≡ true → list_all (λ b. not (b == 0x3C)) value ≡ true
+pub attribute-inside : (name value rest : List ℕ) → IsWrittenName name → list_all (λ b. not (b == 0x22)) value ≡ true →
+    list_all (λ b. not (b == 0x3C)) value ≡ true
     → tag_inside 0 (attribute_bytes name value ++ rest) ≡ option_map (with_attribute (record { name = name; value = value; rest = rest })) (tag_inside 0 rest)
 unfolding tag_inside found
 attribute-inside name value rest n quoted untagged =
     let front = name ++ (0x3D ∷ (0x22 ∷ (value ++ (0x22 ∷ [])))) in
     let f : Found = record { name = name; value = value; rest = rest } in
-    ap (more_inside (front ++ rest) (0x20 ∷ (front ++ rest))) (ap attribute_at (attribute-before name value rest) ∙ attribute-found name value rest n quoted untagged)
+    ap (more_inside (front ++ rest) (0x20 ∷ (front ++ rest))) (ap attribute_at (attribute-before name value rest) ∙
+    attribute-found name value rest n quoted untagged)
     ∙ (ap (λ k. option_map (with_attribute f) (tag_inside k (front ++ rest))) (skip_of front rest 0x20)
     ∙ ap (option_map (with_attribute f)) (inside-skips front rest))
 

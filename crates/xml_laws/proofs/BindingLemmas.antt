@@ -1,5 +1,6 @@
 -- Prefixes that canonical text writes stand for the namespaces that they were written for.
-use Rattle.std.proofs.Common.{◌≡◌, ℕ, ◌<◌, Bool, true, false, not, ◌&&◌, ◌==◌, List, [], ◌∷◌, ◌++◌, map, length, refl, sym, ap, ◌∙◌, arith, ◌⊎◌, inl, inr, if◌then◌else◌, Option, Some, None, is_none, chars, encode_utf8_all, true≢false}
+use Rattle.std.proofs.Common.{◌≡◌, ℕ, ◌<◌, Bool, true, false, not, ◌&&◌, ◌==◌, List, [], ◌∷◌, ◌++◌, map, length, refl, sym, ap, ◌∙◌, arith, ◌⊎◌, inl, inr}
+use Rattle.std.proofs.Common.{if◌then◌else◌, Option, Some, None, is_none, chars, encode_utf8_all, true≢false}
 use Rattle.std.specs.List.{list_all, filter}
 use Rattle.std.specs.Str.{bytes_eq}
 use Rattle.std.proofs.lemmas.List.{length-append}
@@ -12,7 +13,8 @@ use Rattle.inv_base.specs.Tree.{Name}
 use Rattle.inv_base.proofs.TextLemmas.{both}
 use Rattle.xml_tokens.specs.WrittenNames.{is_ncname, local_of}
 use Rattle.xml_tokens.specs.WrittenNames as written
-use Rattle.xml_state.specs.Namespaces.{Binding, xml, xmlns, xml_uri, xmlns_uri, first_bindings, declared_prefix, declared_binding, declared_bindings, undeclaring, is_bad_binding, bound_uri, uri_of, is_undeclared, attributes_of}
+use Rattle.xml_state.specs.Namespaces.{Binding, xml, xmlns, xml_uri, xmlns_uri, first_bindings, declared_prefix, declared_binding, declared_bindings}
+use Rattle.xml_state.specs.Namespaces.{undeclaring, is_bad_binding, bound_uri, uri_of, is_undeclared, attributes_of}
 use Rattle.xml_state.specs.Namespaces as names
 use Rattle.xml_write.specs.Canonical.{Declaration, qualified, prefix_of, element_name, attribute_name}
 use Rattle.xml_laws.specs.Writable.{namespace_of, of_prefixes, is_declarable, is_element_name, is_attribute_name}
@@ -40,21 +42,25 @@ bytes-self a = (bytes_eq-Decides a a).1 refl
 Bound : List Declaration → List ℕ → Type 0
 Bound declarations prefix =
     (bound_uri (encode_utf8_all prefix) (bindings_of declarations) ≡ Some (namespace_of declarations prefix))
-    ⊎ ((namespace_of declarations prefix ≡ []) × (bound_uri (encode_utf8_all prefix) (bindings_of declarations) ≡ bound_uri (encode_utf8_all prefix) first_bindings))
+    ⊎ ((namespace_of declarations prefix ≡ []) ×
+    (bound_uri (encode_utf8_all prefix) (bindings_of declarations) ≡ bound_uri (encode_utf8_all prefix) first_bindings))
 
 bound : (declarations : List Declaration) (prefix : List ℕ) → Bound declarations prefix
 unfolding Bound
 bound [] prefix = inr (refl, refl)
 bound (d ∷ declarations) prefix = by (bytes_eq d.prefix prefix) refl (bound declarations prefix)
   where
-    at : (t : Bool) → bytes_eq d.prefix prefix ≡ t → bound_uri (encode_utf8_all prefix) (bindings_of (d ∷ declarations)) ≡ (if t then Some d.uri else bound_uri (encode_utf8_all prefix) (bindings_of declarations))
+    at : (t : Bool) → bytes_eq d.prefix prefix ≡ t → bound_uri (encode_utf8_all prefix)
+        (bindings_of (d ∷ declarations)) ≡ (if t then Some d.uri else bound_uri (encode_utf8_all prefix) (bindings_of declarations))
     at t e = ap (λ t. if t then Some d.uri else bound_uri (encode_utf8_all prefix) (bindings_of declarations)) (eq-encoded d.prefix prefix ∙ e)
 
     by : (t : Bool) → bytes_eq d.prefix prefix ≡ t
         → ((bound_uri (encode_utf8_all prefix) (bindings_of declarations) ≡ Some (namespace_of declarations prefix))
-        ⊎ ((namespace_of declarations prefix ≡ []) × (bound_uri (encode_utf8_all prefix) (bindings_of declarations) ≡ bound_uri (encode_utf8_all prefix) first_bindings)))
+        ⊎ ((namespace_of declarations prefix ≡ []) ×
+        (bound_uri (encode_utf8_all prefix) (bindings_of declarations) ≡ bound_uri (encode_utf8_all prefix) first_bindings)))
         → (bound_uri (encode_utf8_all prefix) (bindings_of (d ∷ declarations)) ≡ Some (if t then d.uri else namespace_of declarations prefix))
-        ⊎ (((if t then d.uri else namespace_of declarations prefix) ≡ []) × (bound_uri (encode_utf8_all prefix) (bindings_of (d ∷ declarations)) ≡ bound_uri (encode_utf8_all prefix) first_bindings))
+        ⊎ (((if t then d.uri else namespace_of declarations prefix) ≡ []) ×
+        (bound_uri (encode_utf8_all prefix) (bindings_of (d ∷ declarations)) ≡ bound_uri (encode_utf8_all prefix) first_bindings))
     by true e rest = inl (at true e)
     by false e (inl p) = inl (at false e ∙ p)
     by false e (inr p) = inr (p.0, at false e ∙ p.1)
@@ -77,7 +83,8 @@ bound-default declarations = by (bound declarations [])
     by (inr p) = p.1 ∙ ap Some (sym p.0)
 
 -- A prefix that stands for a namespace of its own, or the default.
-pub bound-either : (declarations : List Declaration) (prefix uri : List ℕ) → bytes_eq (namespace_of declarations prefix) uri ≡ true → ((length prefix == 0) ≡ true) ⊎ ((length uri == 0) ≡ false)
+pub bound-either : (declarations : List Declaration) (prefix uri : List ℕ) → bytes_eq (namespace_of declarations prefix) uri ≡ true →
+    ((length prefix == 0) ≡ true) ⊎ ((length uri == 0) ≡ false)
     → bound_uri (encode_utf8_all prefix) (bindings_of declarations) ≡ Some uri
 bound-either declarations [] uri same_uri case = bound-default declarations ∙ ap Some (bytes-same _ _ same_uri)
 bound-either declarations (c ∷ prefix) uri same_uri (inl e) = absurd (true≢false (sym e ∙ not_none (length prefix)))
@@ -87,7 +94,8 @@ bound-either declarations (c ∷ prefix) uri same_uri (inr e) =
 
 -- what holds of all prefixes holds of the one that is written
 module _ (Q : List ℕ → Type 0) where
-  pub prefix-written : (declarations : List Declaration) (uri : List ℕ) → Q [] → ((d : Declaration) → is_declarable d ≡ true → Q d.prefix) → list_all is_declarable declarations ≡ true → Q (prefix_of declarations uri)
+  pub prefix-written : (declarations : List Declaration) (uri : List ℕ) → Q [] → ((d : Declaration) → is_declarable d ≡ true → Q d.prefix) →
+      list_all is_declarable declarations ≡ true → Q (prefix_of declarations uri)
   prefix-written [] uri none each h = none
   prefix-written (d ∷ declarations) uri none each h =
       let p = both (is_declarable d) (list_all is_declarable declarations) h in
@@ -97,7 +105,8 @@ module _ (Q : List ℕ → Type 0) where
       by true x y = x
       by false x y = y
 
-filtered-all : (test : Declaration → Bool) (declarations : List Declaration) → list_all is_declarable declarations ≡ true → list_all is_declarable (filter test declarations) ≡ true
+filtered-all : (test : Declaration → Bool) (declarations : List Declaration) → list_all is_declarable declarations ≡ true →
+    list_all is_declarable (filter test declarations) ≡ true
 filtered-all test [] h = refl
 filtered-all test (d ∷ declarations) h =
     let p = both (is_declarable d) (list_all is_declarable declarations) h in
@@ -119,7 +128,8 @@ declarable-prefix d h =
     let r = or_false (bytes_eq d.prefix xmlns) _ (not_false (is_bad_binding (record { prefix = d.prefix; uri = d.uri })) q.1) in
     ap (λ t. t && not (bytes_eq d.prefix xmlns)) p.0 ∙ ap not r.0
 
-pub prefix-good : (declarations : List Declaration) (uri : List ℕ) → list_all is_declarable declarations ≡ true → is_good_prefix (prefix_of declarations uri) ≡ true
+pub prefix-good : (declarations : List Declaration) (uri : List ℕ) → list_all is_declarable declarations ≡ true →
+    is_good_prefix (prefix_of declarations uri) ≡ true
 prefix-good declarations uri h = prefix-written (λ p. is_good_prefix p ≡ true) declarations uri refl declarable-prefix h
 
 none-length : (xs : List ℕ) → (length xs == 0) ≡ true → xs ≡ []
@@ -142,7 +152,8 @@ pub record IsReadName (declarations : List Declaration) (name : Name) (bytes : L
   pub expanded_is : expanded ≡ name
 
 module _ (declarations : List Declaration) (name : Name) where
-  undeclared-not : (prefix local bytes : List ℕ) → IsQualified prefix local bytes → bound_uri (encode_utf8_all prefix) (bindings_of declarations) ≡ Some name.uri → is_undeclared (bindings_of declarations) bytes ≡ false
+  undeclared-not : (prefix local bytes : List ℕ) → IsQualified prefix local bytes →
+      bound_uri (encode_utf8_all prefix) (bindings_of declarations) ≡ Some name.uri → is_undeclared (bindings_of declarations) bytes ≡ false
   undeclared-not prefix local bytes q b = ap (λ x. is_none (bound_uri x (bindings_of declarations))) q.prefix_is ∙ ap is_none b
 
   uri-is : (prefix local bytes : List ℕ) → IsQualified prefix local bytes → bound_uri (encode_utf8_all prefix) (bindings_of declarations) ≡ Some name.uri
@@ -155,7 +166,8 @@ module _ (declarations : List Declaration) (name : Name) where
 
   read-element : (prefix : List ℕ) → is_good_prefix prefix ≡ true → is_ncname name.local ≡ true → bytes_eq (namespace_of declarations prefix) name.uri ≡ true
       → ((length prefix == 0) ≡ true) ⊎ ((length name.uri == 0) ≡ false)
-      → IsReadName declarations name (encode_utf8_all (qualified prefix name.local)) (names.element_name (bindings_of declarations) (encode_utf8_all (qualified prefix name.local)))
+      → IsReadName declarations name (encode_utf8_all (qualified prefix name.local))
+      (names.element_name (bindings_of declarations) (encode_utf8_all (qualified prefix name.local)))
   read-element prefix good local h case =
       let bytes = encode_utf8_all (qualified prefix name.local) in
       let q = qualified-written prefix name.local (both (is_prefix prefix) (not (bytes_eq prefix xmlns)) good).0 local in
@@ -167,29 +179,35 @@ module _ (declarations : List Declaration) (name : Name) where
       }
 
   pub element-read : list_all is_declarable declarations ≡ true → is_element_name declarations name ≡ true
-      → IsReadName declarations name (encode_utf8_all (element_name declarations name)) (names.element_name (bindings_of declarations) (encode_utf8_all (element_name declarations name)))
+      → IsReadName declarations name (encode_utf8_all (element_name declarations name))
+      (names.element_name (bindings_of declarations) (encode_utf8_all (element_name declarations name)))
   element-read all h =
-      let p = both (is_ncname name.local) (bytes_eq (namespace_of declarations (if length name.uri == 0 then [] else prefix_of declarations name.uri)) name.uri) h in
+      let p = both (is_ncname name.local) (bytes_eq (namespace_of declarations (if length name.uri == 0 then [] else prefix_of declarations name.uri)) name.uri)
+      h in
       by (length name.uri == 0) refl p.0 p.1
     where
-      by : (t : Bool) → (length name.uri == 0) ≡ t → is_ncname name.local ≡ true → bytes_eq (namespace_of declarations (if t then [] else prefix_of declarations name.uri)) name.uri ≡ true
+      by : (t : Bool) → (length name.uri == 0) ≡ t → is_ncname name.local ≡ true →
+          bytes_eq (namespace_of declarations (if t then [] else prefix_of declarations name.uri)) name.uri ≡ true
           → IsReadName declarations name (encode_utf8_all (qualified (if t then [] else prefix_of declarations name.uri) name.local))
           (names.element_name (bindings_of declarations) (encode_utf8_all (qualified (if t then [] else prefix_of declarations name.uri) name.local)))
       by true e local g = read-element [] refl local g (inl refl)
       by false e local g = read-element (prefix_of declarations name.uri) (prefix-good declarations name.uri all) local g (inr e)
 
   -- attributes
-  declares-not : (prefix : List ℕ) → is_good_prefix prefix ≡ true → is_ncname name.local ≡ true → ((length prefix == 0) ≡ false) ⊎ (bytes_eq name.local xmlns ≡ false)
+  declares-not : (prefix : List ℕ) → is_good_prefix prefix ≡ true → is_ncname name.local ≡ true →
+      ((length prefix == 0) ≡ false) ⊎ (bytes_eq name.local xmlns ≡ false)
       → declared_prefix (encode_utf8_all (qualified prefix name.local)) ≡ None
   declares-not prefix good local case =
       let bytes = encode_utf8_all (qualified prefix name.local) in
       let q = qualified-written prefix name.local (both (is_prefix prefix) (not (bytes_eq prefix xmlns)) good).0 local in
       let inner : bytes_eq (written.prefix_of bytes) xmlns ≡ false =
-      ap (λ x. bytes_eq x xmlns) q.prefix_is ∙ (ap (bytes_eq (encode_utf8_all prefix)) (sym xmlns-encoded) ∙ (eq-encoded prefix xmlns ∙ not_false (bytes_eq prefix xmlns) (both (is_prefix prefix) (not (bytes_eq prefix xmlns)) good).1)) in
+      ap (λ x. bytes_eq x xmlns) q.prefix_is ∙ (ap (bytes_eq (encode_utf8_all prefix)) (sym xmlns-encoded) ∙
+      (eq-encoded prefix xmlns ∙ not_false (bytes_eq prefix xmlns) (both (is_prefix prefix) (not (bytes_eq prefix xmlns)) good).1)) in
       passed (bytes_eq bytes xmlns) (Some []) (if bytes_eq (written.prefix_of bytes) xmlns then Some (local_of bytes) else None) (whole prefix q case)
       ∙ passed (bytes_eq (written.prefix_of bytes) xmlns) (Some (local_of bytes)) None inner
     where
-      whole : (prefix : List ℕ) → IsQualified prefix name.local (encode_utf8_all (qualified prefix name.local)) → ((length prefix == 0) ≡ false) ⊎ (bytes_eq name.local xmlns ≡ false)
+      whole : (prefix : List ℕ) → IsQualified prefix name.local (encode_utf8_all (qualified prefix name.local)) →
+          ((length prefix == 0) ≡ false) ⊎ (bytes_eq name.local xmlns ≡ false)
           → bytes_eq (encode_utf8_all (qualified prefix name.local)) xmlns ≡ false
       whole [] q (inl e) = absurd (true≢false e)
       whole [] q (inr e) = ap (bytes_eq (encode_utf8_all name.local)) (sym xmlns-encoded) ∙ (eq-encoded name.local xmlns ∙ e)
@@ -199,14 +217,16 @@ module _ (declarations : List Declaration) (name : Name) where
           at false e = refl
           at true e =
               let is = bytes-same (encode_utf8_all (qualified (c ∷ prefix) name.local)) xmlns e in
-              absurd (true≢false (ap (λ (x : List ℕ). length (written.prefix_of x) == 0) (sym is) ∙ (ap (λ (x : List ℕ). length x == 0) q.prefix_is ∙ encoded-some c prefix)))
+              absurd (true≢false (ap (λ (x : List ℕ). length (written.prefix_of x) == 0) (sym is) ∙
+              (ap (λ (x : List ℕ). length x == 0) q.prefix_is ∙ encoded-some c prefix)))
 
   -- what an attribute is read as, and that it is no declaration
   pub record IsReadAttribute (bytes : List ℕ) : Type 0 where
     pub as_name : IsReadName declarations name bytes (names.attribute_name (bindings_of declarations) bytes)
     pub no_declaration : declared_prefix bytes ≡ None
 
-  read-plain : is_ncname name.local ≡ true → (length name.uri == 0) ≡ true → bytes_eq name.local xmlns ≡ false → IsReadAttribute (encode_utf8_all (qualified [] name.local))
+  read-plain : is_ncname name.local ≡ true → (length name.uri == 0) ≡ true → bytes_eq name.local xmlns ≡ false →
+      IsReadAttribute (encode_utf8_all (qualified [] name.local))
   read-plain local none other_name =
       let q = qualified-written [] name.local refl local in
       let bytes = encode_utf8_all (qualified [] name.local) in
@@ -221,7 +241,8 @@ module _ (declarations : List Declaration) (name : Name) where
         no_declaration = declares-not [] refl local (inr other_name);
       }
 
-  read-prefixed : (prefix : List ℕ) → is_good_prefix prefix ≡ true → is_ncname name.local ≡ true → (length name.uri == 0) ≡ false → (length prefix == 0) ≡ false → bytes_eq (namespace_of declarations prefix) name.uri ≡ true
+  read-prefixed : (prefix : List ℕ) → is_good_prefix prefix ≡ true → is_ncname name.local ≡ true → (length name.uri == 0) ≡ false → (length prefix == 0) ≡ false
+      → bytes_eq (namespace_of declarations prefix) name.uri ≡ true
       → IsReadAttribute (encode_utf8_all (qualified prefix name.local))
   read-prefixed [] good local some e g = absurd (true≢false e)
   read-prefixed (c ∷ prefix) good local some e g =
@@ -234,23 +255,28 @@ module _ (declarations : List Declaration) (name : Name) where
           written = q.written;
           declared = undeclared-not p name.local bytes q b;
           expanded_is = name-same (names.attribute_name (bindings_of declarations) bytes) name
-              (passed (length (written.prefix_of bytes) == 0) [] (uri_of (bindings_of declarations) (written.prefix_of bytes)) (ap (λ (x : List ℕ). length x == 0) q.prefix_is ∙ encoded-some c prefix) ∙ uri-is p name.local bytes q b)
+              (passed (length (written.prefix_of bytes) == 0) [] (uri_of (bindings_of declarations) (written.prefix_of bytes))
+              (ap (λ (x : List ℕ). length x == 0) q.prefix_is ∙ encoded-some c prefix) ∙ uri-is p name.local bytes q b)
               (local-is p bytes local q);
         };
         no_declaration = declares-not p good local (inl e);
       }
 
-  pub attribute-read : list_all is_declarable declarations ≡ true → is_attribute_name declarations name ≡ true → IsReadAttribute (encode_utf8_all (attribute_name declarations name))
+  pub attribute-read : list_all is_declarable declarations ≡ true → is_attribute_name declarations name ≡ true →
+      IsReadAttribute (encode_utf8_all (attribute_name declarations name))
   attribute-read all h =
       let prefix = prefix_of (of_prefixes declarations) name.uri in
-      let p = both (is_ncname name.local) (if length name.uri == 0 then not (bytes_eq name.local xmlns) else not (length prefix == 0) && bytes_eq (namespace_of declarations prefix) name.uri) h in
+      let p = both (is_ncname name.local) (if length name.uri == 0 then not (bytes_eq name.local xmlns) else not (length prefix == 0) &&
+      bytes_eq (namespace_of declarations prefix) name.uri) h in
       by (length name.uri == 0) refl p.0 p.1
     where
       by : (t : Bool) → (length name.uri == 0) ≡ t → is_ncname name.local ≡ true
-          → (if t then not (bytes_eq name.local xmlns) else not (length (prefix_of (of_prefixes declarations) name.uri) == 0) && bytes_eq (namespace_of declarations (prefix_of (of_prefixes declarations) name.uri)) name.uri) ≡ true
+          → (if t then not (bytes_eq name.local xmlns) else not (length (prefix_of (of_prefixes declarations) name.uri) == 0) &&
+          bytes_eq (namespace_of declarations (prefix_of (of_prefixes declarations) name.uri)) name.uri) ≡ true
           → IsReadAttribute (encode_utf8_all (qualified (if t then [] else prefix_of (of_prefixes declarations) name.uri) name.local))
       by true e local g = read-plain local e (not_false (bytes_eq name.local xmlns) g)
       by false e local g =
           let prefix = prefix_of (of_prefixes declarations) name.uri in
           let r = both (not (length prefix == 0)) (bytes_eq (namespace_of declarations prefix) name.uri) g in
-          read-prefixed prefix (prefix-good (of_prefixes declarations) name.uri (filtered-all (λ (d : Declaration). not (length d.prefix == 0)) declarations all)) local e (not_false (length prefix == 0) r.0) r.1
+          read-prefixed prefix (prefix-good (of_prefixes declarations) name.uri
+          (filtered-all (λ (d : Declaration). not (length d.prefix == 0)) declarations all)) local e (not_false (length prefix == 0) r.0) r.1

@@ -10,7 +10,8 @@ use lib.Utf8.{encode}
 use Rattle.inv_base.specs.Tree.{Name, Attribute, Forest, no_more, a_text, an_element, begins_with_text}
 use Rattle.xml_tokens.specs.Markup.{Written}
 use Rattle.xml_write.specs.Escapes.{in_value}
-use Rattle.xml_write.specs.Canonical.{Declaration, element_name, attribute_name, declaring_name, attribute_text, declarations_text, attributes_text, element_text, is_childless, forest_text}
+use Rattle.xml_write.specs.Canonical.{Declaration, element_name, attribute_name, declaring_name, attribute_text, declarations_text, attributes_text}
+use Rattle.xml_write.specs.Canonical.{element_text, is_childless, forest_text}
 use Rattle.xml_laws.proofs.ValueLemmas.{bytes_of_value}
 use Rattle.xml_laws.proofs.AttributeLemmas.{attribute_bytes, written_bytes}
 use Rattle.xml_laws.proofs.TagStateLemmas.{declaring, given, tag_attributes}
@@ -40,7 +41,8 @@ list-encoded : {X : Type 0} (name value : X → List ℕ) (xs : List X) → enco
 list-encoded {X} name value xs =
     let as_written : X → Written = λ x. record { name = encode_utf8_all (name x); value = value x } in
     encodes-flat_map (λ x. attribute_text (name x) (value x)) xs
-    ∙ (flat_map-same (λ x. encode_utf8_all (attribute_text (name x) (value x))) (λ x. bytes_of_written (as_written x)) (λ x. attribute-encoded (name x) (value x)) xs
+    ∙ (flat_map-same (λ x. encode_utf8_all (attribute_text (name x) (value x))) (λ x. bytes_of_written (as_written x))
+    (λ x. attribute-encoded (name x) (value x)) xs
     ∙ sym (flat_map-map bytes_of_written as_written xs))
 
 -- the attributes of a tag
@@ -48,15 +50,18 @@ pub attributes-encoded : (declarations own : List Declaration) (attributes : Lis
     → encode_utf8_all (declarations_text own ++ attributes_text declarations attributes) ≡ written_bytes (tag_attributes declarations own attributes)
 attributes-encoded declarations own attributes =
     encodes-append (declarations_text own) (attributes_text declarations attributes)
-    ∙ (ap (λ x. x ++ encode_utf8_all (attributes_text declarations attributes)) (list-encoded (λ (d : Declaration). declaring_name d.prefix) (λ (d : Declaration). d.uri) own)
-    ∙ (ap (λ x. written_bytes (map declaring own) ++ x) (list-encoded (λ (a : Attribute). attribute_name declarations a.name) (λ (a : Attribute). a.value) attributes)
+    ∙ (ap (λ x. x ++ encode_utf8_all (attributes_text declarations attributes))
+    (list-encoded (λ (d : Declaration). declaring_name d.prefix) (λ (d : Declaration). d.uri) own)
+    ∙ (ap (λ x. written_bytes (map declaring own) ++ x)
+    (list-encoded (λ (a : Attribute). attribute_name declarations a.name) (λ (a : Attribute). a.value) attributes)
     ∙ sym (flat_map-append bytes_of_written (map declaring own) (map (given declarations) attributes))))
 
 -- the bytes of an end tag
 abbrev pub end_piece : List ℕ → List ℕ
 end_piece name = 0x3C ∷ (0x2F ∷ (name ++ (0x3E ∷ [])))
 
-module _ (name attributes : List ℕ) (N : List ℕ) (W : List Written) (named : encode_utf8_all name ≡ N) (attributed : encode_utf8_all attributes ≡ written_bytes W) where
+module _ (name attributes : List ℕ) (N : List ℕ) (W : List Written) (named : encode_utf8_all name ≡ N)
+    (attributed : encode_utf8_all attributes ≡ written_bytes W) where
   empty-encoded : encode_utf8_all (0x3C ∷ (name ++ (attributes ++ codes "/>"))) ≡ start_piece N W true
   unfolding encode
   empty-encoded =
@@ -64,7 +69,8 @@ module _ (name attributes : List ℕ) (N : List ℕ) (W : List Written) (named :
       ap (λ x. 0x3C ∷ x)
       (encodes-append name (attributes ++ codes "/>")
       ∙ (ap (λ x. x ++ encode_utf8_all (attributes ++ codes "/>")) named
-      ∙ (ap (λ x. N ++ x) (encodes-append attributes (codes "/>") ∙ (ap (λ x. x ++ close) attributed ∙ sym (append_assoc (written_bytes W) (0x2F ∷ []) (0x3E ∷ []))))
+      ∙ (ap (λ x. N ++ x) (encodes-append attributes (codes "/>") ∙
+      (ap (λ x. x ++ close) attributed ∙ sym (append_assoc (written_bytes W) (0x2F ∷ []) (0x3E ∷ []))))
       ∙ sym (append_assoc N (written_bytes W ++ (0x2F ∷ [])) (0x3E ∷ [])))))
 
   start-encoded : (more : List ℕ) → encode_utf8_all (0x3C ∷ (name ++ (attributes ++ (0x3E ∷ more)))) ≡ start_piece N W false ++ encode_utf8_all more
@@ -73,7 +79,8 @@ module _ (name attributes : List ℕ) (N : List ℕ) (W : List Written) (named :
       ap (λ x. 0x3C ∷ x)
       (encodes-append name (attributes ++ (0x3E ∷ more))
       ∙ (ap (λ x. x ++ encode_utf8_all (attributes ++ (0x3E ∷ more))) named
-      ∙ (ap (λ x. N ++ x) (encodes-append attributes (0x3E ∷ more) ∙ (ap (λ x. x ++ (0x3E ∷ encode_utf8_all more)) attributed ∙ ap (λ x. x ++ (0x3E ∷ encode_utf8_all more)) (sym (append-nil (written_bytes W)))))
+      ∙ (ap (λ x. N ++ x) (encodes-append attributes (0x3E ∷ more) ∙
+      (ap (λ x. x ++ (0x3E ∷ encode_utf8_all more)) attributed ∙ ap (λ x. x ++ (0x3E ∷ encode_utf8_all more)) (sym (append-nil (written_bytes W)))))
       ∙ (sym (append_assoc N (written_bytes W ++ []) (0x3E ∷ encode_utf8_all more))
       ∙ sym (append_assoc (N ++ (written_bytes W ++ [])) (0x3E ∷ []) (encode_utf8_all more))))))
 
@@ -85,7 +92,8 @@ module _ (name attributes : List ℕ) (N : List ℕ) (W : List Written) (named :
   pub element-empty : (inside : List ℕ) → encode_utf8_all (element_text name attributes true inside) ≡ start_piece N W true
   element-empty inside = empty-encoded
 
-  pub element-filled : (inside : List ℕ) → encode_utf8_all (element_text name attributes false inside) ≡ start_piece N W false ++ (encode_utf8_all inside ++ end_piece N)
+  pub element-filled : (inside : List ℕ) → encode_utf8_all (element_text name attributes false inside) ≡ start_piece N W false ++
+      (encode_utf8_all inside ++ end_piece N)
   element-filled inside =
       start-encoded (inside ++ (codes "</" ++ (name ++ (0x3E ∷ []))))
       ∙ ap (λ x. start_piece N W false ++ x) (encodes-append inside (codes "</" ++ (name ++ (0x3E ∷ []))) ∙ ap (λ x. encode_utf8_all inside ++ x) end-encoded)
@@ -93,13 +101,17 @@ module _ (name attributes : List ℕ) (N : List ℕ) (W : List Written) (named :
 -- the bytes of an element
 abbrev pub element_bytes : List Declaration → List Declaration → Name → List Attribute → Forest → List ℕ
 element_bytes declarations own name attributes inside =
-    encode_utf8_all (element_text (element_name declarations name) (declarations_text own ++ attributes_text declarations attributes) (is_childless inside) (forest_text declarations inside))
+    encode_utf8_all (element_text (element_name declarations name) (declarations_text own ++ attributes_text declarations attributes) (is_childless inside)
+    (forest_text declarations inside))
 
-pub element-first : (declarations own : List Declaration) (name : Name) (attributes : List Attribute) (inside : Forest) → (more : List ℕ) × (element_bytes declarations own name attributes inside ≡ 0x3C ∷ more)
+pub element-first : (declarations own : List Declaration) (name : Name) (attributes : List Attribute) (inside : Forest) → (more : List ℕ) ×
+    (element_bytes declarations own name attributes inside ≡ 0x3C ∷ more)
 unfolding encode
 element-first declarations own name attributes inside = by (is_childless inside)
   where
-    by : (t : Bool) → (more : List ℕ) × (encode_utf8_all (element_text (element_name declarations name) (declarations_text own ++ attributes_text declarations attributes) t (forest_text declarations inside)) ≡ 0x3C ∷ more)
+    by : (t : Bool) → (more : List ℕ) ×
+        (encode_utf8_all (element_text (element_name declarations name) (declarations_text own ++ attributes_text declarations attributes) t
+        (forest_text declarations inside)) ≡ 0x3C ∷ more)
     by true = (_, refl)
     by false = (_, refl)
 
@@ -112,5 +124,7 @@ forest-begins declarations (an_element name attributes inside rest) h =
     let behind = encode_utf8_all (forest_text declarations rest) in
     record {
       more = λ r. (first.0 ++ behind) ++ (0x3C ∷ r);
-      is = λ r. ap (λ x. x ++ (0x3C ∷ r)) (encodes-append (element_text (element_name declarations name) (attributes_text declarations attributes) (is_childless inside) (forest_text declarations inside)) (forest_text declarations rest) ∙ ap (λ x. x ++ behind) first.1);
+      is = λ r. ap (λ x. x ++ (0x3C ∷ r))
+          (encodes-append (element_text (element_name declarations name) (attributes_text declarations attributes) (is_childless inside)
+          (forest_text declarations inside)) (forest_text declarations rest) ∙ ap (λ x. x ++ behind) first.1);
     }

@@ -1,5 +1,6 @@
 -- Characters of XML and their bytes.
-use Rattle.std.proofs.Common.{◌≡◌, ℕ, suc, ◌<◌, ◌≤◌, Bool, true, ◌&&◌, ◌||◌, ◌==◌, List, [], ◌∷◌, length, get_or, inl, inr, refl, sym, ap, ◌∙◌, arith, chars, encode_utf8_all}
+use Rattle.std.proofs.Common.{◌≡◌, ℕ, suc, ◌<◌, ◌≤◌, Bool, true, ◌&&◌, ◌||◌, ◌==◌, List, [], ◌∷◌, length, get_or, inl, inr, refl, sym, ap, ◌∙◌, arith, chars}
+use Rattle.std.proofs.Common.{encode_utf8_all}
 use Rattle.std.specs.List.{list_all}
 use Rattle.std.specs.Str.{is_utf8}
 use Rattle.std.proofs.lemmas.List.{append-nil}
@@ -61,7 +62,8 @@ name_char-char c h = grind (arith, nat_tests)
 
 start-name_char : (c : ℕ) → is_name_start c ≡ true → is_name_char c ≡ true
 unfolding is_name_char
-start-name_char c h = ap (λ t. t || (c == 0x2D || (c == 0x2E || (is_within 0x30 0x39 c || (c == 0xB7 || (is_within 0x300 0x36F c || is_within 0x203F 0x2040 c)))))) h
+start-name_char c h =
+    ap (λ t. t || (c == 0x2D || (c == 0x2E || (is_within 0x30 0x39 c || (c == 0xB7 || (is_within 0x300 0x36F c || is_within 0x203F 0x2040 c)))))) h
 
 pub ncname-characters : (cs : List ℕ) → is_ncname cs ≡ true → list_all is_name_char cs ≡ true
 ncname-characters [] h = cc

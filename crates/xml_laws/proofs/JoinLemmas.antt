@@ -53,14 +53,20 @@ with-first e (m ∷ more) = by e m (joined_back more) (with-first m more) (λ a 
         texts (has_text c r ∷ more) = ap (λ t. has_text t p ∷ more) (append_assoc a b c)
         texts (d ∷ more) = refl
     by (starts k p) m events one two = first-stays (starts k p) m [] more ∙ (ap (λ z. starts k p ∷ z) one ∙ sym (before-start k p (before m events)))
-    by (has_attribute k v) m events one two = first-stays (has_attribute k v) m [] more ∙ (ap (λ z. has_attribute k v ∷ z) one ∙ sym (before-attribute k v (before m events)))
+    by (has_attribute k v) m events one two = first-stays (has_attribute k v) m [] more ∙
+        (ap (λ z. has_attribute k v ∷ z) one ∙ sym (before-attribute k v (before m events)))
     by ends m events one two = first-stays ends m [] more ∙ (ap (λ z. ends ∷ z) one ∙ sym (before-end (before m events)))
     by (has_text a p) (starts k q) events one two =
-        first-stays (has_text a p) (starts k q) [] more ∙ (ap (λ z. has_text a p ∷ z) one ∙ (ap (λ z. has_text a p ∷ z) (before-start k q events) ∙ ap (before (has_text a p)) (sym (before-start k q events))))
+        first-stays (has_text a p) (starts k q) [] more ∙
+        (ap (λ z. has_text a p ∷ z) one ∙ (ap (λ z. has_text a p ∷ z) (before-start k q events) ∙
+        ap (before (has_text a p)) (sym (before-start k q events))))
     by (has_text a p) (has_attribute k v) events one two =
-        first-stays (has_text a p) (has_attribute k v) [] more ∙ (ap (λ z. has_text a p ∷ z) one ∙ (ap (λ z. has_text a p ∷ z) (before-attribute k v events) ∙ ap (before (has_text a p)) (sym (before-attribute k v events))))
+        first-stays (has_text a p) (has_attribute k v) [] more ∙
+        (ap (λ z. has_text a p ∷ z) one ∙ (ap (λ z. has_text a p ∷ z) (before-attribute k v events) ∙
+        ap (before (has_text a p)) (sym (before-attribute k v events))))
     by (has_text a p) ends events one two =
-        first-stays (has_text a p) ends [] more ∙ (ap (λ z. has_text a p ∷ z) one ∙ (ap (λ z. has_text a p ∷ z) (before-end events) ∙ ap (before (has_text a p)) (sym (before-end events))))
+        first-stays (has_text a p) ends [] more ∙
+        (ap (λ z. has_text a p ∷ z) one ∙ (ap (λ z. has_text a p ∷ z) (before-end events) ∙ ap (before (has_text a p)) (sym (before-end events))))
 
 -- Joining from the first event on is joining from the last one back.
 pub with_events-back : (events : List Event) → with_events [] events ≡ joined_back events

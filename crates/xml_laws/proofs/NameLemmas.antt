@@ -1,5 +1,6 @@
 -- Names keep their numbers while further ones are seen.
-use Rattle.std.proofs.Common.{◌≡◌, suc, ◌+◌, ◌<◌, Bool, true, false, ◌&&◌, List, [], ◌∷◌, ◌++◌, map, length, refl, sym, ap, ◌∙◌, arith, if◌then◌else◌, subst, true≢false}
+use Rattle.std.proofs.Common.{◌≡◌, suc, ◌+◌, ◌<◌, Bool, true, false, ◌&&◌, List, [], ◌∷◌, ◌++◌, map, length, refl, sym, ap, ◌∙◌, arith, if◌then◌else◌, subst}
+use Rattle.std.proofs.Common.{true≢false}
 use Rattle.std.proofs.lemmas.List.{append_assoc, append-nil}
 use Rattle.std.proofs.lemmas.Slice.Eq.{bytes_eq-Decides}
 use Rattle.inv_base.specs.Tree.{Name, Attribute}
@@ -34,7 +35,8 @@ extends-with_name (n ∷ names) name = by (same_name n name) (extends-with_name 
 
 pub extends-with_names : (names more : List Name) → Extends names (with_names names more)
 extends-with_names names [] = extends-none names
-extends-with_names names (name ∷ more) = extends-more names (with_name names name) _ (extends-with_name names name) (extends-with_names (with_name names name) more)
+extends-with_names names (name ∷ more) = extends-more names (with_name names name) _ (extends-with_name names name)
+    (extends-with_names (with_name names name) more)
 
 same_name-is : (a b : Name) → same_name a b ≡ true → a ≡ b
 same_name-is a b h =
@@ -109,8 +111,14 @@ have-with_names names (name ∷ more) = (
 )
 
 -- What attributes tell by a table of names is told of them by any longer one.
-pub attributes-told : (names final : List Name) (attributes : List Attribute) → Extends names final → HaveNames names (map (λ (a : Attribute). a.name) attributes)
+pub attributes-told : (names final : List Name) (attributes : List Attribute) → Extends names final →
+    HaveNames names (map (λ (a : Attribute). a.name) attributes)
     → TellsAttributes final attributes (map (attribute_event names) attributes)
 attributes-told names final [] e h = refl
-attributes-told names final (a ∷ attributes) e h =
-    (number_of a.name names, map (attribute_event names) attributes, number-extends names final a.name e h.0, refl, attributes-told names final attributes e h.1)
+attributes-told names final (a ∷ attributes) e h = (
+  number_of a.name names,
+  map (attribute_event names) attributes,
+  number-extends names final a.name e h.0,
+  refl,
+  attributes-told names final attributes e h.1,
+)

@@ -1,5 +1,6 @@
 -- Names as canonical text writes them, with a prefix or without.
-use Rattle.std.proofs.Common.{◌≡◌, ℕ, ◌≤◌, Bool, true, false, not, ◌&&◌, ◌||◌, ◌==◌, List, [], ◌∷◌, ◌++◌, length, refl, sym, ap, ◌∙◌, arith, Some, None, chars, encode_utf8_all, true≢false}
+use Rattle.std.proofs.Common.{◌≡◌, ℕ, ◌≤◌, Bool, true, false, not, ◌&&◌, ◌||◌, ◌==◌, List, [], ◌∷◌, ◌++◌, length, refl, sym, ap, ◌∙◌, arith, Some, None, chars}
+use Rattle.std.proofs.Common.{encode_utf8_all, true≢false}
 use Rattle.std.specs.List.{list_all, list_any, before_first, after_first}
 use Rattle.std.specs.Str.{bytes_eq}
 use Rattle.std.proofs.lemmas.List.Folds.{list_all-append}
@@ -22,7 +23,8 @@ use Rattle.xml_laws.proofs.AttributeLemmas.{may_name, IsWrittenName}
 -- Texts are equal where their bytes are.
 pub eq-encoded : (a b : List ℕ) → bytes_eq (encode_utf8_all a) (encode_utf8_all b) ≡ bytes_eq a b
 eq-encoded a b =
-    same_from_decides _ _ (Decides-like (bytes_eq (encode_utf8_all a) (encode_utf8_all b)) (encodes_same a b) (λ e. ap encode_utf8_all e) (bytes_eq-Decides (encode_utf8_all a) (encode_utf8_all b))) (bytes_eq-Decides a b)
+    same_from_decides _ _ (Decides-like (bytes_eq (encode_utf8_all a) (encode_utf8_all b)) (encodes_same a b) (λ e. ap encode_utf8_all e)
+    (bytes_eq-Decides (encode_utf8_all a) (encode_utf8_all b))) (bytes_eq-Decides a b)
 
 -- no prefix, or an NCName
 abbrev pub is_prefix : List ℕ → Bool
@@ -52,7 +54,8 @@ uncoloned-high c h = grind (arith, nat_tests)
 
 -- An NCName has no colon in its bytes.
 no_colon : (name : List ℕ) → is_ncname name ≡ true → list_all (λ c. not (is_colon c)) (encode_utf8_all name) ≡ true
-no_colon name h = passes-encodes (λ c. not (is_colon c)) uncoloned-high name (all-implied is_name_char (λ c. not (is_colon c)) uncoloned name (ncname-characters name h))
+no_colon name h = passes-encodes (λ c. not (is_colon c)) uncoloned-high name
+    (all-implied is_name_char (λ c. not (is_colon c)) uncoloned name (ncname-characters name h))
 
 named : (name : List ℕ) → is_ncname name ≡ true → list_all name_or_colon name ≡ true
 named name h = all-implied is_name_char name_or_colon (λ c q. ap (λ t. t || c == 0x3A) q) name (ncname-characters name h)
@@ -63,7 +66,8 @@ pub record IsQualified (prefix local name : List ℕ) : Type 0 where
   pub prefix_is : prefix_of name ≡ encode_utf8_all prefix
   pub local_is : local_of name ≡ encode_utf8_all local
 
-written-name : (characters : List ℕ) → list_all name_or_colon characters ≡ true → ¬ (characters ≡ []) → is_qname (encode_utf8_all characters) ≡ true → IsWrittenName (encode_utf8_all characters)
+written-name : (characters : List ℕ) → list_all name_or_colon characters ≡ true → ¬ (characters ≡ []) → is_qname (encode_utf8_all characters) ≡ true →
+    IsWrittenName (encode_utf8_all characters)
 written-name [] h some q = absurd (some refl)
 written-name (c ∷ characters) h some q =
     let p = both (name_or_colon c) (list_all name_or_colon characters) h in
@@ -100,11 +104,14 @@ prefixed prefix local g h =
     let split : bytes ≡ encode_utf8_all prefix ++ (0x3A ∷ encode_utf8_all local) = encodes-append prefix (0x3A ∷ local) in
     let some : list_any is_colon bytes ≡ true = ap (list_any is_colon) split ∙ any-front is_colon (encode_utf8_all prefix) 0x3A (encode_utf8_all local) refl in
     let front : prefix_of bytes ≡ encode_utf8_all prefix =
-    chosen (list_any is_colon bytes) _ _ some ∙ (ap (before_first is_colon) split ∙ before-front is_colon (encode_utf8_all prefix) 0x3A (encode_utf8_all local) (no_colon prefix g) refl) in
+    chosen (list_any is_colon bytes) _ _ some ∙
+    (ap (before_first is_colon) split ∙ before-front is_colon (encode_utf8_all prefix) 0x3A (encode_utf8_all local) (no_colon prefix g) refl) in
     let last : local_of bytes ≡ encode_utf8_all local =
-    chosen (list_any is_colon bytes) _ _ some ∙ (ap (after_first is_colon) split ∙ after-front is_colon (encode_utf8_all prefix) 0x3A (encode_utf8_all local) (no_colon prefix g) refl) in
+    chosen (list_any is_colon bytes) _ _ some ∙
+    (ap (after_first is_colon) split ∙ after-front is_colon (encode_utf8_all prefix) 0x3A (encode_utf8_all local) (no_colon prefix g) refl) in
     let all : list_all name_or_colon (prefix ++ (0x3A ∷ local)) ≡ true =
-    list_all-append name_or_colon prefix (0x3A ∷ local) ∙ (ap (λ t. t && list_all name_or_colon (0x3A ∷ local)) (named prefix g) ∙ colon_then local (named local h)) in
+    list_all-append name_or_colon prefix (0x3A ∷ local) ∙
+    (ap (λ t. t && list_all name_or_colon (0x3A ∷ local)) (named prefix g) ∙ colon_then local (named local h)) in
     record {
       written = written-name (prefix ++ (0x3A ∷ local)) all (no_empty prefix local) (
           chosen (list_any is_colon bytes) _ _ some
@@ -139,7 +146,8 @@ named-prefix c prefix g = by (length (c ∷ prefix) == 0) (not_none (length pref
     by true e g = absurd (true≢false e)
     by false e g = g
 
-pub qualified-written : (prefix local : List ℕ) → is_prefix prefix ≡ true → is_ncname local ≡ true → IsQualified prefix local (encode_utf8_all (qualified prefix local))
+pub qualified-written : (prefix local : List ℕ) → is_prefix prefix ≡ true → is_ncname local ≡ true →
+    IsQualified prefix local (encode_utf8_all (qualified prefix local))
 qualified-written [] local g h = unprefixed local h
 qualified-written (c ∷ prefix) local g h = prefixed (c ∷ prefix) local (named-prefix c prefix g) h
 
@@ -162,4 +170,5 @@ unfolding encode
 declaring-declares [] g = refl
 declaring-declares (c ∷ prefix) g =
     let q = prefixed xmlns (c ∷ prefix) xmlns-name (named-prefix c prefix g) in
-    chosen (bytes_eq (prefix_of (encode_utf8_all (declaring_name (c ∷ prefix)))) xmlns) (Some (local_of (encode_utf8_all (declaring_name (c ∷ prefix))))) None (ap (λ x. bytes_eq x xmlns) q.prefix_is) ∙ ap Some q.local_is
+    chosen (bytes_eq (prefix_of (encode_utf8_all (declaring_name (c ∷ prefix)))) xmlns) (Some (local_of (encode_utf8_all (declaring_name (c ∷ prefix))))) None
+    (ap (λ x. bytes_eq x xmlns) q.prefix_is) ∙ ap Some q.local_is

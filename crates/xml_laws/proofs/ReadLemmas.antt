@@ -1,5 +1,6 @@
 -- What is read behind a state is the rest of its open elements.
-use Rattle.std.proofs.Common.{◌≡◌, ℕ, zero, suc, pred, ◌+◌, ◌≤◌, Bool, true, false, not, ◌&&◌, ◌||◌, ◌==◌, nat_lt, nat_le, List, [], ◌∷◌, ◌++◌, map, length, refl, sym, ap, ◌∙◌, arith, if◌then◌else◌, subst, true≢false, Option, Some, None, Result, Ok, Err}
+use Rattle.std.proofs.Common.{◌≡◌, ℕ, zero, suc, pred, ◌+◌, ◌≤◌, Bool, true, false, not, ◌&&◌, ◌||◌, ◌==◌, nat_lt, nat_le, List, [], ◌∷◌, ◌++◌, map, length}
+use Rattle.std.proofs.Common.{refl, sym, ap, ◌∙◌, arith, if◌then◌else◌, subst, true≢false, Option, Some, None, Result, Ok, Err}
 use Rattle.std.proofs.lemmas.List.{append_assoc}
 use Rattle.std.proofs.lemmas.Option.{none-some}
 use Rattle.std.proofs.lemmas.Bool.Decides.{nat_tests}
@@ -16,7 +17,8 @@ use Rattle.xml_state.specs.Faults.{fault_at}
 use Rattle.xml_state.specs.Events.{Event, starts, has_text, ends, with_events}
 use Rattle.xml_state.specs.Documents.{Tells}
 use Rattle.xml_state.specs.Names.{number_of}
-use Rattle.xml_state.specs.States.{Open, State, begin, is_outside, behind_aside, behind_text, behind_start_tag, behind_end_tag, state_behind, events_of, text_events, start_tag_events, names_behind, name_in, attributes_in, attribute_event, bindings_in}
+use Rattle.xml_state.specs.States.{Open, State, begin, is_outside, behind_aside, behind_text, behind_start_tag, behind_end_tag, state_behind, events_of}
+use Rattle.xml_state.specs.States.{text_events, start_tag_events, names_behind, name_in, attributes_in, attribute_event, bindings_in}
 use Rattle.xml_state.specs.Admission.{text_fault, is_text_too_many, start_tag_causes, end_tag_causes, fault_of}
 use Rattle.std.specs.Str.{bytes_eq}
 use Rattle.xml_profile.specs.TokenByToken.{waits, Read, telling, stops_at, fault_within, unfinished, read, resume, read_whole}
@@ -38,7 +40,8 @@ counted_text in_text events = if in_text && begins_text events then 1 else 0
 
 -- What is told behind a state: the rest of its elements, by a table that goes on with its names, within the limit on
 -- nodes.
-pub record Goes (limits : Limits) (names : List Name) (open_elements : List Open) (root_seen in_text : Bool) (nodes : ℕ) (final : List Name) (events : List Event) : Type 0 where
+pub record Goes (limits : Limits) (names : List Name) (open_elements : List Open) (root_seen in_text : Bool) (nodes : ℕ) (final : List Name)
+    (events : List Event) : Type 0 where
   pub grown : Extends names final
   pub count : ℕ
   pub rest : Rest final open_elements root_seen events count
@@ -76,21 +79,29 @@ text-small : (in_text : Bool) (t : List ℕ) (place : ℕ) (events : List Event)
     → count + (if in_text then nodes else nodes + 1) ≤ limit + counted_text true events
     → (count + new_text events) + nodes ≤ limit + counted_text in_text (before (has_text t place) events)
 text-small in_text t place events count nodes limit h =
-    subst (λ b. (count + new_text events) + nodes ≤ limit + (if in_text && b then 1 else 0)) (sym (begins-before t place events)) (by in_text (begins_text events) h)
+    subst (λ b. (count + new_text events) + nodes ≤ limit + (if in_text && b then 1 else 0)) (sym (begins-before t place events))
+    (by in_text (begins_text events) h)
   where
-    by : (i b : Bool) → count + (if i then nodes else nodes + 1) ≤ limit + (if b then 1 else 0) → (count + (if b then 0 else 1)) + nodes ≤ limit + (if i && true then 1 else 0)
+    by : (i b : Bool) → count + (if i then nodes else nodes + 1) ≤ limit + (if b then 1 else 0) →
+        (count + (if b then 0 else 1)) + nodes ≤ limit + (if i && true then 1 else 0)
     by true true h = omega arith
     by true false h = omega arith
     by false true h = omega arith
     by false false h = omega arith
 
 module _ (limits : Limits) (s : State) where
-  text-back : (t : List ℕ) (place : ℕ) → (length t == 0) ≡ false → (final : List Name) (events : List Event) → GoesOn limits (behind_text s) final (joined_back events)
+  text-back : (t : List ℕ) (place : ℕ) → (length t == 0) ≡ false → (final : List Name) (events : List Event) →
+      GoesOn limits (behind_text s) final (joined_back events)
       → GoesOn limits s final (joined_back (text_events s t place ++ events))
   text-back t place some final events g = by s.open_elements (is_outside s) refl refl g
     where
       by : (open_elements : List Open) (b : Bool) → s.open_elements ≡ open_elements → (length open_elements == 0) ≡ b
-          → GoesOn limits (if b then behind_aside s else record s { position = (behind_aside s).position; in_text = true; nodes = if s.in_text then s.nodes else s.nodes + 1 }) final (joined_back events)
+          → GoesOn limits (if b then behind_aside s else record s {
+            position = (behind_aside s).position;
+            in_text = true;
+            nodes =
+                if s.in_text then s.nodes else s.nodes + 1;
+          }) final (joined_back events)
           → GoesOn limits s final (joined_back ((if b then [] else has_text t place ∷ []) ++ events))
       by open_elements true same e g = g
       by [] false same e g = absurd (true≢false e)
@@ -98,7 +109,8 @@ module _ (limits : Limits) (s : State) where
         grown = g.grown;
         count = g.count + new_text (joined_back events);
         rest = subst (λ x. Rest final x s.root_seen (before (has_text t place) (joined_back events)) (g.count + new_text (joined_back events))) (sym same)
-            (text-inside final (Rest final outer s.root_seen) t place some (joined_back events) g.count (subst (λ x. Rest final x s.root_seen (joined_back events) g.count) same g.rest));
+            (text-inside final (Rest final outer s.root_seen) t place some (joined_back events) g.count
+            (subst (λ x. Rest final x s.root_seen (joined_back events) g.count) same g.rest));
         small = text-small s.in_text t place (joined_back events) g.count s.nodes limits.nodes g.small;
       }
 
@@ -106,11 +118,17 @@ module _ (limits : Limits) (s : State) where
   text-sound outside h sound = by (is_outside s) h
     where
       by : (b : Bool) → (if b then (if outside then None else Some TextOutside) else (if is_text_too_many limits s then Some TooManyNodes else None)) ≡ None
-          → IsSound limits (if b then behind_aside s else record s { position = (behind_aside s).position; in_text = true; nodes = if s.in_text then s.nodes else s.nodes + 1 })
+          → IsSound limits (if b then behind_aside s else record s {
+            position = (behind_aside s).position;
+            in_text = true;
+            nodes =
+                if s.in_text then s.nodes else s.nodes + 1;
+          })
       by true h = record { rooted = sound.rooted; small = sound.small }
       by false h = record { rooted = sound.rooted; small = λ seen. within s.in_text h (sound.small seen) }
         where
-          within : (i : Bool) → (if (not i && nat_lt limits.nodes (s.nodes + 1)) then Some TooManyNodes else None) ≡ None → s.nodes ≤ limits.nodes → (if i then s.nodes else s.nodes + 1) ≤ limits.nodes
+          within : (i : Bool) → (if (not i && nat_lt limits.nodes (s.nodes + 1)) then Some TooManyNodes else None) ≡ None → s.nodes ≤ limits.nodes →
+              (if i then s.nodes else s.nodes + 1) ≤ limits.nodes
           within true h n = n
           within false h n = room (nat_lt limits.nodes (s.nodes + 1)) refl h
             where
@@ -120,7 +138,8 @@ module _ (limits : Limits) (s : State) where
 
   -- start tags
   module _ (tag : Tag) where
-    start-admitted : first_cause (start_tag_causes limits s tag) ≡ None → ((is_outside s && s.root_seen) ≡ false) × (nat_lt limits.nodes (s.nodes + (1 + length (attributes_in s tag))) ≡ false)
+    start-admitted : first_cause (start_tag_causes limits s tag) ≡ None → ((is_outside s && s.root_seen) ≡ false) ×
+        (nat_lt limits.nodes (s.nodes + (1 + length (attributes_in s tag))) ≡ false)
     start-admitted h = let n = causes-none (start_tag_causes limits s tag) h in (n.1.1.0, n.1.1.1.1.1.1.1.1.0)
 
     start-sound : first_cause (start_tag_causes limits s tag) ≡ None → IsSound limits (behind_start_tag s tag)
@@ -141,7 +160,8 @@ module _ (limits : Limits) (s : State) where
     inner-joins false events = refl
 
     start-joins : (place : ℕ) (events : List Event)
-        → joined_back (start_tag_events s tag place ++ events) ≡ starts (number_of (name_in s tag) (names_behind s tag)) place ∷ (told ++ with_end tag.is_empty (joined_back events))
+        → joined_back (start_tag_events s tag place ++ events) ≡ starts (number_of (name_in s tag) (names_behind s tag)) place ∷ (told ++
+        with_end tag.is_empty (joined_back events))
     unfolding told
     start-joins place events =
         let end = if tag.is_empty then ends ∷ [] else [] in
@@ -150,7 +170,8 @@ module _ (limits : Limits) (s : State) where
         (ap joined_back (append_assoc told end events)
         ∙ (attributes-back (names_behind s tag) (attributes_in s tag) (end ++ events) ∙ ap (λ x. told ++ x) (inner-joins tag.is_empty events)))
 
-    start-filled : (b : Bool) (final : List Name) (events : List Event) (count : ℕ) → Rest final (if b then s.open_elements else here ∷ s.open_elements) true events count
+    start-filled : (b : Bool) (final : List Name) (events : List Event) (count : ℕ) →
+        Rest final (if b then s.open_elements else here ∷ s.open_elements) true events count
         → Rest final (here ∷ s.open_elements) true (with_end b events) count
     unfolding with_end
     start-filled true final events count r = end-rest final (Rest final s.open_elements true) events count r
@@ -167,8 +188,10 @@ module _ (limits : Limits) (s : State) where
         subst (GoesOn limits s final) (sym (start-joins place events)) (record {
           grown = extends-more s.names names final (extends-with_names s.names (name_in s tag ∷ map (λ (a : Attribute). a.name) attributes)) g.grown;
           count = g.count + (1 + length attributes);
-          rest = start-rest final (name_in s tag) (number_of (name_in s tag) names) place attributes told (number-extends names final (name_in s tag) g.grown has.0) (attributes-told names final attributes g.grown has.1)
-              here s.open_elements s.root_seen (with_end tag.is_empty (joined_back events)) g.count (start-admitted h).0 sound.rooted (start-filled tag.is_empty final (joined_back events) g.count g.rest);
+          rest = start-rest final (name_in s tag) (number_of (name_in s tag) names) place attributes told
+              (number-extends names final (name_in s tag) g.grown has.0) (attributes-told names final attributes g.grown has.1)
+              here s.open_elements s.root_seen (with_end tag.is_empty (joined_back events)) g.count (start-admitted h).0 sound.rooted
+              (start-filled tag.is_empty final (joined_back events) g.count g.rest);
           small = omega arith;
         })
 
@@ -178,13 +201,18 @@ module _ (limits : Limits) (s : State) where
   end-back name h sound final events g = subst (GoesOn limits s final) (sym (before-end (joined_back events))) (by s.open_elements refl g)
     where
       by : (open_elements : List Open) → s.open_elements ≡ open_elements
-          → GoesOn limits (elim open_elements [ [] ↦ behind_aside s | (element ∷ outer) ↦ record s { position = (behind_aside s).position; open_elements = outer; in_text = false } ]) final (joined_back events)
+          → GoesOn limits (elim open_elements [
+            | [] ↦ behind_aside s
+            | (element ∷ outer) ↦ record s { position = (behind_aside s).position; open_elements = outer; in_text = false }
+          ]) final (joined_back events)
           → GoesOn limits s final (ends ∷ joined_back events)
-      by [] same g = absurd (true≢false (sym (ap (λ (x : List Open). not (elim x [ [] ↦ false | (element ∷ outer) ↦ bytes_eq element.name name ])) same) ∙ (causes-none (end_tag_causes limits s name) h).1.0))
+      by [] same g = absurd (true≢false (sym (ap (λ (x : List Open). not (elim x [ [] ↦ false | (element ∷ outer) ↦ bytes_eq element.name name ])) same) ∙
+          (causes-none (end_tag_causes limits s name) h).1.0))
       by (o ∷ outer) same g = record {
         grown = g.grown;
         count = g.count;
-        rest = subst (λ x. Rest final x s.root_seen (ends ∷ joined_back events) g.count) (sym same) (end-rest final (Rest final outer s.root_seen) (joined_back events) g.count g.rest);
+        rest = subst (λ x. Rest final x s.root_seen (ends ∷ joined_back events) g.count) (sym same)
+            (end-rest final (Rest final outer s.root_seen) (joined_back events) g.count g.rest);
         small = let n = g.small in omega arith;
       }
 
@@ -192,10 +220,14 @@ module _ (limits : Limits) (s : State) where
   end-sound sound = by s.open_elements refl
     where
       by : (open_elements : List Open) → s.open_elements ≡ open_elements
-          → IsSound limits (elim open_elements [ [] ↦ behind_aside s | (element ∷ outer) ↦ record s { position = (behind_aside s).position; open_elements = outer; in_text = false } ])
+          → IsSound limits (elim open_elements [
+            | [] ↦ behind_aside s
+            | (element ∷ outer) ↦ record s { position = (behind_aside s).position; open_elements = outer; in_text = false }
+          ])
       by [] same = record { rooted = sound.rooted; small = sound.small }
       by (o ∷ outer) same =
-          let seen : s.root_seen ≡ true = sym (ap (λ b. b || s.root_seen) (ap (λ (x : List Open). length x == 0) same ∙ not_none (length outer))) ∙ sound.rooted in
+          let seen : s.root_seen ≡ true = sym (ap (λ b. b || s.root_seen) (ap (λ (x : List Open). length x == 0) same ∙ not_none (length outer))) ∙
+          sound.rooted in
           record { rooted = ap (λ b. (length outer == 0) || b) seen ∙ or_true _; small = sound.small }
 
   -- one token
@@ -213,7 +245,8 @@ module _ (limits : Limits) (s : State) where
       → IsSound limits (if length text == 0 then behind_aside s else behind_text s)
   section-sound text h sound = by (length text == 0) h
     where
-      by : (b : Bool) → (if b && not (is_outside s) then None else text_fault limits s false) ≡ None → IsSound limits (if b then behind_aside s else behind_text s)
+      by : (b : Bool) → (if b && not (is_outside s) then None else text_fault limits s false) ≡ None →
+          IsSound limits (if b then behind_aside s else behind_text s)
       by true h = record { rooted = sound.rooted; small = sound.small }
       by false h = text-sound false h sound
 
@@ -292,7 +325,8 @@ turn-finishes : (limits : Limits) (s : State) (place b : ℕ) (bytes : List ℕ)
 turn-finishes limits s place b bytes rest later sound h = absurd (by (nat_le (place + sure_length b bytes) limits.bytes) h)
   where
     by : (t : Bool) → fault_of_whole (if t then record { events = []; stands = waits s place (b ∷ bytes) } else stops_at TooLong limits.bytes).stands ≡ None → ⊥
-    by true h = none-some _ (sym h ∙ ap (λ u. if u then Some (fault_at Truncated (place + length (b ∷ bytes))) else at_end (is_outside s) s.root_seen place) (some_bytes (length bytes)))
+    by true h = none-some _ (sym h ∙ ap (λ u. if u then Some (fault_at Truncated (place + length (b ∷ bytes))) else at_end (is_outside s) s.root_seen place)
+        (some_bytes (length bytes)))
       where
         some_bytes : (n : ℕ) → nat_lt 0 (suc n) ≡ true
         some_bytes n = grind (arith, nat_tests)
@@ -310,13 +344,15 @@ turn-finishes limits s place b bytes rest (good token n) sound h = by (nat_le (p
     by true (Some kind) e h = absurd (none-some _ (sym h))
     by true None e h =
         let r = read true limits (state_behind s token) (place + 1) (pred n) bytes in
-        token-back limits s token place e sound (names_of r.stands) r.events (rest (state_behind s token) (place + 1) (pred n) (token-sound limits s token e sound) h)
+        token-back limits s token place e sound (names_of r.stands) r.events
+        (rest (state_behind s token) (place + 1) (pred n) (token-sound limits s token e sound) h)
 
 read-finishes : (limits : Limits) (bytes : List ℕ) (s : State) (place skip : ℕ) → Finishes limits s (read true limits s place skip bytes)
 unfolding read
 read-finishes limits [] s place skip sound h = end-of-input limits s place sound h
 read-finishes limits (b ∷ bytes) s place (suc skip) sound h = read-finishes limits bytes s (place + 1) skip sound h
-read-finishes limits (b ∷ bytes) s place zero sound h = turn-finishes limits s place b bytes (λ s' place' skip'. read-finishes limits bytes s' place' skip') (beginning s.position true (b ∷ bytes)) sound h
+read-finishes limits (b ∷ bytes) s place zero sound h = turn-finishes limits s place b bytes (λ s' place' skip'. read-finishes limits bytes s' place' skip')
+    (beginning s.position true (b ∷ bytes)) sound h
 
 -- What is read tells the tree of its events.
 pub read-as : (limits : Limits) (bytes : List ℕ) (found : Document) → document limits bytes ≡ Ok found → IsReadAs limits found (tree_of found)

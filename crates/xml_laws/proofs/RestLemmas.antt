@@ -1,5 +1,6 @@
 -- What is told behind a state: the rest of each open element, and the root where it is still to come.
-use Rattle.std.proofs.Common.{◌≡◌, ℕ, suc, ◌+◌, Bool, true, false, not, ◌&&◌, ◌||◌, ◌==◌, List, [], ◌∷◌, ◌++◌, length, refl, sym, ap, ◌∙◌, arith, if◌then◌else◌, subst, true≢false}
+use Rattle.std.proofs.Common.{◌≡◌, ℕ, suc, ◌+◌, Bool, true, false, not, ◌&&◌, ◌||◌, ◌==◌, List, [], ◌∷◌, ◌++◌, length, refl, sym, ap, ◌∙◌, arith, if◌then◌else◌}
+use Rattle.std.proofs.Common.{subst, true≢false}
 use Rattle.std.proofs.lemmas.List.{append_assoc}
 use Rattle.std.proofs.lemmas.Bool.Decides.{nat_tests}
 use Rattle.inv_base.specs.Tree.{Name, Attribute, Forest, no_more, a_text, an_element, begins_with_text, is_joined, IsDocument, size}
@@ -59,13 +60,15 @@ some-append (c ∷ t) u h = ap not (not_none (length (t ++ u)))
 
 module _ (names : List Name) (P : List Event → ℕ → Type 0) (t : List ℕ) (place : ℕ) (some : (length t == 0) ≡ false) where
   -- a text before the rest of an element
-  pub text-inside : (events : List Event) (count : ℕ) → Inside names P events count → Inside names P (before (has_text t place) events) (count + new_text events)
+  pub text-inside : (events : List Event) (count : ℕ) → Inside names P events count →
+      Inside names P (before (has_text t place) events) (count + new_text events)
   text-inside events count r =
       subst (λ x. Inside names P (before (has_text t place) x) (count + new_text x)) (sym r.is) (by r.forest r.first r.joined r.tells r.counted)
     where
       by : (f : Forest) (first : List Event) → is_joined f ≡ true → Tells names f first → count ≡ size f + r.others
           → Inside names P (before (has_text t place) (first ++ (ends ∷ r.more))) (count + new_text (first ++ (ends ∷ r.more)))
-      by no_more first joined told counted = subst (λ x. Inside names P (before (has_text t place) (x ++ (ends ∷ r.more))) (count + new_text (x ++ (ends ∷ r.more)))) (sym told)
+      by no_more first joined told counted =
+          subst (λ x. Inside names P (before (has_text t place) (x ++ (ends ∷ r.more))) (count + new_text (x ++ (ends ∷ r.more)))) (sym told)
           (record {
             forest = a_text t no_more;
             first = has_text t place ∷ [];
@@ -77,7 +80,8 @@ module _ (names : List Name) (P : List Event → ℕ → Type 0) (t : List ℕ) 
             behind = r.behind;
             counted = omega arith;
           })
-      by (a_text u f) first joined told counted = subst (λ x. Inside names P (before (has_text t place) (x ++ (ends ∷ r.more))) (count + new_text (x ++ (ends ∷ r.more)))) (sym told.2)
+      by (a_text u f) first joined told counted =
+          subst (λ x. Inside names P (before (has_text t place) (x ++ (ends ∷ r.more))) (count + new_text (x ++ (ends ∷ r.more)))) (sym told.2)
           (record {
             forest = a_text (t ++ u) f;
             first = has_text (t ++ u) place ∷ told.1;
@@ -89,14 +93,20 @@ module _ (names : List Name) (P : List Event → ℕ → Type 0) (t : List ℕ) 
             behind = r.behind;
             counted = omega arith;
           })
-      by (an_element name attributes inside f) first joined told counted = subst (λ x. Inside names P (before (has_text t place) (x ++ (ends ∷ r.more))) (count + new_text (x ++ (ends ∷ r.more)))) (sym told.6)
+      by (an_element name attributes inside f) first joined told counted =
+          subst (λ x. Inside names P (before (has_text t place) (x ++ (ends ∷ r.more))) (count + new_text (x ++ (ends ∷ r.more)))) (sym told.6)
           (record {
             forest = a_text t (an_element name attributes inside f);
             first = has_text t place ∷ (starts told.0 told.1 ∷ (told.2 ++ (told.3 ++ (ends ∷ told.4))));
             more = r.more;
             others = r.others;
             joined = ap (λ b. not b && (is_joined inside && is_joined f)) some ∙ joined;
-            tells = (place, starts told.0 told.1 ∷ (told.2 ++ (told.3 ++ (ends ∷ told.4))), refl, (told.0, told.1, told.2, told.3, told.4, told.5, refl, told.7, told.8, told.9));
+            tells = (
+              place,
+              starts told.0 told.1 ∷ (told.2 ++ (told.3 ++ (ends ∷ told.4))),
+              refl,
+              (told.0, told.1, told.2, told.3, told.4, told.5, refl, told.7, told.8, told.9),
+            );
             is = refl;
             behind = r.behind;
             counted = omega arith;
@@ -119,11 +129,23 @@ end-rest names P events count h = record {
 -- a start tag before the rest of its element
 module _ (names : List Name) (name : Name) (number place : ℕ) (attributes : List Attribute) (told : List Event)
     (numbered : IsNumberOf names name number) (given : TellsAttributes names attributes told) where
-  start-root : (events : List Event) (count : ℕ) → Inside names IsNothing events count → IsRoot names (starts number place ∷ (told ++ events)) (count + (1 + length attributes))
+  start-root : (events : List Event) (count : ℕ) → Inside names IsNothing events count →
+      IsRoot names (starts number place ∷ (told ++ events)) (count + (1 + length attributes))
   start-root events count r = record {
     tree = an_element name attributes r.forest no_more;
     document = record { name = name; attributes = attributes; inside = r.forest; root = refl; joined = r.joined };
-    tells = (number, place, told, r.first, [], numbered, ap (λ x. starts number place ∷ (told ++ x)) (r.is ∙ ap (λ x. r.first ++ (ends ∷ x)) r.behind.is), given, r.tells, refl);
+    tells = (
+      number,
+      place,
+      told,
+      r.first,
+      [],
+      numbered,
+      ap (λ x. starts number place ∷ (told ++ x)) (r.is ∙ ap (λ x. r.first ++ (ends ∷ x)) r.behind.is),
+      given,
+      r.tells,
+      refl,
+    );
     counted = omega (arith, r.counted, r.behind.counted);
   }
 
@@ -139,12 +161,14 @@ module _ (names : List Name) (name : Name) (number place : ℕ) (attributes : Li
         tells = (number, place, told, r.first, o.first, numbered, refl, given, r.tells, o.tells);
         is = ap (λ x. starts number place ∷ (told ++ x)) (r.is ∙ ap (λ x. r.first ++ (ends ∷ x)) o.is)
             ∙ ap (λ x. starts number place ∷ x)
-            (ap (λ x. told ++ x) (sym (append_assoc r.first (ends ∷ o.first) (ends ∷ o.more))) ∙ sym (append_assoc told (r.first ++ (ends ∷ o.first)) (ends ∷ o.more)));
+            (ap (λ x. told ++ x) (sym (append_assoc r.first (ends ∷ o.first) (ends ∷ o.more))) ∙
+            sym (append_assoc told (r.first ++ (ends ∷ o.first)) (ends ∷ o.more)));
         behind = o.behind;
         counted = omega (arith, r.counted, o.counted);
       }
 
-  pub start-rest : (o : Open) (outer : List Open) (seen : Bool) (events : List Event) (count : ℕ) → ((length outer == 0) && seen) ≡ false → ((length outer == 0) || seen) ≡ true
+  pub start-rest : (o : Open) (outer : List Open) (seen : Bool) (events : List Event) (count : ℕ) → ((length outer == 0) && seen) ≡ false →
+      ((length outer == 0) || seen) ≡ true
       → Rest names (o ∷ outer) true events count → Rest names outer seen (starts number place ∷ (told ++ events)) (count + (1 + length attributes))
   start-rest o [] true events count first h r = absurd (true≢false first)
   start-rest o [] false events count first h r = start-root events count r

@@ -46,7 +46,8 @@ declared = record { prefix = []; uri = codes "u" } ∷ record { prefix = codes "
 -- names with a prefix and without, each character that is escaped, `]]>`, and characters of two and three bytes
 abbrev tree : Forest
 tree =
-    an_element (named (codes "u") (codes "a")) (given (named [] (codes "k")) (codes "&<>\"'" ++ 9 ∷ 10 ∷ 13 ∷ []) ∷ given (named (codes "v") (codes "l")) [] ∷ [])
+    an_element (named (codes "u") (codes "a")) (given (named [] (codes "k")) (codes "&<>\"'" ++ 9 ∷ 10 ∷ 13 ∷ []) ∷ given
+    (named (codes "v") (codes "l")) [] ∷ [])
     (a_text (codes "&<]]>" ++ 13 ∷ 0xE9 ∷ 0x20AC ∷ [])
     (an_element (named (codes "v") (codes "b")) [] no_more
     (an_element (named (codes "u") (codes "e")) [] (a_text (codes "]") no_more) no_more))) no_more
@@ -79,7 +80,8 @@ shorter_names : keep_limits (record tight { name = 6 }) declared declared tree �
 unfolding in_text in_value encode
 shorter_names = refl
 
-names : names_in tree ≡ named (codes "u") (codes "a") ∷ named [] (codes "k") ∷ named (codes "v") (codes "l") ∷ named (codes "v") (codes "b") ∷ named (codes "u") (codes "e") ∷ []
+names : names_in tree ≡ named (codes "u") (codes "a") ∷ named [] (codes "k") ∷ named (codes "v") (codes "l") ∷ named (codes "v") (codes "b") ∷ named (codes "u")
+    (codes "e") ∷ []
 names = refl
 
 abbrev tree_in : Result Document XmlFault → Option Forest
@@ -88,11 +90,15 @@ tree_in (Err f) = None
 
 -- what canonical text of a tree is read as, with all definitions open
 abbrev read_back : List Declaration → Forest → Result Document XmlFault
-unfolding document first_fault resume read beginning extent comment section is_declaration instruction attribute_at tag_inside value_of start_tag end_tag is_qname character_at reference_at referred fault_of state_behind events_of tree_of_events is_utf8 chars encode is_char is_white_space is_name_start is_name_char in_text in_value declaration_line
+unfolding document first_fault resume read beginning extent comment section is_declaration instruction attribute_at tag_inside value_of start_tag end_tag
+    is_qname character_at reference_at referred fault_of state_behind events_of tree_of_events is_utf8 chars encode is_char is_white_space is_name_start
+    is_name_char in_text in_value declaration_line
 read_back declarations t = document ample (encode_utf8_all (canonical_text declarations t))
 
 abbrev tree_back : List Declaration → Forest → Option Forest
-unfolding document first_fault resume read beginning extent comment section is_declaration instruction attribute_at tag_inside value_of start_tag end_tag is_qname character_at reference_at referred fault_of state_behind events_of tree_of_events is_utf8 chars encode is_char is_white_space is_name_start is_name_char in_text in_value declaration_line
+unfolding document first_fault resume read beginning extent comment section is_declaration instruction attribute_at tag_inside value_of start_tag end_tag
+    is_qname character_at reference_at referred fault_of state_behind events_of tree_of_events is_utf8 chars encode is_char is_white_space is_name_start
+    is_name_char in_text in_value declaration_line
 tree_back declarations t = tree_in (document ample (encode_utf8_all (canonical_text declarations t)))
 
 is-read : tree_back declared tree ≡ Some tree
@@ -170,11 +176,13 @@ other-lost : tree_back [] (an_element (named (codes "w") (codes "f")) [] no_more
 unfolding tree_back
 other-lost = refl
 
-attribute-lost : tree_back [] (an_element (named [] (codes "f")) (given (named [] (codes "xmlns")) (codes "w") ∷ []) no_more no_more) ≡ Some (an_element (named (codes "w") (codes "f")) [] no_more no_more)
+attribute-lost : tree_back [] (an_element (named [] (codes "f")) (given (named [] (codes "xmlns")) (codes "w") ∷ []) no_more no_more) ≡ Some
+    (an_element (named (codes "w") (codes "f")) [] no_more no_more)
 unfolding tree_back
 attribute-lost = refl
 
-texts-joined : tree_back [] (an_element (named [] (codes "f")) [] (a_text (codes "x") (a_text (codes "y") no_more)) no_more) ≡ Some (an_element (named [] (codes "f")) [] (a_text (codes "xy") no_more) no_more)
+texts-joined : tree_back [] (an_element (named [] (codes "f")) [] (a_text (codes "x") (a_text (codes "y") no_more)) no_more) ≡ Some
+    (an_element (named [] (codes "f")) [] (a_text (codes "xy") no_more) no_more)
 unfolding tree_back
 texts-joined = refl
 

@@ -10,7 +10,8 @@ module _ (p : ℕ → Bool) where
   not_false true h = cc
   not_false false h = refl
 
-  pub position-front : (front : List ℕ) (c : ℕ) (rest : List ℕ) → list_all (λ c. not (p c)) front ≡ true → p c ≡ true → position_or_len p (front ++ (c ∷ rest)) ≡ length front
+  pub position-front : (front : List ℕ) (c : ℕ) (rest : List ℕ) → list_all (λ c. not (p c)) front ≡ true → p c ≡ true →
+      position_or_len p (front ++ (c ∷ rest)) ≡ length front
   position-front [] c rest h e = ap (λ t. cond (not t) (1 + prefix_len (λ x. not (p x)) rest) 0) e
   position-front (b ∷ front) c rest h e =
       let s : 1 + length front ≡ suc (length front) = omega arith in
@@ -24,7 +25,8 @@ module _ (p : ℕ → Bool) where
       let q = both _ _ h in
       ap (λ t. cond t (1 + position_or_len p front) 0) q.0 ∙ (ap (λ n. 1 + n) (position-all front q.1) ∙ s)
 
-  pub before-front : (front : List ℕ) (c : ℕ) (rest : List ℕ) → list_all (λ c. not (p c)) front ≡ true → p c ≡ true → before_first p (front ++ (c ∷ rest)) ≡ front
+  pub before-front : (front : List ℕ) (c : ℕ) (rest : List ℕ) → list_all (λ c. not (p c)) front ≡ true → p c ≡ true →
+      before_first p (front ++ (c ∷ rest)) ≡ front
   before-front front c rest h e = ap (λ n. take n (front ++ (c ∷ rest))) (position-front front c rest h e) ∙ take-append_seam front (c ∷ rest)
 
   pub after-front : (front : List ℕ) (c : ℕ) (rest : List ℕ) → list_all (λ c. not (p c)) front ≡ true → p c ≡ true → after_first p (front ++ (c ∷ rest)) ≡ rest

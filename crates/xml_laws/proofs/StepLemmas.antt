@@ -11,14 +11,16 @@ use Rattle.xml_state.specs.Admission.{fault_of}
 use Rattle.xml_profile.specs.TokenByToken.{Read, telling, read}
 use Rattle.xml_laws.proofs.ReadLemmas.{turn, good_turn}
 
-skipped : (limits : Limits) (s : State) (place : ℕ) (front rest : List ℕ) → read true limits s place (length front) (front ++ rest) ≡ read true limits s (place + length front) 0 rest
+skipped : (limits : Limits) (s : State) (place : ℕ) (front rest : List ℕ) → read true limits s place (length front) (front ++ rest) ≡ read true limits s
+    (place + length front) 0 rest
 unfolding read
 skipped limits s place [] rest = ap (λ p. read true limits s p 0 rest) (let e : place ≡ place + 0 = omega arith in e)
 skipped limits s place (b ∷ front) rest =
     let e : place + 1 + length front ≡ place + suc (length front) = omega arith in
     skipped limits s (place + 1) front rest ∙ ap (λ p. read true limits s p 0 rest) e
 
-pub read-token : (limits : Limits) (s : State) (place : ℕ) (piece rest : List ℕ) (token : Token) → beginning s.position true (piece ++ rest) ≡ good token (length piece)
+pub read-token : (limits : Limits) (s : State) (place : ℕ) (piece rest : List ℕ) (token : Token) →
+    beginning s.position true (piece ++ rest) ≡ good token (length piece)
     → 0 < length piece → place + length piece ≤ limits.bytes → fault_of limits s token ≡ None
     → read true limits s place 0 (piece ++ rest) ≡ telling (events_of s token place) (read true limits (state_behind s token) (place + length piece) 0 rest)
 unfolding read

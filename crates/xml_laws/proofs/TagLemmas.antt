@@ -1,5 +1,6 @@
 -- Tags as canonical text writes them, by their bytes.
-use Rattle.std.proofs.Common.{◌≡◌, ℕ, zero, suc, pred, ◌+◌, ◌-◌, ◌≤◌, Bool, true, false, not, ◌&&◌, ◌==◌, List, [], ◌∷◌, ◌++◌, length, refl, sym, ap, ◌∙◌, arith, Option, Some, None}
+use Rattle.std.proofs.Common.{◌≡◌, ℕ, zero, suc, pred, ◌+◌, ◌-◌, ◌≤◌, Bool, true, false, not, ◌&&◌, ◌==◌, List, [], ◌∷◌, ◌++◌, length, refl, sym, ap, ◌∙◌}
+use Rattle.std.proofs.Common.{arith, Option, Some, None}
 use Rattle.std.specs.List.{list_all}
 use Rattle.std.proofs.lemmas.List.{append_assoc, length-append}
 use Rattle.inv_base.proofs.TextLemmas.{both}
@@ -32,13 +33,15 @@ is_plain_byte b = not (is_quote b) && not (b == 0x3E)
 
 -- Bytes of a tag leave the search where it was.
 pub Passes : Option ℕ → List ℕ → Type 0
-Passes quote front = (rest : List ℕ) (room total : ℕ) → total ≡ length front + room → tag_end (front ++ rest) quote total ≡ farther_by (length front) (tag_end rest quote room)
+Passes quote front = (rest : List ℕ) (room total : ℕ) → total ≡ length front + room →
+    tag_end (front ++ rest) quote total ≡ farther_by (length front) (tag_end rest quote room)
 
 passes-none : (quote : Option ℕ) → Passes quote []
 unfolding Passes
 passes-none quote rest room total e = ap (tag_end rest quote) (let p : total ≡ room = omega arith in p)
 
-passes-more : (quote : Option ℕ) (b : ℕ) (front : List ℕ) → ends_tag quote b ≡ false → quote_behind quote b ≡ quote → Passes quote front → Passes quote (b ∷ front)
+passes-more : (quote : Option ℕ) (b : ℕ) (front : List ℕ) → ends_tag quote b ≡ false → quote_behind quote b ≡ quote → Passes quote front →
+    Passes quote (b ∷ front)
 unfolding Passes
 passes-more quote b front ends stays p rest room zero e = absurd (omega arith)
 passes-more quote b front ends stays p rest room (suc total) e =
@@ -87,7 +90,8 @@ name-plain name h = all-implied may_name is_plain_byte (λ b q. by b (both _ _ (
 pub passes-name : (name : List ℕ) → list_all may_name name ≡ true → Passes None name
 passes-name name h = passes-plain name (name-plain name h)
 
-passes-attribute : (name value : List ℕ) → list_all may_name name ≡ true → list_all (λ b. not (b == 0x22)) value ≡ true → Passes None (attribute_bytes name value)
+passes-attribute : (name value : List ℕ) → list_all may_name name ≡ true → list_all (λ b. not (b == 0x22)) value ≡ true →
+    Passes None (attribute_bytes name value)
 passes-attribute name value n v =
     passes-append None (0x20 ∷ name) (0x3D ∷ (0x22 ∷ (value ++ (0x22 ∷ []))))
     (passes-more None 0x20 name refl refl (passes-plain name (name-plain name n)))
@@ -96,14 +100,16 @@ passes-attribute name value n v =
 pub passes-written : (attributes : List Written) → AreWritten attributes → Passes None (written_bytes attributes)
 passes-written [] w = passes-none None
 passes-written (a ∷ attributes) w =
-    passes-append None (attribute_bytes a.name (bytes_of_value a.value)) (written_bytes attributes) (passes-attribute a.name (bytes_of_value a.value) w.0.plain (value-unquoted a.value w.1)) (passes-written attributes w.2)
+    passes-append None (attribute_bytes a.name (bytes_of_value a.value)) (written_bytes attributes)
+    (passes-attribute a.name (bytes_of_value a.value) w.0.plain (value-unquoted a.value w.1)) (passes-written attributes w.2)
 
 pub passes-close : (is_empty : Bool) → Passes None (tag_close is_empty)
 passes-close true = passes-plain (0x2F ∷ []) refl
 passes-close false = passes-none None
 
 -- A tag ends behind bytes that the search passes.
-pub tag-ends : (front rest : List ℕ) → Passes None front → length front + 2 ≤ greatest_tag → tag_end (front ++ (0x3E ∷ rest)) None (pred greatest_tag) ≡ behind (length front)
+pub tag-ends : (front rest : List ℕ) → Passes None front → length front + 2 ≤ greatest_tag →
+    tag_end (front ++ (0x3E ∷ rest)) None (pred greatest_tag) ≡ behind (length front)
 unfolding Passes
 tag-ends front rest p h =
     let room = 262143 - (length front + 1) in

@@ -1,5 +1,6 @@
 -- What begins with a tag that canonical text writes is its token.
-use Rattle.std.proofs.Common.{◌≡◌, ℕ, suc, ◌+◌, ◌<◌, ◌≤◌, Bool, true, false, not, ◌&&◌, ◌||◌, ◌==◌, List, [], ◌∷◌, ◌++◌, length, take, drop, refl, sym, ap, ◌∙◌, arith, Option, Some, None, Result, Ok, Err, chars, encode_utf8_all}
+use Rattle.std.proofs.Common.{◌≡◌, ℕ, suc, ◌+◌, ◌<◌, ◌≤◌, Bool, true, false, not, ◌&&◌, ◌||◌, ◌==◌, List, [], ◌∷◌, ◌++◌, length, take, drop, refl, sym, ap, ◌∙◌}
+use Rattle.std.proofs.Common.{arith, Option, Some, None, Result, Ok, Err, chars, encode_utf8_all}
 use Rattle.std.specs.List.{list_all, flat_map}
 use Rattle.std.specs.Str.{is_utf8}
 use Rattle.std.proofs.Math.Seq.{take-append_seam, drop-append_seam}
@@ -22,7 +23,8 @@ use Rattle.xml_laws.proofs.EncodedLemmas.{are_chars, chars-back, utf8-back}
 use Rattle.xml_laws.proofs.SplitLemmas.{before-front, before-all}
 use Rattle.xml_laws.proofs.TextTokenLemmas.{elim-false}
 use Rattle.xml_laws.proofs.ValueLemmas.{bytes_of_value, value-chars}
-use Rattle.xml_laws.proofs.AttributeLemmas.{may_name, IsWrittenName, not_false, or_false, attribute_bytes, written_bytes, AreWritten, tag_close, reads-inside, name-ends}
+use Rattle.xml_laws.proofs.AttributeLemmas.{may_name, IsWrittenName, not_false, or_false, attribute_bytes, written_bytes, AreWritten, tag_close, reads-inside}
+use Rattle.xml_laws.proofs.AttributeLemmas.{name-ends}
 use Rattle.xml_laws.proofs.TagLemmas.{Passes, passes-plain, passes-append, passes-written, passes-close, passes-name, tag-ends}
 
 -- Bytes of Chars in UTF-8.
@@ -62,7 +64,8 @@ text-attribute name value n v =
 
 text-written : (attributes : List Written) → AreWritten attributes → IsText (written_bytes attributes)
 text-written [] w = text-none
-text-written (a ∷ attributes) w = text-append (attribute_bytes a.name (bytes_of_value a.value)) (written_bytes attributes) (text-attribute a.name a.value w.0 w.1) (text-written attributes w.2)
+text-written (a ∷ attributes) w = text-append (attribute_bytes a.name (bytes_of_value a.value)) (written_bytes attributes)
+    (text-attribute a.name a.value w.0 w.1) (text-written attributes w.2)
 
 text-close : (is_empty : Bool) → IsText (tag_close is_empty)
 unfolding is_char
@@ -73,7 +76,8 @@ extent-text : (n : ℕ) (inside : List ℕ) (grammar : List ℕ → Result Token
 unfolding extent
 extent-text n inside grammar t =
     let utf8 : is_utf8 inside ≡ true = ap is_utf8 t.encoded ∙ utf8-back t.characters t.chars in
-    let all : list_all is_char (chars inside) ≡ true = ap (λ x. list_all is_char (chars x)) t.encoded ∙ (ap (list_all is_char) (chars-back t.characters t.chars) ∙ t.chars) in
+    let all : list_all is_char (chars inside) ≡ true = ap (λ x. list_all is_char (chars x)) t.encoded ∙
+    (ap (list_all is_char) (chars-back t.characters t.chars) ∙ t.chars) in
     at (is_utf8 inside) (list_all is_char (chars inside)) utf8 all
   where
     at : (a b : Bool) → a ≡ true → b ≡ true
@@ -114,7 +118,8 @@ tag-begins bytes token t grammar position rest =
 abbrev pub start_bytes : List ℕ → List Written → Bool → List ℕ
 start_bytes name attributes is_empty = name ++ (written_bytes attributes ++ tag_close is_empty)
 
-name-front : (name : List ℕ) (n : IsWrittenName name) (attributes : List Written) (is_empty : Bool) → name_at_front (start_bytes name attributes is_empty) ≡ name
+name-front : (name : List ℕ) (n : IsWrittenName name) (attributes : List Written) (is_empty : Bool) →
+    name_at_front (start_bytes name attributes is_empty) ≡ name
 unfolding is_white_space
 name-front name n [] true = before-front ends_name name 0x2F [] (name-ends name n.plain) refl
 name-front name n [] false = ap name_at_front (append-nil name) ∙ before-all ends_name name (name-ends name n.plain)
@@ -127,7 +132,10 @@ abbrev start_with : List ℕ → Option Inside → Result Token XmlKind
 start_with name x = elim x [ None ↦ Err BadMarkup | (Some inside) ↦ tag_with name inside ]
 
 abbrev with_attributes : List ℕ → Bool → Option (List Written) → Result Token XmlKind
-with_attributes name is_empty x = elim x [ None ↦ Err BadReference | (Some attributes) ↦ Ok (a_start_tag (record { name = name; attributes = attributes; is_empty = is_empty })) ]
+with_attributes name is_empty x = elim x [
+  | None ↦ Err BadReference
+  | (Some attributes) ↦ Ok (a_start_tag (record { name = name; attributes = attributes; is_empty = is_empty }))
+]
 
 start-grammar : (name : List ℕ) (n : IsWrittenName name) (attributes : List Written) (is_empty : Bool) → AreWritten attributes
     → start_tag (start_bytes name attributes is_empty) ≡ Ok (a_start_tag (record { name = name; attributes = attributes; is_empty = is_empty }))
@@ -151,17 +159,21 @@ first-plain name n =
     let e = or_false (is_white_space n.first) (n.first == 0x3D || n.first == 0x2F) (not_false (ends_name n.first) q.0) in
     (not_false (n.first == 0x21) t.0, not_false (n.first == 0x3F) t.1, (or_false (n.first == 0x3D) (n.first == 0x2F) e.1).1)
 
-pub start-begins : (name : List ℕ) (n : IsWrittenName name) (attributes : List Written) (is_empty : Bool) → AreWritten attributes → length (start_bytes name attributes is_empty) + 2 ≤ greatest_tag
+pub start-begins : (name : List ℕ) (n : IsWrittenName name) (attributes : List Written) (is_empty : Bool) → AreWritten attributes →
+    length (start_bytes name attributes is_empty) + 2 ≤ greatest_tag
     → (position : Position) (rest : List ℕ)
-    → beginning position true (0x3C ∷ (start_bytes name attributes is_empty ++ (0x3E ∷ rest))) ≡ good (a_start_tag (record { name = name; attributes = attributes; is_empty = is_empty })) (length (start_bytes name attributes is_empty) + 2)
+    → beginning position true (0x3C ∷ (start_bytes name attributes is_empty ++ (0x3E ∷ rest))) ≡ good
+    (a_start_tag (record { name = name; attributes = attributes; is_empty = is_empty })) (length (start_bytes name attributes is_empty) + 2)
 start-begins name n attributes is_empty w short position rest =
     let behind_name = written_bytes attributes ++ tag_close is_empty in
     let f = first-plain name n in
     let is : start_bytes name attributes is_empty ≡ n.first ∷ (n.more ++ behind_name) = ap (λ x. x ++ behind_name) n.is in
     let token = a_start_tag (record { name = name; attributes = attributes; is_empty = is_empty }) in
     tag-begins (start_bytes name attributes is_empty) token (record {
-      text = text-append name behind_name (text-name name n) (text-append (written_bytes attributes) (tag_close is_empty) (text-written attributes w) (text-close is_empty));
-      passes = passes-append None name behind_name (passes-name name n.plain) (passes-append None (written_bytes attributes) (tag_close is_empty) (passes-written attributes w) (passes-close is_empty));
+      text = text-append name behind_name (text-name name n)
+          (text-append (written_bytes attributes) (tag_close is_empty) (text-written attributes w) (text-close is_empty));
+      passes = passes-append None name behind_name (passes-name name n.plain)
+          (passes-append None (written_bytes attributes) (tag_close is_empty) (passes-written attributes w) (passes-close is_empty));
       short = short;
       first = n.first;
       more = n.more ++ behind_name;
@@ -177,7 +189,8 @@ end-grammar : (name : List ℕ) (n : IsWrittenName name) → end_tag name ≡ Ok
 unfolding end_tag
 end-grammar name n =
     let all : drop (length name) name ≡ [] = ap (drop (length name)) (sym (append-nil name)) ∙ drop-append_seam name [] in
-    ap (λ x. if_right (is_qname x && list_all is_white_space (drop (length x) name)) (an_end_tag x) BadMarkup) (before-all ends_name name (name-ends name n.plain))
+    ap (λ x. if_right (is_qname x && list_all is_white_space (drop (length x) name)) (an_end_tag x) BadMarkup)
+    (before-all ends_name name (name-ends name n.plain))
     ∙ (ap (λ t. if_right (t && list_all is_white_space (drop (length name) name)) (an_end_tag name) BadMarkup) n.qname
     ∙ ap (λ x. if_right (list_all is_white_space x) (an_end_tag name) BadMarkup) all)
 

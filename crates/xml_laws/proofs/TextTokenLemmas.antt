@@ -1,5 +1,6 @@
 -- Texts as canonical text writes them are read as their characters.
-use Rattle.std.proofs.Common.{◌≡◌, ℕ, ◌<◌, Bool, true, false, ◌&&◌, ◌==◌, List, [], ◌∷◌, ◌++◌, length, ◌⊎◌, inl, inr, refl, sym, ap, ◌∙◌, arith, subst, Some, None, encode_utf8_all}
+use Rattle.std.proofs.Common.{◌≡◌, ℕ, ◌<◌, Bool, true, false, ◌&&◌, ◌==◌, List, [], ◌∷◌, ◌++◌, length, ◌⊎◌, inl, inr, refl, sym, ap, ◌∙◌, arith, subst, Some}
+use Rattle.std.proofs.Common.{None, encode_utf8_all}
 use Rattle.std.specs.List.{flat_map}
 use Rattle.std.specs.Prelude.{codes}
 use Rattle.std.proofs.lemmas.List.{append_assoc, append-nil}
@@ -33,7 +34,8 @@ elim-true t x y h = ap (λ t. elim t [ true ↦ x | false ↦ y ]) h
 -- A character stands as it is in a text, but for four.
 pub in_text-plain : (c : ℕ) → ¬ (c ≡ 0x26) → ¬ (c ≡ 0x3C) → ¬ (c ≡ 0x3E) → ¬ (c ≡ 0xD) → in_text c ≡ c ∷ []
 unfolding in_text
-in_text-plain c a b d e = passed (c == 0x26) _ _ (other c 0x26 a) ∙ (passed (c == 0x3C) _ _ (other c 0x3C b) ∙ (passed (c == 0x3E) _ _ (other c 0x3E d) ∙ passed (c == 0xD) _ _ (other c 0xD e)))
+in_text-plain c a b d e = passed (c == 0x26) _ _ (other c 0x26 a) ∙
+    (passed (c == 0x3C) _ _ (other c 0x3C b) ∙ (passed (c == 0x3E) _ _ (other c 0x3E d) ∙ passed (c == 0xD) _ _ (other c 0xD e)))
 
 -- A token that is the character of a text.
 pub record IsCharacterToken (c : ℕ) (token : Token) : Type 0 where
@@ -75,19 +77,62 @@ pub record TextToken (c : ℕ) (r : List ℕ) : Type 0 where
 
 escaped-ampersand : (r : List ℕ) → TextToken 0x26 r
 unfolding in_text beginning reference_at referred encode
-escaped-ampersand r = record { token = a_reference 0x26; is_character = of_reference 0x26; reads = refl; first = 0x26; more = codes "amp;" ++ r; is = refl; some = omega arith; no_end = λ e. omega arith; bracket = λ e. absurd (omega arith) }
+escaped-ampersand r = record {
+  token = a_reference 0x26;
+  is_character = of_reference 0x26;
+  reads = refl;
+  first = 0x26;
+  more = codes "amp;" ++ r;
+  is = refl;
+  some = omega arith;
+  no_end = λ e. omega arith;
+  bracket = λ e. absurd (omega arith);
+}
 
 escaped-less : (r : List ℕ) → TextToken 0x3C r
 unfolding in_text beginning reference_at referred encode
-escaped-less r = record { token = a_reference 0x3C; is_character = of_reference 0x3C; reads = refl; first = 0x26; more = codes "lt;" ++ r; is = refl; some = omega arith; no_end = λ e. omega arith; bracket = λ e. absurd (omega arith) }
+escaped-less r = record {
+  token = a_reference 0x3C;
+  is_character = of_reference 0x3C;
+  reads = refl;
+  first = 0x26;
+  more = codes "lt;" ++ r;
+  is = refl;
+  some =
+      omega arith;
+  no_end = λ e. omega arith;
+  bracket = λ e. absurd (omega arith);
+}
 
 escaped-greater : (r : List ℕ) → TextToken 0x3E r
 unfolding in_text beginning reference_at referred encode
-escaped-greater r = record { token = a_reference 0x3E; is_character = of_reference 0x3E; reads = refl; first = 0x26; more = codes "gt;" ++ r; is = refl; some = omega arith; no_end = λ e. omega arith; bracket = λ e. absurd (omega arith) }
+escaped-greater r = record {
+  token = a_reference 0x3E;
+  is_character = of_reference 0x3E;
+  reads = refl;
+  first = 0x26;
+  more = codes "gt;" ++ r;
+  is = refl;
+  some =
+      omega arith;
+  no_end = λ e. omega arith;
+  bracket = λ e. absurd (omega arith);
+}
 
 escaped-return : (r : List ℕ) → TextToken 0xD r
 unfolding in_text beginning reference_at referred encode is_char
-escaped-return r = record { token = a_reference 0xD; is_character = of_reference 0xD; reads = refl; first = 0x26; more = codes "#xD;" ++ r; is = refl; some = omega arith; no_end = λ e. omega arith; bracket = λ e. absurd (omega arith) }
+escaped-return r = record {
+  token = a_reference 0xD;
+  is_character = of_reference 0xD;
+  reads = refl;
+  first = 0x26;
+  more = codes "#xD;" ++ r;
+  is = refl;
+  some =
+      omega arith;
+  no_end = λ e. omega arith;
+  bracket = λ e. absurd (omega arith);
+}
 
 -- a `]` before what doesn't go on with `]>`
 plain-bracket : (r : List ℕ) → begins_with (codes "]>") r ≡ false → TextToken 0x5D r
@@ -126,7 +171,8 @@ plain-character c r char a b d e f =
       token = a_character c;
       is_character = of_character c;
       reads = ap (beginning Farther true) is
-          ∙ (plain-begins g.first g.behind c (length (encode c)) (apart 0x3C (omega arith) b) (apart 0x26 (omega arith) a) (apart 0x5D (omega arith) f) (apart 0xD (omega arith) e) g.reads char
+          ∙ (plain-begins g.first g.behind c (length (encode c)) (apart 0x3C (omega arith) b) (apart 0x26 (omega arith) a) (apart 0x5D (omega arith) f)
+          (apart 0xD (omega arith) e) g.reads char
           ∙ ap (λ x. good (a_character c) (length x)) (sym written));
       first = g.first;
       more = g.behind;
@@ -159,7 +205,8 @@ abbrev pub text_bytes : List ℕ → List ℕ → List ℕ
 text_bytes cs r = encode_utf8_all (flat_map in_text cs) ++ (0x3C ∷ r)
 
 pub text_bytes-cons : (c : ℕ) (cs r : List ℕ) → text_bytes (c ∷ cs) r ≡ encode_utf8_all (in_text c) ++ text_bytes cs r
-text_bytes-cons c cs r = ap (λ x. x ++ (0x3C ∷ r)) (encodes-append (in_text c) (flat_map in_text cs)) ∙ append_assoc (encode_utf8_all (in_text c)) (encode_utf8_all (flat_map in_text cs)) (0x3C ∷ r)
+text_bytes-cons c cs r = ap (λ x. x ++ (0x3C ∷ r)) (encodes-append (in_text c) (flat_map in_text cs)) ∙
+    append_assoc (encode_utf8_all (in_text c)) (encode_utf8_all (flat_map in_text cs)) (0x3C ∷ r)
 
 -- Nothing that is written of a text goes on with `]>` or `>`.
 pub record Stops (bytes : List ℕ) : Type 0 where

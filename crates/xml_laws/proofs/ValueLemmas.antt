@@ -1,5 +1,6 @@
 -- Values as canonical text writes them say what they were written from.
-use Rattle.std.proofs.Common.{◌≡◌, ℕ, Bool, true, false, not, ◌&&◌, ◌==◌, List, [], ◌∷◌, ◌++◌, inl, inr, refl, sym, ap, ◌∙◌, arith, subst, Option, Some, None, option_map, encode_utf8_all, true≢false}
+use Rattle.std.proofs.Common.{◌≡◌, ℕ, Bool, true, false, not, ◌&&◌, ◌==◌, List, [], ◌∷◌, ◌++◌, inl, inr, refl, sym, ap, ◌∙◌, arith, subst, Option, Some, None}
+use Rattle.std.proofs.Common.{option_map, encode_utf8_all, true≢false}
 use Rattle.std.specs.List.{list_all, flat_map}
 use Rattle.std.proofs.lemmas.List.Folds.{list_all-append}
 use Rattle.std.proofs.lemmas.Bool.{cases_eq, cond_both}
@@ -112,7 +113,8 @@ abbrev AreInside : List ℕ → Type 0
 AreInside cs = list_all is_inside cs ≡ true
 
 plain-inside : (c : ℕ) → is_char c ≡ true → ¬ (c ≡ 0x22) → ¬ (c ≡ 0x3C) → AreInside (c ∷ [])
-plain-inside c h a b = ap (λ t. (t && (not (c == 0x22) && not (c == 0x3C))) && true) h ∙ (ap (λ t. (not t && not (c == 0x3C)) && true) (other c 0x22 a) ∙ ap (λ t. not t && true) (other c 0x3C b))
+plain-inside c h a b = ap (λ t. (t && (not (c == 0x22) && not (c == 0x3C))) && true) h ∙
+    (ap (λ t. (not t && not (c == 0x3C)) && true) (other c 0x22 a) ∙ ap (λ t. not t && true) (other c 0x3C b))
 
 text-inside : (c : ℕ) → is_char c ≡ true → ¬ (c ≡ 0x22) → AreInside (in_text c)
 unfolding in_text is_char

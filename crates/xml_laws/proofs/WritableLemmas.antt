@@ -36,7 +36,8 @@ pub record AreTags (limits : Limits) (declarations own : List Declaration) (dept
   pub deep : depth + depth_of f ≤ limits.depth
   pub tags : keep_limits limits declarations own f ≡ true
 
-pub of-text : (limits : Limits) (declarations own : List Declaration) (depth : ℕ) (cs : List ℕ) (rest : Forest) → AreTags limits declarations own depth (a_text cs rest)
+pub of-text : (limits : Limits) (declarations own : List Declaration) (depth : ℕ) (cs : List ℕ) (rest : Forest) →
+    AreTags limits declarations own depth (a_text cs rest)
     → (list_all is_char cs ≡ true) × AreTags limits declarations own depth rest
 of-text limits declarations own depth cs rest t =
     let p = both (list_all is_char cs) (all_texts (list_all is_char) rest) t.texts in
@@ -51,21 +52,25 @@ both-pass p q (x ∷ xs) g h =
     ap (λ t. (t && q x) && list_all (λ x. p x && q x) xs) a.0 ∙ (ap (λ t. t && list_all (λ x. p x && q x) xs) b.0 ∙ both-pass p q xs a.1 b.1)
 
 -- the test of an element, and those of what is inside it and behind it
-split : (test : Name → List Attribute → Bool) (name : Name) (attributes : List Attribute) (f rest : Forest) → all_elements test (an_element name attributes f rest) ≡ true
+split : (test : Name → List Attribute → Bool) (name : Name) (attributes : List Attribute) (f rest : Forest) →
+    all_elements test (an_element name attributes f rest) ≡ true
     → (test name attributes ≡ true) × (all_elements test f ≡ true) × (all_elements test rest ≡ true)
 split test name attributes f rest h =
     let p = both (test name attributes) (all_elements test f && all_elements test rest) h in
     let q = both (all_elements test f) (all_elements test rest) p.1 in
     (p.0, q.0, q.1)
 
-pub record OfElement (limits : Limits) (declarations own : List Declaration) (depth : ℕ) (name : Name) (attributes : List Attribute) (f rest : Forest) : Type 0 where
+pub record OfElement (limits : Limits) (declarations own : List Declaration) (depth : ℕ) (name : Name) (attributes : List Attribute)
+    (f rest : Forest) : Type 0 where
   pub tag : IsTag limits declarations own name attributes
-  pub sized : tags_fit (is_childless f) (encode_utf8_all (element_name declarations name)) (encode_utf8_all (element_name declarations name ++ (declarations_text own ++ attributes_text declarations attributes))) ≡ true
+  pub sized : tags_fit (is_childless f) (encode_utf8_all (element_name declarations name))
+      (encode_utf8_all (element_name declarations name ++ (declarations_text own ++ attributes_text declarations attributes))) ≡ true
   pub deep : depth + 1 ≤ limits.depth
   pub inside : AreTags limits declarations [] (depth + 1) f
   pub behind : AreTags limits declarations own depth rest
 
-pub of-element : (limits : Limits) (declarations own : List Declaration) (depth : ℕ) (name : Name) (attributes : List Attribute) (f rest : Forest) → AreTags limits declarations own depth (an_element name attributes f rest)
+pub of-element : (limits : Limits) (declarations own : List Declaration) (depth : ℕ) (name : Name) (attributes : List Attribute) (f rest : Forest) →
+    AreTags limits declarations own depth (an_element name attributes f rest)
     → OfElement limits declarations own depth name attributes f rest
 of-element limits declarations own depth name attributes f rest t =
     let text = element_name declarations name ++ (declarations_text own ++ attributes_text declarations attributes) in
@@ -77,9 +82,11 @@ of-element limits declarations own depth name attributes f rest t =
     let d = split (λ name attributes. not (has_twice (λ (a b : Attribute). same_name a.name b.name) attributes)) name attributes f rest t.distinct in
     let v = split (λ name attributes. list_all (λ (a : Attribute). list_all is_char a.value) attributes) name attributes f rest t.values in
     let x = both (all_texts (list_all is_char) f) (all_texts (list_all is_char) rest) t.texts in
-    let k = both (keeps_limits limits declarations own name attributes (is_childless f)) (keep_limits limits declarations [] f && keep_limits limits declarations own rest) t.tags in
+    let k = both (keeps_limits limits declarations own name attributes (is_childless f))
+    (keep_limits limits declarations [] f && keep_limits limits declarations own rest) t.tags in
     let l = both (keep_limits limits declarations [] f) (keep_limits limits declarations own rest) k.1 in
-    let a = both (nat_le (length own + length attributes) limits.attributes) (own_short && (is_short limits (element_name declarations name) && (all_short && small))) k.0 in
+    let a = both (nat_le (length own + length attributes) limits.attributes)
+    (own_short && (is_short limits (element_name declarations name) && (all_short && small))) k.0 in
     let b = both own_short (is_short limits (element_name declarations name) && (all_short && small)) a.1 in
     let c = both (is_short limits (element_name declarations name)) (all_short && small) b.1 in
     let s = both all_short small c.1 in

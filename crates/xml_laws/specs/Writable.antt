@@ -1,5 +1,6 @@
 -- Which trees canonical text writes so that they are read again, within limits.
-use Rattle.std.specs.Prelude.{◌≡◌, ℕ, ◌+◌, ◌≤◌, max, nat_le, Bool, true, false, not, ◌&&◌, ◌||◌, ◌==◌, List, [], ◌∷◌, ◌++◌, map, filter, length, if◌then◌else◌, bytes_eq, encode_utf8_all}
+use Rattle.std.specs.Prelude.{◌≡◌, ℕ, ◌+◌, ◌≤◌, max, nat_le, Bool, true, false, not, ◌&&◌, ◌||◌, ◌==◌, List, [], ◌∷◌, ◌++◌, map, filter, length, if◌then◌else◌}
+use Rattle.std.specs.Prelude.{bytes_eq, encode_utf8_all}
 use Rattle.std.specs.List.{list_all}
 use Rattle.inv_base.specs.Characters.{is_char}
 use Rattle.inv_base.specs.Tree.{Name, Attribute, Forest, no_more, a_text, an_element, IsDocument, size}
@@ -10,7 +11,8 @@ use Rattle.xml_state.specs.Names.{same_name}
 use Rattle.xml_state.specs.Namespaces.{xmlns, is_bad_binding}
 use Rattle.xml_state.specs.States.{with_names}
 use Rattle.xml_state.specs.Admission.{has_twice}
-use Rattle.xml_write.specs.Canonical.{Declaration, prefix_of, element_name, attribute_name, declaring_name, declarations_text, attributes_text, is_childless, canonical_text}
+use Rattle.xml_write.specs.Canonical.{Declaration, prefix_of, element_name, attribute_name, declaring_name, declarations_text, attributes_text, is_childless}
+use Rattle.xml_write.specs.Canonical.{canonical_text}
 
 -- the namespace name that a prefix stands for, that of the first declaration of it; empty where there is none
 abbrev pub namespace_of : List Declaration → List ℕ → List ℕ
@@ -91,7 +93,8 @@ abbrev pub keep_limits : Limits → List Declaration → List Declaration → Fo
 keep_limits limits declarations own no_more = true
 keep_limits limits declarations own (a_text characters rest) = keep_limits limits declarations own rest
 keep_limits limits declarations own (an_element name attributes inside rest) =
-    keeps_limits limits declarations own name attributes (is_childless inside) && (keep_limits limits declarations [] inside && keep_limits limits declarations own rest)
+    keeps_limits limits declarations own name attributes (is_childless inside) &&
+    (keep_limits limits declarations [] inside && keep_limits limits declarations own rest)
 
 -- The canonical text of the tree keeps the limits.
 pub record IsWithin (limits : Limits) (declarations : List Declaration) (tree : Forest) : Type 0 where

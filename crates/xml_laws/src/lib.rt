@@ -31,6 +31,7 @@ pub fn declared_names_are_written()
         → is_ncname name.local ≡ true → (length name.uri == 0) ≡ false → list_any (λ (d : Declaration). bytes_eq d.uri name.uri) declarations ≡ true
         → is_element_name declarations name ≡ true }
     ensures attributes { (declarations : List Declaration) (name : Name) → has_twice (λ (a b : Declaration). bytes_eq a.prefix b.prefix) declarations ≡ false
-        → is_ncname name.local ≡ true → (length name.uri == 0) ≡ false → list_any (λ (d : Declaration). bytes_eq d.uri name.uri) (of_prefixes declarations) ≡ true
+        → is_ncname name.local ≡ true → (length name.uri == 0) ≡ false →
+        list_any (λ (d : Declaration). bytes_eq d.uri name.uri) (of_prefixes declarations) ≡ true
         → is_attribute_name declarations name ≡ true }
 {}

@@ -1,5 +1,6 @@
 -- White space outside the root, read as a run.
-use Rattle.std.proofs.Common.{◌≡◌, ℕ, zero, suc, ◌+◌, ◌-◌, ◌<◌, ◌≤◌, Bool, true, nat_le, List, [], ◌∷◌, ◌++◌, length, take, drop, get_or, refl, sym, ap, ◌∙◌, arith, Some, None, if◌then◌else◌}
+use Rattle.std.proofs.Common.{◌≡◌, ℕ, zero, suc, ◌+◌, ◌-◌, ◌<◌, ◌≤◌, Bool, true, nat_le, List, [], ◌∷◌, ◌++◌, length, take, drop, get_or, refl, sym, ap, ◌∙◌}
+use Rattle.std.proofs.Common.{arith, Some, None, if◌then◌else◌}
 use Rattle.std.specs.Char.{encode_utf8}
 use Rattle.std.proofs.lemmas.Bool.Decides.{nat_tests}
 use Rattle.std.proofs.lemmas.List.{take-append-drop, length-drop, length-append, get_or_append_left}
@@ -57,10 +58,16 @@ aside-stays s position = ap (λ p. record s { position = p }) (sym position)
 
 white-behind : (s : State) (b : ℕ) → Between s → state_behind s (a_character b) ≡ s
 unfolding state_behind
-white-behind s b at = ap (λ t. if t then behind_aside s else record s { position = Farther; in_text = true; nodes = if s.in_text then s.nodes else s.nodes + 1 }) at.outside ∙ aside-stays s at.position
+white-behind s b at = ap (λ t. if t then behind_aside s else record s {
+  position = Farther;
+  in_text = true;
+  nodes =
+      if s.in_text then s.nodes else s.nodes + 1;
+}) at.outside ∙ aside-stays s at.position
 
 module _ (e : Bool) (limits : Limits) (s : State) (at : Between s) where
-  one : (b : ℕ) (bytes : List ℕ) (place : ℕ) → is_blank b ≡ true → place + 1 ≤ limits.bytes → read e limits s place 0 (b ∷ bytes) ≡ read e limits s (place + 1) 0 bytes
+  one : (b : ℕ) (bytes : List ℕ) (place : ℕ) → is_blank b ≡ true → place + 1 ≤ limits.bytes →
+      read e limits s place 0 (b ∷ bytes) ≡ read e limits s (place + 1) 0 bytes
   one b bytes place blank within =
       let ascii : encode_utf8 b ≡ b ∷ [] = encode_ascii b (blank-ascii b blank) in
       let begun : beginning s.position e (b ∷ bytes) ≡ good (a_character b) 1 =
@@ -71,7 +78,8 @@ module _ (e : Bool) (limits : Limits) (s : State) (at : Between s) where
       ∙ ap (λ events. telling events (read e limits (state_behind s (a_character b)) (place + 1) 0 bytes)) (white-told s b place at.outside)
       ∙ ap (λ s'. read e limits s' (place + 1) 0 bytes) (white-behind s b at)
 
-  read-blank : (n : ℕ) (bytes : List ℕ) (place : ℕ) → AreBlank n bytes → n ≤ length bytes → place + n ≤ limits.bytes → read e limits s place 0 bytes ≡ read e limits s (place + n) 0 (drop n bytes)
+  read-blank : (n : ℕ) (bytes : List ℕ) (place : ℕ) → AreBlank n bytes → n ≤ length bytes → place + n ≤ limits.bytes →
+      read e limits s place 0 bytes ≡ read e limits s (place + n) 0 (drop n bytes)
   read-blank zero bytes place blank fits within = let same : place ≡ place + 0 = omega arith in ap (λ p. read e limits s p 0 bytes) same
   read-blank (suc n) [] place blank fits within = absurd (omega arith)
   read-blank (suc n) (b ∷ bytes) place blank fits within =
@@ -86,7 +94,8 @@ front-blank n bytes within parts fits blank k h =
 
 -- White space was passed over.
 pub blank-passed : (e : Bool) (limits : Limits) (old : Cursor) (bytes within : List ℕ) (taken : List Event → Type 0) (n : ℕ) (nest : State) (rest : List ℕ)
-    → old.nest.position ≡ Farther → is_outside old.nest ≡ true → old.place ≤ limits.bytes → bytes ≡ within ++ drop (length within) bytes → length within ≤ limits.bytes - old.place
+    → old.nest.position ≡ Farther → is_outside old.nest ≡ true → old.place ≤ limits.bytes → bytes ≡ within ++ drop (length within) bytes →
+    length within ≤ limits.bytes - old.place
     → 0 < n → n ≤ length within → AreBlank n within → nest ≡ behind_aside old.nest → rest ≡ drop n bytes
     → (length rest < length bytes) × GoesOn e limits old (record { nest = nest; place = old.place + n; search = fresh }) bytes rest taken taken
 blank-passed e limits old bytes within taken n nest rest position outside sound parts room some fits blank passed behind =
@@ -99,7 +108,8 @@ blank-passed e limits old bytes within taken n nest rest position outside sound 
         events = [];
         passed = take n bytes;
         parts = sym (take-append-drop n bytes) ∙ ap (λ r. take n bytes ++ r) (sym behind);
-        is = read-blank e limits old.nest (record { position = position; outside = outside }) n bytes old.place (front-blank n bytes within parts fits blank) (omega (arith, lengths, fits)) ends
+        is = read-blank e limits old.nest (record { position = position; outside = outside }) n bytes old.place (front-blank n bytes within parts fits blank)
+            (omega (arith, lengths, fits)) ends
             ∙ ap (λ s. read e limits s (old.place + n) 0 (drop n bytes)) (sym stays)
             ∙ ap (λ r. read e limits nest (old.place + n) 0 r) (sym behind);
         told = λ events t. t;

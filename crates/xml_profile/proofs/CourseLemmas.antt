@@ -11,8 +11,10 @@ use Rattle.xml_profile.specs.declared.cursor.Cursor.{Cursor}
 use Rattle.xml_profile.proofs.EventLemmas.{with_events-append}
 
 -- Some events were taken, and then others.
-pub takes-both : (a b : List Event) (before between after : List Event → Type 0) → TakesAll a before between → TakesAll b between after → TakesAll (a ++ b) before after
-takes-both a b before between after first then = λ events taken. subst after (sym (with_events-append events a b)) (then (with_events events a) (first events taken))
+pub takes-both : (a b : List Event) (before between after : List Event → Type 0) → TakesAll a before between → TakesAll b between after →
+    TakesAll (a ++ b) before after
+takes-both a b before between after first then = λ events taken. subst after (sym (with_events-append events a b))
+    (then (with_events events a) (first events taken))
 
 telling-both : (a b : List Event) (r : Read) → telling a (telling b r) ≡ telling (a ++ b) r
 telling-both a b r = ap (λ events. record { events = events; stands = r.stands }) (sym (append_assoc a b r.events))
@@ -21,7 +23,8 @@ module _ (e : Bool) (limits : Limits) where
   pub goes-nowhere : (at : Cursor) (bytes : List ℕ) (taken : List Event → Type 0) → IsAt limits at bytes → GoesOn e limits at at bytes bytes taken taken
   goes-nowhere at bytes taken sound = record { events = []; passed = []; parts = refl; is = refl; told = λ events t. t; at = sound }
 
-  pub goes-farther : (old mid new : Cursor) (bytes rest behind : List ℕ) (before between after : List Event → Type 0) → GoesOn e limits old mid bytes rest before between
+  pub goes-farther : (old mid new : Cursor) (bytes rest behind : List ℕ) (before between after : List Event → Type 0) →
+      GoesOn e limits old mid bytes rest before between
       → GoesOn e limits mid new rest behind between after → GoesOn e limits old new bytes behind before after
   goes-farther old mid new bytes rest behind before between after a b = record {
     events = a.events ++ b.events;
@@ -32,7 +35,8 @@ module _ (e : Bool) (limits : Limits) where
     at = b.at;
   }
 
-  pub goes-to : (old mid new : Cursor) (bytes rest behind : List ℕ) (before between after : List Event → Type 0) → GoesOn e limits old mid bytes rest before between
+  pub goes-to : (old mid new : Cursor) (bytes rest behind : List ℕ) (before between after : List Event → Type 0) →
+      GoesOn e limits old mid bytes rest before between
       → Reaches e limits mid new rest behind between after → Reaches e limits old new bytes behind before after
   goes-to old mid new bytes rest behind before between after a b = record {
     events = a.events ++ b.events;
@@ -46,7 +50,8 @@ module _ (e : Bool) (limits : Limits) where
     ends_within = b.ends_within;
   }
 
-  pub goes-wrong : (old mid : Cursor) (bytes rest : List ℕ) (before between after : List Event → Type 0) (fault : XmlFault) → GoesOn e limits old mid bytes rest before between
+  pub goes-wrong : (old mid : Cursor) (bytes rest : List ℕ) (before between after : List Event → Type 0) (fault : XmlFault) →
+      GoesOn e limits old mid bytes rest before between
       → Breaks e limits mid rest between after fault → Breaks e limits old bytes before after fault
   goes-wrong old mid bytes rest before between after fault a (of_bytes f events is told) =
       of_bytes f (a.events ++ events) (a.is ∙ ap (telling a.events) is) (takes-both a.events events before between after a.told told)
@@ -56,7 +61,8 @@ module _ (e : Bool) (limits : Limits) where
       (takes-both a.events front before between after a.told told)
 
   -- At the end of the bytes all was read.
-  pub goes-to-end : (old mid : Cursor) (bytes rest : List ℕ) (before after : List Event → Type 0) → length rest ≡ 0 → GoesOn e limits old mid bytes rest before after
+  pub goes-to-end : (old mid : Cursor) (bytes rest : List ℕ) (before after : List Event → Type 0) → length rest ≡ 0 →
+      GoesOn e limits old mid bytes rest before after
       → Reaches e limits old mid bytes rest before after
   unfolding read
   goes-to-end old mid bytes [] before after none a = record {

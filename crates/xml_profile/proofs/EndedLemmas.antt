@@ -7,7 +7,8 @@ use Rattle.xml_tokens.specs.Markup.{a_character, a_mark}
 use Rattle.xml_tokens.specs.References.{reference_at}
 use Rattle.xml_tokens.specs.Encoding as encoding
 use Rattle.xml_tokens.specs.declared.kind.XmlKind.TheVariants.{BadMarkup}
-use Rattle.xml_tokens.specs.Beginnings.{Beginning, good, bad, later, beginning, markup_at, reference_token, bracket_at, line_end_at, character_token, begins_with_mark}
+use Rattle.xml_tokens.specs.Beginnings.{Beginning, good, bad, later, beginning, markup_at, reference_token, bracket_at, line_end_at, character_token}
+use Rattle.xml_tokens.specs.Beginnings.{begins_with_mark}
 use Rattle.xml_tokens.specs.declared.beginning.Position.{Position}
 use Rattle.xml_tokens.proofs.BeginningLemmas.{Within}
 use Rattle.xml_tokens.proofs.WithinLemmas.{beginning-within}

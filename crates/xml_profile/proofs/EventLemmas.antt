@@ -29,7 +29,8 @@ with_event-behind d events e f =
     ap (λ l. with_event (d ∷ l) f) some.2 ∙ ap (λ l. d ∷ with_event l f) (sym some.2)
 
 -- A text behind a text is one text.
-texts-join : (events : List Event) (a b : List ℕ) (p q : ℕ) → with_event (with_event events (has_text a p)) (has_text b q) ≡ with_event events (has_text (a ++ b) p)
+texts-join : (events : List Event) (a b : List ℕ) (p q : ℕ) → with_event (with_event events (has_text a p)) (has_text b q) ≡ with_event events
+    (has_text (a ++ b) p)
 texts-join [] a b p q = refl
 texts-join (starts n r ∷ []) a b p q = refl
 texts-join (has_attribute n v ∷ []) a b p q = refl
@@ -43,7 +44,8 @@ run_events [] place = []
 run_events (c ∷ text) place = has_text (c ∷ []) place ∷ run_events text (place + length (encode_utf8 c))
 
 -- Characters that are told one by one are told as one text.
-pub run-told : (events : List Event) (c : ℕ) (text : List ℕ) (place : ℕ) → with_events events (run_events (c ∷ text) place) ≡ with_event events (has_text (c ∷ text) place)
+pub run-told : (events : List Event) (c : ℕ) (text : List ℕ) (place : ℕ) →
+    with_events events (run_events (c ∷ text) place) ≡ with_event events (has_text (c ∷ text) place)
 run-told events c [] place = refl
 run-told events c (d ∷ text) place =
     run-told (with_event events (has_text (c ∷ []) place)) d text (place + length (encode_utf8 c))

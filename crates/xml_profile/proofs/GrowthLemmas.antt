@@ -20,7 +20,8 @@ pub whole-ends : (limits : Limits) (a : List ℕ) → read_whole limits a ≡ go
 whole-ends limits a = ap (resume true limits outset) (sym (append-nil a)) ∙ front-grows true limits a []
 
 -- A receiver that was told nothing more stands at a front.
-pub stays-front : (limits : Limits) (a b : List ℕ) (taken : List Event → Type 0) → MovesWithin (read_front limits a).events (read_front limits (a ++ b)).events taken taken
+pub stays-front : (limits : Limits) (a b : List ℕ) (taken : List Event → Type 0) →
+    MovesWithin (read_front limits a).events (read_front limits (a ++ b)).events taken taken
 stays-front limits a b taken = record {
   front = (read_front limits a).events;
   behind = (resume false limits (read_front limits a).stands b).events;
@@ -28,7 +29,8 @@ stays-front limits a b taken = record {
   moves = λ first t. t;
 }
 
-pub stays-whole : (limits : Limits) (a : List ℕ) (taken : List Event → Type 0) → MovesWithin (read_front limits a).events (read_whole limits a).events taken taken
+pub stays-whole : (limits : Limits) (a : List ℕ) (taken : List Event → Type 0) →
+    MovesWithin (read_front limits a).events (read_whole limits a).events taken taken
 stays-whole limits a taken = record {
   front = (read_front limits a).events;
   behind = (resume true limits (read_front limits a).stands []).events;

@@ -1,5 +1,6 @@
 -- What is kept of where reading stands.
-use Rattle.std.proofs.Common.{◌≡◌, ℕ, ◌+◌, ◌-◌, ◌≤◌, Bool, false, List, [], ◌∷◌, ◌++◌, length, take, drop, refl, sym, ap, ◌∙◌, subst, arith, Option, Some, None, take_all, append-nil, true≢false, Result, Ok, Err, MatchResult, is_ok, is_err, if◌then◌else◌}
+use Rattle.std.proofs.Common.{◌≡◌, ℕ, ◌+◌, ◌-◌, ◌≤◌, Bool, false, List, [], ◌∷◌, ◌++◌, length, take, drop, refl, sym, ap, ◌∙◌, subst, arith, Option, Some, None}
+use Rattle.std.proofs.Common.{take_all, append-nil, true≢false, Result, Ok, Err, MatchResult, is_ok, is_err, if◌then◌else◌}
 use Rattle.std.proofs.lemmas.List.{drop_all}
 use Rattle.xml_tokens.specs.declared.asides.OpenAside.{OpenAside}
 use Rattle.xml_tokens.proofs.SearchingLemmas.{fits-goes-on}
@@ -13,7 +14,8 @@ use Rattle.xml_profile.specs.TokenByToken as reading
 use Rattle.xml_profile.specs.TokenByToken.{Standing}
 use Rattle.xml_profile.specs.Profile.{settled_of}
 use Rattle.xml_profile.specs.Keeping.{waits, inside, stopped, kept_by, kept_of, fault_of_kept, bytes_kept, bytes_taken}
-use Rattle.xml_profile.specs.Courses.{IsAt, Reaches, Breaks, IsInside, InsideOf, kept_len, kept_going, IsKeptOf, IsWaiting, StandsInside, IsGoing, Leaves, GoesOn, StaysInside}
+use Rattle.xml_profile.specs.Courses.{IsAt, Reaches, Breaks, IsInside, InsideOf, kept_len, kept_going, IsKeptOf, IsWaiting, StandsInside, IsGoing, Leaves}
+use Rattle.xml_profile.specs.Courses.{GoesOn, StaysInside}
 use Rattle.xml_profile.specs.Fields.{kept_with, IsSound}
 use Rattle.xml_profile.specs.declared.cursor.Cursor.{Cursor}
 use Rattle.xml_profile.specs.declared.cursor.Inside.{Inside}
@@ -42,7 +44,8 @@ pub record Stands (at : Standing) (held : Option Inside) (cursor : Cursor) (rest
   pub is : at ≡ reading.waits cursor.nest cursor.place bytes
   pub kept : IsKeptOf held cursor rest bytes
 
-pub stands-going : (at : Standing) (held : Option Inside) (cursor : Cursor) (rest : List ℕ) → kept_of at ≡ kept_going held cursor rest → Stands at held cursor rest
+pub stands-going : (at : Standing) (held : Option Inside) (cursor : Cursor) (rest : List ℕ) → kept_of at ≡ kept_going held cursor rest →
+    Stands at held cursor rest
 stands-going (reading.waits s place bytes) held cursor rest e = record {
   bytes = bytes;
   is = (let is = parts (open_aside s.position bytes) held e in λ i. reading.waits (is.0 i) (is.1 i) bytes);
@@ -75,7 +78,8 @@ kept-rest cursor rest bytes e = by (open_aside cursor.nest.position bytes) e
 pub kept-inside : (cursor : Cursor) (held : Inside) (rest bytes : List ℕ) → IsKeptOf (Some held) cursor rest bytes → IsInside cursor.nest.position held bytes
 kept-inside cursor held rest bytes e = by (open_aside cursor.nest.position bytes) refl e
   where
-    by : (x : Option OpenAside) → open_aside cursor.nest.position bytes ≡ x → kept_by cursor.nest cursor.place bytes x ≡ inside cursor.nest cursor.place held.came held.aside → IsInside cursor.nest.position held bytes
+    by : (x : Option OpenAside) → open_aside cursor.nest.position bytes ≡ x →
+        kept_by cursor.nest cursor.place bytes x ≡ inside cursor.nest cursor.place held.came held.aside → IsInside cursor.nest.position held bytes
     by None f g = absurd (cc g)
     by (Some aside) f g =
         let same : aside ≡ held.aside = cc g in
@@ -94,7 +98,8 @@ pub going-none : (held : Option Inside) (cursor : Cursor) (rest : List ℕ) → 
 going-none None cursor rest = refl
 going-none (Some held) cursor rest = refl
 
-pub sound-kept : (limits : Limits) (fault : Option XmlFault) (held : Option Inside) (cursor : Cursor) (rest : List ℕ) → IsSound limits fault held cursor rest → length rest ≡ bytes_kept (kept_with fault held cursor rest)
+pub sound-kept : (limits : Limits) (fault : Option XmlFault) (held : Option Inside) (cursor : Cursor) (rest : List ℕ) → IsSound limits fault held cursor rest →
+    length rest ≡ bytes_kept (kept_with fault held cursor rest)
 sound-kept limits None None cursor rest sound = refl
 sound-kept limits None (Some held) cursor rest sound = ap length sound.none
 sound-kept limits (Some fault) held cursor rest sound = ap length sound
@@ -113,15 +118,19 @@ kept-front None left = take_all (length left) left (omega arith)
 kept-front (Some held) left = refl
 
 module _ (e : Bool) (limits : Limits) (old new : Cursor) (before after : List Event → Type 0) where
-  pub kept-back : (held : Option Inside) (bytes left : List ℕ) → Reaches e limits old new bytes left before after → drop (length bytes - kept_len held (length left)) bytes ≡ kept_part held left
+  pub kept-back : (held : Option Inside) (bytes left : List ℕ) → Reaches e limits old new bytes left before after →
+      drop (length bytes - kept_len held (length left)) bytes ≡ kept_part held left
   kept-back None bytes left a = reaches-back e limits old new bytes left before after a
-  kept-back (Some held) bytes left a = let all : length bytes - 0 ≡ length bytes = omega arith in ap (λ n. drop n bytes) all ∙ drop_all (length bytes) bytes (omega arith)
+  kept-back (Some held) bytes left a = let all : length bytes - 0 ≡ length bytes = omega arith in ap (λ n. drop n bytes) all ∙
+      drop_all (length bytes) bytes (omega arith)
 
-  going-reached : (held : Option Inside) (bytes left : List ℕ) → Reaches e limits old new bytes left before after → InsideOf new.nest.position held left → IsGoing limits held new (kept_part held left)
+  going-reached : (held : Option Inside) (bytes left : List ℕ) → Reaches e limits old new bytes left before after → InsideOf new.nest.position held left →
+      IsGoing limits held new (kept_part held left)
   going-reached None bytes left a is = record { at = a.at; searched = a.searched; other = is }
   going-reached (Some held) bytes left a is = record { none = refl; within = within left is a.room; bytes = left; inside = is }
     where
-      within : (left : List ℕ) → IsInside new.nest.position held left → ((b : ℕ) (more : List ℕ) → left ≡ b ∷ more → new.place + sure_length b more ≤ limits.bytes) → new.place + held.came ≤ limits.bytes
+      within : (left : List ℕ) → IsInside new.nest.position held left →
+          ((b : ℕ) (more : List ℕ) → left ≡ b ∷ more → new.place + sure_length b more ≤ limits.bytes) → new.place + held.came ≤ limits.bytes
       within left is room =
           let o = open-first new.nest.position left [] held.aside is.aside in
           let all : left ≡ 0x3C ∷ o.0 = sym (append-nil left) ∙ o.1 in
@@ -132,13 +141,23 @@ module _ (e : Bool) (limits : Limits) (old new : Cursor) (before after : List Ev
   kept-reached None left is = rest-kept new left is
   kept-reached (Some held) left is = inside-kept new held [] left is
 
-  pub reaches-leaves : (held : Option Inside) (bytes left rest : List ℕ) → Reaches e limits old new bytes left before after → InsideOf new.nest.position held left → rest ≡ kept_part held left
+  pub reaches-leaves : (held : Option Inside) (bytes left rest : List ℕ) → Reaches e limits old new bytes left before after →
+      InsideOf new.nest.position held left → rest ≡ kept_part held left
       → Leaves e limits old new bytes held rest before after
   reaches-leaves held bytes left rest a is same =
       let P : List ℕ → Type 0 = λ r. Leaves e limits old new bytes held r before after in
-      subst P (sym same) (record { events = a.events; left = left; is = a.is; told = a.told; kept = kept-reached held left is; going = going-reached held bytes left a is })
+      subst P (sym same) (record {
+        events = a.events;
+        left = left;
+        is = a.is;
+        told = a.told;
+        kept = kept-reached held left is;
+        going =
+            going-reached held bytes left a is;
+      })
 
-  pub stays-leaves : (held : Inside) (bytes rest : List ℕ) → StaysInside e limits old new held bytes before after → rest ≡ [] → Leaves e limits old new bytes (Some held) rest before after
+  pub stays-leaves : (held : Inside) (bytes rest : List ℕ) → StaysInside e limits old new held bytes before after → rest ≡ [] →
+      Leaves e limits old new bytes (Some held) rest before after
   stays-leaves held bytes rest s none = record {
     events = [];
     left = bytes;
@@ -153,8 +172,10 @@ module _ (e : Bool) (limits : Limits) (old new : Cursor) (before after : List Ev
     };
   }
 
-pub leaves-behind : (e : Bool) (limits : Limits) (old mid new : Cursor) (bytes behind : List ℕ) (held : Option Inside) (rest : List ℕ) (before between after : List Event → Type 0)
-    → GoesOn e limits old mid bytes behind before between → Leaves e limits mid new behind held rest between after → Leaves e limits old new bytes held rest before after
+pub leaves-behind : (e : Bool) (limits : Limits) (old mid new : Cursor) (bytes behind : List ℕ) (held : Option Inside) (rest : List ℕ)
+    (before between after : List Event → Type 0)
+    → GoesOn e limits old mid bytes behind before between → Leaves e limits mid new behind held rest between after →
+    Leaves e limits old new bytes held rest before after
 leaves-behind e limits old mid new bytes behind held rest before between after a b = record {
   events = a.events ++ b.events;
   left = b.left;
@@ -165,9 +186,11 @@ leaves-behind e limits old mid new bytes behind held rest before between after a
 }
 
 -- The same bytes by another name.
-pub leaves-as : (e : Bool) (limits : Limits) (old new : Cursor) (bytes others : List ℕ) (held : Option Inside) (rest : List ℕ) (before after : List Event → Type 0)
+pub leaves-as : (e : Bool) (limits : Limits) (old new : Cursor) (bytes others : List ℕ) (held : Option Inside) (rest : List ℕ)
+    (before after : List Event → Type 0)
     → others ≡ bytes → Leaves e limits old new bytes held rest before after → Leaves e limits old new others held rest before after
-leaves-as e limits old new bytes others held rest before after same l = let P : List ℕ → Type 0 = λ x. Leaves e limits old new x held rest before after in subst P (sym same) l
+leaves-as e limits old new bytes others held rest before after same l = let P : List ℕ → Type 0 = λ x. Leaves e limits old new x held rest before after in
+    subst P (sym same) l
 
 -- What is known by another name: an option as the variant that it is.
 module _ (limits : Limits) (cursor : Cursor) (rest : List ℕ) (some : Option Inside) where
@@ -190,29 +213,40 @@ pub at-as : (limits : Limits) (cursor : Cursor) (bytes others : List ℕ) → ot
 at-as limits cursor bytes others same at = let P : List ℕ → Type 0 = λ x. IsAt limits cursor x in subst P (sym same) at
 
 -- What a call to feed does to all bytes.
-abbrev pub Fed : {T : Type 0} → Result T XmlFault → Bool → Limits → Cursor → Cursor → List ℕ → Option Inside → List ℕ → (List Event → Type 0) → (List Event → Type 0) → Type 0
-Fed result e limits old new bytes held rest before after = MatchResult result (λ _. Leaves e limits old new bytes held rest before after) (λ fault. Breaks e limits old bytes before after fault)
+abbrev pub Fed : {T : Type 0} → Result T XmlFault → Bool → Limits → Cursor → Cursor → List ℕ → Option Inside → List ℕ → (List Event → Type 0) →
+    (List Event → Type 0) → Type 0
+Fed result e limits old new bytes held rest before after = MatchResult result (λ _. Leaves e limits old new bytes held rest before after)
+    (λ fault. Breaks e limits old bytes before after fault)
 
-pub fed-as : {T : Type 0} (result : Result T XmlFault) (e : Bool) (limits : Limits) (old new : Cursor) (bytes others : List ℕ) (held : Option Inside) (rest : List ℕ) (before after : List Event → Type 0)
+pub fed-as : {T : Type 0} (result : Result T XmlFault) (e : Bool) (limits : Limits) (old new : Cursor) (bytes others : List ℕ) (held : Option Inside)
+    (rest : List ℕ) (before after : List Event → Type 0)
     → others ≡ bytes → Fed result e limits old new bytes held rest before after → Fed result e limits old new others held rest before after
-fed-as result e limits old new bytes others held rest before after same fed = let P : List ℕ → Type 0 = λ x. Fed result e limits old new x held rest before after in subst P (sym same) fed
+fed-as result e limits old new bytes others held rest before after same fed = let P : List ℕ → Type 0 =
+    λ x. Fed result e limits old new x held rest before after in subst P (sym same) fed
 
-pub fed-behind : {T : Type 0} (result : Result T XmlFault) (e : Bool) (limits : Limits) (old mid new : Cursor) (bytes behind : List ℕ) (held : Option Inside) (rest : List ℕ) (before between after : List Event → Type 0)
-    → GoesOn e limits old mid bytes behind before between → Fed result e limits mid new behind held rest between after → Fed result e limits old new bytes held rest before after
-fed-behind (Ok done) e limits old mid new bytes behind held rest before between after a b = leaves-behind e limits old mid new bytes behind held rest before between after a b
-fed-behind (Err fault) e limits old mid new bytes behind held rest before between after a b = goes-wrong e limits old mid bytes behind before between after fault a b
+pub fed-behind : {T : Type 0} (result : Result T XmlFault) (e : Bool) (limits : Limits) (old mid new : Cursor) (bytes behind : List ℕ) (held : Option Inside)
+    (rest : List ℕ) (before between after : List Event → Type 0)
+    → GoesOn e limits old mid bytes behind before between → Fed result e limits mid new behind held rest between after →
+    Fed result e limits old new bytes held rest before after
+fed-behind (Ok done) e limits old mid new bytes behind held rest before between after a b =
+    leaves-behind e limits old mid new bytes behind held rest before between after a b
+fed-behind (Err fault) e limits old mid new bytes behind held rest before between after a b =
+    goes-wrong e limits old mid bytes behind before between after fault a b
 
 pub nothing-before : (rest piece : List ℕ) → rest ≡ [] → piece ≡ rest ++ piece
 nothing-before rest piece none = sym (ap (λ r. r ++ piece) none)
 
 -- What is kept by the code.
-pub front-kept : (held : Option Inside) (left old front new : List ℕ) (n : ℕ) → old ≡ [] → n ≡ kept_len held (length left) → front ≡ take n left → new ≡ old ++ front → new ≡ kept_part held left
+pub front-kept : (held : Option Inside) (left old front new : List ℕ) (n : ℕ) → old ≡ [] → n ≡ kept_len held (length left) → front ≡ take n left → new ≡ old ++
+    front → new ≡ kept_part held left
 front-kept held left old front new n none long is kept =
     kept ∙ (ap (λ x. x ++ front) none ∙ (is ∙ (ap (λ k. take k left) long ∙ kept-front held left)))
 
-pub back-kept : (e : Bool) (limits : Limits) (old new : Cursor) (before after : List Event → Type 0) (held : Option Inside) (bytes left kept : List ℕ) (n : ℕ) → Reaches e limits old new bytes left before after
+pub back-kept : (e : Bool) (limits : Limits) (old new : Cursor) (before after : List Event → Type 0) (held : Option Inside) (bytes left kept : List ℕ) (n : ℕ) →
+    Reaches e limits old new bytes left before after
     → n ≡ kept_len held (length left) → kept ≡ drop (length bytes - n) bytes → kept ≡ kept_part held left
-back-kept e limits old new before after held bytes left kept n a long is = is ∙ (ap (λ k. drop (length bytes - k) bytes) long ∙ kept-back e limits old new before after held bytes left a)
+back-kept e limits old new before after held bytes left kept n a long is = is ∙
+    (ap (λ k. drop (length bytes - k) bytes) long ∙ kept-back e limits old new before after held bytes left a)
 
 -- A `Vec` that was extended.
 pub extended : {T E : Type 0} (r : Result T E) (old other new : List ℕ) → is_err r ≡ false → new ≡ (if is_ok r then old ++ other else old) → new ≡ old ++ other

@@ -1,5 +1,6 @@
 -- No bytes have want of memory as their fault.
-use Rattle.std.proofs.Common.{◌≡◌, ◌≢◌, ℕ, zero, suc, pred, ◌+◌, ◌&&◌, ◌==◌, not, nat_le, nat_lt, Bool, true, false, List, [], ◌∷◌, length, refl, sym, ap, ◌∙◌, Option, Some, None, if◌then◌else◌}
+use Rattle.std.proofs.Common.{◌≡◌, ◌≢◌, ℕ, zero, suc, pred, ◌+◌, ◌&&◌, ◌==◌, not, nat_le, nat_lt, Bool, true, false, List, [], ◌∷◌, length, refl, sym, ap, ◌∙◌}
+use Rattle.std.proofs.Common.{Option, Some, None, if◌then◌else◌}
 use Rattle.std.proofs.lemmas.Bool.{true≢false}
 use Rattle.std.proofs.lemmas.Option.{none-some}
 use Rattle.inv_base.specs.Characters.{is_white_space}
@@ -58,7 +59,8 @@ token-of-text limits s (a_section text) = by (length text == 0 && not (is_outsid
     by : (t : Bool) (x : Option XmlKind) → KindOfText x → KindOfText (if t then None else x)
     by true x h = tt
     by false x h = h
-token-of-text limits s (a_start_tag tag) = first-of-text (start_tag_causes limits s tag) (refl, (refl, (refl, (refl, (refl, (refl, (refl, (refl, (refl, tt)))))))))
+token-of-text limits s (a_start_tag tag) = first-of-text (start_tag_causes limits s tag)
+    (refl, (refl, (refl, (refl, (refl, (refl, (refl, (refl, (refl, tt)))))))))
 token-of-text limits s (an_end_tag name) = first-of-text (end_tag_causes limits s name) (refl, (refl, tt))
 
 -- where reading stands
@@ -71,9 +73,11 @@ unfolding read
 read-of-text e limits s place zero [] = tt
 read-of-text e limits s place (suc skip) [] = tt
 read-of-text e limits s place (suc skip) (b ∷ bytes) = read-of-text e limits s (place + 1) skip bytes
-read-of-text e limits s place zero (b ∷ bytes) = by (beginning s.position e (b ∷ bytes)) (beginning-of-text s.position e (b ∷ bytes)) (λ s' p k. read-of-text e limits s' p k bytes)
+read-of-text e limits s place zero (b ∷ bytes) = by (beginning s.position e (b ∷ bytes)) (beginning-of-text s.position e (b ∷ bytes))
+    (λ s' p k. read-of-text e limits s' p k bytes)
   where
-    by : (x : Beginning) → OfText x → ((s' : State) (p k : ℕ) → StandsOfText (read e limits s' p k bytes).stands) → StandsOfText (turn e limits s place b bytes x).stands
+    by : (x : Beginning) → OfText x → ((s' : State) (p k : ℕ) → StandsOfText (read e limits s' p k bytes).stands) →
+        StandsOfText (turn e limits s place b bytes x).stands
     by later told rest = at (nat_le (place + sure_length b bytes) limits.bytes)
       where
         at : (t : Bool) → StandsOfText (if t then record { events = []; stands = waits s place (b ∷ bytes) } else stops_at TooLong limits.bytes).stands
@@ -103,7 +107,8 @@ settled-of-text (stopped fault) h = h
 whole-of-text : (x : Standing) → StandsOfText x → FaultOfText (fault_of_whole x)
 whole-of-text (waits s place rest) h = by (nat_lt 0 (length rest)) (is_outside s) s.root_seen
   where
-    by : (t u v : Bool) → FaultOfText (if t then Some (fault_at Truncated (place + length rest)) else (if u then (if v then None else Some (fault_at NoRoot place)) else Some (fault_at Truncated place)))
+    by : (t u v : Bool) → FaultOfText (if t then Some (fault_at Truncated (place + length rest)) else
+        (if u then (if v then None else Some (fault_at NoRoot place)) else Some (fault_at Truncated place)))
     by true u v = refl
     by false true true = tt
     by false true false = refl
@@ -118,8 +123,10 @@ no-memory (Some f) fault told is =
 
 pub settled-no-memory : (limits : Limits) (bytes : List ℕ) (fault : XmlFault) → settled_fault limits bytes ≡ Some fault → fault ≢ WANT_OF_MEMORY
 unfolding settled_fault resume
-settled-no-memory limits bytes fault is = no-memory (settled_fault limits bytes) fault (settled-of-text (read_front limits bytes).stands (read-of-text false limits begin 0 0 bytes)) is
+settled-no-memory limits bytes fault is = no-memory (settled_fault limits bytes) fault
+    (settled-of-text (read_front limits bytes).stands (read-of-text false limits begin 0 0 bytes)) is
 
 pub first-no-memory : (limits : Limits) (bytes : List ℕ) (fault : XmlFault) → first_fault limits bytes ≡ Some fault → fault ≢ WANT_OF_MEMORY
 unfolding first_fault resume
-first-no-memory limits bytes fault is = no-memory (first_fault limits bytes) fault (whole-of-text (read_whole limits bytes).stands (read-of-text true limits begin 0 0 bytes)) is
+first-no-memory limits bytes fault is = no-memory (first_fault limits bytes) fault
+    (whole-of-text (read_whole limits bytes).stands (read-of-text true limits begin 0 0 bytes)) is

@@ -1,5 +1,6 @@
 -- Reading in two pieces.
-use Rattle.std.proofs.Common.{◌≡◌, ℕ, zero, suc, pred, ◌+◌, ◌≤◌, ◌==◌, Bool, true, false, nat_le, List, [], ◌∷◌, ◌++◌, length, refl, sym, ap, ◌∙◌, arith, Option, Some, None, if◌then◌else◌}
+use Rattle.std.proofs.Common.{◌≡◌, ℕ, zero, suc, pred, ◌+◌, ◌≤◌, ◌==◌, Bool, true, false, nat_le, List, [], ◌∷◌, ◌++◌, length, refl, sym, ap, ◌∙◌, arith}
+use Rattle.std.proofs.Common.{Option, Some, None, if◌then◌else◌}
 use Rattle.std.proofs.lemmas.List.{append_assoc, length-append}
 use Rattle.std.proofs.lemmas.Bool.Decides.{nat_tests}
 use Rattle.xml_tokens.specs.declared.kind.XmlKind.{XmlKind}
@@ -26,7 +27,8 @@ turn ended limits s place b bytes x = elim x [
   ]
 ]
 
-pub read-turn : (e : Bool) (limits : Limits) (s : State) (place c : ℕ) (bytes : List ℕ) → read e limits s place zero (c ∷ bytes) ≡ turn e limits s place c bytes (beginning s.position e (c ∷ bytes))
+pub read-turn : (e : Bool) (limits : Limits) (s : State) (place c : ℕ) (bytes : List ℕ) →
+    read e limits s place zero (c ∷ bytes) ≡ turn e limits s place c bytes (beginning s.position e (c ∷ bytes))
 unfolding read
 read-turn e limits s place c bytes = refl
 
@@ -52,22 +54,36 @@ module _ (e : Bool) (limits : Limits) (a b : List ℕ)
   good-turn s place c token n w = by (nat_le (place + n) limits.bytes) (fault_of limits s token)
     where
       by : (t : Bool) (f : Option XmlKind) →
-          (elim t [ false ↦ stops_at TooLong limits.bytes | true ↦ elim f [ (Some kind) ↦ stops_at kind place | None ↦ telling (events_of s token place) (read e limits (state_behind s token) (place + 1) (pred n) (a ++ b)) ] ])
-          ≡ going_on e limits (elim t [ false ↦ stops_at TooLong limits.bytes | true ↦ elim f [ (Some kind) ↦ stops_at kind place | None ↦ telling (events_of s token place) (read false limits (state_behind s token) (place + 1) (pred n) a) ] ]) b
+          (elim t [
+            | false ↦ stops_at TooLong limits.bytes
+            | true ↦ elim f [
+              | (Some kind) ↦ stops_at kind place
+              | None ↦ telling (events_of s token place) (read e limits (state_behind s token) (place + 1) (pred n) (a ++ b))
+            ]
+          ])
+          ≡ going_on e limits (elim t [
+            | false ↦ stops_at TooLong limits.bytes
+            | true ↦ elim f [
+              | (Some kind) ↦ stops_at kind place
+              | None ↦ telling (events_of s token place) (read false limits (state_behind s token) (place + 1) (pred n) a)
+            ]
+          ]) b
       by false f = refl
       by true (Some kind) = refl
       by true None =
           let r = read false limits (state_behind s token) (place + 1) (pred n) a in
           let fits : pred n ≤ length a = omega arith in
           ap (telling (events_of s token place)) (rest (state_behind s token) (place + 1) (pred n) fits)
-          ∙ ap (λ es. record { events = es; stands = (resume e limits r.stands b).stands }) (sym (append_assoc (events_of s token place) r.events (resume e limits r.stands b).events))
+          ∙ ap (λ es. record { events = es; stands = (resume e limits r.stands b).stands })
+          (sym (append_assoc (events_of s token place) r.events (resume e limits r.stands b).events))
 
   bad-turn : (s : State) (place c : ℕ) (kind : XmlKind) (n : ℕ)
       → turn e limits s place c (a ++ b) (bad kind n) ≡ going_on e limits (turn false limits s place c a (bad kind n)) b
   unfolding resume
   bad-turn s place c kind n = by (nat_le (place + n) limits.bytes)
     where
-      by : (t : Bool) → (if t then stops_at kind place else stops_at TooLong limits.bytes) ≡ going_on e limits (if t then stops_at kind place else stops_at TooLong limits.bytes) b
+      by : (t : Bool) → (if t then stops_at kind place else stops_at TooLong limits.bytes) ≡ going_on e limits
+          (if t then stops_at kind place else stops_at TooLong limits.bytes) b
       by true = refl
       by false = refl
 
@@ -77,13 +93,25 @@ module _ (e : Bool) (limits : Limits) (a b : List ℕ)
   unfolding resume
   later-turn s place c m from is = by (nat_le (place + sure_length c a) limits.bytes) refl
     where
-      past : (m : Beginning) → From (sure_length c a) m → nat_le (place + sure_length c a) limits.bytes ≡ false → turn e limits s place c (a ++ b) m ≡ stops_at TooLong limits.bytes
-      past (good token n) from h = ap (λ t. elim t [ false ↦ stops_at TooLong limits.bytes | true ↦ elim (fault_of limits s token) [ (Some kind) ↦ stops_at kind place | None ↦ telling (events_of s token place) (read e limits (state_behind s token) (place + 1) (pred n) (a ++ b)) ] ]) (exceeds place (sure_length c a) n limits.bytes h from)
-      past (bad kind n) from h = ap (λ t. if t then stops_at kind place else stops_at TooLong limits.bytes) (exceeds place (sure_length c a) n limits.bytes h from)
-      past later from h = ap (λ t. if t then record { events = []; stands = waits s place (c ∷ (a ++ b)) } else stops_at TooLong limits.bytes) (exceeds place (sure_length c a) (sure_length c (a ++ b)) limits.bytes h (sure-grows c a b))
+      past : (m : Beginning) → From (sure_length c a) m → nat_le (place + sure_length c a) limits.bytes ≡ false →
+          turn e limits s place c (a ++ b) m ≡ stops_at TooLong limits.bytes
+      past (good token n) from h =
+          ap (λ t. elim t [
+            | false ↦ stops_at TooLong limits.bytes
+            | true ↦ elim (fault_of limits s token) [
+              | (Some kind) ↦ stops_at kind place
+              | None ↦ telling (events_of s token place) (read e limits (state_behind s token) (place + 1) (pred n) (a ++ b))
+            ]
+          ])
+          (exceeds place (sure_length c a) n limits.bytes h from)
+      past (bad kind n) from h = ap (λ t. if t then stops_at kind place else stops_at TooLong limits.bytes)
+          (exceeds place (sure_length c a) n limits.bytes h from)
+      past later from h = ap (λ t. if t then record { events = []; stands = waits s place (c ∷ (a ++ b)) } else stops_at TooLong limits.bytes)
+          (exceeds place (sure_length c a) (sure_length c (a ++ b)) limits.bytes h (sure-grows c a b))
 
       by : (t : Bool) → nat_le (place + sure_length c a) limits.bytes ≡ t
-          → turn e limits s place c (a ++ b) m ≡ going_on e limits (if t then record { events = []; stands = waits s place (c ∷ a) } else stops_at TooLong limits.bytes) b
+          → turn e limits s place c (a ++ b) m ≡ going_on e limits
+          (if t then record { events = []; stands = waits s place (c ∷ a) } else stops_at TooLong limits.bytes) b
       by true h = ap (turn e limits s place c (a ++ b)) is ∙ sym (read-turn e limits s place c (a ++ b))
       by false h = past m from h
 
@@ -96,10 +124,12 @@ module _ (e : Bool) (limits : Limits) (a b : List ℕ)
 
 module _ (stays : (p : Position) (e : Bool) (c : ℕ) (a b : List ℕ) → Stays (sure_length c a) (beginning p false (c ∷ a)) (beginning p e (c ∷ (a ++ b))))
     (within : (p : Position) (c : ℕ) (a : List ℕ) → Within (suc (length a)) (beginning p false (c ∷ a))) where
-  pub read-cut : (e : Bool) (limits : Limits) (a b : List ℕ) (s : State) (place k : ℕ) → k ≤ length a → read e limits s place k (a ++ b) ≡ going_on e limits (read false limits s place k a) b
+  pub read-cut : (e : Bool) (limits : Limits) (a b : List ℕ) (s : State) (place k : ℕ) → k ≤ length a →
+      read e limits s place k (a ++ b) ≡ going_on e limits (read false limits s place k a) b
   unfolding read resume
   read-cut e limits [] b s place zero h = refl
   read-cut e limits [] b s place (suc k) h = absurd (omega arith)
   read-cut e limits (c ∷ a) b s place (suc k) h = read-cut e limits a b s (place + 1) k (omega arith)
   read-cut e limits (c ∷ a) b s place zero h =
-      any-turn e limits a b (λ s' place' k' h'. read-cut e limits a b s' place' k' h') s place c (beginning s.position false (c ∷ a)) (beginning s.position e (c ∷ (a ++ b))) (stays s.position e c a b) (within s.position c a) refl
+      any-turn e limits a b (λ s' place' k' h'. read-cut e limits a b s' place' k' h') s place c (beginning s.position false (c ∷ a))
+      (beginning s.position e (c ∷ (a ++ b))) (stays s.position e c a b) (within s.position c a) refl

@@ -8,7 +8,9 @@ use Rattle.inv_base.specs.Tree.{Name, Forest, no_more, a_text, an_element}
 use Rattle.xml_state.specs.Faults.{fault_at}
 use Rattle.xml_state.specs.Events.{Event, starts, has_attribute, has_text, ends, tree_of_events}
 use Rattle.xml_tokens.specs.declared.kind.XmlKind.{XmlKind}
-use Rattle.xml_tokens.specs.declared.kind.XmlKind.TheVariants.{NotUtf8, BadChar, Doctype, BadDeclaration, BadMarkup, BadReference, TextOutside, TooManyAttributes, NameTooLong, Mismatched, SecondRoot, BadNamespace, UndeclaredPrefix, DuplicateAttribute, TooDeep, TooManyNames, TooManyNodes, TooLong, Truncated, NoRoot}
+use Rattle.xml_tokens.specs.declared.kind.XmlKind.TheVariants.{NotUtf8, BadChar, Doctype, BadDeclaration, BadMarkup, BadReference, TextOutside}
+use Rattle.xml_tokens.specs.declared.kind.XmlKind.TheVariants.{TooManyAttributes, NameTooLong, Mismatched, SecondRoot, BadNamespace, UndeclaredPrefix}
+use Rattle.xml_tokens.specs.declared.kind.XmlKind.TheVariants.{DuplicateAttribute, TooDeep, TooManyNames, TooManyNodes, TooLong, Truncated, NoRoot}
 use Rattle.xml_state.specs.declared.fault.XmlFault.{XmlFault}
 use Rattle.xml_state.specs.declared.limits.Limits.{Limits}
 use Rattle.xml_state.specs.Sizes.{document_limits}
@@ -46,39 +48,54 @@ in_space uri local = record { uri = uri; local = local }
 
 -- the answers, with all definitions open
 abbrev first : Limits → List ℕ → Option XmlFault
-unfolding document first_fault settled_fault resume read beginning extent comment section is_declaration instruction attribute_at tag_inside value_of start_tag end_tag is_qname character_at reference_at referred fault_of state_behind events_of tree_of_events is_utf8 chars encode_utf8 is_char is_white_space is_name_start is_name_char
+unfolding document first_fault settled_fault resume read beginning extent comment section is_declaration instruction attribute_at tag_inside value_of start_tag
+    end_tag is_qname character_at reference_at referred fault_of state_behind events_of tree_of_events is_utf8 chars encode_utf8 is_char is_white_space
+    is_name_start is_name_char
 first limits bytes = first_fault limits bytes
 
 abbrev settled : Limits → List ℕ → Option XmlFault
-unfolding document first_fault settled_fault resume read beginning extent comment section is_declaration instruction attribute_at tag_inside value_of start_tag end_tag is_qname character_at reference_at referred fault_of state_behind events_of tree_of_events is_utf8 chars encode_utf8 is_char is_white_space is_name_start is_name_char
+unfolding document first_fault settled_fault resume read beginning extent comment section is_declaration instruction attribute_at tag_inside value_of start_tag
+    end_tag is_qname character_at reference_at referred fault_of state_behind events_of tree_of_events is_utf8 chars encode_utf8 is_char is_white_space
+    is_name_start is_name_char
 settled limits bytes = settled_fault limits bytes
 
 abbrev read_as : Limits → List ℕ → Result Document XmlFault
-unfolding document first_fault settled_fault resume read beginning extent comment section is_declaration instruction attribute_at tag_inside value_of start_tag end_tag is_qname character_at reference_at referred fault_of state_behind events_of tree_of_events is_utf8 chars encode_utf8 is_char is_white_space is_name_start is_name_char
+unfolding document first_fault settled_fault resume read beginning extent comment section is_declaration instruction attribute_at tag_inside value_of start_tag
+    end_tag is_qname character_at reference_at referred fault_of state_behind events_of tree_of_events is_utf8 chars encode_utf8 is_char is_white_space
+    is_name_start is_name_char
 read_as limits bytes = document limits bytes
 
 abbrev tree_at : Limits → List ℕ → Option Forest
-unfolding document first_fault settled_fault resume read beginning extent comment section is_declaration instruction attribute_at tag_inside value_of start_tag end_tag is_qname character_at reference_at referred fault_of state_behind events_of tree_of_events is_utf8 chars encode_utf8 is_char is_white_space is_name_start is_name_char
+unfolding document first_fault settled_fault resume read beginning extent comment section is_declaration instruction attribute_at tag_inside value_of start_tag
+    end_tag is_qname character_at reference_at referred fault_of state_behind events_of tree_of_events is_utf8 chars encode_utf8 is_char is_white_space
+    is_name_start is_name_char
 tree_at limits bytes = tree_in (document limits bytes)
 
 -- what an input tells and its fault, read in two pieces
 abbrev events_in_two : Limits → List ℕ → List ℕ → List Event
-unfolding document first_fault settled_fault resume read beginning extent comment section is_declaration instruction attribute_at tag_inside value_of start_tag end_tag is_qname character_at reference_at referred fault_of state_behind events_of tree_of_events is_utf8 chars encode_utf8 is_char is_white_space is_name_start is_name_char
+unfolding document first_fault settled_fault resume read beginning extent comment section is_declaration instruction attribute_at tag_inside value_of start_tag
+    end_tag is_qname character_at reference_at referred fault_of state_behind events_of tree_of_events is_utf8 chars encode_utf8 is_char is_white_space
+    is_name_start is_name_char
 events_in_two limits bytes piece = (read_front limits bytes).events ++ (resume true limits (read_front limits bytes).stands piece).events
 
 abbrev fault_in_two : Limits → List ℕ → List ℕ → Option XmlFault
-unfolding document first_fault settled_fault resume read beginning extent comment section is_declaration instruction attribute_at tag_inside value_of start_tag end_tag is_qname character_at reference_at referred fault_of state_behind events_of tree_of_events is_utf8 chars encode_utf8 is_char is_white_space is_name_start is_name_char
+unfolding document first_fault settled_fault resume read beginning extent comment section is_declaration instruction attribute_at tag_inside value_of start_tag
+    end_tag is_qname character_at reference_at referred fault_of state_behind events_of tree_of_events is_utf8 chars encode_utf8 is_char is_white_space
+    is_name_start is_name_char
 fault_in_two limits bytes piece = fault_of_whole (resume true limits (read_front limits bytes).stands piece).stands
 
-row_1 : read_as ample (codes "<a><b>x</b></a>") ≡ Ok (record { events = starts 0 0 ∷ starts 1 3 ∷ has_text (codes "x") 6 ∷ ends ∷ ends ∷ []; names = plain (codes "a") ∷ plain (codes "b") ∷ [] })
+row_1 : read_as ample (codes "<a><b>x</b></a>") ≡ Ok
+    (record { events = starts 0 0 ∷ starts 1 3 ∷ has_text (codes "x") 6 ∷ ends ∷ ends ∷ []; names = plain (codes "a") ∷ plain (codes "b") ∷ [] })
 unfolding read_as
 row_1 = refl
 
-row_2 : tree_at ample (codes "<a><b>x</b></a>") ≡ Some (an_element (plain (codes "a")) [] (an_element (plain (codes "b")) [] (a_text (codes "x") no_more) no_more) no_more)
+row_2 : tree_at ample (codes "<a><b>x</b></a>") ≡ Some
+    (an_element (plain (codes "a")) [] (an_element (plain (codes "b")) [] (a_text (codes "x") no_more) no_more) no_more)
 unfolding tree_at
 row_2 = refl
 
-row_3 : read_as ample (codes "<a x=\"1&amp;&#xA;\">t</a>") ≡ Ok (record { events = starts 0 0 ∷ has_attribute 1 (codes "1&\n") ∷ has_text (codes "t") 19 ∷ ends ∷ []; names = plain (codes "a") ∷ plain (codes "x") ∷ [] })
+row_3 : read_as ample (codes "<a x=\"1&amp;&#xA;\">t</a>") ≡ Ok
+    (record { events = starts 0 0 ∷ has_attribute 1 (codes "1&\n") ∷ has_text (codes "t") 19 ∷ ends ∷ []; names = plain (codes "a") ∷ plain (codes "x") ∷ [] })
 unfolding read_as
 row_3 = refl
 
@@ -86,19 +103,28 @@ row_4 : read_as ample (codes "<a>x<!--c-->y</a>") ≡ Ok (record { events = star
 unfolding read_as
 row_4 = refl
 
-row_5 : read_as ample (codes "<a><![CDATA[]]>\r\n<![CDATA[<\r]]>&#xD;</a>") ≡ Ok (record { events = starts 0 0 ∷ has_text (codes "\n<\n\r") 15 ∷ ends ∷ []; names = plain (codes "a") ∷ [] })
+row_5 : read_as ample (codes "<a><![CDATA[]]>\r\n<![CDATA[<\r]]>&#xD;</a>") ≡ Ok
+    (record { events = starts 0 0 ∷ has_text (codes "\n<\n\r") 15 ∷ ends ∷ []; names = plain (codes "a") ∷ [] })
 unfolding read_as
 row_5 = refl
 
-row_6 : read_as ample (codes "<a b=\"\t&#9;\r\n\"/>") ≡ Ok (record { events = starts 0 0 ∷ has_attribute 1 (codes " \t ") ∷ ends ∷ []; names = plain (codes "a") ∷ plain (codes "b") ∷ [] })
+row_6 : read_as ample (codes "<a b=\"\t&#9;\r\n\"/>") ≡ Ok
+    (record { events = starts 0 0 ∷ has_attribute 1 (codes " \t ") ∷ ends ∷ []; names = plain (codes "a") ∷ plain (codes "b") ∷ [] })
 unfolding read_as
 row_6 = refl
 
-row_7 : read_as ample (codes "<a xmlns=\"u\" b=\"\"><p:b xmlns:p=\"u\" p:b=\"\"/><c xmlns=\"\"/></a>") ≡ Ok (record { events = starts 0 0 ∷ has_attribute 1 [] ∷ starts 2 18 ∷ has_attribute 2 [] ∷ ends ∷ starts 3 43 ∷ ends ∷ ends ∷ []; names = in_space (codes "u") (codes "a") ∷ plain (codes "b") ∷ in_space (codes "u") (codes "b") ∷ plain (codes "c") ∷ [] })
+row_7 : read_as ample (codes "<a xmlns=\"u\" b=\"\"><p:b xmlns:p=\"u\" p:b=\"\"/><c xmlns=\"\"/></a>") ≡ Ok
+    (record {
+      events = starts 0 0 ∷ has_attribute 1 [] ∷ starts 2 18 ∷ has_attribute 2 [] ∷ ends ∷ starts 3 43 ∷ ends ∷ ends ∷ [];
+      names =
+          in_space (codes "u") (codes "a") ∷ plain (codes "b") ∷ in_space (codes "u") (codes "b") ∷ plain (codes "c") ∷ [];
+    })
 unfolding read_as
 row_7 = refl
 
-row_8 : read_as ample (((0xEF ∷ 0xBB ∷ 0xBF ∷ [])) ++ ((codes "<?xml version='1.0' encoding=\"utf-8\"?> <a>") ++ (((0xE2 ∷ 0x82 ∷ 0xAC ∷ [])) ++ (codes "</a>")))) ≡ Ok (record { events = starts 0 42 ∷ has_text (0x20AC ∷ []) 45 ∷ ends ∷ []; names = plain (codes "a") ∷ [] })
+row_8 : read_as ample (((0xEF ∷ 0xBB ∷ 0xBF ∷ [])) ++
+    ((codes "<?xml version='1.0' encoding=\"utf-8\"?> <a>") ++ (((0xE2 ∷ 0x82 ∷ 0xAC ∷ [])) ++ (codes "</a>")))) ≡ Ok
+    (record { events = starts 0 42 ∷ has_text (0x20AC ∷ []) 45 ∷ ends ∷ []; names = plain (codes "a") ∷ [] })
 unfolding read_as
 row_8 = refl
 
@@ -210,7 +236,8 @@ row_35 : settled ample (codes "<a>&foo") ≡ None
 unfolding settled
 row_35 = refl
 
-row_36 : events_in_two ample ((codes "<a>") ++ ((0xE2 ∷ 0x82 ∷ []))) (((0xAC ∷ [])) ++ (codes "\r\n]</a>")) ≡ starts 0 0 ∷ has_text (0x20AC ∷ []) 3 ∷ has_text (0xA ∷ []) 6 ∷ has_text (0x5D ∷ []) 8 ∷ ends ∷ []
+row_36 : events_in_two ample ((codes "<a>") ++ ((0xE2 ∷ 0x82 ∷ []))) (((0xAC ∷ [])) ++ (codes "\r\n]</a>")) ≡ starts 0 0 ∷ has_text (0x20AC ∷ []) 3 ∷ has_text
+    (0xA ∷ []) 6 ∷ has_text (0x5D ∷ []) 8 ∷ ends ∷ []
 unfolding events_in_two
 row_36 = refl
 

@@ -1,5 +1,6 @@
 -- Characters that are tokens one by one, read as a run.
-use Rattle.std.proofs.Common.{◌≡◌, ℕ, ◌+◌, ◌-◌, ◌<◌, ◌≤◌, Bool, true, false, nat_le, List, [], ◌∷◌, ◌++◌, length, drop, refl, sym, ap, ◌∙◌, subst, arith, Some, None, if◌then◌else◌}
+use Rattle.std.proofs.Common.{◌≡◌, ℕ, ◌+◌, ◌-◌, ◌<◌, ◌≤◌, Bool, true, false, nat_le, List, [], ◌∷◌, ◌++◌, length, drop, refl, sym, ap, ◌∙◌, subst, arith, Some}
+use Rattle.std.proofs.Common.{None, if◌then◌else◌}
 use Rattle.std.specs.List.{list_all}
 use Rattle.std.specs.Char.{encode_utf8}
 use Rattle.std.specs.Prelude.{encode_utf8_all}
@@ -42,7 +43,8 @@ text-admitted limits s c may =
     ap (λ t. if t then (if is_white_space c then None else Some TextOutside) else (if is_text_too_many limits s then Some TooManyNodes else None)) may.inside
     ∙ ap (λ t. if t then Some TooManyNodes else None) may.room
 
-text-refused : (limits : Limits) (s : State) (c : ℕ) → is_outside s ≡ false → is_text_too_many limits s ≡ true → fault_of limits s (a_character c) ≡ Some TooManyNodes
+text-refused : (limits : Limits) (s : State) (c : ℕ) → is_outside s ≡ false → is_text_too_many limits s ≡ true →
+    fault_of limits s (a_character c) ≡ Some TooManyNodes
 unfolding fault_of
 text-refused limits s c inside full =
     ap (λ t. if t then (if is_white_space c then None else Some TextOutside) else (if is_text_too_many limits s then Some TooManyNodes else None)) inside
@@ -71,19 +73,24 @@ in-text-stays s inside = behind-inside (in_text s) inside
 
 module _ (e : Bool) (limits : Limits) where
   one : (s : State) → MayHaveText limits s → (c place : ℕ) (rest : List ℕ) → is_plain c ≡ true → place + length (encode_utf8 c) ≤ limits.bytes
-      → read e limits s place 0 (encode_utf8 c ++ rest) ≡ telling (has_text (c ∷ []) place ∷ []) (read e limits (behind_text s) (place + length (encode_utf8 c)) 0 rest)
+      → read e limits s place 0 (encode_utf8 c ++ rest) ≡ telling (has_text (c ∷ []) place ∷ [])
+      (read e limits (behind_text s) (place + length (encode_utf8 c)) 0 rest)
   one s may c place rest plain within =
       let n = length (encode_utf8 c) in
-      let begun : beginning s.position e (encode_utf8 c ++ rest) ≡ good (a_character c) n = ap (λ p. beginning p e (encode_utf8 c ++ rest)) may.position ∙ plain-begins Farther e c rest refl plain in
+      let begun : beginning s.position e (encode_utf8 c ++ rest) ≡ good (a_character c) n = ap (λ p. beginning p e (encode_utf8 c ++ rest)) may.position ∙
+      plain-begins Farther e c rest refl plain in
       let room : nat_le (place + n) limits.bytes ≡ true = grind (arith, nat_tests) in
       read-good e limits s place (encode_utf8 c ++ rest) (a_character c) n begun room (text-admitted limits s c may)
-      ∙ ap (λ events. telling events (read e limits (state_behind s (a_character c)) (place + n) 0 (drop n (encode_utf8 c ++ rest)))) (text-told s c place may.inside)
+      ∙ ap (λ events. telling events (read e limits (state_behind s (a_character c)) (place + n) 0 (drop n (encode_utf8 c ++ rest))))
+      (text-told s c place may.inside)
       ∙ ap (λ s'. telling (has_text (c ∷ []) place ∷ []) (read e limits s' (place + n) 0 (drop n (encode_utf8 c ++ rest)))) (text-behind s c)
       ∙ ap (λ bytes. telling (has_text (c ∷ []) place ∷ []) (read e limits (behind_text s) (place + n) 0 bytes)) (drop_at (encode_utf8 c) rest n refl)
 
   -- further characters of a text
-  more : (s : State) → MayHaveText limits s → behind_text s ≡ s → (text : List ℕ) (place : ℕ) (rest : List ℕ) → list_all is_plain text ≡ true → place + length (encode_utf8_all text) ≤ limits.bytes
-      → read e limits s place 0 (encode_utf8_all text ++ rest) ≡ telling (run_events text place) (read e limits s (place + length (encode_utf8_all text)) 0 rest)
+  more : (s : State) → MayHaveText limits s → behind_text s ≡ s → (text : List ℕ) (place : ℕ) (rest : List ℕ) → list_all is_plain text ≡ true →
+      place + length (encode_utf8_all text) ≤ limits.bytes
+      → read e limits s place 0 (encode_utf8_all text ++ rest) ≡ telling (run_events text place)
+      (read e limits s (place + length (encode_utf8_all text)) 0 rest)
   more s may stays [] place rest plain within = let same : place ≡ place + 0 = omega arith in ap (λ p. read e limits s p 0 rest) same
   more s may stays (c ∷ text) place rest plain within =
       let n = length (encode_utf8 c) in
@@ -98,8 +105,10 @@ module _ (e : Bool) (limits : Limits) where
       ∙ ap (telling (has_text (c ∷ []) place ∷ [])) (more s may stays text (place + n) rest tests.1 there
       ∙ ap (λ p. telling (run_events text (place + n)) (read e limits s p 0 rest)) same)
 
-  read-run : (s : State) → MayHaveText limits s → (c : ℕ) (text : List ℕ) (place : ℕ) (rest : List ℕ) → list_all is_plain (c ∷ text) ≡ true → place + length (encode_utf8_all (c ∷ text)) ≤ limits.bytes
-      → read e limits s place 0 (encode_utf8_all (c ∷ text) ++ rest) ≡ telling (run_events (c ∷ text) place) (read e limits (behind_text s) (place + length (encode_utf8_all (c ∷ text))) 0 rest)
+  read-run : (s : State) → MayHaveText limits s → (c : ℕ) (text : List ℕ) (place : ℕ) (rest : List ℕ) → list_all is_plain (c ∷ text) ≡ true →
+      place + length (encode_utf8_all (c ∷ text)) ≤ limits.bytes
+      → read e limits s place 0 (encode_utf8_all (c ∷ text) ++ rest) ≡ telling (run_events (c ∷ text) place)
+      (read e limits (behind_text s) (place + length (encode_utf8_all (c ∷ text))) 0 rest)
   read-run s may c text place rest plain within =
       let n = length (encode_utf8 c) in
       let tests = both (is_plain c) (list_all is_plain text) plain in
@@ -111,15 +120,18 @@ module _ (e : Bool) (limits : Limits) where
       ap (read e limits s place 0) (append_assoc (encode_utf8 c) (encode_utf8_all text) rest)
       ∙ one s may c place (encode_utf8_all text ++ rest) tests.0 here
       ∙ ap (λ s'. telling (has_text (c ∷ []) place ∷ []) (read e limits s' (place + n) 0 (encode_utf8_all text ++ rest))) behind
-      ∙ ap (telling (has_text (c ∷ []) place ∷ [])) (more (in_text s) (in-text-may limits s may.inside) (in-text-stays s may.inside) text (place + n) rest tests.1 there
+      ∙ ap (telling (has_text (c ∷ []) place ∷ [])) (more (in_text s) (in-text-may limits s may.inside) (in-text-stays s may.inside) text
+      (place + n) rest tests.1 there
       ∙ ap (λ p. telling (run_events text (place + n)) (read e limits (in_text s) p 0 rest)) same)
       ∙ ap (λ s'. telling (run_events (c ∷ text) place) (read e limits s' (place + length (encode_utf8_all (c ∷ text))) 0 rest)) (sym behind)
 
 -- a front of a front
-front-of-front : (bytes within text : List ℕ) → bytes ≡ within ++ drop (length within) bytes → within ≡ text ++ drop (length text) within → bytes ≡ text ++ drop (length text) bytes
+front-of-front : (bytes within text : List ℕ) → bytes ≡ within ++ drop (length within) bytes → within ≡ text ++ drop (length text) within → bytes ≡ text ++
+    drop (length text) bytes
 front-of-front bytes within text outer inner =
     let rest = drop (length text) within ++ drop (length within) bytes in
-    let parts : bytes ≡ text ++ rest = outer ∙ ap (λ w. w ++ drop (length within) bytes) inner ∙ append_assoc text (drop (length text) within) (drop (length within) bytes) in
+    let parts : bytes ≡ text ++ rest = outer ∙ ap (λ w. w ++ drop (length within) bytes) inner ∙
+    append_assoc text (drop (length text) within) (drop (length within) bytes) in
     let behind : drop (length text) bytes ≡ rest = ap (drop (length text)) parts ∙ drop_at text rest (length text) refl in
     parts ∙ ap (λ r. text ++ r) (sym behind)
 
@@ -132,7 +144,8 @@ pub record IsRun (limits : Limits) (place : ℕ) (bytes text : List ℕ) : Type 
   pub within : place + length text ≤ limits.bytes
 
 pub run-at : (limits : Limits) (place : ℕ) (bytes within text : List ℕ) → IsUtf8 text → 0 < length text → list_all is_plain (chars text) ≡ true
-    → bytes ≡ within ++ drop (length within) bytes → length within ≤ limits.bytes - place → within ≡ text ++ drop (length text) within → place ≤ limits.bytes → IsRun limits place bytes text
+    → bytes ≡ within ++ drop (length within) bytes → length within ≤ limits.bytes - place → within ≡ text ++ drop (length text) within → place ≤ limits.bytes →
+    IsRun limits place bytes text
 run-at limits place bytes within text utf8 some plain outer room inner fits =
     let lengths : length within ≡ length text + length (drop (length text) within) = ap length inner ∙ length-append text (drop (length text) within) in
     record { utf8 = utf8; some = some; plain = plain; parts = front-of-front bytes within text outer inner; within = omega (arith, lengths) }
@@ -167,18 +180,22 @@ module _ (e : Bool) (limits : Limits) (old : Cursor) (bytes : List ℕ) (before 
       → AdvancesText limits old.nest nest (chars text) old.place before after → rest ≡ drop (length text) bytes
       → (length rest < length bytes) × GoesOn e limits old (record { nest = nest; place = old.place + length text; search = fresh }) bytes rest before after
   run-taken nest rest text position inside run advances behind =
-      text-taken nest rest text (chars text) position inside (encode-chars text run.utf8) run.plain run.some (run.parts ∙ ap (λ r. text ++ r) (sym behind)) run.within advances
+      text-taken nest rest text (chars text) position inside (encode-chars text run.utf8) run.plain run.some
+      (run.parts ∙ ap (λ r. text ++ r) (sym behind)) run.within advances
 
-  text-refused-at : (rest text characters : List ℕ) (fault : XmlFault) → old.nest.position ≡ Farther → is_outside old.nest ≡ false → encode_utf8_all characters ≡ text
+  text-refused-at : (rest text characters : List ℕ) (fault : XmlFault) → old.nest.position ≡ Farther → is_outside old.nest ≡ false →
+      encode_utf8_all characters ≡ text
       → list_all is_plain characters ≡ true → 0 < length text → bytes ≡ text ++ rest → old.place + length text ≤ limits.bytes
       → RefusedText limits old.nest old.place before after fault → Breaks e limits old bytes before after fault
-  text-refused-at rest text characters fault position inside spells plain some parts within (text_of_memory told) = breaks-at-once e limits old bytes before after told
+  text-refused-at rest text characters fault position inside spells plain some parts within (text_of_memory told) =
+      breaks-at-once e limits old bytes before after told
   text-refused-at rest text [] fault position inside spells plain some parts within (text_too_many full told) =
       let none : 0 ≡ length text = ap length spells in absurd (omega arith)
   text-refused-at rest text (c ∷ characters) fault position inside spells plain some parts within (text_too_many full told) =
       let n = length (encode_utf8 c) in
       let tests = both (is_plain c) (list_all is_plain characters) plain in
-      let lengths : length (encode_utf8 c ++ encode_utf8_all characters) ≡ n + length (encode_utf8_all characters) = length-append (encode_utf8 c) (encode_utf8_all characters) in
+      let lengths : length (encode_utf8 c ++ encode_utf8_all characters) ≡ n + length (encode_utf8_all characters) =
+      length-append (encode_utf8 c) (encode_utf8_all characters) in
       let whole : length (encode_utf8 c ++ encode_utf8_all characters) ≡ length text = ap length spells in
       let fits : old.place + n ≤ limits.bytes = omega (arith, within) in
       let room : nat_le (old.place + n) limits.bytes ≡ true = grind (arith, nat_tests) in
@@ -194,4 +211,5 @@ module _ (e : Bool) (limits : Limits) (old : Cursor) (bytes : List ℕ) (before 
   pub run-refused : (text : List ℕ) (fault : XmlFault) → old.nest.position ≡ Farther → is_outside old.nest ≡ false → IsRun limits old.place bytes text
       → RefusedText limits old.nest old.place before after fault → Breaks e limits old bytes before after fault
   run-refused text fault position inside run refused =
-      text-refused-at (drop (length text) bytes) text (chars text) fault position inside (encode-chars text run.utf8) run.plain run.some run.parts run.within refused
+      text-refused-at (drop (length text) bytes) text (chars text) fault position inside
+      (encode-chars text run.utf8) run.plain run.some run.parts run.within refused

@@ -1,5 +1,6 @@
 -- Reading one token.
-use Rattle.std.proofs.Common.{◌≡◌, ℕ, zero, suc, pred, ◌+◌, ◌≤◌, ◌==◌, Bool, true, false, nat_le, List, [], ◌∷◌, length, drop, sym, ap, ◌∙◌, subst, arith, Option, Some, None, if◌then◌else◌}
+use Rattle.std.proofs.Common.{◌≡◌, ℕ, zero, suc, pred, ◌+◌, ◌≤◌, ◌==◌, Bool, true, false, nat_le, List, [], ◌∷◌, length, drop, sym, ap, ◌∙◌, subst, arith}
+use Rattle.std.proofs.Common.{Option, Some, None, if◌then◌else◌}
 use Rattle.std.proofs.lemmas.Bool.Decides.{nat_tests}
 use Rattle.xml_tokens.specs.declared.kind.XmlKind.{XmlKind}
 use Rattle.xml_tokens.specs.declared.kind.XmlKind.TheVariants.{TooLong}
@@ -14,7 +15,8 @@ use Rattle.xml_profile.proofs.ReadCutLemmas.{turn, read-turn}
 use Rattle.xml_profile.proofs.EndedLemmas.{begins-within, bracket-begins}
 
 -- Behind bytes that belong to a token stands what follows them.
-pub read-drop : (e : Bool) (limits : Limits) (s : State) (place k : ℕ) (bytes : List ℕ) → k ≤ length bytes → read e limits s place k bytes ≡ read e limits s (place + k) 0 (drop k bytes)
+pub read-drop : (e : Bool) (limits : Limits) (s : State) (place k : ℕ) (bytes : List ℕ) → k ≤ length bytes →
+    read e limits s place k bytes ≡ read e limits s (place + k) 0 (drop k bytes)
 unfolding read
 read-drop e limits s place zero bytes h = let same : place ≡ place + 0 = omega arith in ap (λ p. read e limits s p 0 bytes) same
 read-drop e limits s place (suc k) [] h = absurd (omega arith)
@@ -61,9 +63,11 @@ read-good e limits s place (c ∷ a) token (suc k) is room admitted =
     read-begun e limits s place c a token (suc k) is
     ∙ ap (λ t. by_room e limits s place token (suc k) a t (fault_of limits s token)) room
     ∙ ap (by_room e limits s place token (suc k) a true) admitted
-    ∙ ap (telling (events_of s token place)) (read-drop e limits (state_behind s token) (place + 1) k a fits ∙ ap (λ p. read e limits (state_behind s token) p 0 (drop k a)) same)
+    ∙ ap (telling (events_of s token place)) (read-drop e limits (state_behind s token) (place + 1) k a fits ∙
+    ap (λ p. read e limits (state_behind s token) p 0 (drop k a)) same)
 
-pub read-refused : (e : Bool) (limits : Limits) (s : State) (place : ℕ) (bytes : List ℕ) (token : Token) (n : ℕ) (kind : XmlKind) → beginning s.position e bytes ≡ good token n
+pub read-refused : (e : Bool) (limits : Limits) (s : State) (place : ℕ) (bytes : List ℕ) (token : Token) (n : ℕ) (kind : XmlKind) →
+    beginning s.position e bytes ≡ good token n
     → nat_le (place + n) limits.bytes ≡ true → fault_of limits s token ≡ Some kind → read e limits s place 0 bytes ≡ stops_at kind place
 unfolding beginning
 read-refused e limits s place [] token n kind is room refused = absurd (later-nil token n is)
@@ -93,7 +97,8 @@ pub read-later : (e : Bool) (limits : Limits) (s : State) (place c : ℕ) (a : L
 read-later e limits s place c a is = read-turn e limits s place c a ∙ ap (turn e limits s place c a) is
 
 -- What isn't whole where the input has ended ends within the limit.
-pub later-within : (e : Bool) (limits : Limits) (s : State) (place c : ℕ) (a : List ℕ) → beginning s.position e (c ∷ a) ≡ later → nat_le (place + sure_length c a) limits.bytes ≡ true
+pub later-within : (e : Bool) (limits : Limits) (s : State) (place c : ℕ) (a : List ℕ) → beginning s.position e (c ∷ a) ≡ later →
+    nat_le (place + sure_length c a) limits.bytes ≡ true
     → e ≡ true → place + length (c ∷ a) ≤ limits.bytes
 later-within false limits s place c a is room ends = cc
 later-within true limits s place c a is room ends =

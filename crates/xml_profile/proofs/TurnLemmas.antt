@@ -1,5 +1,6 @@
 -- The ends of one turn.
-use Rattle.std.proofs.Common.{◌≡◌, ℕ, ◌+◌, ◌-◌, ◌<◌, ◌≤◌, Bool, true, false, nat_le, List, [], ◌∷◌, ◌++◌, length, take, drop, refl, sym, ap, ◌∙◌, subst, arith, if◌then◌else◌}
+use Rattle.std.proofs.Common.{◌≡◌, ℕ, ◌+◌, ◌-◌, ◌<◌, ◌≤◌, Bool, true, false, nat_le, List, [], ◌∷◌, ◌++◌, length, take, drop, refl, sym, ap, ◌∙◌, subst, arith}
+use Rattle.std.proofs.Common.{if◌then◌else◌}
 use Rattle.std.proofs.lemmas.Bool.Decides.{nat_tests}
 use Rattle.std.proofs.lemmas.List.{take-append-drop, length-drop, append_assoc}
 use Rattle.xml_tokens.specs.declared.kind.XmlKind.{XmlKind}
@@ -39,7 +40,8 @@ says found x (shows_bad kind n) = refl
 says found x shows_later = refl
 
 -- the same, as a variant of the code, at a position that is known by another name
-pub says-at : (e : Bool) (bytes : List ℕ) (p q : Position) (found variant : Beginning) → p ≡ q → found ≡ variant → Shows found (spec.beginning p e bytes) → Says variant (spec.beginning q e bytes)
+pub says-at : (e : Bool) (bytes : List ℕ) (p q : Position) (found variant : Beginning) → p ≡ q → found ≡ variant → Shows found (spec.beginning p e bytes) →
+    Says variant (spec.beginning q e bytes)
 says-at e bytes p q found variant same is shows =
     let P : Beginning → Type 0 = λ f. Says f (spec.beginning p e bytes) in
     let Q : Position → Type 0 = λ x. Says variant (spec.beginning x e bytes) in
@@ -62,7 +64,8 @@ module _ (e : Bool) (limits : Limits) (old : Cursor) (bytes : List ℕ) (before 
   breaks-as f g is h = let P : XmlFault → Type 0 = λ x. Breaks e limits old bytes before after x in subst P (sym is) h
 
   -- A token was refused.
-  pub refuses : (token : Token) (n : ℕ) (fault : XmlFault) → spec.beginning old.nest.position e bytes ≡ spec.good token n → nat_le (old.place + n) limits.bytes ≡ true
+  pub refuses : (token : Token) (n : ℕ) (fault : XmlFault) → spec.beginning old.nest.position e bytes ≡ spec.good token n →
+      nat_le (old.place + n) limits.bytes ≡ true
       → Refused limits old.nest token old.place before after fault → Breaks e limits old bytes before after fault
   refuses token n fault is room (of_token kind refused told) =
       breaks-at (fault_at kind old.place) (read-refused e limits old.nest old.place bytes token n kind is room refused) told
@@ -94,11 +97,13 @@ module _ (e : Bool) (limits : Limits) (old : Cursor) (bytes : List ℕ) (before 
       )
 
   -- A token or fault would end beyond the limit.
-  pub is-beyond : (token : Token) (n : ℕ) → spec.beginning old.nest.position e bytes ≡ spec.good token n → nat_le (old.place + n) limits.bytes ≡ false → TakesAll [] before after
+  pub is-beyond : (token : Token) (n : ℕ) → spec.beginning old.nest.position e bytes ≡ spec.good token n → nat_le (old.place + n) limits.bytes ≡ false →
+      TakesAll [] before after
       → Breaks e limits old bytes before after (fault_at TooLong limits.bytes)
   is-beyond token n is room told = breaks-at _ (read-beyond e limits old.nest old.place bytes token n is room) told
 
-  bad-by : (kind : XmlKind) (test : Bool) → read e limits old.nest old.place 0 bytes ≡ (if test then stops_at kind old.place else stops_at TooLong limits.bytes) → TakesAll [] before after
+  bad-by : (kind : XmlKind) (test : Bool) → read e limits old.nest old.place 0 bytes ≡ (if test then stops_at kind old.place else stops_at TooLong limits.bytes)
+      → TakesAll [] before after
       → Breaks e limits old bytes before after (if test then fault_at kind old.place else fault_at TooLong limits.bytes)
   bad-by kind true is told = breaks-at _ is told
   bad-by kind false is told = breaks-at _ is told
@@ -118,12 +123,24 @@ module _ (e : Bool) (limits : Limits) (bytes : List ℕ) (before after : List Ev
       let P : Cursor → Type 0 = λ x. (length rest < length bytes) × GoesOn e limits old x bytes rest before after in subst P (sym is) goes
 
   -- how far the next token was searched makes no difference
-  pub turns-anew : (nest : State) (place : ℕ) (search other : Searched) (new : Cursor) (turn : Turn) → Turns turn e limits (record { nest = nest; place = place; search = search }) new bytes before after
+  pub turns-anew : (nest : State) (place : ℕ) (search other : Searched) (new : Cursor) (turn : Turn) →
+      Turns turn e limits (record { nest = nest; place = place; search = search }) new bytes before after
       → Turns turn e limits (record { nest = nest; place = place; search = other }) new bytes before after
   turns-anew nest place search other new (Behind rest) t =
       (t.0, record { events = t.1.events; passed = t.1.passed; parts = t.1.parts; is = t.1.is; told = t.1.told; at = t.1.at })
   turns-anew nest place search other new Unfinished t =
-      record { events = t.events; passed = t.passed; parts = t.parts; is = t.is; told = t.told; at = t.at; searched = t.searched; room = t.room; ends_within = t.ends_within }
+      record {
+        events = t.events;
+        passed = t.passed;
+        parts = t.parts;
+        is = t.is;
+        told = t.told;
+        at = t.at;
+        searched = t.searched;
+        room = t.room;
+        ends_within =
+            t.ends_within;
+      }
   turns-anew nest place search other new (Stopped fault) t = broken fault t
     where
       broken : (fault : XmlFault) → Breaks e limits (record { nest = nest; place = place; search = search }) bytes before after fault
@@ -135,16 +152,20 @@ module _ (e : Bool) (limits : Limits) (bytes : List ℕ) (before after : List Ev
 abbrev pub IsSure : ℕ → List ℕ → Type 0
 IsSure len bytes = (c : ℕ) (a : List ℕ) → bytes ≡ c ∷ a → len ≡ spec.sure_length c a
 
-pub read-unfinished : (e : Bool) (limits : Limits) (s : State) (place c : ℕ) (a : List ℕ) (len : ℕ) (test : Bool) → spec.beginning s.position e (c ∷ a) ≡ spec.later → IsSure len (c ∷ a)
+pub read-unfinished : (e : Bool) (limits : Limits) (s : State) (place c : ℕ) (a : List ℕ) (len : ℕ) (test : Bool) →
+    spec.beginning s.position e (c ∷ a) ≡ spec.later → IsSure len (c ∷ a)
     → nat_le (place + len) limits.bytes ≡ test
     → read e limits s place 0 (c ∷ a) ≡ (if test then record { events = []; stands = waits s place (c ∷ a) } else stops_at TooLong limits.bytes)
 read-unfinished e limits s place c a len test is sure room =
     read-later e limits s place c a is
-    ∙ ap (λ t. if t then record { events = []; stands = waits s place (c ∷ a) } else stops_at TooLong limits.bytes) (ap (λ k. nat_le (place + k) limits.bytes) (sym (sure c a refl)) ∙ room)
+    ∙ ap (λ t. if t then record { events = []; stands = waits s place (c ∷ a) } else stops_at TooLong limits.bytes)
+    (ap (λ k. nat_le (place + k) limits.bytes) (sym (sure c a refl)) ∙ room)
 
 -- What begins isn't whole.
-pub is-unfinished : (e : Bool) (limits : Limits) (old : Cursor) (bytes : List ℕ) (before after : List Event → Type 0) (len : ℕ) (search : Searched) → 0 < length bytes → IsSure len bytes
-    → spec.beginning old.nest.position e bytes ≡ spec.later → nat_le (old.place + len) limits.bytes ≡ true → IsSearched search bytes → old.place ≤ limits.bytes → TakesAll [] before after
+pub is-unfinished : (e : Bool) (limits : Limits) (old : Cursor) (bytes : List ℕ) (before after : List Event → Type 0) (len : ℕ) (search : Searched) →
+    0 < length bytes → IsSure len bytes
+    → spec.beginning old.nest.position e bytes ≡ spec.later → nat_le (old.place + len) limits.bytes ≡ true → IsSearched search bytes → old.place ≤ limits.bytes
+    → TakesAll [] before after
     → Reaches e limits old (record { nest = old.nest; place = old.place; search = search }) bytes bytes before after
 is-unfinished e limits old [] before after len search some sure is room searched within told = absurd (omega arith)
 is-unfinished e limits old (c ∷ a) before after len search some sure is room searched within told = record {
@@ -159,7 +180,8 @@ is-unfinished e limits old (c ∷ a) before after len search some sure is room s
   ends_within = later-within e limits old.nest old.place c a is (ap (λ k. nat_le (old.place + k) limits.bytes) (sym (sure c a refl)) ∙ room);
 }
 
-pub is-unfinished-beyond : (e : Bool) (limits : Limits) (old : Cursor) (bytes : List ℕ) (before after : List Event → Type 0) (len : ℕ) → 0 < length bytes → IsSure len bytes
+pub is-unfinished-beyond : (e : Bool) (limits : Limits) (old : Cursor) (bytes : List ℕ) (before after : List Event → Type 0) (len : ℕ) → 0 < length bytes →
+    IsSure len bytes
     → spec.beginning old.nest.position e bytes ≡ spec.later → nat_le (old.place + len) limits.bytes ≡ false → TakesAll [] before after
     → Breaks e limits old bytes before after (fault_at TooLong limits.bytes)
 is-unfinished-beyond e limits old [] before after len some sure is room told = absurd (omega arith)

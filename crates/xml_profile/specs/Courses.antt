@@ -117,7 +117,8 @@ IsGoing limits None cursor rest = IsWaiting limits cursor rest
 IsGoing limits (Some held) cursor rest = StandsInside limits held cursor rest
 
 -- All was read but what is left, of which this is kept.
-pub record Leaves (ended : Bool) (limits : Limits) (old new : Cursor) (bytes : List ℕ) (held : Option Inside) (rest : List ℕ) (before after : List Event → Type 0) : Type 0 where
+pub record Leaves (ended : Bool) (limits : Limits) (old new : Cursor) (bytes : List ℕ) (held : Option Inside) (rest : List ℕ)
+    (before after : List Event → Type 0) : Type 0 where
   pub events : List Event
   pub left : List ℕ
   pub is : read ended limits old.nest old.place 0 bytes ≡ record { events = events; stands = waits new.nest new.place left }

@@ -51,5 +51,6 @@ pub record EndsWell (limits : Limits) (at : Standing) (names : List Name) (befor
 
 -- What the end does to a reader, wherever reading stands of which this is kept.
 pub record EndsAt (result : Result (List Name) XmlFault) (old : Progress) (before after : List Event → Type 0) : Type 0 where
-  pub ended : (at : Standing) → kept_of at ≡ old.stands → MatchResult result (λ names. EndsWell old.limits at names before after) (λ fault. FailsToEnd old.limits at before after fault)
+  pub ended : (at : Standing) → kept_of at ≡ old.stands → MatchResult result (λ names. EndsWell old.limits at names before after)
+      (λ fault. FailsToEnd old.limits at before after fault)
   pub stopped : (fault : XmlFault) → fault_of_reader old ≡ Some fault → (result ≡ Err fault) × TakesAll [] before after

@@ -1,6 +1,7 @@
 //! Where reading stands as long as nothing is wrong, and one turn of it: a token, or a run of characters that are
 //! tokens one by one.
-ghost use Rattle.std.specs.Prelude.{◌≡◌, ℕ, ◌∷◌, List, ◌<◌, ◌≤◌, ◌+◌, ◌++◌, ◌-◌, [], ◌^◌, Some, None, drop, length, vec_len, slice_index, nat_le, true, false, MatchResult, if◌then◌else◌};
+ghost use Rattle.std.specs.Prelude.{◌≡◌, ℕ, ◌∷◌, List, ◌<◌, ◌≤◌, ◌+◌, ◌++◌, ◌-◌, [], ◌^◌, Some, None, drop, length, vec_len, slice_index, nat_le, true, false};
+ghost use Rattle.std.specs.Prelude.{MatchResult, if◌then◌else◌};
 ghost use Rattle.xml_tokens.specs.Beginnings.{beginning, good, sure_length};
 ghost use Rattle.xml_tokens.specs.Asides.{begins_by, ends_with};
 ghost use Rattle.xml_tokens.specs.Markup.{an_aside};
@@ -11,7 +12,8 @@ ghost use Rattle.xml_tokens.specs.declared.kind.XmlKind.TheVariants as kinds;
 ghost use Rattle.xml_state.specs.Faults.{fault_at};
 ghost use Rattle.xml_state.specs.States.{begin, is_outside};
 ghost use Rattle.xml_profile.specs.Profile.{end_fault};
-ghost use Rattle.xml_profile.specs.Courses.{is_blank, IsAt, Turns, Reaches, Breaks, IsInside, InsideOf, kept_len, AsideTurns, IsKeptOf, IsGoing, StandsInside, Leaves};
+ghost use Rattle.xml_profile.specs.Courses.{is_blank, IsAt, Turns, Reaches, Breaks, IsInside, InsideOf, kept_len, AsideTurns, IsKeptOf, IsGoing, StandsInside};
+ghost use Rattle.xml_profile.specs.Courses.{Leaves};
 
 use inv_base::Place;
 use std::alloc::{AllocError, Global};
@@ -401,7 +403,8 @@ impl Cursor {
     ) -> Turn<'b>
         requires within { self.old.place + came ≤ reading.limits.bytes }
         requires inside { closed.len ≤ length piece.now }
-        ensures { (held : _) (bytes : List ℕ) → length bytes ≡ came → beginning self.old.nest.position reading.ended (bytes ++ piece.now) ≡ begins_by (ends_with closed.fault (came + closed.len))
+        ensures { (held : _) (bytes : List ℕ) → length bytes ≡ came → beginning self.old.nest.position reading.ended (bytes ++ piece.now) ≡ begins_by
+            (ends_with closed.fault (came + closed.len))
             → AsideTurns result reading.ended reading.limits self.old self.new held (bytes ++ piece.now) (E.taken events.old) (E.taken events.new) }
     {
         if !self.has_room_behind(reading.limits.bytes, came, closed.len) {
@@ -452,7 +455,8 @@ impl Cursor {
     ) -> Result<(), XmlFault>
         requires { IsGoing reading.limits inside.old self.old rest.old.items }
         ensures { (bytes : List ℕ) → IsKeptOf inside.old self.old rest.old.items bytes → MatchResult result
-            (λ _. Leaves reading.ended reading.limits self.old self.new (bytes ++ piece.now) inside.new rest.new.items (E.taken events.old) (E.taken events.new))
+            (λ _. Leaves reading.ended reading.limits self.old self.new (bytes ++ piece.now) inside.new rest.new.items (E.taken events.old)
+            (E.taken events.new))
             (λ fault. Breaks reading.ended reading.limits self.old (bytes ++ piece.now) (E.taken events.old) (E.taken events.new) fault) }
     {
         match *inside {
@@ -473,7 +477,8 @@ impl Cursor {
     ) -> Result<(), XmlFault>
         requires { StandsInside reading.limits held self.old rest.old.items }
         ensures { (bytes : List ℕ) → IsInside self.old.nest.position held bytes → MatchResult result
-            (λ _. Leaves reading.ended reading.limits self.old self.new (bytes ++ piece.now) inside.new rest.new.items (E.taken events.old) (E.taken events.new))
+            (λ _. Leaves reading.ended reading.limits self.old self.new (bytes ++ piece.now) inside.new rest.new.items (E.taken events.old)
+            (E.taken events.new))
             (λ fault. Breaks reading.ended reading.limits self.old (bytes ++ piece.now) (E.taken events.old) (E.taken events.new) fault) }
     {
         let mut longer = held;
@@ -498,7 +503,8 @@ impl Cursor {
     ) -> Result<(), XmlFault>
         requires { IsAt reading.limits self.old (rest.old.items ++ piece.now) }
         ensures { MatchResult result
-            (λ _. Leaves reading.ended reading.limits self.old self.new (rest.old.items ++ piece.now) inside.new rest.new.items (E.taken events.old) (E.taken events.new))
+            (λ _. Leaves reading.ended reading.limits self.old self.new (rest.old.items ++ piece.now) inside.new rest.new.items (E.taken events.old)
+            (E.taken events.new))
             (λ fault. Breaks reading.ended reading.limits self.old (rest.old.items ++ piece.now) (E.taken events.old) (E.taken events.new) fault) }
     {
         if rest.is_empty() {
@@ -531,7 +537,8 @@ impl Cursor {
         requires at { IsAt reading.limits self.old (rest.old.items ++ piece.now) }
         requires empty { rest.old.items ≡ [] }
         ensures { MatchResult result
-            (λ _. Leaves reading.ended reading.limits self.old self.new (rest.old.items ++ piece.now) inside.new rest.new.items (E.taken events.old) (E.taken events.new))
+            (λ _. Leaves reading.ended reading.limits self.old self.new (rest.old.items ++ piece.now) inside.new rest.new.items (E.taken events.old)
+            (E.taken events.new))
             (λ fault. Breaks reading.ended reading.limits self.old (rest.old.items ++ piece.now) (E.taken events.old) (E.taken events.new) fault) }
     {
         match self.read(reading, piece, events) {

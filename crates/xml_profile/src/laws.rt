@@ -7,12 +7,14 @@ ghost use Rattle.xml_profile.specs.Profile.{settled_fault, first_fault};
 
 /// A fault that is settled is the first fault of the input, however it goes on.
 pub fn settled_is_first()
-    ensures { (limits : Limits) (bytes more : List ℕ) (fault : XmlFault) → settled_fault limits bytes ≡ Some fault → first_fault limits (bytes ++ more) ≡ Some fault }
+    ensures { (limits : Limits) (bytes more : List ℕ) (fault : XmlFault) → settled_fault limits bytes ≡ Some fault →
+        first_fault limits (bytes ++ more) ≡ Some fault }
 {}
 
 /// A fault that is settled stays settled, however the input goes on.
 pub fn settled_stays()
-    ensures { (limits : Limits) (bytes more : List ℕ) (fault : XmlFault) → settled_fault limits bytes ≡ Some fault → settled_fault limits (bytes ++ more) ≡ Some fault }
+    ensures { (limits : Limits) (bytes more : List ℕ) (fault : XmlFault) → settled_fault limits bytes ≡ Some fault →
+        settled_fault limits (bytes ++ more) ≡ Some fault }
 {}
 
 /// No document has want of memory as its fault: it is answered only where memory runs out.

@@ -7,7 +7,8 @@ use Rattle.xml_state.specs.Events.{name_at}
 use Rattle.xml_state.specs.Names.{same_name, with_name, AreDistinct}
 
 itself : (a b : Name) → a ≡ b → same_name a b ≡ true
-itself a b e = and_from _ _ ((bytes_eq-Decides a.uri b.uri).1 (ap (λ (n : Name). n.uri) e)) ((bytes_eq-Decides a.local b.local).1 (ap (λ (n : Name). n.local) e))
+itself a b e = and_from _ _ ((bytes_eq-Decides a.uri b.uri).1 (ap (λ (n : Name). n.uri) e))
+    ((bytes_eq-Decides a.local b.local).1 (ap (λ (n : Name). n.local) e))
 
 -- The name is none of them.
 abbrev IsNew : Name → List Name → Type 0
@@ -28,7 +29,8 @@ distinct_more name names new d (suc i) (suc j) h k e = ap suc (d i j (omega (ari
 new_with : (names : List Name) (name n : Name) → IsNew n names → same_name n name ≡ false → IsNew n (with_name names name)
 new_with [] name n new other zero h e = false≢true (sym other ∙ itself n name (sym e))
 new_with [] name n new other (suc k) h e = omega (arith, h)
-new_with (m ∷ names) name n new other k h e = by (same_name m name) refl (new_with names name n (λ i below is. new (suc i) (omega (arith, below)) is) other) k h e
+new_with (m ∷ names) name n new other k h e = by (same_name m name) refl (new_with names name n (λ i below is. new (suc i) (omega (arith, below)) is) other) k h
+    e
   where
     by : (b : Bool) → same_name m name ≡ b → IsNew n (with_name names name) → IsNew n (with_name (m ∷ names) name)
     by true known rest = subst (λ b. IsNew n (if b then m ∷ names else m ∷ with_name names name)) (sym known) new

@@ -1,5 +1,6 @@
 -- Names and numbers that stand twice, looked up in ordered sets.
-use Rattle.std.proofs.Common.{◌≡◌, ℕ, ◌+◌, ◌<◌, Bool, true, false, not, ◌||◌, List, [], ◌∷◌, ◌++◌, length, get_or, drop, take, map, refl, sym, ap, ◌∙◌, arith, if◌then◌else◌, bytes_eq, nat_eq}
+use Rattle.std.proofs.Common.{◌≡◌, ℕ, ◌+◌, ◌<◌, Bool, true, false, not, ◌||◌, List, [], ◌∷◌, ◌++◌, length, get_or, drop, take, map, refl, sym, ap, ◌∙◌, arith}
+use Rattle.std.proofs.Common.{if◌then◌else◌, bytes_eq, nat_eq}
 use Rattle.std.specs.Borrow.{Bor}
 use Rattle.std.specs.BTreeMap.{is_at}
 use Rattle.std.specs.BTreeSet.{BTreeSet, contains_by, UpdatesBy}
@@ -35,24 +36,29 @@ has-no-names names e = record { has = λ name. ap (list_any (is_at (λ (key : Bo
 
 looked : (attributes : List Attribute) (i : ℕ) (a : Attribute) (before : List (List ℕ)) (target : Bool) → i < length attributes → a ≡ get_or attributes i a
     → twice_behind bytes_eq before (written_names (map seen_attribute (drop i attributes))) ≡ target
-    → (list_any (bytes_eq a.name.now) before || twice_behind bytes_eq (before ++ a.name.now ∷ []) (written_names (map seen_attribute (drop (i + 1) attributes)))) ≡ target
+    → (list_any (bytes_eq a.name.now) before || twice_behind bytes_eq (before ++ a.name.now ∷ [])
+    (written_names (map seen_attribute (drop (i + 1) attributes)))) ≡ target
 looked attributes i a before target l e h =
-    ap (λ (x : Attribute). list_any (bytes_eq x.name.now) before || twice_behind bytes_eq (before ++ x.name.now ∷ []) (written_names (map seen_attribute (drop (i + 1) attributes)))) e
+    ap (λ (x : Attribute). list_any (bytes_eq x.name.now) before ||
+    twice_behind bytes_eq (before ++ x.name.now ∷ []) (written_names (map seen_attribute (drop (i + 1) attributes)))) e
     ∙ (sym (ap (λ x. twice_behind bytes_eq before (written_names (map seen_attribute x))) (drop_more attributes i a l)) ∙ h)
 
 -- the names of the attributes so far, and the next
 abbrev front : List Attribute → ℕ → List (List ℕ)
 front attributes i = written_names (map seen_attribute (take i attributes))
 
-front-more : (attributes : List Attribute) (i : ℕ) (a : Attribute) → i < length attributes → a ≡ get_or attributes i a → front attributes (i + 1) ≡ front attributes i ++ a.name.now ∷ []
+front-more : (attributes : List Attribute) (i : ℕ) (a : Attribute) → i < length attributes → a ≡ get_or attributes i a →
+    front attributes (i + 1) ≡ front attributes i ++ a.name.now ∷ []
 front-more attributes i a l e =
     ap (λ x. written_names (map seen_attribute x)) (take_more attributes i a l)
     ∙ (ap written_names (map-append seen_attribute (take i attributes) (get_or attributes i a ∷ []))
     ∙ (map-append (λ (attribute : Written). attribute.name) (map seen_attribute (take i attributes)) (seen_attribute (get_or attributes i a) ∷ [])
     ∙ ap (λ (x : Attribute). front attributes i ++ x.name.now ∷ []) (sym e)))
 
-module _ (attributes : List Attribute) (i : ℕ) (a : Attribute) (names : BTreeSet (Bor (List ℕ))) (target added : Bool) (l : i < length attributes) (e : a ≡ get_or attributes i a)
-    (h : twice_behind bytes_eq (front attributes i) (written_names (map seen_attribute (drop i attributes))) ≡ target) (has : HasNames names (front attributes i))
+module _ (attributes : List Attribute) (i : ℕ) (a : Attribute) (names : BTreeSet (Bor (List ℕ))) (target added : Bool) (l : i < length attributes)
+    (e : a ≡ get_or attributes i a)
+    (h : twice_behind bytes_eq (front attributes i) (written_names (map seen_attribute (drop i attributes))) ≡ target)
+    (has : HasNames names (front attributes i))
     (is : added ≡ not (contains_by (λ (key : Bor (List ℕ)). slice_cmp nat_cmp a.name.now key.now) names)) where
   abbrev rest : List (List ℕ)
   rest = written_names (map seen_attribute (drop (i + 1) attributes))
@@ -65,7 +71,8 @@ module _ (attributes : List Attribute) (i : ℕ) (a : Attribute) (names : BTreeS
   looked-found refused = by (list_any (bytes_eq a.name.now) (front attributes i)) refl
     where
       by : (b : Bool) → list_any (bytes_eq a.name.now) (front attributes i) ≡ b → true ≡ target
-      by true t = sym (ap (λ b. b || twice_behind bytes_eq (front attributes i ++ a.name.now ∷ []) rest) t) ∙ looked attributes i a (front attributes i) target l e h
+      by true t = sym (ap (λ b. b || twice_behind bytes_eq (front attributes i ++ a.name.now ∷ []) rest) t) ∙
+          looked attributes i a (front attributes i) target l e h
       by false t = absurd (true≢false (sym (ap not t) ∙ (sym is-added ∙ refused)))
 
   -- one that is new
@@ -74,9 +81,11 @@ module _ (attributes : List Attribute) (i : ℕ) (a : Attribute) (names : BTreeS
     where
       by : (b : Bool) → list_any (bytes_eq a.name.now) (front attributes i) ≡ b → twice_behind bytes_eq (front attributes i ++ a.name.now ∷ []) rest ≡ target
       by true t = absurd (true≢false (sym (sym (ap not t) ∙ (sym is-added ∙ accepted))))
-      by false t = sym (ap (λ b. b || twice_behind bytes_eq (front attributes i ++ a.name.now ∷ []) rest) t) ∙ looked attributes i a (front attributes i) target l e h
+      by false t = sym (ap (λ b. b || twice_behind bytes_eq (front attributes i ++ a.name.now ∷ []) rest) t) ∙
+          looked attributes i a (front attributes i) target l e h
 
-  pub has-more : (more : BTreeSet (Bor (List ℕ))) → UpdatesBy (λ (x y : Bor (List ℕ)). slice_cmp nat_cmp x.now y.now) (λ (key : Bor (List ℕ)). slice_cmp nat_cmp a.name.now key.now) names more true → HasNames more (front attributes (i + 1))
+  pub has-more : (more : BTreeSet (Bor (List ℕ))) → UpdatesBy (λ (x y : Bor (List ℕ)). slice_cmp nat_cmp x.now y.now)
+      (λ (key : Bor (List ℕ)). slice_cmp nat_cmp a.name.now key.now) names more true → HasNames more (front attributes (i + 1))
   has-more more updates = record {
     has = λ name.
         updates.0 (record { ref_ptr = (0, 0); now = name })
@@ -85,7 +94,8 @@ module _ (attributes : List Attribute) (i : ℕ) (a : Attribute) (names : BTreeS
   }
     where
       by : (name : List ℕ) (b : Bool) → b ≡ bytes_eq a.name.now name
-          → (if b then true else contains_by (λ (key : Bor (List ℕ)). slice_cmp nat_cmp name key.now) names) ≡ (list_any (bytes_eq name) (front attributes i) || list_any (bytes_eq name) (a.name.now ∷ []))
+          → (if b then true else contains_by (λ (key : Bor (List ℕ)). slice_cmp nat_cmp name key.now) names) ≡ (list_any (bytes_eq name) (front attributes i) ||
+          list_any (bytes_eq name) (a.name.now ∷ []))
       by name true f = or_true (list_any (bytes_eq name) (front attributes i)) (bytes_eq name a.name.now) (bytes_eq-flips name a.name.now ∙ sym f)
       by name false f =
           has.has name ∙ (sym (or_false (list_any (bytes_eq name) (front attributes i)))
@@ -102,7 +112,8 @@ is_eq-nat_cmp : (a b : ℕ) → is_eq (nat_cmp a b) ≡ nat_eq a b
 is_eq-nat_cmp a b = grind (arith, nat_tests)
 
 module _ (numbers : List ℕ) (i n : ℕ) (seen : BTreeSet ℕ) (target added : Bool) (l : i < length numbers) (e : n ≡ get_or numbers i n)
-    (h : twice_behind nat_eq (take i numbers) (drop i numbers) ≡ target) (has : HasNumbers seen (take i numbers)) (is : added ≡ not (contains_by (nat_cmp n) seen)) where
+    (h : twice_behind nat_eq (take i numbers) (drop i numbers) ≡ target) (has : HasNumbers seen (take i numbers))
+    (is : added ≡ not (contains_by (nat_cmp n) seen)) where
   counted : (list_any (nat_eq n) (take i numbers) || twice_behind nat_eq (take i numbers ++ n ∷ []) (drop (i + 1) numbers)) ≡ target
   counted =
       ap (λ x. list_any (nat_eq x) (take i numbers) || twice_behind nat_eq (take i numbers ++ x ∷ []) (drop (i + 1) numbers)) e
@@ -136,7 +147,9 @@ module _ (numbers : List ℕ) (i n : ℕ) (seen : BTreeSet ℕ) (target added : 
         ∙ (sym (list_any-append (nat_eq m) (take i numbers) (n ∷ [])) ∙ ap (list_any (nat_eq m)) (sym numbers-more)));
   }
     where
-      by : (m : ℕ) (b : Bool) → b ≡ nat_eq n m → (if b then true else contains_by (nat_cmp m) seen) ≡ (list_any (nat_eq m) (take i numbers) || list_any (nat_eq m) (n ∷ []))
+      by : (m : ℕ) (b : Bool) → b ≡ nat_eq n m → (if b then true else contains_by (nat_cmp m) seen) ≡ (list_any (nat_eq m) (take i numbers) ||
+          list_any (nat_eq m) (n ∷ []))
       by m true f = or_true (list_any (nat_eq m) (take i numbers)) (nat_eq m n) (nat_eq-flips m n ∙ sym f)
       by m false f =
-          has.has m ∙ (sym (or_false (list_any (nat_eq m) (take i numbers))) ∙ ap (λ b. list_any (nat_eq m) (take i numbers) || (b || false)) (f ∙ nat_eq-flips n m))
+          has.has m ∙ (sym (or_false (list_any (nat_eq m) (take i numbers))) ∙
+          ap (λ b. list_any (nat_eq m) (take i numbers) || (b || false)) (f ∙ nat_eq-flips n m))

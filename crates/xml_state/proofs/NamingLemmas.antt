@@ -18,7 +18,8 @@ use Rattle.xml_state.proofs.NumberLemmas.{numbers-twice}
 abbrev by_names : Bool → Bool → Option XmlKind
 by_names undeclared duplicate = if undeclared then Some UndeclaredPrefix else (if duplicate then Some DuplicateAttribute else None)
 
-module _ (old new : InScope) (tag : Tag) (numbers : List ℕ) (attributes : List Written) (same : attributes ≡ tag.attributes) (still : new.open_elements ≡ old.open_elements)
+module _ (old new : InScope) (tag : Tag) (numbers : List ℕ) (attributes : List Written) (same : attributes ≡ tag.attributes)
+    (still : new.open_elements ≡ old.open_elements)
     (declared : new.bound ≡ declared_bindings attributes ++ bindings_inside_innermost old.open_elements) where
   abbrev bindings : List Binding
   bindings = bindings_inside (bindings_inside_innermost old.open_elements) tag
@@ -40,18 +41,22 @@ module _ (old new : InScope) (tag : Tag) (numbers : List ℕ) (attributes : List
       let others = with_name old.names (element_name bindings tag.name) in
       ap (is_duplicated tag) numbered
       ∙ (ap (λ t. t || twice_behind nat_eq [] (numbers_from others more))
-      (twice_behind-nil bytes_eq bytes_eq-flips (written_names tag.attributes) ∙ has_twice-map bytes_eq (λ (attribute : Written). attribute.name) tag.attributes)
+      (twice_behind-nil bytes_eq bytes_eq-flips (written_names tag.attributes) ∙
+      has_twice-map bytes_eq (λ (attribute : Written). attribute.name) tag.attributes)
       ∙ ap (λ t. has_twice (λ (x y : Written). bytes_eq x.name y.name) tag.attributes || t)
       (twice_behind-nil nat_eq nat_eq-flips (numbers_from others more)
       ∙ (numbers-twice others more ∙ has_twice-map same_name (λ (attribute : Attribute). attribute.name) (attributes_of bindings tag.attributes))))
 
-  module _ (fine : has_undeclared_prefix new.bound tag ≡ false) (known : new.names ≡ with_names old.names (tag_names new.bound tag)) (numbered : numbers ≡ numbers_from old.names (tag_names new.bound tag)) where
+  module _ (fine : has_undeclared_prefix new.bound tag ≡ false) (known : new.names ≡ with_names old.names (tag_names new.bound tag))
+      (numbered : numbers ≡ numbers_from old.names (tag_names new.bound tag)) where
     numbered-inside : numbers ≡ numbers_from old.names (tag_names bindings tag)
     numbered-inside = numbered ∙ ap (λ b. numbers_from old.names (tag_names b tag)) bound
 
-    names-fault : (twice : Bool) → is_duplicated tag numbers ≡ twice → by_names (has_undeclared_prefix bindings tag) (has_duplicate bindings tag) ≡ by_names false twice
+    names-fault : (twice : Bool) → is_duplicated tag numbers ≡ twice →
+        by_names (has_undeclared_prefix bindings tag) (has_duplicate bindings tag) ≡ by_names false twice
     names-fault twice h =
-        ap (λ t. by_names t (has_duplicate bindings tag)) (sym (ap (λ b. has_undeclared_prefix b tag) bound) ∙ fine) ∙ ap (by_names false) (sym (duplicated numbered-inside) ∙ h)
+        ap (λ t. by_names t (has_duplicate bindings tag)) (sym (ap (λ b. has_undeclared_prefix b tag) bound) ∙ fine) ∙
+        ap (by_names false) (sym (duplicated numbered-inside) ∙ h)
 
     duplicate-read : is_duplicated tag numbers ≡ true → ReadsNames (Some DuplicateAttribute) old new tag numbers
     duplicate-read h = record {
@@ -68,9 +73,12 @@ module _ (old new : InScope) (tag : Tag) (numbers : List ℕ) (attributes : List
     }
 
 -- What is read once the names are numbered, by what was declared before.
-module _ (old declared new : InScope) (tag : Tag) (numbers : List ℕ) (attributes : List Written) (same : attributes ≡ tag.attributes) (still : declared.open_elements ≡ old.open_elements)
-    (is-declared : declared.bound ≡ declared_bindings attributes ++ bindings_inside_innermost old.open_elements) (no-names : declared.names ≡ old.names) (fine : has_undeclared_prefix declared.bound tag ≡ false)
-    (named : new ≡ record declared { names = with_names declared.names (tag_names declared.bound tag) }) (numbered : numbers ≡ numbers_from declared.names (tag_names declared.bound tag)) where
+module _ (old declared new : InScope) (tag : Tag) (numbers : List ℕ) (attributes : List Written) (same : attributes ≡ tag.attributes)
+    (still : declared.open_elements ≡ old.open_elements)
+    (is-declared : declared.bound ≡ declared_bindings attributes ++ bindings_inside_innermost old.open_elements) (no-names : declared.names ≡ old.names)
+    (fine : has_undeclared_prefix declared.bound tag ≡ false)
+    (named : new ≡ record declared { names = with_names declared.names (tag_names declared.bound tag) })
+    (numbered : numbers ≡ numbers_from declared.names (tag_names declared.bound tag)) where
   same-bound : new.bound ≡ declared.bound
   same-bound = ap (λ (s : InScope). s.bound) named
 

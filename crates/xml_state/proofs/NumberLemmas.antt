@@ -1,5 +1,6 @@
 -- Names and their numbers.
-use Rattle.std.proofs.Common.{◌≡◌, ℕ, suc, ◌+◌, Bool, true, false, ◌||◌, List, [], ◌∷◌, map, refl, sym, ap, ◌∙◌, arith, if◌then◌else◌, bytes_eq, nat_eq, Decides}
+use Rattle.std.proofs.Common.{◌≡◌, ℕ, suc, ◌+◌, Bool, true, false, ◌||◌, List, [], ◌∷◌, map, refl, sym, ap, ◌∙◌, arith, if◌then◌else◌, bytes_eq, nat_eq}
+use Rattle.std.proofs.Common.{Decides}
 use Rattle.std.specs.List.{list_any, list_all}
 use Rattle.std.proofs.lemmas.Bool.{true≢false, and_parts, and_from}
 use Rattle.std.proofs.lemmas.Slice.Eq.{bytes_eq-Decides}
@@ -27,7 +28,8 @@ pub among-more : (x m : Name) (names : List Name) → is_among x names ≡ true 
 among-more x m [] h = absurd (true≢false (sym h))
 among-more x m (n ∷ names) h = by (same_name n m) (same_name n x) refl refl (among-more x m names)
   where
-    by : (a b : Bool) → same_name n m ≡ a → same_name n x ≡ b → (is_among x names ≡ true → is_among x (with_name names m) ≡ true) → is_among x (with_name (n ∷ names) m) ≡ true
+    by : (a b : Bool) → same_name n m ≡ a → same_name n x ≡ b → (is_among x names ≡ true → is_among x (with_name names m) ≡ true) →
+        is_among x (with_name (n ∷ names) m) ≡ true
     by true b e f rest = ap (λ (c : Bool). is_among x (if c then n ∷ names else n ∷ with_name names m)) e ∙ h
     by false true e f rest = ap (λ (c : Bool). is_among x (if c then n ∷ names else n ∷ with_name names m)) e ∙ ap (λ c. c || is_among x (with_name names m)) f
     by false false e f rest =
@@ -40,13 +42,15 @@ among-itself x (n ∷ names) = by (same_name n x) refl (among-itself x names)
   where
     by : (a : Bool) → same_name n x ≡ a → is_among x (with_name names x) ≡ true → is_among x (with_name (n ∷ names) x) ≡ true
     by true e rest = ap (λ (c : Bool). is_among x (if c then n ∷ names else n ∷ with_name names x)) e ∙ ap (λ c. c || is_among x names) e
-    by false e rest = ap (λ (c : Bool). is_among x (if c then n ∷ names else n ∷ with_name names x)) e ∙ (ap (λ c. c || is_among x (with_name names x)) e ∙ rest)
+    by false e rest = ap (λ (c : Bool). is_among x (if c then n ∷ names else n ∷ with_name names x)) e ∙
+        (ap (λ c. c || is_among x (with_name names x)) e ∙ rest)
 
 pub number-more : (x m : Name) (names : List Name) → is_among x names ≡ true → number_of x (with_name names m) ≡ number_of x names
 number-more x m [] h = absurd (true≢false (sym h))
 number-more x m (n ∷ names) h = by (same_name n m) (same_name n x) refl refl (number-more x m names)
   where
-    by : (a b : Bool) → same_name n m ≡ a → same_name n x ≡ b → (is_among x names ≡ true → number_of x (with_name names m) ≡ number_of x names) → number_of x (with_name (n ∷ names) m) ≡ number_of x (n ∷ names)
+    by : (a b : Bool) → same_name n m ≡ a → same_name n x ≡ b → (is_among x names ≡ true → number_of x (with_name names m) ≡ number_of x names) →
+        number_of x (with_name (n ∷ names) m) ≡ number_of x (n ∷ names)
     by true b e f rest = ap (λ (c : Bool). number_of x (if c then n ∷ names else n ∷ with_name names m)) e
     by false true e f rest =
         ap (λ (c : Bool). number_of x (if c then n ∷ names else n ∷ with_name names m)) e
@@ -99,10 +103,12 @@ name-number x (n ∷ names) h = by (same_name n x) refl (name-number x names)
         ap (λ (c : Bool). name_at (n ∷ names) (if c then 0 else 1 + number_of x names)) e
         ∙ (ap (name_at (n ∷ names)) one ∙ rest (sym (ap (λ c. c || is_among x names) e) ∙ h))
 
-pub numbers-tell : (a b : Name) (names : List Name) → is_among a names ≡ true → is_among b names ≡ true → nat_eq (number_of a names) (number_of b names) ≡ same_name a b
+pub numbers-tell : (a b : Name) (names : List Name) → is_among a names ≡ true → is_among b names ≡ true →
+    nat_eq (number_of a names) (number_of b names) ≡ same_name a b
 numbers-tell a b names h k =
     same_from_decides _ _
-    (Decides-like _ (λ e. sym (name-number a names h) ∙ (ap (name_at names) e ∙ name-number b names k)) (ap (λ x. number_of x names)) (Decides-eqb (number_of a names) (number_of b names)))
+    (Decides-like _ (λ e. sym (name-number a names h) ∙ (ap (name_at names) e ∙ name-number b names k)) (ap (λ x. number_of x names))
+    (Decides-eqb (number_of a names) (number_of b names)))
     (same_name-Decides a b)
 
 -- So names are twice where their numbers are.
@@ -114,7 +120,8 @@ any-told x names (y ∷ list) h all =
     ap (λ b. b || list_any (λ z. nat_eq (number_of x names) (number_of z names)) list) (numbers-tell x y names h parts.0)
     ∙ ap (λ b. same_name x y || b) (any-told x names list h parts.1)
 
-twice-told : (names list : List Name) → list_all (λ name. is_among name names) list ≡ true → has_twice (λ a b. nat_eq (number_of a names) (number_of b names)) list ≡ has_twice same_name list
+twice-told : (names list : List Name) → list_all (λ name. is_among name names) list ≡ true →
+    has_twice (λ a b. nat_eq (number_of a names) (number_of b names)) list ≡ has_twice same_name list
 twice-told names [] all = refl
 twice-told names (x ∷ list) all =
     let parts = and_parts (is_among x names) (list_all (λ name. is_among name names) list) all in

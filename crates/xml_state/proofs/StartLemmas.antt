@@ -1,5 +1,6 @@
 -- A start tag behind other tokens.
-use Rattle.std.proofs.Common.{◌≡◌, ℕ, suc, ◌+◌, Bool, true, false, List, [], ◌∷◌, ◌++◌, map, length, Option, Some, None, refl, sym, ap, ◌∙◌, subst, arith, if◌then◌else◌}
+use Rattle.std.proofs.Common.{◌≡◌, ℕ, suc, ◌+◌, Bool, true, false, List, [], ◌∷◌, ◌++◌, map, length, Option, Some, None, refl, sym, ap, ◌∙◌, subst, arith}
+use Rattle.std.proofs.Common.{if◌then◌else◌}
 use Rattle.std.proofs.lemmas.Option.{none-some}
 use Rattle.inv_base.specs.Tree.{Name, Attribute}
 use Rattle.xml_tokens.specs.Faults.{Cause, first_cause}
@@ -13,7 +14,8 @@ use Rattle.xml_state.specs.Names.{number_of}
 use Rattle.xml_state.specs.Namespaces.{Binding, attribute_name, undeclaring, bindings_inside}
 use Rattle.xml_state.specs.Scopes.{InScope}
 use Rattle.xml_state.specs.StartTags.{AreNamed, ReadsNames, tag_names, numbered_events, tag_events}
-use Rattle.xml_state.specs.States.{State, Open, bindings_inside_innermost, bindings_in, attributes_in, name_in, with_names, names_behind, elements_behind, attribute_event, start_tag_events, behind_start_tag, state_behind, events_of}
+use Rattle.xml_state.specs.States.{State, Open, bindings_inside_innermost, bindings_in, attributes_in, name_in, with_names, names_behind, elements_behind}
+use Rattle.xml_state.specs.States.{attribute_event, start_tag_events, behind_start_tag, state_behind, events_of}
 use Rattle.xml_state.specs.Taking.{Advances, TakesFront, Refused, of_memory, of_token}
 use Rattle.xml_state.specs.declared.fault.TheConstants.XmlFault.{WANT_OF_MEMORY}
 use Rattle.xml_state.specs.declared.limits.Limits.{Limits}
@@ -48,10 +50,13 @@ length-map f (x ∷ xs) = ap suc (length-map f xs)
 
 -- what a tag tells by its numbers is what it tells by its names
 numbered-are : (final : List Name) (bound : List Binding) (attributes : List Written)
-    → numbered_events (map (λ name. number_of name final) (map (λ (attribute : Attribute). attribute.name) (map (λ (attribute : Written). record { name = attribute_name bound attribute.name; value = attribute.value }) attributes))) attributes
+    → numbered_events (map (λ name. number_of name final)
+    (map (λ (attribute : Attribute). attribute.name)
+    (map (λ (attribute : Written). record { name = attribute_name bound attribute.name; value = attribute.value }) attributes))) attributes
     ≡ map (attribute_event final) (map (λ (attribute : Written). record { name = attribute_name bound attribute.name; value = attribute.value }) attributes)
 numbered-are final bound [] = refl
-numbered-are final bound (attribute ∷ attributes) = ap (λ x. has_attribute (number_of (attribute_name bound attribute.name) final) attribute.value ∷ x) (numbered-are final bound attributes)
+numbered-are final bound (attribute ∷ attributes) = ap (λ x. has_attribute (number_of (attribute_name bound attribute.name) final) attribute.value ∷ x)
+    (numbered-are final bound attributes)
 
 -- What is known behind the names of a tag.
 pub record Prepared (limits : Limits) (s : State) (tag : Tag) (bound : List Binding) (names : List Name) (numbers : List ℕ) : Type 0 where
@@ -71,7 +76,8 @@ module _ (limits : Limits) (s : State) (tag : Tag) where
       of_token kind (causes-front (early_causes limits s tag) (name_causes (bindings_in s tag) tag ++ last_causes) kind h) (λ events taken. taken)
 
   -- A fault of its names.
-  pub names_refused : (place : ℕ) (before : List Event → Type 0) (kind : XmlKind) → first_cause (early_causes limits s tag) ≡ None → first_cause (name_causes (bindings_in s tag) tag) ≡ Some kind
+  pub names_refused : (place : ℕ) (before : List Event → Type 0) (kind : XmlKind) → first_cause (early_causes limits s tag) ≡ None →
+      first_cause (name_causes (bindings_in s tag) tag) ≡ Some kind
       → Refused limits s (a_start_tag tag) place before before (fault_at kind place)
   unfolding fault_of
   names_refused place before kind early h = of_token kind
@@ -88,16 +94,19 @@ module _ (limits : Limits) (s : State) (tag : Tag) where
         omega arith
 
     -- Its fault is one of the sizes of the document.
-    pub late_fault : (elements : List Open) (nodes : ℕ) → elements ≡ s.open_elements → nodes ≡ s.nodes + length numbers → fault_of limits s (a_start_tag tag) ≡ first_cause (late_causes limits elements names nodes)
+    pub late_fault : (elements : List Open) (nodes : ℕ) → elements ≡ s.open_elements → nodes ≡ s.nodes + length numbers →
+        fault_of limits s (a_start_tag tag) ≡ first_cause (late_causes limits elements names nodes)
     unfolding fault_of
     late_fault elements nodes same counted =
         let total : nodes ≡ s.nodes + (1 + length (attributes_in s tag)) = omega (arith, length-numbers, counted) in
         causes-behind (early_causes limits s tag) (name_causes (bindings_in s tag) tag ++ last_causes) p.early
         ∙ (causes-behind (name_causes (bindings_in s tag) tag) last_causes p.fine
         ∙ sym (ap (λ x. first_cause (late_causes limits x names nodes)) same
-        ∙ (ap (λ x. first_cause (late_causes limits s.open_elements x nodes)) p.named.known ∙ ap (λ x. first_cause (late_causes limits s.open_elements (names_behind s tag) x)) total)))
+        ∙ (ap (λ x. first_cause (late_causes limits s.open_elements x nodes)) p.named.known ∙
+        ap (λ x. first_cause (late_causes limits s.open_elements (names_behind s tag) x)) total)))
 
-    pub late_refused : (elements : List Open) (nodes place : ℕ) (before : List Event → Type 0) (kind : XmlKind) → elements ≡ s.open_elements → nodes ≡ s.nodes + length numbers
+    pub late_refused : (elements : List Open) (nodes place : ℕ) (before : List Event → Type 0) (kind : XmlKind) → elements ≡ s.open_elements →
+        nodes ≡ s.nodes + length numbers
         → first_cause (late_causes limits elements names nodes) ≡ Some kind → Refused limits s (a_start_tag tag) place before before (fault_at kind place)
     late_refused elements nodes place before kind same counted h = of_token kind (late_fault elements nodes same counted ∙ h) (λ events taken. taken)
 
@@ -105,15 +114,18 @@ module _ (limits : Limits) (s : State) (tag : Tag) where
     events_are place =
         let b = bindings_in s tag in
         ap (λ x. tag_events x tag place) (p.named.numbered ∙ numbers-stay s.names (tag_names b tag))
-        ∙ ap (λ x. starts (number_of (name_in s tag) (names_behind s tag)) place ∷ (x ++ (if tag.is_empty then ends ∷ [] else []))) (numbered-are (names_behind s tag) b (undeclaring tag.attributes))
+        ∙ ap (λ x. starts (number_of (name_in s tag) (names_behind s tag)) place ∷ (x ++ (if tag.is_empty then ends ∷ [] else [])))
+        (numbered-are (names_behind s tag) b (undeclaring tag.attributes))
 
-    pub start_of_memory : (place : ℕ) (before after : List Event → Type 0) → fault_of limits s (a_start_tag tag) ≡ None → TakesFront (tag_events numbers tag place) before after
+    pub start_of_memory : (place : ℕ) (before after : List Event → Type 0) → fault_of limits s (a_start_tag tag) ≡ None →
+        TakesFront (tag_events numbers tag place) before after
         → Refused limits s (a_start_tag tag) place before after WANT_OF_MEMORY
     unfolding events_of
     start_of_memory place before after fine front = of_memory fine (subst (λ x. TakesFront x before after) (events_are place) front)
 
     -- the state behind the tag
-    pub start_told : (new : State) (place : ℕ) (before after : List Event → Type 0) → fault_of limits s (a_start_tag tag) ≡ None → new ≡ behind_start_tag s tag → TakesAll (tag_events numbers tag place) before after
+    pub start_told : (new : State) (place : ℕ) (before after : List Event → Type 0) → fault_of limits s (a_start_tag tag) ≡ None → new ≡ behind_start_tag s tag
+        → TakesAll (tag_events numbers tag place) before after
         → Advances limits s new (a_start_tag tag) place before after
     unfolding state_behind events_of
     start_told new place before after fine is all = record {
@@ -122,17 +134,26 @@ module _ (limits : Limits) (s : State) (tag : Tag) where
       told = subst (λ x. TakesAll x before after) (events_are place) all;
     }
 
-    pub started_state : (elements old : List Open) (more : List Name) (nodes : ℕ) → old ≡ s.open_elements → elements ≡ elements_behind old bound tag → more ≡ names → nodes ≡ s.nodes + length numbers
+    pub started_state : (elements old : List Open) (more : List Name) (nodes : ℕ) → old ≡ s.open_elements → elements ≡ elements_behind old bound tag →
+        more ≡ names → nodes ≡ s.nodes + length numbers
         → record { position = Farther; open_elements = elements; root_seen = true; in_text = false; nodes = nodes; names = more } ≡ behind_start_tag s tag
     started_state elements old more nodes same is names_are counted =
-        let state : List Open → ℕ → List Name → State = λ elements nodes names. record { position = Farther; open_elements = elements; root_seen = true; in_text = false; nodes = nodes; names = names } in
+        let state : List Open → ℕ → List Name → State = λ elements nodes names. record {
+          position = Farther;
+          open_elements = elements;
+          root_seen = true;
+          in_text = false;
+          nodes = nodes;
+          names = names;
+        } in
         let total : nodes ≡ s.nodes + (1 + length (attributes_in s tag)) = omega (arith, length-numbers, counted) in
         ap (λ x. state x nodes more) (is ∙ (ap (λ x. elements_behind x bound tag) same ∙ ap (λ b. elements_behind s.open_elements b tag) p.named.bindings))
         ∙ (ap (λ x. state (elements_behind s.open_elements (bindings_in s tag) tag) x more) total
         ∙ ap (state (elements_behind s.open_elements (bindings_in s tag) tag) (s.nodes + (1 + length (attributes_in s tag)))) (names_are ∙ p.named.known))
 
 -- What reading the names answers, in a state whose elements and names these are.
-module _ (s : State) (tag : Tag) (old new : InScope) (kind : Option XmlKind) (numbers : List ℕ) (here : old.open_elements ≡ s.open_elements) (so_far : old.names ≡ s.names)
+module _ (s : State) (tag : Tag) (old new : InScope) (kind : Option XmlKind) (numbers : List ℕ) (here : old.open_elements ≡ s.open_elements)
+    (so_far : old.names ≡ s.names)
     (reads : ReadsNames kind old new tag numbers) where
   pub names-answered : first_cause (name_causes (bindings_in s tag) tag) ≡ kind
   names-answered = ap (λ x. first_cause (name_causes (bindings_inside (bindings_inside_innermost x) tag) tag)) (sym here) ∙ sym reads.fault

@@ -5,7 +5,8 @@ use Rattle.inv_base.specs.Characters.{is_white_space}
 use Rattle.inv_base.specs.Tree.{Name, Attribute}
 use Rattle.xml_tokens.specs.Faults.{Cause, first_cause}
 use Rattle.xml_tokens.specs.declared.kind.XmlKind.{XmlKind}
-use Rattle.xml_tokens.specs.declared.kind.XmlKind.TheVariants.{TextOutside, TooManyAttributes, NameTooLong, Mismatched, SecondRoot, BadNamespace, UndeclaredPrefix, DuplicateAttribute, TooDeep, TooManyNames, TooManyNodes}
+use Rattle.xml_tokens.specs.declared.kind.XmlKind.TheVariants.{TextOutside, TooManyAttributes, NameTooLong, Mismatched, SecondRoot, BadNamespace}
+use Rattle.xml_tokens.specs.declared.kind.XmlKind.TheVariants.{UndeclaredPrefix, DuplicateAttribute, TooDeep, TooManyNames, TooManyNodes}
 use Rattle.xml_state.specs.declared.limits.Limits.{Limits}
 use Rattle.xml_state.specs.Names.{same_name}
 use Rattle.xml_tokens.specs.Markup.{Written, Tag, Token, a_mark, an_aside, a_character, a_reference, a_section, a_start_tag, an_end_tag}

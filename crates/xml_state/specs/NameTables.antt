@@ -1,5 +1,6 @@
 -- A table of names as it is kept: namespace names, each once, and pairs of the number of one and a local name.
-use Rattle.std.specs.Prelude.{◌≡◌, ℕ, zero, suc, ◌<◌, Bool, true, false, ◌&&◌, ◌==◌, List, [], ◌∷◌, ◌++◌, map, length, chars, string_bytes, bytes_eq, String, Result, IfOk}
+use Rattle.std.specs.Prelude.{◌≡◌, ℕ, zero, suc, ◌<◌, Bool, true, false, ◌&&◌, ◌==◌, List, [], ◌∷◌, ◌++◌, map, length, chars, string_bytes, bytes_eq, String}
+use Rattle.std.specs.Prelude.{Result, IfOk}
 use Rattle.std.specs.Global.{Global}
 use Rattle.std.specs.List.{list_any}
 use Rattle.inv_base.specs.Tree.{Name}
@@ -52,4 +53,5 @@ is_kept space local kept = space == kept.space && bytes_eq local (string_bytes k
 -- It was among the old ones, or was added behind them.
 pub data KeepsOne (space : ℕ) (local : List ℕ) (old : List Kept) : List Kept → Type 0 where
   known : list_any (is_kept space local) old ≡ true → KeepsOne space local old old
-  added : (kept : Kept) → list_any (is_kept space local) old ≡ false → kept.space ≡ space → string_bytes kept.local ≡ local → KeepsOne space local old (old ++ kept ∷ [])
+  added : (kept : Kept) → list_any (is_kept space local) old ≡ false → kept.space ≡ space → string_bytes kept.local ≡ local →
+      KeepsOne space local old (old ++ kept ∷ [])

@@ -1,5 +1,6 @@
 -- Namespaces in XML 1.0: which names prefixes stand for, and expanded names.
-use Rattle.std.specs.Prelude.{ℕ, Bool, not, ◌&&◌, ◌||◌, ◌==◌, List, [], ◌∷◌, ◌++◌, length, map, filter, Option, Some, None, is_none, if◌then◌else◌, bytes_eq, codes, chars, filter_map}
+use Rattle.std.specs.Prelude.{ℕ, Bool, not, ◌&&◌, ◌||◌, ◌==◌, List, [], ◌∷◌, ◌++◌, length, map, filter, Option, Some, None, is_none, if◌then◌else◌, bytes_eq}
+use Rattle.std.specs.Prelude.{codes, chars, filter_map}
 use Rattle.inv_base.specs.Tree.{Name, Attribute}
 use Rattle.xml_tokens.specs.WrittenNames.{prefix_of, local_of}
 use Rattle.xml_tokens.specs.Markup.{Written, Tag}

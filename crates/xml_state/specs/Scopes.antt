@@ -1,6 +1,7 @@
 -- The open elements as they are kept: their names as written on one stack of bytes, and the bindings on another, of which
 -- each has the number of its namespace name.
-use Rattle.std.specs.Prelude.{◌≡◌, ◌++◌, ℕ, ◌<◌, ◌≤◌, List, [], ◌∷◌, length, reverse, take, drop, string_bytes, bytes_eq, String, Option, Some, None, if◌then◌else◌, Result, OnOk}
+use Rattle.std.specs.Prelude.{◌≡◌, ◌++◌, ℕ, ◌<◌, ◌≤◌, List, [], ◌∷◌, length, reverse, take, drop, string_bytes, bytes_eq, String, Option, Some, None}
+use Rattle.std.specs.Prelude.{if◌then◌else◌, Result, OnOk}
 use Rattle.std.specs.BTreeMap.{BTreeMap, get_by_text}
 use Rattle.std.specs.Global.{Global}
 use Rattle.inv_base.specs.Tree.{Name}
@@ -111,7 +112,8 @@ pub record AreScoped (frames : List Frame) (written : List ℕ) (stack : List Bo
   pub kept : AreKept spaces keys
 
 -- And what holds of the numbers by prefix.
-pub record AreSound (frames : List Frame) (written : List ℕ) (stack : List Bound) (shown : Shown) (spaces : List (String Global)) (keys : List Kept) : Type 0 where
+pub record AreSound (frames : List Frame) (written : List ℕ) (stack : List Bound) (shown : Shown) (spaces : List (String Global))
+    (keys : List Kept) : Type 0 where
   pub scoped : AreScoped frames written stack spaces keys
   pub found : AreFound shown stack
 

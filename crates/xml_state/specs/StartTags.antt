@@ -41,7 +41,8 @@ twice_behind same before (x ∷ list) = list_any (same x) before || twice_behind
 -- what attributes with these numbers tell
 abbrev pub numbered_events : List ℕ → List Written → List Event
 numbered_events [] attributes = []
-numbered_events (number ∷ numbers) attributes = elim attributes [ [] ↦ [] | (attribute ∷ more) ↦ has_attribute number attribute.value ∷ numbered_events numbers more ]
+numbered_events (number ∷ numbers) attributes =
+    elim attributes [ [] ↦ [] | (attribute ∷ more) ↦ has_attribute number attribute.value ∷ numbered_events numbers more ]
 
 -- the same, the declarations among them
 abbrev pub attribute_events : List ℕ → List Written → List Event

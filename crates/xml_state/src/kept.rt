@@ -1,6 +1,7 @@
 //! The names of a document, each once, numbered in first-seen order. They are found by an ordered map for each namespace,
 //! since no choice of names makes a look-up in it slow.
-ghost use Rattle.std.specs.Prelude.{◌≡◌, ℕ, ◌<◌, ◌&&◌, ◌==◌, [], List, Some, None, length, slice_get, if◌then◌else◌, string_bytes, bytes_eq, OnOk, OnErr, IsTrue, ◌↔◌};
+ghost use Rattle.std.specs.Prelude.{◌≡◌, ℕ, ◌<◌, ◌&&◌, ◌==◌, [], List, Some, None, length, slice_get, if◌then◌else◌, string_bytes, bytes_eq, OnOk, OnErr};
+ghost use Rattle.std.specs.Prelude.{IsTrue, ◌↔◌};
 ghost use Rattle.std.specs.List.{position};
 ghost use Rattle.xml_state.specs.NameTables.{is_kept, KeepsOne};
 ghost use Rattle.xml_state.specs.Places as spec;
@@ -129,7 +130,8 @@ fn file_in(
     place: usize,
 ) -> Result<(), AllocError>
     requires { space < length places.old }
-    ensures ok { OnOk result ((n : ℕ) (local : List ℕ) → spec.place_in places.new n local ≡ (if (space == n) && bytes_eq (string_bytes key) local then Some place else spec.place_in places.old n local)) }
+    ensures ok { OnOk result ((n : ℕ) (local : List ℕ) →
+        spec.place_in places.new n local ≡ (if (space == n) && bytes_eq (string_bytes key) local then Some place else spec.place_in places.old n local)) }
     ensures err { OnErr result ((n : ℕ) (local : List ℕ) → spec.place_in places.new n local ≡ spec.place_in places.old n local) }
 {
     let inside = &mut places[space];

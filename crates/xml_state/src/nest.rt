@@ -54,7 +54,14 @@ impl Model for Nest {
 
     ghost Value = { State };
 
-    ghost view = { λ nest. record { position = nest.position; open_elements = nest.scopes.open_elements; root_seen = nest.root_seen; in_text = nest.in_text; nodes = nest.nodes; names = nest.scopes.names } };
+    ghost view = { λ nest. record {
+      position = nest.position;
+      open_elements = nest.scopes.open_elements;
+      root_seen = nest.root_seen;
+      in_text = nest.in_text;
+      nodes = nest.nodes;
+      names = nest.scopes.names;
+    } };
 }
 
 impl Nest {
@@ -232,7 +239,8 @@ impl Nest {
         place: Place,
         events: &mut E,
     ) -> Result<(), XmlFault>
-        ensures { TakesToken result limits.now self.old self.new (markup.a_section (markup.with_line_feeds (chars written.now))) place.byte (E.taken events.old) (E.taken events.new) }
+        ensures { TakesToken result limits.now self.old self.new (markup.a_section (markup.with_line_feeds (chars written.now))) place.byte (E.taken events.old)
+            (E.taken events.new) }
     {
         if self.is_outside() {
             return Err(XmlFault {

@@ -17,8 +17,12 @@ fn number_one(
     attribute: &Attribute<'_>,
     numbers: &mut Vec<NameId>,
 ) -> Result<(), AllocError>
-    ensures names { OnOk result (scopes.new ≡ record scopes.old { names = with_names scopes.old.names (spec.attribute_names scopes.old.bound (seen_attribute attribute.now ∷ [])) }) }
-    ensures numbers { OnOk result (numbers.new.items ≡ numbers.old.items ++ spec.numbers_from scopes.old.names (spec.attribute_names scopes.old.bound (seen_attribute attribute.now ∷ []))) }
+    ensures names { OnOk result (scopes.new ≡ record scopes.old {
+      names =
+          with_names scopes.old.names (spec.attribute_names scopes.old.bound (seen_attribute attribute.now ∷ []));
+    }) }
+    ensures numbers { OnOk result (numbers.new.items ≡ numbers.old.items ++
+        spec.numbers_from scopes.old.names (spec.attribute_names scopes.old.bound (seen_attribute attribute.now ∷ []))) }
 {
     if !is_plain(attribute.name) {
         return Ok(());
@@ -34,8 +38,12 @@ fn number_attributes(
     attributes: &[Attribute<'_>],
     numbers: &mut Vec<NameId>,
 ) -> Result<(), AllocError>
-    ensures names { OnOk result (scopes.new ≡ record scopes.old { names = with_names scopes.old.names (spec.attribute_names scopes.old.bound (map seen_attribute attributes.now)) }) }
-    ensures numbers { OnOk result (numbers.new.items ≡ numbers.old.items ++ spec.numbers_from scopes.old.names (spec.attribute_names scopes.old.bound (map seen_attribute attributes.now))) }
+    ensures names { OnOk result (scopes.new ≡ record scopes.old {
+      names =
+          with_names scopes.old.names (spec.attribute_names scopes.old.bound (map seen_attribute attributes.now));
+    }) }
+    ensures numbers { OnOk result (numbers.new.items ≡ numbers.old.items ++
+        spec.numbers_from scopes.old.names (spec.attribute_names scopes.old.bound (map seen_attribute attributes.now))) }
 {
     for attribute in attributes {
         number_one(alloc, scopes, attribute, numbers)?;

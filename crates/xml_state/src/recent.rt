@@ -88,7 +88,8 @@ pub(crate) fn keep_recent(
     number: NameId,
 ) -> Result<(), AllocError>
     requires { 0 < stamp }
-    ensures { (right : List ℕ → ℕ → Bool) → right name.now number ≡ true → spec.are_right right stamp slots.old.items ≡ true → spec.are_right right stamp slots.new.items ≡ true }
+    ensures { (right : List ℕ → ℕ → Bool) → right name.now number ≡ true → spec.are_right right stamp slots.old.items ≡ true →
+        spec.are_right right stamp slots.new.items ≡ true }
 {
     if slots.is_empty() {
         add_slots(alloc, slots, number)?;
@@ -98,7 +99,8 @@ pub(crate) fn keep_recent(
 
 // Adds slots that hold no name.
 fn add_slots(alloc: Global, slots: &mut Vec<Slot>, number: NameId) -> Result<(), AllocError>
-    ensures { (right : List ℕ → ℕ → Bool) (stamp : ℕ) → 0 < stamp → spec.are_right right stamp slots.old.items ≡ true → spec.are_right right stamp slots.new.items ≡ true }
+    ensures { (right : List ℕ → ℕ → Bool) (stamp : ℕ) → 0 < stamp → spec.are_right right stamp slots.old.items ≡ true →
+        spec.are_right right stamp slots.new.items ≡ true }
 {
     'slots: for _ in 0..SLOTS {
         slots.push(Slot::new(alloc, number))?;
@@ -114,7 +116,8 @@ fn put_in(
     number: NameId,
 ) -> Result<(), AllocError>
     requires { 0 < stamp }
-    ensures { (right : List ℕ → ℕ → Bool) → right name.now number ≡ true → spec.are_right right stamp slots.old ≡ true → spec.are_right right stamp slots.new ≡ true }
+    ensures { (right : List ℕ → ℕ → Bool) → right name.now number ≡ true → spec.are_right right stamp slots.old ≡ true →
+        spec.are_right right stamp slots.new ≡ true }
 {
     if place >= slots.len() {
         return Ok(());

@@ -107,7 +107,8 @@ impl Registry {
     // Binds what the attributes of a tag declare, inside the innermost open element.
     pub fn declare(&mut self, alloc: Global, attributes: &[Attribute<'_>]) -> Result<(), AllocError>
         ensures open { OnOk result (self.new.open_elements ≡ self.old.open_elements) }
-        ensures bound { OnOk result (self.new.bound ≡ namespaces.declared_bindings (map seen_attribute attributes.now) ++ states.bindings_inside_innermost self.old.open_elements) }
+        ensures bound { OnOk result (self.new.bound ≡ namespaces.declared_bindings (map seen_attribute attributes.now) ++
+            states.bindings_inside_innermost self.old.open_elements) }
         ensures names { OnOk result (self.new.names ≡ self.old.names) }
     {
         if self.scopes.is_declared(attributes) {

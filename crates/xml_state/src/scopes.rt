@@ -1,6 +1,7 @@
 //! The open elements: the names of their tags as written, and the namespaces that are bound inside them. And the
 //! expanded names that were seen.
-ghost use Rattle.std.specs.Prelude.{◌≡◌, ◌≤◌, ◌==◌, [], ◌∷◌, ◌++◌, map, length, take, drop, true, false, chars, string_bytes, is_none, IfOk, OnOk, OnErr, IsSome, bytes_eq};
+ghost use Rattle.std.specs.Prelude.{◌≡◌, ◌≤◌, ◌==◌, [], ◌∷◌, ◌++◌, map, length, take, drop, true, false, chars, string_bytes, is_none, IfOk, OnOk, OnErr};
+ghost use Rattle.std.specs.Prelude.{IsSome, bytes_eq};
 ghost use Rattle.std.specs.BTreeMap.{get_by_text};
 ghost use Rattle.std.proofs.Common.{reverse};
 ghost use Rattle.xml_tokens.specs.Seen.{seen_attribute};
@@ -131,7 +132,8 @@ impl Scopes {
     // Whether what is bound is already what the attributes of a tag declare inside the innermost open element: they
     // declare nothing, and no element was closed whose bindings are still there.
     pub fn is_declared(&self, attributes: &[Attribute<'_>]) -> bool
-        ensures { result ≡ true → self.now.bound ≡ namespaces.declared_bindings (map seen_attribute attributes.now) ++ states.bindings_inside_innermost self.now.open_elements }
+        ensures { result ≡ true → self.now.bound ≡ namespaces.declared_bindings (map seen_attribute attributes.now) ++
+            states.bindings_inside_innermost self.now.open_elements }
     {
         self.bindings.len() == bindings_inside(&self.frames) && !declares(attributes)
     }
@@ -139,7 +141,8 @@ impl Scopes {
     // Binds what the attributes of a tag declare, inside the innermost open element.
     pub fn declare(&mut self, alloc: Global, attributes: &[Attribute<'_>]) -> Result<(), AllocError>
         ensures open { OnOk result (self.new.open_elements ≡ self.old.open_elements) }
-        ensures bound { OnOk result (self.new.bound ≡ namespaces.declared_bindings (map seen_attribute attributes.now) ++ states.bindings_inside_innermost self.old.open_elements) }
+        ensures bound { OnOk result (self.new.bound ≡ namespaces.declared_bindings (map seen_attribute attributes.now) ++
+            states.bindings_inside_innermost self.old.open_elements) }
         ensures names { OnOk result (self.new.names ≡ self.old.names) }
     {
         let inside = bindings_inside(&self.frames);
@@ -160,8 +163,12 @@ impl Scopes {
         prefix: &str,
         local: &str,
     ) -> Result<NameId, AllocError>
-        ensures number { IfOk result (λ id. id ≡ number_of (record { uri = namespaces.uri_of self.old.bound prefix.now; local = chars local.now }) self.old.names) }
-        ensures names { OnOk result (self.new ≡ record self.old { names = with_name self.old.names (record { uri = namespaces.uri_of self.old.bound prefix.now; local = chars local.now }) }) }
+        ensures number { IfOk result (λ id. id ≡ number_of (record { uri = namespaces.uri_of self.old.bound prefix.now; local = chars local.now })
+            self.old.names) }
+        ensures names { OnOk result (self.new ≡ record self.old {
+          names =
+              with_name self.old.names (record { uri = namespaces.uri_of self.old.bound prefix.now; local = chars local.now });
+        }) }
         ensures err { OnErr result (self.new ≡ self.old) }
     {
         let space = number_prefix(alloc, &mut self.spaces, &self.shown, &self.bindings, prefix)?;
@@ -175,8 +182,12 @@ impl Scopes {
         prefix: &str,
         local: &str,
     ) -> Result<NameId, AllocError>
-        ensures number { IfOk result (λ id. id ≡ number_of (record { uri = namespaces.attribute_uri self.old.bound prefix.now; local = chars local.now }) self.old.names) }
-        ensures names { OnOk result (self.new ≡ record self.old { names = with_name self.old.names (record { uri = namespaces.attribute_uri self.old.bound prefix.now; local = chars local.now }) }) }
+        ensures number { IfOk result (λ id. id ≡ number_of (record { uri = namespaces.attribute_uri self.old.bound prefix.now; local = chars local.now })
+            self.old.names) }
+        ensures names { OnOk result (self.new ≡ record self.old {
+          names =
+              with_name self.old.names (record { uri = namespaces.attribute_uri self.old.bound prefix.now; local = chars local.now });
+        }) }
         ensures err { OnErr result (self.new ≡ self.old) }
     {
         let space = number_attribute_prefix(

@@ -55,7 +55,8 @@ fn is_xmlns_uri(uri: &str) -> bool
 
 // Whether `xml` would stand for another name, or another prefix for its name.
 fn mistakes_xml(prefix: &str, uri: &str) -> bool
-    ensures { result ≡ (if bytes_eq prefix.now namespaces.xml then not (bytes_eq (chars uri.now) namespaces.xml_uri) else bytes_eq (chars uri.now) namespaces.xml_uri) }
+    ensures { result ≡ (if bytes_eq prefix.now namespaces.xml then not (bytes_eq (chars uri.now) namespaces.xml_uri) else bytes_eq
+        (chars uri.now) namespaces.xml_uri) }
 {
     if prefix == "xml" {
         !is_xml_uri(uri)
@@ -100,7 +101,8 @@ pub(crate) fn has_bad_namespace(attributes: &[Attribute<'_>]) -> bool
 }
 
 fn has_undeclared_attribute(scopes: &Registry, attributes: &[Attribute<'_>]) -> bool
-    ensures { result ≡ list_any (λ (attribute : Written). namespaces.is_undeclared scopes.now.bound attribute.name) (namespaces.undeclaring (map seen_attribute attributes.now)) }
+    ensures { result ≡ list_any (λ (attribute : Written). namespaces.is_undeclared scopes.now.bound attribute.name)
+        (namespaces.undeclaring (map seen_attribute attributes.now)) }
 {
     for attribute in attributes {
         if is_plain(attribute.name) && scopes.is_undeclared_attribute(attribute.name) {

@@ -1,5 +1,6 @@
 -- The attributes of a tag, one by one.
-use Rattle.std.proofs.Common.{◌≡◌, ℕ, zero, suc, pred, ◌+◌, ◌-◌, ◌<◌, ◌≤◌, min, Bool, true, false, ◌&&◌, ◌==◌, List, [], ◌∷◌, ◌++◌, map, length, drop, refl, sym, ap, ◌∙◌, arith, Option, Some, None, option_map, option_and_then, if◌then◌else◌}
+use Rattle.std.proofs.Common.{◌≡◌, ℕ, zero, suc, pred, ◌+◌, ◌-◌, ◌<◌, ◌≤◌, min, Bool, true, false, ◌&&◌, ◌==◌, List, [], ◌∷◌, ◌++◌, map, length, drop, refl}
+use Rattle.std.proofs.Common.{sym, ap, ◌∙◌, arith, Option, Some, None, option_map, option_and_then, if◌then◌else◌}
 use Rattle.std.specs.Prelude.{codes, Vec}
 use Rattle.std.specs.Global.{Global}
 use Rattle.std.specs.List.{list_any, after_first, before_first, position_or_len}
@@ -71,7 +72,8 @@ literal-behind bytes literal e = by (behind_equals bytes) refl e
 abbrev if_found : Bool → List ℕ → Literal → Option tags.Found
 if_found t name literal = if t then None else Some (record { name = name; value = literal.value; rest = literal.rest })
 
-found-behind : (t : Bool) (name bytes : List ℕ) (literal : Literal) (found : tags.Found) → if_found t name literal ≡ Some found → Behind literal.rest bytes → Behind found.rest bytes
+found-behind : (t : Bool) (name bytes : List ℕ) (literal : Literal) (found : tags.Found) → if_found t name literal ≡ Some found → Behind literal.rest bytes →
+    Behind found.rest bytes
 found-behind true name bytes literal found e h = cc
 found-behind false name bytes literal found e h =
     let same : literal.rest ≡ found.rest = cc in
@@ -80,18 +82,22 @@ found-behind false name bytes literal found e h =
 abbrev of_literal : Bool → List ℕ → Option Literal → Option tags.Found
 of_literal t name x = if t then option_and_then (tags.found_literal name) x else None
 
-of-behind : (t : Bool) (name bytes : List ℕ) (x : Option Literal) (found : tags.Found) → literal_at bytes ≡ x → of_literal t name x ≡ Some found → Behind found.rest bytes
+of-behind : (t : Bool) (name bytes : List ℕ) (x : Option Literal) (found : tags.Found) → literal_at bytes ≡ x → of_literal t name x ≡ Some found →
+    Behind found.rest bytes
 of-behind false name bytes x found f e = cc
 of-behind true name bytes None found f e = cc
-of-behind true name bytes (Some literal) found f e = found-behind (list_any (λ b. b == 0x3C) literal.value) name bytes literal found e (literal-behind bytes literal f)
+of-behind true name bytes (Some literal) found f e = found-behind (list_any (λ b. b == 0x3C) literal.value) name bytes literal found e
+    (literal-behind bytes literal f)
 
 pub attribute-behind : (bytes : List ℕ) (found : tags.Found) → tags.attribute_at bytes ≡ Some found → Behind found.rest bytes
 unfolding tags.attribute_at
 attribute-behind bytes found e =
     behind-tail found.rest (drop (length (name_at_front (behind_white_space bytes))) (behind_white_space bytes)) bytes
     (of-behind (begins_with_space bytes && is_qname (name_at_front (behind_white_space bytes))) (name_at_front (behind_white_space bytes))
-    (drop (length (name_at_front (behind_white_space bytes))) (behind_white_space bytes)) (literal_at (drop (length (name_at_front (behind_white_space bytes))) (behind_white_space bytes))) found refl e)
-    (tail-of _ (behind_white_space bytes) bytes (record { count = length (name_at_front (behind_white_space bytes)); is = refl }) (record { count = _; is = refl }))
+    (drop (length (name_at_front (behind_white_space bytes))) (behind_white_space bytes))
+    (literal_at (drop (length (name_at_front (behind_white_space bytes))) (behind_white_space bytes))) found refl e)
+    (tail-of _ (behind_white_space bytes) bytes (record { count = length (name_at_front (behind_white_space bytes)); is = refl })
+    (record { count = _; is = refl }))
 
 pub no-attribute : tags.attribute_at [] ≡ None
 unfolding tags.attribute_at
@@ -122,12 +128,14 @@ with_rest whole x bytes = elim x [
 ]
 
 -- one attribute, and the others behind it
-inside-step : (bytes : List ℕ) (found : tags.Found) → tags.attribute_at bytes ≡ Some found → tags.tag_inside 0 bytes ≡ option_map (tags.with_attribute found) (tags.tag_inside 0 found.rest)
+inside-step : (bytes : List ℕ) (found : tags.Found) → tags.attribute_at bytes ≡ Some found →
+    tags.tag_inside 0 bytes ≡ option_map (tags.with_attribute found) (tags.tag_inside 0 found.rest)
 unfolding tags.tag_inside
 inside-step [] found e = let f : None ≡ Some found = sym no-attribute ∙ e in cc
 inside-step (b ∷ bytes) found e =
     let behind = attribute-behind (b ∷ bytes) found e in
-    ap (λ x. with_rest (b ∷ bytes) x bytes) e ∙ ap (option_map (tags.with_attribute found)) (inside-skip _ bytes ∙ ap (tags.tag_inside 0) (rest-is b bytes found.rest behind))
+    ap (λ x. with_rest (b ∷ bytes) x bytes) e ∙ ap (option_map (tags.with_attribute found))
+    (inside-skip _ bytes ∙ ap (tags.tag_inside 0) (rest-is b bytes found.rest behind))
 
 -- no attribute: the end of the tag
 pub inside-last : (bytes : List ℕ) → tags.attribute_at bytes ≡ None → tags.tag_inside 0 bytes ≡ tags.tag_rest bytes
@@ -139,9 +147,11 @@ with-none : (x : Option tags.Inside) → option_map (with_all []) x ≡ x
 with-none None = refl
 with-none (Some inside) = refl
 
-with-more : (stand : List tags.Found) (found : tags.Found) (x : Option tags.Inside) → option_map (with_all stand) (option_map (tags.with_attribute found) x) ≡ option_map (with_all (stand ++ found ∷ [])) x
+with-more : (stand : List tags.Found) (found : tags.Found) (x : Option tags.Inside) →
+    option_map (with_all stand) (option_map (tags.with_attribute found) x) ≡ option_map (with_all (stand ++ found ∷ [])) x
 with-more stand found None = refl
-with-more stand found (Some inside) = ap (λ attributes. Some (record { attributes = attributes; is_empty = inside.is_empty })) (sym (append_assoc stand (found ∷ []) inside.attributes))
+with-more stand found (Some inside) = ap (λ attributes. Some (record { attributes = attributes; is_empty = inside.is_empty }))
+    (sym (append_assoc stand (found ∷ []) inside.attributes))
 
 -- what the values say, with one more behind them
 abbrev both_values : Option (List Written) → List ℕ → Option (List ℕ) → Option (List Written)
@@ -159,13 +169,15 @@ values-one found = by (tags.value_of 0 (chars found.value))
     by None = refl
     by (Some value) = refl
 
-values-more : (stand : List tags.Found) (found : tags.Found) → tags.with_values (stand ++ found ∷ []) ≡ both_values (tags.with_values stand) found.name (tags.value_of 0 (chars found.value))
+values-more : (stand : List tags.Found) (found : tags.Found) → tags.with_values (stand ++ found ∷ []) ≡ both_values (tags.with_values stand) found.name
+    (tags.value_of 0 (chars found.value))
 values-more [] found = values-one found
 values-more (one ∷ stand) found =
     ap (value_then (tags.value_of 0 (chars one.value)) one.name) (values-more stand found)
     ∙ by (tags.value_of 0 (chars one.value)) (tags.with_values stand) (tags.value_of 0 (chars found.value))
   where
-    by : (x : Option (List ℕ)) (y : Option (List Written)) (z : Option (List ℕ)) → value_then x one.name (both_values y found.name z) ≡ both_values (value_then x one.name y) found.name z
+    by : (x : Option (List ℕ)) (y : Option (List Written)) (z : Option (List ℕ)) →
+        value_then x one.name (both_values y found.name z) ≡ both_values (value_then x one.name y) found.name z
     by None y z = refl
     by (Some value) None z = refl
     by (Some value) (Some attributes) None = refl
@@ -180,11 +192,15 @@ pub record Attributing (text : List ℕ) (items : List Attribute) (are_right : B
 pub attributing-begin : (text : List ℕ) (items : List Attribute) → items ≡ [] → Attributing text items true text
 attributing-begin text items e = record { stand = []; whole = sym (with-none (tags.tag_inside 0 text)); values = ap (λ x. Some (map seen_attribute x)) (sym e) }
 
-whole-step : (text rest : List ℕ) (stand : List tags.Found) (found : tags.Found) → tags.attribute_at rest ≡ Some found → tags.tag_inside 0 text ≡ option_map (with_all stand) (tags.tag_inside 0 rest)
+whole-step : (text rest : List ℕ) (stand : List tags.Found) (found : tags.Found) → tags.attribute_at rest ≡ Some found →
+    tags.tag_inside 0 text ≡ option_map (with_all stand) (tags.tag_inside 0 rest)
     → tags.tag_inside 0 text ≡ option_map (with_all (stand ++ found ∷ [])) (tags.tag_inside 0 found.rest)
-whole-step text rest stand found e whole = whole ∙ (ap (option_map (with_all stand)) (inside-step rest found e) ∙ with-more stand found (tags.tag_inside 0 found.rest))
+whole-step text rest stand found e whole = whole ∙ (ap (option_map (with_all stand)) (inside-step rest found e) ∙
+    with-more stand found (tags.tag_inside 0 found.rest))
 
-pub attributing-step : (text rest : List ℕ) (items new : List Attribute) (are_right : Bool) (found : tags.Found) (attribute : Attribute) → tags.attribute_at rest ≡ Some found → Some (seen_attribute attribute).value ≡ tags.value_of 0 (chars found.value) → (seen_attribute attribute).name ≡ found.name
+pub attributing-step : (text rest : List ℕ) (items new : List Attribute) (are_right : Bool) (found : tags.Found) (attribute : Attribute) →
+    tags.attribute_at rest ≡ Some found → Some (seen_attribute attribute).value ≡ tags.value_of 0 (chars found.value) →
+    (seen_attribute attribute).name ≡ found.name
     → new ≡ items ++ attribute ∷ [] → Attributing text items are_right rest → Attributing text new are_right found.rest
 attributing-step text rest items new are_right found attribute e v n p known = record {
   stand = known.stand ++ found ∷ [];
@@ -192,11 +208,14 @@ attributing-step text rest items new are_right found attribute e v n p known = r
   values = values-more known.stand found ∙ (ap (λ x. both_values x found.name (tags.value_of 0 (chars found.value))) known.values
       ∙ (ap (both_values (if are_right then Some (map seen_attribute items) else None) found.name) (sym v) ∙ by are_right));
 } where
-  by : (t : Bool) → both_values (if t then Some (map seen_attribute items) else None) found.name (Some (seen_attribute attribute).value) ≡ (if t then Some (map seen_attribute new) else None)
+  by : (t : Bool) → both_values (if t then Some (map seen_attribute items) else None) found.name
+      (Some (seen_attribute attribute).value) ≡ (if t then Some (map seen_attribute new) else None)
   by false = refl
-  by true = ap (λ name. Some (map seen_attribute items ++ record { name = name; value = (seen_attribute attribute).value } ∷ [])) (sym n) ∙ (ap Some (sym (map_push seen_attribute items attribute)) ∙ ap (λ x. Some (map seen_attribute x)) (sym p))
+  by true = ap (λ name. Some (map seen_attribute items ++ record { name = name; value = (seen_attribute attribute).value } ∷ [])) (sym n) ∙
+      (ap Some (sym (map_push seen_attribute items attribute)) ∙ ap (λ x. Some (map seen_attribute x)) (sym p))
 
-pub attributing-wrong : (text rest : List ℕ) (items : List Attribute) (are_right : Bool) (found : tags.Found) → tags.attribute_at rest ≡ Some found → None ≡ tags.value_of 0 (chars found.value) → Attributing text items are_right rest → Attributing text items false found.rest
+pub attributing-wrong : (text rest : List ℕ) (items : List Attribute) (are_right : Bool) (found : tags.Found) → tags.attribute_at rest ≡ Some found →
+    None ≡ tags.value_of 0 (chars found.value) → Attributing text items are_right rest → Attributing text items false found.rest
 attributing-wrong text rest items are_right found e v known = record {
   stand = known.stand ++ found ∷ [];
   whole = whole-step text rest known.stand found e known.whole;
@@ -212,9 +231,11 @@ attributing-smaller (b ∷ bytes) found e =
     let behind = attribute-behind (b ∷ bytes) found e in
     omega (arith, ap length behind.is, length-drop behind.count (b ∷ bytes), behind.some)
 
-pub attributing-same : (text rest : List ℕ) (found old : Vec Attribute Global) (right are_right : Bool) → found ≡ old → right ≡ are_right → Attributing text old.items are_right rest → Attributing text found.items right rest
+pub attributing-same : (text rest : List ℕ) (found old : Vec Attribute Global) (right are_right : Bool) → found ≡ old → right ≡ are_right →
+    Attributing text old.items are_right rest → Attributing text found.items right rest
 attributing-same text rest found old right are_right e f known = record {
   stand = known.stand;
   whole = known.whole;
-  values = known.values ∙ (ap (λ t. if t then Some (map seen_attribute old.items) else None) (sym f) ∙ ap (λ v. if right then Some (map seen_attribute v.items) else None) (sym e));
+  values = known.values ∙ (ap (λ t. if t then Some (map seen_attribute old.items) else None) (sym f) ∙
+      ap (λ v. if right then Some (map seen_attribute v.items) else None) (sym e));
 }

@@ -1,6 +1,7 @@
 -- What begins at a front of the bytes stays where the bytes go on, and what is nothing yet ends no earlier than they
 -- do.
-use Rattle.std.proofs.Common.{◌≡◌, ℕ, suc, pred, max, ◌+◌, ◌≤◌, ◌==◌, Bool, true, false, ◌||◌, ◌&&◌, not, List, [], ◌∷◌, ◌++◌, length, take, drop, refl, sym, ap, ◌∙◌, arith, Option, Some, None, Result, Ok, Err, if◌then◌else◌, subst, true≢false, chars}
+use Rattle.std.proofs.Common.{◌≡◌, ℕ, suc, pred, max, ◌+◌, ◌≤◌, ◌==◌, Bool, true, false, ◌||◌, ◌&&◌, not, List, [], ◌∷◌, ◌++◌, length, take, drop, refl, sym}
+use Rattle.std.proofs.Common.{ap, ◌∙◌, arith, Option, Some, None, Result, Ok, Err, if◌then◌else◌, subst, true≢false, chars}
 use Rattle.std.specs.List.{list_all}
 use Rattle.std.specs.Str.{is_utf8}
 use Rattle.std.specs.Prelude.{codes}
@@ -17,7 +18,8 @@ use Rattle.xml_tokens.specs.Encoding as encoding
 use Rattle.xml_tokens.specs.References.{reference_at}
 use Rattle.xml_tokens.specs.Markup.{Token, a_mark, a_character, comment, section, instruction}
 use Rattle.xml_tokens.specs.Tags.{tag}
-use Rattle.xml_tokens.specs.Beginnings.{Beginning, good, bad, later, may_declare, of_length, extent, extent_through, tag_at, comment_or_section_at, markup_at, reference_token, bracket_at, line_end_at, character_token, begins_with_mark, beginning, greatest_tag, sure_length}
+use Rattle.xml_tokens.specs.Beginnings.{Beginning, good, bad, later, may_declare, of_length, extent, extent_through, tag_at, comment_or_section_at, markup_at}
+use Rattle.xml_tokens.specs.Beginnings.{reference_token, bracket_at, line_end_at, character_token, begins_with_mark, beginning, greatest_tag, sure_length}
 use Rattle.xml_tokens.specs.declared.beginning.Position.{Position}
 use Rattle.xml_tokens.specs.declared.beginning.Position.TheVariants.{AtStart, BehindMark, Farther}
 use Rattle.xml_tokens.proofs.ScannerLemmas as scan
@@ -70,16 +72,21 @@ module _ (c : ℕ) (string : List ℕ) (opening : ℕ) (grammar : List ℕ → R
       by None = tt
       by (Some n) = extent-from k (opening + (n + length (c ∷ string))) (take n bytes) grammar (omega arith)
 
-  pub through-stays : (a b : List ℕ) → Stays (opening + length a) (extent_through (c ∷ string) opening a grammar) (extent_through (c ∷ string) opening (a ++ b) grammar)
+  pub through-stays : (a b : List ℕ) → Stays (opening + length a) (extent_through (c ∷ string) opening a grammar)
+      (extent_through (c ∷ string) opening (a ++ b) grammar)
   through-stays a b = by (place_of (c ∷ string) a) (place_of (c ∷ string) (a ++ b)) (scan.place-stays c string a b)
     where
       by : (x y : Option ℕ) → scan.PlaceStays (c ∷ string) (length a) x y
-          → Stays (opening + length a) (elim x [ None ↦ later | (Some n) ↦ extent (opening + (n + length (c ∷ string))) (take n a) grammar ]) (elim y [ None ↦ later | (Some n) ↦ extent (opening + (n + length (c ∷ string))) (take n (a ++ b)) grammar ])
+          → Stays (opening + length a) (elim x [ None ↦ later | (Some n) ↦ extent (opening + (n + length (c ∷ string))) (take n a) grammar ])
+          (elim y [ None ↦ later | (Some n) ↦ extent (opening + (n + length (c ∷ string))) (take n (a ++ b)) grammar ])
       by x y (scan.found n h) =
           let front : take n (a ++ b) ≡ take n a = take-append-le n a b (omega arith) in
-          subst (λ inside. Stays (opening + length a) (extent (opening + (n + length (c ∷ string))) (take n a) grammar) (extent (opening + (n + length (c ∷ string))) inside grammar)) (sym front) (same (opening + length a) (extent (opening + (n + length (c ∷ string))) (take n a) grammar))
+          subst (λ inside. Stays (opening + length a) (extent (opening + (n + length (c ∷ string))) (take n a) grammar)
+          (extent (opening + (n + length (c ∷ string))) inside grammar)) (sym front)
+          (same (opening + length a) (extent (opening + (n + length (c ∷ string))) (take n a) grammar))
       by x y scan.nowhere = same (opening + length a) later
-      by x y (scan.found_later n h) = goes_on (opening + length a) _ (extent-from (opening + length a) (opening + (n + length (c ∷ string))) (take n (a ++ b)) grammar (omega arith))
+      by x y (scan.found_later n h) = goes_on (opening + length a) _
+          (extent-from (opening + length a) (opening + (n + length (c ∷ string))) (take n (a ++ b)) grammar (omega arith))
 
 pub tag-stays : (a b : List ℕ) → Stays (1 + length a) (tag_at a) (tag_at (a ++ b))
 tag-stays a b = by (tag_end a None (pred greatest_tag)) (tag_end (a ++ b) None (pred greatest_tag)) (scan.end-stays a b None (pred greatest_tag))
@@ -89,9 +96,11 @@ tag-stays a b = by (tag_end a None (pred greatest_tag)) (tag_end (a ++ b) None (
         (elim y [ none_within ↦ bad TagTooLong greatest_tag | none_yet ↦ later | (behind n) ↦ extent (n + 2) (take n (a ++ b)) tag ])
     by x y (scan.end_found k room n h) =
         let front : take n (a ++ b) ≡ take n a = take-append-le n a b (omega arith) in
-        subst (λ inside. Stays (1 + length a) (extent (n + 2) (take n a) tag) (extent (n + 2) inside tag)) (sym front) (same (1 + length a) (extent (n + 2) (take n a) tag))
+        subst (λ inside. Stays (1 + length a) (extent (n + 2) (take n a) tag) (extent (n + 2) inside tag)) (sym front)
+        (same (1 + length a) (extent (n + 2) (take n a) tag))
     by x y (scan.end_too_far k room) = same (1 + length a) (bad TagTooLong greatest_tag)
-    by x y (scan.end_goes_on k room (behind n) f) = let g : length a ≤ n = f in goes_on (1 + length a) (extent (n + 2) (take n (a ++ b)) tag) (extent-from (1 + length a) (n + 2) (take n (a ++ b)) tag (omega arith))
+    by x y (scan.end_goes_on k room (behind n) f) = let g : length a ≤ n = f in
+        goes_on (1 + length a) (extent (n + 2) (take n (a ++ b)) tag) (extent-from (1 + length a) (n + 2) (take n (a ++ b)) tag (omega arith))
     by x y (scan.end_goes_on k room none_within f) = let g : length a ≤ 262143 = f in goes_on (1 + length a) (bad TagTooLong greatest_tag) (omega arith)
     by x y (scan.end_goes_on k room none_yet f) = same (1 + length a) later
 
@@ -101,14 +110,16 @@ bracket-from false true = tt
 bracket-from false false = omega arith
 
 pub bracket-stays : (e : Bool) (a b : List ℕ) → Stays 1 (bracket_at false a) (bracket_at e (a ++ b))
-bracket-stays e a b = by (begins_with (codes "]>") a) (begins_with (codes "]>") (a ++ b)) (ends_inside (codes "]>") a) (ends_inside (codes "]>") (a ++ b)) (scan.begins-append (codes "]>") a b) (λ h g. let r = scan.begins-never (codes "]>") a b h g in (r.0, r.1))
+bracket-stays e a b = by (begins_with (codes "]>") a) (begins_with (codes "]>") (a ++ b)) (ends_inside (codes "]>") a) (ends_inside (codes "]>") (a ++ b))
+    (scan.begins-append (codes "]>") a b) (λ h g. let r = scan.begins-never (codes "]>") a b h g in (r.0, r.1))
   where
     last : (e : Bool) → Stays 1 (good (a_character 0x5D) 1) (elim (not e && false) [ true ↦ later | false ↦ good (a_character 0x5D) 1 ])
     last true = same 1 (good (a_character 0x5D) 1)
     last false = same 1 (good (a_character 0x5D) 1)
 
     by : (t t' u u' : Bool) → (t ≡ true → t' ≡ true) → (t ≡ false → u ≡ false → (t' ≡ false) × (u' ≡ false))
-        → Stays 1 (elim t [ true ↦ bad BadMarkup 3 | false ↦ elim u [ true ↦ later | false ↦ good (a_character 0x5D) 1 ] ]) (elim t' [ true ↦ bad BadMarkup 3 | false ↦ elim (not e && u') [ true ↦ later | false ↦ good (a_character 0x5D) 1 ] ])
+        → Stays 1 (elim t [ true ↦ bad BadMarkup 3 | false ↦ elim u [ true ↦ later | false ↦ good (a_character 0x5D) 1 ] ])
+        (elim t' [ true ↦ bad BadMarkup 3 | false ↦ elim (not e && u') [ true ↦ later | false ↦ good (a_character 0x5D) 1 ] ])
     by true true u u' h g = same 1 (bad BadMarkup 3)
     by true false u u' h g = absurd (true≢false (sym (h refl)))
     by false t' true u' h g = goes_on 1 _ (bracket-from t' (not e && u'))
@@ -138,7 +149,8 @@ reference-token-stays a b = by (reference_at a) (reference_at (a ++ b)) (referen
     by x y (scan.goes_on k (begun.Broken n) f) = goes_on (1 + length a) (reference_token y) f
     by x y (scan.goes_on k begun.Unfinished f) = same (1 + length a) later
 
-pub character-token-stays : (c : ℕ) (a b : List ℕ) → Stays (1 + length a) (character_token (encoding.character_at c a)) (character_token (encoding.character_at c (a ++ b)))
+pub character-token-stays : (c : ℕ) (a b : List ℕ) → Stays (1 + length a) (character_token (encoding.character_at c a))
+    (character_token (encoding.character_at c (a ++ b)))
 character-token-stays c a b = by (encoding.character_at c a) (encoding.character_at c (a ++ b)) (scan.character-stays c a b)
   where
     of : (c n k : ℕ) → k ≤ n → From k (character_token (begun.Character c n))
@@ -160,7 +172,8 @@ drop-append [] a b h = refl
 drop-append (c ∷ string) [] b h = absurd (true≢false (sym h))
 drop-append (c ∷ string) (d ∷ a) b h = by (d == c) h (drop-append string a b)
   where
-    by : (t : Bool) → (t && begins_with string a) ≡ true → (begins_with string a ≡ true → drop (length string) (a ++ b) ≡ drop (length string) a ++ b) → drop (length string) (a ++ b) ≡ drop (length string) a ++ b
+    by : (t : Bool) → (t && begins_with string a) ≡ true → (begins_with string a ≡ true → drop (length string) (a ++ b) ≡ drop (length string) a ++ b) →
+        drop (length string) (a ++ b) ≡ drop (length string) a ++ b
     by true h rest = rest h
     by false h rest = absurd (true≢false (sym h))
 
@@ -169,7 +182,8 @@ drop-length [] a h = omega arith
 drop-length (c ∷ string) [] h = absurd (true≢false (sym h))
 drop-length (c ∷ string) (d ∷ a) h = by (d == c) h (drop-length string a)
   where
-    by : (t : Bool) → (t && begins_with string a) ≡ true → (begins_with string a ≡ true → length (drop (length string) a) + length string ≡ length a) → length (drop (length string) a) + suc (length string) ≡ suc (length a)
+    by : (t : Bool) → (t && begins_with string a) ≡ true → (begins_with string a ≡ true → length (drop (length string) a) + length string ≡ length a) →
+        length (drop (length string) a) + suc (length string) ≡ suc (length a)
     by true h rest = let r : length (drop (length string) a) + length string ≡ length a = rest h in omega arith
     by false h rest = absurd (true≢false (sym h))
 
@@ -224,9 +238,12 @@ shared-long a b h =
     (λ e. let r : length a ≤ shared_front front_3 (a ++ b) = scan.shared-inside front_3 a b e in omega arith) h
 
 -- nothing yet: whatever it becomes ends behind the bytes
-choice-from : (a : List ℕ) (t1 t2 t3 inside : Bool) (n : ℕ) (bytes : List ℕ) → (t1 ≡ true → suc (length a) ≤ 2) → (t2 ≡ true → suc (length a) ≤ 7) → (t3 ≡ true → suc (length a) ≤ 7) → length a ≤ n → From (2 + length a) (choice t1 t2 t3 inside n bytes)
-choice-from a true t2 t3 inside n bytes f g h l = let r : suc (length a) ≤ 2 = f refl in through-from 0x2D (codes "->") 4 comment (2 + length a) (drop 2 bytes) (omega arith)
-choice-from a false true t3 inside n bytes f g h l = let r : suc (length a) ≤ 7 = g refl in through-from 0x5D (codes "]>") 9 section (2 + length a) (drop 7 bytes) (omega arith)
+choice-from : (a : List ℕ) (t1 t2 t3 inside : Bool) (n : ℕ) (bytes : List ℕ) → (t1 ≡ true → suc (length a) ≤ 2) → (t2 ≡ true → suc (length a) ≤ 7) →
+    (t3 ≡ true → suc (length a) ≤ 7) → length a ≤ n → From (2 + length a) (choice t1 t2 t3 inside n bytes)
+choice-from a true t2 t3 inside n bytes f g h l = let r : suc (length a) ≤ 2 = f refl in
+    through-from 0x2D (codes "->") 4 comment (2 + length a) (drop 2 bytes) (omega arith)
+choice-from a false true t3 inside n bytes f g h l = let r : suc (length a) ≤ 7 = g refl in
+    through-from 0x5D (codes "]>") 9 section (2 + length a) (drop 7 bytes) (omega arith)
 choice-from a false false true inside n bytes f g h l = let r : suc (length a) ≤ 7 = h refl in omega arith
 choice-from a false false false true n bytes f g h l = tt
 choice-from a false false false false n bytes f g h l = omega arith
@@ -274,7 +291,9 @@ opened-stays a b = by (begins_with front_1 a) (begins_with front_2 a) (begins_wi
         ∙ ap (λ t. choice false false t (inside_one (a ++ b)) (shared (a ++ b)) (a ++ b)) is) in
         subst (λ y. Stays (2 + length a) (bad Doctype 9) y) (sym right) (same (2 + length a) (bad Doctype 9))
     by false false false true h1 h2 h3 hi =
-        goes_on (2 + length a) (comment_or_section_at (a ++ b)) (choice-from a (begins_with front_1 (a ++ b)) (begins_with front_2 (a ++ b)) (begins_with front_3 (a ++ b)) (inside_one (a ++ b)) (shared (a ++ b)) (a ++ b)
+        goes_on (2 + length a) (comment_or_section_at (a ++ b))
+        (choice-from a (begins_with front_1 (a ++ b)) (begins_with front_2 (a ++ b)) (begins_with front_3 (a ++ b)) (inside_one (a ++ b)) (shared (a ++ b))
+        (a ++ b)
         (scan.begins-longer front_1 a b h1) (scan.begins-longer front_2 a b h2) (scan.begins-longer front_3 a b h3) (shared-long a b hi))
     by false false false false h1 h2 h3 hi =
         let none = none_of (ends_inside front_1 a) (ends_inside front_2 a) (ends_inside front_3 a) hi in
@@ -303,13 +322,17 @@ tag-from bytes = by (tag_end bytes None (pred greatest_tag))
 
 opened-from : (bytes : List ℕ) → From 1 (comment_or_section_at bytes)
 opened-from bytes = from-weaker 1 2 (omega arith) (comment_or_section_at bytes)
-    (choice-from [] (begins_with front_1 bytes) (begins_with front_2 bytes) (begins_with front_3 bytes) (inside_one bytes) (shared bytes) bytes (λ _. omega arith) (λ _. omega arith) (λ _. omega arith) (omega arith))
+    (choice-from [] (begins_with front_1 bytes) (begins_with front_2 bytes) (begins_with front_3 bytes) (inside_one bytes) (shared bytes) bytes
+    (λ _. omega arith) (λ _. omega arith) (λ _. omega arith) (omega arith))
 
 markup-from : (p : Position) (bytes : List ℕ) → From 1 (markup_at p bytes)
 markup-from p [] = tt
 markup-from p (d ∷ bytes) = by (d == 0x21) (d == 0x3F)
   where
-    by : (t u : Bool) → From 1 (elim t [ true ↦ comment_or_section_at bytes | false ↦ elim u [ true ↦ extent_through (codes "?>") 2 bytes (instruction (may_declare p)) | false ↦ tag_at (d ∷ bytes) ] ])
+    by : (t u : Bool) → From 1 (elim t [
+      | true ↦ comment_or_section_at bytes
+      | false ↦ elim u [ true ↦ extent_through (codes "?>") 2 bytes (instruction (may_declare p)) | false ↦ tag_at (d ∷ bytes) ]
+    ])
     by true u = opened-from bytes
     by false true = through-from 0x3F (codes ">") 2 (instruction (may_declare p)) 1 bytes (omega arith)
     by false false = tag-from (d ∷ bytes)
@@ -318,8 +341,21 @@ pub markup-stays : (p : Position) (a b : List ℕ) → Stays (1 + length a) (mar
 markup-stays p [] b = goes_on 1 (markup_at p b) (markup-from p b)
 markup-stays p (d ∷ a) b = by (d == 0x21) (d == 0x3F)
   where
-    by : (t u : Bool) → Stays (1 + length (d ∷ a)) (elim t [ true ↦ comment_or_section_at a | false ↦ elim u [ true ↦ extent_through (codes "?>") 2 a (instruction (may_declare p)) | false ↦ tag_at (d ∷ a) ] ])
-        (elim t [ true ↦ comment_or_section_at (a ++ b) | false ↦ elim u [ true ↦ extent_through (codes "?>") 2 (a ++ b) (instruction (may_declare p)) | false ↦ tag_at (d ∷ (a ++ b)) ] ])
+    by : (t u : Bool) → Stays (1 + length (d ∷ a))
+        (elim t [
+          | true ↦ comment_or_section_at a
+          | false ↦ elim u [
+            | true ↦ extent_through (codes "?>") 2 a (instruction (may_declare p))
+            | false ↦ tag_at (d ∷ a)
+          ]
+        ])
+        (elim t [
+          | true ↦ comment_or_section_at (a ++ b)
+          | false ↦ elim u [
+            | true ↦ extent_through (codes "?>") 2 (a ++ b) (instruction (may_declare p))
+            | false ↦ tag_at (d ∷ (a ++ b))
+          ]
+        ])
     by true u = stays-weaker (1 + length (d ∷ a)) (2 + length a) (omega arith) _ _ (opened-stays a b)
     by false true = stays-weaker (1 + length (d ∷ a)) (2 + length a) (omega arith) _ _ (through-stays 0x3F (codes ">") 2 (instruction (may_declare p)) a b)
     by false false = tag-stays (d ∷ a) b
@@ -355,7 +391,8 @@ mark-unfinished c (d ∷ []) b l h =
     same_number n m e = grind (arith, nat_tests)
 mark-unfinished c (d ∷ (d' ∷ a)) b l h = absurd (omega arith)
 
-mark-stays : (p : Position) (c : ℕ) (a b : List ℕ) → Stays (1 + length a) (mark_or (begins_with_mark p (c ∷ a)) c a) (mark_or (begins_with_mark p (c ∷ (a ++ b))) c (a ++ b))
+mark-stays : (p : Position) (c : ℕ) (a b : List ℕ) → Stays (1 + length a) (mark_or (begins_with_mark p (c ∷ a)) c a)
+    (mark_or (begins_with_mark p (c ∷ (a ++ b))) c (a ++ b))
 mark-stays BehindMark c a b = character-token-stays c a b
 mark-stays Farther c a b = character-token-stays c a b
 mark-stays AtStart c a b = by (begins_with the_mark (c ∷ a)) (begins_with the_mark (c ∷ (a ++ b))) refl refl
@@ -366,7 +403,8 @@ mark-stays AtStart c a b = by (begins_with the_mark (c ∷ a)) (begins_with the_
     by false false g h = character-token-stays c a b
     by false true g h =
         let short : suc (length (c ∷ a)) ≤ 3 = scan.begins-longer the_mark (c ∷ a) b g h in
-        subst (λ x. Stays (1 + length a) (character_token x) (good a_mark 3)) (sym (mark-unfinished c a b short h)) (goes_on (1 + length a) (good a_mark 3) (omega arith))
+        subst (λ x. Stays (1 + length a) (character_token x) (good a_mark 3)) (sym (mark-unfinished c a b short h))
+        (goes_on (1 + length a) (good a_mark 3) (omega arith))
 
 pub beginning-stays : (p : Position) (e : Bool) (c : ℕ) (a b : List ℕ) → Stays (sure_length c a) (beginning p false (c ∷ a)) (beginning p e (c ∷ (a ++ b)))
 unfolding beginning
@@ -380,8 +418,23 @@ beginning-stays p e c a b = by (c == 0x3C) (c == 0x26) (c == 0x5D) (c == 0xD)
     less false = omega arith
 
     by : (t1 t2 t3 t4 : Bool) → Stays (if t3 then 1 else 1 + length a)
-        (elim t1 [ true ↦ markup_at p a | false ↦ elim t2 [ true ↦ reference_token (reference_at a) | false ↦ elim t3 [ true ↦ bracket_at false a | false ↦ elim t4 [ true ↦ line_end_at false a | false ↦ mark_or (begins_with_mark p (c ∷ a)) c a ] ] ] ])
-        (elim t1 [ true ↦ markup_at p (a ++ b) | false ↦ elim t2 [ true ↦ reference_token (reference_at (a ++ b)) | false ↦ elim t3 [ true ↦ bracket_at e (a ++ b) | false ↦ elim t4 [ true ↦ line_end_at e (a ++ b) | false ↦ mark_or (begins_with_mark p (c ∷ (a ++ b))) c (a ++ b) ] ] ] ])
+        (elim t1 [
+          | true ↦ markup_at p a
+          | false ↦ elim t2 [
+            | true ↦ reference_token (reference_at a)
+            | false ↦ elim t3 [ true ↦ bracket_at false a | false ↦ elim t4 [ true ↦ line_end_at false a | false ↦ mark_or (begins_with_mark p (c ∷ a)) c a ] ]
+          ]
+        ])
+        (elim t1 [
+          | true ↦ markup_at p (a ++ b)
+          | false ↦ elim t2 [
+            | true ↦ reference_token (reference_at (a ++ b))
+            | false ↦ elim t3 [
+              | true ↦ bracket_at e (a ++ b)
+              | false ↦ elim t4 [ true ↦ line_end_at e (a ++ b) | false ↦ mark_or (begins_with_mark p (c ∷ (a ++ b))) c (a ++ b) ]
+            ]
+          ]
+        ])
     by true t2 t3 t4 = stays-weaker _ (1 + length a) (less t3) _ _ (markup-stays p a b)
     by false true t3 t4 = stays-weaker _ (1 + length a) (less t3) _ _ (reference-token-stays a b)
     by false false true t4 = bracket-stays e a b

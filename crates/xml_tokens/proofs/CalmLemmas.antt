@@ -55,6 +55,7 @@ calm-all (c ∷ cs) s h =
     let calm_parts = both (list_all is_calm (encode c)) (list_all is_calm (encodes cs)) (sym (list_all-append is_calm (encode c) (encodes cs)) ∙ h) in
     ap (λ t. t && list_all is_char cs) (calm-char c scalar_parts.0 calm_parts.0) ∙ calm-all cs scalar_parts.1 calm_parts.1
 
-pub calm-told : (bytes text : List ℕ) (result : Bool) → bytes ≡ text → IsUtf8 text → result ≡ list_all is_calm bytes → result ≡ true → result ≡ list_all is_char (chars text)
+pub calm-told : (bytes text : List ℕ) (result : Bool) → bytes ≡ text → IsUtf8 text → result ≡ list_all is_calm bytes → result ≡ true →
+    result ≡ list_all is_char (chars text)
 calm-told bytes text result same u e h =
     h ∙ sym (calm-all (chars text) (scalars-chars text u) (ap (list_all is_calm) (encodes-chars text u ∙ sym same) ∙ (sym e ∙ h)))

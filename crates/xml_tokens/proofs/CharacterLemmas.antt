@@ -1,5 +1,6 @@
 -- What begins with the bytes of a character is the character.
-use Rattle.std.proofs.Common.{◌≡◌, ℕ, suc, ◌+◌, ◌*◌, ◌-◌, ◌/◌, ◌%◌, ◌<◌, ◌≤◌, Bool, true, false, ◌==◌, nat_lt, List, [], ◌∷◌, ◌++◌, length, inl, inr, refl, sym, ap, ◌∙◌, arith, if◌then◌else◌}
+use Rattle.std.proofs.Common.{◌≡◌, ℕ, suc, ◌+◌, ◌*◌, ◌-◌, ◌/◌, ◌%◌, ◌<◌, ◌≤◌, Bool, true, false, ◌==◌, nat_lt, List, [], ◌∷◌, ◌++◌, length, inl, inr, refl, sym}
+use Rattle.std.proofs.Common.{ap, ◌∙◌, arith, if◌then◌else◌}
 use Rattle.std.proofs.lemmas.Bool.{cases_lt, cases_eq}
 use Rattle.std.proofs.lemmas.Bool.Decides.{nat_tests}
 use Rattle.std.proofs.lemmas.Str.{encode_ascii}
@@ -29,8 +30,10 @@ other a b h = grind (arith, nat_tests)
 pub same : (a b : ℕ) → a ≡ b → (a == b) ≡ true
 same a b h = grind (arith, nat_tests)
 
-step : (more low high c n b : ℕ) (bytes : List ℕ) → low ≤ b → b ≤ high → continued (suc more) low high c n (b ∷ bytes) ≡ continued more 0x80 0xBF (c * 64 + (b - 0x80)) (n + 1) bytes
-step more low high c n b bytes l h = chosen (is_within low high b) (continued more 0x80 0xBF (c * 64 + (b - 0x80)) (n + 1) bytes) (Broken (n + 1)) (within low high b l h)
+step : (more low high c n b : ℕ) (bytes : List ℕ) → low ≤ b → b ≤ high →
+    continued (suc more) low high c n (b ∷ bytes) ≡ continued more 0x80 0xBF (c * 64 + (b - 0x80)) (n + 1) bytes
+step more low high c n b bytes l h = chosen (is_within low high b) (continued more 0x80 0xBF (c * 64 + (b - 0x80)) (n + 1) bytes) (Broken (n + 1))
+    (within low high b l h)
 
 same-character : (a b m n : ℕ) → a ≡ b → m ≡ n → Character a m ≡ Character b n
 same-character a b m n p q = ap (λ x. Character x m) p ∙ ap (λ y. Character b y) q
@@ -76,12 +79,14 @@ encode-two c l h = passed (nat_lt c 128) _ _ (grind (arith, nat_tests)) ∙ chos
 pub encode-three : (c : ℕ) → 2048 ≤ c → c < 65536 → encode c ≡ (224 + c / 4096) ∷ ((128 + (c / 64) % 64) ∷ ((128 + c % 64) ∷ []))
 unfolding encode
 encode-three c l h =
-    passed (nat_lt c 128) _ _ (grind (arith, nat_tests)) ∙ (passed (nat_lt c 2048) _ _ (grind (arith, nat_tests)) ∙ chosen (nat_lt c 65536) _ _ (grind (arith, nat_tests)))
+    passed (nat_lt c 128) _ _ (grind (arith, nat_tests)) ∙
+    (passed (nat_lt c 2048) _ _ (grind (arith, nat_tests)) ∙ chosen (nat_lt c 65536) _ _ (grind (arith, nat_tests)))
 
 pub encode-four : (c : ℕ) → 65536 ≤ c → encode c ≡ (240 + c / 262144) ∷ ((128 + (c / 4096) % 64) ∷ ((128 + (c / 64) % 64) ∷ ((128 + c % 64) ∷ [])))
 unfolding encode
 encode-four c l =
-    passed (nat_lt c 128) _ _ (grind (arith, nat_tests)) ∙ (passed (nat_lt c 2048) _ _ (grind (arith, nat_tests)) ∙ passed (nat_lt c 65536) _ _ (grind (arith, nat_tests)))
+    passed (nat_lt c 128) _ _ (grind (arith, nat_tests)) ∙
+    (passed (nat_lt c 2048) _ _ (grind (arith, nat_tests)) ∙ passed (nat_lt c 65536) _ _ (grind (arith, nat_tests)))
 
 -- the branches by the first byte
 branch-two : (b : ℕ) (bytes : List ℕ) → 0xC2 ≤ b → b ≤ 0xDF → behind_lead b bytes ≡ continued 1 0x80 0xBF (b - 0xC0) 1 bytes
@@ -102,7 +107,8 @@ branch-three b bytes l h n =
     ∙ (passed (b == 0xED) _ _ (other b 0xED n) ∙ chosen (is_within 0xE1 0xEF b) _ _ (within 0xE1 0xEF b l h)))
 
 branch-past : (b : ℕ) (bytes : List ℕ) → 0xF0 ≤ b → behind_lead b bytes
-    ≡ (if b == 0xF0 then continued 3 0x90 0xBF 0 1 bytes else (if is_within 0xF1 0xF3 b then continued 3 0x80 0xBF (b - 0xF0) 1 bytes else (if b == 0xF4 then continued 3 0x80 0x8F 4 1 bytes else Broken 1)))
+    ≡ (if b == 0xF0 then continued 3 0x90 0xBF 0 1 bytes else
+    (if is_within 0xF1 0xF3 b then continued 3 0x80 0xBF (b - 0xF0) 1 bytes else (if b == 0xF4 then continued 3 0x80 0x8F 4 1 bytes else Broken 1)))
 branch-past b bytes l =
     passed (is_within 0xC2 0xDF b) _ _ (above 0xC2 0xDF b (omega arith))
     ∙ (passed (b == 0xE0) _ _ (other b 0xE0 (λ f. omega arith))
@@ -155,13 +161,16 @@ module _ (c : ℕ) (r : List ℕ) where
   behind-three : 2048 ≤ c → c < 65536 → scalar c ≡ true → behind_lead (224 + c / 4096) tail-three ≡ Character c 3
   unfolding tail-three
   behind-three l h s = elim (cases_lt c 4096) [
-    | inl small ↦ branch-e0 (224 + c / 4096) tail-three (omega arith) ∙ two-more 0xA0 0xBF 0 (128 + (c / 64) % 64) (128 + c % 64) c r (omega arith) (omega arith) (omega arith) (omega arith) (omega arith)
+    | inl small ↦ branch-e0 (224 + c / 4096) tail-three (omega arith) ∙ two-more 0xA0 0xBF 0 (128 + (c / 64) % 64) (128 + c % 64) c r (omega arith)
+        (omega arith) (omega arith) (omega arith) (omega arith)
     | inr big ↦ elim (cases_eq (224 + c / 4096) 0xED) [
       | inl d ↦
           let low : c < 55296 = grind (arith, nat_tests) in
-          branch-ed (224 + c / 4096) tail-three d ∙ two-more 0x80 0x9F 0xD (128 + (c / 64) % 64) (128 + c % 64) c r (omega arith) (omega arith) (omega arith) (omega arith) (omega arith)
+          branch-ed (224 + c / 4096) tail-three d ∙ two-more 0x80 0x9F 0xD (128 + (c / 64) % 64) (128 + c % 64) c r (omega arith) (omega arith) (omega arith)
+          (omega arith) (omega arith)
       | inr n ↦ branch-three (224 + c / 4096) tail-three (omega arith) (omega arith) n
-          ∙ two-more 0x80 0xBF (224 + c / 4096 - 0xE0) (128 + (c / 64) % 64) (128 + c % 64) c r (omega arith) (omega arith) (omega arith) (omega arith) (omega arith)
+          ∙ two-more 0x80 0xBF (224 + c / 4096 - 0xE0) (128 + (c / 64) % 64) (128 + c % 64) c r (omega arith) (omega arith) (omega arith) (omega arith)
+          (omega arith)
     ]
   ]
 
@@ -183,12 +192,15 @@ module _ (c : ℕ) (r : List ℕ) where
   unfolding tail-four
   behind-four l h = elim (cases_lt c 262144) [
     | inl small ↦ branch-f0 (240 + c / 262144) tail-four (omega arith)
-        ∙ three-more 0x90 0xBF 0 (128 + (c / 4096) % 64) (128 + (c / 64) % 64) (128 + c % 64) c r (omega arith) (omega arith) (omega arith) (omega arith) (omega arith) (omega arith) (omega arith)
+        ∙ three-more 0x90 0xBF 0 (128 + (c / 4096) % 64) (128 + (c / 64) % 64) (128 + c % 64) c r (omega arith) (omega arith) (omega arith) (omega arith)
+        (omega arith) (omega arith) (omega arith)
     | inr big ↦ elim (cases_lt c 1048576) [
       | inl m ↦ branch-four (240 + c / 262144) tail-four (omega arith) (omega arith)
-          ∙ three-more 0x80 0xBF (240 + c / 262144 - 0xF0) (128 + (c / 4096) % 64) (128 + (c / 64) % 64) (128 + c % 64) c r (omega arith) (omega arith) (omega arith) (omega arith) (omega arith) (omega arith) (omega arith)
+          ∙ three-more 0x80 0xBF (240 + c / 262144 - 0xF0) (128 + (c / 4096) % 64) (128 + (c / 64) % 64) (128 + c % 64) c r (omega arith) (omega arith)
+          (omega arith) (omega arith) (omega arith) (omega arith) (omega arith)
       | inr n ↦ branch-f4 (240 + c / 262144) tail-four (omega arith)
-          ∙ three-more 0x80 0x8F 4 (128 + (c / 4096) % 64) (128 + (c / 64) % 64) (128 + c % 64) c r (omega arith) (omega arith) (omega arith) (omega arith) (omega arith) (omega arith) (omega arith)
+          ∙ three-more 0x80 0x8F 4 (128 + (c / 4096) % 64) (128 + (c / 64) % 64) (128 + c % 64) c r (omega arith) (omega arith) (omega arith) (omega arith)
+          (omega arith) (omega arith) (omega arith)
     ]
   ]
 

@@ -1,5 +1,6 @@
 -- Extents: what is read of them, and how far they were searched.
-use Rattle.std.proofs.Common.{◌≡◌, ℕ, zero, suc, ◌+◌, ◌-◌, ◌≤◌, ◌==◌, ◌||◌, Bool, true, false, List, [], ◌∷◌, ◌++◌, length, take, drop, refl, sym, ap, ◌∙◌, arith, Option, Some, None, Result, Ok, Err, if◌then◌else◌, subst, inl, inr}
+use Rattle.std.proofs.Common.{◌≡◌, ℕ, zero, suc, ◌+◌, ◌-◌, ◌≤◌, ◌==◌, ◌||◌, Bool, true, false, List, [], ◌∷◌, ◌++◌, length, take, drop, refl, sym, ap, ◌∙◌}
+use Rattle.std.proofs.Common.{arith, Option, Some, None, Result, Ok, Err, if◌then◌else◌, subst, inl, inr}
 use Rattle.std.specs.Prelude.{codes, IfOk}
 use Rattle.std.specs.List.{list_all}
 use Rattle.std.specs.Str.{chars, is_utf8, IsUtf8}
@@ -12,12 +13,14 @@ use Rattle.xml_tokens.specs.declared.kind.XmlKind.TheVariants.{NotUtf8, BadChar,
 use Rattle.xml_tokens.specs.Searches.{begins_with, place_of, TagEnd, behind, none_within, none_yet, tag_end}
 use Rattle.xml_tokens.specs.Markup as markup
 use Rattle.xml_tokens.specs.Tags.{tag}
-use Rattle.xml_tokens.specs.Beginnings.{Beginning, bad, later, of_length, extent, extent_through, tag_at, comment_or_section_at, may_declare, markup_at, beginning, greatest_tag}
+use Rattle.xml_tokens.specs.Beginnings.{Beginning, bad, later, of_length, extent, extent_through, tag_at, comment_or_section_at, may_declare, markup_at}
+use Rattle.xml_tokens.specs.Beginnings.{beginning, greatest_tag}
 use Rattle.xml_tokens.specs.declared.beginning.Position.{Position}
 use Rattle.xml_tokens.specs.declared.beginning.Position.TheVariants.{Farther}
 use Rattle.xml_tokens.specs.Seen.{Shows, shows_good, shows_bad, shows_later}
 use Rattle.xml_tokens.specs.Searching.{Searched, Fits, IsSearched, Keeps, open_quote, quote_after}
-use Rattle.xml_tokens.specs.Told.{Tells, tells_token, tells_kind, IsRight, IsWrong, no_utf8, no_chars, beginning_of, are_chars, BeginsTag, begins_tag, ShowsTag, shows_tag, Ends, ends_behind, ends_not_within, ends_not_yet, shared_with_any, ends_inside_any}
+use Rattle.xml_tokens.specs.Told.{Tells, tells_token, tells_kind, IsRight, IsWrong, no_utf8, no_chars, beginning_of, are_chars, BeginsTag, begins_tag, ShowsTag}
+use Rattle.xml_tokens.specs.Told.{shows_tag, Ends, ends_behind, ends_not_within, ends_not_yet, shared_with_any, ends_inside_any}
 use Rattle.xml_tokens.specs.declared.scanning.TagEnd.TheVariants.{Behind, NoneWithin, NoneYet}
 use Rattle.xml_tokens.specs.declared.token.Token.{Token}
 use Rattle.xml_tokens.specs.declared.beginning.Beginning as code
@@ -41,7 +44,8 @@ wrong-bytes inside n = no_utf8 (by (is_utf8 inside) refl)
 abbrev judged : ℕ → Bool → Bool → Result markup.Token XmlKind → Beginning
 judged n t u r = elim t [ false ↦ bad NotUtf8 n | true ↦ elim u [ false ↦ bad BadChar n | true ↦ of_length n r ] ]
 
-pub extent-right : (n : ℕ) (inside text : List ℕ) (grammar : List ℕ → Result markup.Token XmlKind) (r : Result Token XmlKind) → IsRight inside text → Tells r (grammar text) → Shows (beginning_of n r) (extent n inside grammar)
+pub extent-right : (n : ℕ) (inside text : List ℕ) (grammar : List ℕ → Result markup.Token XmlKind) (r : Result Token XmlKind) → IsRight inside text →
+    Tells r (grammar text) → Shows (beginning_of n r) (extent n inside grammar)
 unfolding extent
 extent-right n inside text grammar r right told =
     subst (λ t. Shows (beginning_of n r) (judged n t (list_all is_char (chars inside)) (grammar inside))) (sym right.utf8)
@@ -52,9 +56,11 @@ extent-right n inside text grammar r right told =
     by r x (tells_token token) = shows_good token n
     by r x (tells_kind kind) = shows_bad kind n
 
-pub extent-wrong : (n : ℕ) (inside : List ℕ) (grammar : List ℕ → Result markup.Token XmlKind) (kind : XmlKind) → IsWrong inside kind → Shows (Bad kind n) (extent n inside grammar)
+pub extent-wrong : (n : ℕ) (inside : List ℕ) (grammar : List ℕ → Result markup.Token XmlKind) (kind : XmlKind) → IsWrong inside kind →
+    Shows (Bad kind n) (extent n inside grammar)
 unfolding extent
-extent-wrong n inside grammar kind (no_utf8 e) = subst (λ t. Shows (Bad NotUtf8 n) (judged n t (list_all is_char (chars inside)) (grammar inside))) (sym e) (shows_bad NotUtf8 n)
+extent-wrong n inside grammar kind (no_utf8 e) = subst (λ t. Shows (Bad NotUtf8 n) (judged n t (list_all is_char (chars inside)) (grammar inside))) (sym e)
+    (shows_bad NotUtf8 n)
 extent-wrong n inside grammar kind (no_chars e f) =
     subst (λ t. Shows (Bad BadChar n) (judged n t (list_all is_char (chars inside)) (grammar inside))) (sym e)
     (subst (λ u. Shows (Bad BadChar n) (judged n true u (grammar inside))) (sym f) (shows_bad BadChar n))
@@ -78,15 +84,19 @@ module _ (string : List ℕ) (opening : ℕ) (grammar : List ℕ → Result mark
   abbrev pub through : Option ℕ → List ℕ → Beginning
   through x bytes = elim x [ None ↦ later | (Some n) ↦ extent (opening + (n + length string)) (take n bytes) grammar ]
 
-  pub through-right : (bytes inside text : List ℕ) (n : ℕ) (r : Result Token XmlKind) → Some n ≡ place_of string bytes → inside ≡ take n bytes → IsRight inside text → Tells r (grammar text) → Shows (beginning_of (opening + (n + length string)) r) (extent_through string opening bytes grammar)
+  pub through-right : (bytes inside text : List ℕ) (n : ℕ) (r : Result Token XmlKind) → Some n ≡ place_of string bytes → inside ≡ take n bytes →
+      IsRight inside text → Tells r (grammar text) → Shows (beginning_of (opening + (n + length string)) r) (extent_through string opening bytes grammar)
   through-right bytes inside text n r e f right told =
       subst (λ x. Shows (beginning_of (opening + (n + length string)) r) (through x bytes)) e
-      (subst (λ x. Shows (beginning_of (opening + (n + length string)) r) (extent (opening + (n + length string)) x grammar)) f (extent-right (opening + (n + length string)) inside text grammar r right told))
+      (subst (λ x. Shows (beginning_of (opening + (n + length string)) r) (extent (opening + (n + length string)) x grammar)) f
+      (extent-right (opening + (n + length string)) inside text grammar r right told))
 
-  pub through-wrong : (bytes inside : List ℕ) (n : ℕ) (kind : XmlKind) → Some n ≡ place_of string bytes → inside ≡ take n bytes → IsWrong inside kind → Shows (Bad kind (opening + (n + length string))) (extent_through string opening bytes grammar)
+  pub through-wrong : (bytes inside : List ℕ) (n : ℕ) (kind : XmlKind) → Some n ≡ place_of string bytes → inside ≡ take n bytes → IsWrong inside kind →
+      Shows (Bad kind (opening + (n + length string))) (extent_through string opening bytes grammar)
   through-wrong bytes inside n kind e f wrong =
       subst (λ x. Shows (Bad kind (opening + (n + length string))) (through x bytes)) e
-      (subst (λ x. Shows (Bad kind (opening + (n + length string))) (extent (opening + (n + length string)) x grammar)) f (extent-wrong (opening + (n + length string)) inside grammar kind wrong))
+      (subst (λ x. Shows (Bad kind (opening + (n + length string))) (extent (opening + (n + length string)) x grammar)) f
+      (extent-wrong (opening + (n + length string)) inside grammar kind wrong))
 
   pub through-open : (bytes : List ℕ) → None ≡ place_of string bytes → extent_through string opening bytes grammar ≡ later
   through-open bytes e = ap (λ x. through x bytes) (sym e)
@@ -106,18 +116,22 @@ take-behind (b ∷ front) bytes (suc n) h =
     ap (λ x. b ∷ x) (take-behind front bytes n (omega arith) ∙ ap (λ k. front ++ take k bytes) e)
 
 -- How far such an extent was searched.
-module _ (front string : List ℕ) (grammar : List ℕ → Result markup.Token XmlKind) (computes : (bytes : List ℕ) → beginning Farther false (front ++ bytes) ≡ extent_through string (length front) bytes grammar) (unquoted : (bytes : List ℕ) → open_quote (front ++ bytes) ≡ None) where
+module _ (front string : List ℕ) (grammar : List ℕ → Result markup.Token XmlKind)
+    (computes : (bytes : List ℕ) → beginning Farther false (front ++ bytes) ≡ extent_through string (length front) bytes grammar)
+    (unquoted : (bytes : List ℕ) → open_quote (front ++ bytes) ≡ None) where
   vain-in : (s : Searched) (bytes : List ℕ) → Fits s (front ++ bytes) → place_of string (take (s.searched - length front) bytes) ≡ None
   vain-in s bytes fits = elim (cases_lt s.searched (length front)) [
     | inl short ↦ (let none : s.searched - length front ≡ 0 = omega arith in ap (λ n. place_of string (take n bytes)) none)
     | inr long ↦ through-vain string (length front) grammar (take (s.searched - length front) bytes)
-        (sym (computes (take (s.searched - length front) bytes)) ∙ (ap (beginning Farther false) (sym (take-behind front bytes s.searched long)) ∙ fits.in_vain))
+        (sym (computes (take (s.searched - length front) bytes)) ∙
+        (ap (beginning Farther false) (sym (take-behind front bytes s.searched long)) ∙ fits.in_vain))
   ]
 
   within-in : (s : Searched) (bytes : List ℕ) → Fits s (front ++ bytes) → s.searched - length front ≤ length bytes
   within-in s bytes fits = omega (arith, fits.within, length-append front bytes)
 
-  searched-out : (s : Searched) (bytes : List ℕ) → s.searched ≡ length front + length bytes → s.quote ≡ None → None ≡ place_of string bytes → IsSearched s (front ++ bytes)
+  searched-out : (s : Searched) (bytes : List ℕ) → s.searched ≡ length front + length bytes → s.quote ≡ None → None ≡ place_of string bytes →
+      IsSearched s (front ++ bytes)
   searched-out s bytes e q none =
       let long : length (front ++ bytes) ≡ length front + length bytes = length-append front bytes in
       let all : take s.searched (front ++ bytes) ≡ front ++ bytes = take_all s.searched (front ++ bytes) (omega (arith, long)) in
@@ -146,7 +160,8 @@ comment-vain = vain-in comment_front (codes "-->") markup.comment comment-comput
 pub comment-within : (s : Searched) (bytes : List ℕ) → Fits s (comment_front ++ bytes) → s.searched - 4 ≤ length bytes
 comment-within = within-in comment_front (codes "-->") markup.comment comment-computes comment-unquoted
 
-pub comment-out : (s : Searched) (bytes : List ℕ) → s.searched ≡ 4 + length bytes → s.quote ≡ None → None ≡ place_of (codes "-->") bytes → IsSearched s (comment_front ++ bytes)
+pub comment-out : (s : Searched) (bytes : List ℕ) → s.searched ≡ 4 + length bytes → s.quote ≡ None → None ≡ place_of (codes "-->") bytes →
+    IsSearched s (comment_front ++ bytes)
 comment-out = searched-out comment_front (codes "-->") markup.comment comment-computes comment-unquoted
 
 abbrev section_front : List ℕ
@@ -165,7 +180,8 @@ section-vain = vain-in section_front (codes "]]>") markup.section section-comput
 pub section-within : (s : Searched) (bytes : List ℕ) → Fits s (section_front ++ bytes) → s.searched - 9 ≤ length bytes
 section-within = within-in section_front (codes "]]>") markup.section section-computes section-unquoted
 
-pub section-out : (s : Searched) (bytes : List ℕ) → s.searched ≡ 9 + length bytes → s.quote ≡ None → None ≡ place_of (codes "]]>") bytes → IsSearched s (section_front ++ bytes)
+pub section-out : (s : Searched) (bytes : List ℕ) → s.searched ≡ 9 + length bytes → s.quote ≡ None → None ≡ place_of (codes "]]>") bytes →
+    IsSearched s (section_front ++ bytes)
 section-out = searched-out section_front (codes "]]>") markup.section section-computes section-unquoted
 
 abbrev instruction_front : List ℕ
@@ -184,7 +200,8 @@ instruction-vain = vain-in instruction_front (codes "?>") (markup.instruction fa
 pub instruction-within : (s : Searched) (bytes : List ℕ) → Fits s (instruction_front ++ bytes) → s.searched - 2 ≤ length bytes
 instruction-within = within-in instruction_front (codes "?>") (markup.instruction false) instruction-computes instruction-unquoted
 
-pub instruction-out : (s : Searched) (bytes : List ℕ) → s.searched ≡ 2 + length bytes → s.quote ≡ None → None ≡ place_of (codes "?>") bytes → IsSearched s (instruction_front ++ bytes)
+pub instruction-out : (s : Searched) (bytes : List ℕ) → s.searched ≡ 2 + length bytes → s.quote ≡ None → None ≡ place_of (codes "?>") bytes →
+    IsSearched s (instruction_front ++ bytes)
 instruction-out = searched-out instruction_front (codes "?>") (markup.instruction false) instruction-computes instruction-unquoted
 
 -- How far a tag was searched.
@@ -243,11 +260,15 @@ tag-in s bytes (begins_tag c rest e f) fits = by s.searched refl
         let within : s.searched ≤ suc (suc (length rest)) = fits.within in
         record {
           within = omega arith;
-          in_vain = ap (λ n. tag_end (take n (c ∷ rest)) None 262143) some ∙ not-yet (c ∷ take k rest) (sym (tag-computes c (take k rest) e f) ∙ (ap (λ n. beginning Farther false (take n (0x3C ∷ (c ∷ rest)))) (sym h) ∙ fits.in_vain));
-          quote = fits.quote ∙ (ap (λ n. open_quote (take n (0x3C ∷ (c ∷ rest)))) h ∙ (tag-quote c (take k rest) e f ∙ sym (ap (λ n. quote_after None (take n (c ∷ rest))) some)));
+          in_vain = ap (λ n. tag_end (take n (c ∷ rest)) None 262143) some ∙
+              not-yet (c ∷ take k rest) (sym (tag-computes c (take k rest) e f) ∙
+              (ap (λ n. beginning Farther false (take n (0x3C ∷ (c ∷ rest)))) (sym h) ∙ fits.in_vain));
+          quote = fits.quote ∙ (ap (λ n. open_quote (take n (0x3C ∷ (c ∷ rest)))) h ∙
+              (tag-quote c (take k rest) e f ∙ sym (ap (λ n. quote_after None (take n (c ∷ rest))) some)));
         }
 
-pub tag-out : (s : Searched) (bytes : List ℕ) → BeginsTag bytes → s.searched ≡ 1 + length bytes → s.quote ≡ quote_after None bytes → tag_end bytes None 262143 ≡ none_yet → IsSearched s (0x3C ∷ bytes)
+pub tag-out : (s : Searched) (bytes : List ℕ) → BeginsTag bytes → s.searched ≡ 1 + length bytes → s.quote ≡ quote_after None bytes →
+    tag_end bytes None 262143 ≡ none_yet → IsSearched s (0x3C ∷ bytes)
 tag-out s bytes (begins_tag c rest e f) h q none =
     let all : take s.searched (0x3C ∷ (c ∷ rest)) ≡ 0x3C ∷ (c ∷ rest) = take_all s.searched (0x3C ∷ (c ∷ rest)) (omega arith) in
     record {
@@ -260,8 +281,10 @@ tag-out s bytes (begins_tag c rest e f) h q none =
     }
 
 -- What a tag shows by its end.
-pub tag-shown : (found : code.Beginning) (bytes inside : List ℕ) (n : ℕ) → tag_end bytes None 262143 ≡ behind n → inside ≡ take n bytes → ShowsTag found (n + 2) inside → Shows found (tag_at bytes)
-tag-shown found bytes inside n e f (shows_tag found' n' inside' shows) = subst (λ x. Shows found (tagged x bytes)) (sym e) (subst (λ x. Shows found (extent (n + 2) x tag)) f shows)
+pub tag-shown : (found : code.Beginning) (bytes inside : List ℕ) (n : ℕ) → tag_end bytes None 262143 ≡ behind n → inside ≡ take n bytes →
+    ShowsTag found (n + 2) inside → Shows found (tag_at bytes)
+tag-shown found bytes inside n e f (shows_tag found' n' inside' shows) =
+    subst (λ x. Shows found (tagged x bytes)) (sym e) (subst (λ x. Shows found (extent (n + 2) x tag)) f shows)
 
 shows-nothing : (x : Beginning) → Shows Later x → x ≡ later
 shows-nothing x shows_later = refl
@@ -284,7 +307,8 @@ ends-behind bytes n (ends_behind m e h) = e
 pub ends-within : (bytes : List ℕ) → Ends bytes 262143 NoneWithin → tag_end bytes None 262143 ≡ none_within
 ends-within bytes (ends_not_within e) = e
 
-pub ends-yet : (bytes : List ℕ) (quote : Option ℕ) → Ends bytes 262143 (NoneYet quote) → (tag_end bytes None 262143 ≡ none_yet) × (quote ≡ quote_after None bytes)
+pub ends-yet : (bytes : List ℕ) (quote : Option ℕ) → Ends bytes 262143 (NoneYet quote) → (tag_end bytes None 262143 ≡ none_yet) ×
+    (quote ≡ quote_after None bytes)
 ends-yet bytes quote (ends_not_yet q e f) = (e, f)
 
 pub if-ok : {T E : Type 0} (r : Result T E) (P Q : T → Type 0) → ((x : T) → P x → Q x) → IfOk r P → IfOk r Q
@@ -301,7 +325,8 @@ chosen t1 t2 t3 inside n bytes = elim t1 [
   ]
 ]
 
-chosen-by : (bytes : List ℕ) (t1 t2 t3 inside : Bool) → begins_with (codes "--") bytes ≡ t1 → begins_with (codes "[CDATA[") bytes ≡ t2 → begins_with (codes "DOCTYPE") bytes ≡ t3 → ends_inside_any bytes ≡ inside
+chosen-by : (bytes : List ℕ) (t1 t2 t3 inside : Bool) → begins_with (codes "--") bytes ≡ t1 → begins_with (codes "[CDATA[") bytes ≡ t2 →
+    begins_with (codes "DOCTYPE") bytes ≡ t3 → ends_inside_any bytes ≡ inside
     → comment_or_section_at bytes ≡ chosen t1 t2 t3 inside (shared_with_any bytes) bytes
 chosen-by bytes t1 t2 t3 inside e1 e2 e3 e4 =
     ap (λ t. chosen t (begins_with (codes "[CDATA[") bytes) (begins_with (codes "DOCTYPE") bytes) (ends_inside_any bytes) (shared_with_any bytes) bytes) e1
@@ -309,13 +334,16 @@ chosen-by bytes t1 t2 t3 inside e1 e2 e3 e4 =
     ∙ (ap (λ t. chosen t1 t2 t (ends_inside_any bytes) (shared_with_any bytes) bytes) e3
     ∙ ap (λ t. chosen t1 t2 t3 t (shared_with_any bytes) bytes) e4))
 
-pub doctype-shown : (bytes : List ℕ) → begins_with (codes "--") bytes ≡ false → begins_with (codes "[CDATA[") bytes ≡ false → begins_with (codes "DOCTYPE") bytes ≡ true → Shows (Bad Doctype 9) (comment_or_section_at bytes)
+pub doctype-shown : (bytes : List ℕ) → begins_with (codes "--") bytes ≡ false → begins_with (codes "[CDATA[") bytes ≡ false →
+    begins_with (codes "DOCTYPE") bytes ≡ true → Shows (Bad Doctype 9) (comment_or_section_at bytes)
 doctype-shown bytes e1 e2 e3 = subst (λ x. Shows (Bad Doctype 9) x) (sym (chosen-by bytes false false true _ e1 e2 e3 refl)) (shows_bad Doctype 9)
 
-pub inside-shown : (bytes : List ℕ) → begins_with (codes "--") bytes ≡ false → begins_with (codes "[CDATA[") bytes ≡ false → begins_with (codes "DOCTYPE") bytes ≡ false → ends_inside_any bytes ≡ true → Shows Later (comment_or_section_at bytes)
+pub inside-shown : (bytes : List ℕ) → begins_with (codes "--") bytes ≡ false → begins_with (codes "[CDATA[") bytes ≡ false →
+    begins_with (codes "DOCTYPE") bytes ≡ false → ends_inside_any bytes ≡ true → Shows Later (comment_or_section_at bytes)
 inside-shown bytes e1 e2 e3 e4 = subst (λ x. Shows Later x) (sym (chosen-by bytes false false false true e1 e2 e3 e4)) shows_later
 
-pub other-shown : (bytes : List ℕ) (n : ℕ) → begins_with (codes "--") bytes ≡ false → begins_with (codes "[CDATA[") bytes ≡ false → begins_with (codes "DOCTYPE") bytes ≡ false → ends_inside_any bytes ≡ false → n ≡ shared_with_any bytes
+pub other-shown : (bytes : List ℕ) (n : ℕ) → begins_with (codes "--") bytes ≡ false → begins_with (codes "[CDATA[") bytes ≡ false →
+    begins_with (codes "DOCTYPE") bytes ≡ false → ends_inside_any bytes ≡ false → n ≡ shared_with_any bytes
     → Shows (Bad BadMarkup (3 + n)) (comment_or_section_at bytes)
 other-shown bytes n e1 e2 e3 e4 e5 = subst (λ x. Shows (Bad BadMarkup (3 + n)) x) (sym (chosen-by bytes false false false false e1 e2 e3 e4))
     (subst (λ m. Shows (Bad BadMarkup (3 + n)) (bad BadMarkup (3 + m))) e5 (shows_bad BadMarkup (3 + n)))

@@ -1,5 +1,6 @@
 -- Fronts before the first stop, as tests and places.
-use Rattle.std.proofs.Common.{◌≡◌, ℕ, suc, ◌+◌, ◌<◌, ◌≤◌, eqb, nat_lt, Bool, true, false, not, ◌&&◌, ◌||◌, List, [], ◌∷◌, ◌++◌, length, take, drop, get_or, refl, sym, ap, ◌∙◌, arith, inl, inr, Some, None, cond}
+use Rattle.std.proofs.Common.{◌≡◌, ℕ, suc, ◌+◌, ◌<◌, ◌≤◌, eqb, nat_lt, Bool, true, false, not, ◌&&◌, ◌||◌, List, [], ◌∷◌, ◌++◌, length, take, drop, get_or}
+use Rattle.std.proofs.Common.{refl, sym, ap, ◌∙◌, arith, inl, inr, Some, None, cond}
 use Rattle.std.specs.List.{list_all, list_any, position, position_or_len}
 use Rattle.std.specs.Str.{chars, IsUtf8}
 use Rattle.std.proofs.lemmas.Bool.{cases_eq, eq-eqb, ne_eqb, not-false, not-true, or_parts, lt-ltb, le-ltb}
@@ -17,7 +18,8 @@ use Rattle.xml_tokens.proofs.PlainLemmas.{plain-front}
 pub all-calm : (bytes : List ℕ) (n : ℕ) → n ≡ position_or_len is_restless bytes → eqb n (length bytes) ≡ list_all is_calm bytes
 all-calm bytes n e = elim (cases_eq n (length bytes)) [
   | inl whole ↦
-      let calm = λ (k : ℕ) (inside : k < length bytes). not-false (is_calm (get_or bytes k 0)) (fails_before_first is_restless bytes k 0 (omega (arith, e, whole))) in
+      let calm = λ (k : ℕ) (inside : k < length bytes). not-false (is_calm (get_or bytes k 0))
+      (fails_before_first is_restless bytes k 0 (omega (arith, e, whole))) in
       eq-eqb n (length bytes) whole ∙ sym (list_all-from_AllPass is_calm bytes (All-from_get_or (λ b. is_calm b ≡ true) bytes 0 calm))
   | inr other ↦
       let within : n < length bytes = omega (arith, e, prefix_len-le-length (λ x. not (is_restless x)) bytes) in
@@ -38,12 +40,15 @@ place-nowhere bytes n e all =
     sym (ap (λ t. cond t (Some (position_or_len ends_run bytes)) None) test)
 
 -- Before the first byte that stirs none ends a run, and all are calm.
-pub before-stir : (bytes : List ℕ) → (list_any ends_run (take (position_or_len stirs bytes) bytes) ≡ false) × (list_all is_calm (take (position_or_len stirs bytes) bytes) ≡ true)
+pub before-stir : (bytes : List ℕ) → (list_any ends_run (take (position_or_len stirs bytes) bytes) ≡ false) ×
+    (list_all is_calm (take (position_or_len stirs bytes) bytes) ≡ true)
 before-stir [] = (refl, refl)
 before-stir (b ∷ bytes) = by (stirs b) refl (before-stir bytes)
   where
-    by : (t : Bool) → stirs b ≡ t → (list_any ends_run (take (position_or_len stirs bytes) bytes) ≡ false) × (list_all is_calm (take (position_or_len stirs bytes) bytes) ≡ true)
-        → (list_any ends_run (take (cond (not t) (1 + position_or_len stirs bytes) 0) (b ∷ bytes)) ≡ false) × (list_all is_calm (take (cond (not t) (1 + position_or_len stirs bytes) 0) (b ∷ bytes)) ≡ true)
+    by : (t : Bool) → stirs b ≡ t → (list_any ends_run (take (position_or_len stirs bytes) bytes) ≡ false) ×
+        (list_all is_calm (take (position_or_len stirs bytes) bytes) ≡ true)
+        → (list_any ends_run (take (cond (not t) (1 + position_or_len stirs bytes) 0) (b ∷ bytes)) ≡ false) ×
+        (list_all is_calm (take (cond (not t) (1 + position_or_len stirs bytes) 0) (b ∷ bytes)) ≡ true)
     by true e rest = (refl, refl)
     by false e rest =
         let one : 1 + position_or_len stirs bytes ≡ suc (position_or_len stirs bytes) = omega arith in
@@ -55,7 +60,8 @@ before-stir (b ∷ bytes) = by (stirs b) refl (before-stir bytes)
         )
 
 -- A text at the front of calm bytes none of which ends a run is plain.
-pub calm-plain : (outer text : List ℕ) → IsUtf8 text → outer ≡ text ++ drop (length text) outer → list_any ends_run outer ≡ false → list_all is_calm outer ≡ true → list_all is_plain (chars text) ≡ true
+pub calm-plain : (outer text : List ℕ) → IsUtf8 text → outer ≡ text ++ drop (length text) outer → list_any ends_run outer ≡ false →
+    list_all is_calm outer ≡ true → list_all is_plain (chars text) ≡ true
 calm-plain outer text u f e c =
     let behind = drop (length text) outer in
     let parts = both (list_all is_calm text) (list_all is_calm behind) (sym (list_all-append is_calm text behind) ∙ (ap (list_all is_calm) (sym f) ∙ c)) in

@@ -1,5 +1,6 @@
 -- Where a comment ends, and whether `--` stands inside, byte by byte.
-use Rattle.std.proofs.Common.{◌≡◌, ℕ, zero, suc, ◌+◌, ◌==◌, Bool, true, false, not, ◌&&◌, ◌||◌, List, [], ◌∷◌, ◌++◌, take, refl, sym, ap, ◌∙◌, subst, arith, if◌then◌else◌, Option, Some, None, option_map, is_none, take-take}
+use Rattle.std.proofs.Common.{◌≡◌, ℕ, zero, suc, ◌+◌, ◌==◌, Bool, true, false, not, ◌&&◌, ◌||◌, List, [], ◌∷◌, ◌++◌, take, refl, sym, ap, ◌∙◌, subst, arith}
+use Rattle.std.proofs.Common.{if◌then◌else◌, Option, Some, None, option_map, is_none, take-take}
 use Rattle.std.specs.Prelude.{codes}
 use Rattle.std.proofs.lemmas.Bool.Decides.{nat_tests}
 use Rattle.xml_tokens.specs.Searches.{begins_with, place_of}
@@ -66,7 +67,8 @@ place-other b bytes e = ap (λ t. elim (t && begins_with (codes "->") bytes) [ t
 place-one : (b : ℕ) (bytes : List ℕ) → (b == 0x2D) ≡ false → place_of (codes "-->") (0x2D ∷ (b ∷ bytes)) ≡ one_on (place_of (codes "-->") (b ∷ bytes))
 place-one b bytes e = ap (λ t. elim (t && begins_with (codes ">") bytes) [ true ↦ Some 0 | false ↦ one_on (place_of (codes "-->") (b ∷ bytes)) ]) e
 
-place-two : (b : ℕ) (bytes : List ℕ) → (b == 0x3E) ≡ false → place_of (codes "-->") (0x2D ∷ (0x2D ∷ (b ∷ bytes))) ≡ one_on (place_of (codes "-->") (0x2D ∷ (b ∷ bytes)))
+place-two : (b : ℕ) (bytes : List ℕ) → (b == 0x3E) ≡ false →
+    place_of (codes "-->") (0x2D ∷ (0x2D ∷ (b ∷ bytes))) ≡ one_on (place_of (codes "-->") (0x2D ∷ (b ∷ bytes)))
 place-two b bytes e = ap (λ t. elim (t && true) [ true ↦ Some 0 | false ↦ one_on (place_of (codes "-->") (0x2D ∷ (b ∷ bytes))) ]) e
 
 place-end : (b : ℕ) (bytes : List ℕ) → (b == 0x3E) ≡ true → place_of (codes "-->") (0x2D ∷ (0x2D ∷ (b ∷ bytes))) ≡ Some 0
@@ -77,7 +79,8 @@ none-on None = refl
 none-on (Some n) = refl
 
 right-other : (b : ℕ) (bytes : List ℕ) → (b == 0x2D) ≡ false → is_right (b ∷ bytes) ≡ is_right bytes
-right-other b bytes e = ap (λ t. is_none (elim (t && begins_with (codes "-") bytes) [ true ↦ Some 0 | false ↦ one_on (place_of (codes "--") bytes) ])) e ∙ none-on (place_of (codes "--") bytes)
+right-other b bytes e = ap (λ t. is_none (elim (t && begins_with (codes "-") bytes) [ true ↦ Some 0 | false ↦ one_on (place_of (codes "--") bytes) ])) e ∙
+    none-on (place_of (codes "--") bytes)
 
 right-one : (b : ℕ) (bytes : List ℕ) → (b == 0x2D) ≡ false → is_right (0x2D ∷ (b ∷ bytes)) ≡ is_right bytes
 right-one b bytes e =
@@ -99,7 +102,8 @@ close-other b bytes e = ap (found (b ∷ bytes)) (place-other b bytes e) ∙ by 
     by (Some n) =
         let one : 1 + n ≡ suc n = omega arith in
         let sum : 1 + n ≡ n + 1 = omega arith in
-        ap Some (close-is (1 + n) (n + 1) _ _ sum (ap (λ k. not (is_right (take k (b ∷ bytes) ++ codes "-"))) one ∙ ap not (right-other b (take n bytes ++ codes "-") e)))
+        ap Some (close-is (1 + n) (n + 1) _ _ sum (ap (λ k. not (is_right (take k (b ∷ bytes) ++ codes "-"))) one ∙
+        ap not (right-other b (take n bytes ++ codes "-") e)))
 
 close-one : (b : ℕ) (bytes : List ℕ) → (b == 0x2D) ≡ false → close_of (0x2D ∷ (b ∷ bytes)) ≡ option_map (farther 2) (close_of bytes)
 close-one b bytes e = ap (found (0x2D ∷ (b ∷ bytes))) (place-one b bytes e ∙ ap one_on (place-other b bytes e)) ∙ by (place_of (codes "-->") bytes)
@@ -109,11 +113,14 @@ close-one b bytes e = ap (found (0x2D ∷ (b ∷ bytes))) (place-one b bytes e �
     by (Some n) =
         let two : 1 + (1 + n) ≡ suc (suc n) = omega arith in
         let sum : 1 + (1 + n) ≡ n + 2 = omega arith in
-        ap Some (close-is (1 + (1 + n)) (n + 2) _ _ sum (ap (λ k. not (is_right (take k (0x2D ∷ (b ∷ bytes)) ++ codes "-"))) two ∙ ap not (right-one b (take n bytes ++ codes "-") e)))
+        ap Some (close-is (1 + (1 + n)) (n + 2) _ _ sum (ap (λ k. not (is_right (take k (0x2D ∷ (b ∷ bytes)) ++ codes "-"))) two ∙
+        ap not (right-one b (take n bytes ++ codes "-") e)))
 
-close-two : (b : ℕ) (bytes : List ℕ) → (b == 0x2D) ≡ false → (b == 0x3E) ≡ false → close_of (0x2D ∷ (0x2D ∷ (b ∷ bytes))) ≡ option_map (farther_wrong 3) (close_of bytes)
+close-two : (b : ℕ) (bytes : List ℕ) → (b == 0x2D) ≡ false → (b == 0x3E) ≡ false →
+    close_of (0x2D ∷ (0x2D ∷ (b ∷ bytes))) ≡ option_map (farther_wrong 3) (close_of bytes)
 close-two b bytes e f =
-    ap (found (0x2D ∷ (0x2D ∷ (b ∷ bytes)))) (place-two b bytes f ∙ ap one_on (place-one b bytes e ∙ ap one_on (place-other b bytes e))) ∙ by (place_of (codes "-->") bytes)
+    ap (found (0x2D ∷ (0x2D ∷ (b ∷ bytes)))) (place-two b bytes f ∙ ap one_on (place-one b bytes e ∙ ap one_on (place-other b bytes e))) ∙
+    by (place_of (codes "-->") bytes)
   where
     by : (x : Option ℕ) → found (0x2D ∷ (0x2D ∷ (b ∷ bytes))) (one_on (one_on (one_on x))) ≡ option_map (farther_wrong 3) (found bytes x)
     by None = refl
@@ -157,7 +164,8 @@ or-nothing true = refl
 or-nothing false = refl
 
 -- Byte by byte it ends where the first `-->` stands.
-pub close-found : (h : Hyphens) (faulty : Bool) (bytes : List ℕ) → close_from h faulty bytes ≡ option_map (behind_hyphens (to_come h) faulty) (close_of (spelt_hyphens h ++ bytes))
+pub close-found : (h : Hyphens) (faulty : Bool) (bytes : List ℕ) →
+    close_from h faulty bytes ≡ option_map (behind_hyphens (to_come h) faulty) (close_of (spelt_hyphens h ++ bytes))
 close-found Zero faulty [] = refl
 close-found One faulty [] = refl
 close-found Two faulty [] = refl
@@ -171,38 +179,49 @@ close-found h faulty (b ∷ bytes) = by (λ h' faulty'. close-found h' faulty' b
 
     by : ((h : Hyphens) (faulty : Bool) → close_from h faulty bytes ≡ option_map (behind_hyphens (to_come h) faulty) (close_of (spelt_hyphens h ++ bytes)))
         → (h : Hyphens) (t u : Bool) → (b == 0x2D) ≡ t → (b == 0x3E) ≡ u
-        → (elim (are_two h && u) [ true ↦ Some (record { before = 0; faulty = faulty }) | false ↦ option_map one_farther (close_from (if t then one_more h else Zero) (faulty || are_two h) bytes) ])
+        → (elim (are_two h && u) [
+          | true ↦ Some (record { before = 0; faulty = faulty })
+          | false ↦ option_map one_farther (close_from (if t then one_more h else Zero) (faulty || are_two h) bytes)
+        ])
         ≡ option_map (behind_hyphens (to_come h) faulty) (close_of (spelt_hyphens h ++ (b ∷ bytes)))
     by rest Zero true u e f =
         ap (option_map one_farther) (rest One (faulty || false))
-        ∙ (map-both one_farther (behind_hyphens 1 (faulty || false)) (behind_hyphens 2 faulty) (close_of (0x2D ∷ bytes)) (λ y. close-is _ _ _ _ (omega arith) (or-false faulty y.faulty))
+        ∙ (map-both one_farther (behind_hyphens 1 (faulty || false)) (behind_hyphens 2 faulty) (close_of (0x2D ∷ bytes))
+        (λ y. close-is _ _ _ _ (omega arith) (or-false faulty y.faulty))
         ∙ ap (λ x. option_map (behind_hyphens 2 faulty) (close_of (x ∷ bytes))) (sym (is-hyphen e)))
     by rest One true u e f =
         ap (option_map one_farther) (rest Two (faulty || false))
-        ∙ (map-both one_farther (behind_hyphens 0 (faulty || false)) (behind_hyphens 1 faulty) (close_of (0x2D ∷ (0x2D ∷ bytes))) (λ y. close-is _ _ _ _ (omega arith) (or-false faulty y.faulty))
+        ∙ (map-both one_farther (behind_hyphens 0 (faulty || false)) (behind_hyphens 1 faulty) (close_of (0x2D ∷ (0x2D ∷ bytes)))
+        (λ y. close-is _ _ _ _ (omega arith) (or-false faulty y.faulty))
         ∙ ap (λ x. option_map (behind_hyphens 1 faulty) (close_of (0x2D ∷ (x ∷ bytes)))) (sym (is-hyphen e)))
     by rest Two true true e f = absurd (both-not e f)
     by rest Two true false e f =
         ap (option_map one_farther) (rest Two (faulty || true))
-        ∙ (map-both one_farther (behind_hyphens 0 (faulty || true)) (λ y. behind_hyphens 0 faulty (farther_wrong 1 y)) (close_of (0x2D ∷ (0x2D ∷ bytes))) (λ y. close-is _ _ _ _ (omega arith) (or-true faulty y.faulty))
-        ∙ (sym (map-both (behind_hyphens 0 faulty) (farther_wrong 1) (λ y. behind_hyphens 0 faulty (farther_wrong 1 y)) (close_of (0x2D ∷ (0x2D ∷ bytes))) (λ y. refl))
+        ∙ (map-both one_farther (behind_hyphens 0 (faulty || true)) (λ y. behind_hyphens 0 faulty (farther_wrong 1 y)) (close_of (0x2D ∷ (0x2D ∷ bytes)))
+        (λ y. close-is _ _ _ _ (omega arith) (or-true faulty y.faulty))
+        ∙ (sym (map-both (behind_hyphens 0 faulty) (farther_wrong 1) (λ y. behind_hyphens 0 faulty (farther_wrong 1 y)) (close_of (0x2D ∷ (0x2D ∷ bytes)))
+        (λ y. refl))
         ∙ (ap (option_map (behind_hyphens 0 faulty)) (sym (close-three bytes))
         ∙ ap (λ x. option_map (behind_hyphens 0 faulty) (close_of (0x2D ∷ (0x2D ∷ (x ∷ bytes))))) (sym (is-hyphen e)))))
     by rest Zero false u e f =
         ap (option_map one_farther) (rest Zero (faulty || false))
-        ∙ (map-both one_farther (behind_hyphens 2 (faulty || false)) (λ y. behind_hyphens 2 faulty (farther 1 y)) (close_of bytes) (λ y. close-is _ _ _ _ (omega arith) (or-false faulty y.faulty))
+        ∙ (map-both one_farther (behind_hyphens 2 (faulty || false)) (λ y. behind_hyphens 2 faulty (farther 1 y)) (close_of bytes)
+        (λ y. close-is _ _ _ _ (omega arith) (or-false faulty y.faulty))
         ∙ (sym (map-both (behind_hyphens 2 faulty) (farther 1) (λ y. behind_hyphens 2 faulty (farther 1 y)) (close_of bytes) (λ y. refl))
         ∙ ap (option_map (behind_hyphens 2 faulty)) (sym (close-other b bytes e))))
     by rest One false u e f =
         ap (option_map one_farther) (rest Zero (faulty || false))
-        ∙ (map-both one_farther (behind_hyphens 2 (faulty || false)) (λ y. behind_hyphens 1 faulty (farther 2 y)) (close_of bytes) (λ y. close-is _ _ _ _ (omega arith) (or-false faulty y.faulty))
+        ∙ (map-both one_farther (behind_hyphens 2 (faulty || false)) (λ y. behind_hyphens 1 faulty (farther 2 y)) (close_of bytes)
+        (λ y. close-is _ _ _ _ (omega arith) (or-false faulty y.faulty))
         ∙ (sym (map-both (behind_hyphens 1 faulty) (farther 2) (λ y. behind_hyphens 1 faulty (farther 2 y)) (close_of bytes) (λ y. refl))
         ∙ ap (option_map (behind_hyphens 1 faulty)) (sym (close-one b bytes e))))
     by rest Two false true e f =
-        ap Some (close-is 0 (0 + 0) faulty (faulty || false) (omega arith) (or-nothing faulty)) ∙ ap (option_map (behind_hyphens 0 faulty)) (sym (close-end b bytes f))
+        ap Some (close-is 0 (0 + 0) faulty (faulty || false) (omega arith) (or-nothing faulty)) ∙
+        ap (option_map (behind_hyphens 0 faulty)) (sym (close-end b bytes f))
     by rest Two false false e f =
         ap (option_map one_farther) (rest Zero (faulty || true))
-        ∙ (map-both one_farther (behind_hyphens 2 (faulty || true)) (λ y. behind_hyphens 0 faulty (farther_wrong 3 y)) (close_of bytes) (λ y. close-is _ _ _ _ (omega arith) (or-true faulty y.faulty))
+        ∙ (map-both one_farther (behind_hyphens 2 (faulty || true)) (λ y. behind_hyphens 0 faulty (farther_wrong 3 y)) (close_of bytes)
+        (λ y. close-is _ _ _ _ (omega arith) (or-true faulty y.faulty))
         ∙ (sym (map-both (behind_hyphens 0 faulty) (farther_wrong 3) (λ y. behind_hyphens 0 faulty (farther_wrong 3 y)) (close_of bytes) (λ y. refl))
         ∙ ap (option_map (behind_hyphens 0 faulty)) (sym (close-two b bytes e f))))
 
@@ -212,11 +231,13 @@ ends-in-hyphens [] n e = absurd (cc e)
 ends-in-hyphens (b ∷ bytes) n e = by (ends-in-hyphens bytes) (begins_with (codes "-->") (b ∷ bytes)) (place_of (codes "-->") bytes) refl refl e
   where
     by : ((m : ℕ) → place_of (codes "-->") bytes ≡ Some m → take (m + 2) bytes ≡ take m bytes ++ (0x2D ∷ (0x2D ∷ [])))
-        → (t : Bool) (x : Option ℕ) → begins_with (codes "-->") (b ∷ bytes) ≡ t → place_of (codes "-->") bytes ≡ x → (elim t [ true ↦ Some 0 | false ↦ one_on x ]) ≡ Some n
+        → (t : Bool) (x : Option ℕ) → begins_with (codes "-->") (b ∷ bytes) ≡ t → place_of (codes "-->") bytes ≡ x →
+        (elim t [ true ↦ Some 0 | false ↦ one_on x ]) ≡ Some n
         → take (n + 2) (b ∷ bytes) ≡ take n (b ∷ bytes) ++ (0x2D ∷ (0x2D ∷ []))
     by rest true x t p f =
         let none : 0 ≡ n = cc f in
-        let front : take 2 (b ∷ bytes) ≡ 0x2D ∷ (0x2D ∷ []) = sym (take-take 2 3 (b ∷ bytes) (omega arith)) ∙ ap (take 2) (begins-front (codes "-->") (b ∷ bytes) t) in
+        let front : take 2 (b ∷ bytes) ≡ 0x2D ∷ (0x2D ∷ []) = sym (take-take 2 3 (b ∷ bytes) (omega arith)) ∙
+        ap (take 2) (begins-front (codes "-->") (b ∷ bytes) t) in
         subst (λ k. take (k + 2) (b ∷ bytes) ≡ take k (b ∷ bytes) ++ (0x2D ∷ (0x2D ∷ []))) none front
     by rest false None t p f = absurd (cc f)
     by rest false (Some m) t p f =

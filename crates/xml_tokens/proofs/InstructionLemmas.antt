@@ -1,5 +1,6 @@
 -- An instruction that is read byte by byte is the instruction of the definition.
-use Rattle.std.proofs.Common.{◌≡◌, ℕ, suc, ◌+◌, ◌==◌, Bool, true, false, not, ◌&&◌, ◌||◌, List, [], ◌∷◌, ◌++◌, map, length, take, drop, refl, sym, ap, ◌∙◌, subst, arith, if◌then◌else◌, cond, Option, Some, None, option_map, option_and_then}
+use Rattle.std.proofs.Common.{◌≡◌, ℕ, suc, ◌+◌, ◌==◌, Bool, true, false, not, ◌&&◌, ◌||◌, List, [], ◌∷◌, ◌++◌, map, length, take, drop, refl, sym, ap, ◌∙◌}
+use Rattle.std.proofs.Common.{subst, arith, if◌then◌else◌, cond, Option, Some, None, option_map, option_and_then}
 use Rattle.std.specs.Char.{encode_utf8, to_ascii_lowercase}
 use Rattle.std.specs.Prelude.{codes}
 use Rattle.std.specs.Str.{chars, bytes_eq}
@@ -27,7 +28,8 @@ use Rattle.xml_tokens.specs.WrittenNames.{is_ncname}
 use Rattle.xml_tokens.specs.Markup.{an_aside, if_right, target_of, is_target, ends_target, instruction}
 use Rattle.xml_tokens.specs.Beginnings.{Beginning, later, of_length, extent, extent_through}
 use Rattle.xml_tokens.specs.Spelling.{spelling_behind, ended, is_wrong}
-use Rattle.xml_tokens.specs.Instructions.{goes_on, letters_behind, are_three, named_if, naming_behind, is_good, written_behind, target_fault, target_behind, target_with, fault_of_target, no_target, begun}
+use Rattle.xml_tokens.specs.Instructions.{goes_on, letters_behind, are_three, named_if, naming_behind, is_good, written_behind, target_fault, target_behind}
+use Rattle.xml_tokens.specs.Instructions.{target_with, fault_of_target, no_target, begun}
 use Rattle.xml_tokens.specs.Asides.{fault_by, fault_inside, ends_with, course, begins_by, ended_char}
 use Rattle.xml_tokens.specs.Asides as asides
 use Rattle.xml_tokens.proofs.Utf8Lemmas.{Stands, stands-begun, spelling_all, characters, characters-told, with_ended, wrong_all, wrong-told, stands-all}
@@ -83,7 +85,8 @@ abbrev by_tests : Bool → Bool → Bool → Bool → Option XmlKind
 by_tests exact good folded right = if exact then Some BadDeclaration else (if (good && not folded) && right then None else Some BadMarkup)
 
 abbrev judged_by : Written → List ℕ → List ℕ → Option XmlKind
-judged_by w target cs = by_tests (spelled w.exact target) (named w.naming target) (spelled w.folded (map to_ascii_lowercase target)) (ends_target (drop (length target) cs))
+judged_by w target cs = by_tests (spelled w.exact target) (named w.naming target) (spelled w.folded (map to_ascii_lowercase target))
+    (ends_target (drop (length target) cs))
 
 abbrev judged : Written → List ℕ → Option XmlKind
 judged w cs = judged_by w (target_of cs) cs
@@ -112,7 +115,8 @@ judged-more : (w : Written) (c : ℕ) (cs : List ℕ) → goes_on c ≡ true →
 judged-more w c cs e =
     let target = target_of cs in
     ap (λ t. judged_by w t (c ∷ cs)) (target-more c cs e)
-    ∙ (λ i. by_tests (spelled-more w.exact c target i) (named-more w.naming c target i) (spelled-more w.folded (to_ascii_lowercase c) (map to_ascii_lowercase target) i) (ends_target (drop (length target) cs)))
+    ∙ (λ i. by_tests (spelled-more w.exact c target i) (named-more w.naming c target i)
+    (spelled-more w.folded (to_ascii_lowercase c) (map to_ascii_lowercase target) i) (ends_target (drop (length target) cs)))
 
 judged-last : (w : Written) (c : ℕ) (cs : List ℕ) → goes_on c ≡ false → judged w (c ∷ cs) ≡ target_fault w (is_white_space c)
 judged-last w c cs e =
@@ -135,7 +139,8 @@ own-shown n true right = refl
 own-shown n false true = refl
 own-shown n false false = refl
 
-pub instruction-own : (n : ℕ) (inside : List ℕ) → begins_by (ends_with (fault_of_target (behind_all no_target (chars inside))) n) ≡ of_length n (instruction false inside)
+pub instruction-own : (n : ℕ) (inside : List ℕ) → begins_by (ends_with (fault_of_target (behind_all no_target (chars inside))) n) ≡ of_length n
+    (instruction false inside)
 unfolding instruction
 instruction-own n inside =
     let cs = chars inside in
@@ -149,13 +154,16 @@ target_all target u [] = target
 target_all target u (b ∷ bytes) = target_all (target_with target (ended_char u b)) (spelling_behind u b) bytes
 
 -- Where all are Chars, it is that behind the characters.
-target-told : (target : Target) (u : Spelling) (bytes : List ℕ) → list_all is_char (characters u bytes) ≡ true → target_all target u bytes ≡ behind_all target (characters u bytes)
+target-told : (target : Target) (u : Spelling) (bytes : List ℕ) → list_all is_char (characters u bytes) ≡ true →
+    target_all target u bytes ≡ behind_all target (characters u bytes)
 target-told target u [] all = refl
 target-told target u (b ∷ bytes) all = by (ended u b) all (λ t. target-told t (spelling_behind u b) bytes)
   where
     by : (o : Option ℕ) → list_all is_char (with_ended o (characters (spelling_behind u b) bytes)) ≡ true
-        → ((t : Target) → list_all is_char (characters (spelling_behind u b) bytes) ≡ true → target_all t (spelling_behind u b) bytes ≡ behind_all t (characters (spelling_behind u b) bytes))
-        → target_all (target_with target (option_and_then if_char o)) (spelling_behind u b) bytes ≡ behind_all target (with_ended o (characters (spelling_behind u b) bytes))
+        → ((t : Target) → list_all is_char (characters (spelling_behind u b) bytes) ≡ true →
+        target_all t (spelling_behind u b) bytes ≡ behind_all t (characters (spelling_behind u b) bytes))
+        → target_all (target_with target (option_and_then if_char o)) (spelling_behind u b) bytes ≡ behind_all target
+        (with_ended o (characters (spelling_behind u b) bytes))
     by None all rest = rest target all
     by (Some c) all rest =
         let is = both (is_char c) (list_all is_char (characters (spelling_behind u b) bytes)) all in
@@ -192,7 +200,8 @@ end-found (b ∷ bytes) = by (b == 0x3F) refl (end-found bytes)
     place-other : (b == 0x3F) ≡ false → place_of (codes "?>") (b ∷ bytes) ≡ one_on (place_of (codes "?>") bytes)
     place-other e = ap (λ t. elim (t && begins_with (codes ">") bytes) [ true ↦ Some 0 | false ↦ one_on (place_of (codes "?>") bytes) ]) e
 
-    end-of : (t : Bool) → (b == 0x3F) ≡ t → (end_from false bytes ≡ one_on (place_of (codes "?>") bytes)) × (end_from true bytes ≡ place_of (codes "?>") (0x3F ∷ bytes)) → end_from t bytes ≡ place_of (codes "?>") (b ∷ bytes)
+    end-of : (t : Bool) → (b == 0x3F) ≡ t → (end_from false bytes ≡ one_on (place_of (codes "?>") bytes)) ×
+        (end_from true bytes ≡ place_of (codes "?>") (0x3F ∷ bytes)) → end_from t bytes ≡ place_of (codes "?>") (b ∷ bytes)
     end-of true e rest = rest.1 ∙ ap (λ x. place_of (codes "?>") (x ∷ bytes)) (sym (is-asked b e))
     end-of false e rest = rest.0 ∙ sym (place-other e)
 
@@ -200,7 +209,8 @@ end-found (b ∷ bytes) = by (b == 0x3F) refl (end-found bytes)
     closed true x y e = refl
     closed false x y e = ap one_on e
 
-    by : (t : Bool) → (b == 0x3F) ≡ t → (end_from false bytes ≡ one_on (place_of (codes "?>") bytes)) × (end_from true bytes ≡ place_of (codes "?>") (0x3F ∷ bytes))
+    by : (t : Bool) → (b == 0x3F) ≡ t → (end_from false bytes ≡ one_on (place_of (codes "?>") bytes)) ×
+        (end_from true bytes ≡ place_of (codes "?>") (0x3F ∷ bytes))
         → (end_from false (b ∷ bytes) ≡ one_on (place_of (codes "?>") (b ∷ bytes))) × (end_from true (b ∷ bytes) ≡ place_of (codes "?>") (0x3F ∷ (b ∷ bytes)))
     by t e rest =
         let same : end_from (b == 0x3F) bytes ≡ place_of (codes "?>") (b ∷ bytes) = ap (λ t. end_from t bytes) e ∙ end-of t e rest in
@@ -208,36 +218,48 @@ end-found (b ∷ bytes) = by (b == 0x3F) refl (end-found bytes)
 
 -- inside an instruction
 abbrev an_instruction : Spelling → Bool → Target → Target → Bool → OpenAside
-an_instruction u wrong before target asked = record { spelling = u; has_wrong = wrong; inner = Instruction (record { before = before; target = target; is_asked = asked }) }
+an_instruction u wrong before target asked = record {
+  spelling = u;
+  has_wrong = wrong;
+  inner =
+      Instruction (record { before = before; target = target; is_asked = asked });
+}
 
 -- where it ends, by its end and the bytes before it
 abbrev closes : ℕ → Spelling → Bool → Target → Target → Option ℕ → List ℕ → Beginning
 closes n u wrong before target None bytes = later
 closes n u wrong before target (Some k) bytes =
-    begins_by (ends_with (fault_by (spelling_all u (take k bytes)) (wrong_all u wrong (take k bytes)) (fault_of_target (before_all before target u (take k bytes)))) (n + (k + 1)))
+    begins_by (ends_with (fault_by (spelling_all u (take k bytes)) (wrong_all u wrong (take k bytes))
+    (fault_of_target (before_all before target u (take k bytes)))) (n + (k + 1)))
 
 closes-farther : (n : ℕ) (u : Spelling) (wrong : Bool) (before target : Target) (b : ℕ) (bytes : List ℕ) (x : Option ℕ)
-    → closes (n + 1) (spelling_behind u b) (wrong || is_wrong (ended u b)) target (target_with target (ended_char u b)) x bytes ≡ closes n u wrong before target (one_on x) (b ∷ bytes)
+    → closes (n + 1) (spelling_behind u b) (wrong || is_wrong (ended u b)) target (target_with target (ended_char u b)) x bytes ≡ closes n u wrong before target
+    (one_on x) (b ∷ bytes)
 closes-farther n u wrong before target b bytes None = refl
 closes-farther n u wrong before target b bytes (Some k) =
     let same : (n + 1) + (k + 1) ≡ n + ((1 + k) + 1) = omega arith in
     let one : suc k ≡ 1 + k = omega arith in
-    ap (λ m. begins_by (ends_with (fault_by (spelling_all (spelling_behind u b) (take k bytes)) (wrong_all (spelling_behind u b) (wrong || is_wrong (ended u b)) (take k bytes))
+    ap (λ m. begins_by (ends_with (fault_by (spelling_all (spelling_behind u b) (take k bytes))
+    (wrong_all (spelling_behind u b) (wrong || is_wrong (ended u b)) (take k bytes))
     (fault_of_target (before_all target (target_with target (ended_char u b)) (spelling_behind u b) (take k bytes)))) m)) same
-    ∙ ap (λ j. begins_by (ends_with (fault_by (spelling_all u (take j (b ∷ bytes))) (wrong_all u wrong (take j (b ∷ bytes))) (fault_of_target (before_all before target u (take j (b ∷ bytes))))) (n + ((1 + k) + 1)))) one
+    ∙ ap (λ j. begins_by (ends_with (fault_by (spelling_all u (take j (b ∷ bytes))) (wrong_all u wrong (take j (b ∷ bytes)))
+    (fault_of_target (before_all before target u (take j (b ∷ bytes))))) (n + ((1 + k) + 1)))) one
 
 course-closes : (n : ℕ) (u : Spelling) (wrong : Bool) (before target : Target) (asked : Bool) (bytes : List ℕ)
     → begins_by (course n (an_instruction u wrong before target asked) bytes) ≡ closes n u wrong before target (end_from asked bytes) bytes
 course-closes n u wrong before target asked [] = refl
 course-closes n u wrong before target asked (b ∷ bytes) =
-    by (asked && b == 0x3E) (course-closes (n + 1) (spelling_behind u b) (wrong || is_wrong (ended u b)) target (target_with target (ended_char u b)) (b == 0x3F) bytes)
+    by (asked && b == 0x3E) (course-closes (n + 1) (spelling_behind u b) (wrong || is_wrong (ended u b)) target (target_with target (ended_char u b))
+    (b == 0x3F) bytes)
   where
     by : (t : Bool)
-        → begins_by (course (n + 1) (an_instruction (spelling_behind u b) (wrong || is_wrong (ended u b)) target (target_with target (ended_char u b)) (b == 0x3F)) bytes)
+        → begins_by (course (n + 1) (an_instruction (spelling_behind u b) (wrong || is_wrong (ended u b)) target (target_with target (ended_char u b))
+        (b == 0x3F)) bytes)
         ≡ closes (n + 1) (spelling_behind u b) (wrong || is_wrong (ended u b)) target (target_with target (ended_char u b)) (end_from (b == 0x3F) bytes) bytes
         → begins_by (elim t [
           | true ↦ ends_with (fault_inside (an_instruction u wrong before target asked)) (n + 1)
-          | false ↦ course (n + 1) (an_instruction (spelling_behind u b) (wrong || is_wrong (ended u b)) target (target_with target (ended_char u b)) (b == 0x3F)) bytes
+          | false ↦ course (n + 1) (an_instruction (spelling_behind u b) (wrong || is_wrong (ended u b)) target (target_with target (ended_char u b))
+              (b == 0x3F)) bytes
         ])
         ≡ closes n u wrong before target (elim t [ true ↦ Some 0 | false ↦ one_on (end_from (b == 0x3F) bytes) ]) (b ∷ bytes)
     by true is = refl
@@ -258,7 +280,8 @@ ends-in-question (b ∷ bytes) n e = by (ends-in-question bytes) (b == 0x3F) (be
     here : (n : ℕ) → (b == 0x3F) ≡ true → Some 0 ≡ Some n → take (suc n) (b ∷ bytes) ≡ take n (b ∷ bytes) ++ question
     here n t f = let none : 0 ≡ n = cc f in subst (λ k. take (suc k) (b ∷ bytes) ≡ take k (b ∷ bytes) ++ question) none (ap (λ x. x ∷ []) (is-asked b t))
 
-    there : ((m : ℕ) → place_of (codes "?>") bytes ≡ Some m → take (suc m) bytes ≡ take m bytes ++ question) → (n : ℕ) (x : Option ℕ) → place_of (codes "?>") bytes ≡ x → one_on x ≡ Some n
+    there : ((m : ℕ) → place_of (codes "?>") bytes ≡ Some m → take (suc m) bytes ≡ take m bytes ++ question) → (n : ℕ) (x : Option ℕ) →
+        place_of (codes "?>") bytes ≡ x → one_on x ≡ Some n
         → take (suc n) (b ∷ bytes) ≡ take n (b ∷ bytes) ++ question
     there rest n None p f = absurd (cc f)
     there rest n (Some m) p f =
@@ -274,13 +297,15 @@ ends-in-question (b ∷ bytes) n e = by (ends-in-question bytes) (b == 0x3F) (be
     by rest false u x t p f = there rest n x p f
 
 -- Read byte by byte it is the instruction of the definition, where none may declare.
-pub instruction-course : (bytes : List ℕ) → begins_by (course 2 (asides.begun (Instruction begun)) bytes) ≡ extent_through (codes "?>") 2 bytes (instruction false)
+pub instruction-course : (bytes : List ℕ) → begins_by (course 2 (asides.begun (Instruction begun)) bytes) ≡ extent_through (codes "?>") 2 bytes
+    (instruction false)
 instruction-course bytes =
     course-closes 2 Between false no_target no_target false bytes
     ∙ (ap (λ x. closes 2 Between false no_target no_target x bytes) (end-found bytes).0 ∙ by (place_of (codes "?>") bytes) refl)
   where
     by : (x : Option ℕ) → place_of (codes "?>") bytes ≡ x
-        → closes 2 Between false no_target no_target (one_on x) bytes ≡ (elim x [ None ↦ later | (Some n) ↦ extent (2 + (n + length (codes "?>"))) (take n bytes) (instruction false) ])
+        → closes 2 Between false no_target no_target
+        (one_on x) bytes ≡ (elim x [ None ↦ later | (Some n) ↦ extent (2 + (n + length (codes "?>"))) (take n bytes) (instruction false) ])
     by None e = refl
     by (Some n) e =
         let one : 1 + n ≡ suc n = omega arith in
@@ -294,10 +319,12 @@ instruction-course bytes =
         let stands : Stands front u cs = stands-all [] Between [] front stands-begun in
         let same : 2 + ((1 + n) + 1) ≡ 2 + (n + 2) = omega arith in
         let k = 2 + (n + 2) in
-        ap (λ x. begins_by (ends_with (fault_by (spelling_all Between x) (wrong_all Between false x) (fault_of_target (before_all no_target no_target Between x))) (2 + ((1 + n) + 1)))) is
+        ap (λ x. begins_by (ends_with (fault_by (spelling_all Between x) (wrong_all Between false x)
+        (fault_of_target (before_all no_target no_target Between x))) (2 + ((1 + n) + 1)))) is
         ∙ (ap (λ m. begins_by (ends_with (fault_by u wrong own) m)) same
         ∙ verdict question question-tail inside k (instruction false) u cs wrong own stands (wrong-told Between false front)
         (λ w all.
         let told = characters-told inside w in
-        ap (λ t. begins_by (ends_with (fault_of_target t) k)) (before-last no_target no_target Between inside 0x3F ∙ (target-told no_target Between inside (ap (list_all is_char) told ∙ all) ∙ ap (behind_all no_target) told))
+        ap (λ t. begins_by (ends_with (fault_of_target t) k)) (before-last no_target no_target Between inside 0x3F ∙
+        (target-told no_target Between inside (ap (list_all is_char) told ∙ all) ∙ ap (behind_all no_target) told))
         ∙ instruction-own k inside))

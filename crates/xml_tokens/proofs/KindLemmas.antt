@@ -1,5 +1,6 @@
 -- What begins has never want of memory as its fault.
-use Rattle.std.proofs.Common.{◌≡◌, ℕ, ◌+◌, pred, Bool, true, false, ◌&&◌, ◌==◌, not, List, [], ◌∷◌, length, take, drop, refl, Option, Some, None, Result, Ok, Err, if◌then◌else◌, bytes_eq, chars}
+use Rattle.std.proofs.Common.{◌≡◌, ℕ, ◌+◌, pred, Bool, true, false, ◌&&◌, ◌==◌, not, List, [], ◌∷◌, length, take, drop, refl, Option, Some, None, Result, Ok}
+use Rattle.std.proofs.Common.{Err, if◌then◌else◌, bytes_eq, chars}
 use Rattle.std.specs.Prelude.{codes}
 use Rattle.std.specs.List.{list_all}
 use Rattle.std.specs.Str.{is_utf8}
@@ -13,9 +14,11 @@ use Rattle.xml_tokens.specs.Searches.{begins_with, ends_inside, place_of, TagEnd
 use Rattle.xml_tokens.specs.Encoding as encoding
 use Rattle.xml_tokens.specs.References.{reference_at}
 use Rattle.xml_tokens.specs.WrittenNames.{is_qname, name_at_front}
-use Rattle.xml_tokens.specs.Markup.{Written, Token, a_character, a_start_tag, an_end_tag, an_aside, if_right, comment, section, instruction, target_of, is_declaration, is_target, ends_target}
+use Rattle.xml_tokens.specs.Markup.{Written, Token, a_character, a_start_tag, an_end_tag, an_aside, if_right, comment, section, instruction, target_of}
+use Rattle.xml_tokens.specs.Markup.{is_declaration, is_target, ends_target}
 use Rattle.xml_tokens.specs.Tags.{Inside, tag_inside, with_values, tag_with, start_tag, end_tag, tag}
-use Rattle.xml_tokens.specs.Beginnings.{Beginning, good, bad, later, may_declare, of_length, extent, extent_through, tag_at, comment_or_section_at, markup_at, reference_token, bracket_at, line_end_at, character_token, begins_with_mark, beginning, greatest_tag}
+use Rattle.xml_tokens.specs.Beginnings.{Beginning, good, bad, later, may_declare, of_length, extent, extent_through, tag_at, comment_or_section_at, markup_at}
+use Rattle.xml_tokens.specs.Beginnings.{reference_token, bracket_at, line_end_at, character_token, begins_with_mark, beginning, greatest_tag}
 use Rattle.xml_tokens.proofs.BeginningLemmas.{choice, inside_one, shared, mark_or}
 
 -- every kind but want of memory
@@ -48,7 +51,8 @@ section-read inside = tt
 instruction-read : (may_declare : Bool) (inside : List ℕ) → IsRead (instruction may_declare inside)
 unfolding instruction
 instruction-read may_declare inside =
-    by (bytes_eq (target_of (chars inside)) (codes "xml")) (may_declare && is_declaration (drop 3 inside)) (is_target (target_of (chars inside)) && ends_target (drop (length (target_of (chars inside))) (chars inside)))
+    by (bytes_eq (target_of (chars inside)) (codes "xml")) (may_declare && is_declaration (drop 3 inside))
+    (is_target (target_of (chars inside)) && ends_target (drop (length (target_of (chars inside))) (chars inside)))
   where
     by : (t a b : Bool) → IsRead (if t then if_right a an_aside BadDeclaration else if_right b an_aside BadMarkup)
     by true a b = if-right a an_aside BadDeclaration refl
@@ -57,7 +61,12 @@ instruction-read may_declare inside =
 with-read : (name : List ℕ) (inside : Inside) → IsRead (tag_with name inside)
 with-read name inside = by (with_values inside.attributes)
   where
-    by : (x : Option (List Written)) → IsRead (elim x [ None ↦ Err BadReference | (Some attributes) ↦ Ok (a_start_tag (record { name = name; attributes = attributes; is_empty = inside.is_empty })) ])
+    by : (x : Option (List Written)) →
+        IsRead (elim x [
+          | None ↦ Err BadReference
+          | (Some attributes) ↦ Ok
+              (a_start_tag (record { name = name; attributes = attributes; is_empty = inside.is_empty }))
+        ])
     by None = refl
     by (Some attributes) = tt
 
@@ -65,7 +74,8 @@ start-read : (bytes : List ℕ) → IsRead (start_tag bytes)
 unfolding start_tag
 start-read bytes = by (is_qname (name_at_front bytes)) (tag_inside 0 (drop (length (name_at_front bytes)) bytes))
   where
-    by : (t : Bool) (x : Option Inside) → IsRead (elim t [ false ↦ Err BadMarkup | true ↦ elim x [ None ↦ Err BadMarkup | (Some inside) ↦ tag_with (name_at_front bytes) inside ] ])
+    by : (t : Bool) (x : Option Inside) →
+        IsRead (elim t [ false ↦ Err BadMarkup | true ↦ elim x [ None ↦ Err BadMarkup | (Some inside) ↦ tag_with (name_at_front bytes) inside ] ])
     by false x = refl
     by true None = refl
     by true (Some inside) = with-read (name_at_front bytes) inside
@@ -87,13 +97,15 @@ extent-of : (n : ℕ) (inside : List ℕ) (grammar : List ℕ → Result Token X
 unfolding extent
 extent-of n inside grammar h = by (is_utf8 inside) (list_all is_char (chars inside)) (grammar inside) h
   where
-    by : (t u : Bool) (r : Result Token XmlKind) → IsRead r → OfText (elim t [ false ↦ bad NotUtf8 n | true ↦ elim u [ false ↦ bad BadChar n | true ↦ of_length n r ] ])
+    by : (t u : Bool) (r : Result Token XmlKind) → IsRead r →
+        OfText (elim t [ false ↦ bad NotUtf8 n | true ↦ elim u [ false ↦ bad BadChar n | true ↦ of_length n r ] ])
     by false u r h = refl
     by true false r h = refl
     by true true (Ok token) h = tt
     by true true (Err kind) h = h
 
-through-of : (string : List ℕ) (opening : ℕ) (bytes : List ℕ) (grammar : List ℕ → Result Token XmlKind) → ((inside : List ℕ) → IsRead (grammar inside)) → OfText (extent_through string opening bytes grammar)
+through-of : (string : List ℕ) (opening : ℕ) (bytes : List ℕ) (grammar : List ℕ → Result Token XmlKind) → ((inside : List ℕ) → IsRead (grammar inside)) →
+    OfText (extent_through string opening bytes grammar)
 through-of string opening bytes grammar h = by (place_of string bytes)
   where
     by : (x : Option ℕ) → OfText (elim x [ None ↦ later | (Some n) ↦ extent (opening + (n + length string)) (take n bytes) grammar ])
@@ -122,7 +134,10 @@ markup-of : (p : Position) (bytes : List ℕ) → OfText (markup_at p bytes)
 markup-of p [] = tt
 markup-of p (b ∷ bytes) = by (b == 0x21) (b == 0x3F)
   where
-    by : (t u : Bool) → OfText (elim t [ true ↦ comment_or_section_at bytes | false ↦ elim u [ true ↦ extent_through (codes "?>") 2 bytes (instruction (may_declare p)) | false ↦ tag_at (b ∷ bytes) ] ])
+    by : (t u : Bool) → OfText (elim t [
+      | true ↦ comment_or_section_at bytes
+      | false ↦ elim u [ true ↦ extent_through (codes "?>") 2 bytes (instruction (may_declare p)) | false ↦ tag_at (b ∷ bytes) ]
+    ])
     by true u = opened-of bytes
     by false true = through-of (codes "?>") 2 bytes (instruction (may_declare p)) (instruction-read (may_declare p))
     by false false = tag-of (b ∷ bytes)
@@ -165,7 +180,13 @@ beginning-of-text p ended [] = tt
 beginning-of-text p ended (b ∷ bytes) = by (b == 0x3C) (b == 0x26) (b == 0x5D) (b == 0xD) (begins_with_mark p (b ∷ bytes))
   where
     by : (t1 t2 t3 t4 t5 : Bool) → OfText
-        (elim t1 [ true ↦ markup_at p bytes | false ↦ elim t2 [ true ↦ reference_token (reference_at bytes) | false ↦ elim t3 [ true ↦ bracket_at ended bytes | false ↦ elim t4 [ true ↦ line_end_at ended bytes | false ↦ mark_or t5 b bytes ] ] ] ])
+        (elim t1 [
+          | true ↦ markup_at p bytes
+          | false ↦ elim t2 [
+            | true ↦ reference_token (reference_at bytes)
+            | false ↦ elim t3 [ true ↦ bracket_at ended bytes | false ↦ elim t4 [ true ↦ line_end_at ended bytes | false ↦ mark_or t5 b bytes ] ]
+          ]
+        ])
     by true t2 t3 t4 t5 = markup-of p bytes
     by false true t3 t4 t5 = reference-of (reference_at bytes)
     by false false true t4 t5 = bracket-of ended bytes

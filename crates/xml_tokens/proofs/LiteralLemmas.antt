@@ -16,7 +16,8 @@ literal-ends quote text value rest split =
     ∙ sym (ap (λ t. if t then Some (literal_of (before_first (λ b. b == quote) text) (after_first (λ b. b == quote) text)) else None) split.any))
 
 pub literal-open : (quote : ℕ) (text : List ℕ) → length text ≤ position_or_len (λ b. b == quote) text → None ≡ ended_literal quote text
-literal-open quote text h = sym (ap (λ t. if t then Some (literal_of (before_first (λ b. b == quote) text) (after_first (λ b. b == quote) text)) else None) (none-any (λ b. b == quote) text h))
+literal-open quote text h = sym (ap (λ t. if t then Some (literal_of (before_first (λ b. b == quote) text) (after_first (λ b. b == quote) text)) else None)
+    (none-any (λ b. b == quote) text h))
 
 pub quote-low : (b : ℕ) → is_quote b ≡ true → b < 128
 quote-low b e = grind (arith, nat_tests)

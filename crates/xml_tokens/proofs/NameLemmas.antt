@@ -1,5 +1,6 @@
 -- Names by their bytes and by their characters.
-use Rattle.std.proofs.Common.{◌≡◌, ℕ, ◌<◌, ◌≤◌, nat_eq, nat_lt, Bool, true, false, ◌&&◌, List, [], ◌∷◌, ◌++◌, length, map, refl, sym, ap, ◌∙◌, arith, if◌then◌else◌}
+use Rattle.std.proofs.Common.{◌≡◌, ℕ, ◌<◌, ◌≤◌, nat_eq, nat_lt, Bool, true, false, ◌&&◌, List, [], ◌∷◌, ◌++◌, length, map, refl, sym, ap, ◌∙◌, arith}
+use Rattle.std.proofs.Common.{if◌then◌else◌}
 use Rattle.std.specs.Prelude.{codes, encode_utf8, encode_utf8_all}
 use Rattle.std.specs.Str.{chars, IsUtf8, bytes_eq}
 use Rattle.std.specs.Char.{to_ascii_lowercase}
@@ -19,8 +20,11 @@ by_parts t name prefix local = if t then is_ncname (chars prefix) && is_ncname (
 pub qname-parts : (name prefix local : List ℕ) → IsSplit is_colon name prefix local → is_qname name ≡ (is_ncname (chars prefix) && is_ncname (chars local))
 unfolding is_qname
 qname-parts name prefix local split =
-    let parts : (prefix_of name ≡ prefix) × (local_of name ≡ local) =
-    (ap (λ t. if t then before_first is_colon name else []) split.any ∙ sym split.before, ap (λ t. if t then after_first is_colon name else name) split.any ∙ sym split.after) in
+    let parts : (prefix_of name ≡ prefix) × (local_of name ≡ local) = (
+      ap (λ t. if t then before_first is_colon name else []) split.any ∙ sym split.before,
+      ap (λ t. if t then after_first is_colon name else name) split.any ∙
+          sym split.after,
+    ) in
     ap (λ t. by_parts t name (prefix_of name) (local_of name)) split.any
     ∙ (ap (λ x. is_ncname (chars x) && is_ncname (chars (local_of name))) parts.0 ∙ ap (λ x. is_ncname (chars prefix) && is_ncname (chars x)) parts.1)
 
@@ -41,7 +45,8 @@ differs a b xs ys h g =
     let e : nat_eq a b ≡ false = grind (arith, nat_tests) in
     ap (λ t. t && bytes_eq xs ys) e
 
-high-first : (f : ℕ → ℕ) → KeepsHigh f → (c : ℕ) (xs rest : List ℕ) (b : ℕ) (word : List ℕ) → 128 ≤ c → b < 128 → encode_utf8 c ≡ xs → bytes_eq (map f (xs ++ rest)) (b ∷ word) ≡ false
+high-first : (f : ℕ → ℕ) → KeepsHigh f → (c : ℕ) (xs rest : List ℕ) (b : ℕ) (word : List ℕ) → 128 ≤ c → b < 128 → encode_utf8 c ≡ xs →
+    bytes_eq (map f (xs ++ rest)) (b ∷ word) ≡ false
 high-first f keeps c [] rest b word h g e =
     let long : length (encode_utf8 c) ≡ 0 = ap length e in
     let bound = len_utf8_bounds c in
@@ -79,9 +84,11 @@ word-told f keeps (c ∷ cs) (b ∷ word) low = by (nat_lt c 128) refl (word-tol
     is_low : nat_lt c 128 ≡ true → c < 128
     is_low t = grind (arith, nat_tests)
 
-    by : (t : Bool) → nat_lt c 128 ≡ t → bytes_eq (map f cs) word ≡ bytes_eq (map f (encode_utf8_all cs)) word → bytes_eq (map f (c ∷ cs)) (b ∷ word) ≡ bytes_eq (map f (encode_utf8 c ++ encode_utf8_all cs)) (b ∷ word)
+    by : (t : Bool) → nat_lt c 128 ≡ t → bytes_eq (map f cs) word ≡ bytes_eq (map f (encode_utf8_all cs)) word →
+        bytes_eq (map f (c ∷ cs)) (b ∷ word) ≡ bytes_eq (map f (encode_utf8 c ++ encode_utf8_all cs)) (b ∷ word)
     by true t rest = ap (λ x. nat_eq (f c) b && x) rest ∙ sym (ap (λ xs. bytes_eq (map f (xs ++ encode_utf8_all cs)) (b ∷ word)) (encode_ascii c (is_low t)))
-    by false t rest = differs (f c) b (map f cs) word (keeps c (is_high t)) low.0 ∙ sym (high-first f keeps c (encode_utf8 c) (encode_utf8_all cs) b word (is_high t) low.0 refl)
+    by false t rest = differs (f c) b (map f cs) word (keeps c (is_high t)) low.0 ∙
+        sym (high-first f keeps c (encode_utf8 c) (encode_utf8_all cs) b word (is_high t) low.0 refl)
 
 lower-high : KeepsHigh to_ascii_lowercase
 lower-high c h = grind (arith, nat_tests)
@@ -89,8 +96,10 @@ lower-high c h = grind (arith, nat_tests)
 xml-low : AllLow (codes "xml")
 xml-low = (omega arith, (omega arith, (omega arith, tt)))
 
-pub lower-told : (text : List ℕ) → IsUtf8 text → bytes_eq (map to_ascii_lowercase (chars text)) (codes "xml") ≡ bytes_eq (map to_ascii_lowercase text) (codes "xml")
-lower-told text u = word-told to_ascii_lowercase lower-high (chars text) (codes "xml") xml-low ∙ ap (λ x. bytes_eq (map to_ascii_lowercase x) (codes "xml")) (encodes-chars text u)
+pub lower-told : (text : List ℕ) → IsUtf8 text → bytes_eq (map to_ascii_lowercase (chars text)) (codes "xml") ≡ bytes_eq (map to_ascii_lowercase text)
+    (codes "xml")
+lower-told text u = word-told to_ascii_lowercase lower-high (chars text) (codes "xml") xml-low ∙
+    ap (λ x. bytes_eq (map to_ascii_lowercase x) (codes "xml")) (encodes-chars text u)
 
 same-high : KeepsHigh (λ c. c)
 same-high c h = h
@@ -101,4 +110,5 @@ map-same (x ∷ xs) = ap (λ ys. x ∷ ys) (map-same xs)
 
 pub xml-told : (text : List ℕ) → IsUtf8 text → bytes_eq (chars text) (codes "xml") ≡ bytes_eq text (codes "xml")
 xml-told text u = ap (λ x. bytes_eq x (codes "xml")) (sym (map-same (chars text)))
-    ∙ (word-told (λ c. c) same-high (chars text) (codes "xml") xml-low ∙ ap (λ x. bytes_eq x (codes "xml")) (map-same (encode_utf8_all (chars text)) ∙ encodes-chars text u))
+    ∙ (word-told (λ c. c) same-high (chars text) (codes "xml") xml-low ∙
+    ap (λ x. bytes_eq x (codes "xml")) (map-same (encode_utf8_all (chars text)) ∙ encodes-chars text u))

@@ -1,5 +1,6 @@
 -- What an open comment or instruction begins with further bytes hangs on what is kept of it alone.
-use Rattle.std.proofs.Common.{◌≡◌, ℕ, zero, suc, ◌+◌, ◌==◌, Bool, true, false, not, ◌&&◌, ◌||◌, List, [], ◌∷◌, ◌++◌, length, take, drop, refl, sym, ap, ◌∙◌, arith, if◌then◌else◌, Option, Some, None, option_and_then, take-append-drop, true≢false}
+use Rattle.std.proofs.Common.{◌≡◌, ℕ, zero, suc, ◌+◌, ◌==◌, Bool, true, false, not, ◌&&◌, ◌||◌, List, [], ◌∷◌, ◌++◌, length, take, drop, refl, sym, ap, ◌∙◌}
+use Rattle.std.proofs.Common.{arith, if◌then◌else◌, Option, Some, None, option_and_then, take-append-drop, true≢false}
 use Rattle.std.specs.Prelude.{codes}
 use Rattle.std.specs.Str.{chars, bytes_eq, is_utf8, IsUtf8}
 use Rattle.std.specs.List.{list_all}
@@ -17,7 +18,8 @@ use Rattle.xml_tokens.specs.declared.beginning.Position.{Position}
 use Rattle.xml_tokens.specs.declared.beginning.Position.TheVariants.{AtStart, BehindMark, Farther}
 use Rattle.xml_tokens.specs.Searches.{begins_with, ends_inside, place_of, behind_string}
 use Rattle.xml_tokens.specs.Literals.{begins_with_space, behind_white_space, literal_at}
-use Rattle.xml_tokens.specs.Markup.{an_aside, if_right, comment, instruction, target_of, is_target, ends_target, is_declaration, behind_literal, behind_optional, is_version, is_encoding, is_yes_or_no}
+use Rattle.xml_tokens.specs.Markup.{an_aside, if_right, comment, instruction, target_of, is_target, ends_target, is_declaration, behind_literal}
+use Rattle.xml_tokens.specs.Markup.{behind_optional, is_version, is_encoding, is_yes_or_no}
 use Rattle.xml_tokens.specs.Beginnings.{Beginning, later, may_declare, extent, extent_through, beginning}
 use Rattle.xml_tokens.specs.Comments as comments
 use Rattle.xml_tokens.specs.Instructions as instructions
@@ -64,7 +66,8 @@ front-spelled (c ∷ word) (suc k) [] e = absurd (true≢false (sym e))
 front-spelled (c ∷ word) zero (b ∷ cs) e = absurd (true≢false (sym e))
 front-spelled (c ∷ word) (suc k) (b ∷ cs) e = by (b == c) e (front-spelled word k cs)
   where
-    by : (t : Bool) → (t && bytes_eq (take k cs) word) ≡ true → (bytes_eq (take k cs) word ≡ true → begins_with word cs ≡ true) → (t && begins_with word cs) ≡ true
+    by : (t : Bool) → (t && bytes_eq (take k cs) word) ≡ true → (bytes_eq (take k cs) word ≡ true → begins_with word cs ≡ true) →
+        (t && begins_with word cs) ≡ true
     by true e rest = rest e
     by false e rest = absurd (true≢false (sym e))
 
@@ -94,10 +97,11 @@ no-space (b ∷ r) tail e = or-right (length (b ∷ (r ++ tail)) == 0) (is_white
 
 no-declaration : (r : List ℕ) → begins_with_space r ≡ false → is_declaration r ≡ false
 unfolding is_declaration
-no-declaration r e = ap (λ t. elim (if t then option_and_then (behind_literal is_version) (option_and_then literal_at (behind_string (codes "version") (behind_white_space r))) else None) [
-  | None ↦ false
-  | (Some rest) ↦ list_all is_white_space (behind_optional (codes "standalone") is_yes_or_no (behind_optional (codes "encoding") is_encoding rest))
-]) e
+no-declaration r e = ap (λ t. elim (if t then option_and_then (behind_literal is_version)
+    (option_and_then literal_at (behind_string (codes "version") (behind_white_space r))) else None) [
+      | None ↦ false
+      | (Some rest) ↦ list_all is_white_space (behind_optional (codes "standalone") is_yes_or_no (behind_optional (codes "encoding") is_encoding rest))
+    ]) e
 
 -- An instruction that can't be the declaration is one by the definition as if none might stand there.
 module _ (p : Position) (inside tail all : List ℕ) (parts : all ≡ inside ++ tail) (other : (may_declare p && may_spell (codes "xml") all) ≡ false) where
@@ -116,8 +120,10 @@ module _ (p : Position) (inside tail all : List ℕ) (parts : all ≡ inside ++ 
   undeclared u = by (bytes_eq (target_of (chars inside)) (codes "xml")) refl
     where
       by : (t : Bool) → bytes_eq (target_of (chars inside)) (codes "xml") ≡ t
-          → (if t then if_right (may_declare p && is_declaration (drop 3 inside)) an_aside BadDeclaration else if_right (is_target (target_of (chars inside)) && ends_target (drop (length (target_of (chars inside))) (chars inside))) an_aside BadMarkup)
-          ≡ (if t then if_right false an_aside BadDeclaration else if_right (is_target (target_of (chars inside)) && ends_target (drop (length (target_of (chars inside))) (chars inside))) an_aside BadMarkup)
+          → (if t then if_right (may_declare p && is_declaration (drop 3 inside)) an_aside BadDeclaration else if_right
+          (is_target (target_of (chars inside)) && ends_target (drop (length (target_of (chars inside))) (chars inside))) an_aside BadMarkup)
+          ≡ (if t then if_right false an_aside BadDeclaration else if_right
+          (is_target (target_of (chars inside)) && ends_target (drop (length (target_of (chars inside))) (chars inside))) an_aside BadMarkup)
       by true e = ap (λ t. if_right t an_aside BadDeclaration) (ahead p other (target-xml inside u e))
       by false e = refl
 
@@ -125,7 +131,8 @@ module _ (p : Position) (inside tail all : List ℕ) (parts : all ≡ inside ++ 
   unfolding extent
   undeclared-extent n = by (is_utf8 inside) refl
     where
-      by : (t : Bool) → is_utf8 inside ≡ t → shown n t (list_all is_char (chars inside)) (instruction (may_declare p) inside) ≡ shown n t (list_all is_char (chars inside)) (instruction false inside)
+      by : (t : Bool) → is_utf8 inside ≡ t → shown n t (list_all is_char (chars inside)) (instruction (may_declare p) inside) ≡ shown n t
+          (list_all is_char (chars inside)) (instruction false inside)
       by true e = ap (shown n true (list_all is_char (chars inside))) (undeclared (IsUtf8-from_is_utf8 inside e))
       by false e = refl
 
@@ -171,15 +178,18 @@ comment-grows : (p : Position) (inside : List ℕ) → open_aside p (opens_comme
 unfolding open_aside
 comment-grows p inside = refl
 
-instruction-begins : (p : Position) (e : Bool) (inside : List ℕ) → beginning p e (opens_instruction inside) ≡ extent_through (codes "?>") 2 inside (instruction (may_declare p))
+instruction-begins : (p : Position) (e : Bool) (inside : List ℕ) → beginning p e (opens_instruction inside) ≡ extent_through (codes "?>") 2 inside
+    (instruction (may_declare p))
 unfolding beginning
 instruction-begins p e inside = refl
 
-instruction-grows : (p : Position) (inside : List ℕ) → may_be_declaration p (opens_instruction inside) ≡ false → open_aside p (opens_instruction inside) ≡ if_open (course 2 (begun (Instruction instructions.begun)) inside)
+instruction-grows : (p : Position) (inside : List ℕ) → may_be_declaration p (opens_instruction inside) ≡ false →
+    open_aside p (opens_instruction inside) ≡ if_open (course 2 (begun (Instruction instructions.begun)) inside)
 unfolding open_aside
 instruction-grows p inside e = ap (λ t. elim (not t) [ true ↦ if_open (course 2 (begun (Instruction instructions.begun)) inside) | false ↦ None ]) e
 
-open-comment : (p : Position) (bytes : List ℕ) (aside : OpenAside) → begins_with (codes "<!--") bytes ≡ true → if_open (course 4 (begun (Comment comments.begun)) (drop 4 bytes)) ≡ Some aside → IsOpen p bytes aside
+open-comment : (p : Position) (bytes : List ℕ) (aside : OpenAside) → begins_with (codes "<!--") bytes ≡ true →
+    if_open (course 4 (begun (Comment comments.begun)) (drop 4 bytes)) ≡ Some aside → IsOpen p bytes aside
 open-comment p bytes aside t e =
     let inside = drop 4 bytes in
     let is : bytes ≡ opens_comment inside = sym (take-append-drop 4 bytes) ∙ ap (λ x. x ++ inside) (begins-front (codes "<!--") bytes t) in
@@ -200,7 +210,8 @@ open-instruction : (p : Position) (bytes : List ℕ) (aside : OpenAside) → beg
 open-instruction p bytes aside t none e =
     let inside = drop 2 bytes in
     let is : bytes ≡ opens_instruction inside = sym (take-append-drop 2 bytes) ∙ ap (λ x. x ++ inside) (begins-front (codes "<?") bytes t) in
-    let other : (more : List ℕ) → may_be_declaration p (opens_instruction (inside ++ more)) ≡ false = λ more. ap (λ x. may_be_declaration p (x ++ more)) (sym is) ∙ not-declared p bytes more none in
+    let other : (more : List ℕ) → may_be_declaration p (opens_instruction (inside ++ more)) ≡ false =
+    λ more. ap (λ x. may_be_declaration p (x ++ more)) (sym is) ∙ not-declared p bytes more none in
     record {
       came = 2;
       inner = Instruction instructions.begun;
@@ -234,7 +245,8 @@ open-is p bytes aside e = by (begins_with (codes "<!--") bytes) refl (begins_wit
     by false t false v f = absurd (cc f)
 
 module _ (p : Position) (bytes more : List ℕ) (aside : OpenAside) (is : open_aside p bytes ≡ Some aside) where
-  leads-on : course (open-is p bytes aside is).came (begun (open-is p bytes aside is).inner) ((open-is p bytes aside is).inside ++ more) ≡ course (length bytes) aside more
+  leads-on : course (open-is p bytes aside is).came (begun (open-is p bytes aside is).inner) ((open-is p bytes aside is).inside ++ more) ≡ course
+      (length bytes) aside more
   leads-on =
       let o = open-is p bytes aside is in
       course-append o.came (begun o.inner) o.inside more ∙ (ap (λ x. going_on x (o.came + length o.inside) more) o.leads ∙ ap (λ k. course k aside more) o.long)
@@ -254,25 +266,30 @@ by_tests t u bytes = elim t [
   | false ↦ elim u [ true ↦ if_open (course 2 (begun (Instruction instructions.begun)) (drop 2 bytes)) | false ↦ None ]
 ]
 
-by-tests : (p : Position) (bytes : List ℕ) (t u : Bool) → begins_with (codes "<!--") bytes ≡ t → (begins_with (codes "<?") bytes && not (may_be_declaration p bytes)) ≡ u → open_aside p bytes ≡ by_tests t u bytes
+by-tests : (p : Position) (bytes : List ℕ) (t u : Bool) → begins_with (codes "<!--") bytes ≡ t →
+    (begins_with (codes "<?") bytes && not (may_be_declaration p bytes)) ≡ u → open_aside p bytes ≡ by_tests t u bytes
 unfolding open_aside
 by-tests p bytes t u e f = λ i. by_tests (e i) (f i) bytes
 
-pub not-open : (p : Position) (bytes : List ℕ) → begins_with (codes "<!--") bytes ≡ false → (begins_with (codes "<?") bytes && not (may_be_declaration p bytes)) ≡ false → open_aside p bytes ≡ None
+pub not-open : (p : Position) (bytes : List ℕ) → begins_with (codes "<!--") bytes ≡ false →
+    (begins_with (codes "<?") bytes && not (may_be_declaration p bytes)) ≡ false → open_aside p bytes ≡ None
 not-open p bytes e f = by-tests p bytes false false e f
 
 -- what is begun, as the code has it
-begun-as : (position : ℕ) (bytes behind : List ℕ) (inner other : Inner) (found : Option OpenAside) (k : ℕ) → inner ≡ other → behind ≡ drop k bytes → found ≡ if_open (course position (begun inner) behind)
+begun-as : (position : ℕ) (bytes behind : List ℕ) (inner other : Inner) (found : Option OpenAside) (k : ℕ) → inner ≡ other → behind ≡ drop k bytes →
+    found ≡ if_open (course position (begun inner) behind)
     → if_open (course position (begun other) (drop k bytes)) ≡ found
 begun-as position bytes behind inner other found k same is opened = sym (opened ∙ (λ i. if_open (course position (begun (same i)) (is i))))
 
-pub comment-by : (p : Position) (bytes behind : List ℕ) (inner : InComment) (found : Option OpenAside) → begins_with (codes "<!--") bytes ≡ true → inner ≡ comments.begun → behind ≡ drop 4 bytes
+pub comment-by : (p : Position) (bytes behind : List ℕ) (inner : InComment) (found : Option OpenAside) → begins_with (codes "<!--") bytes ≡ true →
+    inner ≡ comments.begun → behind ≡ drop 4 bytes
     → found ≡ if_open (course 4 (begun (Comment inner)) behind) → open_aside p bytes ≡ found
 comment-by p bytes behind inner found e same is opened =
     by-tests p bytes true (begins_with (codes "<?") bytes && not (may_be_declaration p bytes)) e refl
     ∙ begun-as 4 bytes behind (Comment inner) (Comment comments.begun) found 4 (ap Comment same) is opened
 
-pub instruction-by : (p : Position) (bytes behind : List ℕ) (inner : InInstruction) (found : Option OpenAside) → begins_with (codes "<!--") bytes ≡ false → (begins_with (codes "<?") bytes && not (may_be_declaration p bytes)) ≡ true
+pub instruction-by : (p : Position) (bytes behind : List ℕ) (inner : InInstruction) (found : Option OpenAside) → begins_with (codes "<!--") bytes ≡ false →
+    (begins_with (codes "<?") bytes && not (may_be_declaration p bytes)) ≡ true
     → inner ≡ instructions.begun → behind ≡ drop 2 bytes → found ≡ if_open (course 2 (begun (Instruction inner)) behind) → open_aside p bytes ≡ found
 instruction-by p bytes behind inner found e f same is opened =
     by-tests p bytes false true e f ∙ begun-as 2 bytes behind (Instruction inner) (Instruction instructions.begun) found 2 (ap Instruction same) is opened

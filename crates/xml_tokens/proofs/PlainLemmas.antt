@@ -1,5 +1,6 @@
 -- Runs of plain characters.
-use Rattle.std.proofs.Common.{◌≡◌, ℕ, ◌<◌, ◌≤◌, nat_lt, Bool, true, false, not, ◌||◌, ◌&&◌, List, [], ◌∷◌, ◌++◌, length, take, drop, refl, sym, ap, ◌∙◌, arith, true≢false, cond, suc, ◌+◌, Some}
+use Rattle.std.proofs.Common.{◌≡◌, ℕ, ◌<◌, ◌≤◌, nat_lt, Bool, true, false, not, ◌||◌, ◌&&◌, List, [], ◌∷◌, ◌++◌, length, take, drop, refl, sym, ap, ◌∙◌, arith}
+use Rattle.std.proofs.Common.{true≢false, cond, suc, ◌+◌, Some}
 use Rattle.std.specs.Prelude.{encode_utf8, encode_utf8_all}
 use Rattle.std.specs.Str.{chars, IsUtf8}
 use Rattle.std.specs.List.{list_all, list_any, position, position_or_len}
@@ -18,10 +19,13 @@ front-of bytes front n h e =
     sym (ap (λ x. x ++ drop (length front) bytes) e ∙ (ap (λ k. take n bytes ++ drop k bytes) long ∙ take-append-drop n bytes))
 
 -- a front of a front
-pub front-front : (bytes outer inner : List ℕ) → bytes ≡ outer ++ drop (length outer) bytes → outer ≡ inner ++ drop (length inner) outer → bytes ≡ inner ++ drop (length inner) bytes
+pub front-front : (bytes outer inner : List ℕ) → bytes ≡ outer ++ drop (length outer) bytes → outer ≡ inner ++ drop (length inner) outer → bytes ≡ inner ++
+    drop (length inner) bytes
 front-front bytes outer inner e f =
-    let whole : bytes ≡ inner ++ (drop (length inner) outer ++ drop (length outer) bytes) = e ∙ (ap (λ x. x ++ drop (length outer) bytes) f ∙ append_assoc inner (drop (length inner) outer) (drop (length outer) bytes)) in
-    whole ∙ ap (λ x. inner ++ x) (sym (ap (drop (length inner)) whole ∙ drop_at inner (drop (length inner) outer ++ drop (length outer) bytes) (length inner) refl))
+    let whole : bytes ≡ inner ++ (drop (length inner) outer ++ drop (length outer) bytes) = e ∙
+    (ap (λ x. x ++ drop (length outer) bytes) f ∙ append_assoc inner (drop (length inner) outer) (drop (length outer) bytes)) in
+    whole ∙ ap (λ x. inner ++ x) (sym (ap (drop (length inner)) whole ∙
+    drop_at inner (drop (length inner) outer ++ drop (length outer) bytes) (length inner) refl))
 
 or-right : (t u : Bool) → (t || u) ≡ false → (t ≡ false) × (u ≡ false)
 or-right false u e = (refl, e)
@@ -42,7 +46,8 @@ pub before-none : (bytes : List ℕ) → list_any ends_run (take (position_or_le
 before-none [] = refl
 before-none (b ∷ bytes) = by (ends_run b) refl (before-none bytes)
   where
-    by : (t : Bool) → ends_run b ≡ t → list_any ends_run (take (position_or_len ends_run bytes) bytes) ≡ false → list_any ends_run (take (cond (not t) (1 + position_or_len ends_run bytes) 0) (b ∷ bytes)) ≡ false
+    by : (t : Bool) → ends_run b ≡ t → list_any ends_run (take (position_or_len ends_run bytes) bytes) ≡ false →
+        list_any ends_run (take (cond (not t) (1 + position_or_len ends_run bytes) 0) (b ∷ bytes)) ≡ false
     by true e rest = refl
     by false e rest =
         let one : 1 + position_or_len ends_run bytes ≡ suc (position_or_len ends_run bytes) = omega arith in
@@ -59,7 +64,8 @@ plain-encoded [] h e = refl
 plain-encoded (c ∷ cs) h e =
     let chars_are = and-both (is_char c) (list_all is_char cs) h in
     let parts = any-front (encode_utf8 c) (encode_utf8_all cs) e in
-    ap (λ t. t && list_all is_plain cs) (ap (λ t. t && not (ends_run c)) chars_are.0 ∙ ap not (by (nat_lt c 128) refl parts.0)) ∙ plain-encoded cs chars_are.1 parts.1
+    ap (λ t. t && list_all is_plain cs) (ap (λ t. t && not (ends_run c)) chars_are.0 ∙ ap not (by (nat_lt c 128) refl parts.0)) ∙
+    plain-encoded cs chars_are.1 parts.1
   where
     is_high : nat_lt c 128 ≡ false → 128 ≤ c
     is_high t = grind (arith, nat_tests)
@@ -77,5 +83,6 @@ plain-encoded (c ∷ cs) h e =
 pub plain-told : (text : List ℕ) → IsUtf8 text → list_all is_char (chars text) ≡ true → list_any ends_run text ≡ false → list_all is_plain (chars text) ≡ true
 plain-told text u h e = plain-encoded (chars text) h (ap (list_any ends_run) (encodes-chars text u) ∙ e)
 
-pub plain-front : (outer text : List ℕ) → IsUtf8 text → outer ≡ text ++ drop (length text) outer → list_any ends_run outer ≡ false → list_all is_char (chars text) ≡ true → list_all is_plain (chars text) ≡ true
+pub plain-front : (outer text : List ℕ) → IsUtf8 text → outer ≡ text ++ drop (length text) outer → list_any ends_run outer ≡ false →
+    list_all is_char (chars text) ≡ true → list_all is_plain (chars text) ≡ true
 plain-front outer text u f e h = plain-told text u h (any-front text (drop (length text) outer) (ap (list_any ends_run) (sym f) ∙ e)).0

@@ -1,5 +1,6 @@
 -- Tags that are a name of ASCII and nothing else.
-use Rattle.std.proofs.Common.{◌≡◌, ℕ, zero, suc, ◌+◌, ◌-◌, ◌<◌, ◌≤◌, ◌==◌, nat_lt, Bool, true, false, not, ◌&&◌, ◌||◌, List, [], ◌∷◌, ◌++◌, length, take, drop, get_or, refl, sym, ap, ◌∙◌, arith, subst, Option, Some, None, Ok, cond, true≢false, if◌then◌else◌}
+use Rattle.std.proofs.Common.{◌≡◌, ℕ, zero, suc, ◌+◌, ◌-◌, ◌<◌, ◌≤◌, ◌==◌, nat_lt, Bool, true, false, not, ◌&&◌, ◌||◌, List, [], ◌∷◌, ◌++◌, length, take, drop}
+use Rattle.std.proofs.Common.{get_or, refl, sym, ap, ◌∙◌, arith, subst, Option, Some, None, Ok, cond, true≢false, if◌then◌else◌}
 use Rattle.std.specs.Str.{chars, IsAscii, is_utf8}
 use Rattle.std.specs.List.{list_all, position, position_or_len, range_with_len}
 use Rattle.std.proofs.lemmas.Bool.{not-true, eqb-true}
@@ -60,7 +61,8 @@ mild-at b h = by (is_mild_name_char b) refl
     by true e = refl
     by false e =
         let same : 0 + b ≡ b = omega arith in
-        absurd (true≢false (sym all-mild ∙ list_all_at is_mild_name_char (range_with_len 0 128) b 0 inside (ap is_mild_name_char (get_or-range_with_len 0 128 b 0 h ∙ same) ∙ e)))
+        absurd (true≢false (sym all-mild ∙ list_all_at is_mild_name_char (range_with_len 0 128) b 0 inside
+        (ap is_mild_name_char (get_or-range_with_len 0 128 b 0 h ∙ same) ∙ e)))
 
 low : (b : ℕ) → nat_lt b 128 ≡ true → b < 128
 low b h = grind (arith, nat_tests)
@@ -109,7 +111,8 @@ place-behind p (x ∷ xs) rest h e =
 pub rest-of : (bytes : List ℕ) → take (length bytes - 1) (drop 1 bytes) ≡ drop 1 bytes
 rest-of bytes = take_all (length bytes - 1) (drop 1 bytes) (omega (arith, length-drop 1 bytes))
 
-pub ncname-at : (bytes : List ℕ) (end : ℕ) → 1 ≤ length bytes → is_plain_name_start (get_or bytes 0 0) ≡ true → Some end ≡ position (λ b. not (is_plain_name_char b)) (drop 1 bytes) → is_plain_ncname (take (1 + end) bytes) ≡ true
+pub ncname-at : (bytes : List ℕ) (end : ℕ) → 1 ≤ length bytes → is_plain_name_start (get_or bytes 0 0) ≡ true →
+    Some end ≡ position (λ b. not (is_plain_name_char b)) (drop 1 bytes) → is_plain_ncname (take (1 + end) bytes) ≡ true
 ncname-at [] end h s e = absurd (omega arith)
 ncname-at (b ∷ bytes) end h s e =
     let one : 1 + end ≡ suc end = omega arith in
@@ -121,7 +124,8 @@ ncname-at (b ∷ bytes) end h s e =
 take-two : (bytes : List ℕ) (n m : ℕ) → n ≤ length bytes → take (n + (1 + m)) bytes ≡ take n bytes ++ take (1 + m) (drop n bytes)
 take-two bytes zero m h = let e : 0 + (1 + m) ≡ 1 + m = omega arith in ap (λ k. take k bytes) e
 take-two [] (suc n) m h = absurd (omega arith)
-take-two (b ∷ bytes) (suc n) m h = let e : suc n + (1 + m) ≡ suc (n + (1 + m)) = omega arith in ap (λ k. take k (b ∷ bytes)) e ∙ ap (λ xs. b ∷ xs) (take-two bytes n m (omega arith))
+take-two (b ∷ bytes) (suc n) m h = let e : suc n + (1 + m) ≡ suc (n + (1 + m)) = omega arith in ap (λ k. take k (b ∷ bytes)) e ∙
+    ap (λ xs. b ∷ xs) (take-two bytes n m (omega arith))
 
 take-one : (xs : List ℕ) (m : ℕ) → 1 ≤ length xs → get_or xs 0 0 ≡ 0x3A → take (1 + m) xs ≡ 0x3A ∷ take m (drop 1 xs)
 take-one [] m h e = absurd (omega arith)
@@ -130,7 +134,8 @@ take-one (x ∷ xs) m h e = let one : 1 + m ≡ suc m = omega arith in ap (λ k.
 pub qname-at : (bytes rest : List ℕ) (n m : ℕ) → n ≤ length bytes → rest ≡ drop n bytes → 1 ≤ length rest → get_or rest 0 0 ≡ 0x3A
     → is_plain_ncname (take n bytes) ≡ true → is_plain_ncname (take m (take (length rest - 1) (drop 1 rest))) ≡ true → IsPlainName (take (n + (1 + m)) bytes)
 qname-at bytes rest n m h e l c p q =
-    subst IsPlainName (sym (take-two bytes n m h ∙ ap (λ xs. take n bytes ++ xs) (ap (take (1 + m)) (sym e) ∙ take-one rest m l c))) (plain_prefixed (take n bytes) (take m (drop 1 rest)) p (ap (λ xs. is_plain_ncname (take m xs)) (sym (rest-of rest)) ∙ q))
+    subst IsPlainName (sym (take-two bytes n m h ∙ ap (λ xs. take n bytes ++ xs) (ap (take (1 + m)) (sym e) ∙ take-one rest m l c)))
+    (plain_prefixed (take n bytes) (take m (drop 1 rest)) p (ap (λ xs. is_plain_ncname (take m xs)) (sym (rest-of rest)) ∙ q))
 
 -- the bytes of an NCName
 ncname-mild : (name : List ℕ) → is_plain_ncname name ≡ true → list_all is_mild name ≡ true
@@ -161,18 +166,21 @@ name-passes name (plain_prefixed prefix local h g) = joined passes prefix (0x3A 
 
 name-stays : (name : List ℕ) → IsPlainName name → list_all stays name ≡ true
 name-stays name (plain_local same h) = ncname-stays name h
-name-stays name (plain_prefixed prefix local h g) = joined stays prefix (0x3A ∷ local) (ncname-stays prefix h) (ap (λ t. t && list_all stays local) colon-stays ∙ ncname-stays local g)
+name-stays name (plain_prefixed prefix local h g) = joined stays prefix (0x3A ∷ local) (ncname-stays prefix h) (ap (λ t. t && list_all stays local) colon-stays
+    ∙ ncname-stays local g)
 
 name-right : (name : List ℕ) → IsPlainName name → is_qname name ≡ true
 name-right name (plain_local same h) =
-    let none : position_or_len is_colon name ≡ length name = ap (position_or_len is_colon) (sym (append-nil name)) ∙ place-behind is_colon name [] (ncname-no-colon name h) refl in
+    let none : position_or_len is_colon name ≡ length name = ap (position_or_len is_colon) (sym (append-nil name)) ∙
+    place-behind is_colon name [] (ncname-no-colon name h) refl in
     qname-whole name (omega (arith, none)) ∙ plain-ncname-of name h
 name-right name (plain_prefixed prefix local h g) =
     let whole = prefix ++ (0x3A ∷ local) in
     let place : position_or_len is_colon whole ≡ length prefix = place-behind is_colon prefix (0x3A ∷ local) (ncname-no-colon prefix h) refl in
     let long : length whole ≡ length prefix + suc (length local) = length-append prefix (0x3A ∷ local) in
     let behind_colon : drop (length prefix + 1) whole ≡ local =
-    ap (drop (length prefix + 1)) (sym (append_assoc prefix (0x3A ∷ []) local)) ∙ drop_at (prefix ++ (0x3A ∷ [])) local (length prefix + 1) (length-append prefix (0x3A ∷ [])) in
+    ap (drop (length prefix + 1)) (sym (append_assoc prefix (0x3A ∷ []) local)) ∙
+    drop_at (prefix ++ (0x3A ∷ [])) local (length prefix + 1) (length-append prefix (0x3A ∷ [])) in
     qname-parts whole prefix local (record {
       any = some-any is_colon whole (omega (arith, place, long));
       before = sym (ap (λ n. take n whole) place ∙ take-append_seam prefix (0x3A ∷ local));
@@ -209,7 +217,8 @@ extent-of n xs token h e =
     ap (λ t. elim t [ false ↦ bad NotUtf8 n | true ↦ elim (list_all is_char (chars xs)) [ false ↦ bad BadChar n | true ↦ of_length n (tag xs) ] ]) utf8
     ∙ (ap (λ t. elim t [ false ↦ bad BadChar n | true ↦ of_length n (tag xs) ]) (chars-of xs h) ∙ ap (of_length n) e)
 
-tag-by : (xs rest : List ℕ) (token : Token) → list_all passes xs ≡ true → length xs < 262143 → tag xs ≡ Ok token → tag_at (xs ++ (0x3E ∷ rest)) ≡ good token (length xs + 2)
+tag-by : (xs rest : List ℕ) (token : Token) → list_all passes xs ≡ true → length xs < 262143 → tag xs ≡ Ok token →
+    tag_at (xs ++ (0x3E ∷ rest)) ≡ good token (length xs + 2)
 tag-by xs rest token h l e =
     ap (λ x. tagged x (xs ++ (0x3E ∷ rest))) (end-of xs rest 262143 h l)
     ∙ (ap (λ inside. extent (length xs + 2) inside tag) (take-append_seam xs (0x3E ∷ rest)) ∙ extent-of (length xs + 2) xs token h e)
@@ -219,7 +228,8 @@ tag-by xs rest token h l e =
 front-is : (name rest : List ℕ) → list_all stays name ≡ true → position_or_len ends_name rest ≡ 0 → name_at_front (name ++ rest) ≡ name
 front-is name rest h e = ap (λ n. take n (name ++ rest)) (place-behind ends_name name rest h e) ∙ take-append_seam name rest
 
-starts-with : (name rest : List ℕ) (x : Option Inside) → IsPlainName name → position_or_len ends_name rest ≡ 0 → tag_inside 0 rest ≡ x → start_tag (name ++ rest) ≡ tag_lemmas.started true name x
+starts-with : (name rest : List ℕ) (x : Option Inside) → IsPlainName name → position_or_len ends_name rest ≡ 0 → tag_inside 0 rest ≡ x →
+    start_tag (name ++ rest) ≡ tag_lemmas.started true name x
 unfolding start_tag
 starts-with name rest x plain e f =
     let front = front-is name rest (name-stays name plain) e in
@@ -238,7 +248,8 @@ no-slash b h = by (is_white_space b) (b == 0x3D) (b == 0x2F) h
 is-start : (name rest : List ℕ) → IsPlainName name → tag (name ++ rest) ≡ start_tag (name ++ rest)
 is-start [] rest plain = absurd (true≢false (sym (name-right [] plain) ∙ tag_lemmas.no-name))
 is-start (b ∷ name) rest plain =
-    ap (λ t. elim t [ true ↦ end_tag (name ++ rest) | false ↦ start_tag (b ∷ (name ++ rest)) ]) (no-slash b (both (stays b) (list_all stays name) (name-stays (b ∷ name) plain)).0)
+    ap (λ t. elim t [ true ↦ end_tag (name ++ rest) | false ↦ start_tag (b ∷ (name ++ rest)) ])
+    (no-slash b (both (stays b) (list_all stays name) (name-stays (b ∷ name) plain)).0)
 
 slash-stops : position_or_len ends_name (0x2F ∷ []) ≡ 0
 unfolding is_white_space
@@ -293,7 +304,8 @@ empty-shown bytes name rest e plain l h =
     let sum : length inside + 2 ≡ length name + 3 = omega (arith, long) in
     let token = a_start_tag (record { name = name; attributes = []; is_empty = true }) in
     ap tag_at (e ∙ (ap (λ r. name ++ r) (begins-two rest h) ∙ sym (append_assoc name (0x2F ∷ []) (0x3E ∷ drop 2 rest))))
-    ∙ (tag-by inside (drop 2 rest) token (joined passes name (0x2F ∷ []) (name-passes name plain) refl) (omega (arith, long)) (tag-empty name plain) ∙ ap (good token) sum)
+    ∙ (tag-by inside (drop 2 rest) token (joined passes name (0x2F ∷ []) (name-passes name plain) refl) (omega (arith, long)) (tag-empty name plain) ∙
+    ap (good token) sum)
 
 pub end-shown : (bytes name rest : List ℕ) → bytes ≡ name ++ rest → IsPlainName name → length name < 1000 → begins_with (0x3E ∷ []) rest ≡ true
     → tag_at (0x2F ∷ bytes) ≡ good (an_end_tag name) (length name + 3)

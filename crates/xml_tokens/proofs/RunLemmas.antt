@@ -35,7 +35,8 @@ elim-false t x y h = ap (λ t. elim t [ true ↦ x | false ↦ y ]) h
 elim-true : {A : Type 0} (t : Bool) (x y : A) → t ≡ true → (elim t [ true ↦ x | false ↦ y ]) ≡ x
 elim-true t x y h = ap (λ t. elim t [ true ↦ x | false ↦ y ]) h
 
-begins-plain : (p : Position) (ended : Bool) (first : ℕ) (more : List ℕ) (c n : ℕ) → is_start p ≡ false → ¬ (first ≡ 0x3C) → ¬ (first ≡ 0x26) → ¬ (first ≡ 0x5D) → ¬ (first ≡ 0xD)
+begins-plain : (p : Position) (ended : Bool) (first : ℕ) (more : List ℕ) (c n : ℕ) → is_start p ≡ false → ¬ (first ≡ 0x3C) → ¬ (first ≡ 0x26) → ¬ (first ≡ 0x5D)
+    → ¬ (first ≡ 0xD)
     → character_at first more ≡ begun.Character c n → is_char c ≡ true → beginning p ended (first ∷ more) ≡ good (a_character c) n
 unfolding beginning
 begins-plain p ended first more c n s a b d e reads char =

@@ -1,9 +1,11 @@
 -- What is found at a front of the bytes stays where the bytes go on, and what isn't found yet ends no earlier than they
 -- do.
-use Rattle.std.proofs.Common.{◌≡◌, ℕ, zero, suc, ◌+◌, ◌-◌, ◌*◌, ◌<◌, ◌≤◌, ◌==◌, Bool, true, false, ◌&&◌, nat_lt, List, [], ◌∷◌, ◌++◌, length, refl, sym, ap, ◌∙◌, arith, Option, Some, None, option_map, if◌then◌else◌, subst, true≢false}
+use Rattle.std.proofs.Common.{◌≡◌, ℕ, zero, suc, ◌+◌, ◌-◌, ◌*◌, ◌<◌, ◌≤◌, ◌==◌, Bool, true, false, ◌&&◌, nat_lt, List, [], ◌∷◌, ◌++◌, length, refl, sym, ap}
+use Rattle.std.proofs.Common.{◌∙◌, arith, Option, Some, None, option_map, if◌then◌else◌, subst, true≢false}
 use Rattle.inv_base.specs.Characters.{is_within}
 use Rattle.xml_tokens.specs.declared.encoding.Begun.{Begun}
-use Rattle.xml_tokens.specs.Searches.{begins_with, ends_inside, shared_front, place_of, TagEnd, behind, none_within, none_yet, one_farther, quote_behind, ends_tag, tag_end}
+use Rattle.xml_tokens.specs.Searches.{begins_with, ends_inside, shared_front, place_of, TagEnd, behind, none_within, none_yet, one_farther, quote_behind}
+use Rattle.xml_tokens.specs.Searches.{ends_tag, tag_end}
 use Rattle.xml_tokens.specs.Encoding.{continued, behind_lead, character_at}
 use Rattle.xml_tokens.specs.declared.encoding.Begun.TheVariants.{Character, Broken, Unfinished}
 
@@ -30,18 +32,22 @@ continued-from zero low high c n bytes = omega arith
 continued-from (suc more) low high c n [] = tt
 continued-from (suc more) low high c n (b ∷ bytes) = by (is_within low high b) (continued-from more 0x80 0xBF (c * 64 + (b - 0x80)) (n + 1) bytes)
   where
-    by : (t : Bool) → BegunFrom (n + 1) (continued more 0x80 0xBF (c * 64 + (b - 0x80)) (n + 1) bytes) → BegunFrom n (if t then continued more 0x80 0xBF (c * 64 + (b - 0x80)) (n + 1) bytes else Broken (n + 1))
+    by : (t : Bool) → BegunFrom (n + 1) (continued more 0x80 0xBF (c * 64 + (b - 0x80)) (n + 1) bytes) →
+        BegunFrom n (if t then continued more 0x80 0xBF (c * 64 + (b - 0x80)) (n + 1) bytes else Broken (n + 1))
     by true f = begun_weaker n (n + 1) (omega arith) (continued more 0x80 0xBF (c * 64 + (b - 0x80)) (n + 1) bytes) f
     by false f = omega arith
 
 continued-stays : (more low high c n : ℕ) (a b : List ℕ) → BegunStays (n + length a) (continued more low high c n a) (continued more low high c n (a ++ b))
 continued-stays zero low high c n a b = same (n + length a) (Character c n)
 continued-stays (suc more) low high c n [] b =
-    goes_on (n + 0) (continued (suc more) low high c n b) (begun_weaker (n + 0) n (omega arith) (continued (suc more) low high c n b) (continued-from (suc more) low high c n b))
+    goes_on (n + 0) (continued (suc more) low high c n b)
+    (begun_weaker (n + 0) n (omega arith) (continued (suc more) low high c n b) (continued-from (suc more) low high c n b))
 continued-stays (suc more) low high c n (d ∷ a) b =
     let e : n + 1 + length a ≡ n + length (d ∷ a) = omega arith in
-    begun_if (n + length (d ∷ a)) (is_within low high d) (continued more 0x80 0xBF (c * 64 + (d - 0x80)) (n + 1) a) (continued more 0x80 0xBF (c * 64 + (d - 0x80)) (n + 1) (a ++ b)) (Broken (n + 1)) (Broken (n + 1))
-    (subst (λ k. BegunStays k (continued more 0x80 0xBF (c * 64 + (d - 0x80)) (n + 1) a) (continued more 0x80 0xBF (c * 64 + (d - 0x80)) (n + 1) (a ++ b))) e (continued-stays more 0x80 0xBF (c * 64 + (d - 0x80)) (n + 1) a b))
+    begun_if (n + length (d ∷ a)) (is_within low high d) (continued more 0x80 0xBF (c * 64 + (d - 0x80)) (n + 1) a)
+    (continued more 0x80 0xBF (c * 64 + (d - 0x80)) (n + 1) (a ++ b)) (Broken (n + 1)) (Broken (n + 1))
+    (subst (λ k. BegunStays k (continued more 0x80 0xBF (c * 64 + (d - 0x80)) (n + 1) a) (continued more 0x80 0xBF (c * 64 + (d - 0x80)) (n + 1) (a ++ b))) e
+    (continued-stays more 0x80 0xBF (c * 64 + (d - 0x80)) (n + 1) a b))
     (same (n + length (d ∷ a)) (Broken (n + 1)))
 
 pub lead-stays : (c : ℕ) (a b : List ℕ) → BegunStays (1 + length a) (behind_lead c a) (behind_lead c (a ++ b))
@@ -59,7 +65,8 @@ pub character-stays : (c : ℕ) (a b : List ℕ) → BegunStays (1 + length a) (
 unfolding character_at
 character-stays c a b = by (nat_lt c 0x80)
   where
-    by : (t : Bool) → BegunStays (1 + length a) (elim t [ true ↦ Character c 1 | false ↦ behind_lead c a ]) (elim t [ true ↦ Character c 1 | false ↦ behind_lead c (a ++ b) ])
+    by : (t : Bool) → BegunStays (1 + length a) (elim t [ true ↦ Character c 1 | false ↦ behind_lead c a ])
+        (elim t [ true ↦ Character c 1 | false ↦ behind_lead c (a ++ b) ])
     by true = same (1 + length a) (Character c 1)
     by false = lead-stays c a b
 
@@ -108,7 +115,8 @@ begins-append [] a b h = refl
 begins-append (c ∷ string) [] b h = absurd (true≢false (sym h))
 begins-append (c ∷ string) (d ∷ a) b h = by (d == c) h (begins-append string a b)
   where
-    by : (t : Bool) → (t && begins_with string a) ≡ true → (begins_with string a ≡ true → begins_with string (a ++ b) ≡ true) → (t && begins_with string (a ++ b)) ≡ true
+    by : (t : Bool) → (t && begins_with string a) ≡ true → (begins_with string a ≡ true → begins_with string (a ++ b) ≡ true) →
+        (t && begins_with string (a ++ b)) ≡ true
     by true h rest = rest h
     by false h rest = absurd (true≢false (sym h))
 
@@ -127,7 +135,8 @@ begins-longer [] a b h g = absurd (true≢false h)
 begins-longer (c ∷ string) [] b h g = omega arith
 begins-longer (c ∷ string) (d ∷ a) b h g = by (d == c) h g (begins-longer string a b)
   where
-    by : (t : Bool) → (t && begins_with string a) ≡ false → (t && begins_with string (a ++ b)) ≡ true → (begins_with string a ≡ false → begins_with string (a ++ b) ≡ true → suc (length a) ≤ length string) → suc (suc (length a)) ≤ suc (length string)
+    by : (t : Bool) → (t && begins_with string a) ≡ false → (t && begins_with string (a ++ b)) ≡ true →
+        (begins_with string a ≡ false → begins_with string (a ++ b) ≡ true → suc (length a) ≤ length string) → suc (suc (length a)) ≤ suc (length string)
     by true h g rest = let r : suc (length a) ≤ length string = rest h g in omega arith
     by false h g rest = absurd (true≢false (sym g))
 
@@ -137,7 +146,8 @@ pub data PlaceStays (string : List ℕ) (k : ℕ) : Option ℕ → Option ℕ �
   nowhere : PlaceStays string k None None
   found_later : (n : ℕ) → suc k ≤ n + length string → PlaceStays string k None (Some n)
 
-one-on : (string : List ℕ) (k : ℕ) (x y : Option ℕ) → PlaceStays string k x y → PlaceStays string (suc k) (option_map (λ n. 1 + n) x) (option_map (λ n. 1 + n) y)
+one-on : (string : List ℕ) (k : ℕ) (x y : Option ℕ) → PlaceStays string k x y →
+    PlaceStays string (suc k) (option_map (λ n. 1 + n) x) (option_map (λ n. 1 + n) y)
 one-on string k x y (found n h) = found (1 + n) (omega arith)
 one-on string k x y nowhere = nowhere
 one-on string k x y (found_later n h) = found_later (1 + n) (omega arith)
@@ -167,13 +177,17 @@ begin-place c string b = by (place_of (c ∷ string) b)
 pub place-stays : (c : ℕ) (string a b : List ℕ) → PlaceStays (c ∷ string) (length a) (place_of (c ∷ string) a) (place_of (c ∷ string) (a ++ b))
 place-stays c string [] b = begin-place c string b
 place-stays c string (d ∷ a) b =
-    by (begins_with (c ∷ string) (d ∷ a)) (begins_with (c ∷ string) (d ∷ (a ++ b))) (begins-append (c ∷ string) (d ∷ a) b) (begins-longer (c ∷ string) (d ∷ a) b) (begins-length (c ∷ string) (d ∷ a))
+    by (begins_with (c ∷ string) (d ∷ a)) (begins_with (c ∷ string) (d ∷ (a ++ b))) (begins-append (c ∷ string) (d ∷ a) b)
+    (begins-longer (c ∷ string) (d ∷ a) b) (begins-length (c ∷ string) (d ∷ a))
     (one-on (c ∷ string) (length a) _ _ (place-stays c string a b)) (place-short (c ∷ string) a)
   where
-    by : (t u : Bool) → (t ≡ true → u ≡ true) → (t ≡ false → u ≡ true → suc (suc (length a)) ≤ suc (length string)) → (t ≡ true → suc (length string) ≤ suc (length a))
-        → PlaceStays (c ∷ string) (suc (length a)) (option_map (λ n. 1 + n) (place_of (c ∷ string) a)) (option_map (λ n. 1 + n) (place_of (c ∷ string) (a ++ b)))
+    by : (t u : Bool) → (t ≡ true → u ≡ true) → (t ≡ false → u ≡ true → suc (suc (length a)) ≤ suc (length string)) →
+        (t ≡ true → suc (length string) ≤ suc (length a))
+        → PlaceStays (c ∷ string) (suc (length a)) (option_map (λ n. 1 + n) (place_of (c ∷ string) a))
+        (option_map (λ n. 1 + n) (place_of (c ∷ string) (a ++ b)))
         → (length a < suc (length string) → place_of (c ∷ string) a ≡ None)
-        → PlaceStays (c ∷ string) (suc (length a)) (elim t [ true ↦ Some 0 | false ↦ option_map (λ n. 1 + n) (place_of (c ∷ string) a) ]) (elim u [ true ↦ Some 0 | false ↦ option_map (λ n. 1 + n) (place_of (c ∷ string) (a ++ b)) ])
+        → PlaceStays (c ∷ string) (suc (length a)) (elim t [ true ↦ Some 0 | false ↦ option_map (λ n. 1 + n) (place_of (c ∷ string) a) ])
+        (elim u [ true ↦ Some 0 | false ↦ option_map (λ n. 1 + n) (place_of (c ∷ string) (a ++ b)) ])
     by true true h g l rest short = let m : suc (length string) ≤ suc (length a) = l refl in found 0 (omega arith)
     by true false h g l rest short = absurd (true≢false (sym (h refl)))
     by false false h g l rest short = rest
@@ -190,8 +204,10 @@ begins-never (c ∷ string) [] b h g = absurd (true≢false g)
 begins-never (c ∷ string) (d ∷ a) b h g = by (d == c) h g (begins-never string a b)
   where
     by : (t : Bool) → (t && begins_with string a) ≡ false → (t && ends_inside string a) ≡ false
-        → (begins_with string a ≡ false → ends_inside string a ≡ false → (begins_with string (a ++ b) ≡ false) × (ends_inside string (a ++ b) ≡ false) × (shared_front string (a ++ b) ≡ shared_front string a))
-        → ((t && begins_with string (a ++ b)) ≡ false) × ((t && ends_inside string (a ++ b)) ≡ false) × ((if t then 1 + shared_front string (a ++ b) else 0) ≡ (if t then 1 + shared_front string a else 0))
+        → (begins_with string a ≡ false → ends_inside string a ≡ false → (begins_with string (a ++ b) ≡ false) × (ends_inside string (a ++ b) ≡ false) ×
+        (shared_front string (a ++ b) ≡ shared_front string a))
+        → ((t && begins_with string (a ++ b)) ≡ false) × ((t && ends_inside string (a ++ b)) ≡ false) ×
+        ((if t then 1 + shared_front string (a ++ b) else 0) ≡ (if t then 1 + shared_front string a else 0))
     by true h g rest = let r = rest h g in (r.0, r.1, ap (λ n. 1 + n) r.2)
     by false h g rest = (refl, refl, refl)
 
@@ -201,6 +217,7 @@ shared-inside [] a b h = absurd (true≢false (sym h))
 shared-inside (c ∷ string) [] b h = omega arith
 shared-inside (c ∷ string) (d ∷ a) b h = by (d == c) h (shared-inside string a b)
   where
-    by : (t : Bool) → (t && ends_inside string a) ≡ true → (ends_inside string a ≡ true → length a ≤ shared_front string (a ++ b)) → suc (length a) ≤ (if t then 1 + shared_front string (a ++ b) else 0)
+    by : (t : Bool) → (t && ends_inside string a) ≡ true → (ends_inside string a ≡ true → length a ≤ shared_front string (a ++ b)) →
+        suc (length a) ≤ (if t then 1 + shared_front string (a ++ b) else 0)
     by true h rest = let r : length a ≤ shared_front string (a ++ b) = rest h in omega arith
     by false h rest = absurd (true≢false (sym h))

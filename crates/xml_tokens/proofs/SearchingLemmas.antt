@@ -42,7 +42,8 @@ inside-short [] bytes is = cc
 inside-short (c ∷ string) [] is = omega arith
 inside-short (c ∷ string) (b ∷ bytes) is = by (λ e. inside-short string bytes e) (b == c) (ends_inside string bytes) refl is
   where
-    by : (ends_inside string bytes ≡ true → length bytes < length string) → (t u : Bool) → ends_inside string bytes ≡ u → (t && u) ≡ true → length (b ∷ bytes) < length (c ∷ string)
+    by : (ends_inside string bytes ≡ true → length bytes < length string) → (t u : Bool) → ends_inside string bytes ≡ u → (t && u) ≡ true →
+        length (b ∷ bytes) < length (c ∷ string)
     by shorter true true e is = omega (arith, shorter e)
     by shorter true false e is = cc
     by shorter false u e is = cc
@@ -50,7 +51,8 @@ inside-short (c ∷ string) (b ∷ bytes) is = by (λ e. inside-short string byt
 pub any-inside-short : (bytes : List ℕ) → ends_inside_any bytes ≡ true → length bytes ≤ 6
 any-inside-short bytes is = by (ends_inside (codes "--") bytes) (ends_inside (codes "[CDATA[") bytes) (ends_inside (codes "DOCTYPE") bytes) refl refl refl is
   where
-    by : (t u v : Bool) → ends_inside (codes "--") bytes ≡ t → ends_inside (codes "[CDATA[") bytes ≡ u → ends_inside (codes "DOCTYPE") bytes ≡ v → (t || (u || v)) ≡ true → length bytes ≤ 6
+    by : (t u v : Bool) → ends_inside (codes "--") bytes ≡ t → ends_inside (codes "[CDATA[") bytes ≡ u → ends_inside (codes "DOCTYPE") bytes ≡ v →
+        (t || (u || v)) ≡ true → length bytes ≤ 6
     by true u v e f g is = let short : length bytes < 2 = inside-short (codes "--") bytes e in omega arith
     by false true v e f g is = let short : length bytes < 7 = inside-short (codes "[CDATA[") bytes f in omega arith
     by false false true e f g is = let short : length bytes < 7 = inside-short (codes "DOCTYPE") bytes g in omega arith

@@ -1,5 +1,6 @@
 -- The bytes of a reference, one by one.
-use Rattle.std.proofs.Common.{◌≡◌, ℕ, zero, suc, ◌+◌, ◌-◌, ◌*◌, ◌<◌, ◌≤◌, Bool, true, false, List, [], ◌∷◌, ◌++◌, length, take, drop, get_or, refl, sym, ap, ◌∙◌, arith, Some, None, option_and_then, if◌then◌else◌, ◌⊎◌, inl, inr}
+use Rattle.std.proofs.Common.{◌≡◌, ℕ, zero, suc, ◌+◌, ◌-◌, ◌*◌, ◌<◌, ◌≤◌, Bool, true, false, List, [], ◌∷◌, ◌++◌, length, take, drop, get_or, refl, sym, ap}
+use Rattle.std.proofs.Common.{◌∙◌, arith, Some, None, option_and_then, if◌then◌else◌, ◌⊎◌, inl, inr}
 use Rattle.std.specs.Char.{is_digit, digit_value}
 use Rattle.std.proofs.lemmas.List.{take_more, append_assoc, drop_more, append-nil}
 use Rattle.std.proofs.lemmas.Bool.Decides.{nat_tests}
@@ -27,7 +28,8 @@ body-room : (bytes : List ℕ) → reference_body bytes 0 ≡ []
 body-room [] = refl
 body-room (b ∷ bytes) = refl
 
-pub body-step : (bytes : List ℕ) (room i : ℕ) → i < length bytes → i < room → is_reference_byte (get_or bytes i 0) ≡ true → Body bytes room i → Body bytes room (i + 1)
+pub body-step : (bytes : List ℕ) (room i : ℕ) → i < length bytes → i < room → is_reference_byte (get_or bytes i 0) ≡ true → Body bytes room i →
+    Body bytes room (i + 1)
 body-step bytes room i h l e known =
     let left : room - i ≡ suc (room - (i + 1)) = omega arith in
     record {
@@ -47,8 +49,10 @@ body-full bytes room i e known =
     let none : room - i ≡ 0 = omega arith in
     body-last bytes room i (ap (reference_body (drop i bytes)) none ∙ body-room (drop i bytes)) known
 
-pub body-stop : (bytes : List ℕ) (room i : ℕ) → i < length bytes → is_reference_byte (get_or bytes i 0) ≡ false → Body bytes room i → take i bytes ≡ reference_body bytes room
-body-stop bytes room i h e known = body-last bytes room i (ap (λ x. reference_body x (room - i)) (drop_more bytes i 0 h) ∙ body-none (get_or bytes i 0) (drop (i + 1) bytes) (room - i) e) known
+pub body-stop : (bytes : List ℕ) (room i : ℕ) → i < length bytes → is_reference_byte (get_or bytes i 0) ≡ false → Body bytes room i →
+    take i bytes ≡ reference_body bytes room
+body-stop bytes room i h e known = body-last bytes room i (ap (λ x. reference_body x (room - i)) (drop_more bytes i 0 h) ∙
+    body-none (get_or bytes i 0) (drop (i + 1) bytes) (room - i) e) known
 
 pub body-end : (bytes : List ℕ) (room i : ℕ) → drop i bytes ≡ [] → Body bytes room i → take i bytes ≡ reference_body bytes room
 body-end bytes room i e known = body-last bytes room i (ap (λ x. reference_body x (room - i)) e) known
@@ -85,7 +89,8 @@ too-great radix n (c ∷ digits) h g = by (is_digit c radix) (too-great radix (n
     more : n ≤ n * radix
     more = grind arith
 
-    by : (t : Bool) → option_and_then if_char (digits_behind radix (n * radix + digit_value c) digits) ≡ None → option_and_then if_char (if t then digits_behind radix (n * radix + digit_value c) digits else None) ≡ None
+    by : (t : Bool) → option_and_then if_char (digits_behind radix (n * radix + digit_value c) digits) ≡ None →
+        option_and_then if_char (if t then digits_behind radix (n * radix + digit_value c) digits else None) ≡ None
     by true e = e
     by false e = refl
 
@@ -99,7 +104,8 @@ at-first : (radix : ℕ) (digits : List ℕ) → 0 < length digits → number_of
 at-first radix [] h = absurd (omega arith)
 at-first radix (c ∷ digits) h = refl
 
-pub spelling-step : (radix : ℕ) (digits : List ℕ) (i number d next : ℕ) → i < length digits → digit_value (get_or digits i 0) < radix → d ≡ digit_value (get_or digits i 0) → next ≡ number * radix + d → next ≤ 1114111 → Spelling radix digits i number → Spelling radix digits (i + 1) next
+pub spelling-step : (radix : ℕ) (digits : List ℕ) (i number d next : ℕ) → i < length digits → digit_value (get_or digits i 0) < radix →
+    d ≡ digit_value (get_or digits i 0) → next ≡ number * radix + d → next ≤ 1114111 → Spelling radix digits i number → Spelling radix digits (i + 1) next
 spelling-step radix digits i number d next h l e f g known = record {
   whole = known.whole ∙ (ap (digits_behind radix number) (drop_more digits i 0 h)
       ∙ (digit-right radix number (get_or digits i 0) (drop (i + 1) digits) l
@@ -107,7 +113,8 @@ spelling-step radix digits i number d next h l e f g known = record {
   most = g;
 }
 
-pub spelling-great : (radix : ℕ) (digits : List ℕ) (i number d : ℕ) → 1 ≤ radix → i < length digits → digit_value (get_or digits i 0) < radix → d ≡ digit_value (get_or digits i 0) → 1114111 < number * radix + d → Spelling radix digits i number
+pub spelling-great : (radix : ℕ) (digits : List ℕ) (i number d : ℕ) → 1 ≤ radix → i < length digits → digit_value (get_or digits i 0) < radix →
+    d ≡ digit_value (get_or digits i 0) → 1114111 < number * radix + d → Spelling radix digits i number
     → None ≡ option_and_then if_char (number_of_digits radix digits)
 spelling-great radix digits i number d r h l e g known =
     let same : number * radix + d ≡ number * radix + digit_value (get_or digits i 0) = ap (λ x. number * radix + x) e in
@@ -115,10 +122,12 @@ spelling-great radix digits i number d r h l e g known =
     ∙ digit-right radix number (get_or digits i 0) (drop (i + 1) digits) l)))
     ∙ too-great radix (number * radix + digit_value (get_or digits i 0)) (drop (i + 1) digits) r (omega arith))
 
-pub spelling-wrong : (radix : ℕ) (digits : List ℕ) (i number : ℕ) → i < length digits → (digit_value (get_or digits i 0) < radix → ⊥) → Spelling radix digits i number → None ≡ option_and_then if_char (number_of_digits radix digits)
+pub spelling-wrong : (radix : ℕ) (digits : List ℕ) (i number : ℕ) → i < length digits → (digit_value (get_or digits i 0) < radix → ⊥) →
+    Spelling radix digits i number → None ≡ option_and_then if_char (number_of_digits radix digits)
 spelling-wrong radix digits i number h l known =
     sym (ap (option_and_then if_char) (at-first radix digits (omega arith) ∙ (known.whole ∙ (ap (digits_behind radix number) (drop_more digits i 0 h)
     ∙ digit-wrong radix number (get_or digits i 0) (drop (i + 1) digits) l))))
 
-pub spelling-end : (radix : ℕ) (digits : List ℕ) (i number : ℕ) → 0 < length digits → drop i digits ≡ [] → Spelling radix digits i number → if_char number ≡ option_and_then if_char (number_of_digits radix digits)
+pub spelling-end : (radix : ℕ) (digits : List ℕ) (i number : ℕ) → 0 < length digits → drop i digits ≡ [] → Spelling radix digits i number →
+    if_char number ≡ option_and_then if_char (number_of_digits radix digits)
 spelling-end radix digits i number h e known = sym (ap (option_and_then if_char) (at-first radix digits h ∙ (known.whole ∙ ap (digits_behind radix number) e)))

@@ -1,5 +1,6 @@
 -- Strings at the front of bytes, and where they first stand.
-use Rattle.std.proofs.Common.{◌≡◌, ℕ, zero, suc, ◌+◌, ◌-◌, ◌<◌, ◌≤◌, ◌==◌, nat_eq, Bool, true, false, ◌&&◌, List, [], ◌∷◌, length, take, drop, refl, sym, ap, ◌∙◌, arith, Option, Some, None, option_map, true≢false, ◌⊎◌, inl, inr}
+use Rattle.std.proofs.Common.{◌≡◌, ℕ, zero, suc, ◌+◌, ◌-◌, ◌<◌, ◌≤◌, ◌==◌, nat_eq, Bool, true, false, ◌&&◌, List, [], ◌∷◌, length, take, drop, refl, sym, ap}
+use Rattle.std.proofs.Common.{◌∙◌, arith, Option, Some, None, option_map, true≢false, ◌⊎◌, inl, inr}
 use Rattle.std.specs.List.{starts_with}
 use Rattle.std.proofs.lemmas.List.{drop_all}
 use Rattle.std.proofs.lemmas.Bool.Decides.{nat_tests}
@@ -17,7 +18,8 @@ starts-begins (c ∷ string) (b ∷ bytes) = ap (λ t. t && starts_with nat_eq b
 pub inside-short : (string bytes : List ℕ) → length bytes < length string → ends_inside string bytes ≡ begins_with bytes string
 inside-short [] bytes h = absurd (omega arith)
 inside-short (c ∷ string) [] h = refl
-inside-short (c ∷ string) (b ∷ bytes) h = ap (λ t. t && ends_inside string bytes) (same-turned b c) ∙ ap (λ t. (c == b) && t) (inside-short string bytes (omega arith))
+inside-short (c ∷ string) (b ∷ bytes) h = ap (λ t. t && ends_inside string bytes) (same-turned b c) ∙
+    ap (λ t. (c == b) && t) (inside-short string bytes (omega arith))
 
 -- where they aren't
 pub inside-long : (string bytes : List ℕ) → length string ≤ length bytes → ends_inside string bytes ≡ false
@@ -47,7 +49,8 @@ begins-take (c ∷ string) [] k h e = absurd (true≢false (sym e))
 begins-take (c ∷ string) (b ∷ bytes) zero h e = absurd (omega arith)
 begins-take (c ∷ string) (b ∷ bytes) (suc k) h e = by (b == c) e (begins-take string bytes k (omega arith))
   where
-    by : (t : Bool) → (t && begins_with string bytes) ≡ true → (begins_with string bytes ≡ true → begins_with string (take k bytes) ≡ true) → (t && begins_with string (take k bytes)) ≡ true
+    by : (t : Bool) → (t && begins_with string bytes) ≡ true → (begins_with string bytes ≡ true → begins_with string (take k bytes) ≡ true) →
+        (t && begins_with string (take k bytes)) ≡ true
     by true e rest = rest e
     by false e rest = absurd (true≢false (sym e))
 
@@ -79,13 +82,15 @@ place-here [] bytes h e = absurd (omega arith)
 place-here (c ∷ string) [] h e = absurd (true≢false (sym e))
 place-here (c ∷ string) (b ∷ bytes) h e = ap (λ t. elim t [ true ↦ Some 0 | false ↦ option_map (λ n. 1 + n) (place_of (c ∷ string) bytes) ]) e
 
-pub place-step : (string : List ℕ) (b : ℕ) (bytes : List ℕ) → begins_with string (b ∷ bytes) ≡ false → place_of string (b ∷ bytes) ≡ option_map (λ n. 1 + n) (place_of string bytes)
+pub place-step : (string : List ℕ) (b : ℕ) (bytes : List ℕ) → begins_with string (b ∷ bytes) ≡ false →
+    place_of string (b ∷ bytes) ≡ option_map (λ n. 1 + n) (place_of string bytes)
 place-step string b bytes e = ap (λ t. elim t [ true ↦ Some 0 | false ↦ option_map (λ n. 1 + n) (place_of string bytes) ]) e
 
 abbrev place_or : Bool → Option ℕ → Option ℕ
 place_or t x = elim t [ true ↦ Some 0 | false ↦ option_map (λ n. 1 + n) x ]
 
-place-none : (string : List ℕ) (b : ℕ) (bytes : List ℕ) → place_of string (b ∷ bytes) ≡ None → (begins_with string (b ∷ bytes) ≡ false) × (place_of string bytes ≡ None)
+place-none : (string : List ℕ) (b : ℕ) (bytes : List ℕ) → place_of string (b ∷ bytes) ≡ None → (begins_with string (b ∷ bytes) ≡ false) ×
+    (place_of string bytes ≡ None)
 place-none string b bytes e = by (begins_with string (b ∷ bytes)) (place_of string bytes) e
   where
     by : (t : Bool) (x : Option ℕ) → place_or t x ≡ None → (t ≡ false) × (x ≡ None)
@@ -94,7 +99,8 @@ place-none string b bytes e = by (begins_with string (b ∷ bytes)) (place_of st
     by false (Some n) e = cc
 
 -- Where a front was searched in vain, the string stands behind what can't begin it any more.
-pub place-vain : (string bytes : List ℕ) (k p : ℕ) → 0 < length string → suc p + length string ≤ k + 2 → place_of string (take k bytes) ≡ None → place_of string bytes ≡ after p (place_of string (drop p bytes))
+pub place-vain : (string bytes : List ℕ) (k p : ℕ) → 0 < length string → suc p + length string ≤ k + 2 → place_of string (take k bytes) ≡ None →
+    place_of string bytes ≡ after p (place_of string (drop p bytes))
 place-vain string bytes k zero some h e = sym (after-none (place_of string bytes))
 place-vain string bytes zero (suc p) some h e = absurd (omega arith)
 place-vain string [] (suc k) (suc p) some h e = refl
@@ -107,16 +113,19 @@ place-vain string (b ∷ bytes) (suc k) (suc p) some h e =
 pub record Searching (string bytes : List ℕ) (place : ℕ) : Type 0 where
   pub whole : place_of string bytes ≡ after place (place_of string (drop place bytes))
 
-pub searching-begin : (string bytes : List ℕ) (k p : ℕ) → 0 < length string → p ≡ k + 1 - length string → place_of string (take k bytes) ≡ None → Searching string bytes p
+pub searching-begin : (string bytes : List ℕ) (k p : ℕ) → 0 < length string → p ≡ k + 1 - length string → place_of string (take k bytes) ≡ None →
+    Searching string bytes p
 searching-begin string bytes k zero some h e = record { whole = sym (after-none (place_of string bytes)) }
 searching-begin string bytes k (suc p) some h e = record { whole = place-vain string bytes k (suc p) some (omega arith) e }
 
-pub searching-here : (string bytes : List ℕ) (p : ℕ) → 0 < length string → begins_with string (drop p bytes) ≡ true → Searching string bytes p → Some p ≡ place_of string bytes
+pub searching-here : (string bytes : List ℕ) (p : ℕ) → 0 < length string → begins_with string (drop p bytes) ≡ true → Searching string bytes p →
+    Some p ≡ place_of string bytes
 searching-here string bytes p some e known =
     let zero : p + 0 ≡ p = omega arith in
     sym (known.whole ∙ (ap (after p) (place-here string (drop p bytes) some e) ∙ ap Some zero))
 
-pub searching-step : (string bytes rest : List ℕ) (b p : ℕ) → drop p bytes ≡ b ∷ rest → rest ≡ drop (p + 1) bytes → begins_with string (drop p bytes) ≡ false → Searching string bytes p → Searching string bytes (p + 1)
+pub searching-step : (string bytes rest : List ℕ) (b p : ℕ) → drop p bytes ≡ b ∷ rest → rest ≡ drop (p + 1) bytes → begins_with string (drop p bytes) ≡ false →
+    Searching string bytes p → Searching string bytes (p + 1)
 searching-step string bytes rest b p e f g known = record {
   whole = known.whole ∙ (ap (λ x. after p (place_of string x)) e
       ∙ (ap (after p) (place-step string b rest (ap (begins_with string) (sym e) ∙ g))

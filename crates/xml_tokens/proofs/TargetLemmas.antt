@@ -1,9 +1,11 @@
 -- Characters at the front of a text, one by one.
-use Rattle.std.proofs.Common.{◌≡◌, ℕ, suc, ◌+◌, ◌-◌, ◌<◌, ◌≤◌, Bool, true, false, ◌&&◌, List, [], ◌∷◌, ◌++◌, length, take, drop, refl, sym, ap, ◌∙◌, arith, subst, true≢false, cond}
+use Rattle.std.proofs.Common.{◌≡◌, ℕ, suc, ◌+◌, ◌-◌, ◌<◌, ◌≤◌, Bool, true, false, ◌&&◌, List, [], ◌∷◌, ◌++◌, length, take, drop, refl, sym, ap, ◌∙◌, arith}
+use Rattle.std.proofs.Common.{subst, true≢false, cond}
 use Rattle.std.specs.Prelude.{encode_utf8}
 use Rattle.std.specs.Str.{chars, IsUtf8, IsCharBoundary}
 use Rattle.std.specs.List.{list_all, prefix_len}
-use Rattle.std.proofs.lemmas.Str.{chars-nil, IsUtf8-nil, IsUtf8-append, IsUtf8-past_char, chars_past_char, IsCharBoundary-at_seam, IsUtf8-take, length-encode, len_utf8_bounds, chars-append}
+use Rattle.std.proofs.lemmas.Str.{chars-nil, IsUtf8-nil, IsUtf8-append, IsUtf8-past_char, chars_past_char, IsCharBoundary-at_seam, IsUtf8-take, length-encode}
+use Rattle.std.proofs.lemmas.Str.{len_utf8_bounds, chars-append}
 use Rattle.std.proofs.lemmas.List.{append_assoc, append-nil, length-append, take_at, drop_at}
 use Rattle.xml_tokens.specs.Markup.{target_of}
 use Rattle.xml_tokens.specs.Instructions.{goes_on}
@@ -45,7 +47,8 @@ one-char : (rest behind : List ℕ) (c : ℕ) → IsUtf8 rest → rest ≡ encod
 one-char rest behind c u e =
     let b : IsUtf8 behind = IsUtf8-past_char rest behind c u e in
     let seam : IsCharBoundary rest (length (encode_utf8 c)) = IsCharBoundary-at_seam rest (encode_utf8 c) behind e b in
-    let front : take (length (encode_utf8 c)) rest ≡ encode_utf8 c = ap (take (length (encode_utf8 c))) e ∙ take_at (encode_utf8 c) behind (length (encode_utf8 c)) refl in
+    let front : take (length (encode_utf8 c)) rest ≡ encode_utf8 c = ap (take (length (encode_utf8 c))) e ∙
+    take_at (encode_utf8 c) behind (length (encode_utf8 c)) refl in
     let text : IsUtf8 (encode_utf8 c) = subst IsUtf8 front (IsUtf8-take rest (length (encode_utf8 c)) u seam) in
     (text, chars_past_char (encode_utf8 c) [] c text (sym (append-nil (encode_utf8 c))) ∙ ap (λ x. c ∷ x) chars-nil)
 
@@ -79,7 +82,8 @@ passed-boundary p text rest known =
     subst (λ n. IsCharBoundary text n) same (IsCharBoundary-at_seam text known.front rest known.whole known.rest_utf8)
 
 -- what is cut off there
-pub passed-cut : (p : ℕ → Bool) (text rest front back : List ℕ) (n : ℕ) → n ≡ length text - length rest → front ≡ take n text → back ≡ drop n text → (known : Passed p text rest) → (front ≡ known.front) × (back ≡ rest)
+pub passed-cut : (p : ℕ → Bool) (text rest front back : List ℕ) (n : ℕ) → n ≡ length text - length rest → front ≡ take n text → back ≡ drop n text →
+    (known : Passed p text rest) → (front ≡ known.front) × (back ≡ rest)
 passed-cut p text rest front back n e f g known =
     let long : length text ≡ length known.front + length rest = ap length known.whole ∙ length-append known.front rest in
     let same : length known.front ≡ n = omega arith in
@@ -95,19 +99,24 @@ prefix-all p [] [] h e = refl
 prefix-all p [] (c ∷ rest) h e = ap (λ t. cond t (1 + prefix_len p rest) 0) e
 prefix-all p (c ∷ cs) rest h e = by (p c) h (λ g. prefix-all p cs rest g e)
   where
-    by : (t : Bool) → (t && list_all p cs) ≡ true → (list_all p cs ≡ true → prefix_len p (cs ++ rest) ≡ length cs) → cond t (1 + prefix_len p (cs ++ rest)) 0 ≡ suc (length cs)
+    by : (t : Bool) → (t && list_all p cs) ≡ true → (list_all p cs ≡ true → prefix_len p (cs ++ rest) ≡ length cs) →
+        cond t (1 + prefix_len p (cs ++ rest)) 0 ≡ suc (length cs)
     by true h go = let k : prefix_len p (cs ++ rest) ≡ length cs = go h in omega arith
     by false h go = absurd (true≢false (sym h))
 
-pub target-is : (text rest front back : List ℕ) (n : ℕ) → n ≡ length text - length rest → front ≡ take n text → back ≡ drop n text → Stops goes_on (chars rest) → Passed goes_on text rest → IsTarget text front back
+pub target-is : (text rest front back : List ℕ) (n : ℕ) → n ≡ length text - length rest → front ≡ take n text → back ≡ drop n text → Stops goes_on (chars rest)
+    → Passed goes_on text rest → IsTarget text front back
 target-is text rest front back n e f g stops known =
     let cut = passed-cut goes_on text rest front back n e f g known in
-    let count : prefix_len goes_on (chars text) ≡ length known.cs = ap (prefix_len goes_on) known.told ∙ prefix-all goes_on known.cs (chars rest) known.all stops in
-    let target : target_of (chars text) ≡ known.cs = ap (λ n. take n (chars text)) count ∙ (ap (take (length known.cs)) known.told ∙ take_at known.cs (chars rest) (length known.cs) refl) in
+    let count : prefix_len goes_on (chars text) ≡ length known.cs = ap (prefix_len goes_on) known.told ∙
+    prefix-all goes_on known.cs (chars rest) known.all stops in
+    let target : target_of (chars text) ≡ known.cs = ap (λ n. take n (chars text)) count ∙
+    (ap (take (length known.cs)) known.told ∙ take_at known.cs (chars rest) (length known.cs) refl) in
     record {
       whole = known.whole ∙ (ap (λ x. x ++ rest) (sym cut.0) ∙ ap (λ x. front ++ x) (sym cut.1));
       target = ap chars cut.0 ∙ (known.fronts ∙ sym target);
-      behind = ap chars cut.1 ∙ sym (ap (λ t. drop (length t) (chars text)) target ∙ (ap (drop (length known.cs)) known.told ∙ drop_at known.cs (chars rest) (length known.cs) refl));
+      behind = ap chars cut.1 ∙ sym (ap (λ t. drop (length t) (chars text)) target ∙
+          (ap (drop (length known.cs)) known.told ∙ drop_at known.cs (chars rest) (length known.cs) refl));
     }
 
 abbrev pub Reached : List ℕ → List ℕ → Type 0

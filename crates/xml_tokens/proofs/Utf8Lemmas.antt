@@ -1,8 +1,11 @@
 -- Where bytes stand in UTF-8, byte by byte.
-use Rattle.std.proofs.Common.{◌≡◌, ℕ, zero, suc, ◌+◌, ◌-◌, ◌*◌, ◌/◌, ◌%◌, ◌<◌, ◌≤◌, ◌==◌, nat_lt, Bool, true, false, not, ◌&&◌, ◌||◌, ◌⊎◌, inl, inr, List, [], ◌∷◌, ◌++◌, length, refl, sym, ap, ◌∙◌, subst, arith, if◌then◌else◌, Option, Some, None, true≢false, append_assoc, append-nil, length-append, take_at, drop_at}
+use Rattle.std.proofs.Common.{◌≡◌, ℕ, zero, suc, ◌+◌, ◌-◌, ◌*◌, ◌/◌, ◌%◌, ◌<◌, ◌≤◌, ◌==◌, nat_lt, Bool, true, false, not, ◌&&◌, ◌||◌, ◌⊎◌, inl, inr, List, []}
+use Rattle.std.proofs.Common.{◌∷◌, ◌++◌, length, refl, sym, ap, ◌∙◌, subst, arith, if◌then◌else◌, Option, Some, None, true≢false, append_assoc, append-nil}
+use Rattle.std.proofs.Common.{length-append, take_at, drop_at}
 use Rattle.std.specs.Str.{chars, is_utf8, IsUtf8}
 use Rattle.std.specs.List.{list_all}
-use Rattle.std.proofs.lemmas.Str.{chars-nil, chars-append, chars-encodes, IsUtf8-nil, IsUtf8-append, IsUtf8-encode, IsUtf8-drop, IsUtf8-from_is_utf8, is_utf8-from_IsUtf8, IsCharBoundary-from_take, encode_ascii}
+use Rattle.std.proofs.lemmas.Str.{chars-nil, chars-append, chars-encodes, IsUtf8-nil, IsUtf8-append, IsUtf8-encode, IsUtf8-drop, IsUtf8-from_is_utf8}
+use Rattle.std.proofs.lemmas.Str.{is_utf8-from_IsUtf8, IsCharBoundary-from_take, encode_ascii}
 use Rattle.std.proofs.lemmas.Bool.{cases_eq}
 use Rattle.std.proofs.lemmas.Bool.Decides.{nat_tests}
 use lib.Utf8.{scalar, scalars, encode, encodes, low_scalar}
@@ -45,7 +48,8 @@ three-bytes b x y c r l h m k least most m' k' e =
     let same : encode c ≡ b ∷ (x ∷ (y ∷ [])) = encode-three c low high ∙ (λ i. first i ∷ (second i ∷ (third i ∷ []))) in
     record { rest = r; scalar = grind (arith, nat_tests); is = sym (ap (λ s. s ++ r) same); long = ap length same }
 
-four-bytes : (b x y z c : ℕ) (r : List ℕ) → 0xF0 ≤ b → b ≤ 0xF4 → 0x80 ≤ x → x ≤ 0xBF → (b ≡ 0xF0 → 0x90 ≤ x) → (b ≡ 0xF4 → x ≤ 0x8F) → 0x80 ≤ y → y ≤ 0xBF → 0x80 ≤ z → z ≤ 0xBF
+four-bytes : (b x y z c : ℕ) (r : List ℕ) → 0xF0 ≤ b → b ≤ 0xF4 → 0x80 ≤ x → x ≤ 0xBF → (b ≡ 0xF0 → 0x90 ≤ x) → (b ≡ 0xF4 → x ≤ 0x8F) → 0x80 ≤ y → y ≤ 0xBF →
+    0x80 ≤ z → z ≤ 0xBF
     → (((b - 0xF0) * 64 + (x - 0x80)) * 64 + (y - 0x80)) * 64 + (z - 0x80) ≡ c → IsCharacter b (x ∷ (y ∷ (z ∷ r))) c 4
 four-bytes b x y z c r l h m k least most m' k' m'' k'' e =
     let first : 240 + c / 262144 ≡ b = omega arith in
@@ -66,11 +70,13 @@ record Goes (more low high value m : ℕ) (bytes : List ℕ) (c n : ℕ) : Type 
   most : next ≤ high
   rest : continued more 0x80 0xBF (value * 64 + (next - 0x80)) (m + 1) behind ≡ Character c n
 
-goes : (more low high value m : ℕ) (bytes : List ℕ) (c n : ℕ) → continued (suc more) low high value m bytes ≡ Character c n → Goes more low high value m bytes c n
+goes : (more low high value m : ℕ) (bytes : List ℕ) (c n : ℕ) → continued (suc more) low high value m bytes ≡ Character c n →
+    Goes more low high value m bytes c n
 goes more low high value m [] c n e = absurd (cc e)
 goes more low high value m (x ∷ r) c n e = by (is_within low high x) refl e
   where
-    by : (t : Bool) → is_within low high x ≡ t → (if t then continued more 0x80 0xBF (value * 64 + (x - 0x80)) (m + 1) r else Broken (m + 1)) ≡ Character c n → Goes more low high value m (x ∷ r) c n
+    by : (t : Bool) → is_within low high x ≡ t → (if t then continued more 0x80 0xBF (value * 64 + (x - 0x80)) (m + 1) r else Broken (m + 1)) ≡ Character c n →
+        Goes more low high value m (x ∷ r) c n
     by true w f = record { next = x; behind = r; is = refl; least = grind (arith, nat_tests); most = grind (arith, nat_tests); rest = f }
     by false w f = absurd (cc f)
 
@@ -81,15 +87,18 @@ if-of : {A P : Type 0} (t : Bool) (x y z : A) → (if t then x else y) ≡ z →
 if-of true x y z e f g = f refl e
 if-of false x y z e f g = g refl e
 
-behind-two : (b : ℕ) (bytes : List ℕ) (c n : ℕ) → is_within 0xC2 0xDF b ≡ true → continued 1 0x80 0xBF (b - 0xC0) 1 bytes ≡ Character c n → IsCharacter b bytes c n
+behind-two : (b : ℕ) (bytes : List ℕ) (c n : ℕ) → is_within 0xC2 0xDF b ≡ true → continued 1 0x80 0xBF (b - 0xC0) 1 bytes ≡ Character c n →
+    IsCharacter b bytes c n
 behind-two b bytes c n w e =
     let one = goes 0 0x80 0xBF (b - 0xC0) 1 bytes c n e in
     let end = done 0x80 0xBF ((b - 0xC0) * 64 + (one.next - 0x80)) 2 one.behind c n one.rest in
     let low : 0xC2 ≤ b = grind (arith, nat_tests) in
     let high : b ≤ 0xDF = grind (arith, nat_tests) in
-    subst (λ x. IsCharacter b x c n) (sym one.is) (subst (λ k. IsCharacter b (one.next ∷ one.behind) c k) end.1 (two-bytes b one.next c one.behind low high one.least one.most end.0))
+    subst (λ x. IsCharacter b x c n) (sym one.is) (subst (λ k. IsCharacter b (one.next ∷ one.behind) c k) end.1
+    (two-bytes b one.next c one.behind low high one.least one.most end.0))
 
-behind-three : (b low high value : ℕ) (bytes : List ℕ) (c n : ℕ) → 0xE0 ≤ b → b ≤ 0xEF → 0x80 ≤ low → high ≤ 0xBF → (b ≡ 0xE0 → 0xA0 ≤ low) → (b ≡ 0xED → high ≤ 0x9F) → value ≡ b - 0xE0
+behind-three : (b low high value : ℕ) (bytes : List ℕ) (c n : ℕ) → 0xE0 ≤ b → b ≤ 0xEF → 0x80 ≤ low → high ≤ 0xBF → (b ≡ 0xE0 → 0xA0 ≤ low) →
+    (b ≡ 0xED → high ≤ 0x9F) → value ≡ b - 0xE0
     → continued 2 low high value 1 bytes ≡ Character c n → IsCharacter b bytes c n
 behind-three b low high value bytes c n l h least most left right is e =
     let one = goes 1 low high value 1 bytes c n e in
@@ -97,12 +106,15 @@ behind-three b low high value bytes c n l h least most left right is e =
     let end = done 0x80 0xBF ((value * 64 + (one.next - 0x80)) * 64 + (two.next - 0x80)) 3 two.behind c n two.rest in
     let first_least : low ≤ one.next = one.least in
     let first_most : one.next ≤ high = one.most in
-    let sum : ((b - 0xE0) * 64 + (one.next - 0x80)) * 64 + (two.next - 0x80) ≡ c = ap (λ v. (v * 64 + (one.next - 0x80)) * 64 + (two.next - 0x80)) (sym is) ∙ end.0 in
+    let sum : ((b - 0xE0) * 64 + (one.next - 0x80)) * 64 + (two.next - 0x80) ≡ c = ap (λ v. (v * 64 + (one.next - 0x80)) * 64 + (two.next - 0x80)) (sym is) ∙
+    end.0 in
     let whole : bytes ≡ one.next ∷ (two.next ∷ two.behind) = one.is ∙ ap (λ x. one.next ∷ x) two.is in
     subst (λ x. IsCharacter b x c n) (sym whole) (subst (λ k. IsCharacter b (one.next ∷ (two.next ∷ two.behind)) c k) end.1
-    (three-bytes b one.next two.next c two.behind l h (omega arith) (omega arith) (λ k. omega (arith, left k)) (λ k. omega (arith, right k)) two.least two.most sum))
+    (three-bytes b one.next two.next c two.behind l h (omega arith) (omega arith) (λ k. omega (arith, left k))
+    (λ k. omega (arith, right k)) two.least two.most sum))
 
-behind-four : (b low high value : ℕ) (bytes : List ℕ) (c n : ℕ) → 0xF0 ≤ b → b ≤ 0xF4 → 0x80 ≤ low → high ≤ 0xBF → (b ≡ 0xF0 → 0x90 ≤ low) → (b ≡ 0xF4 → high ≤ 0x8F) → value ≡ b - 0xF0
+behind-four : (b low high value : ℕ) (bytes : List ℕ) (c n : ℕ) → 0xF0 ≤ b → b ≤ 0xF4 → 0x80 ≤ low → high ≤ 0xBF → (b ≡ 0xF0 → 0x90 ≤ low) →
+    (b ≡ 0xF4 → high ≤ 0x8F) → value ≡ b - 0xF0
     → continued 3 low high value 1 bytes ≡ Character c n → IsCharacter b bytes c n
 behind-four b low high value bytes c n l h least most left right is e =
     let one = goes 2 low high value 1 bytes c n e in
@@ -115,7 +127,8 @@ behind-four b low high value bytes c n l h least most left right is e =
     ap (λ v. ((v * 64 + (one.next - 0x80)) * 64 + (two.next - 0x80)) * 64 + (three.next - 0x80)) (sym is) ∙ end.0 in
     let whole : bytes ≡ one.next ∷ (two.next ∷ (three.next ∷ three.behind)) = one.is ∙ ap (λ x. one.next ∷ x) (two.is ∙ ap (λ x. two.next ∷ x) three.is) in
     subst (λ x. IsCharacter b x c n) (sym whole) (subst (λ k. IsCharacter b (one.next ∷ (two.next ∷ (three.next ∷ three.behind))) c k) end.1
-    (four-bytes b one.next two.next three.next c three.behind l h (omega arith) (omega arith) (λ k. omega (arith, left k)) (λ k. omega (arith, right k)) two.least two.most three.least three.most sum))
+    (four-bytes b one.next two.next three.next c three.behind l h (omega arith) (omega arith) (λ k. omega (arith, left k))
+    (λ k. omega (arith, right k)) two.least two.most three.least three.most sum))
 
 is-at : (b k : ℕ) → (b == k) ≡ true → b ≡ k
 is-at b k t = grind (arith, nat_tests)
@@ -133,9 +146,11 @@ lead-is : (b : ℕ) (bytes : List ℕ) (c n : ℕ) → behind_lead b bytes ≡ C
 lead-is b bytes c n e =
     if-of (is_within 0xC2 0xDF b) _ _ (Character c n) e (λ t f. behind-two b bytes c n t f)
     (λ t0 e0. if-of (b == 0xE0) _ _ (Character c n) e0
-    (λ t f. let at = is-at b 0xE0 t in behind-three b 0xA0 0xBF 0 bytes c n (omega arith) (omega arith) (omega arith) (omega arith) (λ k. omega arith) (λ k. omega arith) (omega arith) f)
+    (λ t f. let at = is-at b 0xE0 t in behind-three b 0xA0 0xBF 0 bytes c n (omega arith) (omega arith) (omega arith) (omega arith) (λ k. omega arith)
+    (λ k. omega arith) (omega arith) f)
     (λ t1 e1. if-of (b == 0xED) _ _ (Character c n) e1
-    (λ t f. let at = is-at b 0xED t in behind-three b 0x80 0x9F 0xD bytes c n (omega arith) (omega arith) (omega arith) (omega arith) (λ k. omega arith) (λ k. omega arith) (omega arith) f)
+    (λ t f. let at = is-at b 0xED t in behind-three b 0x80 0x9F 0xD bytes c n (omega arith) (omega arith) (omega arith) (omega arith) (λ k. omega arith)
+    (λ k. omega arith) (omega arith) f)
     (λ t2 e2. if-of (is_within 0xE1 0xEF b) _ _ (Character c n) e2
     (λ t f.
     let low = from-low 0xE1 0xEF b t in
@@ -143,14 +158,16 @@ lead-is b bytes c n e =
     let other = is-not b 0xED t2 in
     behind-three b 0x80 0xBF (b - 0xE0) bytes c n (omega arith) high (omega arith) (omega arith) (λ k. omega arith) (λ k. absurd (other k)) refl f)
     (λ t3 e3. if-of (b == 0xF0) _ _ (Character c n) e3
-    (λ t f. let at = is-at b 0xF0 t in behind-four b 0x90 0xBF 0 bytes c n (omega arith) (omega arith) (omega arith) (omega arith) (λ k. omega arith) (λ k. omega arith) (omega arith) f)
+    (λ t f. let at = is-at b 0xF0 t in behind-four b 0x90 0xBF 0 bytes c n (omega arith) (omega arith) (omega arith) (omega arith) (λ k. omega arith)
+    (λ k. omega arith) (omega arith) f)
     (λ t4 e4. if-of (is_within 0xF1 0xF3 b) _ _ (Character c n) e4
     (λ t f.
     let low = from-low 0xF1 0xF3 b t in
     let high = to-high 0xF1 0xF3 b t in
     behind-four b 0x80 0xBF (b - 0xF0) bytes c n (omega arith) (omega arith) (omega arith) (omega arith) (λ k. omega arith) (λ k. omega arith) refl f)
     (λ t5 e5. if-of (b == 0xF4) _ _ (Character c n) e5
-    (λ t f. let at = is-at b 0xF4 t in behind-four b 0x80 0x8F 4 bytes c n (omega arith) (omega arith) (omega arith) (omega arith) (λ k. omega arith) (λ k. omega arith) (omega arith) f)
+    (λ t f. let at = is-at b 0xF4 t in behind-four b 0x80 0x8F 4 bytes c n (omega arith) (omega arith) (omega arith) (omega arith) (λ k. omega arith)
+    (λ k. omega arith) (omega arith) f)
     (λ t6 e6. absurd (cc e6))))))))
 
 pub character-is : (b : ℕ) (bytes : List ℕ) (c n : ℕ) → character_at b bytes ≡ Character c n → IsCharacter b bytes c n
@@ -181,14 +198,16 @@ starts b bytes u = by u.0 u.1.0 u.1.1
 
 behind-front : (front rest : List ℕ) → IsUtf8 front → IsUtf8 (front ++ rest) → IsUtf8 rest
 behind-front front rest u whole =
-    let cut = IsCharBoundary-from_take (front ++ rest) (length front) whole (omega (arith, length-append front rest)) (subst IsUtf8 (sym (take_at front rest (length front) refl)) u) in
+    let cut = IsCharBoundary-from_take (front ++ rest) (length front) whole (omega (arith, length-append front rest))
+    (subst IsUtf8 (sym (take_at front rest (length front) refl)) u) in
     subst IsUtf8 (drop_at front rest (length front) refl) (IsUtf8-drop (front ++ rest) (length front) whole cut)
 
 pub false-by : (t : Bool) → ¬ (t ≡ true) → t ≡ false
 false-by true h = absurd (h refl)
 false-by false h = refl
 
-no-utf8 : (front : List ℕ) (b : ℕ) (bytes : List ℕ) → IsUtf8 front → ((c n : ℕ) → ¬ (character_at b bytes ≡ Character c n)) → is_utf8 (front ++ (b ∷ bytes)) ≡ false
+no-utf8 : (front : List ℕ) (b : ℕ) (bytes : List ℕ) → IsUtf8 front → ((c n : ℕ) → ¬ (character_at b bytes ≡ Character c n)) →
+    is_utf8 (front ++ (b ∷ bytes)) ≡ false
 no-utf8 front b bytes u none = false-by (is_utf8 (front ++ (b ∷ bytes)))
     (λ is. let begun = starts b bytes (behind-front front (b ∷ bytes) u (IsUtf8-from_is_utf8 (front ++ (b ∷ bytes)) is)) in none begun.0 begun.1 begun.2)
 
@@ -252,7 +271,8 @@ Opened spelling.Between d f = d < 0x80
 Opened (spelling.Inside more low high value) d f = Opens d more low high value f
 Opened spelling.Broken d f = (bytes : List ℕ) → f bytes ≡ Broken 1
 
-opened-if : (t : Bool) (x y : Spelling) (d : ℕ) (f g : List ℕ → Begun ℕ) → (t ≡ true → Opened x d f) → (t ≡ false → Opened y d g) → Opened (if t then x else y) d (λ bytes. if t then f bytes else g bytes)
+opened-if : (t : Bool) (x y : Spelling) (d : ℕ) (f g : List ℕ → Begun ℕ) → (t ≡ true → Opened x d f) → (t ≡ false → Opened y d g) →
+    Opened (if t then x else y) d (λ bytes. if t then f bytes else g bytes)
 opened-if true x y d f g p q = p refl
 opened-if false x y d f g p q = q refl
 
@@ -267,24 +287,28 @@ lead_spelling b =
     else (if b == 0xF4 then spelling.Inside 3 0x80 0x8F 4
     else spelling.Broken))))))
 
-opens : (d more low high value : ℕ) → 0x80 ≤ d → 1 ≤ more → more ≤ 3 → 0x80 ≤ low → high ≤ 0xBF → value < 0x8000 → (more ≡ 2 → value < 512) → (more ≡ 3 → value < 8)
+opens : (d more low high value : ℕ) → 0x80 ≤ d → 1 ≤ more → more ≤ 3 → 0x80 ≤ low → high ≤ 0xBF → value < 0x8000 → (more ≡ 2 → value < 512) →
+    (more ≡ 3 → value < 8)
     → Opens d more low high value (λ bytes. continued more low high value 1 bytes)
 opens d more low high value p s f l m v w x = record { past = p; some = s; few = f; least = l; most = m; fits = v; two = w; three = x; reads = λ bytes. refl }
 
 lead-opened : (d : ℕ) → 0x80 ≤ d → Opened (lead_spelling d) d (λ bytes. behind_lead d bytes)
 lead-opened d p =
     opened-if (is_within 0xC2 0xDF d) _ _ d _ _
-    (λ t. let high = to-high 0xC2 0xDF d t in opens d 1 0x80 0xBF (d - 0xC0) p (omega arith) (omega arith) (omega arith) (omega arith) (omega arith) (λ k. omega arith) (λ k. omega arith))
+    (λ t. let high = to-high 0xC2 0xDF d t in opens d 1 0x80 0xBF (d - 0xC0) p (omega arith) (omega arith) (omega arith) (omega arith) (omega arith)
+    (λ k. omega arith) (λ k. omega arith))
     (λ t0. opened-if (d == 0xE0) _ _ d _ _
     (λ t. opens d 2 0xA0 0xBF 0 p (omega arith) (omega arith) (omega arith) (omega arith) (omega arith) (λ k. omega arith) (λ k. omega arith))
     (λ t1. opened-if (d == 0xED) _ _ d _ _
     (λ t. opens d 2 0x80 0x9F 0xD p (omega arith) (omega arith) (omega arith) (omega arith) (omega arith) (λ k. omega arith) (λ k. omega arith))
     (λ t2. opened-if (is_within 0xE1 0xEF d) _ _ d _ _
-    (λ t. let high = to-high 0xE1 0xEF d t in opens d 2 0x80 0xBF (d - 0xE0) p (omega arith) (omega arith) (omega arith) (omega arith) (omega arith) (λ k. omega arith) (λ k. omega arith))
+    (λ t. let high = to-high 0xE1 0xEF d t in opens d 2 0x80 0xBF (d - 0xE0) p (omega arith) (omega arith) (omega arith) (omega arith) (omega arith)
+    (λ k. omega arith) (λ k. omega arith))
     (λ t3. opened-if (d == 0xF0) _ _ d _ _
     (λ t. opens d 3 0x90 0xBF 0 p (omega arith) (omega arith) (omega arith) (omega arith) (omega arith) (λ k. omega arith) (λ k. omega arith))
     (λ t4. opened-if (is_within 0xF1 0xF3 d) _ _ d _ _
-    (λ t. let high = to-high 0xF1 0xF3 d t in opens d 3 0x80 0xBF (d - 0xF0) p (omega arith) (omega arith) (omega arith) (omega arith) (omega arith) (λ k. omega arith) (λ k. omega arith))
+    (λ t. let high = to-high 0xF1 0xF3 d t in opens d 3 0x80 0xBF (d - 0xF0) p (omega arith) (omega arith) (omega arith) (omega arith) (omega arith)
+    (λ k. omega arith) (λ k. omega arith))
     (λ t5. opened-if (d == 0xF4) _ _ d _ _
     (λ t. opens d 3 0x80 0x8F 4 p (omega arith) (omega arith) (omega arith) (omega arith) (omega arith) (λ k. omega arith) (λ k. omega arith))
     (λ t6 bytes. refl)))))))
@@ -307,33 +331,40 @@ module _ (a cs : List ℕ) (d : ℕ) (stands : StandsBetween a cs) where
     three = o.three;
     reads = o.reads;
   }
-  by-opened spelling.Broken p o = λ bytes. ap is_utf8 (append_assoc a (d ∷ []) bytes) ∙ no-utf8 a d bytes stands.utf8 (λ c n e. let no : ◌≡◌ {A = Begun ℕ} (Broken 1) (Character c n) = sym (o bytes) ∙ e in cc)
+  by-opened spelling.Broken p o = λ bytes. ap is_utf8 (append_assoc a (d ∷ []) bytes) ∙
+      no-utf8 a d bytes stands.utf8 (λ c n e. let no : ◌≡◌ {A = Begun ℕ} (Broken 1) (Character c n) = sym (o bytes) ∙ e in cc)
 
   stands-first : Stands (a ++ (d ∷ [])) (behind_first d) (cs ++ with_ended (if nat_lt d 0x80 then Some d else None) [])
   unfolding character_at
   stands-first = by (nat_lt d 0x80) refl
     where
-      by : (t : Bool) → nat_lt d 0x80 ≡ t → Stands (a ++ (d ∷ [])) (if t then spelling.Between else lead_spelling d) (cs ++ with_ended (if t then Some d else None) [])
+      by : (t : Bool) → nat_lt d 0x80 ≡ t → Stands (a ++ (d ∷ [])) (if t then spelling.Between else lead_spelling d)
+          (cs ++ with_ended (if t then Some d else None) [])
       by true t =
           let low : d < 128 = grind (arith, nat_tests) in
           adds-character a (a ++ (d ∷ [])) cs d (low_scalar d (omega arith)) (ap (λ x. a ++ x) (sym (encode_ascii d low))) stands
       by false t =
           let past : 0x80 ≤ d = grind (arith, nat_tests) in
-          let reads : (bytes : List ℕ) → character_at d bytes ≡ behind_lead d bytes = λ bytes. ap (λ s. elim s [ true ↦ Character d 1 | false ↦ behind_lead d bytes ]) t in
+          let reads : (bytes : List ℕ) → character_at d bytes ≡ behind_lead d bytes =
+          λ bytes. ap (λ s. elim s [ true ↦ Character d 1 | false ↦ behind_lead d bytes ]) t in
           let P : (List ℕ → Begun ℕ) → Type 0 = λ f. Opened (lead_spelling d) d f in
           let opened : Opened (lead_spelling d) d (character_at d) = subst P (sym (λ i bytes. reads bytes i)) (lead-opened d past) in
           subst (λ x. Stands (a ++ (d ∷ [])) (lead_spelling d) x) (sym (append-nil cs)) (by-opened (lead_spelling d) past opened)
 
 -- A byte more inside a character.
-continued-broken : (more low high value n d : ℕ) (bytes : List ℕ) → 1 ≤ more → is_within low high d ≡ false → continued more low high value n (d ∷ bytes) ≡ Broken (n + 1)
+continued-broken : (more low high value n d : ℕ) (bytes : List ℕ) → 1 ≤ more → is_within low high d ≡ false →
+    continued more low high value n (d ∷ bytes) ≡ Broken (n + 1)
 continued-broken zero low high value n d bytes some w = absurd (omega arith)
-continued-broken (suc more) low high value n d bytes some w = ap (λ t. if t then continued more 0x80 0xBF (value * 64 + (d - 0x80)) (n + 1) bytes else Broken (n + 1)) w
+continued-broken (suc more) low high value n d bytes some w =
+    ap (λ t. if t then continued more 0x80 0xBF (value * 64 + (d - 0x80)) (n + 1) bytes else Broken (n + 1)) w
 
-continued-on : (more low high value n d : ℕ) (bytes : List ℕ) → 1 ≤ more → is_within low high d ≡ true → continued more low high value n (d ∷ bytes) ≡ continued (more - 1) 0x80 0xBF (value * 64 + (d - 0x80)) (n + 1) bytes
+continued-on : (more low high value n d : ℕ) (bytes : List ℕ) → 1 ≤ more → is_within low high d ≡ true →
+    continued more low high value n (d ∷ bytes) ≡ continued (more - 1) 0x80 0xBF (value * 64 + (d - 0x80)) (n + 1) bytes
 continued-on zero low high value n d bytes some w = absurd (omega arith)
 continued-on (suc more) low high value n d bytes some w =
     let same : more ≡ suc more - 1 = omega arith in
-    ap (λ t. if t then continued more 0x80 0xBF (value * 64 + (d - 0x80)) (n + 1) bytes else Broken (n + 1)) w ∙ ap (λ m. continued m 0x80 0xBF (value * 64 + (d - 0x80)) (n + 1) bytes) same
+    ap (λ t. if t then continued more 0x80 0xBF (value * 64 + (d - 0x80)) (n + 1) bytes else Broken (n + 1)) w ∙
+    ap (λ m. continued m 0x80 0xBF (value * 64 + (d - 0x80)) (n + 1) bytes) same
 
 no-bytes : (xs ys : List ℕ) (n : ℕ) → length (xs ++ ys) ≡ n → length xs ≡ n → ys ≡ []
 no-bytes xs [] n e f = refl
@@ -345,7 +376,8 @@ module _ (a : List ℕ) (more low high value : ℕ) (cs : List ℕ) (d : ℕ) (s
 
   stands-broken : is_within low high d ≡ false → (bytes : List ℕ) → is_utf8 ((a ++ (d ∷ [])) ++ bytes) ≡ false
   stands-broken w bytes = ap is_utf8 (farther bytes) ∙ no-utf8 s.front s.first (s.inner ++ (d ∷ bytes)) s.before.utf8
-      (λ c n e. let no : ◌≡◌ {A = Begun ℕ} (Broken ((1 + length s.inner) + 1)) (Character c n) = sym (s.reads (d ∷ bytes) ∙ continued-broken more low high value (1 + length s.inner) d bytes s.some w) ∙ e in cc)
+      (λ c n e. let no : ◌≡◌ {A = Begun ℕ} (Broken ((1 + length s.inner) + 1)) (Character c n) =
+      sym (s.reads (d ∷ bytes) ∙ continued-broken more low high value (1 + length s.inner) d bytes s.some w) ∙ e in cc)
 
   value-is : is_within low high d ≡ true → value_behind value d ≡ value * 64 + (d - 0x80)
   value-is w =
@@ -360,12 +392,15 @@ module _ (a : List ℕ) (more low high value : ℕ) (cs : List ℕ) (d : ℕ) (s
       let one : more - 1 ≡ 0 = grind (arith, nat_tests) in
       let c = value_behind value d in
       let reads : character_at s.first (s.inner ++ (d ∷ [])) ≡ Character c ((1 + length s.inner) + 1) =
-      s.reads (d ∷ []) ∙ (continued-on more low high value (1 + length s.inner) d [] some w ∙ (ap (λ m. continued m 0x80 0xBF (value * 64 + (d - 0x80)) ((1 + length s.inner) + 1) []) one ∙ ap (λ v. Character v ((1 + length s.inner) + 1)) (sym (value-is w)))) in
+      s.reads (d ∷ []) ∙ (continued-on more low high value (1 + length s.inner) d [] some w ∙
+      (ap (λ m. continued m 0x80 0xBF (value * 64 + (d - 0x80)) ((1 + length s.inner) + 1) []) one ∙
+      ap (λ v. Character v ((1 + length s.inner) + 1)) (sym (value-is w)))) in
       let is = character-is s.first (s.inner ++ (d ∷ [])) c ((1 + length s.inner) + 1) reads in
       let long : length (encode c ++ is.rest) ≡ (1 + length s.inner) + 1 = sym (ap length is.is) ∙ (let l = length-append s.inner (d ∷ []) in omega arith) in
       let none : is.rest ≡ [] = no-bytes (encode c) is.rest ((1 + length s.inner) + 1) long is.long in
       let whole : a ++ (d ∷ []) ≡ s.front ++ encode c =
-      ap (λ x. x ++ (d ∷ [])) s.is ∙ (append_assoc s.front (s.first ∷ s.inner) (d ∷ []) ∙ ap (λ x. s.front ++ x) (is.is ∙ (ap (λ x. encode c ++ x) none ∙ append-nil (encode c)))) in
+      ap (λ x. x ++ (d ∷ [])) s.is ∙ (append_assoc s.front (s.first ∷ s.inner) (d ∷ []) ∙
+      ap (λ x. s.front ++ x) (is.is ∙ (ap (λ x. encode c ++ x) none ∙ append-nil (encode c)))) in
       adds-character s.front (a ++ (d ∷ [])) cs c is.scalar whole s.before
 
   stands-on : is_within low high d ≡ true → nat_lt more 2 ≡ false → StandsInside (a ++ (d ∷ [])) (more - 1) 0x80 0xBF (value_behind value d) cs
@@ -397,20 +432,23 @@ module _ (a : List ℕ) (more low high value : ℕ) (cs : List ℕ) (d : ℕ) (s
             ap (character_at s.first) (append_assoc s.inner (d ∷ []) bytes)
             ∙ (s.reads (d ∷ bytes)
             ∙ (continued-on more low high value (1 + length s.inner) d bytes s.some w
-            ∙ (ap (λ v. continued (more - 1) 0x80 0xBF v ((1 + length s.inner) + 1) bytes) (sym is) ∙ ap (λ n. continued (more - 1) 0x80 0xBF (value_behind value d) n bytes) long)));
+            ∙ (ap (λ v. continued (more - 1) 0x80 0xBF v ((1 + length s.inner) + 1) bytes) (sym is) ∙
+            ap (λ n. continued (more - 1) 0x80 0xBF (value_behind value d) n bytes) long)));
       }
 
   stands-inner : Stands (a ++ (d ∷ [])) (behind_inner more low high value d) (cs ++ with_ended (if nat_lt more 2 then Some (value_behind value d) else None) [])
   stands-inner = by (is_within low high d) (nat_lt more 2) refl refl
     where
       by : (w t : Bool) → is_within low high d ≡ w → nat_lt more 2 ≡ t
-          → Stands (a ++ (d ∷ [])) (if w then (if t then spelling.Between else spelling.Inside (more - 1) 0x80 0xBF (value_behind value d)) else spelling.Broken) (cs ++ with_ended (if t then Some (value_behind value d) else None) [])
+          → Stands (a ++ (d ∷ [])) (if w then (if t then spelling.Between else spelling.Inside (more - 1) 0x80 0xBF (value_behind value d)) else
+          spelling.Broken) (cs ++ with_ended (if t then Some (value_behind value d) else None) [])
       by false t e f = stands-broken e
       by true true e f = stands-last e f
       by true false e f = subst (λ x. StandsInside (a ++ (d ∷ [])) (more - 1) 0x80 0xBF (value_behind value d) x) (sym (append-nil cs)) (stands-on e f)
 
 -- A byte more.
-pub stands-behind : (a : List ℕ) (u : Spelling) (cs : List ℕ) (d : ℕ) → Stands a u cs → Stands (a ++ (d ∷ [])) (spelling_behind u d) (cs ++ with_ended (ended u d) [])
+pub stands-behind : (a : List ℕ) (u : Spelling) (cs : List ℕ) (d : ℕ) → Stands a u cs →
+    Stands (a ++ (d ∷ [])) (spelling_behind u d) (cs ++ with_ended (ended u d) [])
 stands-behind a spelling.Between cs d s = stands-first a cs d s
 stands-behind a (spelling.Inside more low high value) cs d s = stands-inner a more low high value cs d s
 stands-behind a spelling.Broken cs d s = λ bytes. ap is_utf8 (append_assoc a (d ∷ []) bytes) ∙ s (d ∷ bytes)
@@ -434,7 +472,8 @@ wrong-told u wrong [] = or-nothing wrong
     or-nothing : (t : Bool) → t ≡ (t || false)
     or-nothing true = refl
     or-nothing false = refl
-wrong-told u wrong (b ∷ bytes) = wrong-told (spelling_behind u b) (wrong || is_wrong (ended u b)) bytes ∙ by wrong (ended u b) (characters (spelling_behind u b) bytes)
+wrong-told u wrong (b ∷ bytes) = wrong-told (spelling_behind u b) (wrong || is_wrong (ended u b)) bytes ∙
+    by wrong (ended u b) (characters (spelling_behind u b) bytes)
   where
     both-wrong : (t p q : Bool) → ((t || not p) || not q) ≡ (t || not (p && q))
     both-wrong true p q = refl
@@ -454,9 +493,11 @@ stands-all a u cs [] s = subst (λ x. Stands x u (cs ++ [])) (sym (append-nil a)
 stands-all a u cs (b ∷ bytes) s =
     let end = spelling_all (spelling_behind u b) bytes in
     let rest = characters (spelling_behind u b) bytes in
-    let same : (cs ++ with_ended (ended u b) []) ++ rest ≡ cs ++ with_ended (ended u b) rest = append_assoc cs (with_ended (ended u b) []) rest ∙ ap (λ x. cs ++ x) (more (ended u b) rest) in
+    let same : (cs ++ with_ended (ended u b) []) ++ rest ≡ cs ++ with_ended (ended u b) rest = append_assoc cs (with_ended (ended u b) []) rest ∙
+    ap (λ x. cs ++ x) (more (ended u b) rest) in
     subst (λ x. Stands x end (cs ++ with_ended (ended u b) rest)) (append_assoc a (b ∷ []) bytes)
-    (subst (λ x. Stands ((a ++ (b ∷ [])) ++ bytes) end x) same (stands-all (a ++ (b ∷ [])) (spelling_behind u b) (cs ++ with_ended (ended u b) []) bytes (stands-behind a u cs b s)))
+    (subst (λ x. Stands ((a ++ (b ∷ [])) ++ bytes) end x) same
+    (stands-all (a ++ (b ∷ [])) (spelling_behind u b) (cs ++ with_ended (ended u b) []) bytes (stands-behind a u cs b s)))
   where
     more : (o : Option ℕ) (rest : List ℕ) → with_ended o [] ++ rest ≡ with_ended o rest
     more None rest = refl
@@ -485,4 +526,5 @@ whole-told a (spelling.Inside more low high value) cs s whole = absurd (inside-n
 whole-told a spelling.Broken cs s whole = absurd (broken-none a s whole)
 
 pub characters-told : (bytes : List ℕ) → IsUtf8 bytes → characters spelling.Between bytes ≡ chars bytes
-characters-told bytes whole = whole-told bytes (spelling_all spelling.Between bytes) (characters spelling.Between bytes) (stands-all [] spelling.Between [] bytes stands-begun) whole
+characters-told bytes whole = whole-told bytes (spelling_all spelling.Between bytes) (characters spelling.Between bytes)
+    (stands-all [] spelling.Between [] bytes stands-begun) whole

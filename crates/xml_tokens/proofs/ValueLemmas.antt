@@ -1,9 +1,11 @@
 -- What values say, by their bytes and by their characters.
-use Rattle.std.proofs.Common.{◌≡◌, ℕ, zero, suc, pred, ◌+◌, ◌-◌, ◌<◌, ◌≤◌, ◌==◌, nat_lt, Bool, true, false, ◌||◌, ◌&&◌, List, [], ◌∷◌, ◌++◌, length, take, drop, refl, sym, ap, ◌∙◌, arith, Option, Some, None, option_map, subst, true≢false}
+use Rattle.std.proofs.Common.{◌≡◌, ℕ, zero, suc, pred, ◌+◌, ◌-◌, ◌<◌, ◌≤◌, ◌==◌, nat_lt, Bool, true, false, ◌||◌, ◌&&◌, List, [], ◌∷◌, ◌++◌, length, take, drop}
+use Rattle.std.proofs.Common.{refl, sym, ap, ◌∙◌, arith, Option, Some, None, option_map, subst, true≢false}
 use Rattle.std.specs.Prelude.{encode_utf8, encode_utf8_all}
 use Rattle.std.specs.Str.{chars, IsUtf8, IsCharBoundary}
 use Rattle.std.specs.List.{list_any}
-use Rattle.std.proofs.lemmas.Str.{chars-nil, encode_ascii, length-encode, len_utf8_bounds, char_from_byte, encodes-chars, IsUtf8-past_char, chars_past_char, IsCharBoundary-at_seam, IsCharBoundary-from_take, IsUtf8-drop, chars-append}
+use Rattle.std.proofs.lemmas.Str.{chars-nil, encode_ascii, length-encode, len_utf8_bounds, char_from_byte, encodes-chars, IsUtf8-past_char, chars_past_char}
+use Rattle.std.proofs.lemmas.Str.{IsCharBoundary-at_seam, IsCharBoundary-from_take, IsUtf8-drop, chars-append}
 use Rattle.std.proofs.lemmas.List.{append-nil, append_assoc, take_at, drop_at, length-append}
 use Rattle.std.proofs.lemmas.Bool.Decides.{nat_tests}
 use Rattle.inv_base.specs.Characters.{is_white_space}
@@ -121,17 +123,25 @@ body-same (c ∷ cs) (suc room) = by (is_reference_byte c) (nat_lt c 128) refl r
               (subst (λ x. HeadSame (drop (length (reference_body cs room)) cs) (drop (suc (length (reference_body cs room))) x)) (sym is) rest.heads);
         }
     by false true e f rest =
-        body-stops (c ∷ cs) (suc room) (ap (λ x. reference_body x (suc room)) (one (is_low f)) ∙ body-none c (encode_utf8_all cs) (suc room) e) (body-none c cs (suc room) e)
+        body-stops (c ∷ cs) (suc room) (ap (λ x. reference_body x (suc room)) (one (is_low f)) ∙ body-none c (encode_utf8_all cs) (suc room) e)
+        (body-none c cs (suc room) e)
     by false false e f rest =
         let high = high-first c (is_high f) in
-        body-stops (c ∷ cs) (suc room) (ap (λ xs. reference_body (xs ++ encode_utf8_all cs) (suc room)) high.is ∙ body-none high.first (high.others ++ encode_utf8_all cs) (suc room) (reference-high high.first high.high)) (body-none c cs (suc room) e)
+        body-stops (c ∷ cs) (suc room) (ap (λ xs. reference_body (xs ++ encode_utf8_all cs) (suc room)) high.is ∙
+        body-none high.first (high.others ++ encode_utf8_all cs) (suc room) (reference-high high.first high.high)) (body-none c cs (suc room) e)
 
 abbrev of_end : List ℕ → Bool → Begun ℕ
 of_end body t = elim t [ true ↦ refers (length body + 2) (referred body) | false ↦ begun.Broken (length body + 2) ]
 
 -- the reference of a body and what stands behind it
 abbrev pub of_body : List ℕ → List ℕ → Begun ℕ
-of_body body rest = elim rest [ [] ↦ begun.Unfinished | (b ∷ more) ↦ elim (b == 0x3B) [ true ↦ refers (length body + 2) (referred body) | false ↦ begun.Broken (length body + 2) ] ]
+of_body body rest = elim rest [
+  | [] ↦ begun.Unfinished
+  | (b ∷ more) ↦ elim (b == 0x3B) [
+    | true ↦ refers (length body + 2) (referred body)
+    | false ↦ begun.Broken (length body + 2)
+  ]
+]
 
 of-heads : (body xs ys : List ℕ) → HeadSame xs ys → of_body body xs ≡ of_body body ys
 of-heads body xs ys both_end = refl
@@ -165,7 +175,8 @@ body-front (b ∷ bytes) (suc room) = by (is_reference_byte b) (body-front bytes
     choose : Bool → List ℕ
     choose t = elim t [ true ↦ b ∷ reference_body bytes room | false ↦ [] ]
 
-    by : (t : Bool) → bytes ≡ reference_body bytes room ++ drop (length (reference_body bytes room)) bytes → (b ∷ bytes) ≡ choose t ++ drop (length (choose t)) (b ∷ bytes)
+    by : (t : Bool) → bytes ≡ reference_body bytes room ++ drop (length (reference_body bytes room)) bytes → (b ∷ bytes) ≡ choose t ++
+        drop (length (choose t)) (b ∷ bytes)
     by true e = ap (λ x. b ∷ x) e
     by false e = refl
 
@@ -188,7 +199,8 @@ reference-front bytes c n e = by (drop (length body) bytes) refl e
     body : List ℕ
     body = reference_body bytes greatest_reference
 
-    by : (rest : List ℕ) → drop (length (reference_body bytes greatest_reference)) bytes ≡ rest → of_body (reference_body bytes greatest_reference) rest ≡ begun.Character c n → LowFront bytes (pred n) × (1 ≤ n)
+    by : (rest : List ℕ) → drop (length (reference_body bytes greatest_reference)) bytes ≡ rest →
+        of_body (reference_body bytes greatest_reference) rest ≡ begun.Character c n → LowFront bytes (pred n) × (1 ≤ n)
     by [] h e = cc
     by (b ∷ more) h e = by_end (b == 0x3B) refl e
       where
@@ -203,7 +215,8 @@ reference-front bytes c n e = by (drop (length body) bytes) refl e
               record {
                 front = reference_body bytes greatest_reference ++ b ∷ [];
                 rest = more;
-                whole = body-front bytes greatest_reference ∙ (ap (λ x. reference_body bytes greatest_reference ++ x) h ∙ sym (append_assoc (reference_body bytes greatest_reference) (b ∷ []) more));
+                whole = body-front bytes greatest_reference ∙
+                    (ap (λ x. reference_body bytes greatest_reference ++ x) h ∙ sym (append_assoc (reference_body bytes greatest_reference) (b ∷ []) more));
                 long = omega (arith, length-append (reference_body bytes greatest_reference) (b ∷ []));
                 low = low-more (reference_body bytes greatest_reference) b (body-low bytes greatest_reference) (end t);
               },
@@ -219,7 +232,8 @@ low-front (b ∷ front) rest low u =
     (chars_past_char (b ∷ (front ++ rest)) (front ++ rest) b u first ∙ ap (λ x. b ∷ x) behind.0, behind.1)
 
 pub front-boundary : (text : List ℕ) (n : ℕ) → IsUtf8 text → LowFront text n → IsCharBoundary text n
-front-boundary text n u f = subst (λ k. IsCharBoundary text k) f.long (IsCharBoundary-at_seam text f.front f.rest f.whole (low-front f.front f.rest f.low (subst IsUtf8 f.whole u)).1)
+front-boundary text n u f = subst (λ k. IsCharBoundary text k) f.long
+    (IsCharBoundary-at_seam text f.front f.rest f.whole (low-front f.front f.rest f.low (subst IsUtf8 f.whole u)).1)
 
 pub front-rest : (text back : List ℕ) (n : ℕ) → back ≡ drop n text → (f : LowFront text n) → back ≡ f.rest
 front-rest text back n e f = e ∙ (ap (drop n) f.whole ∙ drop_at f.front f.rest n f.long)
@@ -251,18 +265,22 @@ chars-more : (own : List ℕ) (c : ℕ) → IsUtf8 own → IsUtf8 (own ++ encode
 chars-more own c u w =
     let front : take (length own) (own ++ encode_utf8 c) ≡ own = take_at own (encode_utf8 c) (length own) refl in
     let long : length own ≤ length (own ++ encode_utf8 c) = omega (arith, length-append own (encode_utf8 c)) in
-    let seam : IsCharBoundary (own ++ encode_utf8 c) (length own) = IsCharBoundary-from_take (own ++ encode_utf8 c) (length own) w long (subst IsUtf8 (sym front) u) in
+    let seam : IsCharBoundary (own ++ encode_utf8 c) (length own) =
+    IsCharBoundary-from_take (own ++ encode_utf8 c) (length own) w long (subst IsUtf8 (sym front) u) in
     let last : IsUtf8 (encode_utf8 c) = subst IsUtf8 (drop_at own (encode_utf8 c) (length own) refl) (IsUtf8-drop (own ++ encode_utf8 c) (length own) w seam) in
-    chars-append own (encode_utf8 c) u ∙ ap (λ x. chars own ++ x) (chars_past_char (encode_utf8 c) [] c last (sym (append-nil (encode_utf8 c))) ∙ ap (λ x. c ∷ x) chars-nil)
+    chars-append own (encode_utf8 c) u ∙ ap (λ x. chars own ++ x) (chars_past_char (encode_utf8 c) [] c last (sym (append-nil (encode_utf8 c))) ∙
+    ap (λ x. c ∷ x) chars-nil)
 
-said-more : (own : List ℕ) (c : ℕ) (x : Option (List ℕ)) → option_map (λ said. own ++ said) (option_map (λ said. c ∷ said) x) ≡ option_map (λ said. (own ++ c ∷ []) ++ said) x
+said-more : (own : List ℕ) (c : ℕ) (x : Option (List ℕ)) → option_map (λ said. own ++ said) (option_map (λ said. c ∷ said) x) ≡ option_map
+    (λ said. (own ++ c ∷ []) ++ said) x
 said-more own c None = refl
 said-more own c (Some said) = ap Some (sym (append_assoc own (c ∷ []) said))
 
 abbrev with_part : Option ValuePart → List ℕ → Option (List ℕ)
 with_part x cs = elim x [ None ↦ None | (Some part) ↦ option_map (λ value. part.character ∷ value) (tags.value_of part.more cs) ]
 
-value-step : (c : ℕ) (cs : List ℕ) (part : ValuePart) → tags.value_part c cs ≡ Some part → tags.value_of 0 (c ∷ cs) ≡ option_map (λ said. part.character ∷ said) (tags.value_of part.more cs)
+value-step : (c : ℕ) (cs : List ℕ) (part : ValuePart) → tags.value_part c cs ≡ Some part →
+    tags.value_of 0 (c ∷ cs) ≡ option_map (λ said. part.character ∷ said) (tags.value_of part.more cs)
 unfolding tags.value_of
 value-step c cs part e = by (tags.value_part c cs) e
   where
@@ -274,25 +292,30 @@ value-stop : (c : ℕ) (cs : List ℕ) → tags.value_part c cs ≡ None → tag
 unfolding tags.value_of
 value-stop c cs e = ap (λ x. with_part x cs) e
 
-pub saying-step : (value own new rest behind back : List ℕ) (c : ℕ) (part : ValuePart) → chars rest ≡ c ∷ chars behind → rest ≡ encode_utf8 c ++ behind → tags.value_part c (chars behind) ≡ Some part → LowFront behind part.more → back ≡ drop part.more behind
+pub saying-step : (value own new rest behind back : List ℕ) (c : ℕ) (part : ValuePart) → chars rest ≡ c ∷ chars behind → rest ≡ encode_utf8 c ++ behind →
+    tags.value_part c (chars behind) ≡ Some part → LowFront behind part.more → back ≡ drop part.more behind
     → IsUtf8 own → new ≡ own ++ encode_utf8 part.character → IsUtf8 new → Saying value own rest → Saying value new back
 saying-step value own new rest behind back c part e f g low b u n w known =
     let v : IsUtf8 behind = IsUtf8-past_char rest behind c known.utf8 f in
     let split = low-front low.front low.rest low.low (subst IsUtf8 low.whole v) in
     let same : back ≡ low.rest = front-rest behind back part.more b low in
     let skipped : tags.value_of part.more (chars behind) ≡ tags.value_of 0 (chars back) =
-    ap (λ x. tags.value_of part.more (chars x)) low.whole ∙ (ap (tags.value_of part.more) split.0 ∙ (value-skip low.front (chars low.rest) part.more low.long ∙ ap (λ x. tags.value_of 0 (chars x)) (sym same))) in
+    ap (λ x. tags.value_of part.more (chars x)) low.whole ∙
+    (ap (tags.value_of part.more) split.0 ∙ (value-skip low.front (chars low.rest) part.more low.long ∙ ap (λ x. tags.value_of 0 (chars x)) (sym same))) in
     let told : chars new ≡ chars own ++ part.character ∷ [] = ap chars n ∙ chars-more own part.character u (subst IsUtf8 n w) in
     record {
       whole = known.whole ∙ (ap (λ x. option_map (λ said. chars own ++ said) (tags.value_of 0 x)) e
           ∙ (ap (option_map (λ said. chars own ++ said)) (value-step c (chars behind) part g ∙ ap (option_map (λ said. part.character ∷ said)) skipped)
-          ∙ (said-more (chars own) part.character (tags.value_of 0 (chars back)) ∙ ap (λ x. option_map (λ said. x ++ said) (tags.value_of 0 (chars back))) (sym told))));
+          ∙ (said-more (chars own) part.character (tags.value_of 0 (chars back)) ∙
+          ap (λ x. option_map (λ said. x ++ said) (tags.value_of 0 (chars back))) (sym told))));
       utf8 = subst IsUtf8 (sym same) split.1;
     }
 
-pub saying-stop : (value own rest behind : List ℕ) (c : ℕ) → chars rest ≡ c ∷ chars behind → None ≡ tags.value_part c (chars behind) → Saying value own rest → None ≡ tags.value_of 0 (chars value)
+pub saying-stop : (value own rest behind : List ℕ) (c : ℕ) → chars rest ≡ c ∷ chars behind → None ≡ tags.value_part c (chars behind) → Saying value own rest →
+    None ≡ tags.value_of 0 (chars value)
 saying-stop value own rest behind c e f known =
-    sym (known.whole ∙ (ap (λ x. option_map (λ said. chars own ++ said) (tags.value_of 0 x)) e ∙ ap (option_map (λ said. chars own ++ said)) (value-stop c (chars behind) (sym f))))
+    sym (known.whole ∙ (ap (λ x. option_map (λ said. chars own ++ said) (tags.value_of 0 x)) e ∙
+    ap (option_map (λ said. chars own ++ said)) (value-stop c (chars behind) (sym f))))
 
 pub saying-end : (value own rest : List ℕ) → rest ≡ [] → Saying value own rest → Some (chars own) ≡ tags.value_of 0 (chars value)
 unfolding tags.value_of
@@ -323,7 +346,8 @@ newline-encoded (c ∷ cs) = by (nat_lt c 128) refl
     by true t = sym (ap (λ xs. begins_with (0xA ∷ []) (xs ++ encode_utf8_all cs)) (encode_ascii c (is_low t)))
     by false t =
         let high = high-first c (is_high t) in
-        newline-high c cs (is_high t) ∙ sym (ap (λ xs. begins_with (0xA ∷ []) (xs ++ encode_utf8_all cs)) high.is ∙ newline-high high.first (high.others ++ encode_utf8_all cs) high.high)
+        newline-high c cs (is_high t) ∙ sym (ap (λ xs. begins_with (0xA ∷ []) (xs ++ encode_utf8_all cs)) high.is ∙
+        newline-high high.first (high.others ++ encode_utf8_all cs) high.high)
 
 pub newline-told : (text : List ℕ) → IsUtf8 text → begins_with (0xA ∷ []) (chars text) ≡ begins_with (0xA ∷ []) text
 newline-told text u = newline-encoded (chars text) ∙ ap (begins_with (0xA ∷ [])) (encodes-chars text u)
@@ -345,7 +369,8 @@ newline-front c text u e = by text (ap (λ t. t) (sym (newline-told text u)) ∙
 pub nothing-front : (text : List ℕ) → LowFront text 0
 nothing-front text = record { front = []; rest = text; whole = refl; long = refl; low = tt }
 
-pub part-reference : (c : ℕ) (behind : List ℕ) (x : Option ValuePart) → c ≡ 38 → IsUtf8 behind → x ≡ tags.referred_part (reference_at behind) → x ≡ tags.value_part c (chars behind)
+pub part-reference : (c : ℕ) (behind : List ℕ) (x : Option ValuePart) → c ≡ 38 → IsUtf8 behind → x ≡ tags.referred_part (reference_at behind) →
+    x ≡ tags.value_part c (chars behind)
 part-reference c behind x e u f = f ∙ (ap tags.referred_part (sym (reference-told behind u)) ∙ sym (ap (λ d. tags.value_part d (chars behind)) e))
 
 abbrev pub part_of : ℕ → ℕ → ValuePart
@@ -377,9 +402,11 @@ plain-encoded (c ∷ cs) h = by (nat_lt c 128) refl h (plain-encoded cs)
     made : says_more c ≡ false → tags.value_of 0 cs ≡ Some cs → tags.value_of 0 (c ∷ cs) ≡ Some (c ∷ cs)
     made e rest = value-step c cs (part_of c 0) (plain-part c cs e) ∙ ap (option_map (λ said. c ∷ said)) rest
 
-    by : (t : Bool) → nat_lt c 128 ≡ t → list_any says_more (encode_utf8 c ++ encode_utf8_all cs) ≡ false → (list_any says_more (encode_utf8_all cs) ≡ false → tags.value_of 0 cs ≡ Some cs) → tags.value_of 0 (c ∷ cs) ≡ Some (c ∷ cs)
+    by : (t : Bool) → nat_lt c 128 ≡ t → list_any says_more (encode_utf8 c ++ encode_utf8_all cs) ≡ false →
+        (list_any says_more (encode_utf8_all cs) ≡ false → tags.value_of 0 cs ≡ Some cs) → tags.value_of 0 (c ∷ cs) ≡ Some (c ∷ cs)
     by true t e rest =
-        let parts = or_right (says_more c) (list_any says_more (encode_utf8_all cs)) (ap (λ xs. list_any says_more (xs ++ encode_utf8_all cs)) (sym (encode_ascii c (is_low t))) ∙ e) in
+        let parts = or_right (says_more c) (list_any says_more (encode_utf8_all cs))
+        (ap (λ xs. list_any says_more (xs ++ encode_utf8_all cs)) (sym (encode_ascii c (is_low t))) ∙ e) in
         made parts.0 (rest parts.1)
     by false t e rest = made (high_plain (is_high t)) (rest (behind (encode_utf8 c) (encode_utf8_all cs) e))
 

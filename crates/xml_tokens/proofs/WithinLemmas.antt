@@ -1,5 +1,6 @@
 -- A token that begins at a front of the bytes takes at least one of them, and no more than there are.
-use Rattle.std.proofs.Common.{◌≡◌, ℕ, zero, suc, pred, ◌+◌, ◌-◌, ◌*◌, ◌≤◌, ◌==◌, nat_lt, Bool, true, false, List, [], ◌∷◌, ◌++◌, length, take, drop, refl, ap, arith, Option, Some, None, Result, Ok, Err, if◌then◌else◌, chars}
+use Rattle.std.proofs.Common.{◌≡◌, ℕ, zero, suc, pred, ◌+◌, ◌-◌, ◌*◌, ◌≤◌, ◌==◌, nat_lt, Bool, true, false, List, [], ◌∷◌, ◌++◌, length, take, drop, refl, ap}
+use Rattle.std.proofs.Common.{arith, Option, Some, None, Result, Ok, Err, if◌then◌else◌, chars}
 use Rattle.std.specs.List.{list_all}
 use Rattle.std.specs.Str.{is_utf8}
 use Rattle.std.specs.Prelude.{codes}
@@ -13,7 +14,8 @@ use Rattle.xml_tokens.specs.Encoding as encoding
 use Rattle.xml_tokens.specs.References.{reference_body, refers, referred, reference_at, greatest_reference}
 use Rattle.xml_tokens.specs.Markup.{Token, a_character, comment, section, instruction}
 use Rattle.xml_tokens.specs.Tags.{tag}
-use Rattle.xml_tokens.specs.Beginnings.{Beginning, good, bad, later, may_declare, of_length, extent, extent_through, tag_at, comment_or_section_at, markup_at, reference_token, bracket_at, line_end_at, character_token, begins_with_mark, beginning, greatest_tag}
+use Rattle.xml_tokens.specs.Beginnings.{Beginning, good, bad, later, may_declare, of_length, extent, extent_through, tag_at, comment_or_section_at, markup_at}
+use Rattle.xml_tokens.specs.Beginnings.{reference_token, bracket_at, line_end_at, character_token, begins_with_mark, beginning, greatest_tag}
 use Rattle.xml_tokens.specs.declared.beginning.Position.{Position}
 use Rattle.xml_tokens.specs.declared.beginning.Position.TheVariants.{AtStart, BehindMark, Farther}
 use Rattle.xml_tokens.proofs.ScannerLemmas as scan
@@ -37,18 +39,22 @@ extent-within k n inside grammar h g = by (is_utf8 inside) (list_all is_char (ch
     by true false = tt
     by true true = of-length-within k n h g (grammar inside)
 
-through-within : (c : ℕ) (string : List ℕ) (opening : ℕ) (grammar : List ℕ → Result Token XmlKind) (bytes : List ℕ) → Within (opening + length bytes) (extent_through (c ∷ string) opening bytes grammar)
+through-within : (c : ℕ) (string : List ℕ) (opening : ℕ) (grammar : List ℕ → Result Token XmlKind) (bytes : List ℕ) →
+    Within (opening + length bytes) (extent_through (c ∷ string) opening bytes grammar)
 through-within c string opening grammar bytes = by (place_of (c ∷ string) bytes) (place_of (c ∷ string) (bytes ++ [])) (scan.place-stays c string bytes [])
   where
-    by : (x y : Option ℕ) → scan.PlaceStays (c ∷ string) (length bytes) x y → Within (opening + length bytes) (elim x [ None ↦ later | (Some n) ↦ extent (opening + (n + length (c ∷ string))) (take n bytes) grammar ])
+    by : (x y : Option ℕ) → scan.PlaceStays (c ∷ string) (length bytes) x y →
+        Within (opening + length bytes) (elim x [ None ↦ later | (Some n) ↦ extent (opening + (n + length (c ∷ string))) (take n bytes) grammar ])
     by x y (scan.found n h) = extent-within (opening + length bytes) (opening + (n + length (c ∷ string))) (take n bytes) grammar (omega arith) (omega arith)
     by x y scan.nowhere = tt
     by x y (scan.found_later n h) = tt
 
 tag-within : (bytes : List ℕ) → Within (1 + length bytes) (tag_at bytes)
-tag-within bytes = by (tag_end bytes None (pred greatest_tag)) (tag_end (bytes ++ []) None (pred greatest_tag)) (scan.end-stays bytes [] None (pred greatest_tag))
+tag-within bytes = by (tag_end bytes None (pred greatest_tag)) (tag_end (bytes ++ []) None (pred greatest_tag))
+    (scan.end-stays bytes [] None (pred greatest_tag))
   where
-    by : (x y : TagEnd) → scan.EndStays (length bytes) (pred greatest_tag) x y → Within (1 + length bytes) (elim x [ none_within ↦ bad TagTooLong greatest_tag | none_yet ↦ later | (behind n) ↦ extent (n + 2) (take n bytes) tag ])
+    by : (x y : TagEnd) → scan.EndStays (length bytes) (pred greatest_tag) x y →
+        Within (1 + length bytes) (elim x [ none_within ↦ bad TagTooLong greatest_tag | none_yet ↦ later | (behind n) ↦ extent (n + 2) (take n bytes) tag ])
     by x y (scan.end_found k room n h) = extent-within (1 + length bytes) (n + 2) (take n bytes) tag (omega arith) (omega arith)
     by x y (scan.end_too_far k room) = tt
     by x y (scan.end_goes_on k room m f) = tt
@@ -57,8 +63,10 @@ opened-within : (a : List ℕ) → Within (2 + length a) (comment_or_section_at 
 opened-within a = by (begins_with front_1 a) (begins_with front_2 a) (begins_with front_3 a) (inside_one a) refl refl
   where
     by : (t1 t2 t3 inside : Bool) → begins_with front_1 a ≡ t1 → begins_with front_2 a ≡ t2 → Within (2 + length a) (choice t1 t2 t3 inside (shared a) a)
-    by true t2 t3 inside h g = let k : length (drop 2 a) + 2 ≡ length a = drop-length front_1 a h in within-more (4 + length (drop 2 a)) (2 + length a) (omega arith) _ (through-within 0x2D (codes "->") 4 comment (drop 2 a))
-    by false true t3 inside h g = let k : length (drop 7 a) + 7 ≡ length a = drop-length front_2 a g in within-more (9 + length (drop 7 a)) (2 + length a) (omega arith) _ (through-within 0x5D (codes "]>") 9 section (drop 7 a))
+    by true t2 t3 inside h g = let k : length (drop 2 a) + 2 ≡ length a = drop-length front_1 a h in
+        within-more (4 + length (drop 2 a)) (2 + length a) (omega arith) _ (through-within 0x2D (codes "->") 4 comment (drop 2 a))
+    by false true t3 inside h g = let k : length (drop 7 a) + 7 ≡ length a = drop-length front_2 a g in
+        within-more (9 + length (drop 7 a)) (2 + length a) (omega arith) _ (through-within 0x5D (codes "]>") 9 section (drop 7 a))
     by false false true inside h g = tt
     by false false false true h g = tt
     by false false false false h g = tt
@@ -67,7 +75,14 @@ markup-within : (p : Position) (a : List ℕ) → Within (1 + length a) (markup_
 markup-within p [] = tt
 markup-within p (d ∷ a) = by (d == 0x21) (d == 0x3F)
   where
-    by : (t u : Bool) → Within (1 + length (d ∷ a)) (elim t [ true ↦ comment_or_section_at a | false ↦ elim u [ true ↦ extent_through (codes "?>") 2 a (instruction (may_declare p)) | false ↦ tag_at (d ∷ a) ] ])
+    by : (t u : Bool) → Within (1 + length (d ∷ a))
+        (elim t [
+          | true ↦ comment_or_section_at a
+          | false ↦ elim u [
+            | true ↦ extent_through (codes "?>") 2 a (instruction (may_declare p))
+            | false ↦ tag_at (d ∷ a)
+          ]
+        ])
     by true u = within-more (2 + length a) (1 + length (d ∷ a)) (omega arith) _ (opened-within a)
     by false true = within-more (2 + length a) (1 + length (d ∷ a)) (omega arith) _ (through-within 0x3F (codes ">") 2 (instruction (may_declare p)) a)
     by false false = tag-within (d ∷ a)
@@ -80,9 +95,11 @@ BegunWithin k begun.Unfinished = Unit {0}
 continued-within : (more low high c n : ℕ) (a : List ℕ) (k : ℕ) → 1 ≤ n → n + length a ≤ k → BegunWithin k (encoding.continued more low high c n a)
 continued-within zero low high c n a k h g = (h, omega arith)
 continued-within (suc more) low high c n [] k h g = tt
-continued-within (suc more) low high c n (d ∷ a) k h g = by (is_within low high d) (continued-within more 0x80 0xBF (c * 64 + (d - 0x80)) (n + 1) a k (omega arith) (omega arith))
+continued-within (suc more) low high c n (d ∷ a) k h g =
+    by (is_within low high d) (continued-within more 0x80 0xBF (c * 64 + (d - 0x80)) (n + 1) a k (omega arith) (omega arith))
   where
-    by : (t : Bool) → BegunWithin k (encoding.continued more 0x80 0xBF (c * 64 + (d - 0x80)) (n + 1) a) → BegunWithin k (if t then encoding.continued more 0x80 0xBF (c * 64 + (d - 0x80)) (n + 1) a else begun.Broken (n + 1))
+    by : (t : Bool) → BegunWithin k (encoding.continued more 0x80 0xBF (c * 64 + (d - 0x80)) (n + 1) a) →
+        BegunWithin k (if t then encoding.continued more 0x80 0xBF (c * 64 + (d - 0x80)) (n + 1) a else begun.Broken (n + 1))
     by true w = w
     by false w = tt
 
@@ -122,12 +139,21 @@ reference-within a = by (drop (length (reference_body a greatest_reference)) a) 
     n = length (reference_body a greatest_reference)
 
     by : (rest : List ℕ) → drop (length (reference_body a greatest_reference)) a ≡ rest
-        → BegunWithin (1 + length a) (elim rest [ [] ↦ begun.Unfinished | (b ∷ more) ↦ elim (b == 0x3B) [ true ↦ refers (length (reference_body a greatest_reference) + 2) (referred (reference_body a greatest_reference)) | false ↦ begun.Broken (length (reference_body a greatest_reference) + 2) ] ])
+        → BegunWithin (1 + length a) (elim rest [
+          | [] ↦ begun.Unfinished
+          | (b ∷ more) ↦ elim (b == 0x3B) [
+            | true ↦ refers (length (reference_body a greatest_reference) + 2) (referred (reference_body a greatest_reference))
+            | false ↦ begun.Broken (length (reference_body a greatest_reference) + 2)
+          ]
+        ])
     by [] h = tt
     by (b ∷ more) h = by_end (b == 0x3B) (referred (reference_body a greatest_reference)) (drop-left (length (reference_body a greatest_reference)) a b more h)
       where
         by_end : (t : Bool) (x : Option ℕ) → suc (length (reference_body a greatest_reference)) ≤ length a
-            → BegunWithin (1 + length a) (elim t [ true ↦ refers (length (reference_body a greatest_reference) + 2) x | false ↦ begun.Broken (length (reference_body a greatest_reference) + 2) ])
+            → BegunWithin (1 + length a) (elim t [
+              | true ↦ refers (length (reference_body a greatest_reference) + 2) x
+              | false ↦ begun.Broken (length (reference_body a greatest_reference) + 2)
+            ])
         by_end true None l = tt
         by_end true (Some c) l = (omega arith, omega arith)
         by_end false x l = tt
@@ -176,7 +202,13 @@ unfolding beginning
 beginning-within p c a = within-more (1 + length a) (suc (length a)) (omega arith) _ (by (c == 0x3C) (c == 0x26) (c == 0x5D) (c == 0xD))
   where
     by : (t1 t2 t3 t4 : Bool) → Within (1 + length a)
-        (elim t1 [ true ↦ markup_at p a | false ↦ elim t2 [ true ↦ reference_token (reference_at a) | false ↦ elim t3 [ true ↦ bracket_at false a | false ↦ elim t4 [ true ↦ line_end_at false a | false ↦ mark_or (begins_with_mark p (c ∷ a)) c a ] ] ] ])
+        (elim t1 [
+          | true ↦ markup_at p a
+          | false ↦ elim t2 [
+            | true ↦ reference_token (reference_at a)
+            | false ↦ elim t3 [ true ↦ bracket_at false a | false ↦ elim t4 [ true ↦ line_end_at false a | false ↦ mark_or (begins_with_mark p (c ∷ a)) c a ] ]
+          ]
+        ])
     by true t2 t3 t4 = markup-within p a
     by false true t3 t4 = reference-token-within _ _ (reference-within a)
     by false false true t4 = bracket-within a

@@ -84,7 +84,8 @@ if_open (ends_with fault n) = None
 -- The bytes are the XML declaration or may become it: they spell `<?xml` and white space, or a front of that, where it
 -- may stand.
 abbrev pub may_be_declaration : Position → List ℕ → Bool
-may_be_declaration position bytes = may_declare position && (ends_inside (codes "<?xml") bytes || (begins_with (codes "<?xml") bytes && ends_target (drop 5 bytes)))
+may_be_declaration position bytes = may_declare position &&
+    (ends_inside (codes "<?xml") bytes || (begins_with (codes "<?xml") bytes && ends_target (drop 5 bytes)))
 
 -- the open comment or instruction that these bytes are, if they are one and no declaration
 unfoldable pub open_aside : Position → List ℕ → Option OpenAside

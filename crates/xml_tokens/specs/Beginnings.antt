@@ -1,6 +1,7 @@
 -- What begins at a place of the bytes: a token, a bad token, or nothing yet. The standard's document type declaration
 -- is no token of this profile.
-use Rattle.std.specs.Prelude.{ℕ, ◌+◌, pred, max, Bool, true, false, not, ◌&&◌, ◌||◌, ◌==◌, List, [], ◌∷◌, length, take, drop, Some, None, Result, Ok, Err, if◌then◌else◌, chars, codes}
+use Rattle.std.specs.Prelude.{ℕ, ◌+◌, pred, max, Bool, true, false, not, ◌&&◌, ◌||◌, ◌==◌, List, [], ◌∷◌, length, take, drop, Some, None, Result, Ok, Err}
+use Rattle.std.specs.Prelude.{if◌then◌else◌, chars, codes}
 use Rattle.std.specs.List.{list_all}
 use Rattle.std.specs.Str.{is_utf8}
 use Rattle.inv_base.specs.Characters.{is_char}
@@ -73,7 +74,8 @@ comment_or_section_at bytes =
           | true ↦ bad Doctype 9
           | false ↦ elim (ends_inside (codes "--") bytes || (ends_inside (codes "[CDATA[") bytes || ends_inside (codes "DOCTYPE") bytes)) [
             | true ↦ later
-            | false ↦ bad BadMarkup (3 + max (shared_front (codes "--") bytes) (max (shared_front (codes "[CDATA[") bytes) (shared_front (codes "DOCTYPE") bytes)))
+            | false ↦ bad BadMarkup (3 + max (shared_front (codes "--") bytes)
+                (max (shared_front (codes "[CDATA[") bytes) (shared_front (codes "DOCTYPE") bytes)))
           ]
         ]
       ]

@@ -1,6 +1,7 @@
 -- The tokens of a document; comments, CDATA sections, processing instructions and the declaration, by the bytes that
 -- stand inside them: the token, or the kind of its fault.
-use Rattle.std.specs.Prelude.{ℕ, Bool, false, not, ◌&&◌, ◌||◌, ◌==◌, List, [], ◌∷◌, ◌++◌, map, length, take, drop, Option, Some, None, is_none, option_and_then, unwrap_or, Result, Ok, Err, if◌then◌else◌, bytes_eq, codes, chars}
+use Rattle.std.specs.Prelude.{ℕ, Bool, false, not, ◌&&◌, ◌||◌, ◌==◌, List, [], ◌∷◌, ◌++◌, map, length, take, drop, Option, Some, None, is_none, option_and_then}
+use Rattle.std.specs.Prelude.{unwrap_or, Result, Ok, Err, if◌then◌else◌, bytes_eq, codes, chars}
 use Rattle.std.specs.List.{list_all, prefix_len}
 use Rattle.std.specs.Char.{to_ascii_lowercase}
 use Rattle.inv_base.specs.Characters.{is_white_space, is_name_char}

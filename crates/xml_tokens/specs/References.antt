@@ -1,6 +1,7 @@
 -- References (XML 1.0, productions 66 and 68): by number to a character, or by name to one of the five predefined
 -- entities.
-use Rattle.std.specs.Prelude.{ℕ, ◌+◌, ◌*◌, zero, suc, Bool, true, false, ◌||◌, ◌==◌, List, [], ◌∷◌, length, drop, Option, Some, None, option_and_then, if◌then◌else◌, bytes_eq, codes}
+use Rattle.std.specs.Prelude.{ℕ, ◌+◌, ◌*◌, zero, suc, Bool, true, false, ◌||◌, ◌==◌, List, [], ◌∷◌, length, drop, Option, Some, None, option_and_then}
+use Rattle.std.specs.Prelude.{if◌then◌else◌, bytes_eq, codes}
 use Rattle.std.specs.Char.{is_digit, digit_value}
 use Rattle.inv_base.specs.Characters.{is_within, is_char}
 use Rattle.xml_tokens.specs.declared.encoding.Begun.{Begun}

@@ -1,5 +1,6 @@
 -- What a list of bytes or characters begins with, and where a string or the end of a tag first stands in it.
-use Rattle.std.specs.Prelude.{ℕ, ◌+◌, zero, suc, Bool, true, false, ◌&&◌, ◌||◌, ◌==◌, List, [], ◌∷◌, length, drop, Option, Some, None, option_map, if◌then◌else◌}
+use Rattle.std.specs.Prelude.{ℕ, ◌+◌, zero, suc, Bool, true, false, ◌&&◌, ◌||◌, ◌==◌, List, [], ◌∷◌, length, drop, Option, Some, None, option_map}
+use Rattle.std.specs.Prelude.{if◌then◌else◌}
 
 -- The list begins with the string.
 abbrev pub begins_with : List ℕ → List ℕ → Bool

@@ -1,5 +1,6 @@
 -- Start tags, empty-element tags and end tags (XML 1.0, productions 40 to 44), by the bytes between `<` and `>`.
-use Rattle.std.specs.Prelude.{ℕ, ◌-◌, zero, suc, pred, Bool, true, false, ◌&&◌, ◌==◌, List, [], ◌∷◌, length, drop, Option, Some, None, option_map, option_and_then, Result, Ok, Err, if◌then◌else◌, bytes_eq, codes, chars}
+use Rattle.std.specs.Prelude.{ℕ, ◌-◌, zero, suc, pred, Bool, true, false, ◌&&◌, ◌==◌, List, [], ◌∷◌, length, drop, Option, Some, None, option_map}
+use Rattle.std.specs.Prelude.{option_and_then, Result, Ok, Err, if◌then◌else◌, bytes_eq, codes, chars}
 use Rattle.std.specs.List.{list_all, list_any}
 use Rattle.inv_base.specs.Characters.{is_white_space}
 use Rattle.xml_tokens.specs.declared.encoding.Begun.{Begun}

@@ -1,5 +1,6 @@
 -- What contracts say of the parts of tokens in the code.
-use Rattle.std.specs.Prelude.{◌≡◌, ℕ, ◌<◌, max, Bool, true, false, ◌||◌, ◌==◌, List, [], ◌∷◌, ◌++◌, map, length, drop, chars, codes, Option, Some, None, option_map, option_and_then, Result, Ok, Err, if◌then◌else◌, String, string_bytes, encode_utf8}
+use Rattle.std.specs.Prelude.{◌≡◌, ℕ, ◌<◌, max, Bool, true, false, ◌||◌, ◌==◌, List, [], ◌∷◌, ◌++◌, map, length, drop, chars, codes, Option, Some, None}
+use Rattle.std.specs.Prelude.{option_map, option_and_then, Result, Ok, Err, if◌then◌else◌, String, string_bytes, encode_utf8}
 use Rattle.std.specs.Borrow.{Bor}
 use Rattle.std.specs.Global.{Global}
 use Rattle.std.specs.List.{list_all, list_any, before_first, after_first}
@@ -68,10 +69,12 @@ pub data BeginsTag : List ℕ → Type 0 where
   begins_tag : (b : ℕ) (bytes : List ℕ) → (b == 0x21) ≡ false → (b == 0x3F) ≡ false → BeginsTag (b ∷ bytes)
 
 abbrev pub shared_with_any : List ℕ → ℕ
-shared_with_any bytes = max (searches.shared_front (codes "--") bytes) (max (searches.shared_front (codes "[CDATA[") bytes) (searches.shared_front (codes "DOCTYPE") bytes))
+shared_with_any bytes = max (searches.shared_front (codes "--") bytes)
+    (max (searches.shared_front (codes "[CDATA[") bytes) (searches.shared_front (codes "DOCTYPE") bytes))
 
 abbrev pub ends_inside_any : List ℕ → Bool
-ends_inside_any bytes = searches.ends_inside (codes "--") bytes || (searches.ends_inside (codes "[CDATA[") bytes || searches.ends_inside (codes "DOCTYPE") bytes)
+ends_inside_any bytes = searches.ends_inside (codes "--") bytes ||
+    (searches.ends_inside (codes "[CDATA[") bytes || searches.ends_inside (codes "DOCTYPE") bytes)
 
 -- the first character of a text, and what is behind it
 abbrev pub IsFirst : List ℕ → Option (ℕ × Bor (List ℕ)) → Type 0

@@ -207,6 +207,8 @@ impl OpenAside {
 /// What an open comment or instruction begins with further bytes, and what it is with them, hangs on what is kept of it
 /// and on how many bytes came.
 pub fn open_asides_go_on()
-    ensures begins { (position : Position) (bytes more : List ℕ) (aside : OpenAside) (ended : Bool) → spec.open_aside position bytes ≡ Some aside → beginning position ended (bytes ++ more) ≡ spec.begins_by (spec.course (length bytes) aside more) }
-    ensures grows { (position : Position) (bytes more : List ℕ) (aside : OpenAside) → spec.open_aside position bytes ≡ Some aside → spec.open_aside position (bytes ++ more) ≡ spec.if_open (spec.course (length bytes) aside more) }
+    ensures begins { (position : Position) (bytes more : List ℕ) (aside : OpenAside) (ended : Bool) → spec.open_aside position bytes ≡ Some aside →
+        beginning position ended (bytes ++ more) ≡ spec.begins_by (spec.course (length bytes) aside more) }
+    ensures grows { (position : Position) (bytes more : List ℕ) (aside : OpenAside) → spec.open_aside position bytes ≡ Some aside →
+        spec.open_aside position (bytes ++ more) ≡ spec.if_open (spec.course (length bytes) aside more) }
 {}

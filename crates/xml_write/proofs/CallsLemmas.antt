@@ -8,15 +8,19 @@ use Rattle.inv_base.specs.Tree.{Forest, no_more, a_text, an_element, Attribute}
 use Rattle.xml_write.specs.declared.pen.PenState.{PenState}
 use Rattle.xml_write.specs.declared.pen.PenState.TheVariants.{Fresh, InsideTag, PastTag}
 use Rattle.xml_write.specs.Escapes.{in_text}
-use Rattle.xml_write.specs.Canonical.{Declaration, declaration_line, attribute_text, attributes_text, declarations_text, declaring_name, attribute_name, element_name, element_text, is_childless, forest_text, canonical_text}
-use Rattle.xml_write.specs.Calls.{Call, call_start, call_attribute, call_end, call_close, lead_in, end_text, appended_by, state_behind, appended_by_all, behind_all, attribute_calls, declare_calls, calls_inside, calls_of, are_allowed}
+use Rattle.xml_write.specs.Canonical.{Declaration, declaration_line, attribute_text, attributes_text, declarations_text, declaring_name, attribute_name}
+use Rattle.xml_write.specs.Canonical.{element_name, element_text, is_childless, forest_text, canonical_text}
+use Rattle.xml_write.specs.Calls.{Call, call_start, call_attribute, call_end, call_close, lead_in, end_text, appended_by, state_behind, appended_by_all}
+use Rattle.xml_write.specs.Calls.{behind_all, attribute_calls, declare_calls, calls_inside, calls_of, are_allowed}
 
 -- calls, and then more
-pub appended_by_all-append : (state : PenState) (calls more : List Call) → appended_by_all state (calls ++ more) ≡ appended_by_all state calls ++ appended_by_all (behind_all state calls) more
+pub appended_by_all-append : (state : PenState) (calls more : List Call) → appended_by_all state (calls ++ more) ≡ appended_by_all state calls ++
+    appended_by_all (behind_all state calls) more
 appended_by_all-append state [] more = refl
 appended_by_all-append state (call ∷ calls) more =
     ap (λ x. appended_by state call ++ x) (appended_by_all-append (state_behind state call) calls more)
-    ∙ sym (append_assoc (appended_by state call) (appended_by_all (state_behind state call) calls) (appended_by_all (behind_all (state_behind state call) calls) more))
+    ∙ sym (append_assoc (appended_by state call) (appended_by_all (state_behind state call) calls)
+    (appended_by_all (behind_all (state_behind state call) calls) more))
 
 pub behind_all-append : (state : PenState) (calls more : List Call) → behind_all state (calls ++ more) ≡ behind_all (behind_all state calls) more
 behind_all-append state [] more = refl
@@ -24,11 +28,13 @@ behind_all-append state (call ∷ calls) more = behind_all-append (state_behind 
 
 -- For callers, whose calls so far were written: one more call, and a fault where more was to come.
 pub Writes-one_more : {T E : Type 0} (result : Result T E) (state : PenState) (calls : List Call) (call : Call) (r s t : SinkView)
-    → WritesAll (appended_by_all state calls) r s → Writes result (appended_by (behind_all state calls) call) s t → Writes result (appended_by_all state (calls ++ call ∷ [])) r t
+    → WritesAll (appended_by_all state calls) r s → Writes result (appended_by (behind_all state calls) call) s t →
+    Writes result (appended_by_all state (calls ++ call ∷ [])) r t
 Writes-one_more result state calls call r s t so_far one =
     rw (appended_by_all-append state calls (call ∷ []), append-nil) (Writes-append result _ _ r s t so_far one)
 
-pub WritesFront-more_calls : (state : PenState) (calls more : List Call) (r s : SinkView) → WritesFront (appended_by_all state calls) r s → WritesFront (appended_by_all state (calls ++ more)) r s
+pub WritesFront-more_calls : (state : PenState) (calls more : List Call) (r s : SinkView) → WritesFront (appended_by_all state calls) r s →
+    WritesFront (appended_by_all state (calls ++ more)) r s
 WritesFront-more_calls state calls more r s h = rw (appended_by_all-append state calls more) (WritesFront-more _ _ r s h)
 
 -- what calls for the inside of an element append, and the state behind them: nothing where no node is there
@@ -56,16 +62,19 @@ behind_inside-past false = refl
 
 -- behind a tag or a text, what calls for the inside of an element append is its text
 after_past : (declarations : List Declaration) (forest : Forest) (calls more : List Call)
-    → appended_by_all PastTag calls ≡ inside_text PastTag (is_childless forest) (forest_text declarations forest) ++ appended_by_all (behind_inside PastTag (is_childless forest)) more
+    → appended_by_all PastTag calls ≡ inside_text PastTag (is_childless forest) (forest_text declarations forest) ++
+    appended_by_all (behind_inside PastTag (is_childless forest)) more
     → appended_by_all PastTag calls ≡ forest_text declarations forest ++ appended_by_all PastTag more
 after_past declarations forest calls more e =
     e
-    ∙ (ap (λ s. inside_text PastTag (is_childless forest) (forest_text declarations forest) ++ appended_by_all s more) (behind_inside-past (is_childless forest))
+    ∙ (ap (λ s. inside_text PastTag (is_childless forest) (forest_text declarations forest) ++ appended_by_all s more)
+    (behind_inside-past (is_childless forest))
     ∙ inside_text-past (is_childless forest) (forest_text declarations forest) (appended_by_all PastTag more) (forest_text-childless declarations forest))
 
 -- the calls for attributes
 attribute_calls-append : {X : Type 0} (name value : X → List ℕ) (xs : List X) (more : List Call)
-    → appended_by_all InsideTag (map (λ x. call_attribute (name x) (value x)) xs ++ more) ≡ flat_map (λ x. attribute_text (name x) (value x)) xs ++ appended_by_all InsideTag more
+    → appended_by_all InsideTag (map (λ x. call_attribute (name x) (value x)) xs ++ more) ≡ flat_map (λ x. attribute_text (name x) (value x)) xs ++
+    appended_by_all InsideTag more
 attribute_calls-append name value [] more = refl
 attribute_calls-append name value (x ∷ xs) more =
     ap (λ t. attribute_text (name x) (value x) ++ t) (attribute_calls-append name value xs more)
@@ -79,7 +88,8 @@ declare_calls-append (d ∷ declarations) more =
     ∙ sym (append_assoc (attribute_text (declaring_name d.prefix) d.uri) (declarations_text declarations) (appended_by_all InsideTag more))
 
 element_text-by_parts : (name attributes inside : List ℕ) (b : Bool) (more : List ℕ)
-    → 0x3C ∷ (name ++ (attributes ++ (inside_text InsideTag b inside ++ (end_text (behind_inside InsideTag b) name ++ more)))) ≡ element_text name attributes b inside ++ more
+    → 0x3C ∷ (name ++ (attributes ++ (inside_text InsideTag b inside ++ (end_text (behind_inside InsideTag b) name ++ more)))) ≡ element_text name attributes b
+    inside ++ more
 element_text-by_parts name attributes inside true more = simp append_assoc
 element_text-by_parts name attributes inside false more = simp append_assoc
 
@@ -92,7 +102,8 @@ element_calls-append : (declarations : List Declaration) (inside : Forest) (stat
     ≡ (lead_in state ++ element_text name text (is_childless inside) (forest_text declarations inside)) ++ appended_by_all PastTag more
 element_calls-append declarations inside state name text attributes more p q =
     append_assoc (lead_in state) (0x3C ∷ name) (appended_by_all InsideTag (attributes ++ (calls_inside declarations inside ++ call_end name ∷ more)))
-    ∙ (ap (λ x. lead_in state ++ 0x3C ∷ (name ++ x)) (p (calls_inside declarations inside ++ call_end name ∷ more) ∙ ap (λ x. text ++ x) (q (call_end name ∷ more)))
+    ∙ (ap (λ x. lead_in state ++ 0x3C ∷ (name ++ x)) (p (calls_inside declarations inside ++ call_end name ∷ more) ∙
+    ap (λ x. text ++ x) (q (call_end name ∷ more)))
     ∙ (ap (λ x. lead_in state ++ x) (element_text-by_parts name text (forest_text declarations inside) (is_childless inside) (appended_by_all PastTag more))
     ∙ sym (append_assoc (lead_in state) (element_text name text (is_childless inside) (forest_text declarations inside)) (appended_by_all PastTag more))))
 
@@ -110,8 +121,10 @@ calls_inside-append declarations (an_element name attributes inside rest) state 
     let n = element_name declarations name in
     ap (λ calls. appended_by_all state (call_start n ∷ calls))
     (append_assoc (attribute_calls declarations attributes) (calls_inside declarations inside ++ call_end n ∷ calls_inside declarations rest) more
-    ∙ ap (λ calls. attribute_calls declarations attributes ++ calls) (append_assoc (calls_inside declarations inside) (call_end n ∷ calls_inside declarations rest) more))
-    ∙ (element_calls-append declarations inside state n (attributes_text declarations attributes) (attribute_calls declarations attributes) (calls_inside declarations rest ++ more)
+    ∙ ap (λ calls. attribute_calls declarations attributes ++ calls)
+    (append_assoc (calls_inside declarations inside) (call_end n ∷ calls_inside declarations rest) more))
+    ∙ (element_calls-append declarations inside state n (attributes_text declarations attributes) (attribute_calls declarations attributes)
+    (calls_inside declarations rest ++ more)
     (attribute_calls-append (λ (a : Attribute). attribute_name declarations a.name) (λ (a : Attribute). a.value) attributes)
     (calls_inside-append declarations inside InsideTag)
     ∙ (ap (λ x. (lead_in state ++ element_text n (attributes_text declarations attributes) (is_childless inside) (forest_text declarations inside)) ++ x)
@@ -119,7 +132,8 @@ calls_inside-append declarations (an_element name attributes inside rest) state 
     ∙ simp append_assoc))
 
 -- The calls of a document append its canonical text.
-pub calls_of-append : (declarations : List Declaration) (document : Forest) → appended_by_all Fresh (calls_of declarations document) ≡ canonical_text declarations document
+pub calls_of-append : (declarations : List Declaration) (document : Forest) →
+    appended_by_all Fresh (calls_of declarations document) ≡ canonical_text declarations document
 calls_of-append declarations no_more = refl
 calls_of-append declarations (a_text characters rest) = refl
 calls_of-append declarations (an_element name attributes inside rest) =
@@ -128,14 +142,17 @@ calls_of-append declarations (an_element name attributes inside rest) =
     let given : List Call = attribute_calls declarations attributes in
     let end : List Call = call_end n ∷ call_close ∷ [] in
     ap (λ calls. appended_by_all Fresh (call_start n ∷ calls)) (sym (append_assoc declaring given (calls_inside declarations inside ++ end)))
-    ∙ (element_calls-append declarations inside Fresh n (declarations_text declarations ++ attributes_text declarations attributes) (declaring ++ given) (call_close ∷ [])
+    ∙ (element_calls-append declarations inside Fresh n (declarations_text declarations ++ attributes_text declarations attributes) (declaring ++ given)
+    (call_close ∷ [])
     (λ after.
     ap (appended_by_all InsideTag) (append_assoc declaring given after)
     ∙ (declare_calls-append declarations (given ++ after)
-    ∙ (ap (λ x. declarations_text declarations ++ x) (attribute_calls-append (λ (a : Attribute). attribute_name declarations a.name) (λ (a : Attribute). a.value) attributes after)
+    ∙ (ap (λ x. declarations_text declarations ++ x) (attribute_calls-append (λ (a : Attribute). attribute_name declarations a.name)
+    (λ (a : Attribute). a.value) attributes after)
     ∙ sym (append_assoc (declarations_text declarations) (attributes_text declarations attributes) (appended_by_all InsideTag after)))))
     (calls_inside-append declarations inside InsideTag)
-    ∙ append_assoc declaration_line (element_text n (declarations_text declarations ++ attributes_text declarations attributes) (is_childless inside) (forest_text declarations inside)) (0xA ∷ []))
+    ∙ append_assoc declaration_line (element_text n (declarations_text declarations ++ attributes_text declarations attributes) (is_childless inside)
+    (forest_text declarations inside)) (0xA ∷ []))
 
 -- The state is one in which a text may come.
 
@@ -144,7 +161,8 @@ attribute_calls-allowed : {X : Type 0} (name value : X → List ℕ) (xs : List 
 attribute_calls-allowed name value [] more = refl
 attribute_calls-allowed name value (x ∷ xs) more = attribute_calls-allowed name value xs more
 
-declare_calls-allowed : (declarations : List Declaration) (more : List Call) → are_allowed InsideTag (declare_calls declarations ++ more) ≡ are_allowed InsideTag more
+declare_calls-allowed : (declarations : List Declaration) (more : List Call) →
+    are_allowed InsideTag (declare_calls declarations ++ more) ≡ are_allowed InsideTag more
 declare_calls-allowed [] more = refl
 declare_calls-allowed (d ∷ declarations) more = declare_calls-allowed declarations more
 
@@ -162,11 +180,14 @@ inside_tag-allowed declarations (a_text (c ∷ characters) rest) more =
     ((inside_tag-allowed declarations rest more).1, (inside_tag-allowed declarations rest more).1)
 inside_tag-allowed declarations (an_element name attributes inside rest) more =
     let n = element_name declarations name in
-    let all : are_allowed InsideTag ((attribute_calls declarations attributes ++ (calls_inside declarations inside ++ call_end n ∷ calls_inside declarations rest)) ++ more) ≡ are_allowed PastTag more =
+    let all : are_allowed InsideTag ((attribute_calls declarations attributes ++
+    (calls_inside declarations inside ++ call_end n ∷ calls_inside declarations rest)) ++ more) ≡ are_allowed PastTag more =
     ap (are_allowed InsideTag)
     (append_assoc (attribute_calls declarations attributes) (calls_inside declarations inside ++ call_end n ∷ calls_inside declarations rest) more
-    ∙ ap (λ calls. attribute_calls declarations attributes ++ calls) (append_assoc (calls_inside declarations inside) (call_end n ∷ calls_inside declarations rest) more))
-    ∙ (attribute_calls-allowed (λ (a : Attribute). attribute_name declarations a.name) (λ (a : Attribute). a.value) attributes (calls_inside declarations inside ++ call_end n ∷ (calls_inside declarations rest ++ more))
+    ∙ ap (λ calls. attribute_calls declarations attributes ++ calls)
+    (append_assoc (calls_inside declarations inside) (call_end n ∷ calls_inside declarations rest) more))
+    ∙ (attribute_calls-allowed (λ (a : Attribute). attribute_name declarations a.name) (λ (a : Attribute). a.value) attributes
+    (calls_inside declarations inside ++ call_end n ∷ (calls_inside declarations rest ++ more))
     ∙ ((inside_tag-allowed declarations inside (call_end n ∷ (calls_inside declarations rest ++ more))).0
     ∙ (end-allowed (is_childless inside) n (calls_inside declarations rest ++ more)
     ∙ (inside_tag-allowed declarations rest more).1))) in
@@ -180,6 +201,7 @@ calls_of-allowed declarations (an_element name attributes inside rest) =
     let n = element_name declarations name in
     let end : List Call = call_end n ∷ call_close ∷ [] in
     declare_calls-allowed declarations (attribute_calls declarations attributes ++ (calls_inside declarations inside ++ end))
-    ∙ (attribute_calls-allowed (λ (a : Attribute). attribute_name declarations a.name) (λ (a : Attribute). a.value) attributes (calls_inside declarations inside ++ end)
+    ∙ (attribute_calls-allowed (λ (a : Attribute). attribute_name declarations a.name) (λ (a : Attribute). a.value) attributes
+    (calls_inside declarations inside ++ end)
     ∙ ((inside_tag-allowed declarations inside end).0
     ∙ end-allowed (is_childless inside) n (call_close ∷ [])))

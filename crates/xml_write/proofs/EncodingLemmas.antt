@@ -10,7 +10,8 @@ use Rattle.xml_write.specs.declared.pen.PenState.{PenState}
 use Rattle.xml_write.specs.declared.pen.PenState.TheVariants.{Fresh, InsideTag, PastTag}
 use Rattle.xml_write.specs.Escapes.{in_text, in_value}
 use Rattle.xml_write.specs.Canonical.{declaration_line, qualified, declaring_name, attribute_text}
-use Rattle.xml_write.specs.Calls.{Call, call_start, call_attribute, call_declare, call_text, call_end, call_close, lead_in, start_text, content_text, end_tag, end_text, behind_text, appended_by, state_behind, appended_by_all, encoded}
+use Rattle.xml_write.specs.Calls.{Call, call_start, call_attribute, call_declare, call_text, call_end, call_close, lead_in, start_text, content_text, end_tag}
+use Rattle.xml_write.specs.Calls.{end_text, behind_text, appended_by, state_behind, appended_by_all, encoded}
 
 -- a text that isn't empty
 pub content_text-some : (state : PenState) (t : List ℕ) → (length t == 0) ≡ false → content_text state t ≡ lead_in state ++ flat_map in_text t

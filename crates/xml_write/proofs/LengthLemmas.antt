@@ -1,5 +1,6 @@
 -- How long texts are with their escapes.
-use Rattle.std.proofs.Common.{◌≡◌, ℕ, ◌+◌, ◌*◌, ◌^◌, ◌<◌, ◌≤◌, ◌==◌, Bool, true, false, List, [], ◌∷◌, ◌++◌, length, take, get_or, ap, ◌∙◌, length-append, append-nil, lit≤, subst, arith}
+use Rattle.std.proofs.Common.{◌≡◌, ℕ, ◌+◌, ◌*◌, ◌^◌, ◌<◌, ◌≤◌, ◌==◌, Bool, true, false, List, [], ◌∷◌, ◌++◌, length, take, get_or, ap, ◌∙◌, length-append}
+use Rattle.std.proofs.Common.{append-nil, lit≤, subst, arith}
 use Rattle.std.specs.Prelude.{codes, if◌then◌else◌}
 use Rattle.std.proofs.lemmas.Grind.{flat_map-append}
 use Rattle.std.proofs.lemmas.List.{take_more}
@@ -43,14 +44,16 @@ escaped_long w (c ∷ text) =
     omega arith
 
 -- a byte more is measured
-pub next_length : (w : Within) (text : List ℕ) (i : ℕ) → i < length text → length (escaped w (take (i + 1) text)) ≡ length (escaped w (take i text)) + length (escape_of w (get_or text i 0))
+pub next_length : (w : Within) (text : List ℕ) (i : ℕ) → i < length text → length (escaped w (take (i + 1) text)) ≡ length (escaped w (take i text)) + length
+    (escape_of w (get_or text i 0))
 next_length w text i h =
     ap (λ t. length (escaped w t)) (take_more text i 0 h)
     ∙ (ap length (flat_map-append (escape_of w) (take i text) (get_or text i 0 ∷ []))
     ∙ (length-append (escaped w (take i text)) (escape_of w (get_or text i 0) ++ [])
     ∙ ap (λ t. length (escaped w (take i text)) + length t) (append-nil (escape_of w (get_or text i 0)))))
 
-pub next_fits : (w : Within) (bytes : List ℕ) (i n r : ℕ) → i < length bytes → n ≤ 6 * i → length bytes < 268435456 → r ≡ length (escape_of w (get_or bytes i 0)) → n + r < 2 ^ 64
+pub next_fits : (w : Within) (bytes : List ℕ) (i n r : ℕ) → i < length bytes → n ≤ 6 * i → length bytes < 268435456 →
+    r ≡ length (escape_of w (get_or bytes i 0)) → n + r < 2 ^ 64
 next_fits w bytes i n r below many few is = let short = (escape-short w (get_or bytes i 0)).1 in omega arith
 
 pub next_measured : (w : Within) (bytes text : List ℕ) (i n r : ℕ) → bytes ≡ text → i < length bytes → n ≡ length (escaped w (take i text)) → n ≤ 6 * i

@@ -1,5 +1,6 @@
 -- What a gauge has measured behind the calls of a document: the sizes of its canonical text.
-use Rattle.std.proofs.Common.{◌≡◌, ℕ, ◌+◌, max, Bool, true, false, not, ◌&&◌, ◌==◌, List, [], ◌∷◌, ◌++◌, length, map, refl, ap, sym, ◌∙◌, subst, zero-add, append_assoc, append-nil, length-append, arith}
+use Rattle.std.proofs.Common.{◌≡◌, ℕ, ◌+◌, max, Bool, true, false, not, ◌&&◌, ◌==◌, List, [], ◌∷◌, ◌++◌, length, map, refl, ap, sym, ◌∙◌, subst, zero-add}
+use Rattle.std.proofs.Common.{append_assoc, append-nil, length-append, arith}
 use Rattle.std.specs.Prelude.{if◌then◌else◌}
 use Rattle.std.specs.List.{flat_map}
 use Rattle.std.proofs.lemmas.Grind.{flat_map-append}
@@ -10,9 +11,12 @@ use Rattle.xml_write.specs.declared.pen.PenState.{PenState}
 use Rattle.xml_write.specs.declared.pen.PenState.TheVariants.{Fresh, InsideTag, PastTag}
 use Rattle.xml_write.specs.declared.gauge.Gauge.{Gauge}
 use Rattle.xml_write.specs.Escapes.{in_text}
-use Rattle.xml_write.specs.Canonical.{Declaration, attribute_text, attributes_text, declarations_text, declaring_name, attribute_name, element_name, is_childless}
-use Rattle.xml_write.specs.Calls.{Call, call_start, call_attribute, call_declare, call_text, call_end, call_close, lead_in, content_text, behind_text, end_tag, appended_by, state_behind, appended_by_all, behind_all, encoded, attribute_calls, declare_calls, calls_inside, calls_of}
-use Rattle.xml_write.specs.Sizes.{element_tags, forest_tags, canonical_tags, longest, stopped, tag_stopped, with_open_tag, with_last_tag, unmeasured, measured, all_stopped, gauged, gauged_by_all}
+use Rattle.xml_write.specs.Canonical.{Declaration, attribute_text, attributes_text, declarations_text, declaring_name, attribute_name, element_name}
+use Rattle.xml_write.specs.Canonical.{is_childless}
+use Rattle.xml_write.specs.Calls.{Call, call_start, call_attribute, call_declare, call_text, call_end, call_close, lead_in, content_text, behind_text, end_tag}
+use Rattle.xml_write.specs.Calls.{appended_by, state_behind, appended_by_all, behind_all, encoded, attribute_calls, declare_calls, calls_inside, calls_of}
+use Rattle.xml_write.specs.Sizes.{element_tags, forest_tags, canonical_tags, longest, stopped, tag_stopped, with_open_tag, with_last_tag, unmeasured, measured}
+use Rattle.xml_write.specs.Sizes.{all_stopped, gauged, gauged_by_all}
 use Rattle.xml_write.proofs.EncodingLemmas.{encodes-some, encodes-attribute_text, encodes-declaring_name, encodes-end_tag}
 
 -- the calls with texts of characters, measured as they are made in UTF-8
@@ -108,7 +112,8 @@ told-bytes g (call ∷ calls) =
     let later : (told h calls).bytes ≡ h.bytes + length rest =
     told-bytes h calls ∙ ap (λ s. h.bytes + length (appended_by_all s (map encoded calls))) (measured-state g (encoded call)) in
     let now : h.bytes ≡ g.bytes + length (appended_by g.state (encoded call)) = measured-bytes g (encoded call) in
-    let both : length (appended_by g.state (encoded call) ++ rest) ≡ length (appended_by g.state (encoded call)) + length rest = length-append (appended_by g.state (encoded call)) rest in
+    let both : length (appended_by g.state (encoded call) ++ rest) ≡ length (appended_by g.state (encoded call)) + length rest =
+    length-append (appended_by g.state (encoded call)) rest in
     omega arith
 
 pub gauged_by_all-state : (g : Gauge) (calls : List Call) → (gauged_by_all g calls).state ≡ behind_all g.state calls
@@ -133,7 +138,8 @@ Attributed-append : (g h k : Gauge) (a b : List ℕ) (m n : ℕ) → Attributed 
 Attributed-append g h k a b m n p q = record {
   state = q.state;
   in_text = q.in_text;
-  begun = let e : length (encodes (a ++ b)) ≡ length (encodes a) + length (encodes b) = ap length (encodes-append a b) ∙ length-append (encodes a) (encodes b) in omega (arith, p.begun, q.begun);
+  begun = let e : length (encodes (a ++ b)) ≡ length (encodes a) + length (encodes b) = ap length (encodes-append a b) ∙
+      length-append (encodes a) (encodes b) in omega (arith, p.begun, q.begun);
   longest_tag = q.longest_tag ∙ p.longest_tag;
   nodes = omega (arith, p.nodes, q.nodes);
 }
@@ -151,7 +157,8 @@ attribute_calls-Attributed declarations (a ∷ attributes) g p q =
       longest_tag = refl;
       nodes = refl;
     } in
-    let all : Attributed g (told h (attribute_calls declarations attributes)) (attribute_text name a.value ++ attributes_text declarations attributes) (1 + length attributes) =
+    let all : Attributed g (told h (attribute_calls declarations attributes)) (attribute_text name a.value ++ attributes_text declarations attributes)
+    (1 + length attributes) =
     Attributed-append g h _ _ _ 1 (length attributes) one (attribute_calls-Attributed declarations attributes h refl refl) in
     record { state = all.state; in_text = all.in_text; begun = all.begun; longest_tag = all.longest_tag; nodes = omega (arith, all.nodes) }
 
@@ -179,7 +186,8 @@ pub record Filled (declarations : List Declaration) (forest : Forest) (g h : Gau
   -- without a node there is nothing to measure
   pub nothing : is_childless forest ≡ true → h ≡ g
   pub state : is_childless forest ≡ false → h.state ≡ PastTag
-  pub longest_tag : is_childless forest ≡ false → h.longest_tag ≡ max (with_open_tag g.state g.begun_tag g.longest_tag) (longest (forest_tags declarations forest))
+  pub longest_tag : is_childless forest ≡ false → h.longest_tag ≡ max (with_open_tag g.state g.begun_tag g.longest_tag)
+      (longest (forest_tags declarations forest))
   pub nodes : is_joined forest ≡ true → (g.in_text && begins_with_text forest) ≡ false → h.nodes ≡ g.nodes + size forest
 
 -- What the calls for one element leave, by its tags and how many nodes it has where it is joined.
@@ -190,7 +198,8 @@ pub record Ended (g h : Gauge) (tags : List (List ℕ)) (joined : Bool) (count :
   pub nodes : joined ≡ true → h.nodes ≡ g.nodes + count
 
 -- the bytes of tags by their parts
-tag-length : (name attributes end : List ℕ) → length (encodes (0x3C ∷ (name ++ (attributes ++ end)))) ≡ 1 + (length (encodes name) + (length (encodes attributes) + length (encodes end)))
+tag-length : (name attributes end : List ℕ) → length (encodes (0x3C ∷ (name ++ (attributes ++ end)))) ≡ 1 +
+    (length (encodes name) + (length (encodes attributes) + length (encodes end)))
 unfolding encode
 tag-length name attributes end =
     let e : length (encodes (name ++ (attributes ++ end))) ≡ length (encodes name) + length (encodes (attributes ++ end)) =
@@ -206,19 +215,23 @@ end_tag-length name = ap length (encodes-end_tag name)
 element-longest : (declarations : List Declaration) (inside : Forest) (before : ℕ) (name text : List ℕ) (g h : Gauge) (b : Bool)
     → g.state ≡ InsideTag → g.begun_tag ≡ 1 + (length (encodes name) + length (encodes text)) → g.longest_tag ≡ before
     → Filled declarations inside g h → is_childless inside ≡ b
-    → with_last_tag h.state h.begun_tag (length (end_tag (encodes name))) h.longest_tag ≡ max before (longest (element_tags name text b (forest_tags declarations inside)))
+    → with_last_tag h.state h.begun_tag (length (end_tag (encodes name))) h.longest_tag ≡ max before
+    (longest (element_tags name text b (forest_tags declarations inside)))
 unfolding encode
 element-longest declarations inside before name text g h true p q r filled e =
     ap (λ k. let u : Gauge = k in with_last_tag u.state u.begun_tag (length (end_tag (encodes name))) u.longest_tag) (filled.nothing e)
     ∙ (ap (λ s. with_last_tag s g.begun_tag (length (end_tag (encodes name))) g.longest_tag) p
-    ∙ (let t : length (encodes (0x3C ∷ (name ++ (text ++ 0x2F ∷ 0x3E ∷ [])))) ≡ 1 + (length (encodes name) + (length (encodes text) + 2)) = tag-length name text (0x2F ∷ 0x3E ∷ []) in
+    ∙ (let t : length (encodes (0x3C ∷ (name ++ (text ++ 0x2F ∷ 0x3E ∷ [])))) ≡ 1 + (length (encodes name) + (length (encodes text) + 2)) =
+    tag-length name text (0x2F ∷ 0x3E ∷ []) in
     omega arith))
 element-longest declarations inside before name text g h false p q r filled e =
     ap (λ s. with_last_tag s h.begun_tag (length (end_tag (encodes name))) h.longest_tag) (filled.state e)
     ∙ (let begun : h.longest_tag ≡ max (max g.longest_tag (g.begun_tag + 1)) (longest (forest_tags declarations inside)) =
     filled.longest_tag e ∙ ap (λ s. max (with_open_tag s g.begun_tag g.longest_tag) (longest (forest_tags declarations inside))) p in
-    let t : length (encodes (0x3C ∷ (name ++ (text ++ 0x3E ∷ [])))) ≡ 1 + (length (encodes name) + (length (encodes text) + 1)) = tag-length name text (0x3E ∷ []) in
-    let all : longest (forest_tags declarations inside ++ end_tag name ∷ []) ≡ max (longest (forest_tags declarations inside)) (max (length (encodes (end_tag name))) 0) =
+    let t : length (encodes (0x3C ∷ (name ++ (text ++ 0x3E ∷ [])))) ≡ 1 + (length (encodes name) + (length (encodes text) + 1)) =
+    tag-length name text (0x3E ∷ []) in
+    let all : longest (forest_tags declarations inside ++ end_tag name ∷ []) ≡ max (longest (forest_tags declarations inside))
+    (max (length (encodes (end_tag name))) 0) =
     longest-append (forest_tags declarations inside) (end_tag name ∷ []) in
     let last : length (encodes (end_tag name)) ≡ length (end_tag (encodes name)) = end_tag-length name in
     omega arith)
@@ -232,7 +245,8 @@ element-Ended : (declarations : List Declaration) (inside : Forest) (g h : Gauge
 element-Ended declarations inside g h name text count row filled = record {
   state = refl;
   in_text = refl;
-  longest_tag = element-longest declarations inside (with_open_tag g.state g.begun_tag g.longest_tag) name text h (told h (calls_inside declarations inside)) (is_childless inside)
+  longest_tag = element-longest declarations inside (with_open_tag g.state g.begun_tag g.longest_tag) name text h (told h (calls_inside declarations inside))
+      (is_childless inside)
       row.state (omega (arith, row.begun)) row.longest_tag filled refl;
   nodes = λ joined.
       let all : (told h (calls_inside declarations inside)).nodes ≡ h.nodes + size inside =
@@ -242,7 +256,8 @@ element-Ended declarations inside g h name text count row filled = record {
 
 -- a text with a character
 text-measured : (g : Gauge) (t : List ℕ) → (length t == 0) ≡ false
-    → measured g (call_text t) ≡ gauge_of PastTag true (g.bytes + length (content_text g.state t)) 0 (with_open_tag g.state g.begun_tag g.longest_tag) (if g.in_text then g.nodes else g.nodes + 1)
+    → measured g (call_text t) ≡ gauge_of PastTag true (g.bytes + length (content_text g.state t)) 0 (with_open_tag g.state g.begun_tag g.longest_tag)
+    (if g.in_text then g.nodes else g.nodes + 1)
 text-measured g [] e = cc
 text-measured g (c ∷ t) e = refl
 
@@ -257,7 +272,8 @@ pub record Followed (declarations : List Declaration) (forest : Forest) (g h : G
   pub state : h.state ≡ PastTag
   pub longest_tag : h.longest_tag ≡ max g.longest_tag (longest (forest_tags declarations forest))
 
-filled-Followed : (declarations : List Declaration) (forest : Forest) (g h : Gauge) (b : Bool) → is_childless forest ≡ b → g.state ≡ PastTag → Filled declarations forest g h
+filled-Followed : (declarations : List Declaration) (forest : Forest) (g h : Gauge) (b : Bool) → is_childless forest ≡ b → g.state ≡ PastTag →
+    Filled declarations forest g h
     → Followed declarations forest g h
 filled-Followed declarations forest g h true e p filled = record {
   state = ap (λ (k : Gauge). k.state) (filled.nothing e) ∙ p;
@@ -287,14 +303,16 @@ more_unless true c n k e f = cc
 more_unless false c n k e f = f
 
 -- What the calls for what stands inside an element leave: it is filled with it.
-pub calls_inside-Filled : (declarations : List Declaration) (forest : Forest) (g : Gauge) → Filled declarations forest g (told g (calls_inside declarations forest))
+pub calls_inside-Filled : (declarations : List Declaration) (forest : Forest) (g : Gauge) →
+    Filled declarations forest g (told g (calls_inside declarations forest))
 calls_inside-Filled declarations no_more g = record { nothing = λ _. refl; state = λ e. cc; longest_tag = λ e. cc; nodes = λ _ _. omega arith }
 calls_inside-Filled declarations (a_text [] rest) g =
     let later : Filled declarations rest g (told g (calls_inside declarations rest)) = calls_inside-Filled declarations rest g in
     record { nothing = later.nothing; state = later.state; longest_tag = later.longest_tag; nodes = λ e _. cc }
 calls_inside-Filled declarations (a_text (c ∷ characters) rest) g =
     let h : Gauge = measured g (call_text (encodes (c ∷ characters))) in
-    let is : h ≡ gauge_of PastTag true (g.bytes + length (content_text g.state (encodes (c ∷ characters)))) 0 (with_open_tag g.state g.begun_tag g.longest_tag) (if g.in_text then g.nodes else g.nodes + 1) =
+    let is : h ≡ gauge_of PastTag true (g.bytes + length (content_text g.state (encodes (c ∷ characters)))) 0 (with_open_tag g.state g.begun_tag g.longest_tag)
+    (if g.in_text then g.nodes else g.nodes + 1) =
     text-measured g (encodes (c ∷ characters)) (encodes-some c characters) in
     let later : Filled declarations rest h (told h (calls_inside declarations rest)) = calls_inside-Filled declarations rest h in
     let followed : Followed declarations rest h (told h (calls_inside declarations rest)) =
@@ -304,7 +322,8 @@ calls_inside-Filled declarations (a_text (c ∷ characters) rest) g =
       state = λ _. followed.state;
       longest_tag = λ _. followed.longest_tag ∙ ap (λ (k : Gauge). max k.longest_tag (longest (forest_tags declarations rest))) is;
       nodes = λ joined apart.
-          let both : (not (begins_with_text rest) && is_joined rest) ≡ true = and-right (not (length (c ∷ characters) == 0)) (not (begins_with_text rest) && is_joined rest) joined in
+          let both : (not (begins_with_text rest) && is_joined rest) ≡ true =
+          and-right (not (length (c ∷ characters) == 0)) (not (begins_with_text rest) && is_joined rest) joined in
           let unfollowed : begins_with_text rest ≡ false = not-true (begins_with_text rest) (and-left (not (begins_with_text rest)) (is_joined rest) both) in
           let here : h.nodes ≡ g.nodes + 1 = more_unless g.in_text true h.nodes g.nodes apart (ap (λ (k : Gauge). k.nodes) is) in
           let all : (told h (calls_inside declarations rest)).nodes ≡ h.nodes + size rest =
@@ -332,12 +351,15 @@ calls_inside-Filled declarations (an_element name attributes inside rest) g =
       nothing = λ e. cc;
       state = λ _. ap (λ (u : Gauge). u.state) is ∙ followed.state;
       longest_tag = λ _.
-          let here : (told g (calls_inside declarations (an_element name attributes inside rest))).longest_tag ≡ max k.longest_tag (longest (forest_tags declarations rest)) =
+          let here : (told g (calls_inside declarations (an_element name attributes inside rest))).longest_tag ≡ max k.longest_tag
+          (longest (forest_tags declarations rest)) =
           ap (λ (u : Gauge). u.longest_tag) is ∙ followed.longest_tag in
-          let all : longest (tags ++ forest_tags declarations rest) ≡ max (longest tags) (longest (forest_tags declarations rest)) = longest-append tags (forest_tags declarations rest) in
+          let all : longest (tags ++ forest_tags declarations rest) ≡ max (longest tags) (longest (forest_tags declarations rest)) =
+          longest-append tags (forest_tags declarations rest) in
           omega (arith, ended.longest_tag);
       nodes = λ joined _.
-          let here : (told g (calls_inside declarations (an_element name attributes inside rest))).nodes ≡ (told k (calls_inside declarations rest)).nodes = ap (λ (u : Gauge). u.nodes) is in
+          let here : (told g (calls_inside declarations (an_element name attributes inside rest))).nodes ≡ (told k (calls_inside declarations rest)).nodes =
+          ap (λ (u : Gauge). u.nodes) is in
           let all : (told k (calls_inside declarations rest)).nodes ≡ k.nodes + size rest =
           later.nodes (and-right (is_joined inside) (is_joined rest) joined) (ap (λ t. t && begins_with_text rest) ended.in_text) in
           omega (arith, ended.nodes (and-left (is_joined inside) (is_joined rest) joined));
@@ -349,7 +371,8 @@ max-zero n = omega arith
 -- What the calls of a document leave: its tags, and the nodes of a joined one.
 pub record Whole (declarations : List Declaration) (document : Forest) (h : Gauge) : Type 0 where
   pub longest_tag : h.longest_tag ≡ longest (canonical_tags declarations document)
-  pub nodes : (inside : Forest) (name : Name) (attributes : List Attribute) → document ≡ an_element name attributes inside no_more → is_joined inside ≡ true → h.nodes ≡ size document + 1
+  pub nodes : (inside : Forest) (name : Name) (attributes : List Attribute) → document ≡ an_element name attributes inside no_more → is_joined inside ≡ true →
+      h.nodes ≡ size document + 1
 
 pub calls_of-Whole : (declarations : List Declaration) (document : Forest) → Whole declarations document (told unmeasured (calls_of declarations document))
 calls_of-Whole declarations no_more = record { longest_tag = refl; nodes = λ inside name attributes e j. cc }
@@ -367,10 +390,12 @@ calls_of-Whole declarations (an_element name attributes inside rest) =
     (Attributed-append first between h (declarations_text declarations) (attributes_text declarations attributes) 0 (length attributes) declared
     (attribute_calls-Attributed declarations attributes between declared.state declared.in_text)) in
     let k : Gauge = measured (told h (calls_inside declarations inside)) (call_end (encodes n)) in
-    let ended : Ended unmeasured k (element_tags n text (is_childless inside) (forest_tags declarations inside)) (is_joined inside) (1 + (length attributes + size inside)) =
+    let ended : Ended unmeasured k (element_tags n text (is_childless inside) (forest_tags declarations inside)) (is_joined inside)
+    (1 + (length attributes + size inside)) =
     element-Ended declarations inside unmeasured h n text (length attributes) given (calls_inside-Filled declarations inside h) in
     let is : told unmeasured (calls_of declarations (an_element name attributes inside rest)) ≡ measured k call_close =
-    told-append first (declare_calls declarations) (attribute_calls declarations attributes ++ (calls_inside declarations inside ++ call_end n ∷ call_close ∷ []))
+    told-append first (declare_calls declarations) (attribute_calls declarations attributes ++
+    (calls_inside declarations inside ++ call_end n ∷ call_close ∷ []))
     ∙ (told-append between (attribute_calls declarations attributes) (calls_inside declarations inside ++ call_end n ∷ call_close ∷ [])
     ∙ told-append h (calls_inside declarations inside) (call_end n ∷ call_close ∷ [])) in
     record {

@@ -35,7 +35,8 @@ document =
     (an_element (named [] (codes "f")) (given (named [] (codes "o")) [] ∷ []) (a_text [] (a_text (codes "x") (a_text (codes "y") no_more))) no_more)))) no_more
 
 document-canonical : canonical_text declared document
-    ≡ codes "<?xml version=\"1.0\" encoding=\"UTF-8\"?>" ++ 10 ∷ (codes "<a xmlns=\"u\" xmlns:c=\"v\" xmlns:d=\"u\" k=\"&amp;&lt;&gt;&quot;'&#x9;&#xA;&#xD;\" c:l=\"\" d:m=\"1\" n=\"2\">"
+    ≡ codes "<?xml version=\"1.0\" encoding=\"UTF-8\"?>" ++
+    10 ∷ (codes "<a xmlns=\"u\" xmlns:c=\"v\" xmlns:d=\"u\" k=\"&amp;&lt;&gt;&quot;'&#x9;&#xA;&#xD;\" c:l=\"\" d:m=\"1\" n=\"2\">"
     ++ (codes "&amp;&lt;&gt;\"'" ++ 9 ∷ 10 ∷ (codes "&#xD;" ++ 0xE9 ∷ 0x20AC ∷ codes "<c:b/><e/><f o=\"\">xy</f></a>") ++ 10 ∷ []))
 unfolding in_text in_value declaration_line
 document-canonical = refl
@@ -44,6 +45,7 @@ document-calls : appended_by_all Fresh (map encoded (calls_of declared document)
 unfolding in_text in_value declaration_line encode
 document-calls = refl
 
-childless : canonical_text [] (an_element (named [] (codes "a")) [] no_more no_more) ≡ codes "<?xml version=\"1.0\" encoding=\"UTF-8\"?>" ++ 10 ∷ (codes "<a/>" ++ 10 ∷ [])
+childless : canonical_text [] (an_element (named [] (codes "a")) [] no_more no_more) ≡ codes "<?xml version=\"1.0\" encoding=\"UTF-8\"?>" ++
+    10 ∷ (codes "<a/>" ++ 10 ∷ [])
 unfolding declaration_line
 childless = refl

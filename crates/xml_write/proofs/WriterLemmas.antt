@@ -30,11 +30,13 @@ state_of-behind (measuring gauge) calls = gauged_by_all-state gauge calls
 pub Made-state : (w v : WriterView) (r s : SinkView) (calls : List Call) → Made w r calls v s → state_of v ≡ behind_all (state_of w) calls
 Made-state w v r s calls p = ap state_of p.writer ∙ state_of-behind w calls
 
-Wrote-append : (w : WriterView) (r s t : SinkView) (calls more : List Call) → Wrote w r calls s → Wrote (writer_behind w calls) s more t → Wrote w r (calls ++ more) t
+Wrote-append : (w : WriterView) (r s t : SinkView) (calls more : List Call) → Wrote w r calls s → Wrote (writer_behind w calls) s more t →
+    Wrote w r (calls ++ more) t
 Wrote-append (writing state) r s t calls more p q = rw (appended_by_all-append state calls more) (WritesAll-append _ _ r s t p q)
 Wrote-append (measuring gauge) r s t calls more p q = q ∙ p
 
-Wrote-break : (w : WriterView) (r s t : SinkView) (calls more : List Call) → Wrote w r calls s → Broke (writer_behind w calls) s more t → Broke w r (calls ++ more) t
+Wrote-break : (w : WriterView) (r s t : SinkView) (calls more : List Call) → Wrote w r calls s → Broke (writer_behind w calls) s more t →
+    Broke w r (calls ++ more) t
 Wrote-break (writing state) r s t calls more p q = rw (appended_by_all-append state calls more) (WritesFront-append _ _ r s t p q)
 Wrote-break (measuring gauge) r s t calls more p q = q
 
@@ -66,7 +68,8 @@ Makes-append (Ok x) w v u r s t calls more p q = Made-append w v u r s t calls m
 Makes-append (Err e) w v u r s t calls more p q = Made-break w v r s t calls more p q
 
 -- what the exit of a `?` returns
-pub Makes-at_err : {T E : Type 0} (result : Result T E) (w v : WriterView) (r s : SinkView) (calls : List Call) → IsErr result → Broke w r calls s → Makes result w r calls v s
+pub Makes-at_err : {T E : Type 0} (result : Result T E) (w v : WriterView) (r s : SinkView) (calls : List Call) → IsErr result → Broke w r calls s →
+    Makes result w r calls v s
 Makes-at_err result w v r s calls e p = MatchResult-from_err result (λ _. Made w r calls v s) (λ _. Broke w r calls s) e (λ _. p)
 
 texts-appended : (w : PenState) (a b : List ℕ) → appended_by_all w (call_text a ∷ call_text b ∷ []) ≡ appended_by_all w (call_text (a ++ b) ∷ [])

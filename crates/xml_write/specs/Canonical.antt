@@ -75,5 +75,6 @@ canonical_text declarations no_more = []
 canonical_text declarations (a_text characters rest) = []
 canonical_text declarations (an_element name attributes inside rest) =
     declaration_line
-    ++ (element_text (element_name declarations name) (declarations_text declarations ++ attributes_text declarations attributes) (is_childless inside) (forest_text declarations inside)
+    ++ (element_text (element_name declarations name) (declarations_text declarations ++ attributes_text declarations attributes) (is_childless inside)
+    (forest_text declarations inside)
     ++ 0xA ∷ [])

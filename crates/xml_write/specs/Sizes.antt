@@ -6,7 +6,8 @@ use Rattle.xml_write.specs.declared.pen.PenState.{PenState}
 use Rattle.xml_write.specs.declared.pen.PenState.TheVariants.{Fresh, InsideTag, PastTag}
 use Rattle.xml_write.specs.declared.gauge.Gauge.{Gauge}
 use Rattle.xml_write.specs.Canonical.{Declaration, element_name, declarations_text, attributes_text, is_childless}
-use Rattle.xml_write.specs.Calls.{Call, call_start, call_attribute, call_declare, call_text, call_end, call_close, start_text, content_text, end_tag, end_text, appended_by}
+use Rattle.xml_write.specs.Calls.{Call, call_start, call_attribute, call_declare, call_text, call_end, call_close, start_text, content_text, end_tag, end_text}
+use Rattle.xml_write.specs.Calls.{appended_by}
 
 -- the tags of an element by its name, the text of its attributes, whether it has no children, and the tags inside it
 abbrev pub element_tags : List ℕ → List ℕ → Bool → List (List ℕ) → List (List ℕ)
@@ -26,7 +27,8 @@ abbrev pub canonical_tags : List Declaration → Forest → List (List ℕ)
 canonical_tags declarations no_more = []
 canonical_tags declarations (a_text characters rest) = []
 canonical_tags declarations (an_element name attributes inside rest) =
-    element_tags (element_name declarations name) (declarations_text declarations ++ attributes_text declarations attributes) (is_childless inside) (forest_tags declarations inside)
+    element_tags (element_name declarations name) (declarations_text declarations ++ attributes_text declarations attributes) (is_childless inside)
+    (forest_tags declarations inside)
 
 -- the bytes of the longest of the texts, 0 where there is none
 abbrev pub longest : List (List ℕ) → ℕ

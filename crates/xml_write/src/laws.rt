@@ -42,7 +42,8 @@ pub fn texts_are_joined()
 /// of its longest tag, and the nodes of the tree, of which the document is one. Each number stops at its last value.
 pub fn gauged_calls_are_sizes()
     ensures bytes { (declarations : List Declaration) (document : Forest)
-        → (gauged_by_all unmeasured (map encoded (calls_of declarations document))).bytes ≡ stopped (length (encode_utf8_all (canonical_text declarations document))) }
+        → (gauged_by_all unmeasured (map encoded (calls_of declarations document))).bytes ≡ stopped
+        (length (encode_utf8_all (canonical_text declarations document))) }
     ensures longest_tag { (declarations : List Declaration) (document : Forest)
         → (gauged_by_all unmeasured (map encoded (calls_of declarations document))).longest_tag ≡ tag_stopped (longest (canonical_tags declarations document)) }
     ensures nodes { (declarations : List Declaration) (document : Forest) → IsDocument document

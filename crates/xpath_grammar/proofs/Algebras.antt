@@ -58,7 +58,8 @@ module _ {V L : Type 0} (A : Algebra V L) where
   abbrev Same : Option (State V L) → Option S → Type 0
   Same found tree = found ≡ option_map over tree
 
-  pushed_from : (parts : Parts) (so_far : L) (label : Label) (x : Tree) → m.values_of A (and_then parts label x) so_far ≡ A.and_then (m.values_of A parts so_far) label (one x)
+  pushed_from : (parts : Parts) (so_far : L) (label : Label) (x : Tree) →
+      m.values_of A (and_then parts label x) so_far ≡ A.and_then (m.values_of A parts so_far) label (one x)
   unfolding m.append m.value_of
   pushed_from g.none so_far label x = refl
   pushed_from (g.more l y parts) so_far label x = pushed_from parts (A.and_then so_far l (one y)) label x
@@ -80,23 +81,40 @@ module _ {V L : Type 0} (A : Algebra V L) where
   placed_over : (rank : ℕ) (st : Stack) → m.has_place rank (stack_over st) ≡ m.has_place rank st
   placed_over rank st = ap (λ n. nat_le n rank) (place_over st)
 
-  close_over : (rank : ℕ) (v : Tree) (st : Stack) → m.close A rank (one v) (stack_over st) ≡ (one (m.close trees rank v st).0, stack_over (m.close trees rank v st).1)
+  close_over : (rank : ℕ) (v : Tree) (st : Stack) → m.close A rank (one v) (stack_over st) ≡ (
+    one (m.close trees rank v st).0,
+    stack_over (m.close trees rank v st).1,
+  )
   unfolding m.close stack_over m.value_of
   close_over rank v [] = refl
   close_over rank v (open_ form parts label ∷ st) = by (m.is_closed rank form label) (close_over rank (g.node form (and_then parts label v)) st) where
     Both : Type 0
     Both = V × List (Frame L)
 
-    by : (b : Bool) → m.close A rank (A.node form (all (and_then parts label v))) (stack_over st) ≡ (one (m.close trees rank (g.node form (and_then parts label v)) st).0, stack_over (m.close trees rank (g.node form (and_then parts label v)) st).1)
-        → elim b as (λ _. V × List (Frame L)) [ true ↦ m.close A rank (A.node form (A.and_then (all parts) label (one v))) (stack_over st) | false ↦ (one v, open_ form (all parts) label ∷ stack_over st) ]
+    by : (b : Bool) → m.close A rank (A.node form (all (and_then parts label v)))
+        (stack_over st) ≡ (
+          one (m.close trees rank (g.node form (and_then parts label v)) st).0,
+          stack_over (m.close trees rank (g.node form (and_then parts label v)) st).1,
+        )
+        → elim b as (λ _. V × List (Frame L)) [
+          | true ↦ m.close A rank (A.node form (A.and_then (all parts) label (one v))) (stack_over st)
+          | false ↦ (one v, open_ form (all parts) label ∷ stack_over st)
+        ]
         ≡ (
-          one (elim b as (λ _. Tree × Stack) [ true ↦ m.close trees rank (g.node form (and_then parts label v)) st | false ↦ (v, open_ form parts label ∷ st) ]).0,
-          stack_over (elim b as (λ _. Tree × Stack) [ true ↦ m.close trees rank (g.node form (and_then parts label v)) st | false ↦ (v, open_ form parts label ∷ st) ]).1,
+          one (elim b as (λ _. Tree × Stack) [
+            | true ↦ m.close trees rank (g.node form (and_then parts label v)) st
+            | false ↦ (v, open_ form parts label ∷ st)
+          ]).0,
+          stack_over (elim b as (λ _. Tree × Stack) [
+            | true ↦ m.close trees rank (g.node form (and_then parts label v)) st
+            | false ↦ (v, open_ form parts label ∷ st)
+          ]).1,
         )
     by true h = ap (λ q. m.close A rank (A.node form q) (stack_over st)) (pushed parts label v) ∙ h
     by false h = refl
 
-  opening_over : (form : Form) (parts : Parts) (label : Label) (st : Stack) (found : L) → found ≡ all parts → m.opening A form found label (stack_over st) ≡ over (m.opening trees form parts label st)
+  opening_over : (form : Form) (parts : Parts) (label : Label) (st : Stack) (found : L) → found ≡ all parts →
+      m.opening A form found label (stack_over st) ≡ over (m.opening trees form parts label st)
   unfolding stack_over
   opening_over form parts label st found e = ap (λ q. m.opening A form q label (stack_over st)) e
 
@@ -104,7 +122,8 @@ module _ {V L : Type 0} (A : Algebra V L) where
   unfolding m.append m.value_of
   first_part v = refl
 
-  begin_over : (production : Option Production) (label : Label) (v : Tree) (st : Stack) → Same (m.begin_chain A production label (one v) (stack_over st)) (m.begin_chain trees production label v st)
+  begin_over : (production : Option Production) (label : Label) (v : Tree) (st : Stack) →
+      Same (m.begin_chain A production label (one v) (stack_over st)) (m.begin_chain trees production label v st)
   begin_over None label v st = refl
   begin_over (Some production) label v st = given_over (m.has_place (g.rank_of production) st) _ _ _ (placed_over (g.rank_of production) st)
       (opening_over (g.chain production) (and_then g.none g.first v) label st _ (first_part v))
@@ -117,7 +136,8 @@ module _ {V L : Type 0} (A : Algebra V L) where
     by true = ap Some (opening_over form (and_then parts before v) label st _ (pushed parts before v))
     by false = begin_over (g.production_of_label label) label v (open_ form parts before ∷ st)
 
-  operator_over : (found : Option CastWord) (operator : Operator) (v : Tree) (st : Stack) → Same (m.operator_met A found operator (one v) (stack_over st)) (m.operator_met trees found operator v st)
+  operator_over : (found : Option CastWord) (operator : Operator) (v : Tree) (st : Stack) →
+      Same (m.operator_met A found operator (one v) (stack_over st)) (m.operator_met trees found operator v st)
   operator_over (Some word) operator v st = given_over (m.has_place (g.rank_of_cast word) st) _ _ _ (placed_over (g.rank_of_cast word) st) refl
   operator_over None operator v st = link_over (g.link operator) v st
 
@@ -129,7 +149,8 @@ module _ {V L : Type 0} (A : Algebra V L) where
     by (Some binder) = ap (λ q. Some (at (m.bind binder None q) (stack_over st))) (pushed parts label v)
     by None = link_over g.comma v (open_ form parts label ∷ st)
 
-  node_pushed : (form : Form) (parts : Parts) (label : Label) (v : Tree) → A.node form (A.and_then (all parts) label (one v)) ≡ one (g.node form (and_then parts label v))
+  node_pushed : (form : Form) (parts : Parts) (label : Label) (v : Tree) →
+      A.node form (A.and_then (all parts) label (one v)) ≡ one (g.node form (and_then parts label v))
   unfolding m.value_of
   node_pushed form parts label v = ap (A.node form) (pushed parts label v)
 
@@ -137,7 +158,8 @@ module _ {V L : Type 0} (A : Algebra V L) where
   unfolding stack_over
   parenthesis_over v [] = refl
   parenthesis_over v (open_ form parts label ∷ st) = by (m.closed_by_parenthesis form label) where
-    by : (found : m.Closed) → Same (m.parenthesis_in A found form (all parts) label (one v) (stack_over st)) (m.parenthesis_in trees found form parts label v st)
+    by : (found : m.Closed) → Same (m.parenthesis_in A found form (all parts) label (one v) (stack_over st))
+        (m.parenthesis_in trees found form parts label v st)
     by m.node = ap (λ x. Some (at (m.have x) (stack_over st))) (node_pushed form parts label v)
     by m.condition = ap (λ q. Some (at (m.decided q) (stack_over st))) (pushed parts label v)
     by m.nothing = refl
@@ -145,7 +167,8 @@ module _ {V L : Type 0} (A : Algebra V L) where
   bracket_over : (v : Tree) (st : Stack) → Same (m.bracket_met A (one v) (stack_over st)) (m.bracket_met trees v st)
   unfolding stack_over
   bracket_over v [] = refl
-  bracket_over v (open_ form parts label ∷ st) = given_over (m.in_predicate form label) _ _ _ refl (ap (λ q. at (m.filtered q) (stack_over st)) (pushed parts label v))
+  bracket_over v (open_ form parts label ∷ st) = given_over (m.in_predicate form label) _ _ _ refl
+      (ap (λ q. at (m.filtered q) (stack_over st)) (pushed parts label v))
 
   met_over : (token : Token) (v : Tree) (st : Stack) → Same (m.met A token (one v) (stack_over st)) (m.met trees token v st)
   met_over (t.Operator operator) v st = operator_over (m.cast_of operator) operator v st
@@ -157,7 +180,8 @@ module _ {V L : Type 0} (A : Algebra V L) where
   behind_over : (token : Token) (rank : ℕ) (v : Tree) (st : Stack) → Same (m.behind A token rank (one v) (stack_over st)) (m.behind trees token rank v st)
   behind_over token rank v st = by (m.strength_of token) where
     stronger : (strength : ℕ) (b : Bool) → Same (m.stronger A b strength token (one v) (stack_over st)) (m.stronger trees b strength token v st)
-    stronger strength true = ap (m.met_closed A token) (close_over strength v st) ∙ met_over token (m.close trees strength v st).0 (m.close trees strength v st).1
+    stronger strength true = ap (m.met_closed A token) (close_over strength v st) ∙
+        met_over token (m.close trees strength v st).0 (m.close trees strength v st).1
     stronger strength false = refl
 
     by : (found : Option ℕ) → Same (m.behind_of A found token rank (one v) (stack_over st)) (m.behind_of trees found token rank v st)
@@ -196,7 +220,8 @@ module _ {V L : Type 0} (A : Algebra V L) where
   unfolding stack_over
   sign_over operator [] = first_sign_over operator []
   sign_over operator (open_ form parts label ∷ st) = by (m.signs_in form label) where
-    by : (found : Option (List Operator)) → Same (m.sign_in A found operator form (all parts) label (stack_over st)) (m.sign_in trees found operator form parts label st)
+    by : (found : Option (List Operator)) → Same (m.sign_in A found operator form (all parts) label (stack_over st))
+        (m.sign_in trees found operator form parts label st)
     by (Some operators) = refl
     by None = first_sign_over operator (open_ form parts label ∷ st)
 
@@ -255,16 +280,19 @@ module _ {V L : Type 0} (A : Algebra V L) where
   kind_on_over None form st = refl
   kind_on_over (Some x) form st = refl
 
-  named_on_over : (token : Token) (form : AxisForm) (name : Name) (st : Stack) → Same (m.behind_named_on A token form name (stack_over st)) (m.behind_named_on trees token form name st)
+  named_on_over : (token : Token) (form : AxisForm) (name : Name) (st : Stack) →
+      Same (m.behind_named_on A token form name (stack_over st)) (m.behind_named_on trees token form name st)
   unfolding m.value_of
   named_on_over t.LeftParenthesis form name st = kind_on_over (g.kind_of name) form st
   named_on_over token form name st = primary_over token (g.leaf (g.step form (e.Name name))) st
 
-  kind_over : (token : Token) (form : AxisForm) (x : KindTest) (st : Stack) → Same (m.behind_kind A token form x (stack_over st)) (m.behind_kind trees token form x st)
+  kind_over : (token : Token) (form : AxisForm) (x : KindTest) (st : Stack) →
+      Same (m.behind_kind A token form x (stack_over st)) (m.behind_kind trees token form x st)
   kind_over t.RightParenthesis form x st = leaf_over (g.step form (e.Kind x)) st
   kind_over _ form x st = refl
 
-  bind_over : (token : Token) (binder : Binder) (lead : Option Binder) (parts : Parts) (st : Stack) → Same (m.behind_bind A token binder lead (all parts) (stack_over st)) (m.behind_bind trees token binder lead parts st)
+  bind_over : (token : Token) (binder : Binder) (lead : Option Binder) (parts : Parts) (st : Stack) →
+      Same (m.behind_bind A token binder lead (all parts) (stack_over st)) (m.behind_bind trees token binder lead parts st)
   bind_over t.Dollar binder lead parts st = refl
   bind_over _ binder lead parts st = refl
 
@@ -283,27 +311,33 @@ module _ {V L : Type 0} (A : Algebra V L) where
   if_over t.LeftParenthesis st = ap Some (opens_over g.conditional g.condition st)
   if_over _ st = refl
 
-  decided_over : (token : Token) (parts : Parts) (st : Stack) → Same (m.behind_decided A token (all parts) (stack_over st)) (m.behind_decided trees token parts st)
+  decided_over : (token : Token) (parts : Parts) (st : Stack) →
+      Same (m.behind_decided A token (all parts) (stack_over st)) (m.behind_decided trees token parts st)
   decided_over (t.Operator o.Then) parts st = ap Some (opening_over g.conditional parts g.then_ st _ refl)
   decided_over (t.Operator _) parts st = refl
   decided_over _ parts st = refl
 
-  casting_over : (token : Token) (word : CastWord) (v : Tree) (st : Stack) → Same (m.behind_casting A token word (one v) (stack_over st)) (m.behind_casting trees token word v st)
+  casting_over : (token : Token) (word : CastWord) (v : Tree) (st : Stack) →
+      Same (m.behind_casting A token word (one v) (stack_over st)) (m.behind_casting trees token word v st)
   casting_over (t.Operator o.As) word v st = refl
   casting_over (t.Operator _) word v st = refl
   casting_over _ word v st = refl
 
-  cast_as_over : (token : Token) (word : CastWord) (v : Tree) (st : Stack) → Same (m.behind_cast_as A token word (one v) (stack_over st)) (m.behind_cast_as trees token word v st)
+  cast_as_over : (token : Token) (word : CastWord) (v : Tree) (st : Stack) →
+      Same (m.behind_cast_as A token word (one v) (stack_over st)) (m.behind_cast_as trees token word v st)
   cast_as_over (t.Name name) word v st = full_over name _ _ refl
   cast_as_over _ word v st = refl
 
-  cast_over : (word : CastWord) (type : Name) (optional : Bool) (v : Tree) → m.cast_node A word type optional (one v) ≡ one (m.cast_node trees word type optional v)
+  cast_over : (word : CastWord) (type : Name) (optional : Bool) (v : Tree) →
+      m.cast_node A word type optional (one v) ≡ one (m.cast_node trees word type optional v)
   unfolding m.value_of m.append
   cast_over word type optional v = refl
 
-  typed_over : (token : Token) (word : CastWord) (v : Tree) (type : Name) (st : Stack) → Same (m.behind_typed A token word (one v) type (stack_over st)) (m.behind_typed trees token word v type st)
+  typed_over : (token : Token) (word : CastWord) (v : Tree) (type : Name) (st : Stack) →
+      Same (m.behind_typed A token word (one v) type (stack_over st)) (m.behind_typed trees token word v type st)
   typed_over t.Question word v type st = ap (λ x. Some (at (m.whole (g.rank_of_cast word) x) (stack_over st))) (cast_over word type true v)
-  typed_over token word v type st = ap (λ x. m.behind A token (g.rank_of_cast word) x (stack_over st)) (cast_over word type false v) ∙ behind_over token (g.rank_of_cast word) (m.cast_node trees word type false v) st
+  typed_over token word v type st = ap (λ x. m.behind A token (g.rank_of_cast word) x (stack_over st)) (cast_over word type false v) ∙
+      behind_over token (g.rank_of_cast word) (m.cast_node trees word type false v) st
 
   step_over : (token : Token) (mode : Mode Tree Parts) (st : Stack) → Same (m.step_in A token (mode_over mode) (stack_over st)) (m.step_in trees token mode st)
   step_over token m.want st = wanted_over token st
@@ -340,17 +374,20 @@ module _ {V L : Type 0} (A : Algebra V L) where
   ended_over (m.have v) st = alone_over v st
   ended_over (m.filtered parts) st = alone_over (g.node g.filter parts) st
   ended_over (m.whole rank v) st = alone_over v st
-  ended_over (m.typed word v type) st = ap (λ x. m.alone A (m.close A 0 x (stack_over st))) (cast_over word type false v) ∙ alone_over (m.cast_node trees word type false v) st
+  ended_over (m.typed word v type) st = ap (λ x. m.alone A (m.close A 0 x (stack_over st))) (cast_over word type false v) ∙
+      alone_over (m.cast_node trees word type false v) st
   ended_over _ st = refl
 
   run_over : (tokens : List Token) (s : S) → m.run A tokens (over s) ≡ option_map (m.value_of A) (m.run trees tokens s)
   unfolding m.run
   run_over [] s = ended_over s.mode s.stack
-  run_over (token ∷ tokens) s = ap (λ found. elim found as (λ _. Option V) [ None ↦ None | Some next ↦ m.run A tokens next ]) (step_over token s.mode s.stack) ∙ by (m.step trees token s) (run_over tokens) where
-    by : (found : Option S) → ((next : S) → m.run A tokens (over next) ≡ option_map (m.value_of A) (m.run trees tokens next))
-        → elim (option_map over found) as (λ _. Option V) [ None ↦ None | Some next ↦ m.run A tokens next ] ≡ option_map (m.value_of A) (elim found as (λ _. Option Tree) [ None ↦ None | Some next ↦ m.run trees tokens next ])
-    by None later = refl
-    by (Some next) later = later next
+  run_over (token ∷ tokens) s = ap (λ found. elim found as (λ _. Option V) [ None ↦ None | Some next ↦ m.run A tokens next ]) (step_over token s.mode s.stack) ∙
+      by (m.step trees token s) (run_over tokens) where
+        by : (found : Option S) → ((next : S) → m.run A tokens (over next) ≡ option_map (m.value_of A) (m.run trees tokens next))
+            → elim (option_map over found) as (λ _. Option V) [ None ↦ None | Some next ↦ m.run A tokens next ] ≡ option_map (m.value_of A)
+            (elim found as (λ _. Option Tree) [ None ↦ None | Some next ↦ m.run trees tokens next ])
+        by None later = refl
+        by (Some next) later = later next
 
   -- the machine finds what the algebra makes of the tree that the tokens spell
   pub parsed_over : (tokens : List Token) → m.parsed A tokens ≡ option_map (m.value_of A) (m.tree_of tokens)

@@ -26,7 +26,10 @@ abbrev pub and_then : Parts → Label → Tree → Parts
 and_then parts label x = m.append parts (g.more label x g.none)
 
 close_if : ℕ → Tree → Form → Parts → Label → Stack → Bool → Tree × Stack
-close_if rank v form parts label st closed = elim closed [ true ↦ m.close trees rank (g.node form (and_then parts label v)) st | false ↦ (v, open_ form parts label ∷ st) ]
+close_if rank v form parts label st closed = elim closed [
+  | true ↦ m.close trees rank (g.node form (and_then parts label v)) st
+  | false ↦ (v, open_ form parts label ∷ st)
+]
 
 pub close-goes : (rank : ℕ) (v : Tree) (form : Form) (parts : Parts) (label : Label) (st : Stack) → m.is_closed rank form label ≡ true
     → m.close trees rank v (open_ form parts label ∷ st) ≡ m.close trees rank (g.node form (and_then parts label v)) st
@@ -60,26 +63,43 @@ pub record Ends (s : S) (x : Tree) (st : Stack) : Type 0 where
   pub closes : (strength : ℕ) → strength < g.rank x → (strength < rank) × (m.close trees strength value stack ≡ m.close trees strength x st)
   pub bracket : 16 ≤ g.rank x → m.step trees t.LeftBracket s ≡ Some (m.opening trees g.filter (and_then g.none g.first x) g.predicate st)
 
-pub behind-is : (token : Token) (strength rank : ℕ) (v : Tree) (st : Stack) → m.strength_of token ≡ Some strength → strength < rank → m.behind trees token rank v st ≡ m.met_closed trees token (m.close trees strength v st)
-behind-is token strength rank v st e h = ap (λ s. m.behind_of trees s token rank v st) e ∙ ap (λ b. m.stronger trees b strength token v st) (lt-ltb strength rank h)
+pub behind-is : (token : Token) (strength rank : ℕ) (v : Tree) (st : Stack) → m.strength_of token ≡ Some strength → strength < rank →
+    m.behind trees token rank v st ≡ m.met_closed trees token (m.close trees strength v st)
+behind-is token strength rank v st e h = ap (λ s. m.behind_of trees s token rank v st) e ∙
+    ap (λ b. m.stronger trees b strength token v st) (lt-ltb strength rank h)
 
 -- what a token does behind the expression
 pub meets : {s : S} {x : Tree} {st : Stack} → Ends s x st → (token : Token) (strength : ℕ) → m.strength_of token ≡ Some strength → strength < g.rank x
     → m.step trees token s ≡ m.met_closed trees token (m.close trees strength x st)
-meets {s} {x} {st} ends token strength e h = ends.token token strength e ∙ behind-is token strength ends.rank ends.value ends.stack e (ends.closes strength h).0 ∙ ap (m.met_closed trees token) (ends.closes strength h).1
+meets {s} {x} {st} ends token strength e h = ends.token token strength e ∙ behind-is token strength ends.rank ends.value ends.stack e (ends.closes strength h).0
+    ∙ ap (m.met_closed trees token) (ends.closes strength h).1
 
-pub ends_whole : (x : Tree) (st : Stack) (s : S) → ((token : Token) (strength : ℕ) → m.strength_of token ≡ Some strength → m.step trees token s ≡ m.behind trees token (g.rank x) x st)
-    → m.ended trees s ≡ m.alone trees (m.close trees 0 x st) → (16 ≤ g.rank x → m.step trees t.LeftBracket s ≡ Some (m.opening trees g.filter (and_then g.none g.first x) g.predicate st)) → Ends s x st
-ends_whole x st s token end bracket = record { rank = g.rank x; value = x; stack = st; token = token; end = end; closes = λ strength h. (h, refl); bracket = bracket }
+pub ends_whole : (x : Tree) (st : Stack) (s : S) → ((token : Token) (strength : ℕ) → m.strength_of token ≡ Some strength →
+    m.step trees token s ≡ m.behind trees token (g.rank x) x st)
+    → m.ended trees s ≡ m.alone trees (m.close trees 0 x st) →
+    (16 ≤ g.rank x → m.step trees t.LeftBracket s ≡ Some (m.opening trees g.filter (and_then g.none g.first x) g.predicate st)) → Ends s x st
+ends_whole x st s token end bracket = record {
+  rank = g.rank x;
+  value = x;
+  stack = st;
+  token = token;
+  end = end;
+  closes = λ strength h. (h, refl);
+  bracket =
+      bracket;
+}
 
-primary_token : (x : Tree) (st : Stack) (token : Token) (strength : ℕ) → m.strength_of token ≡ Some strength → m.behind_primary trees token x st ≡ m.behind trees token 16 x st
+primary_token : (x : Tree) (st : Stack) (token : Token) (strength : ℕ) → m.strength_of token ≡ Some strength →
+    m.behind_primary trees token x st ≡ m.behind trees token 16 x st
 primary_token x st t.LeftBracket strength e = absurd (none-some strength e)
 primary_token x st _ strength e = refl
 
 pub ends_have : (x : Tree) (st : Stack) → g.rank x ≡ 16 → Ends (at (m.have x) st) x st
-ends_have x st same = ends_whole x st (at (m.have x) st) (λ token strength e. primary_token x st token strength e ∙ ap (λ r. m.behind trees token r x st) (sym same)) refl (λ h. refl)
+ends_have x st same = ends_whole x st (at (m.have x) st) (λ token strength e. primary_token x st token strength e ∙
+    ap (λ r. m.behind trees token r x st) (sym same)) refl (λ h. refl)
 
-filter_token : (parts : Parts) (st : Stack) (token : Token) (strength : ℕ) → m.strength_of token ≡ Some strength → m.behind_filter trees token parts st ≡ m.behind trees token 15 (g.node g.filter parts) st
+filter_token : (parts : Parts) (st : Stack) (token : Token) (strength : ℕ) → m.strength_of token ≡ Some strength →
+    m.behind_filter trees token parts st ≡ m.behind trees token 15 (g.node g.filter parts) st
 filter_token parts st t.LeftBracket strength e = absurd (none-some strength e)
 filter_token parts st _ strength e = refl
 
@@ -96,9 +116,11 @@ cast_not_primary CastWord.Cast h = omega (arith, h)
 cast_not_primary _ h = omega (arith, h)
 
 pub ends_typed : (word : CastWord) (x : Tree) (type : Name) (st : Stack) → Ends (at (m.typed word x type) st) (m.cast_node trees word type false x) st
-ends_typed word x type st = ends_whole (m.cast_node trees word type false x) st (at (m.typed word x type) st) (typed_token word x type st) refl (λ h. absurd (cast_not_primary word h))
+ends_typed word x type st = ends_whole (m.cast_node trees word type false x) st (at (m.typed word x type) st) (typed_token word x type st) refl
+    (λ h. absurd (cast_not_primary word h))
 
-pub ends_cast : (word : CastWord) (x : Tree) (type : Name) (st : Stack) → Ends (at (m.whole (g.rank_of_cast word) (m.cast_node trees word type true x)) st) (m.cast_node trees word type true x) st
+pub ends_cast : (word : CastWord) (x : Tree) (type : Name) (st : Stack) → Ends (at (m.whole (g.rank_of_cast word) (m.cast_node trees word type true x)) st)
+    (m.cast_node trees word type true x) st
 ends_cast word x type st = ends_whole (m.cast_node trees word type true x) st _ (λ token strength e. refl) refl (λ h. absurd (cast_not_primary word h))
 
 named_token : (name : Name) (st : Stack) (token : Token) (strength : ℕ) → m.strength_of token ≡ Some strength
@@ -120,7 +142,8 @@ named_on_token form name st _ strength e = refl
 pub ends_named_on : (form : AxisForm) (name : Name) (st : Stack) → Ends (at (m.named_on form name) st) (g.leaf (g.step form (e.Name name))) st
 ends_named_on form name st = ends_whole _ st (at (m.named_on form name) st) (named_on_token form name st) refl (λ h. refl)
 
-slash_token : (st : Stack) (token : Token) (strength : ℕ) → m.strength_of token ≡ Some strength → m.behind_slash trees (m.begins_step token) token st ≡ m.behind trees token 14 (g.leaf g.root) st
+slash_token : (st : Stack) (token : Token) (strength : ℕ) → m.strength_of token ≡ Some strength →
+    m.behind_slash trees (m.begins_step token) token st ≡ m.behind trees token 14 (g.leaf g.root) st
 slash_token st (t.Operator x) strength e = refl
 slash_token st t.Comma strength e = refl
 slash_token st t.RightParenthesis strength e = refl
@@ -132,14 +155,18 @@ ends_slash st = ends_whole (g.leaf g.root) st (at m.slash st) (slash_token st) r
 
 -- a state behind the last part of a form that ends with it
 pub ends_node : {s : S} {x : Tree} (form : Form) (parts : Parts) (label : Label) (st : Stack) → Ends s x (open_ form parts label ∷ st)
-    → m.is_open_ended form ≡ true → g.ends form label ≡ true → g.rank_of_form form ≤ g.rank x → g.rank_of_form form < 16 → Ends s (g.node form (and_then parts label x)) st
+    → m.is_open_ended form ≡ true → g.ends form label ≡ true → g.rank_of_form form ≤ g.rank x → g.rank_of_form form < 16 →
+    Ends s (g.node form (and_then parts label x)) st
 ends_node {s} {x} form parts label st ends opened last tight loose = record {
   rank = ends.rank;
   value = ends.value;
   stack = ends.stack;
   token = ends.token;
   end = ends.end;
-  closes = λ strength h. let h2 : strength < g.rank x = omega arith in
-      ((ends.closes strength h2).0, (ends.closes strength h2).1 ∙ close-goes strength x form parts label st (and_from _ _ (and_from _ _ opened last) (lt-ltb strength (g.rank_of_form form) h)));
+  closes = λ strength h. let h2 : strength < g.rank x = omega arith in (
+    (ends.closes strength h2).0,
+    (ends.closes strength h2).1 ∙
+        close-goes strength x form parts label st (and_from _ _ (and_from _ _ opened last) (lt-ltb strength (g.rank_of_form form) h)),
+  );
   bracket = λ h. absurd (omega arith);
 }

@@ -1,5 +1,6 @@
 -- Small facts of tests, ranks and places.
-use Rattle.std.proofs.Common.{◌≡◌, ℕ, suc, Bool, true, false, ◌&&◌, ◌≤◌, ◌++◌, Option, Some, None, IsTrue, nat_eq, nat_lt, refl, sym, ap, ◌∙◌, subst, arith, le-ltb, lit≤, append_assoc}
+use Rattle.std.proofs.Common.{◌≡◌, ℕ, suc, Bool, true, false, ◌&&◌, ◌≤◌, ◌++◌, Option, Some, None, IsTrue, nat_eq, nat_lt, refl, sym, ap, ◌∙◌, subst, arith}
+use Rattle.std.proofs.Common.{le-ltb, lit≤, append_assoc}
 use Rattle.std.proofs.lemmas.Bool.{and_parts, and_left, and_right, false≢true}
 use Rattle.xpath_tokens.specs.declared.token.Operator.{Operator}
 use Rattle.xpath_tokens.specs.declared.token.Operator.TheVariants as o
@@ -68,7 +69,8 @@ pub written_append : (xs ys : Parts) → g.parts_written (m.append xs ys) ≡ g.
 unfolding m.append g.written
 written_append g.none ys = refl
 written_append (g.more label x xs) ys = ap (λ l. g.label_tokens label ++ (g.written x ++ l)) (written_append xs ys)
-    ∙ sym (append_assoc (g.label_tokens label) (g.written x ++ g.parts_written xs) (g.parts_written ys) ∙ ap (λ l. g.label_tokens label ++ l) (append_assoc (g.written x) (g.parts_written xs) (g.parts_written ys)))
+    ∙ sym (append_assoc (g.label_tokens label) (g.written x ++ g.parts_written xs) (g.parts_written ys) ∙
+    ap (λ l. g.label_tokens label ++ l) (append_assoc (g.written x) (g.parts_written xs) (g.parts_written ys)))
 
 -- what closes and what stays
 
@@ -88,7 +90,8 @@ stays_at_place rank g.filter label h = refl
 stays_at_place rank g.parens label h = refl
 stays_at_place rank g.call label h = refl
 
-pub joins_rank : (production : Production) (found : Option Production) (other : Production) → found ≡ Some other → IsTrue (g.is_production production found) → production ≡ other
+pub joins_rank : (production : Production) (found : Option Production) (other : Production) → found ≡ Some other → IsTrue (g.is_production production found) →
+    production ≡ other
 joins_rank production None other e h = absurd (false≢true h)
 joins_rank production (Some x) other e h = same_production production x h ∙ some_inner e where
   some_inner : Some x ≡ Some other → x ≡ other
@@ -97,7 +100,8 @@ joins_rank production (Some x) other e h = same_production production x h ∙ so
 -- what goes on a frame doesn't end it
 pub stays_going_on : (form : Form) (before label : Label) (strength : ℕ) → IsTrue (g.goes_on form before label)
     → ((production : Production) → g.joins production label ≡ true → strength ≡ g.rank_of production) → m.is_closed strength form before ≡ false
-stays_going_on (g.chain production) before label strength h same = not_closed strength (g.chain production) before (let e : strength ≡ g.rank_of production = same production (and_parts _ _ h).0 in omega arith)
+stays_going_on (g.chain production) before label strength h same =
+    not_closed strength (g.chain production) before (let e : strength ≡ g.rank_of production = same production (and_parts _ _ h).0 in omega arith)
 stays_going_on (g.bound binder) (g.binding lead name) label strength h same = refl
 stays_going_on (g.bound binder) g.first label strength h same = refl
 stays_going_on (g.bound binder) _ label strength h same = absurd (false≢true h)
@@ -111,7 +115,8 @@ stays_going_on g.parens before label strength h same = refl
 stays_going_on g.call before label strength h same = refl
 
 -- a frame whose part must bind at least as tightly as the production isn't gone on by the production's operators
-pub not_gone_on : (form : Form) (before label : Label) (production : Production) → g.production_of_label label ≡ Some production → g.place form before ≤ g.rank_of production → g.goes_on form before label ≡ false
+pub not_gone_on : (form : Form) (before label : Label) (production : Production) → g.production_of_label label ≡ Some production →
+    g.place form before ≤ g.rank_of production → g.goes_on form before label ≡ false
 not_gone_on (g.chain x) before label production e h = and_left (g.joins x label) _ (other (g.joins x label) refl) where
   other : (t : Bool) → g.joins x label ≡ t → g.joins x label ≡ false
   other false q = q
@@ -138,5 +143,6 @@ not_gone_on g.filter g.predicate g.again production e h = absurd cc
 not_gone_on g.filter g.again g.again production e h = absurd cc
 not_gone_on g.filter _ _ production e h = refl
 not_gone_on g.parens before label production e h = refl
-not_gone_on g.call before g.comma production e h = let s : p.Sequence ≡ production = cc in let l : 2 ≤ 1 = subst (λ y. 2 ≤ g.rank_of y) (sym s) h in absurd (omega arith)
+not_gone_on g.call before g.comma production e h = let s : p.Sequence ≡ production = cc in let l : 2 ≤ 1 = subst (λ y. 2 ≤ g.rank_of y) (sym s) h in
+    absurd (omega arith)
 not_gone_on g.call before _ production e h = refl

@@ -1,5 +1,6 @@
 -- What the machine's states hold: the tokens that were read, and parts that stand where they may.
-use Rattle.std.proofs.Common.{inl, inr, ◌≡◌, ℕ, Bool, true, false, ◌≤◌, ◌<◌, List, [], ◌∷◌, ◌++◌, Option, Some, None, IsTrue, refl, sym, ap, ◌∙◌, subst, arith, ltb-true, lit≤, append_assoc, append-nil}
+use Rattle.std.proofs.Common.{inl, inr, ◌≡◌, ℕ, Bool, true, false, ◌≤◌, ◌<◌, List, [], ◌∷◌, ◌++◌, Option, Some, None, IsTrue, refl, sym, ap, ◌∙◌, subst, arith}
+use Rattle.std.proofs.Common.{ltb-true, lit≤, append_assoc, append-nil}
 use Rattle.std.proofs.lemmas.Bool.{and_parts, false≢true, cases_Bool}
 use Rattle.xpath_tokens.specs.declared.token.Operator.TheVariants as o
 use Rattle.xpath_tokens.specs.declared.token.Keyword.TheVariants as k
@@ -44,15 +45,19 @@ mode_text (m.typed word v type) = g.written v ++ (t.Operator (g.cast_operator wo
 
 unfoldable pub Leads : Form → Option Label → Parts → Label → Type 0
 Leads form before g.none label = IsTrue (g.follows form before label)
-Leads form before (g.more next x parts) label = IsTrue (g.follows form before next) × (g.place form next ≤ g.rank x) × g.Grammatical x × Leads form (Some next) parts label
+Leads form before (g.more next x parts) label = IsTrue (g.follows form before next) × (g.place form next ≤ g.rank x) × g.Grammatical x ×
+    Leads form (Some next) parts label
 
-pub leads_more : (form : Form) (before : Option Label) (parts : Parts) (label next : Label) (x : Tree) → Leads form before parts label → g.place form label ≤ g.rank x → g.Grammatical x → g.goes_on form label next ≡ true
+pub leads_more : (form : Form) (before : Option Label) (parts : Parts) (label next : Label) (x : Tree) → Leads form before parts label →
+    g.place form label ≤ g.rank x → g.Grammatical x → g.goes_on form label next ≡ true
     → Leads form before (and_then parts label x) next
 unfolding Leads m.append
 leads_more form before g.none label next x leads tight ok h = (leads, tight, ok, h)
-leads_more form before (g.more l y parts) label next x leads tight ok h = (leads.0, leads.1, leads.2, leads_more form (Some l) parts label next x leads.3 tight ok h)
+leads_more form before (g.more l y parts) label next x leads tight ok h =
+    (leads.0, leads.1, leads.2, leads_more form (Some l) parts label next x leads.3 tight ok h)
 
-pub leads_done : (form : Form) (before : Option Label) (parts : Parts) (label : Label) (x : Tree) → Leads form before parts label → g.place form label ≤ g.rank x → g.Grammatical x → g.ends form label ≡ true
+pub leads_done : (form : Form) (before : Option Label) (parts : Parts) (label : Label) (x : Tree) → Leads form before parts label →
+    g.place form label ≤ g.rank x → g.Grammatical x → g.ends form label ≡ true
     → g.Runs form before (and_then parts label x)
 unfolding Leads m.append g.Grammatical
 leads_done form before g.none label x leads tight ok h = (leads, tight, ok, h)
@@ -91,7 +96,8 @@ GoodMode (m.have v) st = g.Grammatical v × (16 ≤ g.rank v)
 GoodMode (m.filtered parts) st = Leads g.filter None parts g.again × g.Runs g.filter None parts × (m.place st ≤ 15)
 GoodMode (m.whole rank v) st = g.Grammatical v × (rank ≤ g.rank v) × (m.place st ≤ g.rank v)
 GoodMode (m.bind binder lead parts) st = ((name : Name) → g.is_full name ≡ true → Leads (g.bound binder) None parts (g.binding lead name)) × (m.place st ≤ 2)
-GoodMode (m.bind_dollar binder lead parts) st = ((name : Name) → g.is_full name ≡ true → Leads (g.bound binder) None parts (g.binding lead name)) × (m.place st ≤ 2)
+GoodMode (m.bind_dollar binder lead parts) st = ((name : Name) → g.is_full name ≡ true → Leads (g.bound binder) None parts (g.binding lead name)) ×
+    (m.place st ≤ 2)
 GoodMode (m.bind_name binder lead parts name) st = Leads (g.bound binder) None parts (g.binding lead name) × (m.place st ≤ 2)
 GoodMode m.if_ st = m.place st ≤ 2
 GoodMode (m.decided parts) st = Leads g.conditional None parts g.then_ × (m.place st ≤ 2)
@@ -122,12 +128,15 @@ pub record Stands (v : Tree) (st : Stack) (read : List Token) : Type 0 where
   pub place : m.place st ≤ g.rank v
 
 -- a form with its last part
-pub stands_node : (form : Form) (parts : Parts) (label : Label) (v : Tree) (st : Stack) (read : List Token) → Stands v (open_ form parts label ∷ st) read → g.ends form label ≡ true → g.closing form ≡ []
+pub stands_node : (form : Form) (parts : Parts) (label : Label) (v : Tree) (st : Stack) (read : List Token) → Stands v (open_ form parts label ∷ st) read →
+    g.ends form label ≡ true → g.closing form ≡ []
     → Stands (g.node form (and_then parts label v)) st read
 unfolding stack_text GoodStack g.written g.Grammatical
 stands_node form parts label v st read stands last closing = record {
   text = stands.text ∙ (append_assoc (stack_text st) (g.parts_written parts ++ g.label_tokens label) (g.written v) ∙ ap (λ l. stack_text st ++ l)
-      (append_assoc (g.parts_written parts) (g.label_tokens label) (g.written v) ∙ sym (ap (λ l. g.parts_written (and_then parts label v) ++ l) closing ∙ append-nil (g.parts_written (and_then parts label v)) ∙ written_append parts (g.more label v g.none) ∙ ap (λ l. g.parts_written parts ++ (g.label_tokens label ++ l)) (append-nil (g.written v)))));
+      (append_assoc (g.parts_written parts) (g.label_tokens label) (g.written v) ∙
+      sym (ap (λ l. g.parts_written (and_then parts label v) ++ l) closing ∙ append-nil (g.parts_written (and_then parts label v)) ∙
+      written_append parts (g.more label v g.none) ∙ ap (λ l. g.parts_written parts ++ (g.label_tokens label ++ l)) (append-nil (g.written v)))));
   stack = stands.stack.3;
   value = leads_done form None parts label v stands.stack.0 stands.place stands.value last;
   place = stands.stack.2;

@@ -1,5 +1,6 @@
 -- Expressions as trees, and which tokens spell which (XPath 2.0, appendix A.1, in a subset).
-use Rattle.std.specs.Prelude.{ℕ, suc, Bool, true, false, ◌&&◌, ◌||◌, not, List, [], ◌∷◌, ◌++◌, Option, Some, None, codes, is_none, max, ◌≡◌, ◌≤◌, IsTrue, nat_eq, map}
+use Rattle.std.specs.Prelude.{ℕ, suc, Bool, true, false, ◌&&◌, ◌||◌, not, List, [], ◌∷◌, ◌++◌, Option, Some, None, codes, is_none, max, ◌≡◌, ◌≤◌, IsTrue}
+use Rattle.std.specs.Prelude.{nat_eq, map}
 use Rattle.std.specs.List.{list_all}
 use Rattle.std.specs.Str.{bytes_eq}
 use Rattle.xpath_tokens.specs.declared.token.Operator.{Operator}
@@ -14,9 +15,13 @@ pub use Rattle.xpath_grammar.specs.declared.expr.Leaf.{Leaf}
 pub use Rattle.xpath_grammar.specs.declared.expr.Form.{Form}
 pub use Rattle.xpath_grammar.specs.declared.expr.Label.{Label}
 -- the constructors, under the names that they have here
-pub use Rattle.xpath_grammar.specs.declared.expr.Leaf.TheVariants.{Literal as literal, Number as number, Variable as variable, Context as context, Parent as parent, Empty as empty, Root as root, Called as called, Step as step}
-pub use Rattle.xpath_grammar.specs.declared.expr.Form.TheVariants.{Chain as chain, Bound as bound, Conditional as conditional, Cast as cast, Signs as signs, Filter as filter, Parentheses as parens, Call as call}
-pub use Rattle.xpath_grammar.specs.declared.expr.Label.TheVariants.{First as first, Link as link, Comma as comma, Binding as binding, Condition as condition, Then as then_, Signed as signed, Predicate as predicate, Again as again, Opened as opened, Calling as calling}
+pub use Rattle.xpath_grammar.specs.declared.expr.Leaf.TheVariants.{Literal as literal, Number as number, Variable as variable, Context as context}
+pub use Rattle.xpath_grammar.specs.declared.expr.Leaf.TheVariants.{Parent as parent, Empty as empty, Root as root, Called as called, Step as step}
+pub use Rattle.xpath_grammar.specs.declared.expr.Form.TheVariants.{Chain as chain, Bound as bound, Conditional as conditional, Cast as cast, Signs as signs}
+pub use Rattle.xpath_grammar.specs.declared.expr.Form.TheVariants.{Filter as filter, Parentheses as parens, Call as call}
+pub use Rattle.xpath_grammar.specs.declared.expr.Label.TheVariants.{First as first, Link as link, Comma as comma, Binding as binding, Condition as condition}
+pub use Rattle.xpath_grammar.specs.declared.expr.Label.TheVariants.{Then as then_, Signed as signed, Predicate as predicate, Again as again, Opened as opened}
+pub use Rattle.xpath_grammar.specs.declared.expr.Label.TheVariants.{Calling as calling}
 use Rattle.xpath_grammar.specs.declared.step.Axis.{Axis}
 use Rattle.xpath_grammar.specs.declared.step.Axis.TheVariants as a
 use Rattle.xpath_grammar.specs.declared.step.AxisForm.{AxisForm}

@@ -25,7 +25,10 @@ pub use Rattle.xpath_grammar.specs.declared.machine.Frame.{Frame}
 pub use Rattle.xpath_grammar.specs.declared.machine.Mode.{Mode}
 -- the constructors, under the names that they have here
 pub use Rattle.xpath_grammar.specs.declared.machine.Frame.TheVariants.{Open as open_}
-pub use Rattle.xpath_grammar.specs.declared.machine.Mode.TheVariants.{Want as want, Slash as slash, Dollar as dollar, Named as named, OnAxis as on_axis, NamedOn as named_on, Kind as kind, Have as have, Filtered as filtered, Whole as whole, Bind as bind, BindDollar as bind_dollar, BindName as bind_name, If as if_, Decided as decided, Casting as casting, CastAs as cast_as, Typed as typed}
+pub use Rattle.xpath_grammar.specs.declared.machine.Mode.TheVariants.{Want as want, Slash as slash, Dollar as dollar, Named as named, OnAxis as on_axis}
+pub use Rattle.xpath_grammar.specs.declared.machine.Mode.TheVariants.{NamedOn as named_on, Kind as kind, Have as have, Filtered as filtered, Whole as whole}
+pub use Rattle.xpath_grammar.specs.declared.machine.Mode.TheVariants.{Bind as bind, BindDollar as bind_dollar, BindName as bind_name, If as if_}
+pub use Rattle.xpath_grammar.specs.declared.machine.Mode.TheVariants.{Decided as decided, Casting as casting, CastAs as cast_as, Typed as typed}
 
 -- values of expressions and of the parts so far
 pub record Algebra (V L : Type 0) : Type 0 where
@@ -159,7 +162,8 @@ module _ {V L : Type 0} (A : Algebra V L) where
   -- the value is the first operand of a chain of the production
   abbrev pub begin_chain : Option Production → Label → V → List (Frame L) → Option (State V L)
   begin_chain None label v st = None
-  begin_chain (Some production) label v st = given (has_place (g.rank_of production) st) (opening (g.chain production) (A.and_then A.nothing g.first v) label st)
+  begin_chain (Some production) label v st = given (has_place (g.rank_of production) st)
+      (opening (g.chain production) (A.and_then A.nothing g.first v) label st)
 
   abbrev pub extend : Bool → Form → L → Label → Label → V → List (Frame L) → Option (State V L)
   extend true form parts before label v st = Some (opening form (A.and_then parts before v) label st)

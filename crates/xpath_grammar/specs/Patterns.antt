@@ -27,12 +27,14 @@ is_pattern_axis (w.Written _) = false
 pub data IsStep : List Token → Tree → Type 0 where
   a_step : (axis : AxisForm) (test : Test) → IsTrue (is_pattern_axis axis) → IsStep (g.axis_tokens axis ++ g.test_tokens test) (g.leaf (g.step axis test))
   filtered : (axis : AxisForm) (test : Test) (b c : List Token) (y : Tree) (xs : Parts) → IsTrue (is_pattern_axis axis) → Is expr b y → Predicates c xs
-      → IsStep ((g.axis_tokens axis ++ g.test_tokens test) ++ (t.LeftBracket ∷ (b ++ (t.RightBracket ∷ c)))) (g.node g.filter (g.more g.first (g.leaf (g.step axis test)) (g.more g.predicate y xs)))
+      → IsStep ((g.axis_tokens axis ++ g.test_tokens test) ++ (t.LeftBracket ∷ (b ++ (t.RightBracket ∷ c))))
+      (g.node g.filter (g.more g.first (g.leaf (g.step axis test)) (g.more g.predicate y xs)))
 
 -- (("/" | "//") PatternStep)*
 pub data Steps : List Token → Parts → Type 0 where
   no_steps : Steps [] g.none
-  more_steps : (operator : Operator) (a b : List Token) (x : Tree) (xs : Parts) → g.production_of operator ≡ Some p.Path → IsStep a x → Steps b xs → Steps (t.Operator operator ∷ (a ++ b)) (g.more (g.link operator) x xs)
+  more_steps : (operator : Operator) (a b : List Token) (x : Tree) (xs : Parts) → g.production_of operator ≡ Some p.Path → IsStep a x → Steps b xs →
+      Steps (t.Operator operator ∷ (a ++ b)) (g.more (g.link operator) x xs)
 
 -- One ::= "/" Relative? | "//" Relative | Relative, Relative ::= PatternStep (("/" | "//") PatternStep)*
 pub data IsPath : List Token → Tree → Type 0 where
@@ -40,7 +42,8 @@ pub data IsPath : List Token → Tree → Type 0 where
   from_root : (operator : Operator) (a b : List Token) (x : Tree) (xs : Parts) → g.production_of operator ≡ Some p.Path → IsStep a x → Steps b xs
       → IsPath (t.Operator operator ∷ (a ++ b)) (g.node (g.chain p.Path) (g.more (g.link operator) x xs))
   one_step : (a : List Token) (x : Tree) → IsStep a x → IsPath a x
-  many_steps : (operator : Operator) (a b c : List Token) (x y : Tree) (xs : Parts) → IsStep a x → g.production_of operator ≡ Some p.Path → IsStep b y → Steps c xs
+  many_steps : (operator : Operator) (a b c : List Token) (x y : Tree) (xs : Parts) → IsStep a x → g.production_of operator ≡ Some p.Path → IsStep b y →
+      Steps c xs
       → IsPath (a ++ (t.Operator operator ∷ (b ++ c))) (g.node (g.chain p.Path) (g.more g.first x (g.more (g.link operator) y xs)))
 
 -- ("|" One)*

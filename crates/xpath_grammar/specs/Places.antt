@@ -13,7 +13,8 @@ unfoldable mutual
 
   pub inner_parts : ℕ → Parts → List (ℕ × Tree)
   inner_parts at g.none = []
-  inner_parts at (g.more label x parts) = parts_from (at + length (g.label_tokens label)) x ++ inner_parts (at + length (g.label_tokens label) + length (g.written x)) parts
+  inner_parts at (g.more label x parts) = parts_from (at + length (g.label_tokens label)) x ++
+      inner_parts (at + length (g.label_tokens label) + length (g.written x)) parts
 
 -- Among the tokens the part is written from the place on.
 pub record StandsAt (tokens : List Token) (part : ℕ × Tree) : Type 0 where

@@ -48,9 +48,11 @@ mutual
     a_number : (n : Number) → Is primary (t.Number n ∷ []) (g.leaf (g.number n))
     a_variable : (name : Name) → IsTrue (g.is_full name) → Is primary (t.Dollar ∷ t.Name name ∷ []) (g.leaf (g.variable name))
     nothing : Is primary (t.LeftParenthesis ∷ t.RightParenthesis ∷ []) (g.leaf g.empty)
-    in_parentheses : (a : List Token) (x : Tree) → Is expr a x → Is primary (t.LeftParenthesis ∷ (a ++ t.RightParenthesis ∷ [])) (g.node g.parens (g.more g.opened x g.none))
+    in_parentheses : (a : List Token) (x : Tree) → Is expr a x →
+        Is primary (t.LeftParenthesis ∷ (a ++ t.RightParenthesis ∷ [])) (g.node g.parens (g.more g.opened x g.none))
     the_context : Is primary (t.Dot ∷ []) (g.leaf g.context)
-    a_call_of_none : (name : Name) → IsTrue (g.is_function name) → Is primary (t.Name name ∷ t.LeftParenthesis ∷ t.RightParenthesis ∷ []) (g.leaf (g.called name))
+    a_call_of_none : (name : Name) → IsTrue (g.is_function name) →
+        Is primary (t.Name name ∷ t.LeftParenthesis ∷ t.RightParenthesis ∷ []) (g.leaf (g.called name))
     a_call : (name : Name) (a b : List Token) (x : Tree) (xs : Parts) → IsTrue (g.is_function name) → Is single a x → Arguments b xs
         → Is primary (t.Name name ∷ t.LeftParenthesis ∷ (a ++ (b ++ t.RightParenthesis ∷ []))) (g.node g.call (g.more (g.calling name) x xs))
     -- Step ::= Primary Predicate* | Axis? Test Predicate* | ".." Predicate*
@@ -67,16 +69,19 @@ mutual
         → Is unary (map t.Operator (sign ∷ signs) ++ a) (g.node g.signs (g.more (g.signed (sign ∷ signs)) x g.none))
     -- Cast ::= Unary ("cast" "as" Type "?"?)?, and likewise Castable over Cast
     a_cast : (word : CastWord) (type : Name) (optional : Bool) (a : List Token) (x : Tree) → IsTrue (g.is_full type) → Is (suc (rank_of_cast word)) a x
-        → Is (rank_of_cast word) (a ++ (t.Operator (g.cast_operator word) ∷ t.Operator o.As ∷ t.Name type ∷ g.question optional)) (g.node (g.cast word type optional) (g.more g.first x g.none))
+        → Is (rank_of_cast word) (a ++ (t.Operator (g.cast_operator word) ∷ t.Operator o.As ∷ t.Name type ∷ g.question optional))
+        (g.node (g.cast word type optional) (g.more g.first x g.none))
     -- Expr ::= Single ("," Single)*, and likewise Or ::= And ("or" And)*, And, Sum, Product, Union, Intersection, and the relative
     -- path over steps; Comparison and Range with one operator at most
-    a_chain : (production : Production) (label : g.Label) (a b c : List Token) (x y : Tree) (xs : Parts) → Is (suc (rank_of production)) a x → IsTrue (g.joins production label)
+    a_chain : (production : Production) (label : g.Label) (a b c : List Token) (x y : Tree) (xs : Parts) → Is (suc (rank_of production)) a x →
+        IsTrue (g.joins production label)
         → Is (suc (rank_of production)) b y → Operands production c xs → (IsTrue (g.is_single production) → xs ≡ g.none)
         → Is (rank_of production) (a ++ (g.label_tokens label ++ (b ++ c))) (g.node (g.chain production) (g.more g.first x (g.more label y xs)))
     -- Single ::= ("for" | "some" | "every") Binding ("," Binding)* ("return" | "satisfies") Single
     --          | "if" "(" Expr ")" "then" Single "else" Single | Or
     binds : (binder : Binder) (name : Name) (a b : List Token) (x : Tree) (xs : Parts) → IsTrue (g.is_full name) → Is single a x → Bindings binder b xs
-        → Is single (t.Keyword (g.binder_keyword binder) ∷ t.Dollar ∷ t.Name name ∷ t.Operator o.In ∷ (a ++ b)) (g.node (g.bound binder) (g.more (g.binding (Some binder) name) x xs))
+        → Is single (t.Keyword (g.binder_keyword binder) ∷ t.Dollar ∷ t.Name name ∷ t.Operator o.In ∷ (a ++ b))
+        (g.node (g.bound binder) (g.more (g.binding (Some binder) name) x xs))
     decides : (a b c : List Token) (x y z : Tree) → Is expr a x → Is single b y → Is single c z
         → Is single (t.Keyword k.If ∷ t.LeftParenthesis ∷ (a ++ (t.RightParenthesis ∷ t.Operator o.Then ∷ (b ++ (t.Operator o.Else ∷ c)))))
         (g.node g.conditional (g.more g.condition x (g.more g.then_ y (g.more (g.link o.Else) z g.none))))
@@ -84,7 +89,8 @@ mutual
   -- the operators of a production and their operands, behind the first operand
   pub data Operands : Production → List Token → Parts → Type 0 where
     no_operands : (production : Production) → Operands production [] g.none
-    an_operand : (production : Production) (label : g.Label) (a b : List Token) (x : Tree) (xs : Parts) → IsTrue (g.joins production label) → Is (suc (rank_of production)) a x → Operands production b xs
+    an_operand : (production : Production) (label : g.Label) (a b : List Token) (x : Tree) (xs : Parts) → IsTrue (g.joins production label) →
+        Is (suc (rank_of production)) a x → Operands production b xs
         → Operands production (g.label_tokens label ++ (a ++ b)) (g.more label x xs)
 
   -- ("," Single)*
@@ -95,10 +101,12 @@ mutual
   -- ("[" Expr "]")* behind the first predicate
   pub data Predicates : List Token → Parts → Type 0 where
     no_predicates : Predicates [] g.none
-    a_predicate : (a b : List Token) (x : Tree) (xs : Parts) → Is expr a x → Predicates b xs → Predicates (t.LeftBracket ∷ (a ++ (t.RightBracket ∷ b))) (g.more g.again x xs)
+    a_predicate : (a b : List Token) (x : Tree) (xs : Parts) → Is expr a x → Predicates b xs →
+        Predicates (t.LeftBracket ∷ (a ++ (t.RightBracket ∷ b))) (g.more g.again x xs)
 
   -- ("," "$" Name "in" Single)* and then the word and the expression that the variables are for
   pub data Bindings : Binder → List Token → Parts → Type 0 where
-    the_body : (binder : Binder) (word : Operator) (a : List Token) (x : Tree) → IsTrue (g.is_body_word binder word) → Is single a x → Bindings binder (t.Operator word ∷ a) (g.more (g.link word) x g.none)
+    the_body : (binder : Binder) (word : Operator) (a : List Token) (x : Tree) → IsTrue (g.is_body_word binder word) → Is single a x →
+        Bindings binder (t.Operator word ∷ a) (g.more (g.link word) x g.none)
     a_binding : (binder : Binder) (name : Name) (a b : List Token) (x : Tree) (xs : Parts) → IsTrue (g.is_full name) → Is single a x → Bindings binder b xs
         → Bindings binder (t.Comma ∷ t.Dollar ∷ t.Name name ∷ t.Operator o.In ∷ (a ++ b)) (g.more (g.binding None name) x xs)

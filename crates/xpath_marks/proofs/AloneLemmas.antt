@@ -136,7 +136,8 @@ root_none names (s.Outer other) name h e = false≢true h
 root_none names (s.Step axis test) name h e = false≢true h
 root_none names (s.Called function) name h e = false≢true h
 
-pub root_alone : (names : List Name) (work : Work) (simple : Simple) (name : Name) → work ≡ w.Simple simple → is_root simple ≡ true → alone (seen names work) ≡ Some name → ⊥
+pub root_alone : (names : List Name) (work : Work) (simple : Simple) (name : Name) → work ≡ w.Simple simple → is_root simple ≡ true →
+    alone (seen names work) ≡ Some name → ⊥
 root_alone names work simple name is root e = root_none names simple name root (sym (ap alone (ap (seen names) is ∙ seen-simple names simple)) ∙ e)
 
 -- the name that a step looks for
@@ -167,7 +168,8 @@ simple_alone names (s.Variable height) name none e = none_some name e
 simple_alone names (s.Outer other) name none e = none_some name e
 simple_alone names (s.Called function) name none e = none_some name e
 
-pub other_alone : (names : List Name) (work : Work) (simple : Simple) (name : Name) → work ≡ w.Simple simple → child_name simple ≡ None → alone (seen names work) ≡ Some name → ⊥
+pub other_alone : (names : List Name) (work : Work) (simple : Simple) (name : Name) → work ≡ w.Simple simple → child_name simple ≡ None →
+    alone (seen names work) ≡ Some name → ⊥
 other_alone names work simple name is none e = simple_alone names simple name none (sym (ap alone (ap (seen names) is ∙ seen-simple names simple)) ∙ e)
 
 -- ---- works with parts
@@ -187,9 +189,11 @@ none_made (kd.Call function) = refl
 none_made (kd.Matches pattern) = refl
 none_made kd.Nothing = refl
 
-pub empty_alone : (names : List Name) (work : Work) (kind : Kind) (parts : List (Link × Work)) (name : Name) → work ≡ w.Node kind parts → parts ≡ [] → alone (seen names work) ≡ Some name → ⊥
+pub empty_alone : (names : List Name) (work : Work) (kind : Kind) (parts : List (Link × Work)) (name : Name) → work ≡ w.Node kind parts → parts ≡ [] →
+    alone (seen names work) ≡ Some name → ⊥
 empty_alone names work kind parts name is none e =
-    none_some name (sym (none_made kind) ∙ (sym (ap alone (ap (seen names) is ∙ (node_seen names kind parts ∙ ap (λ ps. made kind (operands_of names ps)) none))) ∙ e))
+    none_some name (sym (none_made kind) ∙
+    (sym (ap alone (ap (seen names) is ∙ (node_seen names kind parts ∙ ap (λ ps. made kind (operands_of names ps)) none))) ∙ e))
 
 -- The first part alone is the name.
 first_made : (names : List Name) (kind : Kind) (link : Link) (work : Work) (others : List (Link × Work)) → is_found_by_first kind link (is_empty others) ≡ true
@@ -211,13 +215,15 @@ first_made names (kd.Matches pattern) link work others h = absurd (false≢true 
 first_made names kd.Nothing link work others h = absurd (false≢true h)
 
 -- Nothing else that has parts is.
-made_none : (names : List Name) (kind : Kind) (link : Link) (work : Work) (others : List (Link × Work)) (name : Name) → is_first_part kind link (is_empty others) ≡ false → is_filter kind ≡ false
+made_none : (names : List Name) (kind : Kind) (link : Link) (work : Work) (others : List (Link × Work)) (name : Name) →
+    is_first_part kind link (is_empty others) ≡ false → is_filter kind ≡ false
     → alone (made kind (operands_of names ((link, work) ∷ others))) ≡ Some name → ⊥
 made_none names kind link work others name h f e =
     let whole = made kind (operands_of names ((link, work) ∷ others)) in
     none_some name (sym (ap alone (no_step names kind link work others h f (alone_step whole name e))) ∙ e)
 
-other_made : (names : List Name) (kind : Kind) (link : Link) (work : Work) (others : List (Link × Work)) (name : Name) → is_found_by_first kind link (is_empty others) ≡ false
+other_made : (names : List Name) (kind : Kind) (link : Link) (work : Work) (others : List (Link × Work)) (name : Name) →
+    is_found_by_first kind link (is_empty others) ≡ false
     → alone (made kind (operands_of names ((link, work) ∷ others))) ≡ Some name → ⊥
 other_made names kd.FilteredStep link work [] name h e = true≢false h
 other_made names kd.FreeStep link work [] name h e = true≢false h
@@ -226,7 +232,8 @@ other_made names kd.FilteredStep link work (other ∷ others) name h e =
 other_made names kd.FreeStep link work (other ∷ others) name h e =
     none_some name (sym (alone_kept (operands_of names others) (in_axis_order (seen names work)) (seen names other.1)) ∙ e)
 other_made names kd.Filtered link work [] name h e = true≢false h
-other_made names kd.Filtered link work (other ∷ others) name h e = none_some name (sym (alone_kept (operands_of names others) (seen names work) (seen names other.1)) ∙ e)
+other_made names kd.Filtered link work (other ∷ others) name h e =
+    none_some name (sym (alone_kept (operands_of names others) (seen names work) (seen names other.1)) ∙ e)
 other_made names kd.Only link work others name h e = made_none names kd.Only link work others name h refl e
 other_made names (kd.Once slot height) link work others name h e = made_none names (kd.Once slot height) link work others name h refl e
 other_made names (kd.Bound binder) link work others name h e = made_none names (kd.Bound binder) link work others name h refl e
@@ -238,7 +245,8 @@ other_made names (kd.Call function) link work others name h e = made_none names 
 other_made names (kd.Matches pattern) link work others name h e = made_none names (kd.Matches pattern) link work others name h refl e
 other_made names kd.Nothing link work others name h e = made_none names kd.Nothing link work others name h refl e
 
-module _ (names : List Name) (work : Work) (kind : Kind) (parts : List (Link × Work)) (is : work ≡ w.Node kind parts) (first : Link × Work) (others : List (Link × Work)) (divided : parts ≡ first ∷ others) where
+module _ (names : List Name) (work : Work) (kind : Kind) (parts : List (Link × Work)) (is : work ≡ w.Node kind parts) (first : Link × Work)
+    (others : List (Link × Work)) (divided : parts ≡ first ∷ others) where
   divided_alone : alone (seen names work) ≡ alone (made kind (operands_of names (first ∷ others)))
   divided_alone = ap alone (ap (seen names) is ∙ (node_seen names kind parts ∙ ap (λ ps. made kind (operands_of names ps)) divided))
 

@@ -1,5 +1,6 @@
 -- Steps to children of a name, from the document's elements of that name.
-use Rattle.std.proofs.Common.{◌≡◌, ℕ, suc, ◌+◌, ◌<◌, ◌≤◌, Bool, true, false, not, ◌&&◌, ⊎_elim, ◌||◌, ◌==◌, List, [], ◌∷◌, ◌++◌, length, get_or, drop, Option, Some, None, refl, ap, sym, ◌∙◌, arith, append_assoc}
+use Rattle.std.proofs.Common.{◌≡◌, ℕ, suc, ◌+◌, ◌<◌, ◌≤◌, Bool, true, false, not, ◌&&◌, ⊎_elim, ◌||◌, ◌==◌, List, [], ◌∷◌, ◌++◌, length, get_or, drop, Option}
+use Rattle.std.proofs.Common.{Some, None, refl, ap, sym, ◌∙◌, arith, append_assoc}
 use Rattle.std.specs.Prelude.{filter, nat_le}
 use Rattle.std.specs.List.{list_any, flat_map}
 use Rattle.std.proofs.lemmas.List.{drop_more}
@@ -39,7 +40,8 @@ use Rattle.xpath_marks.proofs.MarkingLemmas.{nothing_found}
 
 -- ---- what filters keep
 
-among_kept : (predicate : ℕ → ℕ → ℕ → Value) (last position : ℕ) (ns : List ℕ) (m : ℕ) → is_among m (kept_nodes predicate last position ns) ≡ true → is_among m ns ≡ true
+among_kept : (predicate : ℕ → ℕ → ℕ → Value) (last position : ℕ) (ns : List ℕ) (m : ℕ) → is_among m (kept_nodes predicate last position ns) ≡ true →
+    is_among m ns ≡ true
 among_kept predicate last position [] m h = h
 among_kept predicate last position (n ∷ ns) m h =
     go (is_kept (then_ (predicate n position last) (keeps position))) (among_kept predicate last (suc position) ns m) h
@@ -67,9 +69,11 @@ filter_children base work kind parts first others name is divided filters step n
     let env = base.env.now in
     let made_is : seen names work ≡ made kind (operands_of names (first ∷ others)) =
     ap (seen names) is ∙ (node_seen names kind parts ∙ ap (λ ps. made kind (operands_of names ps)) divided) in
-    let begin : seen names first.1 ≡ step_of a.Child (test_seen names (t.Named name)) = ap (seen names) step ∙ seen-simple names (s.Step a.Child (t.Named name)) in
+    let begin : seen names first.1 ≡ step_of a.Child (test_seen names (t.Named name)) = ap (seen names) step ∙
+    seen-simple names (s.Step a.Child (t.Named name)) in
     let kept : is_among m (kept_by_all base predicates (found_at nodes env (seen names first.1) n)) ≡ true =
-    ap (is_among m) (sym (filter_found base kind first.0 (seen names first.1) predicates n filters)) ∙ (ap (λ e. is_among m (found_at nodes env e n)) (sym made_is) ∙ h) in
+    ap (is_among m) (sym (filter_found base kind first.0 (seen names first.1) predicates n filters)) ∙
+    (ap (λ e. is_among m (found_at nodes env e n)) (sym made_is) ∙ h) in
     ap (λ e. is_among m (found_at nodes env e n)) (sym begin) ∙ among_kept_all base predicates (found_at nodes env (seen names first.1) n) m kept
 
 -- ---- the node around a node
@@ -91,8 +95,10 @@ some_above (m ∷ above) n h = omega arith
 
 -- All that a function gives at some nodes, in document order.
 pub all_of_flat : (nodes : List Node) (f : ℕ → List ℕ) (from out : List ℕ) → out ≡ flat_map f from
-    → node_numbers (filter (λ (node : Node). is_among node.number out) nodes) ≡ node_numbers (filter (λ (node : Node). list_any (λ n. is_among node.number (f n)) from) nodes)
-all_of_flat nodes f from out e = ap node_numbers (alike (λ (node : Node). is_among node.number out) (λ (node : Node). list_any (λ n. is_among node.number (f n)) from) 0 nodes
+    → node_numbers (filter (λ (node : Node). is_among node.number out) nodes) ≡ node_numbers
+    (filter (λ (node : Node). list_any (λ n. is_among node.number (f n)) from) nodes)
+all_of_flat nodes f from out e = ap node_numbers (alike (λ (node : Node). is_among node.number out)
+    (λ (node : Node). list_any (λ n. is_among node.number (f n)) from) 0 nodes
     (λ k l b. ap (is_among (tree_node nodes k).number) e ∙ flat_any f from (tree_node nodes k).number))
 
 module _ (nodes : List Node) (w : IsWalkable nodes) where
@@ -168,7 +174,8 @@ module _ (nodes : List Node) (w : IsWalkable nodes) where
         let on = and_parts (is_inside (tree_node nodes 0).number (tree_node nodes k)) (not (is_attribute (tree_node nodes k))) parts.0 in
         by (tree_node nodes k).above refl on.0 on.1 parts.1
       where
-        by : (above : List ℕ) → (tree_node nodes k).above ≡ above → is_among (tree_node nodes 0).number above ≡ true → not (is_attribute (tree_node nodes k)) ≡ true
+        by : (above : List ℕ) → (tree_node nodes k).above ≡ above → is_among (tree_node nodes 0).number above ≡ true →
+            not (is_attribute (tree_node nodes k)) ≡ true
             → passes a.Child test (tree_node nodes k) ≡ true → (n : ℕ) × (n < length nodes) × IsChild n k
         by [] e inside plain wanted = absurd (false≢true inside)
         by (n ∷ above) e inside plain wanted =
@@ -213,8 +220,10 @@ module _ (nodes : List Node) (w : IsWalkable nodes) where
     -- What finds such children alone finds the same from the nodes around the elements as from all.
     pub around_reached : (e : Exp) → ((n m : ℕ) → is_among m (found_at nodes outer e n) ≡ true → is_among m (found_at nodes outer child n) ≡ true)
         → all_reached nodes outer e (all_around nodes elements) ≡ all_found nodes outer e
-    around_reached e goes = ap node_numbers (alike (λ (node : Node). is_reached nodes outer e (all_around nodes elements) node.number) (λ (node : Node). is_found nodes outer e node.number) 0 nodes
-        (λ k l b. same_truth (is_reached nodes outer e (all_around nodes elements) (tree_node nodes k).number) (is_found nodes outer e (tree_node nodes k).number)
+    around_reached e goes = ap node_numbers (alike (λ (node : Node). is_reached nodes outer e (all_around nodes elements) node.number)
+        (λ (node : Node). is_found nodes outer e node.number) 0 nodes
+        (λ k l b. same_truth (is_reached nodes outer e (all_around nodes elements) (tree_node nodes k).number)
+        (is_found nodes outer e (tree_node nodes k).number)
         (to (tree_node nodes k).number) (from (tree_node nodes k).number)))
       where
         to : (k : ℕ) → is_reached nodes outer e (all_around nodes elements) k ≡ true → is_found nodes outer e k ≡ true
@@ -226,9 +235,11 @@ module _ (nodes : List Node) (w : IsWalkable nodes) where
 
         from : (k : ℕ) → is_found nodes outer e k ≡ true → is_reached nodes outer e (all_around nodes elements) k ≡ true
         from k h =
-            let some : (m : ℕ) × IsNumberOf (λ (node : Node). is_among k (found_at nodes outer e node.number)) nodes m = any_place (λ node. is_among k (found_at nodes outer e node.number)) nodes h in
+            let some : (m : ℕ) × IsNumberOf (λ (node : Node). is_among k (found_at nodes outer e node.number)) nodes m =
+            any_place (λ node. is_among k (found_at nodes outer e node.number)) nodes h in
             let n : ℕ = some.1.place in
-            let here : is_among k (found_at nodes outer e n) ≡ true = ap (λ m. is_among k (found_at nodes outer e m)) (sym (w.counted n some.1.within)) ∙ some.1.passes in
+            let here : is_among k (found_at nodes outer e n) ≡ true = ap (λ m. is_among k (found_at nodes outer e m)) (sym (w.counted n some.1.within)) ∙
+            some.1.passes in
             any_from (found_at nodes outer e) (all_around nodes elements) n k (around_child n k some.1.within (goes n k here)) here
 
 -- ---- as calls have it
@@ -239,8 +250,10 @@ all_children_found base w None = nothing_found base [] refl
 all_children_found base w (Some test) = elements_found (nodes_of base) w.walkable base.env.now test
 
 all_around_reached : (base : Ground) (w : IsWalked base.doc.now) (test : Option NodeTest) (e : Exp)
-    → ((n m : ℕ) → is_among m (found_at (nodes_of base) base.env.now e n) ≡ true → is_among m (found_at (nodes_of base) base.env.now (step_of a.Child test) n) ≡ true)
-    → all_reached (nodes_of base) base.env.now e (all_around (nodes_of base) (axis_numbers (nodes_of base) a.Descendant 0 test)) ≡ all_found (nodes_of base) base.env.now e
+    → ((n m : ℕ) → is_among m (found_at (nodes_of base) base.env.now e n) ≡ true →
+    is_among m (found_at (nodes_of base) base.env.now (step_of a.Child test) n) ≡ true)
+    → all_reached (nodes_of base) base.env.now e (all_around (nodes_of base) (axis_numbers (nodes_of base) a.Descendant 0 test)) ≡ all_found
+    (nodes_of base) base.env.now e
 all_around_reached base w None e goes =
     ap node_numbers (alike (λ (node : Node). is_reached (nodes_of base) base.env.now e (all_around (nodes_of base) []) node.number)
     (λ (node : Node). is_found (nodes_of base) base.env.now e node.number) 0 (nodes_of base)
@@ -262,14 +275,16 @@ all_around_reached base w None e goes =
 all_around_reached base w (Some test) e goes = around_reached (nodes_of base) w.walkable base.env.now test e goes
 
 pub children_everywhere : (base : Ground) → IsWalked base.doc.now → (name : ℕ) (e : Exp) (named lent from lent' found : List ℕ) → GoesToChildren base name e
-    → named ≡ elements_of base name → lent ≡ named → from ≡ all_around (nodes_of base) lent → lent' ≡ from → Reached base e lent' found → FoundByStep base e found
+    → named ≡ elements_of base name → lent ≡ named → from ≡ all_around (nodes_of base) lent → lent' ≡ from → Reached base e lent' found →
+    FoundByStep base e found
 children_everywhere base w name e named lent from lent' found goes is same around same' r = λ step.
     r step
     ∙ (ap (all_reached (nodes_of base) base.env.now e) (same' ∙ (around ∙ ap (all_around (nodes_of base)) (same ∙ is)))
     ∙ all_around_reached base w (test_seen base.names.now (t.Named name)) e goes)
 
 -- a step alone to children of a name
-pub named_marked : (base : Ground) → IsWalked base.doc.now → (work : Work) (simple : Simple) (name : ℕ) (found : List ℕ) → work ≡ w.Simple simple → simple ≡ s.Step a.Child (t.Named name)
+pub named_marked : (base : Ground) → IsWalked base.doc.now → (work : Work) (simple : Simple) (name : ℕ) (found : List ℕ) → work ≡ w.Simple simple →
+    simple ≡ s.Step a.Child (t.Named name)
     → found ≡ elements_of base name → Marked base (seen base.names.now work) found
 named_marked base w work simple name found is step e = λ p.
     let names = base.names.now in

@@ -14,7 +14,8 @@ use Rattle.xpath_walks.specs.Walks.{IsWalkable, node_numbers}
 use Rattle.xpath_walks.proofs.FilterLemmas.{alike}
 use Rattle.xpath_marks.specs.Shapes.{is_pattern}
 use Rattle.xpath_marks.specs.Found.{is_reached, is_found, all_found, all_reached}
-use Rattle.xpath_marks.proofs.AmongLemmas.{IsFrom, from_any, any_from, mapped_from, from_mapped, IsNumberOf, filtered_from, any_place, same_truth, among_passing, among_both, flat_any}
+use Rattle.xpath_marks.proofs.AmongLemmas.{IsFrom, from_any, any_from, mapped_from, from_mapped, IsNumberOf, filtered_from, any_place, same_truth}
+use Rattle.xpath_marks.proofs.AmongLemmas.{among_passing, among_both, flat_any}
 use Rattle.xpath_marks.proofs.SwapLemmas.{pattern_down}
 
 module _ (nodes : List Node) (w : IsWalkable nodes) (outer : List (List ℕ × Value)) where
@@ -23,10 +24,12 @@ module _ (nodes : List Node) (w : IsWalkable nodes) (outer : List (List ℕ × V
 
   pub found_by : (e : Exp) (n k : ℕ) → n < length nodes → is_among k (found_at nodes outer e n) ≡ true → is_found nodes outer e k ≡ true
   found_by e n k within h =
-      list_any_at (λ (node : Node). is_among k (found_at nodes outer e node.number)) nodes n _ within (ap (λ m. is_among k (found_at nodes outer e m)) (w.counted n within) ∙ h)
+      list_any_at (λ (node : Node). is_among k (found_at nodes outer e node.number)) nodes n _ within
+      (ap (λ m. is_among k (found_at nodes outer e m)) (w.counted n within) ∙ h)
 
   -- A path finds what its last step reaches from what is before it.
-  pub slash_found : (e step : Exp) → is_pattern e ≡ true → (k : ℕ) → is_found nodes outer (x.slash e step) k ≡ is_reached nodes outer step (all_found nodes outer e) k
+  pub slash_found : (e step : Exp) → is_pattern e ≡ true → (k : ℕ) →
+      is_found nodes outer (x.slash e step) k ≡ is_reached nodes outer step (all_found nodes outer e) k
   slash_found e step s k = same_truth (is_found nodes outer (x.slash e step) k) (is_reached nodes outer step (all_found nodes outer e) k)
       (λ h.
       let some : (m : ℕ) × IsNumberOf (λ (node : Node). is_among k (found_at nodes outer (x.slash e step) node.number)) nodes m =
@@ -41,7 +44,8 @@ module _ (nodes : List Node) (w : IsWalkable nodes) (outer : List (List ℕ × V
       from.from)
       (λ h.
       let from : IsFrom (found_at nodes outer step) (all_found nodes outer e) k = from_any (found_at nodes outer step) (all_found nodes outer e) k h in
-      let at : IsNumberOf (λ (node : Node). is_found nodes outer e node.number) nodes from.origin = filtered_from (λ node. is_found nodes outer e node.number) nodes from.origin from.among in
+      let at : IsNumberOf (λ (node : Node). is_found nodes outer e node.number) nodes from.origin =
+      filtered_from (λ node. is_found nodes outer e node.number) nodes from.origin from.among in
       let some : (m : ℕ) × IsNumberOf (λ (node : Node). is_among from.origin (found_at nodes outer e node.number)) nodes m =
       any_place (λ node. is_among from.origin (found_at nodes outer e node.number)) nodes (ap (is_found nodes outer e) (sym at.number) ∙ at.passes) in
       let n : ℕ = some.1.place in
@@ -65,7 +69,8 @@ module _ (nodes : List Node) (w : IsWalkable nodes) (outer : List (List ℕ × V
 
   -- What `|` finds is what either side finds.
   either_found : (e f : Exp) (k : ℕ) (ns : List Node) → list_any (λ (node : Node). is_among k (found_at nodes outer (x.operated o.Bar e f) node.number)) ns
-      ≡ (list_any (λ (node : Node). is_among k (found_at nodes outer e node.number)) ns || list_any (λ (node : Node). is_among k (found_at nodes outer f node.number)) ns)
+      ≡ (list_any (λ (node : Node). is_among k (found_at nodes outer e node.number)) ns ||
+      list_any (λ (node : Node). is_among k (found_at nodes outer f node.number)) ns)
   either_found e f k [] = refl
   either_found e f k (n ∷ ns) =
       ap (λ b. is_among k (found_at nodes outer e n.number ++ found_at nodes outer f n.number) || b) (either_found e f k ns)
@@ -99,5 +104,6 @@ module _ (nodes : List Node) (w : IsWalkable nodes) (outer : List (List ℕ × V
   -- All that the steps from some nodes lead to, in document order.
   pub all_of_turns : (step : Exp) (from out : List ℕ) → out ≡ flat_map (found_at nodes outer step) from
       → node_numbers (filter (λ (node : Node). is_among node.number out) nodes) ≡ all_reached nodes outer step from
-  all_of_turns step from out e = ap node_numbers (alike (λ (node : Node). is_among node.number out) (λ (node : Node). is_reached nodes outer step from node.number) 0 nodes
+  all_of_turns step from out e = ap node_numbers (alike (λ (node : Node). is_among node.number out)
+      (λ (node : Node). is_reached nodes outer step from node.number) 0 nodes
       (λ k l b. ap (is_among (tree_node nodes k).number) e ∙ flat_any (found_at nodes outer step) from (tree_node nodes k).number))

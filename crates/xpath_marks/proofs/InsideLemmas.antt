@@ -1,5 +1,6 @@
 -- All nodes, and all that are inside some.
-use Rattle.std.proofs.Common.{◌≡◌, ℕ, ◌+◌, ◌<◌, ◌≤◌, Bool, true, false, not, ◌&&◌, ◌||◌, ⊎_elim, List, [], ◌∷◌, ◌++◌, length, get_or, take, drop, Option, Some, None, SomeIff, IfSome, refl, ap, sym, subst, ◌∙◌, arith, append_assoc}
+use Rattle.std.proofs.Common.{◌≡◌, ℕ, ◌+◌, ◌<◌, ◌≤◌, Bool, true, false, not, ◌&&◌, ◌||◌, ⊎_elim, List, [], ◌∷◌, ◌++◌, length, get_or, take, drop, Option, Some}
+use Rattle.std.proofs.Common.{None, SomeIff, IfSome, refl, ap, sym, subst, ◌∙◌, arith, append_assoc}
 use Rattle.std.specs.Prelude.{filter}
 use Rattle.std.specs.List.{list_any}
 use Rattle.std.proofs.lemmas.List.{drop_all, drop_more, take_more, take_all}
@@ -23,7 +24,8 @@ use Rattle.xpath_marks.specs.Marking.{AreNodes, GoesBy, GoesIn, nodes_of, is_cov
 use Rattle.xpath_marks.proofs.AmongLemmas.{among_both, among_passing, IsNumberOf, filtered_from, in_back}
 use Rattle.xpath_marks.proofs.TurnLemmas.{axis_nodes_within, nodes_append}
 
-pub every_next : (nodes : List Node) (n : ℕ) (next : Option ℕ) (old new : List ℕ) {whole : List ℕ} → AreCounted nodes → n < length nodes → SomeIff next (n + 1 < length nodes) (n + 1)
+pub every_next : (nodes : List Node) (n : ℕ) (next : Option ℕ) (old new : List ℕ) {whole : List ℕ} → AreCounted nodes → n < length nodes →
+    SomeIff next (n + 1 < length nodes) (n + 1)
     → new ≡ old ++ n ∷ [] → old ++ node_numbers (from_on (Some n) nodes) ≡ whole → new ++ node_numbers (from_on next nodes) ≡ whole
 every_next nodes n next old new {whole} counted l is put h =
     ap (λ xs. xs ++ node_numbers (from_on next nodes)) put
@@ -33,7 +35,8 @@ every_next nodes n next old new {whole} counted l is put h =
     ∙ (ap (λ xs. old ++ node_numbers xs) (sym (drop_more nodes n _ l)) ∙ h))))
   where
     rest : (next : Option ℕ) → SomeIff next (n + 1 < length nodes) (n + 1) → from_on next nodes ≡ drop (n + 1) nodes
-    rest None is = sym (drop_all (n + 1) nodes (⊎_elim (λ (less : n + 1 < length nodes). absurd (is less)) (λ (more : length nodes ≤ n + 1). more) (cases_lt (n + 1) (length nodes))))
+    rest None is = sym (drop_all (n + 1) nodes (⊎_elim (λ (less : n + 1 < length nodes). absurd (is less)) (λ (more : length nodes ≤ n + 1). more)
+        (cases_lt (n + 1) (length nodes))))
     rest (Some m) is = ap (λ k. drop k nodes) is.1
 
 pub next_within : (count n : ℕ) (next : Option ℕ) → SomeIff next (n + 1 < count) (n + 1) → IfSome next (λ m. m < count)
@@ -56,32 +59,38 @@ module _ (base : Ground) (w : IsWalked base.doc.now) where
       let at : IsNumberOf (meant m) nodes k = filtered_from (meant m) nodes k e in
       let p : ℕ = at.place in
       let same : p ≡ k = sym (counted p at.within) ∙ at.number in
-      let on : is_on a.DescendantOrSelf (tree_node nodes m) (tree_node nodes p) ≡ true = (and_parts (is_on a.DescendantOrSelf (tree_node nodes m) (tree_node nodes p)) true at.passes).0 in
+      let on : is_on a.DescendantOrSelf (tree_node nodes m) (tree_node nodes p) ≡ true =
+      (and_parts (is_on a.DescendantOrSelf (tree_node nodes m) (tree_node nodes p)) true at.passes).0 in
       let lies : (is_inside n (tree_node nodes p) && not (is_attribute (tree_node nodes p))) ≡ true =
       ⊎_elim
       (λ (the : is_the (tree_node nodes m) (tree_node nodes p) ≡ true).
       let pm : p ≡ m = sym (counted p at.within) ∙ (eqb-true (tree_node nodes p).number (tree_node nodes m).number the ∙ counted m lm) in
-      subst (λ x. (is_inside n (tree_node nodes x) && not (is_attribute (tree_node nodes x))) ≡ true) (sym pm) (and_from (is_inside n (tree_node nodes m)) (not (is_attribute (tree_node nodes m))) i plain))
+      subst (λ x. (is_inside n (tree_node nodes x) && not (is_attribute (tree_node nodes x))) ≡ true) (sym pm)
+      (and_from (is_inside n (tree_node nodes m)) (not (is_attribute (tree_node nodes m))) i plain))
       (λ (inner : (is_inside (tree_node nodes m).number (tree_node nodes p) && not (is_attribute (tree_node nodes p))) ≡ true).
       let parts = and_parts (is_inside (tree_node nodes m).number (tree_node nodes p)) (not (is_attribute (tree_node nodes p))) inner in
       and_from (is_inside n (tree_node nodes p)) (not (is_attribute (tree_node nodes p)))
       (inside_inside nodes w.walkable p m n at.within (ap (λ x. is_inside x (tree_node nodes p)) (sym (counted m lm)) ∙ parts.0) i) parts.1)
-      (or_cases (is_the (tree_node nodes m) (tree_node nodes p)) (is_inside (tree_node nodes m).number (tree_node nodes p) && not (is_attribute (tree_node nodes p))) on) in
+      (or_cases (is_the (tree_node nodes m) (tree_node nodes p)) (is_inside (tree_node nodes m).number (tree_node nodes p) &&
+      not (is_attribute (tree_node nodes p))) on) in
       let passing : meant n (tree_node nodes p) ≡ true =
       and_from (is_on a.DescendantOrSelf (tree_node nodes n) (tree_node nodes p)) true
-      (or_right (is_the (tree_node nodes n) (tree_node nodes p)) (is_inside (tree_node nodes n).number (tree_node nodes p) && not (is_attribute (tree_node nodes p)))
+      (or_right (is_the (tree_node nodes n) (tree_node nodes p)) (is_inside (tree_node nodes n).number (tree_node nodes p) &&
+      not (is_attribute (tree_node nodes p)))
       (ap (λ x. is_inside x (tree_node nodes p) && not (is_attribute (tree_node nodes p))) (counted n ln) ∙ lies)) refl in
       ap (λ x. is_among x (inside_at n)) (sym same) ∙ (among_passing (meant n) nodes p counted at.within ∙ passing)
 
   pub put_inside_within : (n : ℕ) (old new : List ℕ) → AreNodes base old → new ≡ old ++ inside_at n → AreNodes base new
-  put_inside_within n old new h e = subst (AreNodes base) (sym e) (nodes_append base old (inside_at n) h (axis_nodes_within base w a.DescendantOrSelf (Some (of_kind q.Node)) n))
+  put_inside_within n old new h e = subst (AreNodes base) (sym e)
+      (nodes_append base old (inside_at n) h (axis_nodes_within base w a.DescendantOrSelf (Some (of_kind q.Node)) n))
 
   reached_more : (from : List ℕ) (i n : ℕ) (k : ℕ) → n ≡ get_or from i n → i < length from
       → is_reached (nodes_of base) base.env.now all_inside (take (i + 1) from) k
       ≡ (is_reached (nodes_of base) base.env.now all_inside (take i from) k || is_among k (inside_at n))
   reached_more from i n k e l =
       ap (λ xs. is_reached (nodes_of base) base.env.now all_inside xs k) (take_more from i n l ∙ ap (λ m. take i from ++ m ∷ []) (sym e))
-      ∙ (list_any-append (λ m. is_among k (inside_at m)) (take i from) (n ∷ []) ∙ ap (λ b. list_any (λ m. is_among k (inside_at m)) (take i from) || b) (or_false (is_among k (inside_at n))))
+      ∙ (list_any-append (λ m. is_among k (inside_at m)) (take i from) (n ∷ []) ∙
+      ap (λ b. list_any (λ m. is_among k (inside_at m)) (take i from) || b) (or_false (is_among k (inside_at n))))
     where
       or_false : (b : Bool) → (b || false) ≡ b
       or_false true = refl
@@ -109,7 +118,8 @@ module _ (base : Ground) (w : IsWalked base.doc.now) where
       absorbed false true f = sym (f refl)
       absorbed false false f = refl
 
-  pub more_reaches : (from : List ℕ) (i n : ℕ) (out out' : List ℕ) → n ≡ get_or from i n → i < length from → out' ≡ out ++ inside_at n → Reaches from i out → Reaches from (i + 1) out'
+  pub more_reaches : (from : List ℕ) (i n : ℕ) (out out' : List ℕ) → n ≡ get_or from i n → i < length from → out' ≡ out ++ inside_at n → Reaches from i out →
+      Reaches from (i + 1) out'
   more_reaches from i n out out' e l put h = λ k.
       ap (is_among k) put ∙ (among_both k out (inside_at n) ∙ (ap (λ b. b || is_among k (inside_at n)) (h k) ∙ sym (reached_more from i n k e l)))
 
@@ -118,8 +128,10 @@ module _ (base : Ground) (w : IsWalked base.doc.now) where
 
   pub reached_all : (from : List ℕ) (i : ℕ) (out : List ℕ) → length from ≤ i → Reaches from i out
       → node_numbers (filter (λ (node : Node). is_among node.number out) (nodes_of base)) ≡ all_reached (nodes_of base) base.env.now all_inside from
-  reached_all from i out l h = ap node_numbers (alike (λ (node : Node). is_among node.number out) (λ (node : Node). is_reached (nodes_of base) base.env.now all_inside from node.number) 0 (nodes_of base)
-      (λ k a b. h (tree_node (nodes_of base) k).number ∙ ap (λ xs. is_reached (nodes_of base) base.env.now all_inside xs (tree_node (nodes_of base) k).number) (take_all i from l)))
+  reached_all from i out l h = ap node_numbers (alike (λ (node : Node). is_among node.number out)
+      (λ (node : Node). is_reached (nodes_of base) base.env.now all_inside from node.number) 0 (nodes_of base)
+      (λ k a b. h (tree_node (nodes_of base) k).number ∙ ap (λ xs. is_reached (nodes_of base) base.env.now all_inside xs (tree_node (nodes_of base) k).number)
+      (take_all i from l)))
 
   -- one node more
   pub record Gone (from : List ℕ) (i : ℕ) (last : Option ℕ) (out : List ℕ) : Type 0 where

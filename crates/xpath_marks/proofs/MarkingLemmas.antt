@@ -1,5 +1,6 @@
 -- What works of patterns find, from what their parts find.
-use Rattle.std.proofs.Common.{◌≡◌, ℕ, ◌+◌, ◌<◌, Bool, true, false, ◌||◌, ◌⊎◌, inl, inr, ⊎_elim, List, [], ◌∷◌, ◌++◌, length, get_or, take, Option, Some, None, Result, Ok, Err, IfOk, refl, ap, sym, subst, ◌∙◌, arith}
+use Rattle.std.proofs.Common.{◌≡◌, ℕ, ◌+◌, ◌<◌, Bool, true, false, ◌||◌, ◌⊎◌, inl, inr, ⊎_elim, List, [], ◌∷◌, ◌++◌, length, get_or, take, Option, Some, None}
+use Rattle.std.proofs.Common.{Result, Ok, Err, IfOk, refl, ap, sym, subst, ◌∙◌, arith}
 use Rattle.std.specs.Prelude.{filter}
 use Rattle.std.specs.List.{list_any}
 use Rattle.std.proofs.lemmas.List.{take_more, map-append}
@@ -57,10 +58,12 @@ among_zero k (n ∷ (m ∷ ns)) h = ap (λ b. is_among k (0 ∷ []) || b) (among
     twice true = refl
     twice false = refl
 
-pub root_found : (base : Ground) → AreNumbers (nodes_of base) (0 ∷ []) → 0 < length (nodes_of base) → (ns : List ℕ) → ns ≡ 0 ∷ [] → ns ≡ all_found (nodes_of base) base.env.now x.the_root
+pub root_found : (base : Ground) → AreNumbers (nodes_of base) (0 ∷ []) → 0 < length (nodes_of base) → (ns : List ℕ) → ns ≡ 0 ∷ [] →
+    ns ≡ all_found (nodes_of base) base.env.now x.the_root
 root_found base are some ns e =
     e ∙ (rising (nodes_of base) (0 ∷ []) are refl
-    ∙ ap node_numbers (alike (λ (node : Node). is_among node.number (0 ∷ [])) (λ (node : Node). is_found (nodes_of base) base.env.now x.the_root node.number) 0 (nodes_of base)
+    ∙ ap node_numbers (alike (λ (node : Node). is_among node.number (0 ∷ [])) (λ (node : Node). is_found (nodes_of base) base.env.now x.the_root node.number) 0
+    (nodes_of base)
     (λ k a b. sym (among_zero (tree_node (nodes_of base) k).number (nodes_of base) some))))
 
 none_found : (base : Ground) (ns : List Node) → node_numbers (filter (λ (node : Node). is_found (nodes_of base) base.env.now x.nothing node.number) ns) ≡ []
@@ -83,7 +86,8 @@ stepped_is : (axis : Axis) (test : Option NodeTest) → is_pattern (step_of axis
 stepped_is axis None p = refl
 stepped_is axis (Some test) p = p
 
-simple_step : (names : List Name) (simple : Simple) → is_root simple ≡ false → is_pattern (simple_seen names simple) ≡ true → is_step (simple_seen names simple) ≡ true
+simple_step : (names : List Name) (simple : Simple) → is_root simple ≡ false → is_pattern (simple_seen names simple) ≡ true →
+    is_step (simple_seen names simple) ≡ true
 simple_step names (s.Text text) r p = absurd (false≢true p)
 simple_step names (s.Number number) r p = absurd (false≢true p)
 simple_step names s.Nothing r p = refl
@@ -103,7 +107,8 @@ simple_marked base work simple found e r f = λ p.
 pub root_marked : (base : Ground) (work : Work) (simple : Simple) (found : List ℕ) → work ≡ w.Simple simple → is_root simple ≡ true
     → Marked base x.the_root found → Marked base (seen base.names.now work) found
 root_marked base work simple found e r m =
-    subst (λ e. Marked base e found) (sym (ap (seen base.names.now) e ∙ (seen-simple base.names.now simple ∙ ap (simple_seen base.names.now) (root_is simple r)))) m
+    subst (λ e. Marked base e found) (sym (ap (seen base.names.now) e ∙
+    (seen-simple base.names.now simple ∙ ap (simple_seen base.names.now) (root_is simple r)))) m
   where
     root_is : (simple : Simple) → is_root simple ≡ true → simple ≡ s.Root
     root_is s.Root r = refl
@@ -131,17 +136,20 @@ no_parts_step (kd.Call function) p = absurd (false≢true p)
 no_parts_step (kd.Matches pattern) p = absurd (false≢true p)
 no_parts_step kd.Nothing p = refl
 
-kept_pattern : (parts : List Operand) (e : Exp) (part : Operand) → is_pattern (kept_of (x.filtered e part.1) parts) ≡ is_step (kept_of (x.filtered e part.1) parts)
+kept_pattern : (parts : List Operand) (e : Exp) (part : Operand) →
+    is_pattern (kept_of (x.filtered e part.1) parts) ≡ is_step (kept_of (x.filtered e part.1) parts)
 kept_pattern [] e part = refl
 kept_pattern (next ∷ parts) e part = kept_pattern parts (x.filtered e part.1) next
 
-other_step : (names : List Name) (kind : Kind) (link : Link) (work : Work) (others : List (Link × Work)) → is_first_part kind link (is_empty others) ≡ false → is_chain kind ≡ false
+other_step : (names : List Name) (kind : Kind) (link : Link) (work : Work) (others : List (Link × Work)) → is_first_part kind link (is_empty others) ≡ false →
+    is_chain kind ≡ false
     → is_pattern (made kind (operands_of names ((link, work) ∷ others))) ≡ true → is_step (made kind (operands_of names ((link, work) ∷ others))) ≡ true
 other_step names kd.Only link work others h c p = absurd (true≢false h)
 other_step names (kd.Once slot height) link work others h c p = absurd (true≢false h)
 other_step names kd.Chain link work others h c p = absurd (true≢false c)
 other_step names kd.Filtered link work [] h c p = absurd (true≢false h)
-other_step names kd.Filtered link work (other ∷ others) h c p = sym (kept_pattern (operands_of names others) (seen names work) (label_of other.0, seen names other.1)) ∙ p
+other_step names kd.Filtered link work (other ∷ others) h c p =
+    sym (kept_pattern (operands_of names others) (seen names work) (label_of other.0, seen names other.1)) ∙ p
 other_step names kd.FilteredStep link work others h c p = p
 other_step names kd.FreeStep link work others h c p = p
 other_step names (kd.Bound binder) link work [] h c p = absurd (true≢false h)
@@ -161,18 +169,22 @@ other_step names kd.Nothing link work others h c p = refl
 ordered_marked : (base : Ground) (e : Exp) (found : List ℕ) → Marked base e found → Marked base (x.stepped (in_axis_order e)) found
 ordered_marked base e found m s =
     m (step_pattern e (sym (ordered_step e) ∙ s))
-    ∙ (λ j. node_numbers (filter (λ (node : Node). list_any (λ (n : Node). is_among node.number (sym (ordered_found base e n.number) j)) (nodes_of base)) (nodes_of base)))
+    ∙ (λ j. node_numbers (filter (λ (node : Node). list_any (λ (n : Node). is_among node.number (sym (ordered_found base e n.number) j)) (nodes_of base))
+    (nodes_of base)))
 
-first_finds : (base : Ground) (kind : Kind) (link : Link) (work : Work) (others : List (Link × Work)) (found : List ℕ) → is_found_by_first kind link (is_empty others) ≡ true
+first_finds : (base : Ground) (kind : Kind) (link : Link) (work : Work) (others : List (Link × Work)) (found : List ℕ) →
+    is_found_by_first kind link (is_empty others) ≡ true
     → Marked base (seen base.names.now work) found → Marked base (made kind (operands_of base.names.now ((link, work) ∷ others))) found
 first_finds base kd.FilteredStep link work [] found h m = ordered_marked base (seen base.names.now work) found m
 first_finds base kd.FreeStep link work [] found h m = ordered_marked base (seen base.names.now work) found m
 first_finds base kd.FilteredStep link work (other ∷ others) found h m = absurd (false≢true h)
 first_finds base kd.FreeStep link work (other ∷ others) found h m = absurd (false≢true h)
 first_finds base kd.Only link work others found h m = subst (λ e. Marked base e found) (sym (first_part_is base.names.now kd.Only link work others h)) m
-first_finds base (kd.Once slot height) link work others found h m = subst (λ e. Marked base e found) (sym (first_part_is base.names.now (kd.Once slot height) link work others h)) m
+first_finds base (kd.Once slot height) link work others found h m =
+    subst (λ e. Marked base e found) (sym (first_part_is base.names.now (kd.Once slot height) link work others h)) m
 first_finds base kd.Filtered link work others found h m = subst (λ e. Marked base e found) (sym (first_part_is base.names.now kd.Filtered link work others h)) m
-first_finds base (kd.Bound binder) link work others found h m = subst (λ e. Marked base e found) (sym (first_part_is base.names.now (kd.Bound binder) link work others h)) m
+first_finds base (kd.Bound binder) link work others found h m =
+    subst (λ e. Marked base e found) (sym (first_part_is base.names.now (kd.Bound binder) link work others h)) m
 first_finds base kd.Chain link work others found h m = subst (λ e. Marked base e found) (sym (first_part_is base.names.now kd.Chain link work others h)) m
 first_finds base kd.Conditional link work others found h m = absurd (false≢true h)
 first_finds base (kd.Cast word function optional) link work others found h m = absurd (false≢true h)
@@ -211,13 +223,15 @@ module _ (base : Ground) (work : Work) (kind : Kind) (parts : List (Link × Work
     divided_is : seen base.names.now work ≡ made kind (operands_of base.names.now (first ∷ others))
     divided_is = node_is ∙ ap (λ ps. made kind (operands_of base.names.now ps)) divided
 
-    pub first_marked : is_found_by_first kind first.0 (is_empty others) ≡ true → Marked base (seen base.names.now first.1) found → Marked base (seen base.names.now work) found
+    pub first_marked : is_found_by_first kind first.0 (is_empty others) ≡ true → Marked base (seen base.names.now first.1) found →
+        Marked base (seen base.names.now work) found
     first_marked h m = subst (λ e. Marked base e found) (sym divided_is) (first_finds base kind first.0 first.1 others found h m)
 
     pub others_marked : is_found_by_first kind first.0 (is_empty others) ≡ false → is_chain kind ≡ false → FoundByStep base (seen base.names.now work) found
         → Marked base (seen base.names.now work) found
     others_marked h c f = λ p.
-        f (ap is_step divided_is ∙ other_step base.names.now kind first.0 first.1 others (not_first kind first.0 (is_empty others) h) c (sym (ap is_pattern divided_is) ∙ p))
+        f (ap is_step divided_is ∙ other_step base.names.now kind first.0 first.1 others (not_first kind first.0 (is_empty others) h) c
+        (sym (ap is_pattern divided_is) ∙ p))
 
   pub chain_marked : is_chain kind ≡ true → Marked base (chained (operands_of base.names.now parts)) found → Marked base (seen base.names.now work) found
   chain_marked c m = subst (λ e. Marked base e found) (sym (node_is ∙ ap (λ k. made k (operands_of base.names.now parts)) (chain_is kind c))) m
@@ -249,7 +263,8 @@ chained_on-append e [] part = refl
 chained_on-append e (first ∷ parts) part = chained_on-append (linked e first.0 first.1) parts part
 
 pub chain_more : (base : Ground) (parts : List (Link × Work)) (i : ℕ) (part : Link × Work) (e : Exp) → part ≡ get_or parts i part → i < length parts
-    → chained_on e (operands_of base.names.now (take (i + 1) parts)) ≡ linked (chained_on e (operands_of base.names.now (take i parts))) (label_of part.0) (seen base.names.now part.1)
+    → chained_on e (operands_of base.names.now (take (i + 1) parts)) ≡ linked (chained_on e (operands_of base.names.now (take i parts))) (label_of part.0)
+    (seen base.names.now part.1)
 chain_more base parts i part e is h =
     ap (λ ps. chained_on e (operands_of base.names.now ps)) (take_more parts i part h ∙ ap (λ p. take i parts ++ p ∷ []) (sym is))
     ∙ (ap (chained_on e) (map-append (λ p. (label_of p.0, seen base.names.now p.1)) (take i parts) (part ∷ []))
@@ -338,7 +353,8 @@ other_linked o.Cast e f h s = absurd (false≢true s)
 other_linked o.Castable e f h s = absurd (false≢true s)
 other_linked o.As e f h s = absurd (false≢true s)
 
-pub otherwise_marked : (base : Ground) (link : Link) (e f : Exp) (found : List ℕ) → j.Otherwise ≡ joining_of link → found ≡ [] → Marked base (linked e (label_of link) f) found
+pub otherwise_marked : (base : Ground) (link : Link) (e f : Exp) (found : List ℕ) → j.Otherwise ≡ joining_of link → found ≡ [] →
+    Marked base (linked e (label_of link) f) found
 otherwise_marked base (l.Operator operator) e f found h none p = absurd (other_linked operator e f (sym h) p)
 otherwise_marked base l.Comma e f found h none p = absurd (false≢true p)
 otherwise_marked base l.Other e f found h none p = nothing_found base found none
@@ -360,23 +376,27 @@ module _ (base : Ground) (w : IsWalked base.doc.now) (link : Link) (e f : Exp) (
       r parts.1 ∙ (ap (all_reached (nodes_of base) base.env.now f) (m parts.0) ∙ path_found (nodes_of base) w.walkable base.env.now e f parts.0)))
       (joined link j.Below h)
 
-  pub inside_marked : (inside : List ℕ) → j.Inside ≡ joining_of link → inside ≡ all_reached (nodes_of base) base.env.now all_inside before → Reached base f inside found
+  pub inside_marked : (inside : List ℕ) → j.Inside ≡ joining_of link → inside ≡ all_reached (nodes_of base) base.env.now all_inside before →
+      Reached base f inside found
       → Marked base (linked e (label_of link) f) found
   unfolding op_of
   inside_marked inside h i r = ⊎_elim (λ (no : j.Inside ≡ j.Otherwise). cc)
       (λ (is : link ≡ l.Operator o.DoubleSlash). subst (λ link. Marked base (linked e (label_of link) f) found) (sym is) (λ p.
       let parts = and_parts (is_pattern (x.slash e all_inside)) (is_step f) p in
       let front = and_parts (is_pattern e) true parts.0 in
-      r parts.1 ∙ (ap (all_reached (nodes_of base) base.env.now f) (i ∙ (ap (all_reached (nodes_of base) base.env.now all_inside) (m front.0) ∙ path_found (nodes_of base) w.walkable base.env.now e all_inside front.0))
+      r parts.1 ∙ (ap (all_reached (nodes_of base) base.env.now f)
+      (i ∙ (ap (all_reached (nodes_of base) base.env.now all_inside) (m front.0) ∙ path_found (nodes_of base) w.walkable base.env.now e all_inside front.0))
       ∙ path_found (nodes_of base) w.walkable base.env.now (x.slash e all_inside) f parts.0)))
       (joined link j.Inside h)
 
-  pub beside_marked : (other : List ℕ) → j.Beside ≡ joining_of link → Marked base f other → found ≡ united_of base before other → Marked base (linked e (label_of link) f) found
+  pub beside_marked : (other : List ℕ) → j.Beside ≡ joining_of link → Marked base f other → found ≡ united_of base before other →
+      Marked base (linked e (label_of link) f) found
   unfolding op_of
   beside_marked other h n u = ⊎_elim (λ (no : j.Beside ≡ j.Otherwise). cc)
       (λ (is : link ≡ l.Operator o.Bar). subst (λ link. Marked base (linked e (label_of link) f) found) (sym is) (λ p.
       let parts = and_parts (is_pattern e) (is_pattern f) p in
-      u ∙ (ap (λ xs. united_of base xs other) (m parts.0) ∙ (ap (united_of base (all_found (nodes_of base) base.env.now e)) (n parts.1) ∙ bar_found (nodes_of base) w.walkable base.env.now e f))))
+      u ∙ (ap (λ xs. united_of base xs other) (m parts.0) ∙
+      (ap (united_of base (all_found (nodes_of base) base.env.now e)) (n parts.1) ∙ bar_found (nodes_of base) w.walkable base.env.now e f))))
       (joined link j.Beside h)
 
 -- ---- as calls have it
@@ -385,7 +405,8 @@ pub along_ok : {X E : Type 0} (r : Result X E) (P Q : X → Type 0) → ((x : X)
 along_ok (Ok x) P Q f p = f x p
 along_ok (Err e) P Q f p = tt
 
-pub step_everywhere : (base : Ground) → IsWalked base.doc.now → (e : Exp) (all lent found : List ℕ) → all ≡ node_numbers (nodes_of base) → lent ≡ all → Reached base e lent found → FoundByStep base e found
+pub step_everywhere : (base : Ground) → IsWalked base.doc.now → (e : Exp) (all lent found : List ℕ) → all ≡ node_numbers (nodes_of base) → lent ≡ all →
+    Reached base e lent found → FoundByStep base e found
 step_everywhere base w e all lent found every same r = λ s.
     r s ∙ (ap (all_reached (nodes_of base) base.env.now e) (same ∙ every) ∙ step_found (nodes_of base) w.walkable base.env.now e)
 

@@ -13,11 +13,13 @@ use Rattle.xpath_grammar.specs.declared.step.Test.{Test}
 use Rattle.xpath_grammar.specs.declared.operators.Production.TheVariants as p
 use Rattle.xpath_grammar.specs.declared.expr.Label.TheVariants as k
 use Rattle.xpath_grammar.specs.Grammar.{Tree, Parts, more, production_of}
-use Rattle.xpath_grammar.specs.Patterns.{is_pattern_axis, IsStep, a_step, filtered, Steps, no_steps, more_steps, IsPath, the_root, from_root, one_step, many_steps, Paths, no_paths, more_paths, IsPattern, one_path, many_paths}
+use Rattle.xpath_grammar.specs.Patterns.{is_pattern_axis, IsStep, a_step, filtered, Steps, no_steps, more_steps, IsPath, the_root, from_root, one_step}
+use Rattle.xpath_grammar.specs.Patterns.{many_steps, Paths, no_paths, more_paths, IsPattern, one_path, many_paths}
 use Rattle.xpath_types.specs.Scopes.{Declared}
 use Rattle.xpath_meaning.specs.Expressions as x
 use Rattle.xpath_meaning.specs.Expressions.{Exp, NodeTest}
-use Rattle.xpath_meaning.specs.Resolving.{Operand, default_axis, axis_of, is_attribute_test, test_of, step_of, in_axis_order, kept_of, linked_by, chained_on, resolved, operands}
+use Rattle.xpath_meaning.specs.Resolving.{Operand, default_axis, axis_of, is_attribute_test, test_of, step_of, in_axis_order, kept_of, linked_by, chained_on}
+use Rattle.xpath_meaning.specs.Resolving.{resolved, operands}
 use Rattle.xpath_marks.specs.Shapes.{is_downward, is_step, is_pattern}
 
 default_down : (b : Bool) → is_downward (default_axis b) ≡ true
@@ -117,7 +119,8 @@ module _ (d : Declared) (names : List (List ℕ)) where
   unfolding resolved operands
   step_shape _ _ (a_step axis test h) = step_is_one (axis_of axis test) (test_of d test) (axis_down axis test h)
   step_shape _ _ (filtered axis test b c u ts h is ps) =
-      kept_step (operands d names (more k.Predicate u ts)) (in_axis_order (step_of (axis_of axis test) (test_of d test))) (ordered_is_one (axis_of axis test) (test_of d test) (axis_down axis test h))
+      kept_step (operands d names (more k.Predicate u ts)) (in_axis_order (step_of (axis_of axis test) (test_of d test)))
+      (ordered_is_one (axis_of axis test) (test_of d test) (axis_down axis test h))
 
   steps_shape : (tokens : List Token) (parts : Parts) → Steps tokens parts → (e : Exp) → is_pattern e ≡ true
       → is_pattern (chained_on e (operands d names parts)) ≡ true
@@ -145,4 +148,5 @@ module _ (d : Declared) (names : List (List ℕ)) where
   unfolding resolved operands
   pattern_shape _ _ (one_path a t path) = path_shape a t path
   pattern_shape _ _ (many_paths a b c t u ts first second paths) =
-      paths_shape c ts paths (x.operated o.Bar (resolved d names t) (resolved d names u)) (and_from (is_pattern (resolved d names t)) (is_pattern (resolved d names u)) (path_shape a t first) (path_shape b u second))
+      paths_shape c ts paths (x.operated o.Bar (resolved d names t) (resolved d names u))
+      (and_from (is_pattern (resolved d names t)) (is_pattern (resolved d names u)) (path_shape a t first) (path_shape b u second))

@@ -1,5 +1,6 @@
 -- A pattern matches a node exactly where it finds it from some node of the document.
-use Rattle.std.proofs.Common.{◌≡◌, ℕ, suc, ◌<◌, Bool, true, false, not, ◌&&◌, ◌||◌, ◌==◌, ◌⊎◌, inl, inr, ⊎_elim, List, [], ◌∷◌, length, refl, ap, sym, subst, ◌∙◌, arith}
+use Rattle.std.proofs.Common.{◌≡◌, ℕ, suc, ◌<◌, Bool, true, false, not, ◌&&◌, ◌||◌, ◌==◌, ◌⊎◌, inl, inr, ⊎_elim, List, [], ◌∷◌, length, refl, ap, sym, subst}
+use Rattle.std.proofs.Common.{◌∙◌, arith}
 use Rattle.std.specs.Prelude.{filter}
 use Rattle.std.specs.List.{list_any}
 use Rattle.std.proofs.lemmas.Bool.{or_cases, or_left, or_right, and_parts, eqb-true, eq-eqb, false≢true}
@@ -21,7 +22,8 @@ use Rattle.xpath_walks.specs.Walks.{IsWalkable, node_numbers}
 use Rattle.xpath_walks.proofs.FilterLemmas.{alike}
 use Rattle.xpath_marks.specs.Shapes.{is_downward, is_step, is_bar, is_pattern}
 use Rattle.xpath_marks.specs.Found.{is_under, is_found}
-use Rattle.xpath_marks.proofs.AmongLemmas.{in_front, in_back, in_either, IsFrom, from_any, any_from, mapped_from, from_mapped, IsNumberOf, filtered_from, any_place, same_truth}
+use Rattle.xpath_marks.proofs.AmongLemmas.{in_front, in_back, in_either, IsFrom, from_any, any_from, mapped_from, from_mapped, IsNumberOf, filtered_from}
+use Rattle.xpath_marks.proofs.AmongLemmas.{any_place, same_truth}
 use Rattle.xpath_marks.proofs.UnderLemmas.{under_under, under_within}
 
 bar_is : (operator : Operator) → is_bar operator ≡ true → operator ≡ o.Bar
@@ -83,14 +85,18 @@ nearest_among n (m ∷ above) e = or_left (n == m) (is_among n above) (eq-eqb n 
 
 on_under : (axis : Axis) (from node : Node) → is_downward axis ≡ true → is_on axis from node ≡ true
     → (node.number == from.number || is_inside from.number node) ≡ true
-on_under a.Child from node down on = or_right (node.number == from.number) (is_inside from.number node) (nearest_among from.number node.above (and_parts (is_nearest from.number node.above) (not (is_attribute node)) on).0)
-on_under a.Descendant from node down on = or_right (node.number == from.number) (is_inside from.number node) (and_parts (is_inside from.number node) (not (is_attribute node)) on).0
+on_under a.Child from node down on = or_right (node.number == from.number) (is_inside from.number node)
+    (nearest_among from.number node.above (and_parts (is_nearest from.number node.above) (not (is_attribute node)) on).0)
+on_under a.Descendant from node down on = or_right (node.number == from.number) (is_inside from.number node)
+    (and_parts (is_inside from.number node) (not (is_attribute node)) on).0
 on_under a.DescendantOrSelf from node down on = ⊎_elim
     (λ (same : is_the from node ≡ true). or_left (node.number == from.number) (is_inside from.number node) same)
-    (λ (inner : (is_inside from.number node && not (is_attribute node)) ≡ true). or_right (node.number == from.number) (is_inside from.number node) (and_parts (is_inside from.number node) (not (is_attribute node)) inner).0)
+    (λ (inner : (is_inside from.number node && not (is_attribute node)) ≡ true). or_right (node.number == from.number) (is_inside from.number node)
+    (and_parts (is_inside from.number node) (not (is_attribute node)) inner).0)
     (or_cases (is_the from node) (is_inside from.number node && not (is_attribute node)) on)
 on_under a.Itself from node down on = or_left (node.number == from.number) (is_inside from.number node) on
-on_under a.Attribute from node down on = or_right (node.number == from.number) (is_inside from.number node) (nearest_among from.number node.above (and_parts (is_nearest from.number node.above) (is_attribute node) on).0)
+on_under a.Attribute from node down on = or_right (node.number == from.number) (is_inside from.number node)
+    (nearest_among from.number node.above (and_parts (is_nearest from.number node.above) (is_attribute node) on).0)
 on_under a.Parent from node down on = absurd (false≢true down)
 on_under a.Ancestor from node down on = absurd (false≢true down)
 on_under a.AncestorOrSelf from node down on = absurd (false≢true down)
@@ -107,7 +113,8 @@ kept_with true n k rest ns f e = ⊎_elim
     (or_cases (k == n) (is_among k rest) e)
 kept_with false n k rest ns f e = or_right (k == n) (is_among k ns) (f e)
 
-kept_among : (predicate : ℕ → ℕ → ℕ → Value) (last position : ℕ) (ns : List ℕ) (k : ℕ) → is_among k (kept_nodes predicate last position ns) ≡ true → is_among k ns ≡ true
+kept_among : (predicate : ℕ → ℕ → ℕ → Value) (last position : ℕ) (ns : List ℕ) (k : ℕ) → is_among k (kept_nodes predicate last position ns) ≡ true →
+    is_among k ns ≡ true
 kept_among predicate last position [] k e = e
 kept_among predicate last position (n ∷ ns) k e =
     kept_with _ n k (kept_nodes predicate last (suc position) ns) ns (kept_among predicate last (suc position) ns k) e
@@ -139,7 +146,9 @@ module _ (nodes : List Node) (w : IsWalkable nodes) (outer : List (List ℕ × V
   pub step_under : (e : Exp) → is_step e ≡ true → FindsUnder e
   step_under x.nothing s = λ n k within i. absurd (false≢true i)
   step_under (x.axis_step axis test) s = axis_under axis test s
-  step_under (x.filtered e predicate) s = λ n k within found. step_under e s n k within (kept_among (λ m position last. mean nodes predicate (at (at_top m outer) (i.Node m) position last)) (length (found_at nodes outer e n)) 1 (found_at nodes outer e n) k found)
+  step_under (x.filtered e predicate) s = λ n k within found. step_under e s n k within
+      (kept_among (λ m position last. mean nodes predicate (at (at_top m outer) (i.Node m) position last)) (length (found_at nodes outer e n)) 1
+      (found_at nodes outer e n) k found)
   step_under (x.stepped e) s = step_under e s
   step_under (x.text t) s = absurd (false≢true s)
   step_under (x.number z) s = absurd (false≢true s)
@@ -180,13 +189,15 @@ module _ (nodes : List Node) (w : IsWalkable nodes) (outer : List (List ℕ × V
       let found = g n k within left in (
         found.0,
         ⊎_elim (λ (under : is_under nodes n k ≡ true). inl under)
-            (λ (all : (m : ℕ) → is_among k (found_at nodes outer e m) ≡ true). inr (λ m. in_front k (found_at nodes outer e m) (found_at nodes outer f m) (all m))) found.1,
+            (λ (all : (m : ℕ) → is_among k (found_at nodes outer e m) ≡ true). inr
+            (λ m. in_front k (found_at nodes outer e m) (found_at nodes outer f m) (all m))) found.1,
       ))
       (λ (right : is_among k (found_at nodes outer f n) ≡ true).
       let found = h n k within right in (
         found.0,
         ⊎_elim (λ (under : is_under nodes n k ≡ true). inl under)
-            (λ (all : (m : ℕ) → is_among k (found_at nodes outer f m) ≡ true). inr (λ m. in_back k (found_at nodes outer e m) (found_at nodes outer f m) (all m))) found.1,
+            (λ (all : (m : ℕ) → is_among k (found_at nodes outer f m) ≡ true). inr
+            (λ m. in_back k (found_at nodes outer e m) (found_at nodes outer f m) (all m))) found.1,
       ))
       (in_either k (found_at nodes outer e n) (found_at nodes outer f n) i)
 
@@ -231,13 +242,16 @@ module _ (nodes : List Node) (w : IsWalkable nodes) (outer : List (List ℕ × V
   found_matches : (pattern : Exp) → is_pattern pattern ≡ true → (k : ℕ) → k < length nodes → is_found nodes outer pattern k ≡ true
       → list_any (λ n. is_among k (found_at nodes outer pattern n)) (k ∷ (tree_node nodes k).above) ≡ true
   found_matches pattern s k within e =
-      let some : (m : ℕ) × IsNumberOf (λ (node : Node). is_among k (found_at nodes outer pattern node.number)) nodes m = any_place (λ node. is_among k (found_at nodes outer pattern node.number)) nodes e in
+      let some : (m : ℕ) × IsNumberOf (λ (node : Node). is_among k (found_at nodes outer pattern node.number)) nodes m =
+      any_place (λ node. is_among k (found_at nodes outer pattern node.number)) nodes e in
       let at : ℕ = some.1.place in
-      let here : is_among k (found_at nodes outer pattern at) ≡ true = ap (λ n. is_among k (found_at nodes outer pattern n)) (sym (w.counted at some.1.within)) ∙ some.1.passes in
+      let here : is_among k (found_at nodes outer pattern at) ≡ true = ap (λ n. is_among k (found_at nodes outer pattern n)) (sym (w.counted at some.1.within))
+      ∙ some.1.passes in
       ⊎_elim
       (λ (under : is_under nodes at k ≡ true). any_from (found_at nodes outer pattern) (k ∷ (tree_node nodes k).above) at k (turned at k under) here)
       (λ (all : (m : ℕ) → is_among k (found_at nodes outer pattern m) ≡ true).
-      any_from (found_at nodes outer pattern) (k ∷ (tree_node nodes k).above) k k (or_left (k == k) (is_among k (tree_node nodes k).above) (eq-eqb k k refl)) (all k))
+      any_from (found_at nodes outer pattern) (k ∷ (tree_node nodes k).above) k k (or_left (k == k) (is_among k (tree_node nodes k).above) (eq-eqb k k refl))
+      (all k))
       (pattern_down pattern s at k some.1.within here).1
     where
       turned : (n k : ℕ) → is_under nodes n k ≡ true → is_among n (k ∷ (tree_node nodes k).above) ≡ true
@@ -246,10 +260,12 @@ module _ (nodes : List Node) (w : IsWalkable nodes) (outer : List (List ℕ × V
           (λ (inner : is_inside n (tree_node nodes k) ≡ true). or_right (n == k) (is_among n (tree_node nodes k).above) inner)
           (or_cases (k == n) (is_inside n (tree_node nodes k)) e)
 
-  matches_found : (pattern : Exp) (k : ℕ) → k < length nodes → list_any (λ n. is_among k (found_at nodes outer pattern n)) (k ∷ (tree_node nodes k).above) ≡ true
+  matches_found : (pattern : Exp) (k : ℕ) → k < length nodes →
+      list_any (λ n. is_among k (found_at nodes outer pattern n)) (k ∷ (tree_node nodes k).above) ≡ true
       → is_found nodes outer pattern k ≡ true
   matches_found pattern k within e =
-      let from : IsFrom (found_at nodes outer pattern) (k ∷ (tree_node nodes k).above) k = from_any (found_at nodes outer pattern) (k ∷ (tree_node nodes k).above) k e in
+      let from : IsFrom (found_at nodes outer pattern) (k ∷ (tree_node nodes k).above) k =
+      from_any (found_at nodes outer pattern) (k ∷ (tree_node nodes k).above) k e in
       let inside : from.origin < length nodes = under_within nodes w k from.origin within (turned from.origin from.among) in
       list_any_at (λ (node : Node). is_among k (found_at nodes outer pattern node.number)) nodes from.origin _ inside
       (ap (λ n. is_among k (found_at nodes outer pattern n)) (w.counted from.origin inside) ∙ from.from)
@@ -260,7 +276,8 @@ module _ (nodes : List Node) (w : IsWalkable nodes) (outer : List (List ℕ × V
           (λ (inner : is_among n (tree_node nodes k).above ≡ true). or_right (k == n) (is_inside n (tree_node nodes k)) inner)
           (or_cases (n == k) (is_among n (tree_node nodes k).above) e)
 
-  swapped : (pattern : Exp) → is_pattern pattern ≡ true → (k : ℕ) → k < length nodes → matches nodes outer pattern (tree_node nodes k) ≡ is_found nodes outer pattern k
+  swapped : (pattern : Exp) → is_pattern pattern ≡ true → (k : ℕ) → k < length nodes →
+      matches nodes outer pattern (tree_node nodes k) ≡ is_found nodes outer pattern k
   swapped pattern s k within =
       ap (λ n. list_any (λ m. is_among n (found_at nodes outer pattern m)) (n ∷ (tree_node nodes k).above)) (w.counted k within)
       ∙ same_truth (list_any (λ n. is_among k (found_at nodes outer pattern n)) (k ∷ (tree_node nodes k).above)) (is_found nodes outer pattern k)

@@ -1,5 +1,6 @@
 -- What a step finds at a node, by what its work is made of.
-use Rattle.std.proofs.Common.{◌≡◌, ℕ, ◌<◌, zero, suc, arith, ◌==◌, get_or, drop, ◌+◌, ◌≤◌, Bool, true, false, List, [], ◌∷◌, ◌++◌, length, Option, Result, Ok, Err, OnOk, refl, ap, sym, subst, ◌∙◌, append-nil, append_assoc}
+use Rattle.std.proofs.Common.{◌≡◌, ℕ, ◌<◌, zero, suc, arith, ◌==◌, get_or, drop, ◌+◌, ◌≤◌, Bool, true, false, List, [], ◌∷◌, ◌++◌, length, Option, Result, Ok}
+use Rattle.std.proofs.Common.{Err, OnOk, refl, ap, sym, subst, ◌∙◌, append-nil, append_assoc}
 use Rattle.std.specs.List.{flat_map}
 use Rattle.std.specs.Prelude.{filter}
 use Rattle.std.proofs.lemmas.List.{map-append, drop_more, drop_all}
@@ -44,12 +45,14 @@ pub nodes_append : (base : Ground) (ns ms : List ℕ) → AreNodes base ns → A
 nodes_append base ns ms h k =
     subst (AreWithin (count base)) (sym (map-append (λ (n : ℕ). i.Node n) ns ms)) (append_within (count base) (node_items ns) (node_items ms) h k)
 
-pub axis_nodes_within : (base : Ground) (w : IsWalked base.doc.now) (axis : Axis) (test : Option NodeTest) (n : ℕ) → AreNodes base (axis_numbers (nodes_of base) axis n test)
+pub axis_nodes_within : (base : Ground) (w : IsWalked base.doc.now) (axis : Axis) (test : Option NodeTest) (n : ℕ) →
+    AreNodes base (axis_numbers (nodes_of base) axis n test)
 axis_nodes_within base w axis test n = axis_within (count base) (nodes_of base) axis test n (document_below base.doc.now w)
 
 pub added_within : {X E : Type 0} (base : Ground) (w : IsWalked base.doc.now) (axis : Axis) (test : Option NodeTest) (n : ℕ) (r : Result X E) (old new : List ℕ)
     → AreNodes base old → OnOk r (new ≡ old ++ axis_numbers (nodes_of base) axis n test) → OnOk r (AreNodes base new)
-added_within base w axis test n (Ok x) old new h e = subst (AreNodes base) (sym e) (nodes_append base old (axis_numbers (nodes_of base) axis n test) h (axis_nodes_within base w axis test n))
+added_within base w axis test n (Ok x) old new h e = subst (AreNodes base) (sym e)
+    (nodes_append base old (axis_numbers (nodes_of base) axis n test) h (axis_nodes_within base w axis test n))
 added_within base w axis test n (Err x) old new h e = tt
 
 -- a step that is one part of a chain alone, or nothing
@@ -132,7 +135,8 @@ pub none_turned : (base : Ground) (kind : Kind) (n : ℕ) (old new : List ℕ) �
 none_turned base kind n old new same = nothing_turned base (made kind []) n old new (no_parts kind) same
 
 -- the first part itself
-pub first_part_is : (names : List Name) (kind : Kind) (link : Link) (work : Work) (others : List (Link × Work)) → is_first_part kind link (is_empty others) ≡ true
+pub first_part_is : (names : List Name) (kind : Kind) (link : Link) (work : Work) (others : List (Link × Work)) →
+    is_first_part kind link (is_empty others) ≡ true
     → made kind (operands_of names ((link, work) ∷ others)) ≡ seen names work
 first_part_is names kd.Only link work others h = refl
 first_part_is names (kd.Once slot height) link work others h = refl
@@ -154,7 +158,8 @@ first_part_is names (kd.Matches pattern) link work others h = absurd (false≢tr
 first_part_is names kd.Nothing link work others h = absurd (false≢true h)
 
 -- neither that nor filtered: no step but nothing
-pub no_step : (names : List Name) (kind : Kind) (link : Link) (work : Work) (others : List (Link × Work)) → is_first_part kind link (is_empty others) ≡ false → is_filter kind ≡ false
+pub no_step : (names : List Name) (kind : Kind) (link : Link) (work : Work) (others : List (Link × Work)) → is_first_part kind link (is_empty others) ≡ false →
+    is_filter kind ≡ false
     → is_step (made kind (operands_of names ((link, work) ∷ others))) ≡ true → made kind (operands_of names ((link, work) ∷ others)) ≡ x.nothing
 no_step names kd.Only link work others h f s = absurd (true≢false h)
 no_step names (kd.Once slot height) link work others h f s = absurd (true≢false h)
@@ -240,14 +245,17 @@ kept_step_is : (parts : List Operand) (e : Exp) → is_step (kept_of e parts) �
 kept_step_is [] e = refl
 kept_step_is (part ∷ parts) e = kept_step_is parts (x.filtered e part.1)
 
-kept_found : (base : Ground) (parts : List Operand) (e : Exp) (n : ℕ) → found_at (nodes_of base) base.env.now (kept_of e parts) n ≡ kept_by_all base parts (found_at (nodes_of base) base.env.now e n)
+kept_found : (base : Ground) (parts : List Operand) (e : Exp) (n : ℕ) → found_at (nodes_of base) base.env.now (kept_of e parts) n ≡ kept_by_all base parts
+    (found_at (nodes_of base) base.env.now e n)
 kept_found base [] e n = refl
 kept_found base (part ∷ parts) e n = kept_found base parts (x.filtered e part.1) n
 
 -- what the first part finds at a node and the others keep
 pub filter_found : (base : Ground) (kind : Kind) (link : Link) (e : Exp) (predicates : List Operand) (n : ℕ) → is_filter kind ≡ true
-    → found_at (nodes_of base) base.env.now (made kind ((label_of link, e) ∷ predicates)) n ≡ kept_by_all base predicates (found_at (nodes_of base) base.env.now e n)
-filter_found base kd.FilteredStep link e predicates n h = kept_found base predicates (in_axis_order e) n ∙ ap (kept_by_all base predicates) (ordered_found base e n)
+    → found_at (nodes_of base) base.env.now (made kind ((label_of link, e) ∷ predicates)) n ≡ kept_by_all base predicates
+    (found_at (nodes_of base) base.env.now e n)
+filter_found base kd.FilteredStep link e predicates n h = kept_found base predicates (in_axis_order e) n ∙
+    ap (kept_by_all base predicates) (ordered_found base e n)
 filter_found base kd.FreeStep link e predicates n h = kept_found base predicates (in_axis_order e) n ∙ ap (kept_by_all base predicates) (ordered_found base e n)
 filter_found base kd.Filtered link e predicates n h = kept_found base predicates e n
 filter_found base kd.Only link e predicates n h = absurd (false≢true h)
@@ -261,10 +269,12 @@ filter_found base (kd.Call function) link e predicates n h = absurd (false≢tru
 filter_found base (kd.Matches pattern) link e predicates n h = absurd (false≢true h)
 filter_found base kd.Nothing link e predicates n h = absurd (false≢true h)
 
-filter_turned : (base : Ground) (kind : Kind) (link : Link) (e : Exp) (predicates : List Operand) (n : ℕ) (old new : List ℕ) → is_filter kind ≡ true → Filtered base e predicates n old new
+filter_turned : (base : Ground) (kind : Kind) (link : Link) (e : Exp) (predicates : List Operand) (n : ℕ) (old new : List ℕ) → is_filter kind ≡ true →
+    Filtered base e predicates n old new
     → Turned base (made kind ((label_of link, e) ∷ predicates)) n old new
 filter_turned base kd.FilteredStep link e predicates n old new h f s =
-    f (sym (kept_step_is predicates (in_axis_order e) ∙ ordered_step e) ∙ s) ∙ ap (λ ns. old ++ ns) (sym (filter_found base kd.FilteredStep link e predicates n h))
+    f (sym (kept_step_is predicates (in_axis_order e) ∙ ordered_step e) ∙ s) ∙
+    ap (λ ns. old ++ ns) (sym (filter_found base kd.FilteredStep link e predicates n h))
 filter_turned base kd.FreeStep link e predicates n old new h f s =
     f (sym (kept_step_is predicates (in_axis_order e) ∙ ordered_step e) ∙ s) ∙ ap (λ ns. old ++ ns) (sym (filter_found base kd.FreeStep link e predicates n h))
 filter_turned base kd.Filtered link e predicates n old new h f s =
@@ -283,7 +293,8 @@ filter_turned base kd.Nothing link e predicates n old new h f s = absurd (false�
 pub filters_turned : (base : Ground) (kind : Kind) (part : Link × Work) (others : List (Link × Work)) (n : ℕ) (old new : List ℕ) → is_filter kind ≡ true
     → Filtered base (seen base.names.now part.1) (operands_of base.names.now others) n old new
     → Turned base (made kind (operands_of base.names.now (part ∷ others))) n old new
-filters_turned base kind part others n old new h f = filter_turned base kind part.0 (seen base.names.now part.1) (operands_of base.names.now others) n old new h f
+filters_turned base kind part others n old new h f = filter_turned base kind part.0 (seen base.names.now part.1)
+    (operands_of base.names.now others) n old new h f
 
 pub along_ok : {X E : Type 0} (r : Result X E) (P Q : Type 0) → (P → Q) → OnOk r P → OnOk r Q
 along_ok (Ok x) P Q f p = f p
@@ -298,7 +309,8 @@ at_place base [] k d h l = absurd (omega (arith, l))
 at_place base (n ∷ ns) zero d h l = h.0
 at_place base (n ∷ ns) (suc k) d h l = at_place base ns k d h.1 (omega (arith, l))
 
-pub item_within : (base : Ground) (ns : List ℕ) (k n : ℕ) {lent : List ℕ} → n ≡ get_or lent k n → lent ≡ ns → AreNodes base ns → k < length lent → n < count base
+pub item_within : (base : Ground) (ns : List ℕ) (k n : ℕ) {lent : List ℕ} → n ≡ get_or lent k n → lent ≡ ns → AreNodes base ns → k < length lent →
+    n < count base
 item_within base ns k n {lent} e same h l =
     subst (λ m. m < count base) (sym e) (subst (λ xs. get_or xs k n < count base) (sym same) (at_place base ns k n h (subst (λ xs. k < length xs) same l)))
 
@@ -329,7 +341,8 @@ kept_next judge k ns n old new b e l is put h =
     ∙ ap (λ p. with_number (is_kept (then_ (judge n (k + 1) (length ns)) (keeps (k + 1)))) n (kept_nodes judge (length ns) p (drop (k + 1) ns))) (sym next))
     ∙ (ap (λ xs. old ++ kept_nodes judge (length ns) (k + 1) xs) (sym here) ∙ h)))
 
-pub all_next : (base : Ground) (parts : List (Link × Work)) (k : ℕ) (part : Link × Work) (ns ns' : List ℕ) {whole : List ℕ} → part ≡ get_or parts k part → k < length parts
+pub all_next : (base : Ground) (parts : List (Link × Work)) (k : ℕ) (part : Link × Work) (ns ns' : List ℕ) {whole : List ℕ} → part ≡ get_or parts k part →
+    k < length parts
     → ns' ≡ kept_by base (seen base.names.now part.1) ns
     → kept_by_all base (operands_of base.names.now (drop k parts)) ns ≡ whole → kept_by_all base (operands_of base.names.now (drop (k + 1) parts)) ns' ≡ whole
 all_next base parts k part ns ns' e l is h =

@@ -13,8 +13,10 @@ module _ (nodes : List Node) (w : IsWalkable nodes) where
   under_under k m j within i h = ⊎_elim
       (λ (same : (k == m) ≡ true). ap (is_under nodes j) (eqb-true k m same) ∙ h)
       (λ (inner : is_inside m (tree_node nodes k) ≡ true). ⊎_elim
-      (λ (at : (m == j) ≡ true). or_right (k == j) (is_inside j (tree_node nodes k)) (ap (λ n. is_inside n (tree_node nodes k)) (sym (eqb-true m j at)) ∙ inner))
-      (λ (deeper : is_inside j (tree_node nodes m) ≡ true). or_right (k == j) (is_inside j (tree_node nodes k)) (inside_inside nodes w k m j within inner deeper))
+      (λ (at : (m == j) ≡ true). or_right (k == j) (is_inside j (tree_node nodes k)) (ap (λ n. is_inside n (tree_node nodes k)) (sym (eqb-true m j at)) ∙
+      inner))
+      (λ (deeper : is_inside j (tree_node nodes m) ≡ true). or_right (k == j) (is_inside j (tree_node nodes k))
+      (inside_inside nodes w k m j within inner deeper))
       (or_cases (m == j) (is_inside j (tree_node nodes m)) h))
       (or_cases (k == m) (is_inside m (tree_node nodes k)) i)
 

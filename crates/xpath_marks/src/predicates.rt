@@ -43,7 +43,8 @@ fn holds<'a, L: Ledger>(
     requires within { n < count ground.now }
     requires placed { PlacedWork ground.now predicate.now }
     requires slots { AreHeld ground.now slots.old }
-    ensures kept { IfOk result (λ kept. kept ≡ patterns.is_kept (then_ (spec.judged ground.now (seen ground.now.names.now predicate.now) n position last) (meaning.keeps position))) }
+    ensures kept { IfOk result (λ kept. kept ≡ patterns.is_kept
+        (then_ (spec.judged ground.now (seen ground.now.names.now predicate.now) n position last) (meaning.keeps position))) }
     ensures held { AreHeld ground.now slots.new }
 {
     let focus = Focus {

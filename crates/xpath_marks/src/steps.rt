@@ -138,7 +138,8 @@ fn filtered<'a, L: Ledger>(
     requires first { PlacedWork ground.now first.now }
     requires placed { PlacedParts ground.now predicates.now }
     requires slots { AreHeld ground.now slots.old }
-    ensures turned { OnOk result (spec.Filtered ground.now (seen ground.now.names.now first.now) (operands_of ground.now.names.now predicates.now) n out.old.items out.new.items) }
+    ensures turned { OnOk result (spec.Filtered ground.now (seen ground.now.names.now first.now)
+        (operands_of ground.now.names.now predicates.now) n out.old.items out.new.items) }
     ensures within { OnOk result (AreNodes ground.now out.new.items) }
     ensures held { AreHeld ground.now slots.new }
 {

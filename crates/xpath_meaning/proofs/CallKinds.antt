@@ -1,5 +1,6 @@
 -- Of which kinds the values of functions, casts and operators are.
-use Rattle.std.proofs.Common.{◌≡◌, ℕ, zero, suc, Bool, true, false, ◌&&◌, ◌||◌, not, ◌+ℤ◌, List, [], ◌∷◌, length, Option, Some, None, Result, Ok, Err, refl, cond, ℤ, pos}
+use Rattle.std.proofs.Common.{◌≡◌, ℕ, zero, suc, Bool, true, false, ◌&&◌, ◌||◌, not, ◌+ℤ◌, List, [], ◌∷◌, length, Option, Some, None, Result, Ok, Err, refl}
+use Rattle.std.proofs.Common.{cond, ℤ, pos}
 use Rattle.std.specs.Prelude.{nat_lt}
 use Rattle.std.specs.List.{list_all}
 use Rattle.std.specs.declared.cmp.Ordering.{Ordering}
@@ -86,9 +87,11 @@ of_compared op xs ys = go (o.is_general op)
     go false = of_two (λ x y. of_boolean (o.compare op x y)) xs ys
 
 pub of_set : (ns : List Node) (operator : Operator) (xs ys : List Item) → IsValueOf k.nodes (set_of ns operator xs ys)
-of_set ns operator xs ys = g.of_either (list_all is_node xs && list_all is_node ys) (g.given (g.are_chosen k.nodes (is_in_set operator xs ys) (λ m h. refl) ns)) (g.given tt)
+of_set ns operator xs ys = g.of_either (list_all is_node xs && list_all is_node ys) (g.given (g.are_chosen k.nodes (is_in_set operator xs ys) (λ m h. refl) ns))
+    (g.given tt)
 
-pub of_operated : (ns : List Node) (op : Option Op) (operator : Operator) (xs ys : List Item) → IsValueOf (operated_kinds op operator) (of_values ns op operator xs ys)
+pub of_operated : (ns : List Node) (op : Option Op) (operator : Operator) (xs ys : List Item) →
+    IsValueOf (operated_kinds op operator) (of_values ns op operator xs ys)
 of_operated ns (Some op) operator xs ys = of_compared op (items.atomised ns xs) (items.atomised ns ys)
 of_operated ns None operator xs ys = go (is_set_operator operator)
   where
@@ -100,7 +103,8 @@ of_operated ns None operator xs ys = go (is_set_operator operator)
       ]
     ])
     go true = of_set ns operator xs ys
-    go false = g.of_either (is_range_operator operator) (of_range_of (items.atomised ns xs) (items.atomised ns ys)) (of_arithmetic operator (items.atomised ns xs) (items.atomised ns ys))
+    go false = g.of_either (is_range_operator operator) (of_range_of (items.atomised ns xs) (items.atomised ns ys))
+        (of_arithmetic operator (items.atomised ns xs) (items.atomised ns ys))
 
 -- Casts
 
@@ -170,7 +174,8 @@ of_cast_to ns type false [] = g.given tt
 of_cast_to ns type true (x ∷ xs) = of_type_called ns type k.no_kinds (x ∷ xs)
 of_cast_to ns type false (x ∷ xs) = of_type_called ns type k.no_kinds (x ∷ xs)
 
-pub of_cast : (ns : List Node) (word : CastWord) (type : Function) (optional : Bool) (xs : List Item) → IsValueOf (cast_kinds word type) (r.cast_by ns word type optional xs)
+pub of_cast : (ns : List Node) (word : CastWord) (type : Function) (optional : Bool) (xs : List Item) →
+    IsValueOf (cast_kinds word type) (r.cast_by ns word type optional xs)
 of_cast ns c.Cast type optional xs = of_cast_to ns type optional xs
 of_cast ns c.Castable type optional xs = g.given (refl, tt)
 
@@ -235,7 +240,8 @@ alike-extreme a _ _ e h = absurd (false≢true e)
 
 are_alike-extreme : (a : Kinds) (x : Item) (ys : List Item) → list_all (s.are_alike x) ys ≡ true → AreOf (read_kinds a) ys → AreOf (k.extreme a) ys
 are_alike-extreme a x [] e h = tt
-are_alike-extreme a x (y ∷ ys) e h = let both : (s.are_alike x y ≡ true) × (list_all (s.are_alike x) ys ≡ true) = and_parts (s.are_alike x y) (list_all (s.are_alike x) ys) e in
+are_alike-extreme a x (y ∷ ys) e h = let both : (s.are_alike x y ≡ true) × (list_all (s.are_alike x) ys ≡ true) =
+    and_parts (s.are_alike x y) (list_all (s.are_alike x) ys) e in
     (alike-extreme a x y both.0 h.0, are_alike-extreme a x ys both.1 h.1)
 
 is-foremost : (a : Kinds) (before : Ordering → Bool) (x : Item) (xs : List Item) → IsOf a x → AreOf a xs → IsOf a (s.foremost before x xs)
@@ -250,7 +256,8 @@ of_extreme_of : (a : Kinds) (before : Ordering → Bool) (xs : List Item) → Ar
 of_extreme_of a before [] h = g.given tt
 of_extreme_of a before (x ∷ xs) h = go (list_all (s.are_alike x) (x ∷ xs)) refl
   where
-    go : (b : Bool) → list_all (s.are_alike x) (x ∷ xs) ≡ b → IsValueOf (k.extreme a) (elim b as (λ _. Value) [ true ↦ one (s.foremost before x xs) | false ↦ Err d.FORG0006 ])
+    go : (b : Bool) → list_all (s.are_alike x) (x ∷ xs) ≡ b →
+        IsValueOf (k.extreme a) (elim b as (λ _. Value) [ true ↦ one (s.foremost before x xs) | false ↦ Err d.FORG0006 ])
     go true e = let p : AreOf (k.extreme a) (x ∷ xs) = are_alike-extreme a x (x ∷ xs) e h in g.given (is-foremost (k.extreme a) before x xs p.0 p.1, tt)
     go false e = g.given tt
 
@@ -276,7 +283,8 @@ of_name_part ns part _ = g.given tt
 of_text : {a : Kinds} (ns : List Node) {h : List ℕ → Value} → ((t : List ℕ) → IsValueOf a (h t)) → (xs : List Item) → IsValueOf a (call.of_text ns h xs)
 of_text ns p xs = g.of_then (call.text_argument ns xs) p
 
-of_texts : {a : Kinds} (ns : List Node) {h : List ℕ → List ℕ → Value} → ((t u : List ℕ) → IsValueOf a (h t u)) → (xs ys : List Item) → IsValueOf a (call.of_texts ns h xs ys)
+of_texts : {a : Kinds} (ns : List Node) {h : List ℕ → List ℕ → Value} → ((t u : List ℕ) → IsValueOf a (h t u)) → (xs ys : List Item) →
+    IsValueOf a (call.of_texts ns h xs ys)
 of_texts ns p xs ys = g.of_then (call.text_argument ns xs) (λ t. g.of_then (call.text_argument ns ys) (λ u. p t u))
 
 of_number_of : {a : Kinds} (ns : List Node) {h : ℤ → Value} → ((z : ℤ) → IsValueOf a (h z)) → (xs : List Item) → IsValueOf a (call.of_number ns h xs)
@@ -294,7 +302,8 @@ of_alone ns f.LocalName a focus = of_name_part ns call.local_part (focus.item �
 of_alone ns f.NamespaceUri a focus = of_name_part ns call.uri_part (focus.item ∷ [])
 of_alone ns _ a focus = g.given tt
 
-of_called_with_one : (ns : List Node) (function : Function) (a : Kinds) (x : List Item) → AreOf a x → IsValueOf (value_kinds function a) (call.called_with_one ns function x)
+of_called_with_one : (ns : List Node) (function : Function) (a : Kinds) (x : List Item) → AreOf a x →
+    IsValueOf (value_kinds function a) (call.called_with_one ns function x)
 of_called_with_one ns f.Not a x h = of_boolean (then_ (items.truth x) (λ b. Ok (not b)))
 of_called_with_one ns f.Boolean a x h = of_boolean (items.truth x)
 of_called_with_one ns f.Exists a x h = g.given (refl, tt)
@@ -324,8 +333,10 @@ of_called_with_one ns f.XsDate a x h = of_type_called ns f.XsDate a (items.atomi
 of_called_with_one ns f.XsBoolean a x h = of_type_called ns f.XsBoolean a (items.atomised ns x)
 of_called_with_one ns _ a x h = g.given tt
 
-of_called_with_two : (ns : List Node) (function : Function) (a : Kinds) (x y : List Item) → IsValueOf (value_kinds function a) (call.called_with_two ns function x y)
-of_called_with_two ns f.StringJoin a x y = g.of_then (s.all_taken call.string_in (items.atomised ns x)) (λ texts. g.of_then (call.text_argument ns y) (λ t. g.given (refl, tt)))
+of_called_with_two : (ns : List Node) (function : Function) (a : Kinds) (x y : List Item) →
+    IsValueOf (value_kinds function a) (call.called_with_two ns function x y)
+of_called_with_two ns f.StringJoin a x y = g.of_then (s.all_taken call.string_in (items.atomised ns x))
+    (λ texts. g.of_then (call.text_argument ns y) (λ t. g.given (refl, tt)))
 of_called_with_two ns f.Substring a x y = g.of_then (call.text_argument ns x) (λ t. g.of_then (call.number_argument ns y) (λ z. g.given (refl, tt)))
 of_called_with_two ns f.Contains a x y = of_texts ns (λ t u. g.given (refl, tt)) x y
 of_called_with_two ns f.StartsWith a x y = of_texts ns (λ t u. g.given (refl, tt)) x y
@@ -335,7 +346,8 @@ of_called_with_two ns f.SubstringBefore a x y = of_texts ns (λ t u. g.given (re
 of_called_with_two ns f.SubstringAfter a x y = of_texts ns (λ t u. g.given (refl, tt)) x y
 of_called_with_two ns _ a x y = g.given tt
 
-of_called_with_three : (ns : List Node) (function : Function) (a : Kinds) (x y z : List Item) → IsValueOf (value_kinds function a) (call.called_with_three ns function x y z)
+of_called_with_three : (ns : List Node) (function : Function) (a : Kinds) (x y z : List Item) →
+    IsValueOf (value_kinds function a) (call.called_with_three ns function x y z)
 of_called_with_three ns f.Substring a x y z =
     g.of_then (call.text_argument ns x) (λ t. g.of_then (call.number_argument ns y) (λ u. g.of_then (call.number_argument ns z) (λ w. g.given (refl, tt))))
 of_called_with_three ns f.Translate a x y z =

@@ -111,7 +111,8 @@ pub of_then : {X : Type 0} {a : Kinds} (r : Result X DynError) {f : X → Value}
 of_then (Ok x) h = h x
 of_then (Err error) h = given tt
 
-pub of_items : {a b : Kinds} (v : Value) {f : List Item → Value} → IsValueOf b v → ((xs : List Item) → AreOf b xs → IsValueOf a (f xs)) → IsValueOf a (then_ v f)
+pub of_items : {a b : Kinds} (v : Value) {f : List Item → Value} → IsValueOf b v → ((xs : List Item) → AreOf b xs → IsValueOf a (f xs)) →
+    IsValueOf a (then_ v f)
 of_items (Ok xs) g h = h xs g.items
 of_items (Err error) g h = given tt
 
@@ -168,12 +169,15 @@ are-with_kept a false x xs h g = g
 
 pub of_kept : (a : Kinds) (f : Item → ℕ → ℕ → Value) (last position : ℕ) (xs : List Item) → AreOf a xs → IsValueOf a (kept f last position xs)
 of_kept a f last position [] h = given tt
-of_kept a f last position (x ∷ xs) h = of_then (f x position last) (λ answer. of_then (keeps position answer) (λ b. of_items (kept f last (suc position) xs) (of_kept a f last (suc position) xs h.1) (λ others g. given (are-with_kept a b x others h.0 g))))
+of_kept a f last position (x ∷ xs) h = of_then (f x position last)
+    (λ answer. of_then (keeps position answer) (λ b. of_items (kept f last (suc position) xs) (of_kept a f last (suc position) xs h.1)
+    (λ others g. given (are-with_kept a b x others h.0 g))))
 
 pub of_turns_taken : (a b : Kinds) (f : Item → ℕ → ℕ → Value) → ((x : Item) (position last : ℕ) → IsOf b x → IsValueOf a (f x position last))
     → (last position : ℕ) (xs : List Item) → AreOf b xs → IsValueOf a (turns f last position xs)
 of_turns_taken a b f h last position [] g = given tt
-of_turns_taken a b f h last position (x ∷ xs) g = of_joined (f x position last) (turns f last (suc position) xs) (h x position last g.0) (of_turns_taken a b f h last (suc position) xs g.1)
+of_turns_taken a b f h last position (x ∷ xs) g = of_joined (f x position last) (turns f last (suc position) xs) (h x position last g.0)
+    (of_turns_taken a b f h last (suc position) xs g.1)
 
 pub of_mixture : (a : Kinds) (ns : List Node) (xs : List Item) → AreOf a xs → IsValueOf a (of_turns ns xs)
 of_mixture a ns xs h = of_either (list_all is_node xs) (given (are_ordered a ns xs h)) (of_either (list_any is_node xs) (given tt) (given h))

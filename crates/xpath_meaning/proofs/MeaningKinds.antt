@@ -30,10 +30,12 @@ same_length (a ∷ around) [] h = absurd h
 
 of_bound_at : (height : ℕ) (kinds : List Kinds) (xs : List Item) → AreBound kinds xs → AreOf (kinds_at height kinds) (bound_at height xs)
 of_bound_at height [] [] h = tt
-of_bound_at height (a ∷ around) (x ∷ xs) h = go (height == length around) (height == length xs) (ap (λ n. height == n) (same_length around xs h.1)) (of_bound_at height around xs h.1)
+of_bound_at height (a ∷ around) (x ∷ xs) h = go (height == length around) (height == length xs) (ap (λ n. height == n) (same_length around xs h.1))
+    (of_bound_at height around xs h.1)
   where
     go : (b c : Bool) → b ≡ c → AreOf (kinds_at height around) (bound_at height xs)
-        → AreOf (elim b as (λ _. Kinds) [ true ↦ a | false ↦ kinds_at height around ]) (elim c as (λ _. List Item) [ true ↦ x ∷ [] | false ↦ bound_at height xs ])
+        → AreOf (elim b as (λ _. Kinds) [ true ↦ a | false ↦ kinds_at height around ])
+        (elim c as (λ _. List Item) [ true ↦ x ∷ [] | false ↦ bound_at height xs ])
     go true true e p = (h.0, tt)
     go false false e p = p
     go true false e p = absurd (true≢false e)
@@ -83,14 +85,16 @@ mutual
   of_mean ns (x.filtered e predicate) m c h = g.of_items (mean ns e c) (of_mean ns e m c h)
       (λ xs p. g.of_kept (kinds_of e m) (λ item position last. mean ns predicate (at c item position last)) (length xs) 1 xs p)
   of_mean ns (x.stepped e) m c h = g.of_items (mean ns e c) (of_mean ns e m c h) (λ xs p. g.given (g.are_ordered (kinds_of e m) ns xs p))
-  of_mean ns (x.slash e step) m c h = g.of_then (mean ns e c) (λ xs. g.of_path (kinds_of step (record m { focus = k.nodes })) ns (λ item position last. mean ns step (at c item position last))
+  of_mean ns (x.slash e step) m c h = g.of_then (mean ns e c)
+      (λ xs. g.of_path (kinds_of step (record m { focus = k.nodes })) ns (λ item position last. mean ns step (at c item position last))
       (λ item position last p. of_mean ns step (record m { focus = k.nodes }) (at c item position last) (record { focus = p; bound = h.bound })) xs)
   of_mean ns (x.comma e f) m c h = g.of_joined (mean ns e c) (mean ns f c)
       (g.value-within (kinds_of e m) (kinds_of (x.comma e f) m) (g.within_left (kinds_of e m) (kinds_of f m)) (mean ns e c) (of_mean ns e m c h))
       (g.value-within (kinds_of f m) (kinds_of (x.comma e f) m) (g.within_right (kinds_of e m) (kinds_of f m)) (mean ns f c) (of_mean ns f m c h))
   of_mean ns (x.both e f) m c h = g.of_then (truth_of (mean ns e c)) (λ b. g.of_either b (v.of_boolean (truth_of (mean ns f c))) (g.given (refl, tt)))
   of_mean ns (x.either e f) m c h = g.of_then (truth_of (mean ns e c)) (λ b. g.of_either b (g.given (refl, tt)) (v.of_boolean (truth_of (mean ns f c))))
-  of_mean ns (x.operated operator e f) m c h = g.of_then (mean ns e c) (λ xs. g.of_then (mean ns f c) (λ ys. v.of_operated ns (comparison_of operator) operator xs ys))
+  of_mean ns (x.operated operator e f) m c h = g.of_then (mean ns e c)
+      (λ xs. g.of_then (mean ns f c) (λ ys. v.of_operated ns (comparison_of operator) operator xs ys))
   of_mean ns (x.signed signs e) m c h = g.of_then (mean ns e c) (λ xs. v.of_signed signs (items.atomised ns xs))
   of_mean ns (x.chosen condition e f) m c h = g.of_then (truth_of (mean ns condition c)) (λ b. g.of_either b
       (g.value-within (kinds_of e m) (kinds_of (x.comma e f) m) (g.within_left (kinds_of e m) (kinds_of f m)) (mean ns e c) (of_mean ns e m c h))
@@ -102,6 +106,7 @@ mutual
   of_mean ns (x.called function arguments) m c h = of_arguments (first_kinds arguments m) (means ns arguments c) (of_means ns arguments m c h)
       (λ values p. v.of_call ns function (first_kinds arguments m) c.focus values p)
 
-  of_means : (ns : List Node) (arguments : Exps) (expected : Expected) (c : Context) → Suits expected c → AreArguments (first_kinds arguments expected) (means ns arguments c)
+  of_means : (ns : List Node) (arguments : Exps) (expected : Expected) (c : Context) → Suits expected c →
+      AreArguments (first_kinds arguments expected) (means ns arguments c)
   of_means ns x.no_more m c h = tt
   of_means ns (x.argument e arguments) m c h = first_of (kinds_of e m) (mean ns e c) (means ns arguments c) (of_mean ns e m c h)

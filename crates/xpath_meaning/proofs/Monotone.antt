@@ -104,7 +104,8 @@ same_lengths (a ∷ around) [] h = absurd h
 
 at_within : (height : ℕ) (kinds others : List Kinds) → AreWithin kinds others → Within (kinds_at height kinds) (kinds_at height others)
 at_within height [] [] h = same k.no_kinds
-at_within height (a ∷ around) (b ∷ others) h = go (height == length around) (height == length others) (ap (λ n. height == n) (same_lengths around others h.1)) (at_within height around others h.1)
+at_within height (a ∷ around) (b ∷ others) h = go (height == length around) (height == length others) (ap (λ n. height == n) (same_lengths around others h.1))
+    (at_within height around others h.1)
   where
     go : (p q : Bool) → p ≡ q → Within (kinds_at height around) (kinds_at height others)
         → Within (elim p as (λ _. Kinds) [ true ↦ a | false ↦ kinds_at height around ]) (elim q as (λ _. Kinds) [ true ↦ b | false ↦ kinds_at height others ])
@@ -125,11 +126,15 @@ mutual
   kinds_within (x.variable height) m n h = at_within height m.bound n.bound h.bound
   kinds_within (x.filtered e predicate) m n h = kinds_within e m n h
   kinds_within (x.stepped e) m n h = kinds_within e m n h
-  kinds_within (x.slash e step) m n h = kinds_within step (record m { focus = k.nodes }) (record n { focus = k.nodes }) (record { focus = same k.nodes; bound = h.bound })
+  kinds_within (x.slash e step) m n h = kinds_within step (record m { focus = k.nodes }) (record n { focus = k.nodes })
+      (record { focus = same k.nodes; bound = h.bound })
   kinds_within (x.comma e f) m n h = united_within (kinds_of e m) (kinds_of f m) (kinds_of e n) (kinds_of f n) (kinds_within e m n h) (kinds_within f m n h)
-  kinds_within (x.chosen condition e f) m n h = united_within (kinds_of e m) (kinds_of f m) (kinds_of e n) (kinds_of f n) (kinds_within e m n h) (kinds_within f m n h)
-  kinds_within (x.bound binder e body) m n h = bound_within binder (kinds_of body (record m { bound = kinds_of e m ∷ m.bound })) (kinds_of body (record n { bound = kinds_of e n ∷ n.bound }))
-      (kinds_within body (record m { bound = kinds_of e m ∷ m.bound }) (record n { bound = kinds_of e n ∷ n.bound }) (record { focus = h.focus; bound = (kinds_within e m n h, h.bound) }))
+  kinds_within (x.chosen condition e f) m n h = united_within (kinds_of e m) (kinds_of f m) (kinds_of e n) (kinds_of f n) (kinds_within e m n h)
+      (kinds_within f m n h)
+  kinds_within (x.bound binder e body) m n h = bound_within binder (kinds_of body (record m { bound = kinds_of e m ∷ m.bound }))
+      (kinds_of body (record n { bound = kinds_of e n ∷ n.bound }))
+      (kinds_within body (record m { bound = kinds_of e m ∷ m.bound }) (record n { bound = kinds_of e n ∷ n.bound })
+      (record { focus = h.focus; bound = (kinds_within e m n h, h.bound) }))
   kinds_within (x.called function arguments) m n h = value_within function (first_kinds arguments m) (first_kinds arguments n) (firsts_within arguments m n h)
   kinds_within _ m n h = λ item p. p
 

@@ -21,8 +21,10 @@ use Rattle.xpath_meaning.specs.Meaning.{mean, at_top}
 
 -- what the rows look into
 unfoldable tried : ℕ
-unfolding answer_of_characters words_from longest many_then comment_rest comment_at separator_length closes is_symbol judged token_of is_char is_name_start is_name_char is_white_space
-    close run append type_in function_in resolved operands compare sum_of difference_of product_of quotient_of whole_quotient_of remainder_of rounded_down rounded_up rounded
+unfolding answer_of_characters words_from longest many_then comment_rest comment_at separator_length closes is_symbol judged token_of is_char is_name_start
+    is_name_char is_white_space
+    close run append type_in function_in resolved operands compare sum_of difference_of product_of quotient_of whole_quotient_of remainder_of rounded_down
+    rounded_up rounded
     finds last_digits without_trailing_zeros written_units read_scaled read_decimal day_from read_dashed_day
 tried = 0
 
@@ -30,7 +32,10 @@ tried = 0
 abbrev asked : List Node → List ℕ → Option Value
 asked nodes text = elim (answer_of_characters text) [
   | Err fault ↦ None
-  | Ok tokens ↦ elim (tree_of tokens) [ None ↦ None | Some tree ↦ Some (mean nodes (resolved (record { prefixes = []; variables = [] }) [] tree) (at_top 0 [])) ]
+  | Ok tokens ↦ elim (tree_of tokens) [
+    | None ↦ None
+    | Some tree ↦ Some (mean nodes (resolved (record { prefixes = []; variables = [] }) [] tree) (at_top 0 []))
+  ]
 ]
 
 abbrev named : List ℕ → Name
@@ -50,16 +55,19 @@ text characters = a_text characters no_more
 
 -- <r><g><l/><l/></g><g><l/></g></r>
 abbrev groups : List Node
-groups = document_nodes (plain (codes "r") (plain (codes "g") (plain (codes "l") no_more (plain (codes "l") no_more no_more)) (plain (codes "g") (plain (codes "l") no_more no_more) no_more)) no_more)
+groups = document_nodes (plain (codes "r") (plain (codes "g") (plain (codes "l") no_more (plain (codes "l") no_more no_more))
+    (plain (codes "g") (plain (codes "l") no_more no_more) no_more)) no_more)
 
 -- <v><n>10</n><s>abc</s><e/></v>
 abbrev values : List Node
-values = document_nodes (plain (codes "v") (plain (codes "n") (text (codes "10")) (plain (codes "s") (text (codes "abc")) (plain (codes "e") no_more no_more))) no_more)
+values = document_nodes (plain (codes "v") (plain (codes "n") (text (codes "10")) (plain (codes "s") (text (codes "abc")) (plain (codes "e") no_more no_more)))
+    no_more)
 
 -- <r a="1"><p b="2" c="3">t1<q>t2</q>t3</p><s/><p><q d="4">t4</q><q/></p><u>5</u></r>
 abbrev letters : List Node
 letters = document_nodes (element (codes "r") (given (codes "a") (codes "1") ∷ [])
-    (element (codes "p") (given (codes "b") (codes "2") ∷ given (codes "c") (codes "3") ∷ []) (a_text (codes "t1") (plain (codes "q") (text (codes "t2")) (text (codes "t3"))))
+    (element (codes "p") (given (codes "b") (codes "2") ∷ given (codes "c") (codes "3") ∷ [])
+    (a_text (codes "t1") (plain (codes "q") (text (codes "t2")) (text (codes "t3"))))
     (plain (codes "s") no_more
     (plain (codes "p") (element (codes "q") (given (codes "d") (codes "4") ∷ []) (text (codes "t4")) (plain (codes "q") no_more no_more))
     (plain (codes "u") (text (codes "5")) no_more)))) no_more)
@@ -94,7 +102,8 @@ row_7 : asked letters (codes "r/p[2]/following::node()") ≡ Some (Ok (i.Node 16
 unfolding tried
 row_7 = refl
 
-row_8 : asked letters (codes "r/p[1]/@b/following::node()") ≡ Some (Ok (i.Node 6 ∷ i.Node 7 ∷ i.Node 8 ∷ i.Node 9 ∷ i.Node 10 ∷ i.Node 11 ∷ i.Node 12 ∷ i.Node 14 ∷ i.Node 15 ∷ i.Node 16 ∷ i.Node 17 ∷ []))
+row_8 : asked letters (codes "r/p[1]/@b/following::node()") ≡ Some
+    (Ok (i.Node 6 ∷ i.Node 7 ∷ i.Node 8 ∷ i.Node 9 ∷ i.Node 10 ∷ i.Node 11 ∷ i.Node 12 ∷ i.Node 14 ∷ i.Node 15 ∷ i.Node 16 ∷ i.Node 17 ∷ []))
 unfolding tried
 row_8 = refl
 
@@ -188,7 +197,9 @@ row_29 : asked values (codes "0.1 + 0.2 = 0.3") ≡ Some (Ok (i.Boolean true ∷
 unfolding tried
 row_29 = refl
 
-row_30 : asked values (codes "(1 div 3, -7 idiv 2, -7 mod 2, round(-2.5))") ≡ Some (Ok (i.Number (pos 333333333333333333) ∷ i.Number (neg_ℤ (pos 3000000000000000000)) ∷ i.Number (neg_ℤ (pos 1000000000000000000)) ∷ i.Number (neg_ℤ (pos 2000000000000000000)) ∷ []))
+row_30 : asked values (codes "(1 div 3, -7 idiv 2, -7 mod 2, round(-2.5))") ≡ Some
+    (Ok (i.Number (pos 333333333333333333) ∷ i.Number (neg_ℤ (pos 3000000000000000000)) ∷ i.Number (neg_ℤ (pos 1000000000000000000)) ∷ i.Number
+    (neg_ℤ (pos 2000000000000000000)) ∷ []))
 unfolding tried
 row_30 = refl
 
@@ -208,7 +219,8 @@ row_34 : asked values (codes "(1, 2) + 1 + 1 div 0") ≡ Some (Err e.XPTY0004)
 unfolding tried
 row_34 = refl
 
-row_35 : asked values (codes "2 to 4") ≡ Some (Ok (i.Number (pos 2000000000000000000) ∷ i.Number (pos 3000000000000000000) ∷ i.Number (pos 4000000000000000000) ∷ []))
+row_35 : asked values (codes "2 to 4") ≡ Some
+    (Ok (i.Number (pos 2000000000000000000) ∷ i.Number (pos 3000000000000000000) ∷ i.Number (pos 4000000000000000000) ∷ []))
 unfolding tried
 row_35 = refl
 
@@ -218,7 +230,9 @@ row_36 = refl
 
 -- Variables
 
-row_37 : asked values (codes "for $x in (1, 2), $y in ($x, 10) return $x * $y") ≡ Some (Ok (i.Number (pos 1000000000000000000) ∷ i.Number (pos 10000000000000000000) ∷ i.Number (pos 4000000000000000000) ∷ i.Number (pos 20000000000000000000) ∷ []))
+row_37 : asked values (codes "for $x in (1, 2), $y in ($x, 10) return $x * $y") ≡ Some
+    (Ok (i.Number (pos 1000000000000000000) ∷ i.Number (pos 10000000000000000000) ∷ i.Number (pos 4000000000000000000) ∷ i.Number
+    (pos 20000000000000000000) ∷ []))
 unfolding tried
 row_37 = refl
 
@@ -266,7 +280,8 @@ row_47 : asked values (codes "matches('DE123', '^[A-Z]{2}[0-9]+$')") ≡ Some (O
 unfolding tried
 row_47 = refl
 
-row_48 : asked values (codes "(matches('xDE1', '^DE'), matches('', '^$'), matches('abc', 'x|b'), matches((), 'a'))") ≡ Some (Ok (i.Boolean false ∷ i.Boolean true ∷ i.Boolean true ∷ i.Boolean false ∷ []))
+row_48 : asked values (codes "(matches('xDE1', '^DE'), matches('', '^$'), matches('abc', 'x|b'), matches((), 'a'))") ≡ Some
+    (Ok (i.Boolean false ∷ i.Boolean true ∷ i.Boolean true ∷ i.Boolean false ∷ []))
 unfolding tried
 row_48 = refl
 

@@ -51,10 +51,12 @@ right_same a b h = record {
 }
 
 -- at one item, all of the focus is the same
-at_same : {a : Uses} (b : Uses) {depth : ℕ} {c d : Context} (item : Item) (position last : ℕ) → AreSameFor a depth c d → AreSameFor b depth (at c item position last) (at d item position last)
+at_same : {a : Uses} (b : Uses) {depth : ℕ} {c d : Context} (item : Item) (position last : ℕ) → AreSameFor a depth c d →
+    AreSameFor b depth (at c item position last) (at d item position last)
 at_same b item position last h = record { position = λ e. refl; last = λ e. refl; root = λ e. refl; item = λ e. refl; count = h.count; bound = h.bound }
 
-bound_same : (height : ℕ) (item : Item) (xs ys : List Item) → length xs ≡ length ys → bound_at height xs ≡ bound_at height ys → bound_at height (item ∷ xs) ≡ bound_at height (item ∷ ys)
+bound_same : (height : ℕ) (item : Item) (xs ys : List Item) → length xs ≡ length ys → bound_at height xs ≡ bound_at height ys →
+    bound_at height (item ∷ xs) ≡ bound_at height (item ∷ ys)
 bound_same height item xs ys e h = λ i. elim (height == e i) as (λ _. List Item) [ true ↦ item ∷ [] | false ↦ h i ]
 
 inside_same : {a : Uses} {depth : ℕ} {c d : Context} (item : Item) → AreSameFor a depth c d → AreSameFor a depth (inside c item) (inside d item)
@@ -80,13 +82,15 @@ alone_same ns f.LocalName depth c d h = λ i. called_alone ns f.LocalName (recor
 alone_same ns f.NamespaceUri depth c d h = λ i. called_alone ns f.NamespaceUri (record { item = h.item refl i; position = 0; last = 0 })
 alone_same ns _ depth c d h = refl
 
-with_same : (ns : List Node) (function : Function) (a b : Focus) (x : List Item) (xs : List (List Item)) → called_with ns function a (x ∷ xs) ≡ called_with ns function b (x ∷ xs)
+with_same : (ns : List Node) (function : Function) (a b : Focus) (x : List Item) (xs : List (List Item)) →
+    called_with ns function a (x ∷ xs) ≡ called_with ns function b (x ∷ xs)
 with_same ns function a b x [] = refl
 with_same ns function a b x (y ∷ []) = refl
 with_same ns function a b x (y ∷ (z ∷ [])) = refl
 with_same ns function a b x (y ∷ (z ∷ (w ∷ xs))) = refl
 
-call_same : (ns : List Node) (function : Function) (a b : Focus) (x : List Item) (xs : List (List Item)) → call ns function a (x ∷ xs) ≡ call ns function b (x ∷ xs)
+call_same : (ns : List Node) (function : Function) (a b : Focus) (x : List Item) (xs : List (List Item)) →
+    call ns function a (x ∷ xs) ≡ call ns function b (x ∷ xs)
 call_same ns f.Concat a b x xs = refl
 call_same ns function a b x xs = with_same ns function a b x xs
 
@@ -105,7 +109,8 @@ not_below : (height depth : ℕ) → nat_lt height depth ≡ false → depth ≤
 not_below height depth h = grind (arith, nat_tests)
 
 mutual
-  pub mean_same : (ns : List Node) (depth : ℕ) (e : Exp) (c d : Context) → reads_outside depth e ≡ false → AreSameFor (uses_of e) depth c d → mean ns e c ≡ mean ns e d
+  pub mean_same : (ns : List Node) (depth : ℕ) (e : Exp) (c d : Context) → reads_outside depth e ≡ false → AreSameFor (uses_of e) depth c d →
+      mean ns e c ≡ mean ns e d
   mean_same ns depth (x.text s) c d r h = refl
   mean_same ns depth (x.number z) c d r h = refl
   mean_same ns depth x.nothing c d r h = refl
@@ -114,48 +119,67 @@ mutual
   mean_same ns depth (x.variable height) c d r h = λ i. Ok (h.bound height (not_below height depth r) i)
   mean_same ns depth (x.outer name) c d r h = absurd (true≢false r)
   mean_same ns depth (x.axis_step axis test) c d r h = λ i. step_from ns axis test (h.item refl i)
-  mean_same ns depth (x.filtered e predicate) c d r h = λ i. then_ (mean_same ns depth e c d (neither_left (reads_outside depth e) (reads_outside depth predicate) r) h i)
+  mean_same ns depth (x.filtered e predicate) c d r h =
+      λ i. then_ (mean_same ns depth e c d (neither_left (reads_outside depth e) (reads_outside depth predicate) r) h i)
       (filtered_by (λ item position last. mean_same ns depth predicate (at c item position last) (at d item position last)
       (neither_right (reads_outside depth e) (reads_outside depth predicate) r) (at_same (uses_of predicate) item position last h) i))
   mean_same ns depth (x.stepped e) c d r h = λ i. then_ (mean_same ns depth e c d r h i) (λ items. Ok (in_document_order ns items))
   mean_same ns depth (x.slash e step) c d r h = λ i. then_ (mean_same ns depth e c d (neither_left (reads_outside depth e) (reads_outside depth step) r) h i)
       (path ns (λ item position last. mean_same ns depth step (at c item position last) (at d item position last)
       (neither_right (reads_outside depth e) (reads_outside depth step) r) (at_same (uses_of step) item position last h) i))
-  mean_same ns depth (x.comma e f) c d r h = λ i. joined (mean_same ns depth e c d (neither_left (reads_outside depth e) (reads_outside depth f) r) (left_same (uses_of e) (uses_of f) h) i)
+  mean_same ns depth (x.comma e f) c d r h = λ i. joined
+      (mean_same ns depth e c d (neither_left (reads_outside depth e) (reads_outside depth f) r) (left_same (uses_of e) (uses_of f) h) i)
       (mean_same ns depth f c d (neither_right (reads_outside depth e) (reads_outside depth f) r) (right_same (uses_of e) (uses_of f) h) i)
-  mean_same ns depth (x.both e f) c d r h = λ i. then_ (truth_of (mean_same ns depth e c d (neither_left (reads_outside depth e) (reads_outside depth f) r) (left_same (uses_of e) (uses_of f) h) i))
+  mean_same ns depth (x.both e f) c d r h = λ i. then_
+      (truth_of (mean_same ns depth e c d (neither_left (reads_outside depth e) (reads_outside depth f) r) (left_same (uses_of e) (uses_of f) h) i))
       (λ holds. elim holds [
-        | true ↦ boolean (truth_of (mean_same ns depth f c d (neither_right (reads_outside depth e) (reads_outside depth f) r) (right_same (uses_of e) (uses_of f) h) i))
+        | true ↦ boolean (truth_of (mean_same ns depth f c d (neither_right (reads_outside depth e) (reads_outside depth f) r)
+            (right_same (uses_of e) (uses_of f) h) i))
         | false ↦ boolean (Ok false)
       ])
-  mean_same ns depth (x.either e f) c d r h = λ i. then_ (truth_of (mean_same ns depth e c d (neither_left (reads_outside depth e) (reads_outside depth f) r) (left_same (uses_of e) (uses_of f) h) i))
+  mean_same ns depth (x.either e f) c d r h = λ i. then_
+      (truth_of (mean_same ns depth e c d (neither_left (reads_outside depth e) (reads_outside depth f) r) (left_same (uses_of e) (uses_of f) h) i))
       (λ holds. elim holds [
         | true ↦ boolean (Ok true)
-        | false ↦ boolean (truth_of (mean_same ns depth f c d (neither_right (reads_outside depth e) (reads_outside depth f) r) (right_same (uses_of e) (uses_of f) h) i))
+        | false ↦ boolean (truth_of (mean_same ns depth f c d (neither_right (reads_outside depth e) (reads_outside depth f) r)
+            (right_same (uses_of e) (uses_of f) h) i))
       ])
-  mean_same ns depth (x.operated operator e f) c d r h = λ i. then_ (mean_same ns depth e c d (neither_left (reads_outside depth e) (reads_outside depth f) r) (left_same (uses_of e) (uses_of f) h) i)
-      (λ xs. then_ (mean_same ns depth f c d (neither_right (reads_outside depth e) (reads_outside depth f) r) (right_same (uses_of e) (uses_of f) h) i) (λ ys. operated ns operator xs ys))
+  mean_same ns depth (x.operated operator e f) c d r h =
+      λ i. then_ (mean_same ns depth e c d (neither_left (reads_outside depth e) (reads_outside depth f) r) (left_same (uses_of e) (uses_of f) h) i)
+      (λ xs. then_ (mean_same ns depth f c d (neither_right (reads_outside depth e) (reads_outside depth f) r) (right_same (uses_of e) (uses_of f) h) i)
+      (λ ys. operated ns operator xs ys))
   mean_same ns depth (x.signed signs e) c d r h = λ i. then_ (mean_same ns depth e c d r h i) (λ items. signed signs (atomised ns items))
   mean_same ns depth (x.chosen condition e f) c d r h =
-      let others : (reads_outside depth e || reads_outside depth f) ≡ false = neither_right (reads_outside depth condition) (reads_outside depth e || reads_outside depth f) r in
-      λ i. then_ (truth_of (mean_same ns depth condition c d (neither_left (reads_outside depth condition) (reads_outside depth e || reads_outside depth f) r) (left_same (uses_of condition) (u.joined (uses_of e) (uses_of f)) h) i))
+      let others : (reads_outside depth e || reads_outside depth f) ≡ false =
+      neither_right (reads_outside depth condition) (reads_outside depth e || reads_outside depth f) r in
+      λ i. then_ (truth_of (mean_same ns depth condition c d (neither_left (reads_outside depth condition) (reads_outside depth e || reads_outside depth f) r)
+      (left_same (uses_of condition) (u.joined (uses_of e) (uses_of f)) h) i))
       (λ holds. elim holds [
-        | true ↦ mean_same ns depth e c d (neither_left (reads_outside depth e) (reads_outside depth f) others) (left_same (uses_of e) (uses_of f) (right_same (uses_of condition) (u.joined (uses_of e) (uses_of f)) h)) i
-        | false ↦ mean_same ns depth f c d (neither_right (reads_outside depth e) (reads_outside depth f) others) (right_same (uses_of e) (uses_of f) (right_same (uses_of condition) (u.joined (uses_of e) (uses_of f)) h)) i
+        | true ↦ mean_same ns depth e c d (neither_left (reads_outside depth e) (reads_outside depth f) others)
+            (left_same (uses_of e) (uses_of f) (right_same (uses_of condition) (u.joined (uses_of e) (uses_of f)) h)) i
+        | false ↦ mean_same ns depth f c d (neither_right (reads_outside depth e) (reads_outside depth f) others)
+            (right_same (uses_of e) (uses_of f) (right_same (uses_of condition) (u.joined (uses_of e) (uses_of f)) h)) i
       ])
-  mean_same ns depth (x.bound binder e body) c d r h = λ i. then_ (mean_same ns depth e c d (neither_left (reads_outside depth e) (reads_outside depth body) r) (left_same (uses_of e) (uses_of body) h) i)
+  mean_same ns depth (x.bound binder e body) c d r h =
+      λ i. then_ (mean_same ns depth e c d (neither_left (reads_outside depth e) (reads_outside depth body) r) (left_same (uses_of e) (uses_of body) h) i)
       (bound_by binder (λ item. mean_same ns depth body (inside c item) (inside d item)
       (neither_right (reads_outside depth e) (reads_outside depth body) r) (inside_same item (right_same (uses_of e) (uses_of body) h)) i))
-  mean_same ns depth (x.cast word type optional e) c d r h = λ i. then_ (mean_same ns depth e c d r h i) (λ items. cast_by ns word type optional (atomised ns items))
+  mean_same ns depth (x.cast word type optional e) c d r h =
+      λ i. then_ (mean_same ns depth e c d r h i) (λ items. cast_by ns word type optional (atomised ns items))
   mean_same ns depth (x.called function x.no_more) c d r h = alone_same ns function depth c d h
   mean_same ns depth (x.called function (x.argument e arguments)) c d r h =
       focus_free ns function c.focus d.focus (mean ns e c) (means ns arguments c)
-      ∙ (λ i. then_ (arguments_of (mean_same ns depth e c d (neither_left (reads_outside depth e) (arguments_read_outside depth arguments) r) (left_same (uses_of e) (uses_of_arguments arguments) h) i)
-      (means_same ns depth arguments c d (neither_right (reads_outside depth e) (arguments_read_outside depth arguments) r) (right_same (uses_of e) (uses_of_arguments arguments) h) i)) (call ns function d.focus))
+      ∙ (λ i. then_ (arguments_of (mean_same ns depth e c d (neither_left (reads_outside depth e) (arguments_read_outside depth arguments) r)
+      (left_same (uses_of e) (uses_of_arguments arguments) h) i)
+      (means_same ns depth arguments c d (neither_right (reads_outside depth e) (arguments_read_outside depth arguments) r)
+      (right_same (uses_of e) (uses_of_arguments arguments) h) i)) (call ns function d.focus))
 
-  means_same : (ns : List Node) (depth : ℕ) (arguments : Exps) (c d : Context) → arguments_read_outside depth arguments ≡ false → AreSameFor (uses_of_arguments arguments) depth c d
+  means_same : (ns : List Node) (depth : ℕ) (arguments : Exps) (c d : Context) → arguments_read_outside depth arguments ≡ false →
+      AreSameFor (uses_of_arguments arguments) depth c d
       → means ns arguments c ≡ means ns arguments d
   means_same ns depth x.no_more c d r h = refl
   means_same ns depth (x.argument e arguments) c d r h =
-      λ i. arguments_of (mean_same ns depth e c d (neither_left (reads_outside depth e) (arguments_read_outside depth arguments) r) (left_same (uses_of e) (uses_of_arguments arguments) h) i)
-      (means_same ns depth arguments c d (neither_right (reads_outside depth e) (arguments_read_outside depth arguments) r) (right_same (uses_of e) (uses_of_arguments arguments) h) i)
+      λ i. arguments_of (mean_same ns depth e c d (neither_left (reads_outside depth e) (arguments_read_outside depth arguments) r)
+      (left_same (uses_of e) (uses_of_arguments arguments) h) i)
+      (means_same ns depth arguments c d (neither_right (reads_outside depth e) (arguments_read_outside depth arguments) r)
+      (right_same (uses_of e) (uses_of_arguments arguments) h) i)

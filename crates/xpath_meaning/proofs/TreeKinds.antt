@@ -1,5 +1,6 @@
 -- The kinds of a resolved expression are among those that its tree is judged to have.
-use Rattle.std.proofs.Common.{◌≡◌, ℕ, suc, ◌+◌, ◌≤◌, Bool, true, false, ◌&&◌, ◌||◌, not, ◌==◌, List, [], ◌∷◌, ◌++◌, length, map, Option, Some, None, refl, sym, ap, ◌∙◌, subst, cond, arith}
+use Rattle.std.proofs.Common.{◌≡◌, ℕ, suc, ◌+◌, ◌≤◌, Bool, true, false, ◌&&◌, ◌||◌, not, ◌==◌, List, [], ◌∷◌, ◌++◌, length, map, Option, Some, None, refl, sym}
+use Rattle.std.proofs.Common.{ap, ◌∙◌, subst, cond, arith}
 use Rattle.std.specs.Str.{bytes_eq}
 use Rattle.std.proofs.lemmas.Bool.{false≢true, and_parts}
 use Rattle.std.proofs.lemmas.Bool.Decides.{nat_tests}
@@ -50,7 +51,8 @@ if_within a c false h = all_within a
 
 -- one variable more at the inside doesn't change what a name of the others means
 behind_others : (name : List ℕ) (ns : List (List ℕ)) (focus a : Kinds) (around : List Kinds) → length ns ≤ length around
-    → kinds_of (r.variable_in name ns) (record { focus = focus; bound = a ∷ around }) ≡ kinds_of (r.variable_in name ns) (record { focus = focus; bound = around })
+    → kinds_of (r.variable_in name ns) (record { focus = focus; bound = a ∷ around }) ≡ kinds_of (r.variable_in name ns)
+    (record { focus = focus; bound = around })
 behind_others name [] focus a around h = refl
 behind_others name (inner ∷ ns) focus a around h = go (bytes_eq name inner) (not_there) (behind_others name ns focus a around (grind (arith, nat_tests)))
   where
@@ -58,18 +60,23 @@ behind_others name (inner ∷ ns) focus a around h = go (bytes_eq name inner) (n
     not_there = grind (arith, nat_tests)
 
     go : (t : Bool) → (length ns == length around) ≡ false
-        → kinds_of (r.variable_in name ns) (record { focus = focus; bound = a ∷ around }) ≡ kinds_of (r.variable_in name ns) (record { focus = focus; bound = around })
+        → kinds_of (r.variable_in name ns) (record { focus = focus; bound = a ∷ around }) ≡ kinds_of (r.variable_in name ns)
+        (record { focus = focus; bound = around })
         → kinds_of (elim t as (λ _. Exp) [ true ↦ x.variable (length ns) | false ↦ r.variable_in name ns ]) (record { focus = focus; bound = a ∷ around })
         ≡ kinds_of (elim t as (λ _. Exp) [ true ↦ x.variable (length ns) | false ↦ r.variable_in name ns ]) (record { focus = focus; bound = around })
     go true e q = ap (λ t. elim t as (λ _. Kinds) [ true ↦ a | false ↦ kinds_at (length ns) around ]) e
     go false e q = q
 
-declared_kinds : (name : List ℕ) (variables : List (List ℕ)) → j.kinds_or_all (j.variable_kinds name (map (λ name. (name, kinds.all_kinds)) variables)) ≡ kinds.all_kinds
+declared_kinds : (name : List ℕ) (variables : List (List ℕ)) →
+    j.kinds_or_all (j.variable_kinds name (map (λ name. (name, kinds.all_kinds)) variables)) ≡ kinds.all_kinds
 declared_kinds name [] = refl
 declared_kinds name (variable ∷ variables) = go (bytes_eq name variable) (declared_kinds name variables)
   where
     go : (t : Bool) → j.kinds_or_all (j.variable_kinds name (map (λ name. (name, kinds.all_kinds)) variables)) ≡ kinds.all_kinds
-        → j.kinds_or_all (elim t as (λ _. Option Kinds) [ true ↦ Some kinds.all_kinds | false ↦ j.variable_kinds name (map (λ name. (name, kinds.all_kinds)) variables) ]) ≡ kinds.all_kinds
+        → j.kinds_or_all (elim t as (λ _. Option Kinds) [
+          | true ↦ Some kinds.all_kinds
+          | false ↦ j.variable_kinds name (map (λ name. (name, kinds.all_kinds)) variables)
+        ]) ≡ kinds.all_kinds
     go true e = refl
     go false e = e
 
@@ -92,15 +99,21 @@ variable_within name (variable ∷ bound) focus variables = go (bytes_eq name va
     here : (length (names bound) == length others) ≡ true
     here = subst (λ count. (length (names bound) == count) ≡ true) (same_count bound) (equal_itself (length (names bound)))
 
-    behind : kinds_of (r.variable_in name (names bound)) (record { focus = focus; bound = variable.1 ∷ others }) ≡ kinds_of (r.variable_in name (names bound)) (record { focus = focus; bound = others })
+    behind : kinds_of (r.variable_in name (names bound)) (record { focus = focus; bound = variable.1 ∷ others }) ≡ kinds_of (r.variable_in name (names bound))
+        (record { focus = focus; bound = others })
     behind = behind_others name (names bound) focus variable.1 others (grind (arith, same_count bound))
 
     go : (t : Bool) → (length (names bound) == length others) ≡ true
         → Within (kinds_of (r.variable_in name (names bound)) (record { focus = focus; bound = others }))
         (j.kinds_or_all (j.variable_kinds name (bound ++ map (λ name. (name, kinds.all_kinds)) variables)))
-        → Within (kinds_of (elim t as (λ _. Exp) [ true ↦ x.variable (length (names bound)) | false ↦ r.variable_in name (names bound) ]) (record { focus = focus; bound = variable.1 ∷ others }))
-        (j.kinds_or_all (elim t as (λ _. Option Kinds) [ true ↦ Some variable.1 | false ↦ j.variable_kinds name (bound ++ map (λ name. (name, kinds.all_kinds)) variables) ]))
-    go true e h = subst (λ a. Within a variable.1) (sym (ap (λ t. elim t as (λ _. Kinds) [ true ↦ variable.1 | false ↦ kinds_at (length (names bound)) others ]) e)) (w.same variable.1)
+        → Within (kinds_of (elim t as (λ _. Exp) [ true ↦ x.variable (length (names bound)) | false ↦ r.variable_in name (names bound) ])
+        (record { focus = focus; bound = variable.1 ∷ others }))
+        (j.kinds_or_all (elim t as (λ _. Option Kinds) [
+          | true ↦ Some variable.1
+          | false ↦ j.variable_kinds name (bound ++ map (λ name. (name, kinds.all_kinds)) variables)
+        ]))
+    go true e h = subst (λ a. Within a variable.1)
+        (sym (ap (λ t. elim t as (λ _. Kinds) [ true ↦ variable.1 | false ↦ kinds_at (length (names bound)) others ]) e)) (w.same variable.1)
     go false e h = subst (λ a. Within a (j.kinds_or_all (j.variable_kinds name (bound ++ map (λ name. (name, kinds.all_kinds)) variables)))) (sym behind) h
 
 -- Expressions without parts
@@ -119,13 +132,15 @@ leaf_within : (env : Environment) (bound : Bound) (leaf : Leaf) → AreInScope b
     → Within (kinds_of (r.leaf_of env.declared (names bound) leaf) (expected env bound)) (j.leaf_kinds env leaf)
 leaf_within env bound (l.Literal s) h = w.same kinds.strings
 leaf_within env bound (l.Number number) h = w.same kinds.numbers
-leaf_within env bound (l.Variable name) h = subst (λ variables. Within (kinds_of (r.variable_in (written_name name) (names bound)) (expected env bound)) (j.kinds_or_all (j.variable_kinds (written_name name) variables)))
+leaf_within env bound (l.Variable name) h = subst (λ variables. Within (kinds_of (r.variable_in (written_name name) (names bound)) (expected env bound))
+    (j.kinds_or_all (j.variable_kinds (written_name name) variables)))
     (sym h) (variable_within (written_name name) bound env.focus env.declared.variables)
 leaf_within env bound l.Context h = w.same env.focus
 leaf_within env bound l.Parent h = w.same kinds.nodes
 leaf_within env bound l.Empty h = w.same kinds.no_kinds
 leaf_within env bound l.Root h = w.same kinds.nodes
-leaf_within env bound (l.Called name) h = called_within (function_called env.declared name) x.no_more (expected env bound) kinds.no_kinds (w.same kinds.no_kinds)
+leaf_within env bound (l.Called name) h = called_within (function_called env.declared name) x.no_more (expected env bound) kinds.no_kinds
+    (w.same kinds.no_kinds)
 leaf_within env bound (l.Step form test) h = step_within (r.axis_of form test) (r.test_of env.declared test) (expected env bound)
 
 -- Parts: those of an expression beside those of its tree, with what leads to them
@@ -149,7 +164,8 @@ names_behind : (label : Label) (a : Kinds) (bound : Bound) → r.names_behind la
 names_behind (k.Binding lead name) a bound = refl
 names_behind _ a bound = refl
 
-scope_behind : (form : Form) (label : Label) (a : Kinds) (env : Environment) (bound : Bound) → AreInScope bound env → AreInScope (j.variables_behind label a bound) (j.behind form label a env)
+scope_behind : (form : Form) (label : Label) (a : Kinds) (env : Environment) (bound : Bound) → AreInScope bound env →
+    AreInScope (j.variables_behind label a bound) (j.behind form label a env)
 scope_behind form (k.Binding lead name) a env bound h = ap (λ variables. (written_name name, a) ∷ variables) h
 scope_behind form _ a env bound h = h
 
@@ -188,7 +204,8 @@ and_kinds : (operator : Operator) (e f : Exp) (n : Expected) → g.joins p.And (
 and_kinds o.And e f n h = refl
 and_kinds _ e f n h = absurd (false≢true h)
 
-comparison_kinds : (operator : Operator) (e f : Exp) (n : Expected) → g.joins p.Comparison (k.Link operator) ≡ true → kinds_of (r.linked_by operator e f) n ≡ kinds.booleans
+comparison_kinds : (operator : Operator) (e f : Exp) (n : Expected) → g.joins p.Comparison (k.Link operator) ≡ true →
+    kinds_of (r.linked_by operator e f) n ≡ kinds.booleans
 comparison_kinds o.Equal e f n h = refl
 comparison_kinds o.NotEqual e f n h = refl
 comparison_kinds o.Less e f n h = refl
@@ -203,7 +220,8 @@ comparison_kinds o.Gt e f n h = refl
 comparison_kinds o.Ge e f n h = refl
 comparison_kinds _ e f n h = absurd (false≢true h)
 
-range_kinds : (operator : Operator) (e f : Exp) (n : Expected) → g.joins p.Range (k.Link operator) ≡ true → kinds_of (r.linked_by operator e f) n ≡ kinds.numbers
+range_kinds : (operator : Operator) (e f : Exp) (n : Expected) → g.joins p.Range (k.Link operator) ≡ true →
+    kinds_of (r.linked_by operator e f) n ≡ kinds.numbers
 range_kinds o.To e f n h = refl
 range_kinds _ e f n h = absurd (false≢true h)
 
@@ -212,7 +230,8 @@ sum_kinds o.Plus e f n h = refl
 sum_kinds o.Minus e f n h = refl
 sum_kinds _ e f n h = absurd (false≢true h)
 
-product_kinds : (operator : Operator) (e f : Exp) (n : Expected) → g.joins p.Product (k.Link operator) ≡ true → kinds_of (r.linked_by operator e f) n ≡ kinds.numbers
+product_kinds : (operator : Operator) (e f : Exp) (n : Expected) → g.joins p.Product (k.Link operator) ≡ true →
+    kinds_of (r.linked_by operator e f) n ≡ kinds.numbers
 product_kinds o.Times e f n h = refl
 product_kinds o.Div e f n h = refl
 product_kinds o.Idiv e f n h = refl
@@ -224,17 +243,22 @@ union_kinds o.Bar e f n h = refl
 union_kinds o.Union e f n h = refl
 union_kinds _ e f n h = absurd (false≢true h)
 
-intersection_kinds : (operator : Operator) (e f : Exp) (n : Expected) → g.joins p.Intersection (k.Link operator) ≡ true → kinds_of (r.linked_by operator e f) n ≡ kinds.nodes
+intersection_kinds : (operator : Operator) (e f : Exp) (n : Expected) → g.joins p.Intersection (k.Link operator) ≡ true →
+    kinds_of (r.linked_by operator e f) n ≡ kinds.nodes
 intersection_kinds o.Intersect e f n h = refl
 intersection_kinds o.Except e f n h = refl
 intersection_kinds _ e f n h = absurd (false≢true h)
 
 chained_kinds : (production : Production) (a : Kinds) (n : Expected) → g.joins production k.Comma ≡ false
     → ((operator : Operator) (e f : Exp) → g.joins production (k.Link operator) ≡ true → kinds_of (r.linked_by operator e f) n ≡ a)
-    → (e : Exp) (before : Label) (part : Operand) (es : List Operand) → Follow (m.Chain production) (Some before) (part ∷ es) → kinds_of (r.chained_on e (part ∷ es)) n ≡ a
-chained_kinds production a n comma is e before (k.Link operator, y) [] h = is operator e y ((and_parts (g.joins production (k.Link operator)) (not (g.is_single production) || g.is_first before) h.0).0)
-chained_kinds production a n comma is e before (k.Link operator, y) (next ∷ es) h = chained_kinds production a n comma is (r.linked_by operator e y) (k.Link operator) next es h.1
-chained_kinds production a n comma is e before (k.Comma, y) es h = absurd (false≢true (sym comma ∙ (and_parts (g.joins production k.Comma) (not (g.is_single production) || g.is_first before) h.0).0))
+    → (e : Exp) (before : Label) (part : Operand) (es : List Operand) → Follow (m.Chain production) (Some before) (part ∷ es) →
+    kinds_of (r.chained_on e (part ∷ es)) n ≡ a
+chained_kinds production a n comma is e before (k.Link operator, y) [] h =
+    is operator e y ((and_parts (g.joins production (k.Link operator)) (not (g.is_single production) || g.is_first before) h.0).0)
+chained_kinds production a n comma is e before (k.Link operator, y) (next ∷ es) h =
+    chained_kinds production a n comma is (r.linked_by operator e y) (k.Link operator) next es h.1
+chained_kinds production a n comma is e before (k.Comma, y) es h =
+    absurd (false≢true (sym comma ∙ (and_parts (g.joins production k.Comma) (not (g.is_single production) || g.is_first before) h.0).0))
 chained_kinds production a n comma is e before (label, y) es h = absurd (false≢true h.0)
 
 chain_kinds : (production : Production) (a : Kinds) (n : Expected) → g.is_path production ≡ false → g.joins production k.Comma ≡ false
@@ -243,12 +267,14 @@ chain_kinds : (production : Production) (a : Kinds) (n : Expected) → g.is_path
 chain_kinds production a n path comma is [] h = absurd (false≢true h)
 chain_kinds production a n path comma is ((k.First, e) ∷ []) h = absurd (false≢true h.1)
 chain_kinds production a n path comma is ((k.First, e) ∷ (part ∷ es)) h = chained_kinds production a n comma is e k.First part es h.1
-chain_kinds production a n path comma is ((k.Link operator, e) ∷ es) h = absurd (false≢true (sym path ∙ (and_parts (g.is_path production) (g.joins production (k.Link operator)) h.0).0))
+chain_kinds production a n path comma is ((k.Link operator, e) ∷ es) h =
+    absurd (false≢true (sym path ∙ (and_parts (g.is_path production) (g.joins production (k.Link operator)) h.0).0))
 chain_kinds production a n path comma is ((label, e) ∷ es) h = absurd (false≢true h.0)
 
 -- Paths
 
-path_kinds : (operator : Operator) (e f : Exp) (n : Expected) → g.joins p.Path (k.Link operator) ≡ true → kinds_of (r.linked_by operator e f) n ≡ kinds_of f (record n { focus = kinds.nodes })
+path_kinds : (operator : Operator) (e f : Exp) (n : Expected) → g.joins p.Path (k.Link operator) ≡ true →
+    kinds_of (r.linked_by operator e f) n ≡ kinds_of f (record n { focus = kinds.nodes })
 path_kinds o.Slash e f n h = refl
 path_kinds o.DoubleSlash e f n h = refl
 path_kinds _ e f n h = absurd (false≢true h)
@@ -269,26 +295,31 @@ rooted_within : {env : Environment} {bound : Bound} (operator : Operator) (y : E
 rooted_within {env} {bound} operator y d es others v q h f = path_within (r.linked_by operator x.the_root y) d (k.Link operator) q f
     (subst (λ a. Within a d) (sym (path_kinds operator x.the_root y (expected env bound) h)) v)
 
-path_chain_within : {env : Environment} {bound : Bound} {es : List Operand} {others : List Part} → Parted (m.Chain p.Path) env bound es others → Follow (m.Chain p.Path) None es
+path_chain_within : {env : Environment} {bound : Bound} {es : List Operand} {others : List Part} → Parted (m.Chain p.Path) env bound es others →
+    Follow (m.Chain p.Path) None es
     → Within (kinds_of (r.chained es) (expected env bound)) (j.last_kinds others)
 path_chain_within no_part h = absurd (false≢true h)
 path_chain_within (a_part (k.Link operator) y d es others v q) h = rooted_within operator y d es others v q h.0 h.1
 path_chain_within (a_part k.First y d es others v q) h = path_within y d k.First q h.1 v
 path_chain_within (a_part _ y d es others v q) h = absurd (false≢true h.0)
 
-sequence_chain_within : {env : Environment} {bound : Bound} {es : List Operand} {others : List Part} → Parted (m.Chain p.Sequence) env bound es others → Follow (m.Chain p.Sequence) None es
+sequence_chain_within : {env : Environment} {bound : Bound} {es : List Operand} {others : List Part} → Parted (m.Chain p.Sequence) env bound es others →
+    Follow (m.Chain p.Sequence) None es
     → Within (kinds_of (r.chained es) (expected env bound)) (members others)
 sequence_chain_within no_part h = absurd (false≢true h)
 sequence_chain_within (a_part k.First y d es others v q) h = sequence_within y d k.First q h.1 v
 sequence_chain_within (a_part _ y d es others v q) h = absurd (false≢true h.0)
 
-fixed_within : (production : Production) (a : Kinds) (env : Environment) (bound : Bound) (es : List Operand) → g.is_path production ≡ false → g.joins production k.Comma ≡ false
+fixed_within : (production : Production) (a : Kinds) (env : Environment) (bound : Bound) (es : List Operand) → g.is_path production ≡ false →
+    g.joins production k.Comma ≡ false
     → ((operator : Operator) (e f : Exp) (n : Expected) → g.joins production (k.Link operator) ≡ true → kinds_of (r.linked_by operator e f) n ≡ a)
     → Follow (m.Chain production) None es → Within (kinds_of (r.chained es) (expected env bound)) a
 fixed_within production a env bound es path comma is h =
-    subst (λ d. Within d a) (sym (chain_kinds production a (expected env bound) path comma (λ operator e f. is operator e f (expected env bound)) es h)) (w.same a)
+    subst (λ d. Within d a) (sym (chain_kinds production a (expected env bound) path comma (λ operator e f. is operator e f (expected env bound)) es h))
+    (w.same a)
 
-chain_within : (production : Production) (env : Environment) (bound : Bound) (es : List Operand) (others : List Part) → Parted (m.Chain production) env bound es others → Follow (m.Chain production) None es
+chain_within : (production : Production) (env : Environment) (bound : Bound) (es : List Operand) (others : List Part) →
+    Parted (m.Chain production) env bound es others → Follow (m.Chain production) None es
     → Within (kinds_of (r.chained es) (expected env bound)) (j.chain_kinds production others)
 chain_within p.Sequence env bound es others q h = sequence_chain_within q h
 chain_within p.Or env bound es others q h = fixed_within p.Or kinds.booleans env bound es refl refl or_kinds h
@@ -303,7 +334,8 @@ chain_within p.Path env bound es others q h = path_chain_within q h
 
 -- Variables of `for`, `some` and `every`
 
-for_within : {env : Environment} {bound : Bound} {es : List Operand} {others : List Part} (before : Option Label) → Parted (m.Bound b.For) env bound es others → Follow (m.Bound b.For) before es
+for_within : {env : Environment} {bound : Bound} {es : List Operand} {others : List Part} (before : Option Label) → Parted (m.Bound b.For) env bound es others →
+    Follow (m.Bound b.For) before es
     → Within (kinds_of (r.bound_all b.For es) (expected env bound)) (j.last_kinds others)
 for_within before no_part h = w.same kinds.no_kinds
 for_within before (a_part label y d [] [] v no_part) h = v
@@ -317,14 +349,17 @@ for_within before (a_part label y d [] (other ∷ others) v q) h = elim q [ ]
 for_within before (a_part label y d (next ∷ es) [] v q) h = elim q [ ]
 
 -- some binding stands before what it is for
-tests_within : (binder : Binder) (n : Expected) → ((e f : Exp) → kinds_of (x.bound binder e f) n ≡ kinds.booleans) → (es : List Operand) → Follow (m.Bound binder) None es
+tests_within : (binder : Binder) (n : Expected) → ((e f : Exp) → kinds_of (x.bound binder e f) n ≡ kinds.booleans) → (es : List Operand) →
+    Follow (m.Bound binder) None es
     → Within (kinds_of (r.bound_all binder es) n) kinds.booleans
 tests_within binder n is [] h = absurd (false≢true h)
 tests_within binder n is ((k.Binding lead name, y) ∷ []) h = absurd (false≢true h.1)
-tests_within binder n is ((k.Binding lead name, y) ∷ (next ∷ es)) h = subst (λ a. Within a kinds.booleans) (sym (is y (r.bound_all binder (next ∷ es)))) (w.same kinds.booleans)
+tests_within binder n is ((k.Binding lead name, y) ∷ (next ∷ es)) h = subst (λ a. Within a kinds.booleans) (sym (is y (r.bound_all binder (next ∷ es))))
+    (w.same kinds.booleans)
 tests_within binder n is ((_, y) ∷ es) h = absurd (false≢true h.0)
 
-bound_all_within : (binder : Binder) (env : Environment) (bound : Bound) (es : List Operand) (others : List Part) → Parted (m.Bound binder) env bound es others → Follow (m.Bound binder) None es
+bound_all_within : (binder : Binder) (env : Environment) (bound : Bound) (es : List Operand) (others : List Part) → Parted (m.Bound binder) env bound es others
+    → Follow (m.Bound binder) None es
     → Within (kinds_of (r.bound_all binder es) (expected env bound)) (j.bound_kinds binder others)
 bound_all_within b.For env bound es others q h = for_within None q h
 bound_all_within b.Some env bound es others q h = tests_within b.Some (expected env bound) (λ e f. refl) es h
@@ -332,12 +367,14 @@ bound_all_within b.Every env bound es others q h = tests_within b.Every (expecte
 
 -- The other forms
 
-third_within : {env : Environment} {bound : Bound} {es : List Operand} {others : List Part} (condition second : Operand) (a : Kinds) → Parted m.Conditional env bound es others
+third_within : {env : Environment} {bound : Bound} {es : List Operand} {others : List Part} (condition second : Operand) (a : Kinds) →
+    Parted m.Conditional env bound es others
     → Follow m.Conditional (Some k.Then) es → Within (kinds_of second.1 (expected env bound)) a
     → Within (kinds_of (r.chosen_of (condition ∷ (second ∷ es))) (expected env bound)) (united a (j.branches others))
 third_within condition second a no_part h u = absurd (false≢true h)
 third_within {env} {bound} condition second a (a_part (k.Link operator) y d [] [] v no_part) h u =
-    w.united_within (kinds_of second.1 (expected env bound)) (kinds_of y (expected env bound)) a (united d kinds.no_kinds) u (λ item t. within_left d kinds.no_kinds item (v item t))
+    w.united_within (kinds_of second.1 (expected env bound)) (kinds_of y (expected env bound)) a (united d kinds.no_kinds) u
+    (λ item t. within_left d kinds.no_kinds item (v item t))
 third_within condition second a (a_part (k.Link operator) y d (next ∷ es) (other ∷ others) v q) h u = absurd (false≢true h.1.0)
 third_within condition second a (a_part (k.Link operator) y d [] (other ∷ others) v q) h u = elim q [ ]
 third_within condition second a (a_part (k.Link operator) y d (next ∷ es) [] v q) h u = elim q [ ]
@@ -349,13 +386,15 @@ second_within condition no_part h = absurd (false≢true h)
 second_within condition (a_part k.Then y d es others v q) h = third_within condition (k.Then, y) d q h.1 v
 second_within condition (a_part _ y d es others v q) h = absurd (false≢true h.0)
 
-conditional_within : {env : Environment} {bound : Bound} {es : List Operand} {others : List Part} → Parted m.Conditional env bound es others → Follow m.Conditional None es
+conditional_within : {env : Environment} {bound : Bound} {es : List Operand} {others : List Part} → Parted m.Conditional env bound es others →
+    Follow m.Conditional None es
     → Within (kinds_of (r.chosen_of es) (expected env bound)) (j.branches others)
 conditional_within no_part h = absurd (false≢true h)
 conditional_within (a_part k.Condition y d es others v q) h = second_within (k.Condition, y) q h.1
 conditional_within (a_part _ y d es others v q) h = absurd (false≢true h.0)
 
-cast_within : (word : CastWord) (type : Resolved) (optional : Bool) (e : Exp) (n : Expected) → Within (kinds_of (r.cast_of word type optional e) n) (j.cast_kinds word type)
+cast_within : (word : CastWord) (type : Resolved) (optional : Bool) (e : Exp) (n : Expected) →
+    Within (kinds_of (r.cast_of word type optional e) n) (j.cast_kinds word type)
 cast_within c.Cast (n.Known function) optional e m = λ item h. h
 cast_within c.Castable (n.Known function) optional e m = λ item h. h
 cast_within c.Cast n.Unknown optional e m = w.nothing_within kinds.all_kinds
@@ -391,10 +430,12 @@ first_within (a_part label y d es others v q) = v
 call_within : (d : Declared) {env : Environment} {bound : Bound} {es : List Operand} {others : List Part} → Parted m.Call env bound es others
     → Within (kinds_of (r.called_of d es) (expected env bound)) (j.call_kinds d others)
 call_within d no_part = w.nothing_within kinds.all_kinds
-call_within d {env} {bound} (a_part (k.Calling name) y a es others v q) = called_within (function_called d name) (r.arguments_of ((k.Calling name, y) ∷ es)) (expected env bound) a v
+call_within d {env} {bound} (a_part (k.Calling name) y a es others v q) = called_within (function_called d name) (r.arguments_of ((k.Calling name, y) ∷ es))
+    (expected env bound) a v
 call_within d (a_part _ y a es others v q) = w.nothing_within kinds.all_kinds
 
-form_within : (d : Declared) (form : Form) (is_step : Bool) (env : Environment) (bound : Bound) (es : List Operand) (others : List Part) → Parted form env bound es others → Follow form None es
+form_within : (d : Declared) (form : Form) (is_step : Bool) (env : Environment) (bound : Bound) (es : List Operand) (others : List Part) →
+    Parted form env bound es others → Follow form None es
     → Within (kinds_of (r.combined d form is_step es) (expected env bound)) (j.form_kinds d form others)
 form_within d (m.Chain production) is_step env bound es others q h = chain_within production env bound es others q h
 form_within d (m.Bound binder) is_step env bound es others q h = bound_all_within binder env bound es others q h
@@ -407,7 +448,8 @@ form_within d m.Call is_step env bound es others q h = call_within d q
 
 -- Trees
 
-pub follow : (d : Declared) (names : List (List ℕ)) (form : Form) (before : Option Label) (parts : Parts) → g.Runs form before parts → Follow form before (r.operands d names parts)
+pub follow : (d : Declared) (names : List (List ℕ)) (form : Form) (before : Option Label) (parts : Parts) → g.Runs form before parts →
+    Follow form before (r.operands d names parts)
 unfolding g.Runs g.Grammatical r.operands r.resolved
 follow d names form before g.none h = h
 follow d names form before (g.more label tree parts) h = (h.0, follow d (r.names_behind label names) form (Some label) parts h.3)
@@ -417,14 +459,16 @@ mutual
 
   pub tree_within : (env : Environment) (bound : Bound) (token : ℕ) (tree : Tree) → g.Grammatical tree → AreInScope bound env
       → Within (kinds_of (r.resolved env.declared (names bound) tree) (expected env bound)) (j.judged env token tree).kinds
-  tree_within env bound token (g.leaf leaf) h scope = if_within (kinds_of (r.leaf_of env.declared (names bound) leaf) (expected env bound)) (j.leaf_kinds env leaf) _ (leaf_within env bound leaf scope)
+  tree_within env bound token (g.leaf leaf) h scope = if_within (kinds_of (r.leaf_of env.declared (names bound) leaf) (expected env bound))
+      (j.leaf_kinds env leaf) _ (leaf_within env bound leaf scope)
   tree_within env bound token (g.node form parts) h scope =
       if_within (kinds_of (r.combined env.declared form (r.begins_with_step parts) (r.operands env.declared (names bound) parts)) (expected env bound))
       (j.form_kinds env.declared form (j.operands env form token parts).kinds) _
       (form_within env.declared form (r.begins_with_step parts) env bound (r.operands env.declared (names bound) parts) (j.operands env form token parts).kinds
       (parted form env bound token None parts h scope) (follow env.declared (names bound) form None parts h))
 
-  parted : (form : Form) (env : Environment) (bound : Bound) (token : ℕ) (before : Option Label) (parts : Parts) → g.Runs form before parts → AreInScope bound env
+  parted : (form : Form) (env : Environment) (bound : Bound) (token : ℕ) (before : Option Label) (parts : Parts) → g.Runs form before parts →
+      AreInScope bound env
       → Parted form env bound (r.operands env.declared (names bound) parts) (j.operands env form token parts).kinds
   parted form env bound token before g.none h scope = no_part
   parted form env bound token before (g.more label tree parts) h scope =
@@ -433,6 +477,8 @@ mutual
       a_part label (r.resolved env.declared (names bound) tree) a (r.operands env.declared (r.names_behind label (names bound)) parts)
       (j.operands (j.behind form label a env) form (start + length (g.written tree)) parts).kinds
       (tree_within (j.inside form label env) bound start tree h.2 scope)
-      (subst (λ ns. Parted form (j.behind form label a env) (j.variables_behind label a bound) (r.operands env.declared ns parts) (j.operands (j.behind form label a env) form (start + length (g.written tree)) parts).kinds)
+      (subst (λ ns. Parted form (j.behind form label a env) (j.variables_behind label a bound) (r.operands env.declared ns parts)
+      (j.operands (j.behind form label a env) form (start + length (g.written tree)) parts).kinds)
       (sym (names_behind label a bound))
-      (parted form (j.behind form label a env) (j.variables_behind label a bound) (start + length (g.written tree)) (Some label) parts h.3 (scope_behind form label a env bound scope)))
+      (parted form (j.behind form label a env) (j.variables_behind label a bound) (start + length (g.written tree)) (Some label) parts h.3
+      (scope_behind form label a env bound scope)))

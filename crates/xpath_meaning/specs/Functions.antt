@@ -17,7 +17,8 @@ use Rattle.xpath_meaning.specs.Reading.{type_called}
 use Rattle.xpath_meaning.specs.Numbers.{number_of, at_one, in_range, number, counted}
 use Rattle.xpath_meaning.specs.Comparing.{boolean}
 use Rattle.xpath_meaning.specs.Collections.{all_taken, sum, least, greatest, distinct}
-use Rattle.xpath_meaning.specs.Texts.{begins, contains, ends, finds, before, behind, normalised, upper, lower, translated, from_place, between_places, with_separator}
+use Rattle.xpath_meaning.specs.Texts.{begins, contains, ends, finds, before, behind, normalised, upper, lower, translated, from_place, between_places}
+use Rattle.xpath_meaning.specs.Texts.{with_separator}
 
 -- Arguments
 

@@ -1,7 +1,8 @@
 -- Arithmetic, signs and ranges (XPath 2.0, sections 3.4 and 3.3.1), at atomised operands. Deviation: all numbers are
 -- decimals of at most 18 digits on each side of the point; sums are exact, products and quotients are cut towards zero
 -- behind 18 digits.
-use Rattle.std.specs.Prelude.{ℕ, zero, suc, ◌+◌, ◌/◌, ◌%◌, ◌*◌, Bool, true, false, List, [], ◌∷◌, Result, Ok, Err, ℤ, pos, neg_ℤ, ◌+ℤ◌, ◌-ℤ◌, ◌==◌, nat_lt, unsigned_abs}
+use Rattle.std.specs.Prelude.{ℕ, zero, suc, ◌+◌, ◌/◌, ◌%◌, ◌*◌, Bool, true, false, List, [], ◌∷◌, Result, Ok, Err, ℤ, pos, neg_ℤ, ◌+ℤ◌, ◌-ℤ◌, ◌==◌, nat_lt}
+use Rattle.std.specs.Prelude.{unsigned_abs}
 use Rattle.std.specs.Int.{is_negative}
 use Rattle.inv_decimal.specs.Number.{unit}
 use Rattle.inv_decimal.specs.Arithmetic as d

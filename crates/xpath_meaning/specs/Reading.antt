@@ -1,6 +1,7 @@
 -- How texts are read as values of a type (Functions and Operators, section 17.1.1; XML Schema Part 2, section 3.2), and
 -- the casts.
-use Rattle.std.specs.Prelude.{ℕ, Bool, true, false, not, ◌||◌, List, [], ◌∷◌, reverse, Option, Some, None, Result, Ok, Err, codes, ℤ, pos, ◌*ℤ◌, int_div, unsigned_abs}
+use Rattle.std.specs.Prelude.{ℕ, Bool, true, false, not, ◌||◌, List, [], ◌∷◌, reverse, Option, Some, None, Result, Ok, Err, codes, ℤ, pos, ◌*ℤ◌, int_div}
+use Rattle.std.specs.Prelude.{unsigned_abs}
 use Rattle.std.specs.List.{list_any}
 use Rattle.std.specs.Str.{bytes_eq}
 use Rattle.inv_base.specs.Characters.{is_white_space}

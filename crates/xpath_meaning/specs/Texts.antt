@@ -1,5 +1,6 @@
 -- Functions on texts (Functions and Operators, sections 7.4 and 7.5), over lists of characters by their code points.
-use Rattle.std.specs.Prelude.{ℕ, suc, ◌+◌, ◌-◌, Bool, true, false, ◌&&◌, List, [], ◌∷◌, ◌++◌, length, drop, take, Option, Some, None, ℤ, pos, ◌+ℤ◌, int_lt, int_le, nat_le, ◌==◌}
+use Rattle.std.specs.Prelude.{ℕ, suc, ◌+◌, ◌-◌, Bool, true, false, ◌&&◌, List, [], ◌∷◌, ◌++◌, length, drop, take, Option, Some, None, ℤ, pos, ◌+ℤ◌, int_lt}
+use Rattle.std.specs.Prelude.{int_le, nat_le, ◌==◌}
 use Rattle.std.specs.Int.{int_div_euclid}
 use Rattle.std.specs.List.{flat_map}
 use Rattle.std.specs.Str.{bytes_eq}

@@ -22,7 +22,12 @@ joined a b = record { position = a.position || b.position; root = a.root || b.ro
 
 -- A call without arguments may use the focus.
 abbrev pub called_uses : Function → Exps → Uses → Uses
-called_uses function x.no_more uses = record { position = (function_uses function).position; root = (function_uses function).root; item = (function_uses function).item }
+called_uses function x.no_more uses = record {
+  position = (function_uses function).position;
+  root = (function_uses function).root;
+  item =
+      (function_uses function).item;
+}
 called_uses function (x.argument e arguments) uses = uses
 
 abbrev mutual

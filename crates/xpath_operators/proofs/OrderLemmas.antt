@@ -10,15 +10,18 @@ use Rattle.xpath_meaning.specs.Values.{then_}
 use Rattle.xpath_meaning.specs.Comparing.{compare, made_alike, is_general, ordering, holds}
 use Rattle.xpath_operators.specs.Orders.{order_by, general_order}
 
-pub then_assoc : {X Y Z : Type 0} (r : Result X DynError) (f : X → Result Y DynError) (g : Y → Result Z DynError) → then_ r (λ x. then_ (f x) g) ≡ then_ (then_ r f) g
+pub then_assoc : {X Y Z : Type 0} (r : Result X DynError) (f : X → Result Y DynError) (g : Y → Result Z DynError) →
+    then_ r (λ x. then_ (f x) g) ≡ then_ (then_ r f) g
 then_assoc (Ok x) f g = refl
 then_assoc (Err x) f g = refl
 
-by_order : (b : Bool) (op : Op) (x y : Item) → then_ (made_alike b x y) (λ pair. then_ (ordering pair.0 pair.1) (λ order. Ok (holds op order))) ≡ then_ (order_by b x y) (λ order. Ok (holds op order))
+by_order : (b : Bool) (op : Op) (x y : Item) → then_ (made_alike b x y) (λ pair. then_ (ordering pair.0 pair.1) (λ order. Ok (holds op order))) ≡ then_
+    (order_by b x y) (λ order. Ok (holds op order))
 by_order true op x y = then_assoc (made_alike true x y) (λ pair. ordering pair.0 pair.1) (λ order. Ok (holds op order))
 by_order false op x y = refl
 
-pub compare_is : (op : Op) (x y : Item) (r : Result Ordering DynError) → r ≡ order_by (is_general op) x y → then_ r (λ order. Ok (holds op order)) ≡ compare op x y
+pub compare_is : (op : Op) (x y : Item) (r : Result Ordering DynError) → r ≡ order_by (is_general op) x y →
+    then_ r (λ order. Ok (holds op order)) ≡ compare op x y
 unfolding compare
 compare_is op x y r e = ap (λ s. then_ s (λ order. Ok (holds op order))) e ∙ sym (by_order (is_general op) op x y)
 

@@ -1,5 +1,6 @@
 -- Items of one type beside others that are each read as one of that type.
-use Rattle.std.proofs.Common.{◌≡◌, ℕ, ◌<◌, Bool, true, false, List, [], ◌∷◌, length, map, Result, Ok, Err, Some, None, Option, option_map, IfOk, is_ok, refl, ap, sym, ◌∙◌, arith}
+use Rattle.std.proofs.Common.{◌≡◌, ℕ, ◌<◌, Bool, true, false, List, [], ◌∷◌, length, map, Result, Ok, Err, Some, None, Option, option_map, IfOk, is_ok, refl}
+use Rattle.std.proofs.Common.{ap, sym, ◌∙◌, arith}
 use Rattle.std.specs.Prelude.{◌||◌, ◌&&◌, ◌==◌, if◌then◌else◌}
 use Rattle.std.specs.List.{list_all}
 use Rattle.std.proofs.lemmas.Bool.{false≢true, and_parts, eqb-true}
@@ -72,10 +73,12 @@ pairs_read op other x g t (y ∷ ys) (a ∷ read) h =
     ap (λ r. then_ r (λ found. elim found [ true ↦ Ok true | false ↦ any_of (λ y. compare op x y) ys ])) (pair_read op other x y a g t (ap (first_or (Ok a)) h))
     ∙ ap (λ r. then_ (compare op x a) (λ found. elim found [ true ↦ Ok true | false ↦ r ])) (pairs_read op other x g t ys read (ap others h))
 
-all_pairs_read : (op : Op) (other : Item) (xs ys read : List Item) → is_general op ≡ true → list_all (is_typed_as (rank other)) xs ≡ true → map (row other) ys ≡ map Ok read
+all_pairs_read : (op : Op) (other : Item) (xs ys read : List Item) → is_general op ≡ true → list_all (is_typed_as (rank other)) xs ≡ true →
+    map (row other) ys ≡ map Ok read
     → some_pair op xs ys ≡ some_pair op xs read
 all_pairs_read op other xs ys read g t h =
-    any_alike (λ x. any_of (λ y. compare op x y) ys) (λ x. any_of (λ y. compare op x y) read) (is_typed_as (rank other)) (λ x typed. pairs_read op other x g typed ys read h) xs t
+    any_alike (λ x. any_of (λ y. compare op x y) ys) (λ x. any_of (λ y. compare op x y) read) (is_typed_as (rank other))
+    (λ x typed. pairs_read op other x g typed ys read h) xs t
 
 all_typed : (other : Item) (ys read : List Item) → map (row other) ys ≡ map Ok read → list_all (is_typed_as (rank other)) read ≡ true
 all_typed other ys [] h = refl
@@ -93,11 +96,13 @@ read_comparable other xs (y ∷ ys) (a ∷ read) l h =
     let same : rank a ≡ rank other = eqb-true (rank a) (rank other) (and_parts (is_typed a) (rank a == rank other) first.0).1 in
     ap (λ b. b || (list_all is_textual xs && list_all is_textual (a ∷ read))) (ap (λ k. list_all (is_typed_as k) (a ∷ read)) same ∙ typed)
 
-pub alike_read : (other : Item) (xs ys : List Item) (read : Option (List Item)) → list_all (is_typed_as (rank other)) xs ≡ true → 0 < length ys → AreRead other ys read → AreAlike xs ys read
+pub alike_read : (other : Item) (xs ys : List Item) (read : Option (List Item)) → list_all (is_typed_as (rank other)) xs ≡ true → 0 < length ys →
+    AreRead other ys read → AreAlike xs ys read
 alike_read other xs ys None t l h = tt
 alike_read other xs ys (Some read) t l h = (read_comparable other xs ys read l h, λ op g. all_pairs_read op other xs ys read g t h)
 
-pub alike_answered : {V F : Type 0} (items : V → List Item) (other : Item) (xs ys : List Item) (result : Result (Option V) F) → list_all (is_typed_as (rank other)) xs ≡ true → 0 < length ys
+pub alike_answered : {V F : Type 0} (items : V → List Item) (other : Item) (xs ys : List Item) (result : Result (Option V) F) →
+    list_all (is_typed_as (rank other)) xs ≡ true → 0 < length ys
     → IfOk result (λ read. AreRead other ys (option_map items read)) → IfOk result (λ read. AreAlike xs ys (option_map items read))
 alike_answered items other xs ys (Ok read) t l h = alike_read other xs ys (option_map items read) t l h
 alike_answered items other xs ys (Err fault) t l h = h

@@ -1,5 +1,6 @@
 -- Many items beside many others.
-use Rattle.std.proofs.Common.{◌≡◌, ℕ, suc, zero, ◌+◌, ◌<◌, ◌≤◌, Bool, true, false, List, [], ◌∷◌, length, get_or, map, Result, Ok, Err, is_ok, refl, ap, sym, subst, ◌∙◌, arith, ⊎_elim, inl, inr, ◌⊎◌}
+use Rattle.std.proofs.Common.{◌≡◌, ℕ, suc, zero, ◌+◌, ◌<◌, ◌≤◌, Bool, true, false, List, [], ◌∷◌, length, get_or, map, Result, Ok, Err, is_ok, refl, ap, sym}
+use Rattle.std.proofs.Common.{subst, ◌∙◌, arith, ⊎_elim, inl, inr, ◌⊎◌}
 use Rattle.std.specs.Prelude.{◌||◌, ◌&&◌, ◌==◌, cond}
 use Rattle.std.specs.List.{list_any, list_all}
 use Rattle.std.specs.List.Sorted.{IsSorted, IsBinarySearchResult, IsSearchInRange, IsPermutation}
@@ -20,7 +21,8 @@ use Rattle.xpath_meaning.specs.Values.{then_}
 use Rattle.xpath_meaning.specs.Comparing.{compare, holds, any_of, some_pair, is_general, beside, read_beside, made_alike, ordering}
 use Rattle.xpath_meaning.specs.Reading.{read_boolean, read_day, read_number, number_item, boolean_item, day_item}
 use Rattle.xpath_operators.specs.Ranks.{rank, item_cmp, item_cmp_total, has_alike}
-use Rattle.xpath_operators.specs.Rows.{is_typed, is_typed_as, is_textual, are_comparable, of_kind, row, rows, holds_of_some, ranked_cmp, is_in, decides, is_order}
+use Rattle.xpath_operators.specs.Rows.{is_typed, is_typed_as, is_textual, are_comparable, of_kind, row, rows, holds_of_some, ranked_cmp, is_in, decides}
+use Rattle.xpath_operators.specs.Rows.{is_order}
 use Rattle.xpath_operators.specs.declared.ranking.Ranked.{Ranked}
 
 -- ---- searching
@@ -37,7 +39,8 @@ turned x y = ap is_eq (item_cmp_total.antisymm x y) ∙ same (item_cmp y x)
     same Equal = refl
     same Greater = refl
 
-pub searched_is : (ranked : List Ranked) (x : Item) (r : Result ℕ ℕ) → IsSorted ranked_cmp ranked → IsSearchInRange r (length ranked) → IsBinarySearchResult (λ k. item_cmp k.item.now x) ranked r → is_ok r ≡ is_in ranked x
+pub searched_is : (ranked : List Ranked) (x : Item) (r : Result ℕ ℕ) → IsSorted ranked_cmp ranked → IsSearchInRange r (length ranked) →
+    IsBinarySearchResult (λ k. item_cmp k.item.now x) ranked r → is_ok r ≡ is_in ranked x
 searched_is ranked x (Ok k) sorted bound found = go ranked k bound found
   where
     go : (ks : List Ranked) (n : ℕ) → n < length ks → ((d : Ranked) → item_cmp (get_or ks n d).item.now x ≡ Equal) → true ≡ is_in ks x
@@ -55,7 +58,8 @@ any_mapped a [] = refl
 any_mapped a (k ∷ ks) = ap (λ b. is_eq (item_cmp a k.item.now) || b) (any_mapped a ks)
 
 -- what is sorted has the same items
-pub sorted_same : (ks sorted : List Ranked) (items : List Item) (a : Item) → IsPermutation ks sorted → map (λ k. k.item.now) ks ≡ items → is_in sorted a ≡ list_any (λ y. is_eq (item_cmp a y)) items
+pub sorted_same : (ks sorted : List Ranked) (items : List Item) (a : Item) → IsPermutation ks sorted → map (λ k. k.item.now) ks ≡ items →
+    is_in sorted a ≡ list_any (λ y. is_eq (item_cmp a y)) items
 sorted_same ks sorted items a p e =
     sym (list_any-IsPermutation (λ k. is_eq (item_cmp a k.item.now)) ks sorted p) ∙ (any_mapped a ks ∙ ap (list_any (λ y. is_eq (item_cmp a y))) e)
 
@@ -72,7 +76,8 @@ bool_order true false = refl
 bool_order false true = refl
 bool_order false false = refl
 
-pub assoc : {X Y Z : Type 0} (r : Result X DynError) (f : X → Result Y DynError) (g : Y → Result Z DynError) → then_ (then_ r f) g ≡ then_ r (λ x. then_ (f x) g)
+pub assoc : {X Y Z : Type 0} (r : Result X DynError) (f : X → Result Y DynError) (g : Y → Result Z DynError) →
+    then_ (then_ r f) g ≡ then_ r (λ x. then_ (f x) g)
 assoc (Ok x) f g = refl
 assoc (Err x) f g = refl
 
@@ -186,7 +191,8 @@ same_row y z e x =
 
 -- ---- rows
 
-pub any_alike : {X : Type 0} (f g : X → Result Bool DynError) (p : X → Bool) → ((x : X) → p x ≡ true → f x ≡ g x) → (xs : List X) → list_all p xs ≡ true → any_of f xs ≡ any_of g xs
+pub any_alike : {X : Type 0} (f g : X → Result Bool DynError) (p : X → Bool) → ((x : X) → p x ≡ true → f x ≡ g x) → (xs : List X) → list_all p xs ≡ true →
+    any_of f xs ≡ any_of g xs
 any_alike f g p h [] e = refl
 any_alike f g p h (x ∷ xs) e =
     let parts = and_parts (p x) (list_all p xs) e in
@@ -212,7 +218,8 @@ any_ok t [] = refl
 any_ok t (x ∷ xs) = ok_or (t x) (any_of (λ y. Ok (t y)) xs) (list_any t xs) (any_ok t xs)
 
 -- one item beside some, which it is read for once
-row_of_some : (r : Result Item DynError) (t : Item → Item → Bool) (y : Item) (ys : List Item) → any_of (λ z. then_ r (λ a. Ok (t a z))) (y ∷ ys) ≡ then_ r (λ a. Ok (list_any (t a) (y ∷ ys)))
+row_of_some : (r : Result Item DynError) (t : Item → Item → Bool) (y : Item) (ys : List Item) →
+    any_of (λ z. then_ r (λ a. Ok (t a z))) (y ∷ ys) ≡ then_ r (λ a. Ok (list_any (t a) (y ∷ ys)))
 row_of_some (Ok a) t y ys = any_ok (t a) (y ∷ ys)
 row_of_some (Err error) t y ys = refl
 
@@ -237,7 +244,8 @@ text_is_row : (op : Op) (other x y : Item) → is_general op ≡ true → is_tex
 text_is_row op other x y g o p q =
     text_row op x y g p q ∙ ap (λ r. then_ r (held op y)) (same_row y other (textual_rank y q ∙ sym (textual_rank other o)) x)
 
-pair_of_kind : (op : Op) (other : Item) (xs : List Item) (y : Item) (ys : List Item) → is_general op ≡ true → list_all (is_typed_as (rank other)) (y ∷ ys) ≡ true
+pair_of_kind : (op : Op) (other : Item) (xs : List Item) (y : Item) (ys : List Item) → is_general op ≡ true →
+    list_all (is_typed_as (rank other)) (y ∷ ys) ≡ true
     → some_pair op xs (y ∷ ys) ≡ rows other (holds_of_some op (y ∷ ys)) xs
 pair_of_kind op other xs y ys g t = any_same
     (λ x. any_of (λ z. compare op x z) (y ∷ ys)) (λ x. then_ (row other x) (λ a. Ok (holds_of_some op (y ∷ ys) a)))
@@ -245,7 +253,8 @@ pair_of_kind op other xs y ys g t = any_same
     ∙ row_of_some (row other x) (λ a z. holds op (item_cmp a z)) y ys)
     xs
 
-pair_of_texts : (op : Op) (other : Item) (xs : List Item) (y : Item) (ys : List Item) → is_general op ≡ true → is_textual other ≡ true → list_all is_textual xs ≡ true → list_all is_textual (y ∷ ys) ≡ true
+pair_of_texts : (op : Op) (other : Item) (xs : List Item) (y : Item) (ys : List Item) → is_general op ≡ true → is_textual other ≡ true →
+    list_all is_textual xs ≡ true → list_all is_textual (y ∷ ys) ≡ true
     → some_pair op xs (y ∷ ys) ≡ rows other (holds_of_some op (y ∷ ys)) xs
 pair_of_texts op other xs y ys g o p t = any_alike
     (λ x. any_of (λ z. compare op x z) (y ∷ ys)) (λ x. then_ (row other x) (λ a. Ok (holds_of_some op (y ∷ ys) a))) is_textual
@@ -254,7 +263,8 @@ pair_of_texts op other xs y ys g o p t = any_alike
     xs p
 
 -- Comparable sides are compared row by row.
-pub pair_is : (op : Op) (xs : List Item) (y : Item) (ys : List Item) → is_general op ≡ true → are_comparable xs (y ∷ ys) ≡ true → some_pair op xs (y ∷ ys) ≡ rows y (holds_of_some op (y ∷ ys)) xs
+pub pair_is : (op : Op) (xs : List Item) (y : Item) (ys : List Item) → is_general op ≡ true → are_comparable xs (y ∷ ys) ≡ true →
+    some_pair op xs (y ∷ ys) ≡ rows y (holds_of_some op (y ∷ ys)) xs
 pair_is op xs y ys g c = ⊎_elim
     (λ (kind : list_all (is_typed_as (rank y)) (y ∷ ys) ≡ true). pair_of_kind op y xs y ys g kind)
     (λ (texts : (list_all is_textual xs && list_all is_textual (y ∷ ys)) ≡ true).
@@ -268,19 +278,23 @@ all_at p (y ∷ ys) zero d l h = (and_parts (p y) (list_all p ys) h).0
 all_at p (y ∷ ys) (suc k) d l h = all_at p ys k d (omega (arith, l)) (and_parts (p y) (list_all p ys) h).1
 
 -- beside one of the right side
-pub beside_one : (op : Op) (xs : List Item) (y : Item) (ys : List Item) (k : ℕ) (z : Item) → is_general op ≡ true → are_comparable xs (y ∷ ys) ≡ true → k < length (y ∷ ys) → z ≡ get_or (y ∷ ys) k z
+pub beside_one : (op : Op) (xs : List Item) (y : Item) (ys : List Item) (k : ℕ) (z : Item) → is_general op ≡ true → are_comparable xs (y ∷ ys) ≡ true →
+    k < length (y ∷ ys) → z ≡ get_or (y ∷ ys) k z
     → any_of (λ x. compare op x z) xs ≡ rows y (λ a. holds op (item_cmp a z)) xs
 beside_one op xs y ys k z g c l at = ⊎_elim
     (λ (kind : list_all (is_typed_as (rank y)) (y ∷ ys) ≡ true).
-    any_same (λ x. compare op x z) (λ x. then_ (row y x) (held op z)) (λ x. kind_is_row op y x z g (ap (is_typed_as (rank y)) at ∙ all_at (is_typed_as (rank y)) (y ∷ ys) k z l kind)) xs)
+    any_same (λ x. compare op x z) (λ x. then_ (row y x) (held op z))
+    (λ x. kind_is_row op y x z g (ap (is_typed_as (rank y)) at ∙ all_at (is_typed_as (rank y)) (y ∷ ys) k z l kind)) xs)
     (λ (texts : (list_all is_textual xs && list_all is_textual (y ∷ ys)) ≡ true).
     let parts = and_parts (list_all is_textual xs) (list_all is_textual (y ∷ ys)) texts in
     any_alike (λ x. compare op x z) (λ x. then_ (row y x) (held op z)) is_textual
-    (λ x q. text_is_row op y x z g (and_parts (is_textual y) (list_all is_textual ys) parts.1).0 q (ap is_textual at ∙ all_at is_textual (y ∷ ys) k z l parts.1)) xs parts.0)
+    (λ x q. text_is_row op y x z g (and_parts (is_textual y) (list_all is_textual ys) parts.1).0 q
+    (ap is_textual at ∙ all_at is_textual (y ∷ ys) k z l parts.1)) xs parts.0)
     (or_cases (list_all (is_typed_as (rank y)) (y ∷ ys)) (list_all is_textual xs && list_all is_textual (y ∷ ys)) c)
 
 pub rows_alike : (other : Item) (s t : Item → Bool) → ((a : Item) → s a ≡ t a) → (xs : List Item) → rows other s xs ≡ rows other t xs
-rows_alike other s t h xs = any_same (λ x. then_ (row other x) (λ a. Ok (s a))) (λ x. then_ (row other x) (λ a. Ok (t a))) (λ x. then_alike (row other x) (λ a. Ok (s a)) (λ a. Ok (t a)) (λ a. ap Ok (h a))) xs
+rows_alike other s t h xs = any_same (λ x. then_ (row other x) (λ a. Ok (s a))) (λ x. then_ (row other x) (λ a. Ok (t a)))
+    (λ x. then_alike (row other x) (λ a. Ok (s a)) (λ a. Ok (t a)) (λ a. ap Ok (h a))) xs
 
 -- ---- the one that decides
 
@@ -419,7 +433,8 @@ one_for_all op ys k z o l at best a = go (holds op (item_cmp a z)) refl
   where
     go : (b : Bool) → holds op (item_cmp a z) ≡ b → b ≡ holds_of_some op ys a
     go true h = sym (list_any_at (λ y. holds op (item_cmp a y)) ys k z l (ap (λ y. holds op (item_cmp a y)) (sym at) ∙ h))
-    go false h = sym (none_passes (λ y. holds op (item_cmp a y)) ys (λ n d m. false_unless (holds op (item_cmp a (get_or ys n d))) (holds op (item_cmp a z)) (holds_on op o a (get_or ys n d) z (best n d m)) h))
+    go false h = sym (none_passes (λ y. holds op (item_cmp a y)) ys
+        (λ n d m. false_unless (holds op (item_cmp a (get_or ys n d))) (holds op (item_cmp a z)) (holds_on op o a (get_or ys n d) z (best n d m)) h))
 
 pub ordered_is : (op : Op) (xs ys : List Item) (k : ℕ) (z : Item) → is_order op ≡ true → are_comparable xs ys ≡ true → k < length ys → z ≡ get_or ys k z
     → ((n : ℕ) (d : Item) → n < length ys → decides op (item_cmp (get_or ys n d) z) ≡ false) → any_of (λ x. compare op x z) xs ≡ some_pair op xs ys
@@ -445,7 +460,8 @@ tied_differs a y z e = ap is_ne (sym (alike_right item_cmp_total y z a (tied (it
     tied Equal h = refl
     tied Greater h = absurd (false≢true h)
 
-all_tied : (a y : Item) (zs : List Item) → list_all (λ z. is_eq (item_cmp y z)) zs ≡ true → is_ne (item_cmp a y) ≡ (is_ne (item_cmp a y) || list_any (λ z. is_ne (item_cmp a z)) zs)
+all_tied : (a y : Item) (zs : List Item) → list_all (λ z. is_eq (item_cmp y z)) zs ≡ true →
+    is_ne (item_cmp a y) ≡ (is_ne (item_cmp a y) || list_any (λ z. is_ne (item_cmp a z)) zs)
 all_tied a y [] h = sym (or_false (is_ne (item_cmp a y)))
   where
     or_false : (b : Bool) → (b || false) ≡ b
@@ -465,7 +481,8 @@ pub alike_is : (xs ys : List Item) (y : Item) → are_comparable xs ys ≡ true 
     → any_of (λ x. compare c.NotEqual x y) xs ≡ some_pair c.NotEqual xs ys
 alike_is xs [] y both l at h = absurd (omega (arith, l))
 alike_is xs (z ∷ ys) y both l at h =
-    let rest = (and_parts (is_eq (item_cmp z z)) (list_all (λ w. is_eq (item_cmp z w)) ys) (ap (λ v. list_all (λ w. is_eq (item_cmp v w)) (z ∷ ys)) (sym at) ∙ h)).1 in
+    let rest = (and_parts (is_eq (item_cmp z z)) (list_all (λ w. is_eq (item_cmp z w)) ys) (ap (λ v. list_all (λ w. is_eq (item_cmp v w)) (z ∷ ys)) (sym at) ∙
+    h)).1 in
     beside_one c.NotEqual xs z ys 0 y refl both l at
     ∙ (rows_alike z (λ a. is_ne (item_cmp a y)) (holds_of_some c.NotEqual (z ∷ ys)) (λ a. ap (λ v. is_ne (item_cmp a v)) at ∙ all_tied a z ys rest) xs
     ∙ sym (pair_is c.NotEqual xs z ys refl both))
@@ -479,11 +496,13 @@ tied_unless Less h = absurd (false≢true (sym h))
 tied_unless Equal h = refl
 tied_unless Greater h = absurd (false≢true (sym h))
 
-all_from_none : (a y : Item) → item_cmp a y ≡ Equal → (zs : List Item) → list_any (λ z. is_ne (item_cmp a z)) zs ≡ false → list_all (λ z. is_eq (item_cmp y z)) zs ≡ true
+all_from_none : (a y : Item) → item_cmp a y ≡ Equal → (zs : List Item) → list_any (λ z. is_ne (item_cmp a z)) zs ≡ false →
+    list_all (λ z. is_eq (item_cmp y z)) zs ≡ true
 all_from_none a y e [] h = refl
 all_from_none a y e (z ∷ zs) h =
     let parts = or_parts (is_ne (item_cmp a z)) (list_any (λ w. is_ne (item_cmp a w)) zs) h in
-    ap (λ o. is_eq o && list_all (λ w. is_eq (item_cmp y w)) zs) (sym (item_cmp_total.congr a y z e) ∙ tied_unless (item_cmp a z) parts.0) ∙ all_from_none a y e zs parts.1
+    ap (λ o. is_eq o && list_all (λ w. is_eq (item_cmp y w)) zs) (sym (item_cmp_total.congr a y z e) ∙ tied_unless (item_cmp a z) parts.0) ∙
+    all_from_none a y e zs parts.1
 
 -- Where not all are equal, each item differs from one of them.
 some_differ : (y : Item) (ys : List Item) → list_all (λ z. is_eq (item_cmp y z)) (y ∷ ys) ≡ false → (a : Item) → holds_of_some c.NotEqual (y ∷ ys) a ≡ true
@@ -509,11 +528,13 @@ first_row op x xs y ys g c = ⊎_elim
     (λ (texts : (list_all is_textual (x ∷ xs) && list_all is_textual (y ∷ ys)) ≡ true).
     let parts = and_parts (list_all is_textual (x ∷ xs)) (list_all is_textual (y ∷ ys)) texts in
     any_alike (λ z. compare op x z) (λ z. then_ (row y x) (held op z)) is_textual
-    (λ z e. text_is_row op y x z g (and_parts (is_textual y) (list_all is_textual ys) parts.1).0 (and_parts (is_textual x) (list_all is_textual xs) parts.0).0 e) (y ∷ ys) parts.1
+    (λ z e. text_is_row op y x z g (and_parts (is_textual y) (list_all is_textual ys) parts.1).0
+    (and_parts (is_textual x) (list_all is_textual xs) parts.0).0 e) (y ∷ ys) parts.1
     ∙ row_of_some (row y x) (λ a z. holds op (item_cmp a z)) y ys)
     (or_cases (list_all (is_typed_as (rank y)) (y ∷ ys)) (list_all is_textual (x ∷ xs) && list_all is_textual (y ∷ ys)) c)
 
-pub unlike_is : (xs ys : List Item) (x y : Item) → are_comparable xs ys ≡ true → 0 < length xs → 0 < length ys → x ≡ get_or xs 0 x → y ≡ get_or ys 0 y → list_all (λ z. is_eq (item_cmp y z)) ys ≡ false
+pub unlike_is : (xs ys : List Item) (x y : Item) → are_comparable xs ys ≡ true → 0 < length xs → 0 < length ys → x ≡ get_or xs 0 x → y ≡ get_or ys 0 y →
+    list_all (λ z. is_eq (item_cmp y z)) ys ≡ false
     → any_of (λ z. compare c.NotEqual x z) ys ≡ some_pair c.NotEqual xs ys
 unlike_is [] ys x y both l m ax ay h = absurd (omega (arith, l))
 unlike_is (w ∷ xs) [] x y both l m ax ay h = absurd (omega (arith, m))
@@ -548,7 +569,8 @@ or_cond false true = refl
 or_cond false false = refl
 
 pub added_is : (keys grown : List Ranked) (key : Ranked) (item x : Item) (items : List Item) → key.item.now ≡ item → map (λ k. k.item.now) keys ≡ items
-    → is_in grown x ≡ cond (is_eq (item_cmp key.item.now x)) true (is_in keys x) → has_alike (map (λ k. k.item.now) grown) x ≡ (has_alike items x || is_eq (item_cmp x item))
+    → is_in grown x ≡ cond (is_eq (item_cmp key.item.now x)) true (is_in keys x) →
+    has_alike (map (λ k. k.item.now) grown) x ≡ (has_alike items x || is_eq (item_cmp x item))
 added_is keys grown key item x items e view updated =
     sym (any_mapped x grown)
     ∙ (updated

@@ -33,9 +33,11 @@ some_characters (c ∷ cs) b bs e = refl
 
 pub no_characters : (s : List ℕ) → IsUtf8 s → (length s == 0) ≡ is_empty (chars s)
 no_characters [] u = ap is_empty (sym chars-nil)
-no_characters (b ∷ s) u = let e : (length (b ∷ s) == 0) ≡ false = grind (arith, nat_tests) in e ∙ sym (some_characters (chars (b ∷ s)) b s (encodes-chars (b ∷ s) u))
+no_characters (b ∷ s) u = let e : (length (b ∷ s) == 0) ≡ false = grind (arith, nat_tests) in e ∙
+    sym (some_characters (chars (b ∷ s)) b s (encodes-chars (b ∷ s) u))
 
-pub pushed : {E : Type 0} (r : Result (Unit {0}) E) (old new t : List ℕ) → IsUtf8 old → IsUtf8 t → new ≡ (if is_ok r then old ++ t else old) → Puts r (chars t) old new
+pub pushed : {E : Type 0} (r : Result (Unit {0}) E) (old new t : List ℕ) → IsUtf8 old → IsUtf8 t → new ≡ (if is_ok r then old ++ t else old) →
+    Puts r (chars t) old new
 pushed (Ok x) old new t uo ut e = ap chars e ∙ chars-append old t uo
 pushed (Err x) old new t uo ut e = e
 

@@ -1,8 +1,10 @@
 -- White space at the ends of a text, by bytes and by characters.
-use Rattle.std.proofs.Common.{◌≡◌, ℕ, ◌-◌, ◌<◌, ◌≤◌, suc, List, [], ◌∷◌, ◌++◌, length, get_or, take, drop, reverse, Bool, true, false, ◌&&◌, refl, ap, sym, ◌∙◌, arith, ◌⊎◌, inl, inr, subst, length-append, append_assoc}
+use Rattle.std.proofs.Common.{◌≡◌, ℕ, ◌-◌, ◌<◌, ◌≤◌, suc, List, [], ◌∷◌, ◌++◌, length, get_or, take, drop, reverse, Bool, true, false, ◌&&◌, refl, ap, sym, ◌∙◌}
+use Rattle.std.proofs.Common.{arith, ◌⊎◌, inl, inr, subst, length-append, append_assoc}
 use Rattle.std.specs.Str.{chars, IsUtf8, IsAscii, IsCharBoundary}
 use Rattle.std.specs.List.{list_all}
-use Rattle.std.proofs.lemmas.Str.{chars-nil, chars-append, encodes-chars, encodes-append, encode_ascii, chars_past_char, IsUtf8-past_char, chars-IsAscii, IsUtf8-take}
+use Rattle.std.proofs.lemmas.Str.{chars-nil, chars-append, encodes-chars, encodes-append, encode_ascii, chars_past_char, IsUtf8-past_char, chars-IsAscii}
+use Rattle.std.proofs.lemmas.Str.{IsUtf8-take}
 use Rattle.std.proofs.lemmas.Str.Ascii.{IsAscii-nil, IsAscii-cons}
 use Rattle.std.proofs.lemmas.Bool.Decides.{nat_tests}
 use Rattle.std.proofs.lemmas.List.{reverse-append, reverse-reverse, take-append-drop}
@@ -109,12 +111,14 @@ length_last : (xs : List ℕ) (l : ℕ) → 0 < length (xs ++ l ∷ [])
 length_last xs l = omega (arith, length-append xs (l ∷ []))
 
 -- a text whose last byte is no white space ends so by its characters
-last_black : (a : List ℕ) → IsUtf8 a → (0 < length a → is_white_space (get_or a (length a - 1) 0) ≡ false) → without_leading_space (reverse (chars a)) ≡ reverse (chars a)
+last_black : (a : List ℕ) → IsUtf8 a → (0 < length a → is_white_space (get_or a (length a - 1) 0) ≡ false) →
+    without_leading_space (reverse (chars a)) ≡ reverse (chars a)
 last_black a u h = elim (by_last (chars a)) [
   | inl e ↦ rw e refl
   | inr w ↦
       let black : is_white_space w.1 ≡ false = or_false (is_white_space w.1) (λ white.
-      let bytes : a ≡ encodes w.0 ++ w.1 ∷ [] = sym (encodes-chars a u) ∙ (ap encodes w.2 ∙ (encodes-append w.0 (w.1 ∷ []) ∙ ap (λ x. encodes w.0 ++ x) (ap (λ x. x ++ []) (encode_ascii w.1 (white_below w.1 white))))) in
+      let bytes : a ≡ encodes w.0 ++ w.1 ∷ [] = sym (encodes-chars a u) ∙
+      (ap encodes w.2 ∙ (encodes-append w.0 (w.1 ∷ []) ∙ ap (λ x. encodes w.0 ++ x) (ap (λ x. x ++ []) (encode_ascii w.1 (white_below w.1 white))))) in
       let some : 0 < length a = rw bytes (length_last (encodes w.0) w.1) in
       let at : get_or a (length a - 1) 0 ≡ w.1 = rw bytes (last_of (encodes w.0) w.1) in
       ap is_white_space (sym at) ∙ h some) in

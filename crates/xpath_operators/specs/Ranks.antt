@@ -43,14 +43,16 @@ day_part _ = 0
 abbrev pub item_cmp : Item → Item → Ordering
 item_cmp =
     then_cmp (on rank nat_cmp)
-    (then_cmp (on text_part (slice_cmp nat_cmp)) (then_cmp (on number_part int_cmp) (then_cmp (on year_part nat_cmp) (then_cmp (on month_part nat_cmp) (on day_part nat_cmp)))))
+    (then_cmp (on text_part (slice_cmp nat_cmp))
+    (then_cmp (on number_part int_cmp) (then_cmp (on year_part nat_cmp) (then_cmp (on month_part nat_cmp) (on day_part nat_cmp)))))
 
 -- It is a total order.
 pub item_cmp_total : IsTotalOrder item_cmp
 item_cmp_total =
     then_total (on_total rank nat_cmp_total)
     (then_total (on_total text_part nat_list_cmp_total)
-    (then_total (on_total number_part int_cmp_total) (then_total (on_total year_part nat_cmp_total) (then_total (on_total month_part nat_cmp_total) (on_total day_part nat_cmp_total)))))
+    (then_total (on_total number_part int_cmp_total)
+    (then_total (on_total year_part nat_cmp_total) (then_total (on_total month_part nat_cmp_total) (on_total day_part nat_cmp_total)))))
 
 -- an item is as one of them
 abbrev pub has_alike : List Item → Item → Bool

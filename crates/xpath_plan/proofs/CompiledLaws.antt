@@ -23,19 +23,22 @@ use Rattle.xpath_plan.proofs.SoundLaws.{Alone, Moving, all-placed, steady, free}
 abbrev typing_in : Declared → Tree → Typing
 typing_in declared x = record { expression = x; declared = declared; parts = map facts (placed (outermost declared) 0 x) }
 
-answered : (declared : Declared) (x : Tree) (typing : Typing) (refusal : Option _) → answer refusal (typing_in declared x) ≡ Ok typing → typing_in declared x ≡ typing
+answered : (declared : Declared) (x : Tree) (typing : Typing) (refusal : Option _) → answer refusal (typing_in declared x) ≡ Ok typing →
+    typing_in declared x ≡ typing
 answered declared x typing None h = cc
 answered declared x typing (Some refusal) h = absurd cc
 
 -- of an expression that is typed, the parts are stated
-pub parts-stated : (declared : Declared) (x : Tree) (typing : Typing) → typing_of declared x ≡ Ok typing → typing.parts ≡ map facts (placed (outermost declared) 0 x)
+pub parts-stated : (declared : Declared) (x : Tree) (typing : Typing) → typing_of declared x ≡ Ok typing →
+    typing.parts ≡ map facts (placed (outermost declared) 0 x)
 unfolding typing_of
 parts-stated declared x typing h = ap (λ (t : Typing). t.parts) (sym (answered declared x typing (first_of None (judged (outermost declared) 0 x).refusals) h))
 
 -- it is the expression that was typed
 pub grammatical-typed : (declared : Declared) (x : Tree) (typing : Typing) → typing_of declared x ≡ Ok typing → Grammatical x → Grammatical typing.expression
 unfolding typing_of
-grammatical-typed declared x typing h = subst Grammatical (ap (λ (t : Typing). t.expression) (answered declared x typing (first_of None (judged (outermost declared) 0 x).refusals) h))
+grammatical-typed declared x typing h = subst Grammatical
+    (ap (λ (t : Typing). t.expression) (answered declared x typing (first_of None (judged (outermost declared) 0 x).refusals) h))
 
 -- what is known of the work by all later names, at the beginning of the walk
 pub known-first : (declared : Declared) (x y : Tree) (bound : List (List ℕ)) (parts : List Part) (names : List Name) (work : Work) → bound ≡ [] → y ≡ x
@@ -48,7 +51,8 @@ pub counted-first : (declared : Declared) (x y : Tree) (bound : List (List ℕ))
 counted-first declared x y bound parts slots none same is =
     is ∙ (zero-add (length (walked declared bound parts 0 y).kept) ∙ (λ j. length (walked declared (none j) parts 0 (same j)).kept))
 
-module _ (declared : Declared) (x : Tree) (parts : List Part) (names : List Name) (work : Work) (slots : ℕ) (stated : parts ≡ map facts (placed (outermost declared) 0 x))
+module _ (declared : Declared) (x : Tree) (parts : List Part) (names : List Name) (work : Work) (slots : ℕ)
+    (stated : parts ≡ map facts (placed (outermost declared) 0 x))
     (is : known names work ≡ walked declared [] parts 0 x) (count : slots ≡ length (walked declared [] parts 0 x).kept) where
   ended : parts ≡ map facts (placed (outermost declared) 0 x) ++ []
   ended = stated ∙ sym (append-nil (map facts (placed (outermost declared) 0 x)))
@@ -72,7 +76,8 @@ module _ (declared : Declared) (x : Tree) (parts : List Part) (names : List Name
       let slots_are : AreNumbered 0 all = numbered declared [] parts 0 x in
       record {
         count = count ∙ ap (λ (kept : List Kept). length kept) (sym same);
-        placed = subst (λ kept. AllByRecursion (IsPlaced kept) kept) (sym same) (all-placed all slots_are (steady alone (outermost declared) [] 0 0 x parts [] ended grammatical));
+        placed = subst (λ kept. AllByRecursion (IsPlaced kept) kept) (sym same)
+            (all-placed all slots_are (steady alone (outermost declared) [] 0 0 x parts [] ended grammatical));
         numbered = subst (AreNumbered 0) (sym same) slots_are;
         free = subst (AllByRecursion IsFree) (ap (λ (part : Known). part.free) (sym is)) (free moving (outermost declared) [] 0 0 x parts [] ended grammatical);
       }

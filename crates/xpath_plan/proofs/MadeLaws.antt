@@ -17,7 +17,8 @@ use Rattle.xpath_types.specs.Judging.{is_matches}
 use Rattle.xpath_types.specs.Scopes.{Declared}
 use Rattle.xpath_meaning.specs.Expressions as e
 use Rattle.xpath_meaning.specs.Expressions.{Exp}
-use Rattle.xpath_meaning.specs.Resolving.{Operand, linked, chained_on, chained, bound_all, chosen_of, first_part, signed_of, kept_of, in_axis_order, filtered_of, arguments_of, call_of, called_of, cast_of, combined}
+use Rattle.xpath_meaning.specs.Resolving.{Operand, linked, chained_on, chained, bound_all, chosen_of, first_part, signed_of, kept_of, in_axis_order}
+use Rattle.xpath_meaning.specs.Resolving.{filtered_of, arguments_of, call_of, called_of, cast_of, combined}
 use Rattle.xpath_plan.specs.declared.work.Link.{Link}
 use Rattle.xpath_plan.specs.Plans.{label_of, made}
 use Rattle.xpath_plan.specs.Kinds.{link_of, cast_kind, call_kind, pattern_kind, matches_kind, named_kind, kind_of}
@@ -48,7 +49,8 @@ linked-told x (k.Calling name) y = refl
 
 chained_on-told : (x : Exp) (parts : List Operand) → chained_on x (told parts) ≡ chained_on x parts
 chained_on-told x [] = refl
-chained_on-told x (part ∷ parts) = chained_on-told (linked x (label_of (link_of part.0)) part.1) parts ∙ ap (λ y. chained_on y parts) (linked-told x part.0 part.1)
+chained_on-told x (part ∷ parts) = chained_on-told (linked x (label_of (link_of part.0)) part.1) parts ∙
+    ap (λ y. chained_on y parts) (linked-told x part.0 part.1)
 
 chained-told : (parts : List Operand) → chained (told parts) ≡ chained parts
 chained-told [] = refl
@@ -94,7 +96,8 @@ arguments-told : (parts : List Operand) → arguments_of (told parts) ≡ argume
 arguments-told [] = refl
 arguments-told (part ∷ parts) = ap (e.argument part.1) (arguments-told parts)
 
-signs-made : (is_step free : Bool) (declared : Declared) (second : Option (List ℕ)) (parts : List Operand) → made (kind_of declared f.Signs is_step free second (map (λ part. part.0) parts)) (told parts) ≡ signed_of parts
+signs-made : (is_step free : Bool) (declared : Declared) (second : Option (List ℕ)) (parts : List Operand) →
+    made (kind_of declared f.Signs is_step free second (map (λ part. part.0) parts)) (told parts) ≡ signed_of parts
 signs-made is_step free declared second [] = refl
 signs-made is_step free declared second ((k.First, x) ∷ parts) = refl
 signs-made is_step free declared second ((k.Link operator, x) ∷ parts) = refl
@@ -124,7 +127,8 @@ abbrev pub AreSecond : Option (List ℕ) → List Operand → Type 0
 AreSecond None parts = Unit {0}
 AreSecond (Some text) parts = IsSecond text parts
 
-pattern-made : (text : List ℕ) (fault : Option PatternFault) (parts : List Operand) → IsSecond text parts → made (pattern_kind text fault) (told parts) ≡ e.called n.Matches (arguments_of parts)
+pattern-made : (text : List ℕ) (fault : Option PatternFault) (parts : List Operand) → IsSecond text parts →
+    made (pattern_kind text fault) (told parts) ≡ e.called n.Matches (arguments_of parts)
 pattern-made text fault [] h = absurd h
 pattern-made text fault (first ∷ []) h = absurd h
 pattern-made text None (first ∷ (second ∷ [])) h = ap (λ x. e.called n.Matches (e.argument first.1 (e.argument x e.no_more))) (sym h)
@@ -137,16 +141,19 @@ matches-known r.Unknown h = absurd (false≢true h)
 matches-known (r.Known n.Matches) h = refl
 matches-known (r.Known function) h = absurd (false≢true h)
 
-matches-made : (called : Resolved) (text : List ℕ) (parts : List Operand) → is_matches called ≡ true → IsSecond text parts → made (matches_kind text) (told parts) ≡ call_of called (arguments_of parts)
+matches-made : (called : Resolved) (text : List ℕ) (parts : List Operand) → is_matches called ≡ true → IsSecond text parts →
+    made (matches_kind text) (told parts) ≡ call_of called (arguments_of parts)
 unfolding matches_kind
-matches-made called text parts is h = pattern-made text (fault_of text) parts h ∙ ap (λ called. call_of called (arguments_of parts)) (sym (matches-known called is))
+matches-made called text parts is h = pattern-made text (fault_of text) parts h ∙
+    ap (λ called. call_of called (arguments_of parts)) (sym (matches-known called is))
 
 some-made : (called : Resolved) (text : List ℕ) (parts : List Operand) → IsSecond text parts → (b : Bool) → is_matches called ≡ b
     → made (if b then matches_kind text else call_kind called) (told parts) ≡ call_of called (arguments_of parts)
 some-made called text parts h true is = matches-made called text parts is h
 some-made called text parts h false is = call-made called parts
 
-named-made : (called : Resolved) (second : Option (List ℕ)) (parts : List Operand) → AreSecond second parts → made (named_kind called second) (told parts) ≡ call_of called (arguments_of parts)
+named-made : (called : Resolved) (second : Option (List ℕ)) (parts : List Operand) → AreSecond second parts →
+    made (named_kind called second) (told parts) ≡ call_of called (arguments_of parts)
 named-made called None parts h = call-made called parts
 named-made called (Some text) parts h = some-made called text parts h (is_matches called) refl
 
@@ -165,12 +172,14 @@ called-made is_step free declared second ((k.Again, x) ∷ parts) h = refl
 called-made is_step free declared second ((k.Opened, x) ∷ parts) h = refl
 called-made is_step free declared second ((k.Calling name, x) ∷ parts) h = named-made (function_called declared name) second ((k.Calling name, x) ∷ parts) h
 
-cast-made : (word : CastWord) (optional : Bool) (named : Resolved) (parts : List Operand) → made (cast_kind word optional named) (told parts) ≡ cast_of word named optional (first_part parts)
+cast-made : (word : CastWord) (optional : Bool) (named : Resolved) (parts : List Operand) →
+    made (cast_kind word optional named) (told parts) ≡ cast_of word named optional (first_part parts)
 cast-made word optional r.Unbound parts = refl
 cast-made word optional r.Unknown parts = refl
 cast-made word optional (r.Known function) parts = ap (e.cast word function optional) (first-told parts)
 
-filter-made : (declared : Declared) (is_step free : Bool) (second : Option (List ℕ)) (parts : List Operand) → made (kind_of declared f.Filter is_step free second (map (λ part. part.0) parts)) (told parts) ≡ filtered_of is_step parts
+filter-made : (declared : Declared) (is_step free : Bool) (second : Option (List ℕ)) (parts : List Operand) →
+    made (kind_of declared f.Filter is_step free second (map (λ part. part.0) parts)) (told parts) ≡ filtered_of is_step parts
 filter-made declared true true second parts = filtered-told true parts
 filter-made declared true false second parts = filtered-told true parts
 filter-made declared false free second parts = filtered-told false parts

@@ -19,7 +19,8 @@ none-next (x ∷ xs) (suc n) h = none-next xs n h
 
 -- whether the part with the number is kept
 
-pub kept-some : (stated : List Part) (n : ℕ) (part : Part) (x : Tree) (literal : Bool) → Some part ≡ slice_get stated n → literal ≡ is_literal x → (part.depends_on_document_alone && not literal) ≡ is_kept_by (drop n stated) x
+pub kept-some : (stated : List Part) (n : ℕ) (part : Part) (x : Tree) (literal : Bool) → Some part ≡ slice_get stated n → literal ≡ is_literal x →
+    (part.depends_on_document_alone && not literal) ≡ is_kept_by (drop n stated) x
 kept-some stated n part x literal found literal_is =
     (λ j. part.depends_on_document_alone && not (literal_is j)) ∙ ap (λ stated. is_kept_by stated x) (sym (some-next stated n part (sym found)))
 
@@ -32,7 +33,8 @@ and_false : (b : Bool) → false ≡ (b && false)
 and_false true = refl
 and_false false = refl
 
-pub free-some : (stated : List Part) (n : ℕ) (part : Part) (label : Label) (free here : Bool) → Some part ≡ slice_get stated n → here ≡ is_free label part → (free && here) ≡ (free && is_free_by (drop n stated) label)
+pub free-some : (stated : List Part) (n : ℕ) (part : Part) (label : Label) (free here : Bool) → Some part ≡ slice_get stated n → here ≡ is_free label part →
+    (free && here) ≡ (free && is_free_by (drop n stated) label)
 free-some stated n part label free here found here_is =
     ap (λ b. free && b) (here_is ∙ ap (λ stated. is_free_by stated label) (sym (some-next stated n part (sym found))))
 

@@ -1,5 +1,6 @@
 -- The table of names.
-use Rattle.std.proofs.Common.{◌≡◌, ℕ, ◌<◌, Bool, true, false, List, ◌++◌, Option, Some, None, length, slice_get, option_map, refl, sym, ap, ◌∙◌, arith, length-append, ◌&&◌, string_bytes, chars}
+use Rattle.std.proofs.Common.{◌≡◌, ℕ, ◌<◌, Bool, true, false, List, ◌++◌, Option, Some, None, length, slice_get, option_map, refl, sym, ap, ◌∙◌, arith}
+use Rattle.std.proofs.Common.{length-append, ◌&&◌, string_bytes, chars}
 use Rattle.std.specs.Str.{bytes_eq}
 use Rattle.std.proofs.lemmas.List.{get_or_append_left}
 use Rattle.std.proofs.lemmas.Option.{slice_get_within, slice_get-get_or, get_or_from_slice_get, slice_get-map}
@@ -22,7 +23,8 @@ pub stored-name : (uri local : List ℕ) (sought kept : Kept) (keys : List Kept)
     → string_bytes sought.uri ≡ uri → string_bytes sought.local ≡ local → same ≡ true → slice_get keys n ≡ Some kept
     → slice_get (names_of keys) n ≡ Some (record { uri = chars uri; local = chars local })
 stored-name uri local sought kept keys n same is uri_is local_is holds at =
-    let parts = both (bytes_eq (string_bytes sought.uri) (string_bytes kept.uri)) (bytes_eq (string_bytes sought.local) (string_bytes kept.local)) (sym is ∙ holds) in
+    let parts = both (bytes_eq (string_bytes sought.uri) (string_bytes kept.uri)) (bytes_eq (string_bytes sought.local) (string_bytes kept.local))
+    (sym is ∙ holds) in
     let first : string_bytes kept.uri ≡ uri = sym ((bytes_eq-Decides (string_bytes sought.uri) (string_bytes kept.uri)).0 parts.0) ∙ uri_is in
     let second : string_bytes kept.local ≡ local = sym ((bytes_eq-Decides (string_bytes sought.local) (string_bytes kept.local)).0 parts.1) ∙ local_is in
     slice_get-map name_of keys n ∙ (ap (option_map name_of) at ∙ (λ j. Some (record { uri = chars (first j); local = chars (second j) })))

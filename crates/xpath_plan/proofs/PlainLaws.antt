@@ -63,7 +63,8 @@ abbrev pub is_filter : Form → Bool
 is_filter f.Filter = true
 is_filter _ = false
 
-plain-form : (declared : Declared) (form : Form) (is_step free : Bool) (second : Option (List ℕ)) (labels : List Label) → is_filter form ≡ false → plain (kind_of declared form is_step free second labels) ≡ true
+plain-form : (declared : Declared) (form : Form) (is_step free : Bool) (second : Option (List ℕ)) (labels : List Label) → is_filter form ≡ false →
+    plain (kind_of declared form is_step free second labels) ≡ true
 plain-form declared (f.Cast word type optional) is_step free second labels h = plain-cast word optional (type_named declared type)
 plain-form declared f.Signs is_step free second labels h = plain-signs labels
 plain-form declared f.Filter is_step free second labels h = absurd (true≢false h)
@@ -82,8 +83,10 @@ is-plain m.FreeStep h = absurd (false≢true h)
 is-plain m.FilteredStep h = absurd (false≢true h)
 is-plain _ h = record { shown = λ place parts. refl; kept = λ parts. refl; free = λ parts. refl }
 
-pub form-plain : (declared : Declared) (form : Form) (is_step free : Bool) (second : Option (List ℕ)) (labels : List Label) → is_filter form ≡ false → IsPlain (kind_of declared form is_step free second labels)
-form-plain declared form is_step free second labels h = is-plain (kind_of declared form is_step free second labels) (plain-form declared form is_step free second labels h)
+pub form-plain : (declared : Declared) (form : Form) (is_step free : Bool) (second : Option (List ℕ)) (labels : List Label) → is_filter form ≡ false →
+    IsPlain (kind_of declared form is_step free second labels)
+form-plain declared form is_step free second labels h = is-plain (kind_of declared form is_step free second labels)
+    (plain-form declared form is_step free second labels h)
 
 filter-keeps : (is_step free : Bool) (parts : List Operand) → own_kept (filter_kind is_step free) parts ≡ []
 filter-keeps true true parts = refl
@@ -91,6 +94,7 @@ filter-keeps true false parts = refl
 filter-keeps false free parts = refl
 
 -- A form keeps nothing.
-pub form-keeps : (declared : Declared) (form : Form) (is_step free : Bool) (second : Option (List ℕ)) (labels : List Label) (parts : List Operand) → own_kept (kind_of declared form is_step free second labels) parts ≡ []
+pub form-keeps : (declared : Declared) (form : Form) (is_step free : Bool) (second : Option (List ℕ)) (labels : List Label) (parts : List Operand) →
+    own_kept (kind_of declared form is_step free second labels) parts ≡ []
 form-keeps declared f.Filter is_step free second labels parts = filter-keeps is_step free parts
 form-keeps declared form is_step free second labels parts = (form-plain declared form is_step free second labels refl).kept parts

@@ -29,10 +29,13 @@ i s = record { shape = s; once = false }
 
 -- looked into by each row
 unfoldable tried : ℕ
-unfolding given tokens_of answer_of_characters words_from longest many_then comment_rest comment_at separator_length closes is_symbol tk.judged token_of is_name_start is_name_char is_white_space chars close run append function_in type_in j.judged j.operands pt.placed pt.placed_inside pt.uses pt.uses_of_parts pt.has_free pt.parts_have_free g.written g.parts_written shapes shapes_inside all_free
+unfolding given tokens_of answer_of_characters words_from longest many_then comment_rest comment_at separator_length closes is_symbol tk.judged token_of
+    is_name_start is_name_char is_white_space chars close run append function_in type_in j.judged j.operands pt.placed pt.placed_inside pt.uses pt.uses_of_parts
+    pt.has_free pt.parts_have_free g.written g.parts_written shapes shapes_inside all_free
 tried = 0
 
-row_1 : map shaped (codes "//l" ∷ codes "//l[1]" ∷ codes "//p:x[1 div @k > 0]" ∷ codes "count(//l[last()])" ∷ codes "g//l" ∷ codes "//g/l" ∷ codes "//*" ∷ codes "//@l" ∷ [])
+row_1 : map shaped (codes "//l" ∷ codes "//l[1]" ∷ codes "//p:x[1 div @k > 0]" ∷ codes "count(//l[last()])" ∷ codes "g//l" ∷ codes "//g/l" ∷ codes "//*" ∷ codes
+    "//@l" ∷ [])
     ≡ (o value ∷ i named ∷ [])
     ∷ (o value ∷ i step ∷ i step ∷ i value ∷ [])
     ∷ (o value ∷ i named ∷ i step ∷ i value ∷ i value ∷ i value ∷ i step ∷ i value ∷ [])
@@ -44,7 +47,8 @@ row_1 : map shaped (codes "//l" ∷ codes "//l[1]" ∷ codes "//p:x[1 div @k > 0
 unfolding tried
 row_1 = refl
 
-row_2 : map shaped (codes "$v//l" ∷ codes "l[//x]" ∷ codes "(1, 2)[. = count(//l)]" ∷ codes "//l[. = $v]" ∷ codes "//l[position() = 1]" ∷ codes "//l[@a][2]" ∷ codes "cbc = count(//p:l)" ∷ codes "for $x in //l return $x" ∷ [])
+row_2 : map shaped (codes "$v//l" ∷ codes "l[//x]" ∷ codes "(1, 2)[. = count(//l)]" ∷ codes "//l[. = $v]" ∷ codes "//l[position() = 1]" ∷ codes
+    "//l[@a][2]" ∷ codes "cbc = count(//p:l)" ∷ codes "for $x in //l return $x" ∷ [])
     ≡ (i value ∷ i value ∷ i within ∷ [])
     ∷ (i step ∷ i step ∷ o value ∷ i named ∷ [])
     ∷ (o value ∷ o value ∷ o value ∷ i value ∷ i value ∷ i value ∷ i value ∷ i value ∷ i value ∷ i named ∷ [])

@@ -21,16 +21,19 @@ no_second (x ∷ (y ∷ [])) h = absurd (h refl)
 no_second (x ∷ (y ∷ (z ∷ items))) h = refl
 
 -- a literal that is the second of two parts is the second of their expressions
-literal-seen : (declared : Declared) (bound : List (List ℕ)) (label : Label) (x : Exp) (next : Label) (y : Tree) (text : List ℕ) → literal y ≡ Some text → IsSecond text ((label, x) ∷ (next, resolved declared bound y) ∷ [])
+literal-seen : (declared : Declared) (bound : List (List ℕ)) (label : Label) (x : Exp) (next : Label) (y : Tree) (text : List ℕ) → literal y ≡ Some text →
+    IsSecond text ((label, x) ∷ (next, resolved declared bound y) ∷ [])
 unfolding resolved
 literal-seen declared bound label x next (g.leaf (l.Literal s)) text h = let same : s ≡ text = cc in ap e.text same
 literal-seen declared bound label x next (g.leaf _) text h = absurd cc
 literal-seen declared bound label x next (g.node form parts) text h = absurd cc
 
-pub second-seen : (declared : Declared) (bound : List (List ℕ)) (parts : Parts) (second : Option (List ℕ)) → second_literal parts ≡ second → AreSecond second (operands declared bound parts)
+pub second-seen : (declared : Declared) (bound : List (List ℕ)) (parts : Parts) (second : Option (List ℕ)) → second_literal parts ≡ second →
+    AreSecond second (operands declared bound parts)
 unfolding operands
 second-seen declared bound parts None h = tt
 second-seen declared bound g.none (Some text) h = absurd cc
 second-seen declared bound (g.more label x g.none) (Some text) h = absurd cc
-second-seen declared bound (g.more label x (g.more next y g.none)) (Some text) h = literal-seen declared (names_behind label bound) label (resolved declared bound x) next y text h
+second-seen declared bound (g.more label x (g.more next y g.none)) (Some text) h =
+    literal-seen declared (names_behind label bound) label (resolved declared bound x) next y text h
 second-seen declared bound (g.more label x (g.more next y (g.more other z parts))) (Some text) h = absurd cc

@@ -1,5 +1,6 @@
 -- What is known of a work, part by part.
-use Rattle.std.proofs.Common.{◌≡◌, ℕ, ◌+◌, ◌-◌, ◌<◌, ◌≤◌, Bool, true, false, ◌&&◌, List, [], ◌∷◌, ◌++◌, length, get_or, map, take, drop, refl, sym, ap, subst, ◌∙◌, arith, append_assoc, append-nil, length-append}
+use Rattle.std.proofs.Common.{◌≡◌, ℕ, ◌+◌, ◌-◌, ◌<◌, ◌≤◌, Bool, true, false, ◌&&◌, List, [], ◌∷◌, ◌++◌, length, get_or, map, take, drop, refl, sym, ap, subst}
+use Rattle.std.proofs.Common.{◌∙◌, arith, append_assoc, append-nil, length-append}
 use Rattle.std.proofs.Math.Seq.{drop-drop}
 use Rattle.std.proofs.lemmas.List.{drop_more, at_drop_all, length-take, take-take, take-append-drop, map-append}
 use Rattle.inv_base.specs.Tree.{Name}
@@ -42,8 +43,10 @@ pub known-node : (names : List Name) (kind : Kind) (works : List (Link × Work))
 known-node names kind works = ap (known names) (sym (w.rolls-Node kind works)) ∙ fold-roll-Work Known (known_step names) (Work-F.Node kind works)
 
 -- a work in its slot
-pub slot-known : (names : List Name) (slot height : ℕ) (works : List (Link × Work)) (work : Work) → works ≡ (l.Other, work) ∷ [] → known names (w.Node (m.Once slot height) works) ≡ kept_if true slot height (known names work)
-slot-known names slot height works work is = known-node names (m.Once slot height) works ∙ ap (λ works. known_node (m.Once slot height) (known_all names works)) is
+pub slot-known : (names : List Name) (slot height : ℕ) (works : List (Link × Work)) (work : Work) → works ≡ (l.Other, work) ∷ [] →
+    known names (w.Node (m.Once slot height) works) ≡ kept_if true slot height (known names work)
+slot-known names slot height works work is = known-node names (m.Once slot height) works ∙
+    ap (λ works. known_node (m.Once slot height) (known_all names works)) is
 
 -- The expression that is known of a work is the work's.
 
@@ -54,7 +57,8 @@ abbrev works_of : (names : List Name) → List (Link × Agreeing names) → List
 works_of names parts = map (λ (p : Link × Agreeing names). (p.0, p.1.0)) parts
 
 operands-agree : (names : List Name) (parts : List (Link × Agreeing names))
-    → operands_known (known_all names (works_of names parts)) ≡ map (λ (p : Link × Exp). (label_of p.0, p.1)) (map (λ (p : Link × Work). (p.0, seen names p.1)) (works_of names parts))
+    → operands_known (known_all names (works_of names parts)) ≡ map (λ (p : Link × Exp). (label_of p.0, p.1))
+    (map (λ (p : Link × Work). (p.0, seen names p.1)) (works_of names parts))
 operands-agree names [] = refl
 operands-agree names (part ∷ parts) = λ j. (label_of part.0, part.1.1 j) ∷ operands-agree names parts j
 
@@ -79,7 +83,8 @@ more_names names names' grown = sym (take-append-drop (length names) names') ∙
 pub later-grown : {X : Type 0} (see : List Name → X) (x : X) (names names' : List Name) → take (length names) names' ≡ names
     → ((later : List Name) → see (names ++ later) ≡ x) → (later : List Name) → see (names' ++ later) ≡ x
 later-grown see x names names' grown known later =
-    ap see (ap (λ front. front ++ later) (more_names names names' grown) ∙ append_assoc names (drop (length names) names') later) ∙ known (drop (length names) names' ++ later)
+    ap see (ap (λ front. front ++ later) (more_names names names' grown) ∙ append_assoc names (drop (length names) names') later) ∙
+    known (drop (length names) names' ++ later)
 
 pub still-grown : (first names names' : List Name) → take (length first) names ≡ first → take (length names) names' ≡ names → take (length first) names' ≡ first
 still-grown first names names' grown more =
@@ -91,12 +96,15 @@ still-grown first names names' grown more =
 
 -- What a turn of the loop keeps: what is known of the parts so far, whether their predicates test no position, how many parts were
 -- passed, and how many are kept.
-pub record Goes (declared : Declared) (stated : List Part) (outer bound : List (List ℕ)) (first names : List Name) (parts : List (Label × Expr)) (i : ℕ) (works : List (Link × Work)) (height : ℕ)
+pub record Goes (declared : Declared) (stated : List Part) (outer bound : List (List ℕ)) (first names : List Name) (parts : List (Label × Expr)) (i : ℕ)
+    (works : List (Link × Work)) (height : ℕ)
     (begin before low slots : ℕ) (free : Bool) : Type 0 where
-  pub whole : (later : List Name) → known_all (names ++ later) works ++ walked_inside declared bound (drop before stated) slots (viewed (drop i parts)) ≡ walked_inside declared outer (drop begin stated) low (viewed parts)
+  pub whole : (later : List Name) → known_all (names ++ later) works ++
+      walked_inside declared bound (drop before stated) slots (viewed (drop i parts)) ≡ walked_inside declared outer (drop begin stated) low (viewed parts)
   pub freely : (free && all_free_by (drop before stated) (viewed (drop i parts))) ≡ all_free_by (drop begin stated) (viewed parts)
   pub passed : before + sizes (viewed (drop i parts)) ≡ begin + sizes (viewed parts)
-  pub counted : slots + length (kept_known (walked_inside declared bound (drop before stated) slots (viewed (drop i parts)))) ≡ low + length (kept_known (walked_inside declared outer (drop begin stated) low (viewed parts)))
+  pub counted : slots + length (kept_known (walked_inside declared bound (drop before stated) slots (viewed (drop i parts)))) ≡ low + length
+      (kept_known (walked_inside declared outer (drop begin stated) low (viewed parts)))
   pub grown : take (length first) names ≡ first
   pub kept : drop (length bound - height) bound ≡ outer
   pub high : height ≤ length bound
@@ -108,9 +116,11 @@ and_assoc false y z = refl
 sum_on : (a b c d e f : ℕ) → a ≡ b + c → b + (c + d) ≡ e + f → a + d ≡ e + f
 sum_on a b c d e f h i = omega (arith, h, i)
 
-module _ (declared : Declared) (stated : List Part) (bound : List (List ℕ)) (names names' : List Name) (parts : List (Label × Expr)) (i : ℕ) (part : Label × Expr) (at : part ≡ get_or parts i part) (h : i < length parts)
+module _ (declared : Declared) (stated : List Part) (bound : List (List ℕ)) (names names' : List Name) (parts : List (Label × Expr)) (i : ℕ)
+    (part : Label × Expr) (at : part ≡ get_or parts i part) (h : i < length parts)
     (bound' : List (List ℕ)) (bound_is : bound' ≡ names_behind part.0 bound)
-    (before before' slots slots' : ℕ) (before_is : before' ≡ before + size (view part.1)) (slots_is : slots' ≡ slots + length (walked declared bound (drop before stated) slots (view part.1)).kept) where
+    (before before' slots slots' : ℕ) (before_is : before' ≡ before + size (view part.1))
+    (slots_is : slots' ≡ slots + length (walked declared bound (drop before stated) slots (view part.1)).kept) where
   here : viewed (drop i parts) ≡ g.more part.0 (view part.1) (viewed (drop (i + 1) parts))
   here = ap viewed (drop_more parts i part h) ∙ ap (λ (it : Label × Expr). g.more it.0 (view it.1) (viewed (drop (i + 1) parts))) (sym at)
 
@@ -130,7 +140,8 @@ module _ (declared : Declared) (stated : List Part) (bound : List (List ℕ)) (n
       let stated_are : drop (size (view part.1)) (drop before stated) ≡ drop before' stated = sym behind in
       let count_is : slots + length (walked declared bound (drop before stated) slots (view part.1)).kept ≡ slots' = sym slots_is in
       ap (walked_inside declared bound (drop before stated) slots) here
-      ∙ (λ j. (link_of part.0, walked declared bound (drop before stated) slots (view part.1)) ∷ walked_inside declared (names_are j) (stated_are j) (count_is j) (viewed (drop (i + 1) parts)))
+      ∙ (λ j. (link_of part.0, walked declared bound (drop before stated) slots (view part.1)) ∷ walked_inside declared (names_are j) (stated_are j)
+      (count_is j) (viewed (drop (i + 1) parts)))
 
   pub step : (works works' : List (Link × Work)) (work : Work) (all : List (Link × Known)) (link : Link) → take (length names) names' ≡ names
       → ((later : List Name) → known_all (names ++ later) works ++ walked_inside declared bound (drop before stated) slots (viewed (drop i parts)) ≡ all)
@@ -144,9 +155,11 @@ module _ (declared : Declared) (stated : List Part) (bound : List (List ℕ)) (n
       ∙ (append_assoc front ((link, known (names' ++ later) work) ∷ []) rest
       ∙ ((λ j. front ++ (link_is j, is later j) ∷ rest)
       ∙ (ap (λ more. front ++ more) (sym opened)
-      ∙ later-grown (λ names. known_all names works ++ walked_inside declared bound (drop before stated) slots (viewed (drop i parts))) all names names' grown whole later))))
+      ∙ later-grown (λ names. known_all names works ++ walked_inside declared bound (drop before stated) slots (viewed (drop i parts))) all names names' grown
+      whole later))))
 
-  pub still-free : (free free' all : Bool) → free' ≡ (free && is_free_by (drop before stated) part.0) → (free && all_free_by (drop before stated) (viewed (drop i parts))) ≡ all
+  pub still-free : (free free' all : Bool) → free' ≡ (free && is_free_by (drop before stated) part.0) →
+      (free && all_free_by (drop before stated) (viewed (drop i parts))) ≡ all
       → (free' && all_free_by (drop before' stated) (viewed (drop (i + 1) parts))) ≡ all
   unfolding all_free_by
   still-free free free' all is so =
@@ -158,9 +171,11 @@ module _ (declared : Declared) (stated : List Part) (bound : List (List ℕ)) (n
 
   pub still-passed : (begin all : ℕ) → before + sizes (viewed (drop i parts)) ≡ begin + all → before' + sizes (viewed (drop (i + 1) parts)) ≡ begin + all
   unfolding sizes
-  still-passed begin all so = sum_on before' before (size (view part.1)) (sizes (viewed (drop (i + 1) parts))) begin all before_is (ap (λ parts. before + sizes parts) (sym here) ∙ so)
+  still-passed begin all so = sum_on before' before (size (view part.1)) (sizes (viewed (drop (i + 1) parts))) begin all before_is
+      (ap (λ parts. before + sizes parts) (sym here) ∙ so)
 
-  pub still-counted : (low all : ℕ) → slots + length (kept_known (walked_inside declared bound (drop before stated) slots (viewed (drop i parts)))) ≡ low + all → slots' + length (kept_known rest) ≡ low + all
+  pub still-counted : (low all : ℕ) → slots + length (kept_known (walked_inside declared bound (drop before stated) slots (viewed (drop i parts)))) ≡ low + all
+      → slots' + length (kept_known rest) ≡ low + all
   unfolding this
   still-counted low all so = sum_on slots' slots (length this.kept) (length (kept_known rest)) low all slots_is
       (ap (λ n. slots + n) (sym (length-append this.kept (kept_known rest))) ∙ (ap (λ inner. slots + length (kept_known inner)) (sym opened) ∙ so))
@@ -171,8 +186,10 @@ viewed-labels : (parts : List (Label × Expr)) → map (λ part. part.0) parts �
 viewed-labels [] = refl
 viewed-labels (part ∷ parts) = λ j. part.0 ∷ viewed-labels parts j
 
-module _ (declared : Declared) (stated : List Part) (outer bound : List (List ℕ)) (first names : List Name) (parts : List (Label × Expr)) (i : ℕ) (works : List (Link × Work)) (height : ℕ)
-    (begin before low slots : ℕ) (free : Bool) (goes : Goes declared stated outer bound first names parts i works height begin before low slots free) (h : length parts ≤ i) where
+module _ (declared : Declared) (stated : List Part) (outer bound : List (List ℕ)) (first names : List Name) (parts : List (Label × Expr)) (i : ℕ)
+    (works : List (Link × Work)) (height : ℕ)
+    (begin before low slots : ℕ) (free : Bool) (goes : Goes declared stated outer bound first names parts i works height begin before low slots free)
+    (h : length parts ≤ i) where
   abbrev inner : List (Link × Known)
   inner = walked_inside declared outer (drop begin stated) low (viewed parts)
 
@@ -199,14 +216,16 @@ module _ (declared : Declared) (stated : List Part) (outer bound : List (List �
   pub all-counted : slots ≡ low + length (kept_known inner)
   unfolding walked_inside
   all-counted =
-      let end : slots + 0 ≡ low + length (kept_known inner) = ap (λ parts. slots + length (kept_known (walked_inside declared bound (drop before stated) slots parts))) (sym none) ∙ goes.counted in
+      let end : slots + 0 ≡ low + length (kept_known inner) =
+      ap (λ parts. slots + length (kept_known (walked_inside declared bound (drop before stated) slots parts))) (sym none) ∙ goes.counted in
       omega (arith, end)
 
   pub node-passed : (form : Form) (ahead : ℕ) → begin ≡ ahead + 1 → before ≡ ahead + size (g.node form (viewed parts))
   unfolding size
   node-passed form ahead begins = let all : before ≡ begin + sizes (viewed parts) = all-passed in omega (arith, all, begins)
 
-  pub node-slots : (form : Form) (ahead new : ℕ) (keeps : Bool) → begin ≡ ahead + 1 → keeps ≡ is_kept_by (drop ahead stated) (g.node form (viewed parts)) → new ≡ slots + one_if keeps
+  pub node-slots : (form : Form) (ahead new : ℕ) (keeps : Bool) → begin ≡ ahead + 1 → keeps ≡ is_kept_by (drop ahead stated) (g.node form (viewed parts)) →
+      new ≡ slots + one_if keeps
       → new ≡ low + length (walked declared outer (drop ahead stated) low (g.node form (viewed parts))).kept
   node-slots form ahead new keeps begins keeps_is is =
       let behind : drop begin stated ≡ drop 1 (drop ahead stated) = ap (λ n. drop n stated) begins ∙ sym (drop-drop 1 ahead stated) in
@@ -214,7 +233,8 @@ module _ (declared : Declared) (stated : List Part) (outer bound : List (List �
       let all : slots ≡ low + length (kept_known (walked_inside declared outer (drop 1 (drop ahead stated)) low (viewed parts)))
       = all-counted ∙ ap (λ stated. low + length (kept_known (walked_inside declared outer stated low (viewed parts)))) behind in
       let whole : length (walked declared outer (drop ahead stated) low (g.node form (viewed parts))).kept
-      ≡ length (kept_known (walked_inside declared outer (drop 1 (drop ahead stated)) low (viewed parts))) + one_if (is_kept_by (drop ahead stated) (g.node form (viewed parts)))
+      ≡ length (kept_known (walked_inside declared outer (drop 1 (drop ahead stated)) low (viewed parts))) + one_if
+      (is_kept_by (drop ahead stated) (g.node form (viewed parts)))
       = node-length declared outer (drop ahead stated) low form (viewed parts) in
       omega (arith, is, one, all, whole)
 
@@ -227,17 +247,21 @@ module _ (declared : Declared) (stated : List Part) (outer bound : List (List �
   unfolding walked
   node-known form kind ahead keeps kept later kind_is begins high keeps_is is =
       let behind : drop begin stated ≡ drop 1 (drop ahead stated) = ap (λ n. drop n stated) begins ∙ sym (drop-drop 1 ahead stated) in
-      let named : kind ≡ kind_in declared form (drop begin stated) (viewed parts) = kind_is ∙ (λ j. kind_of declared form (begins_with_step (viewed parts)) (all-free j) (second_literal (viewed parts)) (viewed-labels parts j)) in
-      let node : known (names ++ later) (w.Node kind works) ≡ known_node (kind_in declared form (drop begin stated) (viewed parts)) inner = known-node (names ++ later) kind works ∙ (λ j. known_node (named j) (all-known later j)) in
+      let named : kind ≡ kind_in declared form (drop begin stated) (viewed parts) = kind_is ∙
+      (λ j. kind_of declared form (begins_with_step (viewed parts)) (all-free j) (second_literal (viewed parts)) (viewed-labels parts j)) in
+      let node : known (names ++ later) (w.Node kind works) ≡ known_node (kind_in declared form (drop begin stated) (viewed parts)) inner =
+      known-node (names ++ later) kind works ∙ (λ j. known_node (named j) (all-known later j)) in
       let slot : slots ≡ low + length (known_node (kind_in declared form (drop begin stated) (viewed parts)) inner).kept
       = all-counted ∙ ap (λ (kept : List Kept). low + length kept) (sym (node-kept declared form (drop begin stated) (viewed parts) inner)) in
       is ∙ ((λ j. kept_if (keeps_is j) (slot j) (high j) (node j))
       ∙ (λ j. kept_if (is_kept_by (drop ahead stated) (g.node form (viewed parts)))
-      (low + length (known_node (kind_in declared form (behind j) (viewed parts)) (walked_inside declared outer (behind j) low (viewed parts))).kept) (length outer)
+      (low + length (known_node (kind_in declared form (behind j) (viewed parts)) (walked_inside declared outer (behind j) low (viewed parts))).kept)
+      (length outer)
       (known_node (kind_in declared form (behind j) (viewed parts)) (walked_inside declared outer (behind j) low (viewed parts)))))
 
 -- the work of a part without parts, in its slot where it is kept
-pub leaf-known : (declared : Declared) (stated : List Part) (bound : List (List ℕ)) (names : List Name) (ahead low slots height : ℕ) (x : Leaf) (keeps : Bool) (work kept : Work)
+pub leaf-known : (declared : Declared) (stated : List Part) (bound : List (List ℕ)) (names : List Name) (ahead low slots height : ℕ) (x : Leaf) (keeps : Bool)
+    (work kept : Work)
     → slots ≡ low → height ≡ length bound → keeps ≡ is_kept_by (drop ahead stated) (g.leaf x) → known names work ≡ known_alone (leaf_of declared bound x)
     → known names kept ≡ kept_if keeps slots height (known names work) → known names kept ≡ walked declared bound (drop ahead stated) low (g.leaf x)
 unfolding walked
@@ -249,7 +273,8 @@ pub leaf-passed : (ahead new : ℕ) (x : Leaf) → new ≡ ahead + 1 → new ≡
 unfolding size
 leaf-passed ahead new x is = is
 
-pub leaf-slots : (declared : Declared) (stated : List Part) (bound : List (List ℕ)) (ahead low new : ℕ) (x : Leaf) (keeps : Bool) → keeps ≡ is_kept_by (drop ahead stated) (g.leaf x) → new ≡ low + one_if keeps
+pub leaf-slots : (declared : Declared) (stated : List Part) (bound : List (List ℕ)) (ahead low new : ℕ) (x : Leaf) (keeps : Bool) →
+    keeps ≡ is_kept_by (drop ahead stated) (g.leaf x) → new ≡ low + one_if keeps
     → new ≡ low + length (walked declared bound (drop ahead stated) low (g.leaf x)).kept
 leaf-slots declared stated bound ahead low new x keeps keeps_is is =
     is ∙ (ap (λ keeps. low + one_if keeps) keeps_is ∙ ap (λ n. low + n) (sym (leaf-length declared bound (drop ahead stated) low x)))

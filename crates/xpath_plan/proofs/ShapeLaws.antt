@@ -13,9 +13,11 @@ mutual
 
   pub onces_are : (env : Environment) (token : ℕ) (place : Place) (x : Tree) → onces (shapes env token place x) ≡ map is_kept (placed env token x)
   onces_are env token place (g.leaf x) = refl
-  onces_are env token place (g.node form parts) = ap (λ others. is_kept (record { environment = env; token = token; part = g.node form parts }) ∷ others) (inner_are env form token true parts)
+  onces_are env token place (g.node form parts) = ap (λ others. is_kept (record { environment = env; token = token; part = g.node form parts }) ∷ others)
+      (inner_are env form token true parts)
 
-  inner_are : (env : Environment) (form : Form) (at : ℕ) (first : Bool) (parts : Parts) → onces (shapes_inside env form at first parts) ≡ map is_kept (placed_inside env form at parts)
+  inner_are : (env : Environment) (form : Form) (at : ℕ) (first : Bool) (parts : Parts) →
+      onces (shapes_inside env form at first parts) ≡ map is_kept (placed_inside env form at parts)
   inner_are env form at first g.none = refl
   inner_are env form at first (g.more label x parts) =
       let token : ℕ = at + length (g.label_tokens label) in

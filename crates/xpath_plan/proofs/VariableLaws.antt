@@ -19,11 +19,13 @@ pub variable-is : (name : List ℕ) (names : List (List ℕ)) → variable_in na
 variable-is name [] = refl
 variable-is name (inner ∷ outer) = by (bytes_eq name inner) (variable-is name outer) where
   by : (b : Bool) → variable_in name outer ≡ variable_at name (height_in name outer)
-      → elim b as (λ _. Exp) [ true ↦ e.variable (length outer) | false ↦ variable_in name outer ] ≡ variable_at name (elim b as (λ _. Option ℕ) [ true ↦ Some (length outer) | false ↦ height_in name outer ])
+      → elim b as (λ _. Exp) [ true ↦ e.variable (length outer) | false ↦ variable_in name outer ] ≡ variable_at name
+      (elim b as (λ _. Option ℕ) [ true ↦ Some (length outer) | false ↦ height_in name outer ])
   by true rest = refl
   by false rest = rest
 
-pub variable-found : (text name : List ℕ) (bound : List (List ℕ)) (found : Option ℕ) → text ≡ name → found ≡ height_in text bound → variable_at name found ≡ variable_in name bound
+pub variable-found : (text name : List ℕ) (bound : List (List ℕ)) (found : Option ℕ) → text ≡ name → found ≡ height_in text bound →
+    variable_at name found ≡ variable_in name bound
 variable-found text name bound found is e = ap (variable_at name) (e ∙ ap (λ t. height_in t bound) is) ∙ sym (variable-is name bound)
 
 module _ (height : ℕ) (bound : List (List ℕ)) (high : height ≤ length bound) where

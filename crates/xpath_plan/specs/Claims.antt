@@ -155,7 +155,8 @@ IsSteady part = (nodes : List Node) (c d : Context) → IsAtNode part.height c �
 
 -- It has one value at an item, whatever the position and the last one.
 abbrev pub IsFree : Exp → Type 0
-IsFree x = (nodes : List Node) (c : Context) (item : _) (position last position' last' : ℕ) → mean nodes x (at c item position last) ≡ mean nodes x (at c item position' last')
+IsFree x = (nodes : List Node) (c : Context) (item : _) (position last position' last' : ℕ) →
+    mean nodes x (at c item position last) ≡ mean nodes x (at c item position' last')
 
 -- The part is the one of its slot among these, and has one value at all nodes.
 pub record IsPlaced (parts : List Kept) (part : Kept) : Type 0 where

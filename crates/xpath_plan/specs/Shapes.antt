@@ -100,7 +100,8 @@ all_free env form at (g.more label x parts) =
     let token : ℕ = at + length (g.label_tokens label) in
     let inner : Environment = inside form label env in
     let part : Judged = judged inner token x in
-    is_free label (facts (record { environment = inner; token = token; part = x })) && all_free (behind form label part.kinds env) form (token + length (g.written x)) parts
+    is_free label (facts (record { environment = inner; token = token; part = x })) &&
+    all_free (behind form label part.kinds env) form (token + length (g.written x)) parts
 
 -- The part's value is kept: it is the same at all nodes, and no literal.
 abbrev pub is_kept : Placed → Bool
@@ -112,7 +113,11 @@ unfoldable mutual
   shapes env at place (g.leaf x) =
       record { shape = leaf_shape env.declared place x true; once = is_kept (record { environment = env; token = at; part = g.leaf x }) } ∷ []
   shapes env at place (g.node form parts) =
-      record { shape = form_shape env.declared place (all_free env form at parts) form parts; once = is_kept (record { environment = env; token = at; part = g.node form parts }) }
+      record {
+        shape = form_shape env.declared place (all_free env form at parts) form parts;
+        once =
+            is_kept (record { environment = env; token = at; part = g.node form parts });
+      }
       ∷ shapes_inside env form at true parts
 
   pub shapes_inside : Environment → Form → ℕ → Bool → Parts → List Shaped
@@ -120,7 +125,8 @@ unfoldable mutual
   shapes_inside env form at first (g.more label x parts) =
       let token : ℕ = at + length (g.label_tokens label) in
       let part : Judged = judged (inside form label env) token x in
-      shapes (inside form label env) token (place_of first label) x ++ shapes_inside (behind form label part.kinds env) form (token + length (g.written x)) false parts
+      shapes (inside form label env) token (place_of first label) x ++
+      shapes_inside (behind form label part.kinds env) form (token + length (g.written x)) false parts
 
 abbrev pub one_if : Bool → ℕ
 one_if true = 1

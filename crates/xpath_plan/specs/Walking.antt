@@ -56,7 +56,8 @@ unfoldable mutual
   pub walked : Declared → List (List ℕ) → List Part → ℕ → Tree → Known
   walked declared bound stated slots (g.leaf x) = finished bound stated slots (g.leaf x) (known_alone (leaf_of declared bound x))
   walked declared bound stated slots (g.node form parts) =
-      finished bound stated slots (g.node form parts) (known_node (kind_in declared form (drop 1 stated) parts) (walked_inside declared bound (drop 1 stated) slots parts))
+      finished bound stated slots (g.node form parts)
+      (known_node (kind_in declared form (drop 1 stated) parts) (walked_inside declared bound (drop 1 stated) slots parts))
 
   pub walked_inside : Declared → List (List ℕ) → List Part → ℕ → Parts → List (Link × Known)
   walked_inside declared bound stated slots g.none = []

@@ -61,7 +61,8 @@ fn leaf_work(
     state: &mut State,
     leaf: &Leaf,
 ) -> Result<Work, AllocError>
-    ensures work { IfOk result (λ work. (later : List Name) → known (state.new.names ++ later) work ≡ known_alone (meaning.leaf_of scope.now state.old.bound leaf.now)) }
+    ensures work { IfOk result (λ work. (later : List Name) →
+        known (state.new.names ++ later) work ≡ known_alone (meaning.leaf_of scope.now state.old.bound leaf.now)) }
     ensures grown { OnOk result (take (length state.old.names) state.new.names ≡ state.old.names) }
     ensures kept { OnOk result (state.new.bound ≡ state.old.bound) }
 {

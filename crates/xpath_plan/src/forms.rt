@@ -170,7 +170,8 @@ pub(crate) fn kind_of(
     parts: &[(Label, Expr)],
     free: bool,
 ) -> Result<Kind, AllocError>
-    ensures { IfOk result (λ kind. kind ≡ spec.kind_of scope.now form.now (begins_with_step (viewed parts.now)) free (spec.second_literal (viewed parts.now)) (map (λ part. part.0) parts.now)) }
+    ensures { IfOk result (λ kind. kind ≡ spec.kind_of scope.now form.now (begins_with_step (viewed parts.now)) free (spec.second_literal (viewed parts.now))
+        (map (λ part. part.0) parts.now)) }
 {
     match form {
         Form::Chain(_) => Ok(Kind::Chain),

@@ -38,7 +38,8 @@ fn named_in(
     uri: &str,
     local: &Txt,
 ) -> Result<Option<StepTest>, AllocError>
-    ensures test { IfOk result (λ test. (later : List Name) → spec.test_in (names.new ++ later) test ≡ Some (named (record { uri = chars uri.now; local = local.now }))) }
+    ensures test { IfOk result (λ test. (later : List Name) →
+        spec.test_in (names.new ++ later) test ≡ Some (named (record { uri = chars uri.now; local = local.now }))) }
     ensures grown { OnOk result (take (length names.old) names.new ≡ names.old) }
 {
     let number = names.number(alloc, uri, local.as_str())?;
@@ -93,7 +94,8 @@ fn step_of(
     form: AxisForm,
     test: &Test,
 ) -> Result<Simple, AllocError>
-    ensures step { IfOk result (λ step. (later : List Name) → spec.simple_seen (names.new ++ later) step ≡ meaning.step_of (meaning.axis_of form test.now) (meaning.test_of scope.now test.now)) }
+    ensures step { IfOk result (λ step. (later : List Name) → spec.simple_seen (names.new ++ later) step ≡ meaning.step_of (meaning.axis_of form test.now)
+        (meaning.test_of scope.now test.now)) }
     ensures grown { OnOk result (take (length names.old) names.new ≡ names.old) }
 {
     let axis = axis_of(form, test);
@@ -129,7 +131,8 @@ pub(crate) fn simple_of(
     state: &mut State,
     leaf: &Leaf,
 ) -> Result<Simple, AllocError>
-    ensures work { IfOk result (λ simple. (later : List Name) → spec.simple_seen (state.new.names ++ later) simple ≡ meaning.leaf_of scope.now state.old.bound leaf.now) }
+    ensures work { IfOk result (λ simple. (later : List Name) →
+        spec.simple_seen (state.new.names ++ later) simple ≡ meaning.leaf_of scope.now state.old.bound leaf.now) }
     ensures grown { OnOk result (take (length state.old.names) state.new.names ≡ state.old.names) }
     ensures kept { OnOk result (state.new.bound ≡ state.old.bound) }
 {

@@ -37,7 +37,8 @@ within-filter count test (x ∷ xs) h = go (test x) (within-filter count test xs
 
 pub within-reverse : (count : ℕ) (xs : List Item) → AreWithin count xs → AreWithin count (reverse xs)
 within-reverse count [] h = tt
-within-reverse count (x ∷ xs) h = within-along count _ _ (reverse-append (x ∷ []) xs) (within-append count (reverse xs) (x ∷ []) (within-reverse count xs h.1) (h.0, tt))
+within-reverse count (x ∷ xs) h = within-along count _ _ (reverse-append (x ∷ []) xs)
+    (within-append count (reverse xs) (x ∷ []) (within-reverse count xs h.1) (h.0, tt))
 
 -- The nodes of the value are among so many.
 pub record IsInside (count : ℕ) (value : Value) : Type 0 where
@@ -181,7 +182,8 @@ module _ (count : ℕ) where
   of_extreme_of before [] h = given tt
   of_extreme_of before (x ∷ xs) h = go (list_all (s.are_alike x) (x ∷ xs)) refl
     where
-      go : (b : Bool) → list_all (s.are_alike x) (x ∷ xs) ≡ b → IsInside count (elim b as (λ _. Value) [ true ↦ one (s.foremost before x xs) | false ↦ Err d.FORG0006 ])
+      go : (b : Bool) → list_all (s.are_alike x) (x ∷ xs) ≡ b →
+          IsInside count (elim b as (λ _. Value) [ true ↦ one (s.foremost before x xs) | false ↦ Err d.FORG0006 ])
       go true e = given (is-foremost before x xs h.0 h.1, tt)
       go false e = given tt
 
@@ -207,7 +209,8 @@ module _ (count : ℕ) where
   of_text : (ns : List Node) {h : List ℕ → Value} → ((t : List ℕ) → IsInside count (h t)) → (xs : List Item) → IsInside count (call.of_text ns h xs)
   of_text ns p xs = of_then (call.text_argument ns xs) p
 
-  of_texts : (ns : List Node) {h : List ℕ → List ℕ → Value} → ((t u : List ℕ) → IsInside count (h t u)) → (xs ys : List Item) → IsInside count (call.of_texts ns h xs ys)
+  of_texts : (ns : List Node) {h : List ℕ → List ℕ → Value} → ((t u : List ℕ) → IsInside count (h t u)) → (xs ys : List Item) →
+      IsInside count (call.of_texts ns h xs ys)
   of_texts ns p xs ys = of_then (call.text_argument ns xs) (λ t. of_then (call.text_argument ns ys) (λ u. p t u))
 
   of_number_of : (ns : List Node) {h : ℤ → Value} → ((z : ℤ) → IsInside count (h z)) → (xs : List Item) → IsInside count (call.of_number ns h xs)
@@ -256,7 +259,8 @@ module _ (count : ℕ) where
   of_called_with_one ns _ x h = given tt
 
   of_called_with_two : (ns : List Node) (function : Function) (x y : List Item) → IsInside count (call.called_with_two ns function x y)
-  of_called_with_two ns f.StringJoin x y = of_then (s.all_taken call.string_in (items.atomised ns x)) (λ texts. of_then (call.text_argument ns y) (λ t. given (tt, tt)))
+  of_called_with_two ns f.StringJoin x y = of_then (s.all_taken call.string_in (items.atomised ns x))
+      (λ texts. of_then (call.text_argument ns y) (λ t. given (tt, tt)))
   of_called_with_two ns f.Substring x y = of_then (call.text_argument ns x) (λ t. of_then (call.number_argument ns y) (λ z. given (tt, tt)))
   of_called_with_two ns f.Contains x y = of_texts ns (λ t u. given (tt, tt)) x y
   of_called_with_two ns f.StartsWith x y = of_texts ns (λ t u. given (tt, tt)) x y

@@ -34,7 +34,8 @@ level ground focus bound height k = context ground focus (take (height + k) boun
 -- how many turns are still to come of the items of each variable, the innermost first
 abbrev pub costs : List Node → List Operand → (ℕ → Context) → List (List Item) → ℕ
 costs nodes inner at [] = 0
-costs nodes inner at (items ∷ around) = total (λ item. cost nodes (drop (length around) inner) (inside (at (length around)) item)) items + costs nodes inner at around
+costs nodes inner at (items ∷ around) = total (λ item. cost nodes (drop (length around) inner) (inside (at (length around)) item)) items + costs nodes inner at
+    around
 
 -- what the turns come to that are still to be taken
 abbrev pub turns_onto : Binder → (Item → Value) → List Item → Value → Value
@@ -44,4 +45,5 @@ turns_onto binder f (item ∷ items) behind = join binder (f item) (turns_onto b
 abbrev pub to_come : Binder → List Node → List Operand → (ℕ → Context) → List (List Item) → Value
 to_come binder nodes inner at [] = no_turns binder
 to_come binder nodes inner at (items ∷ around) =
-    turns_onto binder (λ item. mean nodes (bound_all binder (drop (length around) inner)) (inside (at (length around)) item)) items (to_come binder nodes inner at around)
+    turns_onto binder (λ item. mean nodes (bound_all binder (drop (length around) inner)) (inside (at (length around)) item)) items
+    (to_come binder nodes inner at around)

@@ -25,7 +25,8 @@ pub there-no_deeper : (parts : List (Link × Work)) (k : ℕ) (part : Link × Wo
 there-no_deeper parts k part within is =
     (no_deeper parts k part within is, subst (λ (p : Link × Work). depth p.1 ≤ deepest parts) is (no_deeper parts k part within is))
 
-pub first-no_deeper : (parts others : List (Link × Work)) (part : Link × Work) → parts ≡ part ∷ others → (depth part.1 ≤ deepest parts) × (deepest others ≤ deepest parts)
+pub first-no_deeper : (parts others : List (Link × Work)) (part : Link × Work) → parts ≡ part ∷ others → (depth part.1 ≤ deepest parts) ×
+    (deepest others ≤ deepest parts)
 first-no_deeper parts others part is = (omega (arith, ap deepest is), omega (arith, ap deepest is))
 
 pub dropped-no_deeper : (n : ℕ) (parts : List (Link × Work)) → deepest (drop n parts) ≤ deepest parts

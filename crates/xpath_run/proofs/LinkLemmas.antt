@@ -30,7 +30,8 @@ slash-then : (v : Value) (f g : List Item → Value) → then_ (then_ v f) g ≡
 slash-then (Ok xs) f g = refl
 slash-then (Err error) f g = refl
 
-by-operator : (nodes : List Node) (operator : Operator) (x y : Exp) (c : Context) → mean nodes (linked_by operator x y) c ≡ then_ (mean nodes x c) (λ xs. behind nodes operator xs y c)
+by-operator : (nodes : List Node) (operator : Operator) (x y : Exp) (c : Context) →
+    mean nodes (linked_by operator x y) c ≡ then_ (mean nodes x c) (λ xs. behind nodes operator xs y c)
 by-operator nodes o.Slash x y c = refl
 by-operator nodes o.DoubleSlash x y c = slash-then (mean nodes x c) (path nodes (turn nodes all_inside c)) (path nodes (turn nodes y c))
 by-operator nodes o.And x y c = both-then (mean nodes x c) (λ holds. elim holds [ true ↦ boolean (truth_of (mean nodes y c)) | false ↦ boolean (Ok false) ])
@@ -54,7 +55,8 @@ same-then (Ok items) = refl
 same-then (Err error) = refl
 
 -- predicates behind an expression
-pub by-predicates : (nodes : List Node) (parts : List Operand) (x : Exp) (c : Context) → mean nodes (kept_of x parts) c ≡ then_ (mean nodes x c) (λ items. kept_by_all (λ e. turn nodes e c) parts items)
+pub by-predicates : (nodes : List Node) (parts : List Operand) (x : Exp) (c : Context) →
+    mean nodes (kept_of x parts) c ≡ then_ (mean nodes x c) (λ items. kept_by_all (λ e. turn nodes e c) parts items)
 by-predicates nodes [] x c = same-then (mean nodes x c)
 by-predicates nodes (part ∷ parts) x c = by-predicates nodes parts (e.filtered x part.1) c
     ∙ slash-then (mean nodes x c) (filtered_by (turn nodes part.1 c)) (λ items. kept_by_all (λ e. turn nodes e c) parts items)
@@ -65,16 +67,19 @@ ordered-none nodes [] = refl
 ordered-none nodes (node ∷ all) = ordered-none nodes all
 
 -- `//` and a step on the child axis
-step-inside : (nodes : List Node) (test : Option NodeTest) (before : Value) (c : Context) → linked_value nodes (l.Operator o.DoubleSlash) before (step_of a.Child test) c ≡ inside_value nodes test before
+step-inside : (nodes : List Node) (test : Option NodeTest) (before : Value) (c : Context) →
+    linked_value nodes (l.Operator o.DoubleSlash) before (step_of a.Child test) c ≡ inside_value nodes test before
 step-inside nodes None before c = refl
 step-inside nodes (Some test) before c = refl
 
-inside-is : (link : Link) (operator : Operator) (y : Exp) (test : Option NodeTest) → link ≡ l.Operator operator → operator ≡ o.DoubleSlash → y ≡ step_of a.Child test → IsInside link y test
+inside-is : (link : Link) (operator : Operator) (y : Exp) (test : Option NodeTest) → link ≡ l.Operator operator → operator ≡ o.DoubleSlash →
+    y ≡ step_of a.Child test → IsInside link y test
 inside-is link operator y test is double same = λ nodes before c.
     ap (λ link. linked_value nodes link before y c) (is ∙ ap l.Operator double)
     ∙ (ap (λ y. linked_value nodes (l.Operator o.DoubleSlash) before y c) same ∙ step-inside nodes test before c)
 
-pub inside-found : (names : List Name) (link : Link) (operator : Operator) (y : Exp) (found : Option (Bor StepTest)) → link ≡ l.Operator operator → operator ≡ o.DoubleSlash
+pub inside-found : (names : List Name) (link : Link) (operator : Operator) (y : Exp) (found : Option (Bor StepTest)) → link ≡ l.Operator operator →
+    operator ≡ o.DoubleSlash
     → IfSome found (λ test. y ≡ step_of a.Child (test_seen names test.now)) → IfSome found (λ test. IsInside link y (test_seen names test.now))
 inside-found names link operator y None is double h = tt
 inside-found names link operator y (Some test) is double h = inside-is link operator y (test_seen names test.now) is double h

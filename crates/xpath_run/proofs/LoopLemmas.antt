@@ -1,5 +1,6 @@
 -- What a turn of each loop keeps.
-use Rattle.std.proofs.Common.{◌≡◌, ℕ, suc, ◌+◌, ◌<◌, Bool, true, false, List, [], ◌∷◌, ◌++◌, length, drop, get_or, Result, Ok, Err, if◌then◌else◌, refl, sym, ap, ◌∙◌, subst, arith, append_assoc, append-nil}
+use Rattle.std.proofs.Common.{◌≡◌, ℕ, suc, ◌+◌, ◌<◌, Bool, true, false, List, [], ◌∷◌, ◌++◌, length, drop, get_or, Result, Ok, Err, if◌then◌else◌, refl, sym}
+use Rattle.std.proofs.Common.{ap, ◌∙◌, subst, arith, append_assoc, append-nil}
 use Rattle.std.proofs.lemmas.List.{drop_more}
 use Rattle.inv_base.specs.Tree.{Node, Name}
 use Rattle.xpath_items.specs.declared.fault.Fault.{Fault}
@@ -25,7 +26,8 @@ use Rattle.xpath_run.proofs.WithinLemmas.{within-along, within-append}
 pub here : {X : Type 0} (xs : List X) (i : ℕ) (x : X) → i < length xs → x ≡ get_or xs i x → drop i xs ≡ x ∷ drop (i + 1) xs
 here xs i x h at = drop_more xs i x h ∙ ap (λ y. y ∷ drop (i + 1) xs) (sym at)
 
-behind-again : {X : Type 0} (xs ys : List X) (others : Result (List X) DynError) → behind_those (xs ++ ys) others ≡ behind_those xs (then_ others (λ zs. Ok (ys ++ zs)))
+behind-again : {X : Type 0} (xs ys : List X) (others : Result (List X) DynError) →
+    behind_those (xs ++ ys) others ≡ behind_those xs (then_ others (λ zs. Ok (ys ++ zs)))
 behind-again xs ys (Ok zs) = ap Ok (append_assoc xs ys zs)
 behind-again xs ys (Err error) = refl
 
@@ -35,24 +37,29 @@ pub begun : (values : List (List Item)) (others : Result (List (List Item)) DynE
 begun values (Ok zs) is = ap (λ vs. Ok (vs ++ zs)) is
 begun values (Err error) is = refl
 
-module _ (nodes : List Node) (names : List Name) (c : Context) (parts : List (Link × Work)) (i : ℕ) (part : Link × Work) (within : i < length parts) (at : part ≡ get_or parts i part) where
+module _ (nodes : List Node) (names : List Name) (c : Context) (parts : List (Link × Work)) (i : ℕ) (part : Link × Work) (within : i < length parts)
+    (at : part ≡ get_or parts i part) where
   pub argument-ok : (values values' : List (List Item)) (items : List Item) → mean nodes (seen names part.1) c ≡ Ok items → values' ≡ values ++ items ∷ []
-      → behind_those values' (means nodes (arguments_of (operands_of names (drop (i + 1) parts))) c) ≡ behind_those values (means nodes (arguments_of (operands_of names (drop i parts))) c)
+      → behind_those values' (means nodes (arguments_of (operands_of names (drop (i + 1) parts))) c) ≡ behind_those values
+      (means nodes (arguments_of (operands_of names (drop i parts))) c)
   argument-ok values values' items is pushed =
       ap (λ values. behind_those values (means nodes (arguments_of (operands_of names (drop (i + 1) parts))) c)) pushed
       ∙ (behind-again values (items ∷ []) (means nodes (arguments_of (operands_of names (drop (i + 1) parts))) c)
-      ∙ (ap (λ v. behind_those values (then_ v (λ value. then_ (means nodes (arguments_of (operands_of names (drop (i + 1) parts))) c) (λ values. Ok (value ∷ values))))) (sym is)
+      ∙ (ap (λ v. behind_those values
+      (then_ v (λ value. then_ (means nodes (arguments_of (operands_of names (drop (i + 1) parts))) c) (λ values. Ok (value ∷ values))))) (sym is)
       ∙ ap (λ parts. behind_those values (means nodes (arguments_of (operands_of names parts)) c)) (sym (here parts i part within at))))
 
   pub argument-err : (values : List (List Item)) (error : DynError) → mean nodes (seen names part.1) c ≡ Err error
       → behind_those values (means nodes (arguments_of (operands_of names (drop i parts))) c) ≡ Err error
   argument-err values error is =
       ap (λ parts. behind_those values (means nodes (arguments_of (operands_of names parts)) c)) (here parts i part within at)
-      ∙ ap (λ v. behind_those values (then_ v (λ value. then_ (means nodes (arguments_of (operands_of names (drop (i + 1) parts))) c) (λ values. Ok (value ∷ values))))) is
+      ∙ ap (λ v. behind_those values (then_ v (λ value. then_ (means nodes (arguments_of (operands_of names (drop (i + 1) parts))) c)
+      (λ values. Ok (value ∷ values))))) is
 
 -- Links
 
-pub link-step : (nodes : List Node) (names : List Name) (c : Context) (parts : List (Link × Work)) (i : ℕ) (part : Link × Work) (within : i < length parts) (at : part ≡ get_or parts i part) (before after : Value)
+pub link-step : (nodes : List Node) (names : List Name) (c : Context) (parts : List (Link × Work)) (i : ℕ) (part : Link × Work) (within : i < length parts)
+    (at : part ≡ get_or parts i part) (before after : Value)
     → after ≡ linked_value nodes part.0 before (seen names part.1) c
     → chain_value nodes (linked_parts names (drop (i + 1) parts)) after c ≡ chain_value nodes (linked_parts names (drop i parts)) before c
 link-step nodes names c parts i part within at before after is =
@@ -61,7 +68,8 @@ link-step nodes names c parts i part within at before after is =
 
 -- Predicates
 
-module _ (f : Exp → Item → ℕ → ℕ → Value) (names : List Name) (parts : List (Link × Work)) (i : ℕ) (part : Link × Work) (within : i < length parts) (at : part ≡ get_or parts i part) (items : List Item) where
+module _ (f : Exp → Item → ℕ → ℕ → Value) (names : List Name) (parts : List (Link × Work)) (i : ℕ) (part : Link × Work) (within : i < length parts)
+    (at : part ≡ get_or parts i part) (items : List Item) where
   abbrev kept_here : Value → Value
   kept_here v = then_ v (λ kept. kept_by_all f (operands_of names (drop (i + 1) parts)) kept)
 
@@ -72,10 +80,12 @@ module _ (f : Exp → Item → ℕ → ℕ → Value) (names : List Name) (parts
       → kept_by_all f (operands_of names (drop (i + 1) parts)) kept ≡ kept_by_all f (operands_of names (drop i parts)) items
   predicate-ok kept is = sym (opened ∙ ap kept_here is)
 
-  pub predicate-err : (error : DynError) → filtered_by (f (seen names part.1)) items ≡ Err error → kept_by_all f (operands_of names (drop i parts)) items ≡ Err error
+  pub predicate-err : (error : DynError) → filtered_by (f (seen names part.1)) items ≡ Err error →
+      kept_by_all f (operands_of names (drop i parts)) items ≡ Err error
   predicate-err error is = opened ∙ ap kept_here is
 
-  pub predicate-fault : (whole : Value) (fault : Fault) → kept_by_all f (operands_of names (drop i parts)) items ≡ whole → Gives {X = List Item} (Err fault) (filtered_by (f (seen names part.1)) items) → Gives {X = List Item} (Err fault) whole
+  pub predicate-fault : (whole : Value) (fault : Fault) → kept_by_all f (operands_of names (drop i parts)) items ≡ whole →
+      Gives {X = List Item} (Err fault) (filtered_by (f (seen names part.1)) items) → Gives {X = List Item} (Err fault) whole
   predicate-fault whole m.Memory goes is = tt
   predicate-fault whole (m.Error error) goes is = sym goes ∙ predicate-err error is
 
@@ -84,13 +94,15 @@ module _ (f : Exp → Item → ℕ → ℕ → Value) (names : List Name) (parts
 pub fewer : {X : Type 0} (items rest : List X) (x : X) (long short : ℕ) → items ≡ x ∷ rest → short + 1 ≡ long → long ≡ length items → short ≡ length rest
 fewer items rest x long short e l h = omega (arith, ap length e)
 
-pub counts : {X : Type 0} (items rest : List X) (x : X) (position last : ℕ) → items ≡ x ∷ rest → position + length items ≡ last → position + 1 + length rest ≡ last
+pub counts : {X : Type 0} (items rest : List X) (x : X) (position last : ℕ) → items ≡ x ∷ rest → position + length items ≡ last →
+    position + 1 + length rest ≡ last
 counts items rest x position last e h = omega (arith, ap length e, h)
 
 pub rest-within : (count : ℕ) (items rest : List Item) (x : Item) → items ≡ x ∷ rest → AreWithin count items → IsWithin count x × AreWithin count rest
 rest-within count items rest x e h = subst (AreWithin count) e h
 
-pub kept-within : (count : ℕ) (b : Bool) (x : Item) (out out' : List Item) → out' ≡ out ++ (if b then x ∷ [] else []) → IsWithin count x → AreWithin count out → AreWithin count out'
+pub kept-within : (count : ℕ) (b : Bool) (x : Item) (out out' : List Item) → out' ≡ out ++ (if b then x ∷ [] else []) → IsWithin count x → AreWithin count out →
+    AreWithin count out'
 kept-within count true x out out' e h k = within-along count out' (out ++ x ∷ []) e (within-append count out (x ∷ []) k (h, tt))
 kept-within count false x out out' e h k = within-along count out' (out ++ []) e (within-append count out [] k tt)
 
@@ -122,7 +134,8 @@ module _ (f : Item → ℕ → ℕ → Value) (last p q : ℕ) (q_is : q ≡ suc
   kept-opened : behind_those out (kept f last (suc p) items) ≡ behind_those out (answered_then q (f x q last))
   kept-opened = ap (λ items. behind_those out (kept f last (suc p) items)) items_are ∙ ap (λ q. behind_those out (answered_then q (f x q last))) (sym q_is)
 
-  with-kept : (b : Bool) (others : Value) → behind_those (out ++ (if b then x ∷ [] else [])) others ≡ behind_those out (then_ others (λ others. Ok (with_kept b x others)))
+  with-kept : (b : Bool) (others : Value) → behind_those (out ++ (if b then x ∷ [] else [])) others ≡ behind_those out
+      (then_ others (λ others. Ok (with_kept b x others)))
   with-kept true others = behind-again out (x ∷ []) others
   with-kept false (Ok zs) = ap (λ out. Ok (out ++ zs)) (append-nil out)
   with-kept false (Err error) = refl
@@ -139,6 +152,7 @@ module _ (f : Item → ℕ → ℕ → Value) (last p q : ℕ) (q_is : q ≡ suc
   pub keep-err : (error : DynError) → f x q last ≡ Err error → behind_those out (kept f last (suc p) items) ≡ Err error
   keep-err error is = kept-opened ∙ ap (λ v. behind_those out (answered_then q v)) is
 
-  pub keep-unjudged : (answer : List Item) (error : DynError) → f x q last ≡ Ok answer → keeps q answer ≡ Err error → behind_those out (kept f last (suc p) items) ≡ Err error
+  pub keep-unjudged : (answer : List Item) (error : DynError) → f x q last ≡ Ok answer → keeps q answer ≡ Err error →
+      behind_those out (kept f last (suc p) items) ≡ Err error
   keep-unjudged answer error is judged =
       kept-opened ∙ (ap (λ v. behind_those out (answered_then q v)) is ∙ ap (λ r. behind_those out (kept_then q r)) judged)

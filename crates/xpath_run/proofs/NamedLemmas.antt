@@ -1,5 +1,6 @@
 -- Which works are walks along the chain of a name, and what they mean.
-use Rattle.std.proofs.Common.{◌≡◌, ◌==◌, ◌+◌, ◌*◌, ◌≤◌, ℕ, suc, zero, Result, Ok, Err, OnOk, option_map, get_or, length, arith, Bool, true, false, List, [], ◌∷◌, map, Option, Some, None, IfSome, refl, ap, sym, ◌∙◌}
+use Rattle.std.proofs.Common.{◌≡◌, ◌==◌, ◌+◌, ◌*◌, ◌≤◌, ℕ, suc, zero, Result, Ok, Err, OnOk, option_map, get_or, length, arith, Bool, true, false, List, []}
+use Rattle.std.proofs.Common.{◌∷◌, map, Option, Some, None, IfSome, refl, ap, sym, ◌∙◌}
 use Rattle.std.proofs.lemmas.Bool.{false≢true}
 use Rattle.node_arena.specs.Moves.{tree_nodes}
 use Rattle.xpath_grammar.specs.declared.expr.Label.TheVariants as b
@@ -28,7 +29,9 @@ use Rattle.xpath_plan.specs.Plans.{seen, made, test_seen}
 use Rattle.xpath_run.specs.declared.ground.Ground.{Ground}
 use Rattle.xpath_run.specs.declared.named.Walk.{Walk}
 use Rattle.xpath_run.specs.Contexts.{value_in, context}
-use Rattle.xpath_run.specs.Named.{Form, name_of, name_on, child_name, is_item, simple_form, is_double_slash, is_other, child_of, is_item_form, inner_name, is_focus, as_walk, chain_walk, walk_form, plain_of, kept_form, node_form, is_chain, form_step, form, forms, any_of, plain_walk, walk_of, inner_part, focus_part, parts_by, walk_parts, begin_by}
+use Rattle.xpath_run.specs.Named.{Form, name_of, name_on, child_name, is_item, simple_form, is_double_slash, is_other, child_of, is_item_form, inner_name}
+use Rattle.xpath_run.specs.Named.{is_focus, as_walk, chain_walk, walk_form, plain_of, kept_form, node_form, is_chain, form_step, form, forms, any_of}
+use Rattle.xpath_run.specs.Named.{plain_walk, walk_of, inner_part, focus_part, parts_by, walk_parts, begin_by}
 use Rattle.xpath_run.specs.Slots.{whole_step, whole_slot}
 use Rattle.xpath_run.specs.Whole.{IsWhole}
 use Rattle.xpath_run.proofs.SeenLemmas.{seen-node, seen-simple}

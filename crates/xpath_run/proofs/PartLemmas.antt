@@ -83,7 +83,8 @@ module _ (names : List Name) (parts : List (Link × Work)) where
   abbrev IsFound : Option (Bor Work) → Type 0
   IsFound found = IfSome found (λ work. IsOnly (operands_of names parts) (seen names work.now))
 
-  pub chain-only-part : (found : Option (Bor Work)) → is_plain_one (operands_of names parts) ≡ true → IsFound found → IfSome found (λ work. chained (operands_of names parts) ≡ seen names work.now)
+  pub chain-only-part : (found : Option (Bor Work)) → is_plain_one (operands_of names parts) ≡ true → IsFound found →
+      IfSome found (λ work. chained (operands_of names parts) ≡ seen names work.now)
   chain-only-part None plain h = tt
   chain-only-part (Some work) plain h = chain-only (operands_of names parts) (seen names work.now) plain h
 
@@ -92,7 +93,8 @@ module _ (names : List Name) (parts : List (Link × Work)) where
   no-plain-one None plain h = absurd (plain-one (operands_of names parts) plain h)
   no-plain-one (Some work) plain h = tt
 
-  pub bound-only-part : (binder : Binder) (found : Option (Bor Work)) → IsFound found → IfSome found (λ work. bound_all binder (operands_of names parts) ≡ seen names work.now)
+  pub bound-only-part : (binder : Binder) (found : Option (Bor Work)) → IsFound found →
+      IfSome found (λ work. bound_all binder (operands_of names parts) ≡ seen names work.now)
   bound-only-part binder None h = tt
   bound-only-part binder (Some work) h = bound-only binder (operands_of names parts) (seen names work.now) h
 
@@ -101,7 +103,8 @@ module _ (names : List Name) (parts : List (Link × Work)) where
   bound-plain-part binder None h = bound-plain binder (operands_of names parts) h
   bound-plain-part binder (Some work) h = tt
 
-  pub filtered-only-part : (found : Option (Bor Work)) → IsFound found → IfSome found (λ work. filtered_of false (operands_of names parts) ≡ seen names work.now)
+  pub filtered-only-part : (found : Option (Bor Work)) → IsFound found →
+      IfSome found (λ work. filtered_of false (operands_of names parts) ≡ seen names work.now)
   filtered-only-part None h = tt
   filtered-only-part (Some work) h = filtered-only (operands_of names parts) (seen names work.now) h
 

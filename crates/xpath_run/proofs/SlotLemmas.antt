@@ -1,5 +1,6 @@
 -- Parts that are kept, and what slots hold of them.
-use Rattle.std.proofs.Common.{◌≡◌, ℕ, suc, zero, ◌<◌, true, List, [], ◌∷◌, ◌++◌, length, drop, map, Option, Some, None, option_map, IfSome, get_or, Result, Ok, Err, IfOk, OnOk, OnErr, refl, sym, ap, ◌∙◌, subst, arith, ⊎_elim, append-nil}
+use Rattle.std.proofs.Common.{◌≡◌, ℕ, suc, zero, ◌<◌, true, List, [], ◌∷◌, ◌++◌, length, drop, map, Option, Some, None, option_map, IfSome, get_or, Result, Ok}
+use Rattle.std.proofs.Common.{Err, IfOk, OnOk, OnErr, refl, sym, ap, ◌∙◌, subst, arith, ⊎_elim, append-nil}
 use Rattle.std.specs.Prelude.{slice_get, slice_set, replicate}
 use Rattle.std.specs.declared.alloc.AllocError.{AllocError}
 use Rattle.node_arena.specs.Document.{Document}

@@ -5,7 +5,8 @@ use Rattle.xpath_run.specs.Turns.{advanced, TakesFirst}
 use Rattle.xpath_run.proofs.WithinLemmas.{reverse-push}
 
 -- turns that are through are dropped
-pub still_advanced : (turns turns' : List (List Item)) (turn turn' : List Item) → turns ≡ turns' ++ turn ∷ [] → TakesFirst turn None turn' → advanced (reverse turns) ≡ advanced (reverse turns')
+pub still_advanced : (turns turns' : List (List Item)) (turn turn' : List Item) → turns ≡ turns' ++ turn ∷ [] → TakesFirst turn None turn' →
+    advanced (reverse turns) ≡ advanced (reverse turns')
 still_advanced turns turns' turn turn' is through =
     ap (λ turns. advanced (reverse turns)) is ∙ (ap advanced (reverse-push turns' turn) ∙ ap (λ turn. advanced (turn ∷ reverse turns')) through)
 

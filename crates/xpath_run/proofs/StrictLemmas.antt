@@ -29,7 +29,8 @@ same-value (Ok items) = refl
 same-value (Err error) = refl
 
 -- `matches` with its pattern, at the value of the first argument
-matches-value : (nodes : List Node) (pattern : List ℕ) (v : Value) (focus : Focus) → then_ (then_ v (λ items. Ok (items ∷ (i.String pattern ∷ []) ∷ []))) (call nodes f.Matches focus)
+matches-value : (nodes : List Node) (pattern : List ℕ) (v : Value) (focus : Focus) →
+    then_ (then_ v (λ items. Ok (items ∷ (i.String pattern ∷ []) ∷ []))) (call nodes f.Matches focus)
     ≡ then_ (then_ v (λ items. Ok (items ∷ []))) (finished nodes (m.Matches pattern) focus)
 matches-value nodes pattern (Ok items) focus = refl
 matches-value nodes pattern (Err error) focus = refl
@@ -37,7 +38,8 @@ matches-value nodes pattern (Err error) focus = refl
 strict-value : (nodes : List Node) (kind : Kind) (parts : List Operand) (c : Context) → is_strict kind ≡ true
     → mean nodes (made kind parts) c ≡ then_ (means nodes (arguments_of (wanted kind parts)) c) (finished nodes kind c.focus)
 strict-value nodes (m.Cast word function optional) [] c h = refl
-strict-value nodes (m.Cast word function optional) (part ∷ parts) c h = one-argument (mean nodes part.1 c) (finished nodes (m.Cast word function optional) c.focus)
+strict-value nodes (m.Cast word function optional) (part ∷ parts) c h =
+    one-argument (mean nodes part.1 c) (finished nodes (m.Cast word function optional) c.focus)
 strict-value nodes (m.Signs signs) [] c h = refl
 strict-value nodes (m.Signs signs) (part ∷ parts) c h = one-argument (mean nodes part.1 c) (finished nodes (m.Signs signs) c.focus)
 strict-value nodes m.Only [] c h = refl
@@ -75,7 +77,8 @@ wanted-no_deeper (m.Matches pattern) parts = first_alone-no_deeper parts
 wanted-no_deeper _ parts = omega arith
 
 -- a strict kind, at the parts that it wants
-pub strict : (nodes : List Node) (names : List Name) (kind : Kind) (parts wanted_parts : List (Link × Work)) (c : Context) → is_strict kind ≡ true → wanted_parts ≡ wanted kind parts
+pub strict : (nodes : List Node) (names : List Name) (kind : Kind) (parts wanted_parts : List (Link × Work)) (c : Context) → is_strict kind ≡ true →
+    wanted_parts ≡ wanted kind parts
     → mean nodes (made kind (operands_of names parts)) c ≡ then_ (means nodes (arguments_of (operands_of names wanted_parts)) c) (finished nodes kind c.focus)
 strict nodes names kind parts wanted_parts c h is =
     strict-value nodes kind (operands_of names parts) c h

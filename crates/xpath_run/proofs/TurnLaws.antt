@@ -1,5 +1,6 @@
 -- The stack of turns comes to what the bindings mean.
-use Rattle.std.proofs.Common.{◌≡◌, ℕ, suc, ◌+◌, ◌<◌, Bool, true, false, List, [], ◌∷◌, length, drop, Option, Some, None, Result, Ok, Err, refl, sym, ap, ◌∙◌, arith, append_assoc}
+use Rattle.std.proofs.Common.{◌≡◌, ℕ, suc, ◌+◌, ◌<◌, Bool, true, false, List, [], ◌∷◌, length, drop, Option, Some, None, Result, Ok, Err, refl, sym, ap, ◌∙◌}
+use Rattle.std.proofs.Common.{arith, append_assoc}
 use Rattle.inv_base.specs.Tree.{Node}
 use Rattle.xpath_grammar.specs.declared.operators.Binder.{Binder}
 use Rattle.xpath_grammar.specs.declared.operators.Binder.TheVariants as b
@@ -70,13 +71,17 @@ module _ (f : Item → Value) where
   every-again (Ok false) v w = refl
 
   -- turns inside a turn are turns before those behind it
-  onto-joined : (binder : Binder) (items : List Item) (behind : Value) → join binder (turns_onto binder f items (no_turns binder)) behind ≡ turns_onto binder f items behind
+  onto-joined : (binder : Binder) (items : List Item) (behind : Value) →
+      join binder (turns_onto binder f items (no_turns binder)) behind ≡ turns_onto binder f items behind
   onto-joined b.For [] behind = joined-nothing behind
-  onto-joined b.For (item ∷ items) behind = joined-again (f item) (turns_onto b.For f items (Ok [])) behind ∙ ap (joined (f item)) (onto-joined b.For items behind)
+  onto-joined b.For (item ∷ items) behind = joined-again (f item) (turns_onto b.For f items (Ok [])) behind ∙
+      ap (joined (f item)) (onto-joined b.For items behind)
   onto-joined b.Some [] behind = refl
-  onto-joined b.Some (item ∷ items) behind = some-again (truth_of (f item)) (turns_onto b.Some f items (boolean (Ok false))) behind ∙ ap (if_some (truth_of (f item))) (onto-joined b.Some items behind)
+  onto-joined b.Some (item ∷ items) behind = some-again (truth_of (f item)) (turns_onto b.Some f items (boolean (Ok false))) behind ∙
+      ap (if_some (truth_of (f item))) (onto-joined b.Some items behind)
   onto-joined b.Every [] behind = refl
-  onto-joined b.Every (item ∷ items) behind = every-again (truth_of (f item)) (turns_onto b.Every f items (boolean (Ok true))) behind ∙ ap (if_every (truth_of (f item))) (onto-joined b.Every items behind)
+  onto-joined b.Every (item ∷ items) behind = every-again (truth_of (f item)) (turns_onto b.Every f items (boolean (Ok true))) behind ∙
+      ap (if_every (truth_of (f item))) (onto-joined b.Every items behind)
 
   pub bound-joined : (binder : Binder) (items : List Item) (behind : Value) → join binder (bound_by binder f items) behind ≡ turns_onto binder f items behind
   bound-joined binder items behind = ap (λ v. join binder v behind) (bound-onto binder items) ∙ onto-joined binder items behind
@@ -98,7 +103,8 @@ after-nothing b.Every v = refl
 pub part-err : (nodes : List Node) (binder : Binder) (part : Operand) (parts : List Operand) (c : Context) (error : DynError) → mean nodes part.1 c ≡ Err error
     → mean nodes (bound_all binder (part ∷ parts)) c ≡ Err error
 part-err nodes binder part [] c error is = is
-part-err nodes binder part (next ∷ parts) c error is = ap (λ v. then_ v (bound_by binder (λ item. mean nodes (bound_all binder (next ∷ parts)) (inside c item)))) is
+part-err nodes binder part (next ∷ parts) c error is =
+    ap (λ v. then_ v (bound_by binder (λ item. mean nodes (bound_all binder (next ∷ parts)) (inside c item)))) is
 
 -- Levels
 
@@ -111,10 +117,12 @@ module _ (binder : Binder) (nodes : List Node) (inner : List Operand) where
   same-to_come at at' [] same = refl
   same-to_come at at' (items ∷ around) same =
       let here : at (length around) ≡ at' (length around) = same (length around) (omega arith) in
-      let others : to_come binder nodes inner at around ≡ to_come binder nodes inner at' around = same-to_come at at' around (λ k h. same k (omega (arith, h))) in
+      let others : to_come binder nodes inner at around ≡ to_come binder nodes inner at' around =
+      same-to_come at at' around (λ k h. same k (omega (arith, h))) in
       λ j. turns_onto binder (λ item. mean nodes (bound_all binder (drop (length around) inner)) (inside (here j) item)) items (others j)
 
-  pub same-costs : (at at' : ℕ → Context) (levels : List (List Item)) → ((k : ℕ) → k < length levels → at k ≡ at' k) → costs nodes inner at levels ≡ costs nodes inner at' levels
+  pub same-costs : (at at' : ℕ → Context) (levels : List (List Item)) → ((k : ℕ) → k < length levels → at k ≡ at' k) →
+      costs nodes inner at levels ≡ costs nodes inner at' levels
   same-costs at at' [] same = refl
   same-costs at at' (items ∷ around) same =
       let here : at (length around) ≡ at' (length around) = same (length around) (omega arith) in
@@ -135,10 +143,12 @@ abbrev pub rest_in : Option (Item × List (List Item)) → List (List Item)
 rest_in None = []
 rest_in (Some next) = next.1
 
-module _ (binder : Binder) (nodes : List Node) (inner : List Operand) (at : ℕ → Context) (item : Item) (rest : List (List Item)) (k : ℕ) (long : length rest ≡ suc k) where
+module _ (binder : Binder) (nodes : List Node) (inner : List Operand) (at : ℕ → Context) (item : Item) (rest : List (List Item)) (k : ℕ)
+    (long : length rest ≡ suc k) where
   -- at the next item
   pub to_come-next : (levels : List (List Item)) → advanced levels ≡ Some (item, rest)
-      → to_come binder nodes inner at levels ≡ join binder (mean nodes (bound_all binder (drop k inner)) (inside (at k) item)) (to_come binder nodes inner at rest)
+      → to_come binder nodes inner at levels ≡ join binder (mean nodes (bound_all binder (drop k inner)) (inside (at k) item))
+      (to_come binder nodes inner at rest)
   to_come-next [] is = absurd (no-some (sym is))
   to_come-next ([] ∷ around) is = to_come-next around is
   to_come-next ((x ∷ xs) ∷ around) is =

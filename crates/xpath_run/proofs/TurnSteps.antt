@@ -1,5 +1,6 @@
 -- One turn of `for`, `some` or `every`, in the stack of turns.
-use Rattle.std.proofs.Common.{◌≡◌, ℕ, suc, zero, ◌+◌, ◌<◌, ◌≤◌, Bool, true, false, List, [], ◌∷◌, ◌++◌, length, take, drop, reverse, get_or, Some, None, Ok, Err, refl, sym, ap, ◌∙◌, subst, arith}
+use Rattle.std.proofs.Common.{◌≡◌, ℕ, suc, zero, ◌+◌, ◌<◌, ◌≤◌, Bool, true, false, List, [], ◌∷◌, ◌++◌, length, take, drop, reverse, get_or, Some, None, Ok}
+use Rattle.std.proofs.Common.{Err, refl, sym, ap, ◌∙◌, subst, arith}
 use Rattle.std.proofs.lemmas.List.{drop_more, at_drop_all, take-take, take-append-le, length-take, length-reverse}
 use Rattle.inv_base.specs.Tree.{Node, Name}
 use Rattle.node_arena.specs.Moves.{tree_nodes}
@@ -21,7 +22,8 @@ use Rattle.xpath_run.specs.Contexts.{context, operands_of, value_in}
 use Rattle.xpath_run.specs.Links.{bound_value}
 use Rattle.xpath_run.specs.Turns.{Takes, Advances, join, no_turns, decided, after, advanced}
 use Rattle.xpath_run.proofs.Costs.{total, total_of, cost, costs, turns_onto, to_come, level}
-use Rattle.xpath_run.proofs.TurnLaws.{bound-onto, bound-joined, join-err, after-nothing, part-err, same-to_come, same-costs, to_come-none, to_come-next, costs-next, no-some, rest_in}
+use Rattle.xpath_run.proofs.TurnLaws.{bound-onto, bound-joined, join-err, after-nothing, part-err, same-to_come, same-costs, to_come-none, to_come-next}
+use Rattle.xpath_run.proofs.TurnLaws.{costs-next, no-some, rest_in}
 use Rattle.xpath_run.proofs.WithinLemmas.{reverse-push}
 
 pub length-push : {X : Type 0} (ys : List X) (y : X) → length (ys ++ y ∷ []) ≡ suc (length ys)
@@ -49,7 +51,8 @@ pub record IsTurn (height : ℕ) (parts : List (Link × Work)) (bound bound' : L
   pub bound_is : bound' ≡ take (height + k) bound ++ item ∷ []
   pub part_is : drop k parts ≡ part ∷ drop (k + 1) parts
 
-pub is-turn : (height : ℕ) (parts : List (Link × Work)) (bound bound' now : List Item) (turns turns' : List (List Item)) (part : Link × Work) (b : Bool) (n : ℕ) → Advances height turns bound (Ok b) turns' now → b ≡ true
+pub is-turn : (height : ℕ) (parts : List (Link × Work)) (bound bound' now : List Item) (turns turns' : List (List Item)) (part : Link × Work) (b : Bool) (n : ℕ)
+    → Advances height turns bound (Ok b) turns' now → b ≡ true
     → bound' ≡ now → n + 1 ≡ length turns' → drop n parts ≡ part ∷ drop (n + 1) parts → IsTurn height parts bound bound' turns turns' part
 is-turn height parts bound bound' now turns turns' part b n advances holds same count at =
     let known : Advances height turns bound (Ok true) turns' now = subst (λ b. Advances height turns bound (Ok b) turns' now) holds advances in
@@ -69,12 +72,14 @@ advanced-length [] rest item is = absurd (no-some (sym is))
 advanced-length ([] ∷ around) rest item is = omega (arith, advanced-length around rest item is)
 advanced-length ((x ∷ xs) ∷ around) rest item is = omega (arith, ap length (ap rest_in is))
 
-pub fewer-advanced : (height : ℕ) (bound now : List Item) (turns turns' : List (List Item)) (b : Bool) → Advances height turns bound (Ok b) turns' now → b ≡ true → (length turns' ≤ length turns) × (0 < length turns')
+pub fewer-advanced : (height : ℕ) (bound now : List Item) (turns turns' : List (List Item)) (b : Bool) → Advances height turns bound (Ok b) turns' now →
+    b ≡ true → (length turns' ≤ length turns) × (0 < length turns')
 fewer-advanced height bound now turns turns' b advances holds =
     let known : Advances height turns bound (Ok true) turns' now = subst (λ b. Advances height turns bound (Ok b) turns' now) holds advances in
     (omega (arith, advanced-length (reverse turns) (reverse turns') known.0 known.2, length-reverse turns, length-reverse turns'), omega (arith, known.3))
 
-pub none-advanced : (height : ℕ) (bound now : List Item) (turns turns' : List (List Item)) (b : Bool) → Advances height turns bound (Ok b) turns' now → b ≡ false → advanced (reverse turns) ≡ None
+pub none-advanced : (height : ℕ) (bound now : List Item) (turns turns' : List (List Item)) (b : Bool) → Advances height turns bound (Ok b) turns' now →
+    b ≡ false → advanced (reverse turns) ≡ None
 none-advanced height bound now turns turns' b advances holds = subst (λ b. Advances height turns bound (Ok b) turns' now) holds advances
 
 module _ (binder : Binder) (ground : Ground) (focus : Focus) (height : ℕ) (parts : List (Link × Work)) where
@@ -89,7 +94,8 @@ module _ (binder : Binder) (ground : Ground) (focus : Focus) (height : ℕ) (par
 
   -- before the first turn
   pub begins : (bound : List Item) (items : List Item) → height ≡ length bound
-      → after binder [] (to_come binder nodes inner (level ground focus bound height) (items ∷ [])) ≡ bound_value binder nodes inner items (context ground focus bound)
+      → after binder [] (to_come binder nodes inner (level ground focus bound height) (items ∷ [])) ≡ bound_value binder nodes inner items
+      (context ground focus bound)
   begins bound items high =
       let same : take (height + 0) bound ≡ bound = take-whole (height + 0) bound (omega (arith, high)) in
       after-nothing binder (to_come binder nodes inner (level ground focus bound height) (items ∷ []))
@@ -137,7 +143,8 @@ module _ (binder : Binder) (ground : Ground) (focus : Focus) (height : ℕ) (par
 
     -- what the part is evaluated in
     context-here : context ground focus bound' ≡ here
-    context-here = ap (context ground focus) bound_is ∙ (λ j. record { focus = focus; bound = reverse-push (take (height + k) bound) item j; outer = ground.env.now })
+    context-here = ap (context ground focus) bound_is ∙
+        (λ j. record { focus = focus; bound = reverse-push (take (height + k) bound) item j; outer = ground.env.now })
 
     front : length (take (height + k) bound) ≡ height + k
     front = omega (arith, length-take (height + k) bound, room)
@@ -145,7 +152,8 @@ module _ (binder : Binder) (ground : Ground) (focus : Focus) (height : ℕ) (par
     same-below : (j : ℕ) → j < length rest → now j ≡ before j
     same-below j h =
         let below : height + j ≤ height + k = omega (arith, h, length-reverse turns', long) in
-        ap (context ground focus) (ap (take (height + j)) bound_is ∙ (take-append-le (height + j) (take (height + k) bound) (item ∷ []) (omega (arith, below, front)) ∙ take-take (height + j) (height + k) bound below))
+        ap (context ground focus) (ap (take (height + j)) bound_is ∙
+        (take-append-le (height + j) (take (height + k) bound) (item ∷ []) (omega (arith, below, front)) ∙ take-take (height + j) (height + k) bound below))
 
     same-rest : to_come binder nodes inner now rest ≡ to_come binder nodes inner before rest
     same-rest = same-to_come binder nodes inner now before rest same-below
@@ -156,7 +164,8 @@ module _ (binder : Binder) (ground : Ground) (focus : Focus) (height : ℕ) (par
     rest-long : length rest ≡ suc k
     rest-long = length-reverse turns' ∙ long
 
-    opened : to_come binder nodes inner before (reverse turns) ≡ join binder (mean nodes (bound_all binder (drop k inner)) here) (to_come binder nodes inner before rest)
+    opened : to_come binder nodes inner before (reverse turns) ≡ join binder (mean nodes (bound_all binder (drop k inner)) here)
+        (to_come binder nodes inner before rest)
     opened = to_come-next binder nodes inner before item rest k rest-long (reverse turns) next
 
     inner-here : drop k inner ≡ (label_of part.0, seen names part.1) ∷ operands_of names (drop (k + 1) parts)
@@ -168,11 +177,13 @@ module _ (binder : Binder) (ground : Ground) (focus : Focus) (height : ℕ) (par
     found-is : found_here ≡ mean nodes (seen names part.1) here
     found-is = ap (mean nodes (seen names part.1)) context-here
 
-    pub turn-err : (out : List Item) (error : DynError) → found_here ≡ Err error → after binder out (to_come binder nodes inner before (reverse turns)) ≡ Err error
+    pub turn-err : (out : List Item) (error : DynError) → found_here ≡ Err error →
+        after binder out (to_come binder nodes inner before (reverse turns)) ≡ Err error
     turn-err out error is =
         ap (after binder out) opened
         ∙ (ap (λ v. after binder out (join binder v (to_come binder nodes inner before rest)))
-        (ap (λ parts. mean nodes (bound_all binder parts) here) inner-here ∙ part-err nodes binder (label_of part.0, seen names part.1) (operands_of names (drop (k + 1) parts)) here error (sym found-is ∙ is))
+        (ap (λ parts. mean nodes (bound_all binder parts) here) inner-here ∙
+        part-err nodes binder (label_of part.0, seen names part.1) (operands_of names (drop (k + 1) parts)) here error (sym found-is ∙ is))
         ∙ join-err binder out error (to_come binder nodes inner before rest))
 
     module _ (found : List Item) (is : found_here ≡ Ok found) where
@@ -182,19 +193,23 @@ module _ (binder : Binder) (ground : Ground) (focus : Focus) (height : ℕ) (par
         none-behind = at_drop_all (λ (xs : List (Link × Work)). xs) parts (k + 1) (omega (arith, last, long))
 
         last-value : mean nodes (bound_all binder (drop k inner)) here ≡ Ok found
-        last-value = ap (λ parts. mean nodes (bound_all binder parts) here) (inner-here ∙ ap (λ behind. (label_of part.0, seen names part.1) ∷ operands_of names behind) none-behind) ∙ (sym found-is ∙ is)
+        last-value = ap (λ parts. mean nodes (bound_all binder parts) here)
+            (inner-here ∙ ap (λ behind. (label_of part.0, seen names part.1) ∷ operands_of names behind) none-behind) ∙ (sym found-is ∙ is)
 
-        last-opened : after binder out (to_come binder nodes inner before (reverse turns)) ≡ after binder out (join binder (Ok found) (to_come binder nodes inner before rest))
+        last-opened : after binder out (to_come binder nodes inner before (reverse turns)) ≡ after binder out
+            (join binder (Ok found) (to_come binder nodes inner before rest))
         last-opened = ap (after binder out) opened ∙ ap (λ v. after binder out (join binder v (to_come binder nodes inner before rest))) last-value
 
         pub taken-more : (out' : List Item) → Takes binder out found (Ok false) out'
             → after binder out' (to_come binder nodes inner now rest) ≡ after binder out (to_come binder nodes inner before (reverse turns))
         taken-more out' takes = ap (after binder out') same-rest ∙ sym (last-opened ∙ takes (to_come binder nodes inner before rest))
 
-        pub taken-decided : (out' : List Item) → Takes binder out found (Ok true) out' → after binder out (to_come binder nodes inner before (reverse turns)) ≡ decided binder
+        pub taken-decided : (out' : List Item) → Takes binder out found (Ok true) out' →
+            after binder out (to_come binder nodes inner before (reverse turns)) ≡ decided binder
         taken-decided out' takes = last-opened ∙ takes (to_come binder nodes inner before rest)
 
-        pub taken-err : (out' : List Item) (error : DynError) → Takes binder out found (Err (f.Error error)) out' → after binder out (to_come binder nodes inner before (reverse turns)) ≡ Err error
+        pub taken-err : (out' : List Item) (error : DynError) → Takes binder out found (Err (f.Error error)) out' →
+            after binder out (to_come binder nodes inner before (reverse turns)) ≡ Err error
         taken-err out' error takes = last-opened ∙ takes (to_come binder nodes inner before rest)
 
       pub fewer : costs nodes inner now rest < costs nodes inner before (reverse turns)
@@ -227,15 +242,19 @@ module _ (binder : Binder) (ground : Ground) (focus : Focus) (height : ℕ) (par
             long-bound = omega (arith, ap length bound_is ∙ length-push (take (height + k) bound) item, front)
 
         more-opened : mean nodes (bound_all binder (drop k inner)) here ≡ bound_by binder (λ it. mean nodes (bound_all binder behind) (inside here it)) found
-        more-opened = ap (λ parts. mean nodes (bound_all binder parts) here) (inner-here ∙ ap (λ behind. (label_of part.0, seen names part.1) ∷ operands_of names behind) behind-is)
+        more-opened = ap (λ parts. mean nodes (bound_all binder parts) here)
+            (inner-here ∙ ap (λ behind. (label_of part.0, seen names part.1) ∷ operands_of names behind) behind-is)
             ∙ ap (λ v. then_ v (bound_by binder (λ it. mean nodes (bound_all binder behind) (inside here it)))) (sym found-is ∙ is)
 
-        onto-is : to_come binder nodes inner now (found ∷ rest) ≡ turns_onto binder (λ it. mean nodes (bound_all binder behind) (inside here it)) found (to_come binder nodes inner before rest)
+        onto-is : to_come binder nodes inner now (found ∷ rest) ≡ turns_onto binder (λ it. mean nodes (bound_all binder behind) (inside here it)) found
+            (to_come binder nodes inner before rest)
         onto-is = λ j. turns_onto binder (λ it. mean nodes (bound_all binder (level-is j)) (inside (now-is j) it)) found (same-rest j)
 
-        pub pushed-more : (out : List Item) → after binder out (to_come binder nodes inner now (reverse turns'')) ≡ after binder out (to_come binder nodes inner before (reverse turns))
+        pub pushed-more : (out : List Item) → after binder out (to_come binder nodes inner now (reverse turns'')) ≡ after binder out
+            (to_come binder nodes inner before (reverse turns))
         pushed-more out = ap (λ levels. after binder out (to_come binder nodes inner now levels)) stack-is
-            ∙ ap (after binder out) (onto-is ∙ (sym (bound-joined (λ it. mean nodes (bound_all binder behind) (inside here it)) binder found (to_come binder nodes inner before rest))
+            ∙ ap (after binder out) (onto-is ∙
+            (sym (bound-joined (λ it. mean nodes (bound_all binder behind) (inside here it)) binder found (to_come binder nodes inner before rest))
             ∙ (ap (λ v. join binder v (to_come binder nodes inner before rest)) (sym more-opened) ∙ sym opened)))
 
         cost-here : cost nodes (drop k inner) here ≡ total (λ it. cost nodes behind (inside here it)) found
@@ -250,17 +269,20 @@ module _ (binder : Binder) (ground : Ground) (focus : Focus) (height : ℕ) (par
 
     -- what is left of the bound items around, and how many there are
     pub around-kept : take height bound' ≡ take height bound
-    around-kept = ap (take height) bound_is ∙ (take-append-le height (take (height + k) bound) (item ∷ []) (omega (arith, front)) ∙ take-take height (height + k) bound (omega arith))
+    around-kept = ap (take height) bound_is ∙ (take-append-le height (take (height + k) bound) (item ∷ []) (omega (arith, front)) ∙
+        take-take height (height + k) bound (omega arith))
 
     pub high-now : length bound' ≡ height + length turns'
     high-now = omega (arith, long, ap length bound_is ∙ length-push (take (height + k) bound) item, front)
 
     -- a fault of the part
-    pub turn-fault : (out : List Item) (whole : Value) (fault : Fault) → after binder out (to_come binder nodes inner before (reverse turns)) ≡ whole → Gives {X = List Item} (Err fault) found_here → Gives {X = List Item} (Err fault) whole
+    pub turn-fault : (out : List Item) (whole : Value) (fault : Fault) → after binder out (to_come binder nodes inner before (reverse turns)) ≡ whole →
+        Gives {X = List Item} (Err fault) found_here → Gives {X = List Item} (Err fault) whole
     turn-fault out whole f.Memory goes is = tt
     turn-fault out whole (f.Error error) goes is = sym goes ∙ turn-err out error is
 
-    pub taken-fault : (found : List Item) (is : found_here ≡ Ok found) (last : length parts ≤ length turns') (out out' : List Item) (whole : Value) (fault : Fault) → after binder out (to_come binder nodes inner before (reverse turns)) ≡ whole
+    pub taken-fault : (found : List Item) (is : found_here ≡ Ok found) (last : length parts ≤ length turns') (out out' : List Item) (whole : Value)
+        (fault : Fault) → after binder out (to_come binder nodes inner before (reverse turns)) ≡ whole
         → Takes binder out found (Err fault) out' → Gives {X = List Item} (Err fault) whole
     taken-fault found is last out out' whole f.Memory goes takes = tt
     taken-fault found is last out out' whole (f.Error error) goes takes = sym goes ∙ taken-err found is last out out' error takes

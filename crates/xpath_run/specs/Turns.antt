@@ -52,7 +52,8 @@ advanced ((item ∷ items) ∷ around) = Some (item, items ∷ around)
 -- The next item is bound in its place, or there was none.
 abbrev pub Advances : ℕ → List (List Item) → List Item → Result Bool AllocError → List (List Item) → List Item → Type 0
 Advances height turns bound (Ok true) turns' bound' =
-    (item : Item) × (k : ℕ) × (advanced (reverse turns) ≡ Some (item, reverse turns')) × (length turns' ≡ suc k) × (height + k ≤ length bound) × (bound' ≡ take (height + k) bound ++ item ∷ [])
+    (item : Item) × (k : ℕ) × (advanced (reverse turns) ≡ Some (item, reverse turns')) × (length turns' ≡ suc k) × (height + k ≤ length bound) ×
+    (bound' ≡ take (height + k) bound ++ item ∷ [])
 Advances height turns bound (Ok false) turns' bound' = advanced (reverse turns) ≡ None
 Advances height turns bound (Err error) turns' bound' = Unit {0}
 

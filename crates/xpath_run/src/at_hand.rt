@@ -51,7 +51,8 @@ fn of_slot<'r, 'a>(
 ) -> Option<Lent<'r, 'a>>
     requires placed { PlacedNode ground.now kind.now parts.now }
     requires slots { AreHeld ground.now slots.now }
-    ensures value { IfSome result (λ found. lent_value found ≡ value_in ground.now (made kind.now (operands_of ground.now.names.now parts.now)) focus.now bound.now) }
+    ensures value { IfSome result (λ found. lent_value found ≡ value_in ground.now
+        (made kind.now (operands_of ground.now.names.now parts.now)) focus.now bound.now) }
     ensures within { IfSome result (λ found. ValueWithin (count ground.now) (lent_value found)) }
 {
     match kind {

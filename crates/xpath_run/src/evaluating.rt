@@ -192,7 +192,8 @@ fn values_of<'a, L: Ledger>(
     requires ready { IsReady ground.now focus.now bound.old.items }
     requires placed { PlacedParts ground.now parts.now }
     requires slots { AreHeld ground.now slots.old }
-    ensures value { Gives result (means (tree_nodes ground.now.doc.now) (arguments_of (operands_of ground.now.names.now parts.now)) (context ground.now focus.now bound.old.items)) }
+    ensures value { Gives result (means (tree_nodes ground.now.doc.now) (arguments_of (operands_of ground.now.names.now parts.now))
+        (context ground.now focus.now bound.old.items)) }
     ensures within { IfOk result (λ values. AllWithin (count ground.now) values) }
     ensures kept { bound.new.items ≡ bound.old.items }
     ensures held { AreHeld ground.now slots.new }
@@ -287,7 +288,8 @@ fn links_on<'a, L: Ledger>(
     requires before { ValueWithin (count ground.now) (values_spec.value before) }
     requires placed { PlacedParts ground.now parts.now }
     requires slots { AreHeld ground.now slots.old }
-    ensures value { Gives result (links.chain_value (tree_nodes ground.now.doc.now) (links.linked_parts ground.now.names.now parts.now) (values_spec.value before.entry) (context ground.now focus.now bound.old.items)) }
+    ensures value { Gives result (links.chain_value (tree_nodes ground.now.doc.now) (links.linked_parts ground.now.names.now parts.now)
+        (values_spec.value before.entry) (context ground.now focus.now bound.old.items)) }
     ensures within { IfOk result (λ items. AreWithin (count ground.now) items) }
     ensures kept { bound.new.items ≡ bound.old.items }
     ensures held { AreHeld ground.now slots.new }
@@ -350,7 +352,8 @@ fn operand<'a, L: Ledger>(
     requires xs { AreWithin (count ground.now) xs }
     requires placed { PlacedWork ground.now work.now }
     requires slots { AreHeld ground.now slots.old }
-    ensures value { IfOk result (λ outcome. values_spec.value outcome ≡ then_ (value_in ground.now (seen ground.now.names.now work.now) focus.now bound.old.items)
+    ensures value { IfOk result (λ outcome. values_spec.value outcome ≡ then_
+        (value_in ground.now (seen ground.now.names.now work.now) focus.now bound.old.items)
         (links.joined_by (tree_nodes ground.now.doc.now) link xs.entry)) }
     ensures within { IfOk result (λ outcome. ValueWithin (count ground.now) (values_spec.value outcome)) }
     ensures kept { bound.new.items ≡ bound.old.items }
@@ -393,7 +396,8 @@ fn path<'a, L: Ledger>(
     requires items { AreWithin (count ground.now) items }
     requires placed { PlacedWork ground.now work.now }
     requires slots { AreHeld ground.now slots.old }
-    ensures value { Gives result (steps_spec.path (tree_nodes ground.now.doc.now) (turn_in ground.now (seen ground.now.names.now work.now) bound.old.items) items.entry) }
+    ensures value { Gives result (steps_spec.path (tree_nodes ground.now.doc.now)
+        (turn_in ground.now (seen ground.now.names.now work.now) bound.old.items) items.entry) }
     ensures within { IfOk result (λ items. AreWithin (count ground.now) items) }
     ensures kept { bound.new.items ≡ bound.old.items }
     ensures held { AreHeld ground.now slots.new }
@@ -653,7 +657,8 @@ fn take_turns<'a, L: Ledger>(
     requires inside { 0 < length inside.now }
     requires placed { PlacedParts ground.now inside.now }
     requires slots { AreHeld ground.now slots.old }
-    ensures value { Gives result (links.bound_value binder (tree_nodes ground.now.doc.now) (operands_of ground.now.names.now inside.now) items.entry (context ground.now focus.now bound.old.items)) }
+    ensures value { Gives result (links.bound_value binder (tree_nodes ground.now.doc.now) (operands_of ground.now.names.now inside.now) items.entry
+        (context ground.now focus.now bound.old.items)) }
     ensures within { IfOk result (λ items. AreWithin (count ground.now) items) }
     ensures kept { take (length bound.old.items) bound.new.items ≡ bound.old.items }
     ensures held { AreHeld ground.now slots.new }

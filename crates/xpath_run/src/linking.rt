@@ -153,7 +153,8 @@ pub(crate) fn step_inside<'a, L: Ledger>(
 ) -> Result<Outcome<'a>, AllocError>
     requires numbered { IsNumbered ground.now }
     requires within { ValueWithin (count ground.now) (value before) }
-    ensures value { IfOk result (λ found. value found ≡ spec.inside_value (tree_nodes ground.now.doc.now) (test_seen ground.now.names.now test.now) (value before.entry)) }
+    ensures value { IfOk result (λ found. value found ≡ spec.inside_value (tree_nodes ground.now.doc.now) (test_seen ground.now.names.now test.now)
+        (value before.entry)) }
     ensures within { IfOk result (λ found. ValueWithin (count ground.now) (value found)) }
 {
     match before {

@@ -220,9 +220,11 @@ pub(crate) fn walked<'a, L: Ledger>(
 ) -> Result<Outcome<'a>, AllocError>
     requires ready { IsReady ground.now focus.now [] }
     requires focus { focus.now.item ≡ Item.Node n }
-    ensures value { IfOk result (λ outcome. value outcome ≡ value_in ground.now (seen ground.now.names.now (w.Node Kind.Chain (spec.walk_parts walk))) focus.now []) }
+    ensures value { IfOk result (λ outcome. value outcome ≡ value_in ground.now (seen ground.now.names.now (w.Node Kind.Chain (spec.walk_parts walk))) focus.now
+        []) }
     ensures within { IfOk result (λ outcome. ValueWithin (count ground.now) (value outcome)) }
-    ensures cost { Bounds (length (chain_of (tree_nodes ground.now.doc.now) (test_seen ground.now.names.now (StepTest.Named walk.name)))) walk.is_leading result steps.old steps.new }
+    ensures cost { Bounds (length (chain_of (tree_nodes ground.now.doc.now) (test_seen ground.now.names.now (StepTest.Named walk.name)))) walk.is_leading result
+        steps.old steps.new }
 {
     let from = begin_at(ground, walk, n);
     let found = inside_named(

@@ -111,7 +111,8 @@ impl<'p: 'a, 'd, 'a> Run<'p, 'd, 'a> {
         ensures free { (slot : ℕ) (v : Answer) → whole_slot self.old.plan.work ≡ Some slot → is_node focus.now.item ≡ true
             → get_or self.old.slots slot None ≡ Some v → steps.new ≡ steps.old }
         ensures cost { (walk : Walk) → walk_of self.old.plan.work ≡ Some walk → IsEmptyAt self.old.plan.work self.old.slots → is_node focus.now.item ≡ true
-            → Bounds (length (chain_of (tree_nodes self.old.document) (test_seen self.old.plan.names (StepTest.Named walk.name)))) walk.is_leading result steps.old steps.new }
+            → Bounds (length (chain_of (tree_nodes self.old.document) (test_seen self.old.plan.names (StepTest.Named walk.name)))) walk.is_leading result
+            steps.old steps.new }
     {
         let ground = Ground {
             alloc,

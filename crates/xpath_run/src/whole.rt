@@ -70,7 +70,8 @@ pub(crate) fn run_whole<'a, L: Ledger>(
     ensures free { (slot : ℕ) (v : Value) → whole_slot work.now ≡ Some slot → is_node focus.now.item ≡ true
         → get_or slots.old slot None ≡ Some v → steps.new ≡ steps.old }
     ensures cost { (walk : Walk) → walk_of work.now ≡ Some walk → IsEmptyAt work.now slots.old → is_node focus.now.item ≡ true
-        → Bounds (length (chain_of (tree_nodes ground.now.doc.now) (test_seen ground.now.names.now (StepTest.Named walk.name)))) walk.is_leading result steps.old steps.new }
+        → Bounds (length (chain_of (tree_nodes ground.now.doc.now) (test_seen ground.now.names.now (StepTest.Named walk.name)))) walk.is_leading result
+        steps.old steps.new }
 {
     let Some((slot, part)) = whole_part(work) else {
         return plainly(ground, work, focus, slots, steps);
@@ -101,7 +102,8 @@ fn plainly<'a, L: Ledger>(
     ensures held { AreHeld ground.now slots.new }
     ensures grown { Grows slots.old slots.new }
     ensures cost { (walk : Walk) → plain_walk work.now ≡ Some walk → is_node focus.now.item ≡ true
-        → Bounds (length (chain_of (tree_nodes ground.now.doc.now) (test_seen ground.now.names.now (StepTest.Named walk.name)))) walk.is_leading result steps.old steps.new }
+        → Bounds (length (chain_of (tree_nodes ground.now.doc.now) (test_seen ground.now.names.now (StepTest.Named walk.name)))) walk.is_leading result
+        steps.old steps.new }
 {
     match walk_in(work) {
         Some(walk) => match node_of(&focus.item) {

@@ -21,7 +21,8 @@ over_more f items k item old new whole l e n w =
     let rest = flat_map (at_number f) (drop (k + 1) items) in
     ap (λ xs. xs ++ node_items rest) n
     ∙ (append_assoc old (node_items (at_number f item)) (node_items rest)
-    ∙ (ap (λ xs. old ++ xs) (sym (ap (λ xs. node_items (flat_map (at_number f) xs)) (from_here items k item l e) ∙ map_append (λ m. i.Node m) (at_number f item) rest)) ∙ w))
+    ∙ (ap (λ xs. old ++ xs) (sym (ap (λ xs. node_items (flat_map (at_number f) xs)) (from_here items k item l e) ∙
+    map_append (λ m. i.Node m) (at_number f item) rest)) ∙ w))
 
 -- the end
 pub over_done : (f : ℕ → List ℕ) (items : List Item) (k : ℕ) (found whole : List Item) → length items ≤ k

@@ -1,5 +1,6 @@
 -- What is inside nodes, where what is inside a node inside another isn't gone over again.
-use Rattle.std.proofs.Common.{◌≡◌, ℕ, zero, suc, ◌+◌, ◌<◌, ◌≤◌, Bool, true, false, not, ◌&&◌, ◌||◌, ◌==◌, List, [], ◌∷◌, ◌++◌, length, get_or, drop, Option, Some, None, IfSome, Ok, refl, ap, sym, subst, ◌∙◌, arith}
+use Rattle.std.proofs.Common.{◌≡◌, ℕ, zero, suc, ◌+◌, ◌<◌, ◌≤◌, Bool, true, false, not, ◌&&◌, ◌||◌, ◌==◌, List, [], ◌∷◌, ◌++◌, length, get_or, drop, Option}
+use Rattle.std.proofs.Common.{Some, None, IfSome, Ok, refl, ap, sym, subst, ◌∙◌, arith}
 use Rattle.std.specs.List.{flat_map, list_all}
 use Rattle.std.proofs.lemmas.Bool.{and_parts, and_from, eq-eqb, false≢true}
 use Rattle.std.proofs.lemmas.List.{drop_all, drop_more}
@@ -48,7 +49,8 @@ among_append k [] ys = refl
 among_append k (x ∷ xs) ys = ap (λ b. k == x || b) (among_append k xs ys) ∙ sym (or_group (k == x) (is_among k xs) (is_among k ys))
 
 -- the numbers of the nodes among items lead to the same as the items
-pub over_numbers : (nodes : List Node) (test : Option NodeTest) (items : List Item) → flat_map (numbers_inside nodes test) (numbers_among items) ≡ numbers_over nodes a.Descendant test items
+pub over_numbers : (nodes : List Node) (test : Option NodeTest) (items : List Item) →
+    flat_map (numbers_inside nodes test) (numbers_among items) ≡ numbers_over nodes a.Descendant test items
 over_numbers nodes test [] = refl
 over_numbers nodes test (i.Node n ∷ items) =
     flat_map-cons (numbers_inside nodes test) n (numbers_among items) ∙ ap (λ ns. numbers_inside nodes test n ++ ns) (over_numbers nodes test items)
@@ -71,7 +73,12 @@ module _ (document : Document) (w : IsWalked document) where
   count = length document.nodes
 
   inside_within : (test : Option NodeTest) (n k : ℕ) → is_among k (numbers_inside nodes test n) ≡ true → k < length nodes
-  inside_within test n k h = omega (arith, w.long, number_within count (numbers_inside nodes test n) k (axis_within count nodes a.Descendant test n (document_below document w)) h)
+  inside_within test n k h = omega (
+    arith,
+    w.long,
+    number_within count (numbers_inside nodes test n) k
+        (axis_within count nodes a.Descendant test n (document_below document w)) h,
+  )
 
   -- What is inside a node inside another is inside that.
   inside_both : (test : Option NodeTest) (m n k : ℕ) → m < length nodes → n < length nodes → is_inside m (tree_node nodes n) ≡ true
@@ -79,7 +86,8 @@ module _ (document : Document) (w : IsWalked document) where
   inside_both None m n k lm ln i h = absurd (false≢true h)
   inside_both (Some test) m n k lm ln i h =
       let l : k < length nodes = inside_within (Some test) n k h in
-      let at : (o : ℕ) → is_among k (numbers_inside nodes (Some test) o) ≡ (is_on a.Descendant (tree_node nodes o) (tree_node nodes k) && passes a.Descendant test (tree_node nodes k)) =
+      let at : (o : ℕ) → is_among k (numbers_inside nodes (Some test) o) ≡ (is_on a.Descendant (tree_node nodes o) (tree_node nodes k) &&
+      passes a.Descendant test (tree_node nodes k)) =
       λ o. sym (among_nodes (numbers_inside nodes (Some test) o) k) ∙ has_from nodes w.walkable a.Descendant test o k refl l in
       let here = and_parts (is_on a.Descendant (tree_node nodes n) (tree_node nodes k)) (passes a.Descendant test (tree_node nodes k)) (sym (at n) ∙ h) in
       let on = and_parts (is_inside (tree_node nodes n).number (tree_node nodes k)) (not (is_attribute (tree_node nodes k))) here.0 in
@@ -96,7 +104,8 @@ module _ (document : Document) (w : IsWalked document) where
 
   pub record Gone (test : Option NodeTest) (from : List ℕ) (i : ℕ) (around : Option ℕ) (out : List ℕ) : Type 0 where
     pub inside : Around test around out
-    pub left : (k : ℕ) → (is_among k out || is_among k (flat_map (numbers_inside nodes test) (drop i from))) ≡ is_among k (flat_map (numbers_inside nodes test) from)
+    pub left : (k : ℕ) → (is_among k out || is_among k (flat_map (numbers_inside nodes test) (drop i from))) ≡ is_among k
+        (flat_map (numbers_inside nodes test) from)
 
   pub begins : (test : Option NodeTest) (from out : List ℕ) → out ≡ [] → Gone test from 0 None out
   begins test from out none = record {
@@ -105,7 +114,8 @@ module _ (document : Document) (w : IsWalked document) where
   }
 
   rest_is : (test : Option NodeTest) (from : List ℕ) (i n k : ℕ) → n ≡ get_or from i n → i < length from
-      → is_among k (flat_map (numbers_inside nodes test) (drop i from)) ≡ (is_among k (numbers_inside nodes test n) || is_among k (flat_map (numbers_inside nodes test) (drop (i + 1) from)))
+      → is_among k (flat_map (numbers_inside nodes test) (drop i from)) ≡ (is_among k (numbers_inside nodes test n) ||
+      is_among k (flat_map (numbers_inside nodes test) (drop (i + 1) from)))
   rest_is test from i n k e l =
       ap (λ ns. is_among k (flat_map (numbers_inside nodes test) ns)) (drop_more from i n l ∙ ap (λ m. m ∷ drop (i + 1) from) (sym e))
       ∙ (ap (is_among k) (flat_map-cons (numbers_inside nodes test) n (drop (i + 1) from))
@@ -116,7 +126,8 @@ module _ (document : Document) (w : IsWalked document) where
   covers test None n out ln c r k h = absurd (false≢true c)
   covers test (Some m) n out ln c r k h = r.1 k (inside_both test m n k r.0 ln c h)
 
-  pub goes_on : (test : Option NodeTest) (from : List ℕ) (i n : ℕ) (around : Option ℕ) (next : ℕ) (out out' : List ℕ) → n ≡ get_or from i n → i < length from → n < length nodes
+  pub goes_on : (test : Option NodeTest) (from : List ℕ) (i n : ℕ) (around : Option ℕ) (next : ℕ) (out out' : List ℕ) → n ≡ get_or from i n → i < length from →
+      n < length nodes
       → GoesIn nodes test around n next out out' → Gone test from i around out → Gone test from (i + 1) (Some next) out'
   goes_on test from i n around next out out' e l ln goes gone = go (is_covered nodes around n) refl goes
     where
@@ -133,7 +144,8 @@ module _ (document : Document) (w : IsWalked document) where
         inside = subst (λ m. Around test (Some m) out') (sym more.0) (
           ln,
           λ k is.
-              ap (is_among k) more.1 ∙ (among_append k out (numbers_inside nodes test n) ∙ or_right_so (is_among k out) (is_among k (numbers_inside nodes test n)) is),
+              ap (is_among k) more.1 ∙ (among_append k out (numbers_inside nodes test n) ∙
+              or_right_so (is_among k out) (is_among k (numbers_inside nodes test n)) is),
         );
         left = λ k.
             ap (λ ns. is_among k ns || is_among k (flat_map (numbers_inside nodes test) (drop (i + 1) from))) more.1
@@ -145,7 +157,8 @@ module _ (document : Document) (w : IsWalked document) where
   pub ends : (test : Option NodeTest) (from : List ℕ) (i : ℕ) (around : Option ℕ) (out : List ℕ) → length from ≤ i → Gone test from i around out
       → HasSame out (flat_map (numbers_inside nodes test) from)
   ends test from i around out l gone k =
-      sym (or_none (is_among k out)) ∙ (ap (λ ns. is_among k out || is_among k (flat_map (numbers_inside nodes test) ns)) (sym (drop_all i from l)) ∙ gone.left k)
+      sym (or_none (is_among k out)) ∙ (ap (λ ns. is_among k out || is_among k (flat_map (numbers_inside nodes test) ns)) (sym (drop_all i from l)) ∙
+      gone.left k)
     where
       or_none : (b : Bool) → (b || false) ≡ b
       or_none true = refl
@@ -153,7 +166,8 @@ module _ (document : Document) (w : IsWalked document) where
 
   -- ---- as the call has it
 
-  pub same_within : (test : Option NodeTest) (from : List ℕ) (out : List ℕ) → HasSame out (flat_map (numbers_inside nodes test) from) → AreWithin count (node_items out)
+  pub same_within : (test : Option NodeTest) (from : List ℕ) (out : List ℕ) → HasSame out (flat_map (numbers_inside nodes test) from) →
+      AreWithin count (node_items out)
   same_within test from out same = all_within out (λ k h. flat_within from k (sym (same k) ∙ h))
     where
       flat_within : (from : List ℕ) (k : ℕ) → is_among k (flat_map (numbers_inside nodes test) from) ≡ true → k < count
@@ -168,11 +182,16 @@ module _ (document : Document) (w : IsWalked document) where
 
       all_within : (ns : List ℕ) → ((k : ℕ) → is_among k ns ≡ true → k < count) → AreWithin count (node_items ns)
       all_within [] h = tt
-      all_within (n ∷ ns) h = (h n (or_left_so (n == n) (is_among n ns) (eq-eqb n n refl)), all_within ns (λ k is. h k (or_right_so (k == n) (is_among k ns) is)))
+      all_within (n ∷ ns) h = (
+        h n (or_left_so (n == n) (is_among n ns) (eq-eqb n n refl)),
+        all_within ns (λ k is. h k (or_right_so (k == n) (is_among k ns) is)),
+      )
 
   -- What is out, in document order, is what `//` and a step to children come to.
-  pub inside_is : (test : Option NodeTest) (items : List Item) (from out : List ℕ) (value : List Item) → AreWithin (length nodes) items → list_all is_node items ≡ true
-      → from ≡ numbers_among items → HasSame out (flat_map (numbers_inside nodes test) from) → value ≡ in_document_order nodes (node_items out) → inside_seen nodes test items ≡ Ok value
+  pub inside_is : (test : Option NodeTest) (items : List Item) (from out : List ℕ) (value : List Item) → AreWithin (length nodes) items →
+      list_all is_node items ≡ true
+      → from ≡ numbers_among items → HasSame out (flat_map (numbers_inside nodes test) from) → value ≡ in_document_order nodes (node_items out) →
+      inside_seen nodes test items ≡ Ok value
   inside_is test items from out value within are of same e =
       sym (one_step nodes w.walkable test items within)
       ∙ (path_of_stepped nodes a.Descendant test items are

@@ -1,6 +1,7 @@
 -- What is inside items is what is right inside the nodes inside them and right inside them: `//` and a step on the child
 -- axis are one step on the descendant axis.
-use Rattle.std.proofs.Common.{◌≡◌, ℕ, suc, zero, ◌+◌, ◌<◌, ◌≤◌, Bool, true, false, not, ◌⊎◌, ⊎_elim, List, [], ◌∷◌, length, map, reverse, Option, Some, None, Ok, Err, refl, ap, sym, subst, ◌∙◌, arith}
+use Rattle.std.proofs.Common.{◌≡◌, ℕ, suc, zero, ◌+◌, ◌<◌, ◌≤◌, Bool, true, false, not, ◌⊎◌, ⊎_elim, List, [], ◌∷◌, length, map, reverse, Option, Some, None}
+use Rattle.std.proofs.Common.{Ok, Err, refl, ap, sym, subst, ◌∙◌, arith}
 use Rattle.std.specs.Prelude.{filter, ◌==◌, ◌||◌, ◌&&◌, nat_lt, nat_le}
 use Rattle.std.specs.List.{list_any, list_all, flat_map}
 use Rattle.std.proofs.lemmas.Bool.{false≢true, eqb-true, eq-eqb, leb-true, or_cases, and_parts, and_right, false_from_ne_true}
@@ -100,9 +101,11 @@ module _ (nodes : List Node) (w : IsWalkable nodes) where
   before (suc bound) (suc k) m b l h =
       let one : k + 1 ≡ suc k = omega arith in
       let in_it : k < length nodes = omega (arith, l) in
-      let next : (p : ℕ) × (parent nodes (k + 1) ≡ Some p) × ((p ≡ k) ⊎ (is_inside p (tree_node nodes k) ≡ true)) = (w.leads k in_it).next_parent (omega (arith, l)) in
+      let next : (p : ℕ) × (parent nodes (k + 1) ≡ Some p) × ((p ≡ k) ⊎ (is_inside p (tree_node nodes k) ≡ true)) =
+      (w.leads k in_it).next_parent (omega (arith, l)) in
       let p : ℕ = next.0 in
-      let lower : p ≤ k = ⊎_elim (λ (same : next.0 ≡ k). omega (arith, same)) (λ (is : is_inside next.0 (tree_node nodes k) ≡ true). omega (arith, before bound k next.0 (omega (arith, b)) in_it is)) next.2 in
+      let lower : p ≤ k = ⊎_elim (λ (same : next.0 ≡ k). omega (arith, same))
+      (λ (is : is_inside next.0 (tree_node nodes k) ≡ true). omega (arith, before bound k next.0 (omega (arith, b)) in_it is)) next.2 in
       let above_is : (tree_node nodes (suc k)).above ≡ p ∷ (tree_node nodes p).above = (w.leads (suc k) l).around p (ap (parent nodes) (sym one) ∙ next.1) in
       ⊎_elim
       (λ (same : (m == p) ≡ true). omega (arith, eqb-true m p same, lower))
@@ -131,10 +134,13 @@ module _ (nodes : List Node) (w : IsWalkable nodes) where
       let so : Node → Bool = λ node. is_on axis (tree_node nodes n) node && passes axis test node in
       ap (λ items. has_node items k) (items_of_numbers (on_axis nodes axis test n))
       ∙ (ap (λ b. has_node (map node_item (elim b [ true ↦ reverse (filter so nodes) | false ↦ filter so nodes ])) k) forward
-      ∙ (ap (λ some. has_node (map node_item some) k) (alike so (λ node. so (tree_node nodes node.number)) nodes (λ j m. ap (λ x. so (tree_node nodes x)) (sym (w.counted j m))))
-      ∙ subst (λ x. has_node (nodes_where nodes (λ j. so (tree_node nodes j))) x ≡ so (tree_node nodes x)) (w.counted k l) (has_where (λ j. so (tree_node nodes j)) nodes k l)))
+      ∙ (ap (λ some. has_node (map node_item some) k)
+      (alike so (λ node. so (tree_node nodes node.number)) nodes (λ j m. ap (λ x. so (tree_node nodes x)) (sym (w.counted j m))))
+      ∙ subst (λ x. has_node (nodes_where nodes (λ j. so (tree_node nodes j))) x ≡ so (tree_node nodes x)) (w.counted k l)
+      (has_where (λ j. so (tree_node nodes j)) nodes k l)))
 
-  has_from_items : (axis : Axis) (o : Option NodeTest) (f : ℕ → Bool) (c : Bool) (k : ℕ) → ((n : ℕ) → n < length nodes → has_node (from_node axis o n) k ≡ (f n && c))
+  has_from_items : (axis : Axis) (o : Option NodeTest) (f : ℕ → Bool) (c : Bool) (k : ℕ) →
+      ((n : ℕ) → n < length nodes → has_node (from_node axis o n) k ≡ (f n && c))
       → (items : List Item) → AreWithin (length nodes) items → has_node (from_items axis o items) k ≡ (some_number f items && c)
   has_from_items axis o f c k h items within =
       ap (λ some. has_node some k) (items_over (λ n. axis_numbers nodes axis n o) items)
@@ -156,8 +162,10 @@ module _ (nodes : List Node) (w : IsWalkable nodes) where
 
     -- on an axis that leads to no attribute
     has_plain : (axis : Axis) (test : NodeTest) (around : ℕ → Bool) → is_reverse axis ≡ false
-        → ((n : ℕ) → n < length nodes → (is_on axis (tree_node nodes n) (tree_node nodes k) && passes axis test (tree_node nodes k)) ≡ ((around n && is_plain) && pass test))
-        → (items : List Item) → AreWithin (length nodes) items → has_node (from_items axis (Some test) items) k ≡ (some_number around items && (is_plain && pass test))
+        → ((n : ℕ) → n < length nodes → (is_on axis (tree_node nodes n) (tree_node nodes k) && passes axis test (tree_node nodes k)) ≡ ((around n && is_plain)
+        && pass test))
+        → (items : List Item) → AreWithin (length nodes) items →
+        has_node (from_items axis (Some test) items) k ≡ (some_number around items && (is_plain && pass test))
     has_plain axis test around forward is items within = has_from_items axis (Some test) around (is_plain && pass test) k
         (λ n b. has_from axis test n k forward l ∙ (is n b ∙ and_group (around n) is_plain (pass test))) items within
 
@@ -200,34 +208,42 @@ module _ (nodes : List Node) (w : IsWalkable nodes) where
 
   has_same : (o : Option NodeTest) (items : List Item) → AreWithin (length nodes) items → (k : ℕ) → k < length nodes
       → has_node (from_items a.Descendant o items) k ≡ has_node (from_items a.Child o (in_document_order nodes (inside_or_at items))) k
-  has_same None items within k l = nowhere a.Descendant k items within ∙ sym (nowhere a.Child k (in_document_order nodes (inside_or_at items)) (found_within (inside_or_at items)))
+  has_same None items within k l = nowhere a.Descendant k items within ∙
+      sym (nowhere a.Child k (in_document_order nodes (inside_or_at items)) (found_within (inside_or_at items)))
   has_same (Some test) items within k l =
       let node = tree_node nodes k in
-      has_plain k l a.Descendant test (λ n. is_among n node.above) refl (λ n b. ap (λ m. (is_among m node.above && is_plain k l) && pass k l test) (w.counted n b)) items within
+      has_plain k l a.Descendant test (λ n. is_among n node.above) refl
+      (λ n b. ap (λ m. (is_among m node.above && is_plain k l) && pass k l test) (w.counted n b)) items within
       ∙ (ap (λ b. b && (is_plain k l && pass k l test)) (by_parent items within k l node.above refl)
-      ∙ sym (has_plain k l a.Child test (λ n. is_nearest n node.above) refl (λ n b. ap (λ m. (is_nearest m node.above && is_plain k l) && pass k l test) (w.counted n b))
+      ∙ sym (has_plain k l a.Child test (λ n. is_nearest n node.above) refl
+      (λ n b. ap (λ m. (is_nearest m node.above && is_plain k l) && pass k l test) (w.counted n b))
       (in_document_order nodes (inside_or_at items)) (found_within (inside_or_at items))))
 
   order_alike : (o : Option NodeTest) (items : List Item) → AreWithin (length nodes) items
-      → in_document_order nodes (from_items a.Descendant o items) ≡ in_document_order nodes (from_items a.Child o (in_document_order nodes (inside_or_at items)))
+      → in_document_order nodes (from_items a.Descendant o items) ≡ in_document_order nodes
+      (from_items a.Child o (in_document_order nodes (inside_or_at items)))
   order_alike o items within =
       let xs = from_items a.Descendant o items in
       let ys = from_items a.Child o (in_document_order nodes (inside_or_at items)) in
       where_alike (has_node xs) (has_node ys) nodes (λ k l. subst (λ x. has_node xs x ≡ has_node ys x) (sym (w.counted k l)) (has_same o items within k l))
 
   -- where an item is no node
-  pub off_path : (axis : Axis) (o : Option NodeTest) (items : List Item) → list_all is_node items ≡ false → stepped_path_seen nodes axis o items ≡ Err e.XPTY0019
+  pub off_path : (axis : Axis) (o : Option NodeTest) (items : List Item) → list_all is_node items ≡ false →
+      stepped_path_seen nodes axis o items ≡ Err e.XPTY0019
   off_path axis o items h =
       let step : Item → ℕ → ℕ → Value = λ item position last. stepped_seen nodes axis o item in
       ap (λ (b : Bool). elim b [ true ↦ then_ (turns step (length items) 1 items) (of_turns nodes) | false ↦ Err e.XPTY0019 ]) h
 
-  pub one_step : (o : Option NodeTest) (items : List Item) → AreWithin (length nodes) items → stepped_path_seen nodes a.Descendant o items ≡ inside_seen nodes o items
+  pub one_step : (o : Option NodeTest) (items : List Item) → AreWithin (length nodes) items →
+      stepped_path_seen nodes a.Descendant o items ≡ inside_seen nodes o items
   one_step o items within = go (list_all is_node items) refl
     where
       go : (b : Bool) → list_all is_node items ≡ b → stepped_path_seen nodes a.Descendant o items ≡ inside_seen nodes o items
       go true h =
           path_of_stepped nodes a.Descendant o items h
           ∙ (ap Ok (order_alike o items within)
-          ∙ (sym (path_of_stepped nodes a.Child o (in_document_order nodes (inside_or_at items)) (all_of_map (filter (λ node. has_node (inside_or_at items) node.number) nodes)))
+          ∙ (sym (path_of_stepped nodes a.Child o (in_document_order nodes (inside_or_at items))
+          (all_of_map (filter (λ node. has_node (inside_or_at items) node.number) nodes)))
           ∙ sym (ap (λ v. then_ v (stepped_path_seen nodes a.Child o)) (path_of_stepped nodes a.DescendantOrSelf (Some (of_kind q.Node)) items h))))
-      go false h = off_path a.Descendant o items h ∙ sym (ap (λ v. then_ v (stepped_path_seen nodes a.Child o)) (off_path a.DescendantOrSelf (Some (of_kind q.Node)) items h))
+      go false h = off_path a.Descendant o items h ∙
+          sym (ap (λ v. then_ v (stepped_path_seen nodes a.Child o)) (off_path a.DescendantOrSelf (Some (of_kind q.Node)) items h))

@@ -45,13 +45,15 @@ numbers_within count (i.Untyped s ∷ items) h = numbers_within count items h.1
 numbers_within count (i.Date day ∷ items) h = numbers_within count items h.1
 
 -- two tests that agree at each node
-pub alike : (p q : Node → Bool) (nodes : List Node) → ((k : ℕ) → k < length nodes → p (tree_node nodes k) ≡ q (tree_node nodes k)) → filter p nodes ≡ filter q nodes
+pub alike : (p q : Node → Bool) (nodes : List Node) → ((k : ℕ) → k < length nodes → p (tree_node nodes k) ≡ q (tree_node nodes k)) →
+    filter p nodes ≡ filter q nodes
 alike p q [] h = refl
 alike p q (node ∷ nodes) h =
     ap (λ b. cond b (node ∷ filter p nodes) (filter p nodes)) (h 0 (omega arith))
     ∙ ap (λ ns. cond (q node) (node ∷ ns) ns) (alike p q nodes (λ k l. h (suc k) (omega (arith, l))))
 
-pub where_alike : (p q : ℕ → Bool) (nodes : List Node) → ((k : ℕ) → k < length nodes → p (tree_node nodes k).number ≡ q (tree_node nodes k).number) → nodes_where nodes p ≡ nodes_where nodes q
+pub where_alike : (p q : ℕ → Bool) (nodes : List Node) → ((k : ℕ) → k < length nodes → p (tree_node nodes k).number ≡ q (tree_node nodes k).number) →
+    nodes_where nodes p ≡ nodes_where nodes q
 where_alike p q nodes h = ap (map node_item) (alike (λ node. p node.number) (λ node. q node.number) nodes h)
 
 -- two lists that have the same nodes
@@ -64,7 +66,8 @@ pub document_below : (document : Document) → IsWalked document → NumbersBelo
 document_below document w =
     numbers_below (length document.nodes) (tree_nodes document) (λ k l. omega (arith, w.walkable.counted k l, w.long, l))
 
-pub are_numbers : (document : Document) (ns : List ℕ) → IsWalked document → AreWithin (length document.nodes) (node_items ns) → AreNumbers (tree_nodes document) ns
+pub are_numbers : (document : Document) (ns : List ℕ) → IsWalked document → AreWithin (length document.nodes) (node_items ns) →
+    AreNumbers (tree_nodes document) ns
 are_numbers document ns w h = record {
   counted = w.walkable.counted;
   within = λ n e. omega (arith, number_within (length document.nodes) ns n h e, w.long);
@@ -78,7 +81,8 @@ ordered_is document ns ms now (Ok items) w of same e h = e ∙ (ap node_items sa
 ordered_is document ns ms now (Err error) w of same e h = tt
 
 -- The nodes among items stand in one order with the items.
-pub order_among : (nodes : List Node) (items : List Item) (ns : List ℕ) → ns ≡ numbers_among items → in_document_order nodes (node_items ns) ≡ in_document_order nodes items
+pub order_among : (nodes : List Node) (items : List Item) (ns : List ℕ) → ns ≡ numbers_among items →
+    in_document_order nodes (node_items ns) ≡ in_document_order nodes items
 order_among nodes items ns e =
     ap (λ ms. in_document_order nodes (node_items ms)) e
     ∙ same_order nodes (node_items (numbers_among items)) items (λ n. among_nodes (numbers_among items) n ∙ among_items items n)
@@ -86,6 +90,7 @@ order_among nodes items ns e =
 pub among_within : (count : ℕ) (items : List Item) (ns : List ℕ) → ns ≡ numbers_among items → AreWithin count items → AreWithin count (node_items ns)
 among_within count items ns e h = subst (λ ms. AreWithin count (node_items ms)) (sym e) (numbers_within count items h)
 
-pub order_within : (document : Document) (items found : List Item) → IsWalked document → found ≡ in_document_order (tree_nodes document) items → AreWithin (length document.nodes) found
+pub order_within : (document : Document) (items found : List Item) → IsWalked document → found ≡ in_document_order (tree_nodes document) items →
+    AreWithin (length document.nodes) found
 order_within document items found w e =
     subst (AreWithin (length document.nodes)) (sym e) (where_within (length document.nodes) (tree_nodes document) (has_node items) (document_below document w))

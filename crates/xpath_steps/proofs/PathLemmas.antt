@@ -1,5 +1,6 @@
 -- A step that is taken at each item of a path.
-use Rattle.std.proofs.Common.{◌≡◌, ℕ, suc, zero, ◌<◌, ◌≤◌, Bool, true, false, cond, List, [], ◌∷◌, ◌++◌, length, drop, map, Option, Some, None, Ok, Err, refl, ap, sym, subst, ◌∙◌, arith}
+use Rattle.std.proofs.Common.{◌≡◌, ℕ, suc, zero, ◌<◌, ◌≤◌, Bool, true, false, cond, List, [], ◌∷◌, ◌++◌, length, drop, map, Option, Some, None, Ok, Err, refl}
+use Rattle.std.proofs.Common.{ap, sym, subst, ◌∙◌, arith}
 use Rattle.std.specs.Prelude.{filter, ◌==◌, ◌||◌}
 use Rattle.std.specs.List.{list_any, list_all, flat_map}
 use Rattle.std.proofs.lemmas.Bool.{false≢true, eqb-true, eq-eqb}
@@ -41,7 +42,8 @@ off_stepped nodes axis (Some test) (i.String s) e = refl
 off_stepped nodes axis (Some test) (i.Untyped s) e = refl
 off_stepped nodes axis (Some test) (i.Date day) e = refl
 
-pub step_at_node : (nodes : List Node) (axis : Axis) (o : Option NodeTest) (n : ℕ) → step_seen nodes axis o (i.Node n) ≡ Ok (node_items (axis_numbers nodes axis n o))
+pub step_at_node : (nodes : List Node) (axis : Axis) (o : Option NodeTest) (n : ℕ) →
+    step_seen nodes axis o (i.Node n) ≡ Ok (node_items (axis_numbers nodes axis n o))
 step_at_node nodes axis None n = refl
 step_at_node nodes axis (Some test) n = ap Ok (sym (items_of_numbers (on_axis nodes axis test n)))
 
@@ -54,7 +56,8 @@ pub stepped_at_node : (nodes : List Node) (axis : Axis) (o : Option NodeTest) (n
 stepped_at_node nodes axis None n = ap Ok (sym (nothing_where nodes))
 stepped_at_node nodes axis (Some test) n = ap (λ xs. Ok (in_document_order nodes xs)) (sym (items_of_numbers (on_axis nodes axis test n)))
 
-pub axis_within : (count : ℕ) (nodes : List Node) (axis : Axis) (o : Option NodeTest) (n : ℕ) → NumbersBelow count nodes → AreWithin count (node_items (axis_numbers nodes axis n o))
+pub axis_within : (count : ℕ) (nodes : List Node) (axis : Axis) (o : Option NodeTest) (n : ℕ) → NumbersBelow count nodes →
+    AreWithin count (node_items (axis_numbers nodes axis n o))
 axis_within count nodes axis None n h = tt
 axis_within count nodes axis (Some test) n h =
     subst (AreWithin count) (sym (items_of_numbers (on_axis nodes axis test n))) (below_within count _ (axis_below count nodes axis test n h))
@@ -65,7 +68,8 @@ pub map_append : {X Y : Type 0} (f : X → Y) (xs ys : List X) → map f (xs ++ 
 map_append f [] ys = refl
 map_append f (x ∷ xs) ys = ap (λ zs. f x ∷ zs) (map_append f xs ys)
 
-pub over_within : (count : ℕ) (nodes : List Node) (axis : Axis) (o : Option NodeTest) (items : List Item) → NumbersBelow count nodes → AreWithin count (node_items (numbers_over nodes axis o items))
+pub over_within : (count : ℕ) (nodes : List Node) (axis : Axis) (o : Option NodeTest) (items : List Item) → NumbersBelow count nodes →
+    AreWithin count (node_items (numbers_over nodes axis o items))
 over_within count nodes axis o [] h = tt
 over_within count nodes axis o (i.Node n ∷ items) h =
     subst (AreWithin count) (sym (map_append _ (axis_numbers nodes axis n o) (numbers_over nodes axis o items)))
@@ -93,7 +97,8 @@ over_end nodes axis o items k found whole l h =
     sym (append_nil found) ∙ (sym (ap (λ xs. found ++ numbers_over nodes axis o xs) (drop_all k items l)) ∙ h)
 
 -- The turns at nodes come to what their numbers lead to.
-pub turns_are : (step : Item → ℕ → ℕ → Value) (g : ℕ → List Item) → ((n k l : ℕ) → step (i.Node n) k l ≡ Ok (g n)) → (last k : ℕ) (items : List Item) → list_all is_node items ≡ true
+pub turns_are : (step : Item → ℕ → ℕ → Value) (g : ℕ → List Item) → ((n k l : ℕ) → step (i.Node n) k l ≡ Ok (g n)) → (last k : ℕ) (items : List Item) →
+    list_all is_node items ≡ true
     → turns step last k items ≡ Ok (flat_map (at_number g) items)
 turns_are step g h last k [] e = refl
 turns_are step g h last k (i.Node n ∷ items) e =
@@ -142,10 +147,14 @@ items_over h (i.Untyped s ∷ items) = items_over h items
 items_over h (i.Date day ∷ items) = items_over h items
 
 of_nodes : (nodes : List Node) (items : List Item) → list_all is_node items ≡ true → of_turns nodes items ≡ Ok (in_document_order nodes items)
-of_nodes nodes items h = ap (λ (b : Bool). elim b [ true ↦ Ok (in_document_order nodes items) | false ↦ elim (list_any is_node items) [ true ↦ Err e.XPTY0018 | false ↦ Ok items ] ]) h
+of_nodes nodes items h = ap (λ (b : Bool). elim b [
+  | true ↦ Ok (in_document_order nodes items)
+  | false ↦ elim (list_any is_node items) [ true ↦ Err e.XPTY0018 | false ↦ Ok items ]
+]) h
 
 -- a path whose turns are nodes
-path_is : (nodes : List Node) (step : Item → ℕ → ℕ → Value) (g : ℕ → List Item) (items : List Item) → ((n k l : ℕ) → step (i.Node n) k l ≡ Ok (g n)) → ((n : ℕ) → list_all is_node (g n) ≡ true)
+path_is : (nodes : List Node) (step : Item → ℕ → ℕ → Value) (g : ℕ → List Item) (items : List Item) → ((n k l : ℕ) → step (i.Node n) k l ≡ Ok (g n)) →
+    ((n : ℕ) → list_all is_node (g n) ≡ true)
     → list_all is_node items ≡ true → path nodes step items ≡ Ok (in_document_order nodes (flat_map (at_number g) items))
 path_is nodes step g items at all h =
     ap (λ (b : Bool). elim b [ true ↦ then_ (turns step (length items) 1 items) (of_turns nodes) | false ↦ Err e.XPTY0019 ]) h
@@ -155,7 +164,8 @@ path_is nodes step g items at all h =
 pub path_of_steps : (nodes : List Node) (axis : Axis) (o : Option NodeTest) (items : List Item) → list_all is_node items ≡ true
     → path_seen nodes axis o items ≡ Ok (in_document_order nodes (node_items (numbers_over nodes axis o items)))
 path_of_steps nodes axis o items e =
-    path_is nodes (λ item position last. step_seen nodes axis o item) (λ n. node_items (axis_numbers nodes axis n o)) items (λ n k l. step_at_node nodes axis o n) (λ n. all_nodes (axis_numbers nodes axis n o)) e
+    path_is nodes (λ item position last. step_seen nodes axis o item) (λ n. node_items (axis_numbers nodes axis n o)) items
+    (λ n k l. step_at_node nodes axis o n) (λ n. all_nodes (axis_numbers nodes axis n o)) e
     ∙ ap (λ xs. Ok (in_document_order nodes xs)) (sym (items_over (λ n. axis_numbers nodes axis n o) items))
 
 -- ---- turns that are in document order themselves
@@ -177,7 +187,8 @@ unlike : (test : ℕ → Bool) (m n : ℕ) → test n ≡ false → test m ≡ t
 unlike test m n e t false s = refl
 unlike test m n e t true s = absurd (false≢true (sym e ∙ (ap test (sym (eqb-true m n s)) ∙ t)))
 
-absent : (test : ℕ → Bool) (n : ℕ) (node : Node) (nodes : List Node) → test n ≡ false → (b : Bool) → test node.number ≡ b → has_node (map node_item nodes) n ≡ false
+absent : (test : ℕ → Bool) (n : ℕ) (node : Node) (nodes : List Node) → test n ≡ false → (b : Bool) → test node.number ≡ b →
+    has_node (map node_item nodes) n ≡ false
     → has_node (map node_item (cond b (node ∷ nodes) nodes)) n ≡ false
 absent test n node nodes e true t h = ap (λ c. c || has_node (map node_item nodes) n) (unlike test node.number n e t (node.number == n) refl) ∙ h
 absent test n node nodes e false t h = h
@@ -190,11 +201,13 @@ or_true : (b : Bool) → (b || true) ≡ true
 or_true true = refl
 or_true false = refl
 
-still_there : (n : ℕ) (node : Node) (nodes : List Node) (b : Bool) → has_node (map node_item nodes) n ≡ true → has_node (map node_item (cond b (node ∷ nodes) nodes)) n ≡ true
+still_there : (n : ℕ) (node : Node) (nodes : List Node) (b : Bool) → has_node (map node_item nodes) n ≡ true →
+    has_node (map node_item (cond b (node ∷ nodes) nodes)) n ≡ true
 still_there n node nodes true h = ap (λ b. node.number == n || b) h ∙ or_true (node.number == n)
 still_there n node nodes false h = h
 
-has_where-true : (test : ℕ → Bool) (nodes : List Node) (k : ℕ) → k < length nodes → test (tree_node nodes k).number ≡ true → has_node (nodes_where nodes test) (tree_node nodes k).number ≡ true
+has_where-true : (test : ℕ → Bool) (nodes : List Node) (k : ℕ) → k < length nodes → test (tree_node nodes k).number ≡ true →
+    has_node (nodes_where nodes test) (tree_node nodes k).number ≡ true
 has_where-true test [] k l h = absurd (omega (arith, l))
 has_where-true test (node ∷ nodes) zero l h =
     ap (λ b. has_node (map node_item (cond b (node ∷ filter (λ x. test x.number) nodes) (filter (λ x. test x.number) nodes))) node.number) h
@@ -203,7 +216,8 @@ has_where-true test (node ∷ nodes) (suc k) l h =
     still_there (tree_node nodes k).number node (filter (λ x. test x.number) nodes) (test node.number) (has_where-true test nodes k (omega (arith, l)) h)
 
 -- Of the document's nodes those are there that pass.
-pub has_where : (test : ℕ → Bool) (nodes : List Node) (k : ℕ) → k < length nodes → has_node (nodes_where nodes test) (tree_node nodes k).number ≡ test (tree_node nodes k).number
+pub has_where : (test : ℕ → Bool) (nodes : List Node) (k : ℕ) → k < length nodes →
+    has_node (nodes_where nodes test) (tree_node nodes k).number ≡ test (tree_node nodes k).number
 has_where test nodes k l = go (test (tree_node nodes k).number) refl
   where
     go : (b : Bool) → test (tree_node nodes k).number ≡ b → has_node (nodes_where nodes test) (tree_node nodes k).number ≡ b
@@ -211,7 +225,8 @@ has_where test nodes k l = go (test (tree_node nodes k).number) refl
     go false h = has_where-false test (tree_node nodes k).number h nodes
 
 ordered_over : (nodes : List Node) (g : ℕ → List Item) (k : ℕ) → k < length nodes → (items : List Item)
-    → has_node (flat_map (at_number (λ n. in_document_order nodes (g n))) items) (tree_node nodes k).number ≡ has_node (flat_map (at_number g) items) (tree_node nodes k).number
+    → has_node (flat_map (at_number (λ n. in_document_order nodes (g n))) items) (tree_node nodes k).number ≡ has_node (flat_map (at_number g) items)
+    (tree_node nodes k).number
 ordered_over nodes g k l [] = refl
 ordered_over nodes g k l (i.Node n ∷ items) =
     let m = (tree_node nodes k).number in
@@ -229,7 +244,9 @@ pub path_of_stepped : (nodes : List Node) (axis : Axis) (o : Option NodeTest) (i
     → stepped_path_seen nodes axis o items ≡ Ok (in_document_order nodes (node_items (numbers_over nodes axis o items)))
 path_of_stepped nodes axis o items e =
     let g : ℕ → List Item = λ n. node_items (axis_numbers nodes axis n o) in
-    path_is nodes (λ item position last. stepped_seen nodes axis o item) (λ n. in_document_order nodes (g n)) items (λ n k l. stepped_at_node nodes axis o n) (λ n. all_of_map (filter (λ node. has_node (g n) node.number) nodes)) e
+    path_is nodes (λ item position last. stepped_seen nodes axis o item) (λ n. in_document_order nodes (g n)) items (λ n k l. stepped_at_node nodes axis o n)
+    (λ n. all_of_map (filter (λ node. has_node (g n) node.number) nodes)) e
     ∙ ap Ok
-    (where_alike (has_node (flat_map (at_number (λ n. in_document_order nodes (g n))) items)) (has_node (flat_map (at_number g) items)) nodes (λ k l. ordered_over nodes g k l items)
+    (where_alike (has_node (flat_map (at_number (λ n. in_document_order nodes (g n))) items)) (has_node (flat_map (at_number g) items)) nodes
+    (λ k l. ordered_over nodes g k l items)
     ∙ ap (in_document_order nodes) (sym (items_over (λ n. axis_numbers nodes axis n o) items)))

@@ -1,5 +1,6 @@
 -- Sets of nodes by numbers and by items.
-use Rattle.std.proofs.Common.{◌≡◌, ℕ, suc, zero, ◌<◌, ◌≤◌, Bool, true, false, cond, List, [], ◌∷◌, ◌++◌, length, get_or, Result, Ok, Err, is_ok, IfOk, MatchResult, refl, ap, sym, ◌∙◌, arith, ◌⊎◌, inl, inr, ⊎_elim}
+use Rattle.std.proofs.Common.{◌≡◌, ℕ, suc, zero, ◌<◌, ◌≤◌, Bool, true, false, cond, List, [], ◌∷◌, ◌++◌, length, get_or, Result, Ok, Err, is_ok, IfOk}
+use Rattle.std.proofs.Common.{MatchResult, refl, ap, sym, ◌∙◌, arith, ◌⊎◌, inl, inr, ⊎_elim}
 use Rattle.std.specs.Prelude.{Vec, filter, ◌==◌, ◌||◌, ◌&&◌}
 use Rattle.std.specs.List.{list_any, list_all}
 use Rattle.std.specs.List.Sorted.{IsNonDecreasing, IsBinarySearchResult}
@@ -95,7 +96,8 @@ not_among (m ∷ ns) n h = ap (λ b. b || is_among n ns) (no (n == m) refl) ∙ 
     no true e = absurd (h 0 (omega arith) (sym (eqb-true n m e)))
 
 found_by : (ns : List ℕ) (n : ℕ) (r : Result ℕ ℕ)
-    → MatchResult r (λ i. (i < length ns) × (get_or ns i 0 ≡ n)) (λ i. (i ≤ length ns) × ((k : ℕ) → k < i → get_or ns k 0 < n) × ((k : ℕ) → i ≤ k → k < length ns → n < get_or ns k 0))
+    → MatchResult r (λ i. (i < length ns) × (get_or ns i 0 ≡ n)) (λ i. (i ≤ length ns) × ((k : ℕ) → k < i → get_or ns k 0 < n) ×
+    ((k : ℕ) → i ≤ k → k < length ns → n < get_or ns k 0))
     → is_ok r ≡ is_among n ns
 found_by ns n (Ok i) h = sym (among_at ns i n h.0 h.1)
 found_by ns n (Err i) h = sym (not_among ns n (λ k l e. ⊎_elim

@@ -8,7 +8,8 @@ use Rattle.xpath_items.specs.declared.item.Item.{Item}
 use Rattle.xpath_items.specs.declared.outcome.DynError.{DynError}
 use Rattle.xpath_items.specs.declared.outcome.DynError.TheVariants as e
 use Rattle.xpath_meaning.specs.Comparing.{boolean, compare, compared, compared_as, is_general, some_pair}
-use Rattle.xpath_meaning.specs.Numbers.{at_two, number, with_numbers, number_of, computed, arithmetic, in_a_row, range, how_many, most_in_range, whole_number_of, range_of}
+use Rattle.xpath_meaning.specs.Numbers.{at_two, number, with_numbers, number_of, computed, arithmetic, in_a_row, range, how_many, most_in_range}
+use Rattle.xpath_meaning.specs.Numbers.{whole_number_of, range_of}
 use Rattle.xpath_meaning.specs.Values.{Value, then_}
 use Rattle.xpath_operators.specs.Nodes.{AreWithin}
 use Rattle.xpath_steps.specs.Variables.{ValueWithin}

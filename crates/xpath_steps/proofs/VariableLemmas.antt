@@ -1,5 +1,6 @@
 -- Variables by name, and bound ones by height.
-use Rattle.std.proofs.Common.{◌≡◌, ℕ, suc, zero, ◌+◌, ◌-◌, ◌<◌, ◌≤◌, Bool, true, false, List, [], ◌∷◌, ◌++◌, length, get_or, take, drop, reverse, Option, Some, None, Ok, refl, ap, sym, subst, ◌∙◌, arith}
+use Rattle.std.proofs.Common.{◌≡◌, ℕ, suc, zero, ◌+◌, ◌-◌, ◌<◌, ◌≤◌, Bool, true, false, List, [], ◌∷◌, ◌++◌, length, get_or, take, drop, reverse, Option, Some}
+use Rattle.std.proofs.Common.{None, Ok, refl, ap, sym, subst, ◌∙◌, arith}
 use Rattle.std.specs.Prelude.{◌==◌, slice_range}
 use Rattle.std.specs.Str.{bytes_eq}
 use Rattle.std.proofs.lemmas.List.{reverse-append, reverse-reverse, length-reverse}
@@ -15,12 +16,14 @@ use Rattle.xpath_steps.specs.declared.variables.Variable.{Variable}
 
 -- ---- variables that are declared outside
 
-pub last_found : (name : List ℕ) (variables : List (List ℕ × Value)) (k : ℕ) (v : Value) → last_of name (drop k variables) ≡ Some v → last_of name variables ≡ Some v
+pub last_found : (name : List ℕ) (variables : List (List ℕ × Value)) (k : ℕ) (v : Value) → last_of name (drop k variables) ≡ Some v →
+    last_of name variables ≡ Some v
 last_found name [] zero v e = e
 last_found name [] (suc k) v e = e
 last_found name (x ∷ variables) zero v e = e
 last_found name (x ∷ variables) (suc k) v e =
-    ap (λ (o : Option Value). elim o [ Some value ↦ Some value | None ↦ elim (bytes_eq name x.0) [ true ↦ Some x.1 | false ↦ None ] ]) (last_found name variables k v e)
+    ap (λ (o : Option Value). elim o [ Some value ↦ Some value | None ↦ elim (bytes_eq name x.0) [ true ↦ Some x.1 | false ↦ None ] ])
+    (last_found name variables k v e)
 
 -- What is found is within.
 abbrev FoundWithin : ℕ → Option Value → Type 0
@@ -31,7 +34,8 @@ abbrev later : List ℕ → (List ℕ × Value) → Option Value → Option Valu
 later name x (Some v) = Some v
 later name x None = elim (bytes_eq name x.0) [ true ↦ Some x.1 | false ↦ None ]
 
-one_within : (count : ℕ) (name : List ℕ) (x : List ℕ × Value) (o : Option Value) → ValueWithin count x.1 → FoundWithin count o → FoundWithin count (later name x o)
+one_within : (count : ℕ) (name : List ℕ) (x : List ℕ × Value) (o : Option Value) → ValueWithin count x.1 → FoundWithin count o →
+    FoundWithin count (later name x o)
 one_within count name x (Some v) h w = w
 one_within count name x None h w = here (bytes_eq name x.0)
   where
@@ -47,7 +51,8 @@ or_within : (count : ℕ) (o : Option Value) → FoundWithin count o → ValueWi
 or_within count None w = tt
 or_within count (Some v) w = w
 
-pub outer_within : (count : ℕ) (name : List ℕ) (variables : List (List ℕ × Value)) → ValuesWithin count variables → ValueWithin count (outer_value name variables)
+pub outer_within : (count : ℕ) (name : List ℕ) (variables : List (List ℕ × Value)) → ValuesWithin count variables →
+    ValueWithin count (outer_value name variables)
 outer_within count name variables h = or_within count (last_of name variables) (last_within count name variables h)
 
 -- ---- bound variables
@@ -72,7 +77,8 @@ get_last [] y (suc h) d e = absurd (omega (arith, e))
 get_last (x ∷ xs) y zero d e = absurd (omega (arith, e))
 get_last (x ∷ xs) y (suc h) d e = get_last xs y h d (omega (arith, e))
 
-one_more : (h : ℕ) (x : Item) (l : List Item) (d : Item) → (b : Bool) → (h == length l) ≡ b → (h < length l → bound_at h l ≡ get_or (reverse l) h d ∷ []) → h < suc (length l)
+one_more : (h : ℕ) (x : Item) (l : List Item) (d : Item) → (b : Bool) → (h == length l) ≡ b → (h < length l → bound_at h l ≡ get_or (reverse l) h d ∷ []) →
+    h < suc (length l)
     → elim b [ true ↦ x ∷ [] | false ↦ bound_at h l ] ≡ get_or (reverse l ++ x ∷ []) h d ∷ []
 one_more h x l d true e rest le = ap (λ y. y ∷ []) (sym (get_last (reverse l) x h d (eqb-true h (length l) e ∙ sym (length-reverse l))))
 one_more h x l d false e rest le =
@@ -112,7 +118,8 @@ map_take zero variables = refl
 map_take (suc n) [] = refl
 map_take (suc n) (x ∷ variables) = ap (λ xs. variable_of x ∷ xs) (map_take n variables)
 
-last_here : (name : List ℕ) (x : List ℕ × Value) (behind : List (List ℕ × Value)) → last_of name behind ≡ None → bytes_eq name x.0 ≡ true → last_of name (x ∷ behind) ≡ Some x.1
+last_here : (name : List ℕ) (x : List ℕ × Value) (behind : List (List ℕ × Value)) → last_of name behind ≡ None → bytes_eq name x.0 ≡ true →
+    last_of name (x ∷ behind) ≡ Some x.1
 last_here name x behind none same = ap (later name x) none ∙ ap (λ (b : Bool). elim b [ true ↦ Some x.1 | false ↦ None ]) same
 
 map_drop : (n : ℕ) (variables : List Variable) → variables_of (drop n variables) ≡ drop n (variables_of variables)

@@ -1,5 +1,6 @@
 -- Nodes within a document among items, numbers and values.
-use Rattle.std.proofs.Common.{◌≡◌, ℕ, suc, zero, ◌<◌, Bool, true, false, cond, List, [], ◌∷◌, ◌++◌, length, get_or, map, reverse, Result, Ok, Err, IfOk, sym, subst, arith, ⊎_elim}
+use Rattle.std.proofs.Common.{◌≡◌, ℕ, suc, zero, ◌<◌, Bool, true, false, cond, List, [], ◌∷◌, ◌++◌, length, get_or, map, reverse, Result, Ok, Err, IfOk, sym}
+use Rattle.std.proofs.Common.{subst, arith, ⊎_elim}
 use Rattle.std.specs.Prelude.{filter, ◌==◌}
 use Rattle.std.proofs.lemmas.List.{reverse-append}
 use Rattle.std.proofs.lemmas.Bool.{or_cases, eqb-true, false≢true}
@@ -49,7 +50,8 @@ pub numbers_below : (count : ℕ) (nodes : List Node) → ((k : ℕ) → k < len
 numbers_below count [] h = tt
 numbers_below count (node ∷ nodes) h = (h 0 (omega arith), numbers_below count nodes (λ k l. h (suc k) (omega (arith, l))))
 
-cond_below : (count : ℕ) (b : Bool) (node : Node) (nodes : List Node) → node.number < count → NumbersBelow count nodes → NumbersBelow count (cond b (node ∷ nodes) nodes)
+cond_below : (count : ℕ) (b : Bool) (node : Node) (nodes : List Node) → node.number < count → NumbersBelow count nodes →
+    NumbersBelow count (cond b (node ∷ nodes) nodes)
 cond_below count true node nodes l h = (l, h)
 cond_below count false node nodes l h = h
 
@@ -64,9 +66,11 @@ append_below count (x ∷ xs) ys h k = (h.0, append_below count xs ys h.1 k)
 reverse_below : (count : ℕ) (nodes : List Node) → NumbersBelow count nodes → NumbersBelow count (reverse nodes)
 reverse_below count [] h = tt
 reverse_below count (node ∷ nodes) h =
-    subst (NumbersBelow count) (sym (reverse-append (node ∷ []) nodes)) (append_below count (reverse nodes) (node ∷ []) (reverse_below count nodes h.1) (h.0, tt))
+    subst (NumbersBelow count) (sym (reverse-append (node ∷ []) nodes))
+    (append_below count (reverse nodes) (node ∷ []) (reverse_below count nodes h.1) (h.0, tt))
 
-pub axis_below : (count : ℕ) (nodes : List Node) (axis : Axis) (test : NodeTest) (n : ℕ) → NumbersBelow count nodes → NumbersBelow count (on_axis nodes axis test n)
+pub axis_below : (count : ℕ) (nodes : List Node) (axis : Axis) (test : NodeTest) (n : ℕ) → NumbersBelow count nodes →
+    NumbersBelow count (on_axis nodes axis test n)
 axis_below count nodes axis test n h = go (is_reverse axis) _ (filter_below count _ nodes h)
   where
     go : (b : Bool) (some : List Node) → NumbersBelow count some → NumbersBelow count (elim b [ true ↦ reverse some | false ↦ some ])

@@ -1,5 +1,6 @@
 -- The answers of parsing, by the grammar.
-use Rattle.std.proofs.Common.{◌≡◌, ℕ, ◌<◌, ◌≤◌, Bool, true, false, nat_lt, List, Option, Some, None, Result, Ok, Err, refl, sym, ap, subst, ◌∙◌, ltb-true, ltb-false}
+use Rattle.std.proofs.Common.{◌≡◌, ℕ, ◌<◌, ◌≤◌, Bool, true, false, nat_lt, List, Option, Some, None, Result, Ok, Err, refl, sym, ap, subst, ◌∙◌, ltb-true}
+use Rattle.std.proofs.Common.{ltb-false}
 use Rattle.std.proofs.Math.Logic.{◌↔◌}
 use Rattle.std.proofs.lemmas.Bool.{lt-ltb, le-ltb}
 use Rattle.xpath_tokens.specs.declared.token.Token.{Token}
@@ -53,7 +54,8 @@ never_syntax x e = by (nat_lt 256 (level x)) e where
 
 -- expressions
 
-module _ (reads : (tokens : List Token) (x : Tree) → ((tree_of tokens ≡ Some x) ↔ Spells tokens x)) (text : List ℕ) (tokens : List Token) (told : tokens_of text ≡ Ok tokens) where
+module _ (reads : (tokens : List Token) (x : Tree) → ((tree_of tokens ≡ Some x) ↔ Spells tokens x)) (text : List ℕ) (tokens : List Token)
+    (told : tokens_of text ≡ Ok tokens) where
   is : answer_of text ≡ answer_of_tree (tree_of tokens)
   is = ap (answered answer_of_tree) told
 
@@ -107,7 +109,8 @@ module _ (reads : (tokens : List Token) (x : Tree) → ((tree_of tokens ≡ Some
 
   pub pattern_too_deep : (pattern_answer_of text ≡ Err f.TooDeep) ↔ (x : Tree) × IsPattern tokens x × (256 < level x)
   pattern_too_deep = (λ e. by (tree_of tokens) refl (sym pattern_is ∙ e), λ s. spelled_pattern s.0 s.1 ∙ within_many s.0 s.2) where
-    at : (y : Tree) (b : Bool) → is_pattern y ≡ b → tree_of tokens ≡ Some y → chosen_pattern b y ≡ Err f.TooDeep → (x : Tree) × IsPattern tokens x × (256 < level x)
+    at : (y : Tree) (b : Bool) → is_pattern y ≡ b → tree_of tokens ≡ Some y → chosen_pattern b y ≡ Err f.TooDeep → (x : Tree) × IsPattern tokens x ×
+        (256 < level x)
     at y true p t h = (y, (patterns tokens y).1 ((reads tokens y).0 t, p), is_many y h)
     at y false p t h = cc
 
@@ -127,14 +130,16 @@ module _ (reads : (tokens : List Token) (x : Tree) → ((tree_of tokens ≡ Some
 
 -- each part stands where it may
 
-pub answer_grammatical : (reads : (tokens : List Token) (x : Tree) → ((tree_of tokens ≡ Some x) ↔ Spells tokens x)) (text : List ℕ) (x : Tree) → answer_of text ≡ Ok x → Grammatical x
+pub answer_grammatical : (reads : (tokens : List Token) (x : Tree) → ((tree_of tokens ≡ Some x) ↔ Spells tokens x)) (text : List ℕ) (x : Tree) →
+    answer_of text ≡ Ok x → Grammatical x
 answer_grammatical reads text x e = by (tokens_of text) refl e where
   by : (told : Result (List Token) SyntaxFault) → tokens_of text ≡ told → answered answer_of_tree told ≡ Ok x → Grammatical x
   by (Err fault) t h = cc
   by (Ok tokens) t h = ((answer_found reads text tokens t x).0 (is reads text tokens t ∙ h)).0.grammatical
 
 pub pattern_grammatical : (reads : (tokens : List Token) (x : Tree) → ((tree_of tokens ≡ Some x) ↔ Spells tokens x))
-    (patterns : (tokens : List Token) (x : Tree) → (IsPattern tokens x ↔ Spells tokens x × (is_pattern x ≡ true))) (text : List ℕ) (x : Tree) → pattern_answer_of text ≡ Ok x → Grammatical x
+    (patterns : (tokens : List Token) (x : Tree) → (IsPattern tokens x ↔ Spells tokens x × (is_pattern x ≡ true))) (text : List ℕ) (x : Tree) →
+    pattern_answer_of text ≡ Ok x → Grammatical x
 pattern_grammatical reads patterns text x e = by (tokens_of text) refl e where
   by : (told : Result (List Token) SyntaxFault) → tokens_of text ≡ told → answered answer_of_pattern_tree told ≡ Ok x → Grammatical x
   by (Err fault) t h = cc

@@ -1,5 +1,6 @@
 -- From what is kept of an expression to the answer for a text.
-use Rattle.std.proofs.Common.{◌≡◌, ℕ, Bool, true, false, List, Option, Some, None, option_map, Result, Ok, Err, nat_le, nat_lt, refl, sym, ap, ◌∙◌, subst, leb-true, leb-false, le-ltb, lt-ltb}
+use Rattle.std.proofs.Common.{◌≡◌, ℕ, Bool, true, false, List, Option, Some, None, option_map, Result, Ok, Err, nat_le, nat_lt, refl, sym, ap, ◌∙◌, subst}
+use Rattle.std.proofs.Common.{leb-true, leb-false, le-ltb, lt-ltb}
 use Rattle.xpath_tokens.specs.declared.token.Token.{Token}
 use Rattle.xpath_tokens.specs.declared.token.SyntaxFault.{SyntaxFault}
 use Rattle.xpath_tokens.specs.declared.token.SyntaxFault.TheVariants as f
@@ -31,13 +32,15 @@ answer_if x b = elim b [ true ↦ Err f.TooDeep | false ↦ Ok x ]
 levels : (x : g.Tree) → AreExpressions → Answers (kept_expression (kept_of x)) (within_levels x)
 unfolding answer_if
 levels x law = by (nat_le (g.level x) 256) refl where
-  by : (b : Bool) → nat_le (g.level x) 256 ≡ b → Answers (kept_expression (kept_if b (record { expression = m.value_of expressions x; level = g.level x }))) (answer_if x (nat_lt 256 (g.level x)))
+  by : (b : Bool) → nat_le (g.level x) 256 ≡ b → Answers (kept_expression (kept_if b (record { expression = m.value_of expressions x; level = g.level x })))
+      (answer_if x (nat_lt 256 (g.level x)))
   by true e = ap (answer_if x) (le-ltb 256 (g.level x) (leb-true (g.level x) 256 e)) ∙ ap Ok (sym (law x))
   by false e = ap (answer_if x) (lt-ltb 256 (g.level x) (leb-false (g.level x) 256 e))
 
 same_answer : (x : g.Tree) (v : Value) (r : Result Expr SyntaxFault) → AreExpressions → value x ≡ v → r ≡ expression_of v → Answers r (within_levels x)
 unfolding value
-same_answer x v r law e q = subst (λ (s : Result Expr SyntaxFault). Answers s (within_levels x)) (ap expression_of (sym (whole-is x) ∙ e) ∙ sym q) (levels x law)
+same_answer x v r law e q = subst (λ (s : Result Expr SyntaxFault). Answers s (within_levels x)) (ap expression_of (sym (whole-is x) ∙ e) ∙ sym q)
+    (levels x law)
 
 pub expression-found : (found : Option g.Tree) (v : Value) (r : Result Expr SyntaxFault) → AreExpressions → option_map (m.value_of values) found ≡ Some v
     → r ≡ expression_of v → Answers r (answer_of_tree found)
@@ -45,7 +48,8 @@ unfolding value
 expression-found None v r law e q = absurd (cc)
 expression-found (Some x) v r law e q = same_answer x v r law (cc) q
 
-pub expression-refused : (found : Option g.Tree) (fault : SyntaxFault) → MayMake {X = Value} (Err fault) (option_map (m.value_of values) found) → Refused fault (answer_of_tree found)
+pub expression-refused : (found : Option g.Tree) (fault : SyntaxFault) → MayMake {X = Value} (Err fault) (option_map (m.value_of values) found) →
+    Refused fault (answer_of_tree found)
 expression-refused None f.Syntax h = refl
 expression-refused (Some x) f.Syntax h = absurd (cc)
 expression-refused found f.Memory h = tt
@@ -81,10 +85,12 @@ pub pattern-found : (found : Option g.Tree) (v : Value) (r : Result Pattern Synt
 unfolding value pattern_if made_if
 pattern-found None v r law e q = absurd (cc)
 pattern-found (Some x) v r law e q = let same : value x ≡ v = cc in
-    subst (λ (s : Result Pattern SyntaxFault). PatternAnswers s (pattern_if x (pa.is_pattern x))) (ap (made_if v) (sym (kind_same x v same)) ∙ sym q) (same_pattern x v (pa.is_pattern x) law same)
+    subst (λ (s : Result Pattern SyntaxFault). PatternAnswers s (pattern_if x (pa.is_pattern x))) (ap (made_if v) (sym (kind_same x v same)) ∙ sym q)
+    (same_pattern x v (pa.is_pattern x) law same)
 
 -- the expression that is kept is the one of that kind
-kept-is : (x : g.Tree) (y : Expr) (b : Bool) → AreExpressions → kept_expression (kept_if b (record { expression = m.value_of expressions x; level = g.level x })) ≡ Ok y → view y ≡ x
+kept-is : (x : g.Tree) (y : Expr) (b : Bool) → AreExpressions →
+    kept_expression (kept_if b (record { expression = m.value_of expressions x; level = g.level x })) ≡ Ok y → view y ≡ x
 kept-is x y true law e = let same : m.value_of expressions x ≡ y = cc in ap view (sym same) ∙ law x
 kept-is x y false law e = absurd (cc)
 
@@ -92,9 +98,11 @@ pub of_its_kind : (found : Option g.Tree) (v : Value) → AreExpressions → opt
 unfolding value
 of_its_kind None v law e = absurd (cc)
 of_its_kind (Some x) v law e = λ y kept. let same : value x ≡ v = cc in
-    ap pa.is_pattern (kept-is x y (nat_le (g.level x) 256) law (ap (λ (w : Value). kept_expression w.kept) (sym (whole-is x) ∙ same) ∙ kept)) ∙ sym (kind_same x v same)
+    ap pa.is_pattern (kept-is x y (nat_le (g.level x) 256) law (ap (λ (w : Value). kept_expression w.kept) (sym (whole-is x) ∙ same) ∙ kept)) ∙
+    sym (kind_same x v same)
 
-pub pattern-refused : (found : Option g.Tree) (fault : SyntaxFault) → MayMake {X = Value} (Err fault) (option_map (m.value_of values) found) → Refused fault (answer_of_pattern_tree found)
+pub pattern-refused : (found : Option g.Tree) (fault : SyntaxFault) → MayMake {X = Value} (Err fault) (option_map (m.value_of values) found) →
+    Refused fault (answer_of_pattern_tree found)
 pattern-refused None f.Syntax h = refl
 pattern-refused (Some x) f.Syntax h = absurd (cc)
 pattern-refused found f.Memory h = tt
@@ -109,7 +117,8 @@ pattern-refused found f.TooDeep h = absurd h
 read : (List Token → Result g.Tree SyntaxFault) → Result (List Token) SyntaxFault → Result g.Tree SyntaxFault
 read answer_of_tokens tokens = elim tokens [ Err fault ↦ Err fault | Ok spelled ↦ answer_of_tokens spelled ]
 
-text_refused : (answer_of_tokens : List Token → Result g.Tree SyntaxFault) (tokens : Result (List Token) SyntaxFault) (fault : SyntaxFault) → t.Refuses fault tokens → Refused fault (read answer_of_tokens tokens)
+text_refused : (answer_of_tokens : List Token → Result g.Tree SyntaxFault) (tokens : Result (List Token) SyntaxFault) (fault : SyntaxFault) →
+    t.Refuses fault tokens → Refused fault (read answer_of_tokens tokens)
 unfolding read
 text_refused answer tokens f.TooLong h = ap (read answer) h
 text_refused answer tokens (f.Lexical i) h = ap (read answer) h
@@ -123,7 +132,8 @@ pub text-refused : (text : List ℕ) (fault : SyntaxFault) → t.Refuses fault (
 unfolding read
 text-refused text fault h = text_refused (λ tokens. answer_of_tree (m.tree_of tokens)) (t.tokens_of text) fault h
 
-pub text-found : (text : List ℕ) (tokens : List Token) (r : Result Expr SyntaxFault) → t.tokens_of text ≡ Ok tokens → Answers r (answer_of_tree (m.tree_of tokens)) → Answers r (answer_of text)
+pub text-found : (text : List ℕ) (tokens : List Token) (r : Result Expr SyntaxFault) → t.tokens_of text ≡ Ok tokens →
+    Answers r (answer_of_tree (m.tree_of tokens)) → Answers r (answer_of text)
 unfolding read
 text-found text tokens r e h = subst (Answers r) (sym (ap (read (λ tokens. answer_of_tree (m.tree_of tokens))) e)) h
 
@@ -131,6 +141,7 @@ pub pattern_text-refused : (text : List ℕ) (fault : SyntaxFault) → t.Refuses
 unfolding read
 pattern_text-refused text fault h = text_refused (λ tokens. answer_of_pattern_tree (m.tree_of tokens)) (t.tokens_of text) fault h
 
-pub pattern_text-found : (text : List ℕ) (tokens : List Token) (r : Result Pattern SyntaxFault) → t.tokens_of text ≡ Ok tokens → PatternAnswers r (answer_of_pattern_tree (m.tree_of tokens)) → PatternAnswers r (pattern_answer_of text)
+pub pattern_text-found : (text : List ℕ) (tokens : List Token) (r : Result Pattern SyntaxFault) → t.tokens_of text ≡ Ok tokens →
+    PatternAnswers r (answer_of_pattern_tree (m.tree_of tokens)) → PatternAnswers r (pattern_answer_of text)
 unfolding read
 pattern_text-found text tokens r e h = subst (PatternAnswers r) (sym (ap (read (λ tokens. answer_of_pattern_tree (m.tree_of tokens))) e)) h

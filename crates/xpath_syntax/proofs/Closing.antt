@@ -11,7 +11,10 @@ use Rattle.xpath_syntax.specs.Stacks.{Stack, top_is_closed, node_of}
 use Rattle.xpath_syntax.specs.Values.{values, and_then, node_value}
 
 closed_or_left : Bool → ℕ → Form → Parts → Label → Value → Stack → Value × Stack
-closed_or_left b rank form parts label v st = elim b [ true ↦ m.close values rank (node_value form (and_then parts label v)) st | false ↦ (v, Open form parts label ∷ st) ]
+closed_or_left b rank form parts label v st = elim b [
+  | true ↦ m.close values rank (node_value form (and_then parts label v)) st
+  | false ↦ (v, Open form parts label ∷ st)
+]
 
 pub close-top : (rank : ℕ) (form : Form) (parts : Parts) (label : Label) (v : Value) (st : Stack) → m.is_closed rank form label ≡ true
     → m.close values rank v (Open form parts label ∷ st) ≡ m.close values rank (node_value form (and_then parts label v)) st

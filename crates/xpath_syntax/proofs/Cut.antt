@@ -1,5 +1,6 @@
 -- What the parser keeps of an expression is the expression, as long as it has at most 256 levels.
-use Rattle.std.proofs.Common.{◌≡◌, ℕ, suc, Bool, true, false, ◌&&◌, ◌+◌, ◌≤◌, ◌<◌, List, [], ◌∷◌, ◌++◌, Option, Some, None, max, nat_lt, nat_le, refl, sym, ap, ◌∙◌, arith, le-leb, leb-true, leb-false, ltb-true, ltb-false}
+use Rattle.std.proofs.Common.{◌≡◌, ℕ, suc, Bool, true, false, ◌&&◌, ◌+◌, ◌≤◌, ◌<◌, List, [], ◌∷◌, ◌++◌, Option, Some, None, max, nat_lt, nat_le, refl, sym, ap}
+use Rattle.std.proofs.Common.{◌∙◌, arith, le-leb, leb-true, leb-false, ltb-true, ltb-false}
 use Rattle.std.proofs.lemmas.Bool.{lt-leb}
 use Rattle.xpath_grammar.specs.declared.expr.Expr.{Expr}
 use Rattle.xpath_grammar.specs.declared.expr.Expr.TheVariants as e
@@ -40,7 +41,13 @@ first_all first g.none = first
 first_all first (g.more label x parts) = first_all (Some (first_of first (pa.kind_of x))) parts
 
 combined : Parts → g.Parts → Parts
-combined so_far parts = record { kept = kept_all so_far.kept parts; first = first_all so_far.first parts; steps = so_far.steps && pa.all_steps parts; paths = so_far.paths && pa.all_paths parts }
+combined so_far parts = record {
+  kept = kept_all so_far.kept parts;
+  first = first_all so_far.first parts;
+  steps = so_far.steps && pa.all_steps parts;
+  paths =
+      so_far.paths && pa.all_paths parts;
+}
 
 none_kept : (parts : g.Parts) → kept_all None parts ≡ None
 unfolding kept_all
@@ -84,23 +91,41 @@ and-true true = refl
 and-true false = refl
 
 all_kept : (parts : g.Parts) (so_far : List (Label × Expr)) (deepest : ℕ) → deepest ≤ 256
-    → kept_all (Some (record { parts = so_far; deepest = deepest })) parts ≡ kept_if (nat_le (g.deepest parts) 256) (record { parts = m.values_of expressions parts so_far; deepest = max deepest (g.deepest parts) })
+    → kept_all (Some (record { parts = so_far; deepest = deepest })) parts ≡ kept_if (nat_le (g.deepest parts) 256)
+    (record { parts = m.values_of expressions parts so_far; deepest = max deepest (g.deepest parts) })
 unfolding kept_all g.level m.value_of
 all_kept g.none so_far deepest h = ap (λ d. Some (record { parts = so_far; deepest = d })) (max_none deepest)
-all_kept (g.more label x parts) so_far deepest h = by (nat_le (g.level x) 256) refl (all_kept parts (so_far ++ (label, expression x) ∷ []) (max deepest (g.level x))) where
-  Goal : Option Kept → Type 0
-  Goal kept = kept_all (kept_with (Some (record { parts = so_far; deepest = deepest })) label kept) parts
-      ≡ kept_if (nat_le (max (g.level x) (g.deepest parts)) 256) (record { parts = m.values_of expressions parts (so_far ++ (label, expression x) ∷ []); deepest = max deepest (max (g.level x) (g.deepest parts)) })
+all_kept (g.more label x parts) so_far deepest h = by (nat_le (g.level x) 256) refl
+    (all_kept parts (so_far ++ (label, expression x) ∷ []) (max deepest (g.level x))) where
+      Goal : Option Kept → Type 0
+      Goal kept = kept_all (kept_with (Some (record { parts = so_far; deepest = deepest })) label kept) parts
+          ≡ kept_if (nat_le (max (g.level x) (g.deepest parts)) 256)
+          (record { parts = m.values_of expressions parts (so_far ++ (label, expression x) ∷ []); deepest = max deepest (max (g.level x) (g.deepest parts)) })
 
-  by : (b : Bool) → nat_le (g.level x) 256 ≡ b
-      → (max deepest (g.level x) ≤ 256 → kept_all (Some (record { parts = so_far ++ (label, expression x) ∷ []; deepest = max deepest (g.level x) })) parts
-      ≡ kept_if (nat_le (g.deepest parts) 256) (record { parts = m.values_of expressions parts (so_far ++ (label, expression x) ∷ []); deepest = max (max deepest (g.level x)) (g.deepest parts) }))
-      → Goal (kept_if b (record { expression = expression x; level = g.level x }))
-  by true e ih = let small : g.level x ≤ 256 = leb-true (g.level x) 256 e in let fits : max deepest (g.level x) ≤ 256 = omega arith in
-      ih fits ∙ ap (λ b. kept_if b (record { parts = m.values_of expressions parts (so_far ++ (label, expression x) ∷ []); deepest = max (max deepest (g.level x)) (g.deepest parts) })) (same_le (g.level x) (g.deepest parts) small)
-      ∙ ap (λ d. kept_if (nat_le (max (g.level x) (g.deepest parts)) 256) (record { parts = m.values_of expressions parts (so_far ++ (label, expression x) ∷ []); deepest = d })) (max_of_three deepest (g.level x) (g.deepest parts))
-  by false e ih = none_kept parts ∙ sym (ap (λ b. kept_if b (record { parts = m.values_of expressions parts (so_far ++ (label, expression x) ∷ []); deepest = max deepest (max (g.level x) (g.deepest parts)) }))
-      (too_deep (g.level x) (g.deepest parts) (leb-false (g.level x) 256 e)))
+      by : (b : Bool) → nat_le (g.level x) 256 ≡ b
+          → (max deepest (g.level x) ≤ 256 → kept_all (Some (record { parts = so_far ++ (label, expression x) ∷ []; deepest = max deepest (g.level x) })) parts
+          ≡ kept_if (nat_le (g.deepest parts) 256) (record {
+            parts = m.values_of expressions parts (so_far ++ (label, expression x) ∷ []);
+            deepest =
+                max (max deepest (g.level x)) (g.deepest parts);
+          }))
+          → Goal (kept_if b (record { expression = expression x; level = g.level x }))
+      by true e ih = let small : g.level x ≤ 256 = leb-true (g.level x) 256 e in let fits : max deepest (g.level x) ≤ 256 = omega arith in
+          ih fits ∙ ap (λ b. kept_if b (record {
+            parts = m.values_of expressions parts (so_far ++ (label, expression x) ∷ []);
+            deepest =
+                max (max deepest (g.level x)) (g.deepest parts);
+          })) (same_le (g.level x) (g.deepest parts) small)
+          ∙ ap (λ d. kept_if (nat_le (max (g.level x) (g.deepest parts)) 256)
+          (record { parts = m.values_of expressions parts (so_far ++ (label, expression x) ∷ []); deepest = d }))
+          (max_of_three deepest (g.level x) (g.deepest parts))
+      by false e ih = none_kept parts ∙
+          sym (ap (λ b. kept_if b (record {
+            parts = m.values_of expressions parts (so_far ++ (label, expression x) ∷ []);
+            deepest =
+                max deepest (max (g.level x) (g.deepest parts));
+          }))
+          (too_deep (g.level x) (g.deepest parts) (leb-false (g.level x) 256 e)))
 
 node_kept : (form : Form) (parts : g.Parts) → kept_node form (kept_all (Some (record { parts = []; deepest = 0 })) parts) ≡ kept_of (g.node form parts)
 unfolding g.level m.value_of
@@ -111,12 +136,20 @@ node_kept form parts = ap (kept_node form) (all_kept parts [] 0 (omega arith)) �
   node_if : Bool → Option Kept
   node_if b = elim b [ true ↦ Some (made (max 0 (g.deepest parts) + 1)) | false ↦ None ]
 
-  by : (b : Bool) → nat_le (g.deepest parts) 256 ≡ b → kept_node form (kept_if b (record { parts = m.values_of expressions parts []; deepest = max 0 (g.deepest parts) })) ≡ kept_if (nat_le (suc (g.deepest parts)) 256) (made (suc (g.deepest parts)))
+  by : (b : Bool) → nat_le (g.deepest parts) 256 ≡ b →
+      kept_node form (kept_if b (record { parts = m.values_of expressions parts []; deepest = max 0 (g.deepest parts) })) ≡ kept_if
+      (nat_le (suc (g.deepest parts)) 256) (made (suc (g.deepest parts)))
   by true e = inside (nat_lt (max 0 (g.deepest parts)) 256) refl where
-    inside : (c : Bool) → nat_lt (max 0 (g.deepest parts)) 256 ≡ c → elim c as (λ _. Option Kept) [ true ↦ Some (made (max 0 (g.deepest parts) + 1)) | false ↦ None ] ≡ kept_if (nat_le (suc (g.deepest parts)) 256) (made (suc (g.deepest parts)))
-    inside true q = ap (λ l. Some (made l)) (one_more (g.deepest parts)) ∙ sym (ap (λ c. kept_if c (made (suc (g.deepest parts)))) (le-leb (suc (g.deepest parts)) 256 (let l : max 0 (g.deepest parts) < 256 = ltb-true (max 0 (g.deepest parts)) 256 q in omega arith)))
-    inside false q = sym (ap (λ c. kept_if c (made (suc (g.deepest parts)))) (lt-leb (suc (g.deepest parts)) 256 (let l : 256 ≤ max 0 (g.deepest parts) = ltb-false (max 0 (g.deepest parts)) 256 q in omega arith)))
-  by false e = sym (ap (λ c. kept_if c (made (suc (g.deepest parts)))) (lt-leb (suc (g.deepest parts)) 256 (let l : 256 < g.deepest parts = leb-false (g.deepest parts) 256 e in omega arith)))
+    inside : (c : Bool) → nat_lt (max 0 (g.deepest parts)) 256 ≡ c →
+        elim c as (λ _. Option Kept) [ true ↦ Some (made (max 0 (g.deepest parts) + 1)) | false ↦ None ] ≡ kept_if (nat_le (suc (g.deepest parts)) 256)
+        (made (suc (g.deepest parts)))
+    inside true q = ap (λ l. Some (made l)) (one_more (g.deepest parts)) ∙
+        sym (ap (λ c. kept_if c (made (suc (g.deepest parts))))
+        (le-leb (suc (g.deepest parts)) 256 (let l : max 0 (g.deepest parts) < 256 = ltb-true (max 0 (g.deepest parts)) 256 q in omega arith)))
+    inside false q = sym (ap (λ c. kept_if c (made (suc (g.deepest parts))))
+        (lt-leb (suc (g.deepest parts)) 256 (let l : 256 ≤ max 0 (g.deepest parts) = ltb-false (max 0 (g.deepest parts)) 256 q in omega arith)))
+  by false e = sym (ap (λ c. kept_if c (made (suc (g.deepest parts))))
+      (lt-leb (suc (g.deepest parts)) 256 (let l : 256 < g.deepest parts = leb-false (g.deepest parts) 256 e in omega arith)))
 
 mutual
   unfolding g.level m.value_of pa.kind_of kept_all first_all combined
@@ -124,14 +157,30 @@ mutual
   pub whole-is : (x : g.Tree) → m.value_of values x ≡ whole x
   whole-is (g.leaf x) = refl
   whole-is (g.node form parts) = ap (node_value form) (combined-is parts no_parts)
-      ∙ ap (λ kept. record { kept = kept; kind = pa.node_kind form (first_of (first_all None parts) k.Other) (pa.all_steps parts) (pa.all_paths parts) }) (node_kept form parts)
+      ∙ ap (λ kept. record { kept = kept; kind = pa.node_kind form (first_of (first_all None parts) k.Other) (pa.all_steps parts) (pa.all_paths parts) })
+      (node_kept form parts)
       ∙ ap (λ first. record { kept = kept_of (g.node form parts); kind = pa.node_kind form first (pa.all_steps parts) (pa.all_paths parts) }) (first_is parts)
 
   combined-is : (parts : g.Parts) (so_far : Parts) → m.values_of values parts so_far ≡ combined so_far parts
-  combined-is g.none so_far = ap (λ b. record { kept = so_far.kept; first = so_far.first; steps = b; paths = so_far.paths }) (sym (and-true so_far.steps)) ∙ ap (λ b. record { kept = so_far.kept; first = so_far.first; steps = so_far.steps && true; paths = b }) (sym (and-true so_far.paths))
+  combined-is g.none so_far = ap (λ b. record { kept = so_far.kept; first = so_far.first; steps = b; paths = so_far.paths }) (sym (and-true so_far.steps)) ∙
+      ap (λ b. record { kept = so_far.kept; first = so_far.first; steps = so_far.steps && true; paths = b }) (sym (and-true so_far.paths))
   combined-is (g.more label x parts) so_far = ap (λ v. m.values_of values parts (values.and_then so_far label v)) (whole-is x)
       ∙ combined-is parts (values.and_then so_far label (whole x))
-      ∙ ap (λ b. record { kept = kept_all (kept_with so_far.kept label (kept_of x)) parts; first = first_all (Some (first_of so_far.first (pa.kind_of x))) parts; steps = b; paths = (so_far.paths && (pa.is_path (pa.kind_of x) && pa.is_bar label)) && pa.all_paths parts })
+      ∙ ap (λ b. record {
+        kept = kept_all (kept_with so_far.kept label (kept_of x)) parts;
+        first =
+            first_all (Some (first_of so_far.first (pa.kind_of x))) parts;
+        steps = b;
+        paths = (so_far.paths && (pa.is_path (pa.kind_of x) && pa.is_bar label)) &&
+            pa.all_paths parts;
+      })
       (and_assoc so_far.steps (pa.is_step (pa.kind_of x)) (pa.all_steps parts))
-      ∙ ap (λ b. record { kept = kept_all (kept_with so_far.kept label (kept_of x)) parts; first = first_all (Some (first_of so_far.first (pa.kind_of x))) parts; steps = so_far.steps && (pa.is_step (pa.kind_of x) && pa.all_steps parts); paths = b })
-      (and_assoc so_far.paths (pa.is_path (pa.kind_of x) && pa.is_bar label) (pa.all_paths parts) ∙ ap (λ c. so_far.paths && c) (and_assoc (pa.is_path (pa.kind_of x)) (pa.is_bar label) (pa.all_paths parts)))
+      ∙ ap (λ b. record {
+        kept = kept_all (kept_with so_far.kept label (kept_of x)) parts;
+        first =
+            first_all (Some (first_of so_far.first (pa.kind_of x))) parts;
+        steps = so_far.steps && (pa.is_step (pa.kind_of x) && pa.all_steps parts);
+        paths = b;
+      })
+      (and_assoc so_far.paths (pa.is_path (pa.kind_of x) && pa.is_bar label) (pa.all_paths parts) ∙
+      ap (λ c. so_far.paths && c) (and_assoc (pa.is_path (pa.kind_of x)) (pa.is_bar label) (pa.all_paths parts)))

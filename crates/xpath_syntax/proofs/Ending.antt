@@ -35,17 +35,20 @@ by-last (d.Casting word v) stack = refl
 by-last (d.CastAs word v) stack = refl
 by-last (d.Typed word v type) stack = refl
 
-opened : (mode : Mode Value Parts) (stack left : Stack) (last value : Value) → last_value mode ≡ Some last → Closes (Ok value) left (m.close values 0 last stack)
+opened : (mode : Mode Value Parts) (stack left : Stack) (last value : Value) → last_value mode ≡ Some last →
+    Closes (Ok value) left (m.close values 0 last stack)
     → m.ended_in values mode stack ≡ m.alone values (value, left)
 unfolding closed_alone
 opened mode stack left last value is closes = by-last mode stack ∙ (ap (λ (last : Option Value). closed_alone last stack) is ∙ ap (m.alone values) closes)
 
-pub ended-alone : (mode : Mode Value Parts) (stack left : Stack) (last value : Value) → last_value mode ≡ Some last → Closes (Ok value) left (m.close values 0 last stack)
+pub ended-alone : (mode : Mode Value Parts) (stack left : Stack) (last value : Value) → last_value mode ≡ Some last →
+    Closes (Ok value) left (m.close values 0 last stack)
     → is_empty left ≡ true → MayMake (Ok value) (m.ended_in values mode stack)
 ended-alone mode stack [] last value is closes empty = opened mode stack [] last value is closes
 ended-alone mode stack (frame ∷ left) last value is closes empty = absurd (false≢true empty)
 
-pub ended-beside : (mode : Mode Value Parts) (stack left : Stack) (last value : Value) → last_value mode ≡ Some last → Closes (Ok value) left (m.close values 0 last stack)
+pub ended-beside : (mode : Mode Value Parts) (stack left : Stack) (last value : Value) → last_value mode ≡ Some last →
+    Closes (Ok value) left (m.close values 0 last stack)
     → is_empty left ≡ false → MayMake {X = Value} (Err f.Syntax) (m.ended_in values mode stack)
 ended-beside mode stack [] last value is closes empty = absurd (false≢true (sym empty))
 ended-beside mode stack (frame ∷ left) last value is closes empty = opened mode stack (frame ∷ left) last value is closes

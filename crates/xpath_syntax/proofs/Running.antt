@@ -27,7 +27,8 @@ unfolding behind
 run-more items rest token mode next stack left whole e s h = sym (run-token items rest token mode stack (Some (m.at next left)) e s) ∙ h
 
 pub run-refused : (items rest : List Token) (token : Token) (mode : Mode Value Parts) (stack : Stack) (whole : Option Value) (fault : SyntaxFault)
-    → items ≡ token ∷ rest → Refuses fault (m.step_in values token mode stack) → m.run values items (m.at mode stack) ≡ whole → MayMake {X = Value} (Err fault) whole
+    → items ≡ token ∷ rest → Refuses fault (m.step_in values token mode stack) → m.run values items (m.at mode stack) ≡ whole →
+    MayMake {X = Value} (Err fault) whole
 unfolding behind
 run-refused items rest token mode stack whole f.TooLong e s h = s
 run-refused items rest token mode stack whole (f.Lexical i) e s h = s
@@ -40,7 +41,8 @@ run-refused items rest token mode stack whole f.Memory e s h = tt
 pub run-ended : (items : List Token) (mode : Mode Value Parts) (stack : Stack) (whole : Option Value) (found : Result Value SyntaxFault)
     → length items ≡ 0 → MayMake found (m.ended_in values mode stack) → m.run values items (m.at mode stack) ≡ whole → MayMake found whole
 unfolding m.run
-run-ended items mode stack whole found e s h = subst (λ (o : Option Value). MayMake found o) (sym (ap (λ ts. m.run values ts (m.at mode stack)) (nil_from_length items e)) ∙ h) s
+run-ended items mode stack whole found e s h = subst (λ (o : Option Value). MayMake found o)
+    (sym (ap (λ ts. m.run values ts (m.at mode stack)) (nil_from_length items e)) ∙ h) s
 
 pub run-from : (items tokens : List Token) (stack : Stack) → items ≡ tokens → stack ≡ [] → m.run values items (m.at want stack) ≡ m.parsed values tokens
 run-from items tokens stack e s = ap (λ ts. m.run values ts (m.at want stack)) e ∙ ap (λ st. m.run values tokens (m.at want st)) s

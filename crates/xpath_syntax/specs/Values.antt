@@ -44,7 +44,10 @@ and_then parts label value = record {
 
 abbrev pub kept_node : Form → Option KeptParts → Option Kept
 kept_node form None = None
-kept_node form (Some parts) = elim (nat_lt parts.deepest most_levels) [ true ↦ Some (record { expression = e.Node form parts.parts; level = parts.deepest + 1 }) | false ↦ None ]
+kept_node form (Some parts) = elim (nat_lt parts.deepest most_levels) [
+  | true ↦ Some (record { expression = e.Node form parts.parts; level = parts.deepest + 1 })
+  | false ↦ None
+]
 
 abbrev pub node_value : Form → Parts → Value
 node_value form parts = record { kept = kept_node form parts.kept; kind = pa.node_kind form (first_of parts.first k.Other) parts.steps parts.paths }

@@ -16,17 +16,22 @@ of_words text cut e = ap (λ r. elim r as (λ _. Result (List Token) SyntaxFault
 
 pub wide-answer : (text : List ℕ) (cut : List (List ℕ)) → words text ≡ Ok cut → list_any is_wide cut ≡ true → answer_of_characters text ≡ Err f.NumberTooWide
 wide-answer text cut e wide = of_words text cut e
-    ∙ ap (λ b. elim b as (λ _. Result (List Token) SyntaxFault) [ true ↦ Err f.NumberTooWide | false ↦ elim (judged p.Operand 0 cut) [ Ok tokens ↦ Ok tokens | Err index ↦ Err (f.Unsupported index) ] ]) wide
+    ∙ ap (λ b. elim b as (λ _. Result (List Token) SyntaxFault) [
+      | true ↦ Err f.NumberTooWide
+      | false ↦ elim (judged p.Operand 0 cut) [ Ok tokens ↦ Ok tokens | Err index ↦ Err (f.Unsupported index) ]
+    ]) wide
 
 told : Result (List Token) ℕ → Result (List Token) SyntaxFault
 told r = elim r [ Ok tokens ↦ Ok tokens | Err index ↦ Err (f.Unsupported index) ]
 
-narrow-answer : (text : List ℕ) (cut : List (List ℕ)) → words text ≡ Ok cut → list_any is_wide cut ≡ false → answer_of_characters text ≡ told (judged p.Operand 0 cut)
+narrow-answer : (text : List ℕ) (cut : List (List ℕ)) → words text ≡ Ok cut → list_any is_wide cut ≡ false →
+    answer_of_characters text ≡ told (judged p.Operand 0 cut)
 unfolding told
 narrow-answer text cut e wide = of_words text cut e
     ∙ ap (λ b. elim b as (λ _. Result (List Token) SyntaxFault) [ true ↦ Err f.NumberTooWide | false ↦ told (judged p.Operand 0 cut) ]) wide
 
-pub judged-answer : {Z : Type 0} (text : List ℕ) (cut : List (List ℕ)) (r : Result (Vec Token Z) SyntaxFault) → words text ≡ Ok cut → list_any is_wide cut ≡ false → Judges r (judged p.Operand 0 cut) → Answers r (answer_of_characters text)
+pub judged-answer : {Z : Type 0} (text : List ℕ) (cut : List (List ℕ)) (r : Result (Vec Token Z) SyntaxFault) → words text ≡ Ok cut →
+    list_any is_wide cut ≡ false → Judges r (judged p.Operand 0 cut) → Answers r (answer_of_characters text)
 unfolding told
 judged-answer {Z} text cut r e wide h = subst (λ answer. Answers r answer) (sym (narrow-answer text cut e wide)) (by_cases r h) where
   by_cases : (r : Result (Vec Token Z) SyntaxFault) → Judges r (judged p.Operand 0 cut) → Answers r (told (judged p.Operand 0 cut))
@@ -42,7 +47,8 @@ judged-answer {Z} text cut r e wide h = subst (λ answer. Answers r answer) (sym
 pub cut-answer : (text : List ℕ) (fault : SyntaxFault) → CutFault fault (words text) → Refuses fault (answer_of_characters text)
 unfolding answer_of_characters
 cut-answer text f.Memory h = tt
-cut-answer text (f.Lexical place) h = ap (λ r. elim r as (λ _. Result (List Token) SyntaxFault) [ Err place ↦ Err (f.Lexical place) | Ok found ↦ answer_of_words found ]) h
+cut-answer text (f.Lexical place) h =
+    ap (λ r. elim r as (λ _. Result (List Token) SyntaxFault) [ Err place ↦ Err (f.Lexical place) | Ok found ↦ answer_of_words found ]) h
 cut-answer text f.TooLong h = absurd h
 cut-answer text (f.Unsupported index) h = absurd h
 cut-answer text f.NumberTooWide h = absurd h

@@ -27,17 +27,20 @@ more i None = refl
 more i (Some n) = ap Some (omega arith)
 
 -- inside the string
-pub ending-open : (quote : ℕ) (end : Option ℕ) (i c : ℕ) (text : List ℕ) → ending quote false end i (c ∷ text) ≡ ending quote (eqb c quote) (cond (eqb c quote) (Some (i + 1)) end) (i + 1) text
+pub ending-open : (quote : ℕ) (end : Option ℕ) (i c : ℕ) (text : List ℕ) →
+    ending quote false end i (c ∷ text) ≡ ending quote (eqb c quote) (cond (eqb c quote) (Some (i + 1)) end) (i + 1) text
 unfolding ending longest closes
 ending-open quote end i c text = ap (λ x. or_else x end) (more i (longest (closes quote (eqb c quote)) text)) ∙ by_cases (eqb c quote) where
-  by_cases : (b : Bool) → or_else (behind (i + 1) (longest (closes quote b) text)) end ≡ or_else (behind (i + 1) (longest (closes quote b) text)) (cond b (Some (i + 1)) end)
+  by_cases : (b : Bool) → or_else (behind (i + 1) (longest (closes quote b) text)) end ≡ or_else (behind (i + 1) (longest (closes quote b) text))
+      (cond b (Some (i + 1)) end)
   by_cases true = let found = some_closed quote text in rw found.1 refl
   by_cases false = refl
 
 -- behind a quote that is doubled
 pub ending-doubled : (quote i c : ℕ) (text : List ℕ) → eqb c quote ≡ true → ending quote true (Some i) i (c ∷ text) ≡ ending quote false (Some i) (i + 1) text
 unfolding ending longest closes
-ending-doubled quote i c text e = ap (λ b. or_else (behind i (one_longer (longest (λ rest. elim b [ true ↦ closes quote false rest | false ↦ false ]) text) true)) (Some i)) e
+ending-doubled quote i c text e =
+    ap (λ b. or_else (behind i (one_longer (longest (λ rest. elim b [ true ↦ closes quote false rest | false ↦ false ]) text) true)) (Some i)) e
     ∙ by_cases (longest (closes quote false) text) where
       by_cases : (x : Option ℕ) → or_else (behind i (one_longer x true)) (Some i) ≡ or_else (behind (i + 1) x) (Some i)
       by_cases None = ap Some (omega arith)
@@ -46,7 +49,8 @@ ending-doubled quote i c text e = ap (λ b. or_else (behind i (one_longer (longe
 -- behind the quote that ends it
 pub ending-closed : (quote i c : ℕ) (text : List ℕ) → eqb c quote ≡ false → ending quote true (Some i) i (c ∷ text) ≡ Some i
 unfolding ending longest closes
-ending-closed quote i c text e = ap (λ b. or_else (behind i (one_longer (longest (λ rest. elim b [ true ↦ closes quote false rest | false ↦ false ]) text) true)) (Some i)) e
+ending-closed quote i c text e =
+    ap (λ b. or_else (behind i (one_longer (longest (λ rest. elim b [ true ↦ closes quote false rest | false ↦ false ]) text) true)) (Some i)) e
     ∙ ap (λ x. or_else (behind i (one_longer x true)) (Some i)) (longest-false text) ∙ ap Some (let e : i + 0 ≡ i = omega arith in e)
 
 -- at the end of the text
@@ -67,14 +71,17 @@ ending-begin quote text = by_cases (longest (closes quote false) text) where
 
 pub open-step : (quote : ℕ) (end : Option ℕ) (i c : ℕ) (rest all : List ℕ) (closed : Bool) (whole : Option ℕ) → closed ≡ false → all ≡ c ∷ rest
     → ending quote closed end i all ≡ whole → ending quote (eqb c quote) (cond (eqb c quote) (Some (i + 1)) end) (i + 1) rest ≡ whole
-open-step quote end i c rest all closed whole e d same = sym (ending-open quote end i c rest) ∙ ap (ending quote false end i) (sym d) ∙ ap (λ b. ending quote b end i all) (sym e) ∙ same
+open-step quote end i c rest all closed whole e d same = sym (ending-open quote end i c rest) ∙ ap (ending quote false end i) (sym d) ∙
+    ap (λ b. ending quote b end i all) (sym e) ∙ same
 
-pub doubled-step : (quote : ℕ) (end : Option ℕ) (i c : ℕ) (rest all : List ℕ) (closed : Bool) (whole : Option ℕ) → closed ≡ true → end ≡ Some i → all ≡ c ∷ rest → eqb c quote ≡ true
+pub doubled-step : (quote : ℕ) (end : Option ℕ) (i c : ℕ) (rest all : List ℕ) (closed : Bool) (whole : Option ℕ) → closed ≡ true → end ≡ Some i → all ≡ c ∷ rest
+    → eqb c quote ≡ true
     → ending quote closed end i all ≡ whole → ending quote false end (i + 1) rest ≡ whole
 doubled-step quote end i c rest all closed whole e f d t same = ap (λ x. ending quote false x (i + 1) rest) f ∙ sym (ending-doubled quote i c rest t)
     ∙ ap (ending quote true (Some i) i) (sym d) ∙ ap (λ x. ending quote true x i all) (sym f) ∙ ap (λ b. ending quote b end i all) (sym e) ∙ same
 
-pub closed-step : (quote : ℕ) (end : Option ℕ) (i c : ℕ) (rest all : List ℕ) (closed : Bool) (whole : Option ℕ) → closed ≡ true → end ≡ Some i → all ≡ c ∷ rest → eqb c quote ≡ false
+pub closed-step : (quote : ℕ) (end : Option ℕ) (i c : ℕ) (rest all : List ℕ) (closed : Bool) (whole : Option ℕ) → closed ≡ true → end ≡ Some i → all ≡ c ∷ rest
+    → eqb c quote ≡ false
     → ending quote closed end i all ≡ whole → end ≡ whole
 closed-step quote end i c rest all closed whole e f d t same = f ∙ sym (ending-closed quote i c rest t)
     ∙ ap (ending quote true (Some i) i) (sym d) ∙ ap (λ x. ending quote true x i all) (sym f) ∙ ap (λ b. ending quote b end i all) (sym e) ∙ same

@@ -1,5 +1,6 @@
 -- What the longest front of a form is, for each part that forms are made of.
-use Rattle.std.proofs.Common.{◌≡◌, ℕ, suc, ◌+◌, ◌≤◌, Bool, true, false, cond, ◌||◌, List, [], ◌∷◌, Option, Some, None, length, drop, refl, sym, ap, ◌∙◌, arith, inl, inr}
+use Rattle.std.proofs.Common.{◌≡◌, ℕ, suc, ◌+◌, ◌≤◌, Bool, true, false, cond, ◌||◌, List, [], ◌∷◌, Option, Some, None, length, drop, refl, sym, ap, ◌∙◌, arith}
+use Rattle.std.proofs.Common.{inl, inr}
 use Rattle.std.specs.Option.{unwrap_or}
 use Rattle.std.specs.List.{prefix_len}
 use Rattle.std.proofs.lemmas.Bool.{cases_Bool}
@@ -38,11 +39,13 @@ one : Bool → (List ℕ → Bool) → List ℕ → Bool
 one true form text = form text
 one false form text = false
 
-longest-one : (b : Bool) (form : List ℕ → Bool) (text : List ℕ) → longest (λ rest. elim b [ true ↦ form rest | false ↦ false ]) text ≡ elim b [ true ↦ longest form text | false ↦ None ]
+longest-one : (b : Bool) (form : List ℕ → Bool) (text : List ℕ) →
+    longest (λ rest. elim b [ true ↦ form rest | false ↦ false ]) text ≡ elim b [ true ↦ longest form text | false ↦ None ]
 longest-one true form text = refl
 longest-one false form text = longest-false text
 
-pub longest-one_then : (test : ℕ → Bool) (form : List ℕ → Bool) (c : ℕ) (text : List ℕ) → longest (one_then test form) (c ∷ text) ≡ cond (test c) (behind 1 (longest form text)) None
+pub longest-one_then : (test : ℕ → Bool) (form : List ℕ → Bool) (c : ℕ) (text : List ℕ) →
+    longest (one_then test form) (c ∷ text) ≡ cond (test c) (behind 1 (longest form text)) None
 unfolding longest
 longest-one_then test form c text = one_longer-false _ ∙ ap (behind 1) (longest-one (test c) form text) ∙ chosen (test c) (longest form text) where
   chosen : (b : Bool) (x : Option ℕ) → behind 1 (elim b [ true ↦ x | false ↦ None ]) ≡ cond b (behind 1 x) None
@@ -89,19 +92,23 @@ longest-many_then test form apart (c ∷ text) = elim (cases_Bool (test c)) [ in
   ends true d x f = refl
   ends false d x f = rw f refl
 
-  passes : longest (many_then test form) text ≡ behind (prefix_len test text) (longest form (drop (prefix_len test text) text)) → test c ≡ true → longest (many_then test form) (c ∷ text) ≡ behind (prefix_len test (c ∷ text)) (longest form (drop (prefix_len test (c ∷ text)) (c ∷ text)))
+  passes : longest (many_then test form) text ≡ behind (prefix_len test text) (longest form (drop (prefix_len test text) text)) → test c ≡ true →
+      longest (many_then test form) (c ∷ text) ≡ behind (prefix_len test (c ∷ text)) (longest form (drop (prefix_len test (c ∷ text)) (c ∷ text)))
   passes rest_of e =
-      let more = longest-same (λ rest. many_then test form (c ∷ rest)) (many_then test form) (λ rest. again (form (c ∷ rest)) (test c) (many_then test form rest) (apart c rest e) e) text in
+      let more = longest-same (λ rest. many_then test form (c ∷ rest)) (many_then test form)
+      (λ rest. again (form (c ∷ rest)) (test c) (many_then test form rest) (apart c rest e) e) text in
       let n : ℕ = prefix_len test text in
       ap (λ x. one_longer x (form [])) (more ∙ rest_of)
       ∙ one_longer-behind n form (drop n text)
       ∙ ap (λ rest. behind (1 + n) (longest form rest)) (sym (drop-one_more n c text))
       ∙ sym (ap (λ b. behind (cond b (1 + n) 0) (longest form (drop (cond b (1 + n) 0) (c ∷ text)))) e)
 
-  stops : test c ≡ false → longest (many_then test form) (c ∷ text) ≡ behind (prefix_len test (c ∷ text)) (longest form (drop (prefix_len test (c ∷ text)) (c ∷ text)))
+  stops : test c ≡ false → longest (many_then test form) (c ∷ text) ≡ behind (prefix_len test (c ∷ text))
+      (longest form (drop (prefix_len test (c ∷ text)) (c ∷ text)))
   stops e =
       let n : ℕ = prefix_len test text in
-      ap (λ x. one_longer x (form [])) (longest-same (λ rest. many_then test form (c ∷ rest)) (λ rest. form (c ∷ rest)) (λ rest. ends (form (c ∷ rest)) (test c) (many_then test form rest) e) text)
+      ap (λ x. one_longer x (form [])) (longest-same (λ rest. many_then test form (c ∷ rest)) (λ rest. form (c ∷ rest))
+      (λ rest. ends (form (c ∷ rest)) (test c) (many_then test form rest) e) text)
       ∙ sym (behind-zero _)
       ∙ sym (ap (λ b. behind (cond b (1 + n) 0) (longest form (drop (cond b (1 + n) 0) (c ∷ text)))) e)
 

@@ -1,11 +1,14 @@
 -- Going forward once finds the longest front of each form.
-use Rattle.std.proofs.Common.{◌≡◌, ℕ, ◌+◌, Bool, true, false, cond, ◌||◌, eqb, List, [], ◌∷◌, Option, Some, None, drop, refl, sym, ap, ◌∙◌, arith, inl, inr, subst}
+use Rattle.std.proofs.Common.{◌≡◌, ℕ, ◌+◌, Bool, true, false, cond, ◌||◌, eqb, List, [], ◌∷◌, Option, Some, None, drop, refl, sym, ap, ◌∙◌, arith, inl, inr}
+use Rattle.std.proofs.Common.{subst}
 use Rattle.std.specs.List.{prefix_len}
 use Rattle.std.proofs.lemmas.Bool.{cases_Bool}
 use Rattle.inv_base.specs.Characters.{is_name_start, is_name_char}
 use Rattle.xpath_tokens.specs.Longest.{one_longer, longest, nothing, one_then, many_then, some_then}
-use Rattle.xpath_tokens.specs.Words.{ncname_then, char_then, is_local_part, is_name, is_digit, is_exponent_mark, is_sign, is_exponent_part, is_number, closes, is_string, is_sign_of_one, is_sign_of_two, is_symbol, is_word}
-use Rattle.xpath_tokens.specs.Scanning.{later, behind, ncname_at, local_at, local_part_at, any_prefix_at, or_more, prefixed_at, name_at, digits_at, signed_digits_at, exponent_at, with_exponent, number_rest_at, number_at, string_at, symbol_at, word_at}
+use Rattle.xpath_tokens.specs.Words.{ncname_then, char_then, is_local_part, is_name, is_digit, is_exponent_mark, is_sign, is_exponent_part, is_number, closes}
+use Rattle.xpath_tokens.specs.Words.{is_string, is_sign_of_one, is_sign_of_two, is_symbol, is_word}
+use Rattle.xpath_tokens.specs.Scanning.{later, behind, ncname_at, local_at, local_part_at, any_prefix_at, or_more, prefixed_at, name_at, digits_at}
+use Rattle.xpath_tokens.specs.Scanning.{signed_digits_at, exponent_at, with_exponent, number_rest_at, number_at, string_at, symbol_at, word_at}
 use Rattle.xpath_tokens.proofs.LongestLaws.{longest-false, longest-nothing, longest-one_then, longest-many_then, longest-or, drop-one_more}
 
 -- a character that passes is none that doesn't
@@ -20,7 +23,8 @@ apart test k c fails passes = elim (cases_Bool (eqb c k)) [ inr e ↦ e | inl e 
 -- NCName
 
 longest-ncname : (form : List ℕ → Bool) → ((c : ℕ) (text : List ℕ) → is_name_char c ≡ true → form (c ∷ text) ≡ false)
-    → (c : ℕ) (text : List ℕ) → longest (ncname_then form) (c ∷ text) ≡ cond (is_name_start c) (behind 1 (behind (prefix_len is_name_char text) (longest form (drop (prefix_len is_name_char text) text)))) None
+    → (c : ℕ) (text : List ℕ) → longest (ncname_then form) (c ∷ text) ≡ cond (is_name_start c)
+    (behind 1 (behind (prefix_len is_name_char text) (longest form (drop (prefix_len is_name_char text) text)))) None
 longest-ncname form guard c text = longest-one_then is_name_start (many_then is_name_char form) c text
     ∙ ap (λ x. cond (is_name_start c) (behind 1 x) None) (longest-many_then is_name_char form guard text)
 
@@ -36,7 +40,8 @@ longest-ncname_at (c ∷ text) = longest-ncname nothing (λ d rest h. refl) c te
 
 -- names
 
-longest-char_then : (k : ℕ) (form : List ℕ → Bool) (c : ℕ) (text : List ℕ) → longest (char_then k form) (c ∷ text) ≡ cond (eqb c k) (behind 1 (longest form text)) None
+longest-char_then : (k : ℕ) (form : List ℕ → Bool) (c : ℕ) (text : List ℕ) →
+    longest (char_then k form) (c ∷ text) ≡ cond (eqb c k) (behind 1 (longest form text)) None
 longest-char_then k form c text = longest-one_then (λ d. eqb d k) form c text
 
 later-None : (x : Option ℕ) → later x None ≡ x
@@ -73,7 +78,8 @@ longest-local (c ∷ text) = longest-or (ncname_then nothing) (char_then 42 noth
     ∙ ap (λ x. later x (longest (char_then 42 nothing) (c ∷ text))) (longest-ncname_at (c ∷ text))
     ∙ ap (later (ncname_at (c ∷ text))) (longest-char_then 42 nothing c text ∙ ap (λ x. cond (eqb c 42) (behind 1 x) None) (longest-nothing text))
     ∙ by_cases (is_name_start c) (eqb c 42) (start-star c) where
-      by_cases : (s b : Bool) → (s ≡ true → b ≡ false) → later (cond s (Some (1 + prefix_len is_name_char text)) None) (cond b (Some 1) None) ≡ cond b (Some 1) (cond s (Some (1 + prefix_len is_name_char text)) None)
+      by_cases : (s b : Bool) → (s ≡ true → b ≡ false) → later (cond s (Some (1 + prefix_len is_name_char text)) None) (cond b (Some 1) None) ≡ cond b (Some 1)
+          (cond s (Some (1 + prefix_len is_name_char text)) None)
       by_cases true true h = absurd (let e : true ≡ false = h refl in cc)
       by_cases true false h = refl
       by_cases false true h = refl
@@ -84,7 +90,8 @@ unfolding longest local_part_at
 longest-local_part [] = refl
 longest-local_part (c ∷ text) = longest-or nothing (char_then 58 (λ rest. ncname_then nothing rest || char_then 42 nothing rest)) (c ∷ text)
     ∙ ap (λ x. later x (longest (char_then 58 (λ rest. ncname_then nothing rest || char_then 42 nothing rest)) (c ∷ text))) (longest-nothing (c ∷ text))
-    ∙ ap (later (Some 0)) (longest-char_then 58 (λ rest. ncname_then nothing rest || char_then 42 nothing rest) c text ∙ ap (λ x. cond (eqb c 58) (behind 1 x) None) (longest-local text))
+    ∙ ap (later (Some 0)) (longest-char_then 58 (λ rest. ncname_then nothing rest || char_then 42 nothing rest) c text ∙
+    ap (λ x. cond (eqb c 58) (behind 1 x) None) (longest-local text))
     ∙ later-zero (cond (eqb c 58) (behind 1 (local_at text)) None)
 
 longest-any_prefix : (text : List ℕ) → longest (char_then 58 (ncname_then nothing)) text ≡ any_prefix_at text
@@ -132,7 +139,8 @@ mark-point : (c : ℕ) → eqb c 46 ≡ true → is_exponent_mark c ≡ false
 mark-point c e = rw (apart (λ d. eqb d 46) 101 c refl e, apart (λ d. eqb d 46) 69 c refl e) refl
 
 longest-some_digits : (form : List ℕ → Bool) → ((c : ℕ) (text : List ℕ) → is_digit c ≡ true → form (c ∷ text) ≡ false)
-    → (c : ℕ) (text : List ℕ) → longest (some_then is_digit form) (c ∷ text) ≡ cond (is_digit c) (behind 1 (behind (prefix_len is_digit text) (longest form (drop (prefix_len is_digit text) text)))) None
+    → (c : ℕ) (text : List ℕ) → longest (some_then is_digit form) (c ∷ text) ≡ cond (is_digit c)
+    (behind 1 (behind (prefix_len is_digit text) (longest form (drop (prefix_len is_digit text) text)))) None
 longest-some_digits form guard c text = longest-one_then is_digit (many_then is_digit form) c text
     ∙ ap (λ x. cond (is_digit c) (behind 1 x) None) (longest-many_then is_digit form guard text)
 
@@ -156,12 +164,14 @@ longest-digits (c ∷ text) = longest-some_digits nothing (λ d rest h. refl) c 
       by_cases true = rw (suc-zero n) (ap Some (omega arith))
       by_cases false = refl
 
-longest-signed_digits : (text : List ℕ) → longest (λ digits. some_then is_digit nothing digits || one_then is_sign (some_then is_digit nothing) digits) text ≡ signed_digits_at text
+longest-signed_digits : (text : List ℕ) → longest (λ digits. some_then is_digit nothing digits || one_then is_sign (some_then is_digit nothing) digits)
+    text ≡ signed_digits_at text
 unfolding longest signed_digits_at digits_at
 longest-signed_digits [] = refl
 longest-signed_digits (c ∷ text) = longest-or (some_then is_digit nothing) (one_then is_sign (some_then is_digit nothing)) (c ∷ text)
     ∙ ap (λ x. later x (longest (one_then is_sign (some_then is_digit nothing)) (c ∷ text))) (longest-digits (c ∷ text))
-    ∙ ap (later (digits_at (c ∷ text))) (longest-one_then is_sign (some_then is_digit nothing) c text ∙ ap (λ x. cond (is_sign c) (behind 1 x) None) (longest-digits text))
+    ∙ ap (later (digits_at (c ∷ text))) (longest-one_then is_sign (some_then is_digit nothing) c text ∙
+    ap (λ x. cond (is_sign c) (behind 1 x) None) (longest-digits text))
     ∙ by_cases (is_digit c) (is_sign c) (digits_at text) (sign-digit c) where
       n : ℕ
       n = prefix_len is_digit text
@@ -177,20 +187,25 @@ longest-signed_digits (c ∷ text) = longest-or (some_then is_digit nothing) (on
 longest-exponent : (text : List ℕ) → longest is_exponent_part text ≡ Some (or_more 0 (exponent_at text))
 unfolding longest exponent_at
 longest-exponent [] = refl
-longest-exponent (c ∷ text) = longest-or nothing (one_then is_exponent_mark (λ digits. some_then is_digit nothing digits || one_then is_sign (some_then is_digit nothing) digits)) (c ∷ text)
-    ∙ ap (λ x. later x (longest (one_then is_exponent_mark (λ digits. some_then is_digit nothing digits || one_then is_sign (some_then is_digit nothing) digits)) (c ∷ text))) (longest-nothing (c ∷ text))
-    ∙ ap (later (Some 0)) (longest-one_then is_exponent_mark (λ digits. some_then is_digit nothing digits || one_then is_sign (some_then is_digit nothing) digits) c text
+longest-exponent (c ∷ text) = longest-or nothing
+    (one_then is_exponent_mark (λ digits. some_then is_digit nothing digits || one_then is_sign (some_then is_digit nothing) digits)) (c ∷ text)
+    ∙ ap (λ x. later x (longest (one_then is_exponent_mark (λ digits. some_then is_digit nothing digits ||
+    one_then is_sign (some_then is_digit nothing) digits)) (c ∷ text))) (longest-nothing (c ∷ text))
+    ∙ ap (later (Some 0)) (longest-one_then is_exponent_mark (λ digits. some_then is_digit nothing digits ||
+    one_then is_sign (some_then is_digit nothing) digits) c text
     ∙ ap (λ x. cond (is_exponent_mark c) (behind 1 x) None) (longest-signed_digits text))
     ∙ later-zero (cond (is_exponent_mark c) (behind 1 (signed_digits_at text)) None)
 
 exponent-apart : (c : ℕ) (text : List ℕ) → is_digit c ≡ true → is_exponent_part (c ∷ text) ≡ false
-exponent-apart c text e = ap (λ b. elim b [ true ↦ some_then is_digit nothing text || one_then is_sign (some_then is_digit nothing) text | false ↦ false ]) (mark-digit c e)
+exponent-apart c text e = ap (λ b. elim b [ true ↦ some_then is_digit nothing text || one_then is_sign (some_then is_digit nothing) text | false ↦ false ])
+    (mark-digit c e)
 
 longest-many_digits : (text : List ℕ) → longest (many_then is_digit is_exponent_part) text ≡ Some (with_exponent (prefix_len is_digit text) text)
 unfolding with_exponent
 longest-many_digits text = longest-many_then is_digit is_exponent_part exponent-apart text
     ∙ ap (behind (prefix_len is_digit text)) (longest-exponent (drop (prefix_len is_digit text) text))
-    ∙ ap Some (or_more-add (prefix_len is_digit text) 0 _ ∙ ap (λ m. or_more m (exponent_at (drop (prefix_len is_digit text) text))) (let e : prefix_len is_digit text + 0 ≡ prefix_len is_digit text = omega arith in e))
+    ∙ ap Some (or_more-add (prefix_len is_digit text) 0 _ ∙ ap (λ m. or_more m (exponent_at (drop (prefix_len is_digit text) text)))
+    (let e : prefix_len is_digit text + 0 ≡ prefix_len is_digit text = omega arith in e))
 
 -- what stands behind the digits at the front of a number
 rest_form : List ℕ → Bool
@@ -200,12 +215,14 @@ after_whole : List ℕ → ℕ
 after_whole [] = 0
 after_whole (c ∷ text) = cond (eqb c 46) (1 + with_exponent (prefix_len is_digit text) text) (or_more 0 (exponent_at (c ∷ text)))
 
-longest-rest : (text : List ℕ) → longest (λ rest. is_exponent_part rest || char_then 46 (many_then is_digit is_exponent_part) rest) text ≡ Some (after_whole text)
+longest-rest : (text : List ℕ) → longest (λ rest. is_exponent_part rest || char_then 46 (many_then is_digit is_exponent_part) rest) text ≡ Some
+    (after_whole text)
 unfolding longest after_whole exponent_at
 longest-rest [] = refl
 longest-rest (c ∷ text) = longest-or is_exponent_part (char_then 46 (many_then is_digit is_exponent_part)) (c ∷ text)
     ∙ ap (λ x. later x (longest (char_then 46 (many_then is_digit is_exponent_part)) (c ∷ text))) (longest-exponent (c ∷ text))
-    ∙ ap (later (Some (or_more 0 (exponent_at (c ∷ text))))) (longest-char_then 46 (many_then is_digit is_exponent_part) c text ∙ ap (λ x. cond (eqb c 46) (behind 1 x) None) (longest-many_digits text))
+    ∙ ap (later (Some (or_more 0 (exponent_at (c ∷ text))))) (longest-char_then 46 (many_then is_digit is_exponent_part) c text ∙
+    ap (λ x. cond (eqb c 46) (behind 1 x) None) (longest-many_digits text))
     ∙ by_cases (is_exponent_mark c) (eqb c 46) (mark-point c) where
       w : ℕ
       w = with_exponent (prefix_len is_digit text) text
@@ -218,12 +235,14 @@ longest-rest (c ∷ text) = longest-or is_exponent_part (char_then 46 (many_then
       by_cases false true h = ap Some (omega arith)
       by_cases false false h = refl
 
-rest-apart : (c : ℕ) (text : List ℕ) → is_digit c ≡ true → (is_exponent_part (c ∷ text) || char_then 46 (many_then is_digit is_exponent_part) (c ∷ text)) ≡ false
+rest-apart : (c : ℕ) (text : List ℕ) → is_digit c ≡ true →
+    (is_exponent_part (c ∷ text) || char_then 46 (many_then is_digit is_exponent_part) (c ∷ text)) ≡ false
 rest-apart c text e = ap (λ b. b || char_then 46 (many_then is_digit is_exponent_part) (c ∷ text)) (exponent-apart c text e)
     ∙ ap (λ b. elim b [ true ↦ many_then is_digit is_exponent_part text | false ↦ false ]) (apart is_digit 46 c refl e)
 
 -- a fraction with no digit before the point
-longest-fraction : (text : List ℕ) → longest (some_then is_digit is_exponent_part) text ≡ where_some (prefix_len is_digit text) (Some (with_exponent (prefix_len is_digit text) text))
+longest-fraction : (text : List ℕ) → longest (some_then is_digit is_exponent_part) text ≡ where_some (prefix_len is_digit text)
+    (Some (with_exponent (prefix_len is_digit text) text))
 unfolding longest where_some with_exponent
 longest-fraction [] = refl
 longest-fraction (c ∷ text) = longest-some_digits is_exponent_part exponent-apart c text
@@ -255,7 +274,8 @@ number_rest_some n (c ∷ text) = rw (suc-zero n, sum-zero n (prefix_len is_digi
   by_cases false = ap Some (sym (ap (λ m. 1 + m) (or_more-add n 0 (exponent_at (c ∷ text))) ∙ or_more-add 1 (n + 0) (exponent_at (c ∷ text))
       ∙ (let e : 1 + (n + 0) ≡ 1 + n = omega arith in ap (λ m. or_more m (exponent_at (c ∷ text))) e)))
 
-number_rest_none : (c : ℕ) (text : List ℕ) → number_rest_at 0 (c ∷ text) ≡ cond (eqb c 46) (behind 1 (where_some (prefix_len is_digit text) (Some (with_exponent (prefix_len is_digit text) text)))) None
+number_rest_none : (c : ℕ) (text : List ℕ) → number_rest_at 0 (c ∷ text) ≡ cond (eqb c 46)
+    (behind 1 (where_some (prefix_len is_digit text) (Some (with_exponent (prefix_len is_digit text) text)))) None
 unfolding number_rest_at where_some
 number_rest_none c text = by_cases (eqb c 46) (prefix_len is_digit text) (with_exponent (prefix_len is_digit text) text) where
   inner : (b : Bool) (w : ℕ) → cond b None (Some (0 + (1 + w))) ≡ behind 1 (cond b None (Some w))
@@ -269,7 +289,8 @@ number_rest_none c text = by_cases (eqb c 46) (prefix_len is_digit text) (with_e
 pub longest-number : (text : List ℕ) → longest is_number text ≡ number_at text
 unfolding longest number_at number_rest_at
 longest-number [] = refl
-longest-number (c ∷ text) = longest-or (some_then is_digit (λ rest. is_exponent_part rest || char_then 46 (many_then is_digit is_exponent_part) rest)) (char_then 46 (some_then is_digit is_exponent_part)) (c ∷ text)
+longest-number (c ∷ text) = longest-or (some_then is_digit (λ rest. is_exponent_part rest || char_then 46 (many_then is_digit is_exponent_part) rest))
+    (char_then 46 (some_then is_digit is_exponent_part)) (c ∷ text)
     ∙ ap (λ x. later x (longest (char_then 46 (some_then is_digit is_exponent_part)) (c ∷ text)))
     (longest-some_digits (λ rest. is_exponent_part rest || char_then 46 (many_then is_digit is_exponent_part) rest) rest-apart c text
     ∙ ap (λ x. cond (is_digit c) (behind 1 (behind n x)) None) (longest-rest (drop n text)))
@@ -296,7 +317,10 @@ longest-string [] = refl
 longest-string (c ∷ text) = longest-or (char_then 34 (closes 34 false)) (char_then 39 (closes 39 false)) (c ∷ text)
     ∙ ap (λ x. later x (longest (char_then 39 (closes 39 false)) (c ∷ text))) (longest-char_then 34 (closes 34 false) c text)
     ∙ ap (later (cond (eqb c 34) (behind 1 (longest (closes 34 false) text)) None)) (longest-char_then 39 (closes 39 false) c text)
-    ∙ elim (cases_Bool (eqb c 34)) [ inl e ↦ double (equal c 34 e) | inr e ↦ elim (cases_Bool (eqb c 39)) [ inl f ↦ single (equal c 39 f) | inr f ↦ rw (e, f) refl ] ] where
+    ∙ elim (cases_Bool (eqb c 34)) [
+      | inl e ↦ double (equal c 34 e)
+      | inr e ↦ elim (cases_Bool (eqb c 39)) [ inl f ↦ single (equal c 39 f) | inr f ↦ rw (e, f) refl ]
+    ] where
       both : ℕ → Option ℕ
       both c = later (cond (eqb c 34) (behind 1 (longest (closes 34 false) text)) None) (cond (eqb c 39) (behind 1 (longest (closes 39 false) text)) None)
 

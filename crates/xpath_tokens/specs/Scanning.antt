@@ -1,6 +1,7 @@
 -- How the words of a text are found by going forward once. Each function here finds the longest front of a form of Words:
 -- proofs/ has the law for each.
-use Rattle.std.specs.Prelude.{ℕ, suc, pred, Bool, false, ◌+◌, ◌-◌, ◌&&◌, ◌||◌, ◌==◌, List, [], ◌∷◌, Option, Some, None, drop, max, option_map, if◌then◌else◌, ◌≡◌, ◌≤◌, ◌<◌, length, slice_index_or, Result, Ok, Err, Vec, map}
+use Rattle.std.specs.Prelude.{ℕ, suc, pred, Bool, false, ◌+◌, ◌-◌, ◌&&◌, ◌||◌, ◌==◌, List, [], ◌∷◌, Option, Some, None, drop, max, option_map, if◌then◌else◌}
+use Rattle.std.specs.Prelude.{◌≡◌, ◌≤◌, ◌<◌, length, slice_index_or, Result, Ok, Err, Vec, map}
 use Rattle.std.specs.List.{prefix_len}
 use Rattle.std.specs.Borrow.{Bor}
 use Rattle.inv_base.specs.Characters.{is_name_start, is_name_char}
@@ -94,7 +95,8 @@ word_at text = later (symbol_at text) (later (name_at text) (later (number_at te
 -- how many comments round the text the `:)` in it would end that end none in it; before is as in comment_rest
 unfoldable pub pending : ℕ → List ℕ → ℕ
 pending before [] = 0
-pending before (c ∷ text) = if before == 40 && c == 58 then pred (pending 0 text) else (if before == 58 && c == 41 then suc (pending 0 text) else pending c text)
+pending before (c ∷ text) = if before == 40 && c == 58 then pred (pending 0 text) else
+    (if before == 58 && c == 41 then suc (pending 0 text) else pending c text)
 
 -- the text begins with `(:`, and with no comment
 unfoldable pub is_unclosed : List ℕ → Bool

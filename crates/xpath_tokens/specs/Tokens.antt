@@ -1,6 +1,7 @@
 -- The tokens of a text in the subset of XPath 2.0, and the first refusal that they show. Which token a word is depends on
 -- the token before it (XPath 1.0, section 3.7) and, for a few names, on the word behind it.
-use Rattle.std.specs.Prelude.{ℕ, Bool, true, false, ◌+◌, ◌-◌, ◌*◌, ◌^◌, ◌&&◌, ◌||◌, ◌==◌, not, List, [], ◌∷◌, ◌++◌, Option, Some, None, Result, Ok, Err, nat_lt, nat_le, take, length, codes, is_none, option_map, replicate, if◌then◌else◌, ◌≡◌, Vec}
+use Rattle.std.specs.Prelude.{ℕ, Bool, true, false, ◌+◌, ◌-◌, ◌*◌, ◌^◌, ◌&&◌, ◌||◌, ◌==◌, not, List, [], ◌∷◌, ◌++◌, Option, Some, None, Result, Ok, Err, nat_lt}
+use Rattle.std.specs.Prelude.{nat_le, take, length, codes, is_none, option_map, replicate, if◌then◌else◌, ◌≡◌, Vec}
 use Rattle.std.specs.List.{list_any, before_first, after_first}
 use Rattle.std.specs.Str.{bytes_eq, chars}
 use Rattle.inv_base.specs.Characters.{is_name_start}
@@ -51,7 +52,8 @@ numbered (Some whole) None = None
 -- fraction are written.
 abbrev pub number_of : List ℕ → Option Number
 number_of word = if nat_le (length (fraction_digits word)) 18
-    then numbered (below_limit (value_of 0 (whole_digits word))) (below_limit (value_of 0 (fraction_digits word ++ replicate (18 - length (fraction_digits word)) 48)))
+    then numbered (below_limit (value_of 0 (whole_digits word)))
+    (below_limit (value_of 0 (fraction_digits word ++ replicate (18 - length (fraction_digits word)) 48)))
     else None
 
 -- the word is a number or a double, as its first character that is no point shows

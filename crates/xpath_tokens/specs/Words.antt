@@ -1,6 +1,7 @@
 -- The words of a text: the tokens of XPath 2.0 (appendix A.2) by their characters alone, the longest at each place.
 -- Deviations: nothing has to stand between a number and a name; words that the subset lacks are words here.
-use Rattle.std.specs.Prelude.{ℕ, zero, suc, Bool, true, false, ◌+◌, ◌||◌, ◌==◌, List, [], ◌∷◌, Option, Some, None, Result, Ok, Err, take, codes, unwrap_or, ◌&&◌}
+use Rattle.std.specs.Prelude.{ℕ, zero, suc, Bool, true, false, ◌+◌, ◌||◌, ◌==◌, List, [], ◌∷◌, Option, Some, None, Result, Ok, Err, take, codes, unwrap_or}
+use Rattle.std.specs.Prelude.{◌&&◌}
 use Rattle.std.specs.List.{list_any}
 use Rattle.std.specs.Str.{bytes_eq}
 use Rattle.inv_base.specs.Characters.{is_within, is_name_start, is_name_char, is_white_space}

@@ -1,5 +1,6 @@
 -- A variable is free in a part where it stands no higher than the variables around the part.
-use Rattle.std.proofs.Common.{◌≡◌, ℕ, suc, ◌+◌, ◌≤◌, ◌<◌, min, nat_le, Bool, true, false, ◌||◌, not, List, [], ◌∷◌, ◌++◌, Option, Some, None, length, map, refl, sym, ap, ◌∙◌, arith, length-append}
+use Rattle.std.proofs.Common.{◌≡◌, ℕ, suc, ◌+◌, ◌≤◌, ◌<◌, min, nat_le, Bool, true, false, ◌||◌, not, List, [], ◌∷◌, ◌++◌, Option, Some, None, length, map, refl}
+use Rattle.std.proofs.Common.{sym, ap, ◌∙◌, arith, length-append}
 use Rattle.std.specs.Str.{bytes_eq}
 use Rattle.std.specs.List.{list_any}
 use Rattle.std.proofs.lemmas.Bool.Decides.{nat_tests}
@@ -50,7 +51,10 @@ height-found : (name : List ℕ) (bound : List (List ℕ × Kinds)) → height_o
 height-found name [] = refl
 height-found name (variable ∷ bound) = by (bytes_eq name variable.0) (height-found name bound) where
   by : (b : Bool) → height_of (innermost name bound) ≡ height_in name (names_of bound)
-      → height_of (elim b as (λ _. Option Reading) [ true ↦ Some (record { height = 1 + length bound; kinds = variable.1 }) | false ↦ innermost name bound ]) ≡ height_or b (1 + length (names_of bound)) (height_in name (names_of bound))
+      → height_of (elim b as (λ _. Option Reading) [
+        | true ↦ Some (record { height = 1 + length bound; kinds = variable.1 })
+        | false ↦ innermost name bound
+      ]) ≡ height_or b (1 + length (names_of bound)) (height_in name (names_of bound))
   by true rest = ap (λ n. 1 + n) (sym (length-names bound))
   by false rest = rest
 
@@ -65,7 +69,8 @@ leaf-lowest bound l.Root = refl
 leaf-lowest bound (l.Called name) = refl
 leaf-lowest bound (l.Step form test) = refl
 
-pub names-behind : (label : Label) (kinds : Kinds) (bound : List (List ℕ × Kinds)) → names_of (variables_behind label kinds bound) ≡ bound_behind label (names_of bound)
+pub names-behind : (label : Label) (kinds : Kinds) (bound : List (List ℕ × Kinds)) →
+    names_of (variables_behind label kinds bound) ≡ bound_behind label (names_of bound)
 names-behind k.First kinds bound = refl
 names-behind (k.Link operator) kinds bound = refl
 names-behind k.Comma kinds bound = refl
@@ -139,10 +144,12 @@ mutual
   free-low (g.leaf (l.Step form test)) inner outer = refl
   free-low (g.node form parts) inner outer = free-low-parts parts inner outer
 
-  free-low-parts : (parts : Parts) (inner outer : List (List ℕ)) → parts_have_free inner parts ≡ reads_within (length outer) (lowest_in_parts (inner ++ outer) parts)
+  free-low-parts : (parts : Parts) (inner outer : List (List ℕ)) →
+      parts_have_free inner parts ≡ reads_within (length outer) (lowest_in_parts (inner ++ outer) parts)
   free-low-parts g.none inner outer = refl
   free-low-parts (g.more label x parts) inner outer =
-      (λ j. free-low x inner outer j || (free-low-parts parts (bound_behind label inner) outer ∙ ap (λ names. reads_within (length outer) (lowest_in_parts names parts)) (sym (behind-append label inner outer))) j)
+      (λ j. free-low x inner outer j || (free-low-parts parts (bound_behind label inner) outer ∙
+      ap (λ names. reads_within (length outer) (lowest_in_parts names parts)) (sym (behind-append label inner outer))) j)
       ∙ sym (reads-lower (length outer) (lowest (inner ++ outer) x) (lowest_in_parts (bound_behind label (inner ++ outer)) parts))
 
 pub free-within : (bound : List (List ℕ × Kinds)) (x : Tree) → has_free [] x ≡ reads_within (length bound) (lowest (names_of bound) x)

@@ -40,5 +40,6 @@ module _ (uri local : List ℕ) (test : Bool) (tested : test ≡ bytes_eq uri (c
   unfolding function_in
   not_in_functions e = ap (λ b. if b then named_in function_word functions local else type_in uri local) (is_functions ∙ e)
 
-pub resolves : (found : Option (List ℕ)) (find : List ℕ → List ℕ → Option Function) (uri local : List ℕ) (name : Name) → Some uri ≡ found → local ≡ local_of name → known (find uri local) ≡ resolved found find name
+pub resolves : (found : Option (List ℕ)) (find : List ℕ → List ℕ → Option Function) (uri local : List ℕ) (name : Name) → Some uri ≡ found →
+    local ≡ local_of name → known (find uri local) ≡ resolved found find name
 resolves found find uri local name e is = ap (λ local. known (find uri local)) is ∙ ap (λ found. resolved found find name) e

@@ -1,5 +1,6 @@
 -- The names of variables on a stack, and how high they stand.
-use Rattle.std.proofs.Common.{◌≡◌, ℕ, suc, ◌+◌, ◌-◌, ◌≤◌, ◌<◌, Bool, true, false, List, [], ◌∷◌, ◌++◌, Option, Some, None, length, map, drop, refl, sym, ap, ◌∙◌, arith, String, string_bytes, if◌then◌else◌, true≢false, Result, Ok, Err, OnOk, OnErr, IfSome}
+use Rattle.std.proofs.Common.{◌≡◌, ℕ, suc, ◌+◌, ◌-◌, ◌≤◌, ◌<◌, Bool, true, false, List, [], ◌∷◌, ◌++◌, Option, Some, None, length, map, drop, refl, sym, ap}
+use Rattle.std.proofs.Common.{◌∙◌, arith, String, string_bytes, if◌then◌else◌, true≢false, Result, Ok, Err, OnOk, OnErr, IfSome}
 use Rattle.std.specs.Global.{Global}
 use Rattle.std.specs.Map.{lookup}
 use Rattle.std.specs.Str.{chars, bytes_eq, IsUtf8}
@@ -63,7 +64,8 @@ looked_up-insert : (name : List ℕ) (entries : Entries) (key : String Global) (
     → looked_up name (insert_entry same_key entries key value) ≡ value_or (bytes_eq name (string_bytes key)) value (looked_up name entries)
 looked_up-insert name [] key value = refl
 looked_up-insert name (entry ∷ entries) key value = by (same_key key entry.0) refl (looked_up-insert name entries key value) where
-  by : (b : Bool) → same_key key entry.0 ≡ b → looked_up name (insert_entry same_key entries key value) ≡ value_or (bytes_eq name (string_bytes key)) value (looked_up name entries)
+  by : (b : Bool) → same_key key entry.0 ≡ b → looked_up name (insert_entry same_key entries key value) ≡ value_or (bytes_eq name (string_bytes key)) value
+      (looked_up name entries)
       → looked_up name (if b then (entry.0, value) ∷ entries else entry ∷ insert_entry same_key entries key value)
       ≡ value_or (bytes_eq name (string_bytes key)) value (value_or (bytes_eq name (string_bytes entry.0)) entry.1 (looked_up name entries))
   by true e rest = twice (bytes_eq name (string_bytes key)) (ap (bytes_eq name) (sym (same_bytes (string_bytes key) (string_bytes entry.0) e))) where
@@ -71,26 +73,30 @@ looked_up-insert name (entry ∷ entries) key value = by (same_key key entry.0) 
         ≡ value_or t value (value_or (bytes_eq name (string_bytes entry.0)) entry.1 (looked_up name entries))
     twice true f = ap (λ t. value_or t value (looked_up name entries)) f
     twice false f = ap (λ t. value_or t value (looked_up name entries)) f ∙ sym (ap (λ t. value_or t entry.1 (looked_up name entries)) f)
-  by false e rest = ap (value_or (bytes_eq name (string_bytes entry.0)) entry.1) rest ∙ apart (bytes_eq name (string_bytes entry.0)) (bytes_eq name (string_bytes key)) refl refl where
-    apart : (s t : Bool) → bytes_eq name (string_bytes entry.0) ≡ s → bytes_eq name (string_bytes key) ≡ t
-        → value_or s entry.1 (value_or t value (looked_up name entries)) ≡ value_or t value (value_or s entry.1 (looked_up name entries))
-    apart true true f g = absurd (true≢false (sym (ap (λ x. bytes_eq x (string_bytes entry.0)) (sym (same_bytes name (string_bytes key) g)) ∙ f) ∙ e))
-    apart true false f g = refl
-    apart false true f g = refl
-    apart false false f g = refl
+  by false e rest = ap (value_or (bytes_eq name (string_bytes entry.0)) entry.1) rest ∙
+      apart (bytes_eq name (string_bytes entry.0)) (bytes_eq name (string_bytes key)) refl refl where
+        apart : (s t : Bool) → bytes_eq name (string_bytes entry.0) ≡ s → bytes_eq name (string_bytes key) ≡ t
+            → value_or s entry.1 (value_or t value (looked_up name entries)) ≡ value_or t value (value_or s entry.1 (looked_up name entries))
+        apart true true f g = absurd (true≢false (sym (ap (λ x. bytes_eq x (string_bytes entry.0)) (sym (same_bytes name (string_bytes key) g)) ∙ f) ∙ e))
+        apart true false f g = refl
+        apart false true f g = refl
+        apart false false f g = refl
 
 module _ (entries : Entries) (stack : List Bound) (bound : Bound) where
   -- what the name reads, where the bound is the height_in
   reads-push : (name : List ℕ) → IsUtf8 name → height_in (chars name) (stacked [] (stack ++ bound ∷ []))
       ≡ height_or (bytes_eq name (string_bytes bound.name)) (length (stacked [] stack)) (height_in (chars name) (stacked [] stack))
   reads-push name u = ap (height_in (chars name)) (stacked-push [] stack bound)
-      ∙ ap (λ b. height_or b (length (stacked [] stack)) (height_in (chars name) (stacked [] stack))) (same_text name (string_bytes bound.name) u (IsUtf8-string_bytes bound.name))
+      ∙ ap (λ b. height_or b (length (stacked [] stack)) (height_in (chars name) (stacked [] stack)))
+      (same_text name (string_bytes bound.name) u (IsUtf8-string_bytes bound.name))
 
-  pub found-push : (more : Entries) (key : String Global) → AreFound entries stack → string_bytes key ≡ string_bytes bound.name → bound.hidden ≡ height_in (name_of bound) (stacked [] stack)
+  pub found-push : (more : Entries) (key : String Global) → AreFound entries stack → string_bytes key ≡ string_bytes bound.name →
+      bound.hidden ≡ height_in (name_of bound) (stacked [] stack)
       → more ≡ insert_entry same_key entries key (Some (length (stacked [] stack))) → AreFound more (stack ++ bound ∷ [])
   found-push more key known same hides is = record {
     found = λ name u. ap (λ entries. read_of (looked_up name entries)) is
-        ∙ (ap read_of (looked_up-insert name entries key (Some (length (stacked [] stack))) ∙ ap (λ k. value_or (bytes_eq name k) (Some (length (stacked [] stack))) (looked_up name entries)) same)
+        ∙ (ap read_of (looked_up-insert name entries key (Some (length (stacked [] stack))) ∙
+        ap (λ k. value_or (bytes_eq name k) (Some (length (stacked [] stack))) (looked_up name entries)) same)
         ∙ (reads (bytes_eq name (string_bytes bound.name)) name (known.found name u) ∙ sym (reads-push name u)));
     hidden = map-append (λ (v : Bound). v.hidden) stack (bound ∷ []) ∙ (ap (λ hidden. hidden ++ bound.hidden ∷ []) known.hidden
         ∙ (ap (λ h. hidden_by [] stack ++ h ∷ []) hides ∙ sym (hidden_by-push [] stack bound)));
@@ -115,11 +121,13 @@ module _ (entries : Entries) (stack : List Bound) (bound : Bound) where
     pub found-pop : (fewer : Entries) → fewer ≡ insert_entry same_key entries bound.name bound.hidden → AreFound fewer stack
     found-pop fewer is = record {
       found = λ name u. ap (λ entries. read_of (looked_up name entries)) is
-          ∙ (ap read_of (looked_up-insert name entries bound.name bound.hidden) ∙ reads (bytes_eq name (string_bytes bound.name)) name refl (known.found name u ∙ reads-push name u));
+          ∙ (ap read_of (looked_up-insert name entries bound.name bound.hidden) ∙
+          reads (bytes_eq name (string_bytes bound.name)) name refl (known.found name u ∙ reads-push name u));
       hidden = ends.0;
     } where
       reads : (b : Bool) (name : List ℕ) → bytes_eq name (string_bytes bound.name) ≡ b
-          → read_of (looked_up name entries) ≡ height_or (bytes_eq name (string_bytes bound.name)) (length (stacked [] stack)) (height_in (chars name) (stacked [] stack))
+          → read_of (looked_up name entries) ≡ height_or (bytes_eq name (string_bytes bound.name)) (length (stacked [] stack))
+          (height_in (chars name) (stacked [] stack))
           → read_of (value_or b bound.hidden (looked_up name entries)) ≡ height_in (chars name) (stacked [] stack)
       reads true name e h = ends.1 ∙ ap (λ n. height_in (chars n) (stacked [] stack)) (sym (same_bytes name (string_bytes bound.name) e))
       reads false name e h = h ∙ ap (λ b. height_or b (length (stacked [] stack)) (height_in (chars name) (stacked [] stack))) e
@@ -139,7 +147,8 @@ one-less height (x ∷ xs) ys e h = ap (λ (zs : List _). drop (length zs - heig
 pub height-below : (name : List ℕ) (names : List (List ℕ)) (height : ℕ) → Some height ≡ height_in name names → height < length names
 height-below name [] height e = absurd (cc)
 height-below name (inner ∷ outer) height e = by (bytes_eq name inner) (height-below name outer height) e where
-  by : (b : Bool) → (Some height ≡ height_in name outer → height < length outer) → Some height ≡ height_or b (length outer) (height_in name outer) → height < length (inner ∷ outer)
+  by : (b : Bool) → (Some height ≡ height_in name outer → height < length outer) → Some height ≡ height_or b (length outer) (height_in name outer) →
+      height < length (inner ∷ outer)
   by true rest e = let same : height ≡ length outer = cc in omega (arith, same)
   by false rest e = omega (arith, rest e)
 

@@ -42,7 +42,12 @@ united-none a = λ j. record {
 }
 
 pub joined-assoc : (a b c : Uses) → joined (joined a b) c ≡ joined a (joined b c)
-joined-assoc a b c = λ j. record { position = or-assoc a.position b.position c.position j; root = or-assoc a.root b.root c.root j; item = or-assoc a.item b.item c.item j }
+joined-assoc a b c = λ j. record {
+  position = or-assoc a.position b.position c.position j;
+  root = or-assoc a.root b.root c.root j;
+  item =
+      or-assoc a.item b.item c.item j;
+}
 
 pub joined-none : (a : Uses) → joined a no_uses ≡ a
 joined-none a = λ j. record { position = or-false a.position j; root = or-false a.root j; item = or-false a.item j }
@@ -52,7 +57,8 @@ abbrev pub gathered_all : Form → Bool → Kinds → List (Label × Kinds) → 
 gathered_all form first so_far [] = so_far
 gathered_all form first so_far (part ∷ parts) = gathered_all form false (gathered form part.0 first so_far part.1) parts
 
-sequence : (first : Bool) (so_far : Kinds) (parts : List (Label × Kinds)) → gathered_all (m.Chain p.Sequence) first so_far parts ≡ united so_far (all_united (map (λ part. part.1) parts))
+sequence : (first : Bool) (so_far : Kinds) (parts : List (Label × Kinds)) →
+    gathered_all (m.Chain p.Sequence) first so_far parts ≡ united so_far (all_united (map (λ part. part.1) parts))
 sequence first so_far [] = sym (united-none so_far)
 sequence first so_far (part ∷ parts) = sequence false (united so_far part.1) parts ∙ united-assoc so_far part.1 (all_united (map (λ part. part.1) parts))
 
@@ -89,7 +95,8 @@ next_branch is kinds others = elim is as (λ _. Kinds) [ true ↦ united kinds o
 conditional : (first : Bool) (so_far : Kinds) (parts : List (Label × Kinds)) → gathered_all m.Conditional first so_far parts ≡ united so_far (branches parts)
 conditional first so_far [] = sym (united-none so_far)
 conditional first so_far (part ∷ parts) = conditional false (gathered m.Conditional part.0 first so_far part.1) parts ∙ by part.0 where
-  by : (label : Label) → united (gathered m.Conditional label first so_far part.1) (branches parts) ≡ united so_far (next_branch (is_branch label) part.1 (branches parts))
+  by : (label : Label) → united (gathered m.Conditional label first so_far part.1) (branches parts) ≡ united so_far
+      (next_branch (is_branch label) part.1 (branches parts))
   by k.First = united-assoc so_far part.1 (branches parts)
   by (k.Link operator) = united-assoc so_far part.1 (branches parts)
   by k.Comma = united-assoc so_far part.1 (branches parts)
@@ -122,7 +129,8 @@ parentheses-first : (parts : List (Label × Kinds)) → gathered_all m.Parenthes
 parentheses-first [] = refl
 parentheses-first (part ∷ parts) = parentheses part.1 parts
 
-called : (declared : Declared) (parts : List (Label × Kinds)) → called_in declared (map (λ part. part.0) parts) (gathered_all m.Call true no_kinds parts) ≡ call_kinds declared parts
+called : (declared : Declared) (parts : List (Label × Kinds)) →
+    called_in declared (map (λ part. part.0) parts) (gathered_all m.Call true no_kinds parts) ≡ call_kinds declared parts
 called declared [] = refl
 called declared ((k.First, kinds) ∷ parts) = refl
 called declared ((k.Link operator, kinds) ∷ parts) = refl
@@ -136,7 +144,8 @@ called declared ((k.Again, kinds) ∷ parts) = refl
 called declared ((k.Opened, kinds) ∷ parts) = refl
 called declared ((k.Calling name, kinds) ∷ parts) = ap (called_in declared (k.Calling name ∷ map (λ part. part.0) parts)) (call kinds parts)
 
-pub kinds-gathered : (declared : Declared) (form : Form) (parts : List (Label × Kinds)) → kinds_concluded declared form (map (λ part. part.0) parts) (gathered_all form true no_kinds parts) ≡ form_kinds declared form parts
+pub kinds-gathered : (declared : Declared) (form : Form) (parts : List (Label × Kinds)) →
+    kinds_concluded declared form (map (λ part. part.0) parts) (gathered_all form true no_kinds parts) ≡ form_kinds declared form parts
 kinds-gathered declared (m.Chain p.Sequence) parts = sequence true no_kinds parts
 kinds-gathered declared (m.Chain p.Or) parts = refl
 kinds-gathered declared (m.Chain p.And) parts = refl

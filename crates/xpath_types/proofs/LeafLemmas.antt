@@ -26,16 +26,24 @@ module _ (declared : Declared) (bound : List (List ℕ × Kinds)) (name : Name) 
     known : variable_kinds (written_name name) (bound ++ outer declared) ≡ Some reading.kinds
     known = kinds-read (written_name name) bound (outer declared) reading here
 
-    none_more : prefix_refusals declared name ++ unless (is_some (variable_kinds (written_name name) (bound ++ outer declared))) r.UndeclaredVariable ≡ prefix_refusals declared name
+    none_more : prefix_refusals declared name ++
+        unless (is_some (variable_kinds (written_name name) (bound ++ outer declared))) r.UndeclaredVariable ≡ prefix_refusals declared name
     none_more = ap (λ kinds. prefix_refusals declared name ++ unless (is_some kinds) r.UndeclaredVariable) known ∙ append-nil (prefix_refusals declared name)
 
-    pub bound-facts : (unbound : Bool) → unbound ≡ not (is_empty (prefix_refusals declared name)) → facts_of reading.kinds unbound no_uses (Some reading.height) ≡ variable_facts declared bound name
+    pub bound-facts : (unbound : Bool) → unbound ≡ not (is_empty (prefix_refusals declared name)) →
+        facts_of reading.kinds unbound no_uses (Some reading.height) ≡ variable_facts declared bound name
     bound-facts unbound told =
         ap (λ refused. facts_of reading.kinds refused no_uses (Some reading.height)) (told ∙ ap (λ refusals. not (is_empty refusals)) (sym none_more))
-        ∙ (ap (λ kinds. facts_of (kinds_or_all kinds) (not (is_empty (prefix_refusals declared name ++ unless (is_some (variable_kinds (written_name name) (bound ++ outer declared))) r.UndeclaredVariable))) no_uses (Some reading.height)) (sym known)
-        ∙ ap (λ found. facts_of (kinds_or_all (variable_kinds (written_name name) (bound ++ outer declared))) (not (is_empty (prefix_refusals declared name ++ unless (is_some (variable_kinds (written_name name) (bound ++ outer declared))) r.UndeclaredVariable))) no_uses (Some (height_of found))) (sym here))
+        ∙ (ap (λ kinds. facts_of (kinds_or_all kinds)
+        (not (is_empty (prefix_refusals declared name ++
+        unless (is_some (variable_kinds (written_name name) (bound ++ outer declared))) r.UndeclaredVariable))) no_uses (Some reading.height)) (sym known)
+        ∙ ap (λ found. facts_of (kinds_or_all (variable_kinds (written_name name) (bound ++ outer declared)))
+        (not (is_empty (prefix_refusals declared name ++
+        unless (is_some (variable_kinds (written_name name) (bound ++ outer declared))) r.UndeclaredVariable))) no_uses (Some (height_of found)))
+        (sym here))
 
-    pub bound-first : (first after : Option Refusal) (token : ℕ) → after ≡ first_of first (standing_at token (prefix_refusals declared name)) → after ≡ first_of first (standing_at token (variable_refusals_in declared bound name))
+    pub bound-first : (first after : Option Refusal) (token : ℕ) → after ≡ first_of first (standing_at token (prefix_refusals declared name)) →
+        after ≡ first_of first (standing_at token (variable_refusals_in declared bound name))
     bound-first first after token e = e ∙ ap (λ refusals. first_of first (standing_at token refusals)) (sym none_more)
 
   module _ (found : None ≡ innermost text bound) (is_declared : Bool) (declares-it : is_declared ≡ declares declared text) where
@@ -54,18 +62,30 @@ module _ (declared : Declared) (bound : List (List ℕ × Kinds)) (name : Name) 
     all_declared true = refl
     all_declared false = refl
 
-    told_so : prefix_refusals declared name ++ unless (is_some (variable_kinds (written_name name) (bound ++ outer declared))) r.UndeclaredVariable ≡ prefix_refusals declared name ++ unless is_declared r.UndeclaredVariable
+    told_so : prefix_refusals declared name ++ unless (is_some (variable_kinds (written_name name) (bound ++ outer declared)))
+        r.UndeclaredVariable ≡ prefix_refusals declared name ++ unless is_declared r.UndeclaredVariable
     told_so = ap (λ b. prefix_refusals declared name ++ unless b r.UndeclaredVariable) (ap is_some by_scope ∙ some_declared is_declared)
 
-    pub free-facts : (unbound undeclared : Bool) → unbound ≡ not (is_empty (prefix_refusals declared name)) → undeclared ≡ not (is_empty (unless is_declared r.UndeclaredVariable))
+    pub free-facts : (unbound undeclared : Bool) → unbound ≡ not (is_empty (prefix_refusals declared name)) →
+        undeclared ≡ not (is_empty (unless is_declared r.UndeclaredVariable))
         → facts_of all_kinds (unbound || undeclared) no_uses (Some 0) ≡ variable_facts declared bound name
     free-facts unbound undeclared told also =
-        ap (λ refused. facts_of all_kinds refused no_uses (Some 0)) (ap (λ b. b || undeclared) told ∙ (ap (λ b. not (is_empty (prefix_refusals declared name)) || b) also
-        ∙ (sym (not-empty-append (prefix_refusals declared name) (unless is_declared r.UndeclaredVariable)) ∙ ap (λ refusals. not (is_empty refusals)) (sym told_so))))
-        ∙ (ap (λ kinds. facts_of kinds (not (is_empty (prefix_refusals declared name ++ unless (is_some (variable_kinds (written_name name) (bound ++ outer declared))) r.UndeclaredVariable))) no_uses (Some 0)) (sym (ap kinds_or_all by_scope ∙ all_declared is_declared))
-        ∙ ap (λ found. facts_of (kinds_or_all (variable_kinds (written_name name) (bound ++ outer declared))) (not (is_empty (prefix_refusals declared name ++ unless (is_some (variable_kinds (written_name name) (bound ++ outer declared))) r.UndeclaredVariable))) no_uses (Some (height_of found))) (sym nowhere))
+        ap (λ refused. facts_of all_kinds refused no_uses (Some 0))
+        (ap (λ b. b || undeclared) told ∙ (ap (λ b. not (is_empty (prefix_refusals declared name)) || b) also
+        ∙ (sym (not-empty-append (prefix_refusals declared name) (unless is_declared r.UndeclaredVariable)) ∙
+        ap (λ refusals. not (is_empty refusals)) (sym told_so))))
+        ∙ (ap (λ kinds. facts_of kinds
+        (not (is_empty (prefix_refusals declared name ++
+        unless (is_some (variable_kinds (written_name name) (bound ++ outer declared))) r.UndeclaredVariable))) no_uses (Some 0))
+        (sym (ap kinds_or_all by_scope ∙ all_declared is_declared))
+        ∙ ap (λ found. facts_of (kinds_or_all (variable_kinds (written_name name) (bound ++ outer declared)))
+        (not (is_empty (prefix_refusals declared name ++
+        unless (is_some (variable_kinds (written_name name) (bound ++ outer declared))) r.UndeclaredVariable))) no_uses (Some (height_of found)))
+        (sym nowhere))
 
-    pub free-first : (first between after : Option Refusal) (token : ℕ) → between ≡ first_of first (standing_at token (prefix_refusals declared name)) → after ≡ first_of between (standing_at token (unless is_declared r.UndeclaredVariable))
+    pub free-first : (first between after : Option Refusal) (token : ℕ) → between ≡ first_of first (standing_at token (prefix_refusals declared name)) →
+        after ≡ first_of between (standing_at token (unless is_declared r.UndeclaredVariable))
         → after ≡ first_of first (standing_at token (variable_refusals_in declared bound name))
     free-first first between after token e f = f ∙ (ap (λ first. first_of first (standing_at token (unless is_declared r.UndeclaredVariable))) e
-        ∙ (sym (first-standing first token (prefix_refusals declared name) (unless is_declared r.UndeclaredVariable)) ∙ ap (λ refusals. first_of first (standing_at token refusals)) (sym told_so)))
+        ∙ (sym (first-standing first token (prefix_refusals declared name) (unless is_declared r.UndeclaredVariable)) ∙
+        ap (λ refusals. first_of first (standing_at token refusals)) (sym told_so)))

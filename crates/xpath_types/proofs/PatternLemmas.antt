@@ -47,17 +47,20 @@ module _ (declared : Declared) (at : ℕ) (form : Form) (items : List (Label × 
   others-first other first after told = told ∙ ap (first_of first) (named declared at form items ∙ sym (own-others declared at form items other))
 
   pub others-told : (form ≡ m.Call → ⊥) → (told : Bool) → told ≡ not (is_empty names) → told ≡ not (is_empty own)
-  others-told other told is = is ∙ (still-empty at names ∙ ap (λ refusals. not (is_empty refusals)) (named declared at form items ∙ sym (own-others declared at form items other)))
+  others-told other told is = is ∙ (still-empty at names ∙
+      ap (λ refusals. not (is_empty refusals)) (named declared at form items ∙ sym (own-others declared at form items other)))
 
   -- a call
-  pub call-first : form ≡ m.Call → (first between after : Option Refusal) → between ≡ first_of first (standing_at at names) → after ≡ first_of between (pattern_refusals declared at (viewed items)) → after ≡ first_of first own
+  pub call-first : form ≡ m.Call → (first between after : Option Refusal) → between ≡ first_of first (standing_at at names) →
+      after ≡ first_of between (pattern_refusals declared at (viewed items)) → after ≡ first_of first own
   call-first is first between after named_first pattern_first = pattern_first
       ∙ (ap (λ first. first_of first (pattern_refusals declared at (viewed items))) (named_first ∙ ap (first_of first) (named declared at form items))
       ∙ (sym (first-append first (standing_at at (form_refusals declared form (labels (viewed items)))) (pattern_refusals declared at (viewed items)))
       ∙ (ap (λ form. first_of first (standing_at at (form_refusals declared form (labels (viewed items))) ++ pattern_refusals declared at (viewed items))) is
       ∙ ap (λ form. first_of first (own_refusals declared at form (viewed items))) (sym is))))
 
-  pub call-told : form ≡ m.Call → (misnamed mispatterned : Bool) → misnamed ≡ not (is_empty names) → mispatterned ≡ not (is_empty (pattern_refusals declared at (viewed items))) → (misnamed || mispatterned) ≡ not (is_empty own)
+  pub call-told : form ≡ m.Call → (misnamed mispatterned : Bool) → misnamed ≡ not (is_empty names) →
+      mispatterned ≡ not (is_empty (pattern_refusals declared at (viewed items))) → (misnamed || mispatterned) ≡ not (is_empty own)
   call-told is misnamed mispatterned name pattern =
       (λ i. (name ∙ (still-empty at names ∙ ap (λ refusals. not (is_empty refusals)) (named declared at form items))) i || pattern i)
       ∙ (sym (not-empty-append (standing_at at (form_refusals declared form (labels (viewed items)))) (pattern_refusals declared at (viewed items)))

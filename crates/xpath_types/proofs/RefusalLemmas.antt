@@ -10,7 +10,8 @@ pub first-append : (first : Option Refusal) (a b : List Refusal) → first_of fi
 first-append first [] b = refl
 first-append first (refusal ∷ a) b = first-append (earlier first refusal) a b
 
-pub first-standing : (first : Option Refusal) (token : ℕ) (a b : List TypeKind) → first_of first (standing_at token (a ++ b)) ≡ first_of (first_of first (standing_at token a)) (standing_at token b)
+pub first-standing : (first : Option Refusal) (token : ℕ) (a b : List TypeKind) →
+    first_of first (standing_at token (a ++ b)) ≡ first_of (first_of first (standing_at token a)) (standing_at token b)
 first-standing first token a b = ap (first_of first) (map-append _ a b) ∙ first-append first (standing_at token a) (standing_at token b)
 
 pub not-empty-append : {X : Type 0} (a b : List X) → not (is_empty (a ++ b)) ≡ (not (is_empty a) || not (is_empty b))

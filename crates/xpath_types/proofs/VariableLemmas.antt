@@ -1,5 +1,6 @@
 -- Variables with their kinds, on a stack.
-use Rattle.std.proofs.Common.{◌≡◌, ℕ, zero, suc, ◌+◌, ◌-◌, ◌≤◌, ◌<◌, Bool, true, false, List, [], ◌∷◌, ◌++◌, Option, Some, None, length, map, drop, take, refl, sym, ap, subst, ◌∙◌, arith, if◌then◌else◌, ◌||◌, slice_get, unwrap_or}
+use Rattle.std.proofs.Common.{◌≡◌, ℕ, zero, suc, ◌+◌, ◌-◌, ◌≤◌, ◌<◌, Bool, true, false, List, [], ◌∷◌, ◌++◌, Option, Some, None, length, map, drop, take, refl}
+use Rattle.std.proofs.Common.{sym, ap, subst, ◌∙◌, arith, if◌then◌else◌, ◌||◌, slice_get, unwrap_or}
 use Rattle.std.specs.Str.{bytes_eq}
 use Rattle.std.specs.List.{list_any}
 use Rattle.std.proofs.lemmas.List.{get_or_append_left, get_or-take, length-drop, length-take}
@@ -33,7 +34,8 @@ abbrev pub read_or : Bool → Reading → Option Reading → Option Reading
 read_or test reading others = elim test as (λ _. Option Reading) [ true ↦ Some reading | false ↦ others ]
 
 -- the name is read of the one that it leads to
-pub reading-is : (kinds : List Kinds) (name : List ℕ) (names : List (List ℕ)) → innermost name (with_kinds kinds names) ≡ reading_of kinds (height_in name names)
+pub reading-is : (kinds : List Kinds) (name : List ℕ) (names : List (List ℕ)) →
+    innermost name (with_kinds kinds names) ≡ reading_of kinds (height_in name names)
 reading-is kinds name [] = refl
 reading-is kinds name (inner ∷ outer) = by (bytes_eq name inner) (reading-is kinds name outer) where
   high : 1 + length (with_kinds kinds outer) ≡ length outer + 1
@@ -46,17 +48,22 @@ reading-is kinds name (inner ∷ outer) = by (bytes_eq name inner) (reading-is k
   by false rest = rest
 
 kinds_at-push : (kinds : List Kinds) (more : Kinds) (n : ℕ) → n < length kinds → kinds_at (kinds ++ more ∷ []) n ≡ kinds_at kinds n
-kinds_at-push kinds more n h = unwrap_or-slice_get (kinds ++ more ∷ []) n no_kinds ∙ (get_or_append_left kinds (more ∷ []) no_kinds n h ∙ sym (unwrap_or-slice_get kinds n no_kinds))
+kinds_at-push kinds more n h = unwrap_or-slice_get (kinds ++ more ∷ []) n no_kinds ∙
+    (get_or_append_left kinds (more ∷ []) no_kinds n h ∙ sym (unwrap_or-slice_get kinds n no_kinds))
 
-kinds-push : (kinds : List Kinds) (more : Kinds) (names : List (List ℕ)) → length names ≤ length kinds → with_kinds (kinds ++ more ∷ []) names ≡ with_kinds kinds names
+kinds-push : (kinds : List Kinds) (more : Kinds) (names : List (List ℕ)) → length names ≤ length kinds →
+    with_kinds (kinds ++ more ∷ []) names ≡ with_kinds kinds names
 kinds-push kinds more [] h = refl
-kinds-push kinds more (name ∷ names) h = let low : length names < length kinds = omega (arith, h) in let rest : length names ≤ length kinds = omega (arith, h) in
+kinds-push kinds more (name ∷ names) h = let low : length names < length kinds = omega (arith, h) in let rest : length names ≤ length kinds =
+    omega (arith, h) in
     λ j. (name, kinds_at-push kinds more (length names) low j) ∷ kinds-push kinds more names rest j
 
 -- one variable more
-pub with_kinds-push : (kinds : List Kinds) (more : Kinds) (name : List ℕ) (names : List (List ℕ)) → length kinds ≡ length names → with_kinds (kinds ++ more ∷ []) (name ∷ names) ≡ (name, more) ∷ with_kinds kinds names
+pub with_kinds-push : (kinds : List Kinds) (more : Kinds) (name : List ℕ) (names : List (List ℕ)) → length kinds ≡ length names →
+    with_kinds (kinds ++ more ∷ []) (name ∷ names) ≡ (name, more) ∷ with_kinds kinds names
 with_kinds-push kinds more name names e = let rest : length names ≤ length kinds = omega (arith, e) in
-    let own : kinds_at (kinds ++ more ∷ []) (length names) ≡ more = ap (kinds_at (kinds ++ more ∷ [])) (sym e) ∙ (unwrap_or-slice_get (kinds ++ more ∷ []) (length kinds) no_kinds ∙ get_or-append_seam kinds more [] no_kinds) in
+    let own : kinds_at (kinds ++ more ∷ []) (length names) ≡ more = ap (kinds_at (kinds ++ more ∷ [])) (sym e) ∙
+    (unwrap_or-slice_get (kinds ++ more ∷ []) (length kinds) no_kinds ∙ get_or-append_seam kinds more [] no_kinds) in
     λ j. (name, own j) ∷ kinds-push kinds more names rest j
 
 with_kinds-drop : (kinds : List Kinds) (n : ℕ) (names : List (List ℕ)) → with_kinds kinds (drop n names) ≡ drop n (with_kinds kinds names)
@@ -65,16 +72,19 @@ with_kinds-drop kinds (suc n) [] = refl
 with_kinds-drop kinds (suc n) (name ∷ names) = with_kinds-drop kinds n names
 
 kinds_at-take : (kinds : List Kinds) (height n : ℕ) → n < height → kinds_at (take height kinds) n ≡ kinds_at kinds n
-kinds_at-take kinds height n h = unwrap_or-slice_get (take height kinds) n no_kinds ∙ (get_or-take height kinds n no_kinds h ∙ sym (unwrap_or-slice_get kinds n no_kinds))
+kinds_at-take kinds height n h = unwrap_or-slice_get (take height kinds) n no_kinds ∙
+    (get_or-take height kinds n no_kinds h ∙ sym (unwrap_or-slice_get kinds n no_kinds))
 
-with_kinds-take : (kinds : List Kinds) (height : ℕ) (names : List (List ℕ)) → length names ≤ height → with_kinds (take height kinds) names ≡ with_kinds kinds names
+with_kinds-take : (kinds : List Kinds) (height : ℕ) (names : List (List ℕ)) → length names ≤ height →
+    with_kinds (take height kinds) names ≡ with_kinds kinds names
 with_kinds-take kinds height [] h = refl
 with_kinds-take kinds height (name ∷ names) h = let low : length names < height = omega (arith, h) in let rest : length names ≤ height = omega (arith, h) in
     λ j. (name, kinds_at-take kinds height (length names) low j) ∷ with_kinds-take kinds height names rest j
 
 -- down to a height
 module _ (kinds : List Kinds) (names : List (List ℕ)) (height : ℕ) (e : length kinds ≡ length names) where
-  pub with_kinds-cut : with_kinds (take height kinds) (drop (length names - height) names) ≡ drop (length (with_kinds kinds names) - height) (with_kinds kinds names)
+  pub with_kinds-cut : with_kinds (take height kinds) (drop (length names - height) names) ≡ drop (length (with_kinds kinds names) - height)
+      (with_kinds kinds names)
   with_kinds-cut = let low : length (drop (length names - height) names) ≤ height = omega (arith, length-drop (length names - height) names) in
       with_kinds-take kinds height (drop (length names - height) names) low ∙ (with_kinds-drop kinds (length names - height) names
       ∙ ap (λ n. drop (n - height) (with_kinds kinds names)) (sym (length-with_kinds kinds names)))
@@ -101,7 +111,8 @@ module _ (height : ℕ) (bound : List (List ℕ × Kinds)) where
   behind-high k.Opened kinds h = h
   behind-high (k.Calling name) kinds h = h
 
-  behind-dropped : (label : Label) (kinds : Kinds) → height ≤ length bound → drop (length (variables_behind label kinds bound) - height) (variables_behind label kinds bound) ≡ drop (length bound - height) bound
+  behind-dropped : (label : Label) (kinds : Kinds) → height ≤ length bound →
+      drop (length (variables_behind label kinds bound) - height) (variables_behind label kinds bound) ≡ drop (length bound - height) bound
   behind-dropped k.First kinds h = refl
   behind-dropped (k.Link operator) kinds h = refl
   behind-dropped k.Comma kinds h = refl
@@ -114,7 +125,8 @@ module _ (height : ℕ) (bound : List (List ℕ × Kinds)) where
   behind-dropped k.Opened kinds h = refl
   behind-dropped (k.Calling name) kinds h = refl
 
-  module _ (label : Label) (kinds : Kinds) (bound' : List (List ℕ × Kinds)) (is : bound' ≡ variables_behind label kinds bound) (high : height ≤ length bound) where
+  module _ (label : Label) (kinds : Kinds) (bound' : List (List ℕ × Kinds)) (is : bound' ≡ variables_behind label kinds bound)
+      (high : height ≤ length bound) where
     pub still-high : height ≤ length bound'
     still-high = subst (λ (b : List (List ℕ × Kinds)). height ≤ length b) (sym is) (behind-high label kinds high)
 
@@ -132,23 +144,28 @@ abbrev read_kinds : Option Reading → Option Kinds
 read_kinds None = None
 read_kinds (Some reading) = Some reading.kinds
 
-pub kinds-read : (name : List ℕ) (bound : List (List ℕ × Kinds)) (outer : List (List ℕ × Kinds)) (reading : Reading) → innermost name bound ≡ Some reading → variable_kinds name (bound ++ outer) ≡ Some reading.kinds
+pub kinds-read : (name : List ℕ) (bound : List (List ℕ × Kinds)) (outer : List (List ℕ × Kinds)) (reading : Reading) → innermost name bound ≡ Some reading →
+    variable_kinds name (bound ++ outer) ≡ Some reading.kinds
 kinds-read name [] outer reading e = cc
 kinds-read name (variable ∷ bound) outer reading e = by (bytes_eq name variable.0) (kinds-read name bound outer reading) e where
   by : (b : Bool) → (innermost name bound ≡ Some reading → variable_kinds name (bound ++ outer) ≡ Some reading.kinds)
-      → read_or b (record { height = 1 + length bound; kinds = variable.1 }) (innermost name bound) ≡ Some reading → kinds_or b variable.1 (variable_kinds name (bound ++ outer)) ≡ Some reading.kinds
+      → read_or b (record { height = 1 + length bound; kinds = variable.1 }) (innermost name bound) ≡ Some reading →
+      kinds_or b variable.1 (variable_kinds name (bound ++ outer)) ≡ Some reading.kinds
   by true rest e = ap read_kinds e
   by false rest e = rest e
 
-pub kinds-outside : (name : List ℕ) (bound : List (List ℕ × Kinds)) (outer : List (List ℕ × Kinds)) → innermost name bound ≡ None → variable_kinds name (bound ++ outer) ≡ variable_kinds name outer
+pub kinds-outside : (name : List ℕ) (bound : List (List ℕ × Kinds)) (outer : List (List ℕ × Kinds)) → innermost name bound ≡ None →
+    variable_kinds name (bound ++ outer) ≡ variable_kinds name outer
 kinds-outside name [] outer e = refl
 kinds-outside name (variable ∷ bound) outer e = by (bytes_eq name variable.0) (kinds-outside name bound outer) e where
   by : (b : Bool) → (innermost name bound ≡ None → variable_kinds name (bound ++ outer) ≡ variable_kinds name outer)
-      → read_or b (record { height = 1 + length bound; kinds = variable.1 }) (innermost name bound) ≡ None → kinds_or b variable.1 (variable_kinds name (bound ++ outer)) ≡ variable_kinds name outer
+      → read_or b (record { height = 1 + length bound; kinds = variable.1 }) (innermost name bound) ≡ None →
+      kinds_or b variable.1 (variable_kinds name (bound ++ outer)) ≡ variable_kinds name outer
   by true rest e = cc
   by false rest e = rest e
 
-pub kinds-declared : (name : List ℕ) (names : List (List ℕ)) → variable_kinds name (declared_kinds names) ≡ (if list_any (bytes_eq name) names then Some all_kinds else None)
+pub kinds-declared : (name : List ℕ) (names : List (List ℕ)) →
+    variable_kinds name (declared_kinds names) ≡ (if list_any (bytes_eq name) names then Some all_kinds else None)
 kinds-declared name [] = refl
 kinds-declared name (other ∷ names) = by (bytes_eq name other) (kinds-declared name names) where
   by : (b : Bool) → variable_kinds name (declared_kinds names) ≡ (if list_any (bytes_eq name) names then Some all_kinds else None)

@@ -1,5 +1,6 @@
 -- One step of the walk over the parts of an expression.
-use Rattle.std.proofs.Common.{◌≡◌, ℕ, ◌+◌, ◌<◌, ◌≤◌, ◌-◌, ◌==◌, Bool, true, false, List, [], ◌∷◌, length, get_or, map, drop, Result, Ok, Err, OnOk, refl, sym, ap, ◌∙◌, arith}
+use Rattle.std.proofs.Common.{◌≡◌, ℕ, ◌+◌, ◌<◌, ◌≤◌, ◌-◌, ◌==◌, Bool, true, false, List, [], ◌∷◌, length, get_or, map, drop, Result, Ok, Err, OnOk, refl, sym}
+use Rattle.std.proofs.Common.{ap, ◌∙◌, arith}
 use Rattle.std.proofs.lemmas.List.{drop_more, at_drop_all, length-drop}
 use Rattle.std.proofs.lemmas.Bool.Decides.{nat_tests}
 use Rattle.std.proofs.Math.Dec.{eqb-suc-zero}
@@ -33,7 +34,8 @@ last items i h = zero-length (drop (i + 1) items) ∙ same_test _ i (length item
 not_first : (i : ℕ) → false ≡ (i + 1 == 0)
 not_first i = grind (arith, nat_tests)
 
-module _ (declared : Declared) (form : Form) (items : List (Label × Expr)) (i : ℕ) (item : Label × Expr) (at : item ≡ get_or items i item) (h : i < length items) where
+module _ (declared : Declared) (form : Form) (items : List (Label × Expr)) (i : ℕ) (item : Label × Expr) (at : item ≡ get_or items i item)
+    (h : i < length items) where
   here : viewed (drop i items) ≡ g.more item.0 (view item.1) (viewed (drop (i + 1) items))
   here = ap viewed (drop_more items i item h) ∙ ap (λ (it : Label × Expr). g.more it.0 (view it.1) (viewed (drop (i + 1) items))) (sym at)
 
@@ -57,16 +59,19 @@ module _ (declared : Declared) (form : Form) (items : List (Label × Expr)) (i :
     first_after : false ≡ (i + 1 == 0)
     first_after = not_first i
 
-    pub step : walked_parts declared form inner bound (i == 0) so_far s (viewed (drop i items)) ≡ walked_parts declared form inner' bound' (i + 1 == 0) so_far' s'' (viewed (drop (i + 1) items))
+    pub step : walked_parts declared form inner bound (i == 0) so_far s (viewed (drop i items)) ≡ walked_parts declared form inner' bound'
+        (i + 1 == 0) so_far' s'' (viewed (drop (i + 1) items))
     unfolding walked_parts
     step =
         let focus : focus_behind form item.0 (result (so_far.end + length (g.label_tokens item.0))).0.facts.kinds inner ≡ inner' =
         ap (λ (p : Walked). focus_behind form item.0 p.facts.kinds inner) part_is ∙ sym inner_is in
         let variables : variables_behind item.0 (result (so_far.end + length (g.label_tokens item.0))).0.facts.kinds bound ≡ bound' =
         ap (λ (p : Walked). variables_behind item.0 p.facts.kinds bound) part_is ∙ sym bound_is in
-        let ended : part_ended form item.0 (i == 0) (is_last (viewed (drop (i + 1) items))) so_far (result (so_far.end + length (g.label_tokens item.0))).0 ≡ so_far' =
+        let ended : part_ended form item.0 (i == 0) (is_last (viewed (drop (i + 1) items))) so_far
+        (result (so_far.end + length (g.label_tokens item.0))).0 ≡ so_far' =
         (λ j. part_ended form item.0 (i == 0) (last items i h j) so_far (part_is j)) ∙ sym so_far_is in
-        let seen : seen_ended form (is_last (viewed (drop (i + 1) items))) (so_far.end + length (g.label_tokens item.0)) (result (so_far.end + length (g.label_tokens item.0))).0.facts.kinds (result (so_far.end + length (g.label_tokens item.0))).1 ≡ s'' =
+        let seen : seen_ended form (is_last (viewed (drop (i + 1) items))) (so_far.end + length (g.label_tokens item.0))
+        (result (so_far.end + length (g.label_tokens item.0))).0.facts.kinds (result (so_far.end + length (g.label_tokens item.0))).1 ≡ s'' =
         (λ j. seen_ended form (last items i h j) (sym starts j) (part_is j).facts.kinds (s'_is j)) ∙ sym s_is in
         ap (walked_parts declared form inner bound (i == 0) so_far s) here
         ∙ (λ j. walked_parts declared form (focus j) (variables j) (first_after j) (ended j) (seen j) (viewed (drop (i + 1) items)))
@@ -83,19 +88,26 @@ nothing_left items i h = at_drop_all viewed items i h
 
 -- behind the last part
 module _ (declared : Declared) (focus : Kinds) (bound : List (List ℕ × Kinds)) (token : ℕ) (s : Seen) (form : Form) (items : List (Label × Expr)) where
-  pub node-walked : (i : ℕ) → length items ≤ i → (so_far so_far' : Walked) (s' s'' : Seen) (inner : Kinds) (bound' bound'' : List (List ℕ × Kinds)) (first : Bool)
+  pub node-walked : (i : ℕ) → length items ≤ i → (so_far so_far' : Walked) (s' s'' : Seen) (inner : Kinds) (bound' bound'' : List (List ℕ × Kinds))
+      (first : Bool)
       → so_far ≡ node_begun declared token form (viewed items) → s' ≡ seen_begun declared token form (viewed items) s → bound' ≡ bound
-      → walked_parts declared form inner bound'' first so_far' s'' (viewed (drop i items)) ≡ walked_parts declared form focus bound' true so_far s' (viewed items)
+      → walked_parts declared form inner bound'' first so_far' s'' (viewed (drop i items)) ≡ walked_parts declared form focus bound' true so_far s'
+      (viewed items)
       → (height index : ℕ) → height ≡ length bound → index ≡ length s.parts
-      → node_ended declared focus height index form (map (λ part. part.0) items) (so_far', s'') ≡ walked declared focus bound token s (g.node form (viewed items))
+      → node_ended declared focus height index form (map (λ part. part.0) items) (so_far', s'') ≡ walked declared focus bound token s
+      (g.node form (viewed items))
   unfolding walked walked_parts
   node-walked i h so_far so_far' s' s'' inner bound' bound'' first begins sees binds goes height index high at =
       let left = nothing_left items i h in
       let named = labels-viewed items in
-      let gone : (so_far', s'') ≡ walked_parts declared form focus bound true (node_begun declared token form (viewed items)) (seen_begun declared token form (viewed items) s) (viewed items) =
-      sym (ap (walked_parts declared form inner bound'' first so_far' s'') left) ∙ (goes ∙ (λ j. walked_parts declared form focus (binds j) true (begins j) (sees j) (viewed items))) in
+      let gone : (so_far', s'') ≡ walked_parts declared form focus bound true (node_begun declared token form (viewed items))
+      (seen_begun declared token form (viewed items) s) (viewed items) =
+      sym (ap (walked_parts declared form inner bound'' first so_far' s'') left) ∙
+      (goes ∙ (λ j. walked_parts declared form focus (binds j) true (begins j) (sees j) (viewed items))) in
       (λ j. node_ended declared focus (high j) (at j) form (map (λ part. part.0) items) (gone j))
-      ∙ (λ j. node_ended declared focus (length bound) (length s.parts) form (sym named j) (walked_parts declared form focus bound true (node_begun declared token form (viewed items)) (seen_begun declared token form (viewed items) s) (viewed items)))
+      ∙ (λ j. node_ended declared focus (length bound) (length s.parts) form (sym named j)
+      (walked_parts declared form focus bound true (node_begun declared token form (viewed items)) (seen_begun declared token form (viewed items) s)
+      (viewed items)))
 
 -- what the call behind the parts leaves as it was before them
 pub kept-behind : {X E V : Type 0} (r : Result X E) (outer before after : V) → before ≡ outer → OnOk r (after ≡ before) → OnOk r (after ≡ outer)

@@ -1,5 +1,6 @@
 -- What is right in an environment is right, and of the same kinds, in one with a variable more outside all others.
-use Rattle.std.proofs.Common.{◌≡◌, ℕ, ◌+◌, Bool, true, false, List, [], ◌∷◌, ◌++◌, Option, Some, None, Result, Ok, Err, is_some, length, map, refl, sym, ap, ◌∙◌, if◌then◌else◌, true≢false}
+use Rattle.std.proofs.Common.{◌≡◌, ℕ, ◌+◌, Bool, true, false, List, [], ◌∷◌, ◌++◌, Option, Some, None, Result, Ok, Err, is_some, length, map, refl, sym, ap}
+use Rattle.std.proofs.Common.{◌∙◌, if◌then◌else◌, true≢false}
 use Rattle.std.proofs.lemmas.List.{map-append}
 use Rattle.std.specs.Str.{bytes_eq}
 use Rattle.xpath_tokens.specs.declared.token.Name.{Name}
@@ -18,7 +19,9 @@ use Rattle.xpath_types.specs.Refusals.{is_before, first_of}
 use Rattle.xpath_types.specs.declared.kinds.Kinds.{Kinds}
 use Rattle.xpath_types.specs.Kinds.{nodes, all_kinds}
 use Rattle.xpath_types.specs.Scopes.{Binding, Declared, declares, with_variable, written_name}
-use Rattle.xpath_types.specs.Judging.{own_refusals, Environment, Judged, Operands, is_empty, concluded, standing_at, variable_kinds, kinds_or_all, unless, prefix_refusals, leaf_kinds, leaf_refusals, labels, bindings_refusals, form_refusals, form_kinds, behind, variables_behind, focus_inside, focus_behind, operand_refusals, with_operand, node_judged, is_last, judged, operands}
+use Rattle.xpath_types.specs.Judging.{own_refusals, Environment, Judged, Operands, is_empty, concluded, standing_at, variable_kinds, kinds_or_all, unless}
+use Rattle.xpath_types.specs.Judging.{prefix_refusals, leaf_kinds, leaf_refusals, labels, bindings_refusals, form_refusals, form_kinds, behind}
+use Rattle.xpath_types.specs.Judging.{variables_behind, focus_inside, focus_behind, operand_refusals, with_operand, node_judged, is_last, judged, operands}
 use Rattle.xpath_types.specs.Parts.{placed, facts}
 use Rattle.xpath_types.specs.Typing.{Typing, typing_of, outermost, answer}
 
@@ -45,7 +48,8 @@ abbrev one_more : List ℕ → List (List ℕ × Kinds)
 one_more name = (name, all_kinds) ∷ []
 
 -- a name that isn't found has all kinds, and so has the variable more
-same_kinds : (name wanted : List ℕ) (variables : List (List ℕ × Kinds)) → kinds_or_all (variable_kinds wanted (variables ++ one_more name)) ≡ kinds_or_all (variable_kinds wanted variables)
+same_kinds : (name wanted : List ℕ) (variables : List (List ℕ × Kinds)) → kinds_or_all (variable_kinds wanted (variables ++ one_more name)) ≡ kinds_or_all
+    (variable_kinds wanted variables)
 same_kinds name wanted [] = by (bytes_eq wanted name) where
   by : (b : Bool) → kinds_or_all (elim b as (λ _. Option Kinds) [ true ↦ Some all_kinds | false ↦ None ]) ≡ all_kinds
   by true = refl
@@ -58,7 +62,8 @@ same_kinds name wanted (variable ∷ variables) = by (bytes_eq wanted variable.0
   by false rest = rest
 
 -- what is found is found
-still_found : (name wanted : List ℕ) (variables : List (List ℕ × Kinds)) → is_some (variable_kinds wanted variables) ≡ true → is_some (variable_kinds wanted (variables ++ one_more name)) ≡ true
+still_found : (name wanted : List ℕ) (variables : List (List ℕ × Kinds)) → is_some (variable_kinds wanted variables) ≡ true →
+    is_some (variable_kinds wanted (variables ++ one_more name)) ≡ true
 still_found name wanted [] h = absurd (true≢false (sym h))
 still_found name wanted (variable ∷ variables) h = by (bytes_eq wanted variable.0) h (still_found name wanted variables) where
   by : (b : Bool) → is_some (elim b as (λ _. Option Kinds) [ true ↦ Some variable.1 | false ↦ variable_kinds wanted variables ]) ≡ true
@@ -71,7 +76,8 @@ unless_still : (a b : Bool) (kind : TypeKind) → (a ≡ true → b ≡ true) �
 unless_still true b kind h e = ap (λ b. unless b kind) (h refl)
 unless_still false b kind h e = not_empty kind [] e
 
-behind_more : (name : List ℕ) (label : Label) (kinds : Kinds) (variables : List (List ℕ × Kinds)) → variables_behind label kinds (variables ++ one_more name) ≡ variables_behind label kinds variables ++ one_more name
+behind_more : (name : List ℕ) (label : Label) (kinds : Kinds) (variables : List (List ℕ × Kinds)) →
+    variables_behind label kinds (variables ++ one_more name) ≡ variables_behind label kinds variables ++ one_more name
 behind_more name k.First kinds variables = refl
 behind_more name (k.Link operator) kinds variables = refl
 behind_more name k.Comma kinds variables = refl
@@ -102,14 +108,18 @@ module _ (prefixes : List Binding) (own others : List (List ℕ)) (name : List �
   same_prefixes : (x : Name) → prefix_refusals declared_others x ≡ prefix_refusals declared_own x
   same_prefixes x = refl
 
-  leaf_unrefused : (x : Leaf) (focus : Kinds) (variables : List (List ℕ × Kinds)) → leaf_refusals (narrow focus variables) x ≡ [] → leaf_refusals (wide focus variables) x ≡ []
+  leaf_unrefused : (x : Leaf) (focus : Kinds) (variables : List (List ℕ × Kinds)) → leaf_refusals (narrow focus variables) x ≡ [] →
+      leaf_refusals (wide focus variables) x ≡ []
   leaf_unrefused (l.Literal s) focus variables h = refl
   leaf_unrefused (l.Number x) focus variables h = refl
   leaf_unrefused (l.Variable x) focus variables h =
-      let bound : prefix_refusals declared_own x ≡ [] = front_empty (prefix_refusals declared_own x) (unless (is_some (variable_kinds (written_name x) variables)) r.UndeclaredVariable) h in
-      let found : unless (is_some (variable_kinds (written_name x) variables)) r.UndeclaredVariable ≡ [] = back_empty (prefix_refusals declared_own x) (unless (is_some (variable_kinds (written_name x) variables)) r.UndeclaredVariable) h in
+      let bound : prefix_refusals declared_own x ≡ [] =
+      front_empty (prefix_refusals declared_own x) (unless (is_some (variable_kinds (written_name x) variables)) r.UndeclaredVariable) h in
+      let found : unless (is_some (variable_kinds (written_name x) variables)) r.UndeclaredVariable ≡ [] =
+      back_empty (prefix_refusals declared_own x) (unless (is_some (variable_kinds (written_name x) variables)) r.UndeclaredVariable) h in
       λ i. (same_prefixes x ∙ bound) i
-      ++ unless_still (is_some (variable_kinds (written_name x) variables)) (is_some (variable_kinds (written_name x) (variables ++ one_more name))) r.UndeclaredVariable (still_found name (written_name x) variables) found i
+      ++ unless_still (is_some (variable_kinds (written_name x) variables))
+      (is_some (variable_kinds (written_name x) (variables ++ one_more name))) r.UndeclaredVariable (still_found name (written_name x) variables) found i
   leaf_unrefused l.Context focus variables h = refl
   leaf_unrefused l.Parent focus variables h = refl
   leaf_unrefused l.Empty focus variables h = refl
@@ -131,8 +141,10 @@ module _ (prefixes : List Binding) (own others : List (List ℕ)) (name : List �
   leaf_kinds_same (l.Step form test) focus variables = refl
 
   leaf_same : (x : Leaf) (focus : Kinds) (variables : List (List ℕ × Kinds)) (at : ℕ) → standing_at at (leaf_refusals (narrow focus variables) x) ≡ []
-      → concluded (leaf_kinds (wide focus variables) x) (standing_at at (leaf_refusals (wide focus variables) x)) ≡ concluded (leaf_kinds (narrow focus variables) x) (standing_at at (leaf_refusals (narrow focus variables) x))
-  leaf_same x focus variables at h = let right : leaf_refusals (narrow focus variables) x ≡ [] = none_standing at (leaf_refusals (narrow focus variables) x) h in
+      → concluded (leaf_kinds (wide focus variables) x) (standing_at at (leaf_refusals (wide focus variables) x)) ≡ concluded
+      (leaf_kinds (narrow focus variables) x) (standing_at at (leaf_refusals (narrow focus variables) x))
+  leaf_same x focus variables at h = let right : leaf_refusals (narrow focus variables) x ≡ [] =
+      none_standing at (leaf_refusals (narrow focus variables) x) h in
       λ i. concluded (leaf_kinds_same x focus variables i) (standing_at at ((leaf_unrefused x focus variables right ∙ sym right) i))
 
   bindings_same : (labels : List Label) → bindings_refusals declared_others labels ≡ bindings_refusals declared_own labels
@@ -168,21 +180,26 @@ module _ (prefixes : List Binding) (own others : List (List ℕ)) (name : List �
   own_same m.Parentheses parts at = refl
   own_same m.Call parts at = refl
 
-  node_same : (form : Form) (parts : Parts) (at : ℕ) (focus : Kinds) (variables : List (List ℕ × Kinds)) (inner : Operands) → node_judged (wide focus variables) at form parts inner ≡ node_judged (narrow focus variables) at form parts inner
+  node_same : (form : Form) (parts : Parts) (at : ℕ) (focus : Kinds) (variables : List (List ℕ × Kinds)) (inner : Operands) →
+      node_judged (wide focus variables) at form parts inner ≡ node_judged (narrow focus variables) at form parts inner
   node_same form parts at focus variables inner = λ i. concluded (form_kinds_same form inner.kinds i) (own_same form parts at i ++ inner.refusals)
 
   mutual
     unfolding judged
 
     -- what is right in the narrower environment is judged the same in the wider
-    judged_same : (x : Tree) (at : ℕ) (focus : Kinds) (variables : List (List ℕ × Kinds)) → (judged (narrow focus variables) at x).refusals ≡ [] → judged (wide focus variables) at x ≡ judged (narrow focus variables) at x
+    judged_same : (x : Tree) (at : ℕ) (focus : Kinds) (variables : List (List ℕ × Kinds)) → (judged (narrow focus variables) at x).refusals ≡ [] →
+        judged (wide focus variables) at x ≡ judged (narrow focus variables) at x
     judged_same (g.leaf x) at focus variables h = leaf_same x focus variables at h
     judged_same (g.node form parts) at focus variables h =
         ap (node_judged (wide focus variables) at form parts)
-        (operands_same parts form at focus variables (back_empty (own_refusals declared_own at form parts) (operands (narrow focus variables) form at parts).refusals h))
+        (operands_same parts form at focus variables
+        (back_empty (own_refusals declared_own at form parts) (operands (narrow focus variables) form at parts).refusals h))
         ∙ node_same form parts at focus variables (operands (narrow focus variables) form at parts)
 
-    operands_same : (parts : Parts) (form : Form) (at : ℕ) (focus : Kinds) (variables : List (List ℕ × Kinds)) → (operands (narrow focus variables) form at parts).refusals ≡ [] → operands (wide focus variables) form at parts ≡ operands (narrow focus variables) form at parts
+    operands_same : (parts : Parts) (form : Form) (at : ℕ) (focus : Kinds) (variables : List (List ℕ × Kinds)) →
+        (operands (narrow focus variables) form at parts).refusals ≡ [] →
+        operands (wide focus variables) form at parts ≡ operands (narrow focus variables) form at parts
     operands_same g.none form at focus variables h = refl
     operands_same (g.more label x parts) form at focus variables h =
         let token : ℕ = at + length (g.label_tokens label) in
@@ -190,18 +207,27 @@ module _ (prefixes : List Binding) (own others : List (List ℕ)) (name : List �
         let part : Judged = judged (narrow (focus_inside form label focus) variables) token x in
         let ahead : Operands = operands (narrow (focus_behind form label part.kinds focus) (variables_behind label part.kinds variables)) form next parts in
         let surely : List _ = operand_refusals form (is_last parts) token part.kinds in
-        let same : judged (wide (focus_inside form label focus) variables) token x ≡ part = judged_same x token (focus_inside form label focus) variables (front_empty part.refusals (surely ++ ahead.refusals) h) in
+        let same : judged (wide (focus_inside form label focus) variables) token x ≡ part =
+        judged_same x token (focus_inside form label focus) variables (front_empty part.refusals (surely ++ ahead.refusals) h) in
         let later : ahead.refusals ≡ [] = back_empty surely ahead.refusals (back_empty part.refusals (surely ++ ahead.refusals) h) in
         (λ i. with_operand form label (is_last parts) token (same i) (operands (behind form label (same i).kinds (wide focus variables)) form next parts))
-        ∙ ((λ i. with_operand form label (is_last parts) token part (operands (record { focus = focus_behind form label part.kinds focus; variables = behind_more name label part.kinds variables i; declared = declared_others }) form next parts))
-        ∙ ap (with_operand form label (is_last parts) token part) (operands_same parts form next (focus_behind form label part.kinds focus) (variables_behind label part.kinds variables) later))
+        ∙ ((λ i. with_operand form label (is_last parts) token part
+        (operands (record {
+          focus = focus_behind form label part.kinds focus;
+          variables = behind_more name label part.kinds variables i;
+          declared =
+              declared_others;
+        }) form next parts))
+        ∙ ap (with_operand form label (is_last parts) token part)
+        (operands_same parts form next (focus_behind form label part.kinds focus) (variables_behind label part.kinds variables) later))
 
 -- ---- typings
 
 some_first : (first : _) (refusals : List _) → is_some (first_of (Some first) refusals) ≡ true
 some_first first [] = refl
 some_first first (refusal ∷ refusals) = by (is_before refusal first) (some_first refusal refusals) (some_first first refusals) where
-  by : (b : Bool) → is_some (first_of (Some refusal) refusals) ≡ true → is_some (first_of (Some first) refusals) ≡ true → is_some (first_of (if b then Some refusal else Some first) refusals) ≡ true
+  by : (b : Bool) → is_some (first_of (Some refusal) refusals) ≡ true → is_some (first_of (Some first) refusals) ≡ true →
+      is_some (first_of (if b then Some refusal else Some first) refusals) ≡ true
   by true sooner later = sooner
   by false sooner later = later
 
@@ -220,7 +246,8 @@ none_answered (Some refusal) typing found h = absurd (true≢false (sym (ap is_r
 
 unrefused : (declared : Declared) (x : Tree) (typing : Typing) → typing_of declared x ≡ Ok typing → (judged (outermost declared) 0 x).refusals ≡ []
 unfolding typing_of
-unrefused declared x typing h = none_first (judged (outermost declared) 0 x).refusals (none_answered (first_of None (judged (outermost declared) 0 x).refusals) _ typing h)
+unrefused declared x typing h = none_first (judged (outermost declared) 0 x).refusals
+    (none_answered (first_of None (judged (outermost declared) 0 x).refusals) _ typing h)
 
 typed : (declared : Declared) (x : Tree) → (judged (outermost declared) 0 x).refusals ≡ [] → (typing : Typing) × (typing_of declared x ≡ Ok typing)
 unfolding typing_of
@@ -228,14 +255,21 @@ typed declared x h =
     let typing : Typing = record { expression = x; declared = declared; parts = map facts (placed (outermost declared) 0 x) } in
     (typing, ap (λ refusals. answer (first_of None refusals) typing) h)
 
-wider_right : (declared : Declared) (name : List ℕ) (x : Tree) → (judged (outermost declared) 0 x).refusals ≡ [] → (judged (outermost (record declared { variables = declared.variables ++ name ∷ [] })) 0 x).refusals ≡ []
+wider_right : (declared : Declared) (name : List ℕ) (x : Tree) → (judged (outermost declared) 0 x).refusals ≡ [] →
+    (judged (outermost (record declared { variables = declared.variables ++ name ∷ [] })) 0 x).refusals ≡ []
 wider_right declared name x h =
     let variables : List (List ℕ × Kinds) = map (λ name. (name, all_kinds)) declared.variables in
     let more : List (List ℕ) = declared.variables ++ name ∷ [] in
-    (λ i. (judged (record { focus = nodes; variables = map-append (λ (name : List ℕ). (name, all_kinds)) declared.variables (name ∷ []) i; declared = record declared { variables = more } }) 0 x).refusals)
+    (λ i. (judged (record {
+      focus = nodes;
+      variables = map-append (λ (name : List ℕ). (name, all_kinds)) declared.variables (name ∷ []) i;
+      declared =
+          record declared { variables = more };
+    }) 0 x).refusals)
     ∙ (ap (λ (of : Judged). of.refusals) (judged_same declared.prefixes declared.variables more name x 0 nodes variables h) ∙ h)
 
-pub accepted : (scope : Declared) (name : List ℕ) (x : Tree) (typing : Typing) → typing_of scope x ≡ Ok typing → (wider : Typing) × (typing_of (with_variable scope name) x ≡ Ok wider)
+pub accepted : (scope : Declared) (name : List ℕ) (x : Tree) (typing : Typing) → typing_of scope x ≡ Ok typing → (wider : Typing) ×
+    (typing_of (with_variable scope name) x ≡ Ok wider)
 accepted scope name x typing h = by (declares scope name) where
   by : (b : Bool) → (wider : Typing) × (typing_of (if b then scope else record scope { variables = scope.variables ++ name ∷ [] }) x ≡ Ok wider)
   by true = (typing, h)

@@ -36,7 +36,10 @@ uri_of prefix declared = first_uri prefix (always_bound ++ declared.prefixes)
 
 -- one binding more: the first of a prefix counts
 abbrev pub with_prefix : Declared → List ℕ → List ℕ → Declared
-with_prefix declared prefix uri = if is_some (uri_of prefix declared) then declared else record declared { prefixes = declared.prefixes ++ record { prefix = prefix; uri = uri } ∷ [] }
+with_prefix declared prefix uri = if is_some (uri_of prefix declared) then declared else record declared {
+  prefixes = declared.prefixes ++
+      record { prefix = prefix; uri = uri } ∷ [];
+}
 
 abbrev pub declares : Declared → List ℕ → Bool
 declares declared name = list_any (bytes_eq name) declared.variables

@@ -12,4 +12,7 @@ with_kinds kinds (name ∷ outer) = (name, unwrap_or (slice_get kinds (length ou
 -- the innermost variable of the name: how high it stands, and its kinds
 abbrev pub innermost : List ℕ → List (List ℕ × Kinds) → Option Reading
 innermost name [] = None
-innermost name (variable ∷ outer) = elim (bytes_eq name variable.0) [ true ↦ Some (record { height = 1 + length outer; kinds = variable.1 }) | false ↦ innermost name outer ]
+innermost name (variable ∷ outer) = elim (bytes_eq name variable.0) [
+  | true ↦ Some (record { height = 1 + length outer; kinds = variable.1 })
+  | false ↦ innermost name outer
+]

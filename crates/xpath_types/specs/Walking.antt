@@ -1,6 +1,7 @@
 -- How an expression is judged by going through it once, from its first token to its last. proofs/ has the law that this leaves
 -- what Judging and Parts say.
-use Rattle.std.specs.Prelude.{ℕ, Bool, true, false, ◌+◌, ◌&&◌, ◌||◌, not, List, [], ◌∷◌, ◌++◌, Option, Some, None, length, map, nat_le, min, if◌then◌else◌, slice_set}
+use Rattle.std.specs.Prelude.{ℕ, Bool, true, false, ◌+◌, ◌&&◌, ◌||◌, not, List, [], ◌∷◌, ◌++◌, Option, Some, None, length, map, nat_le, min, if◌then◌else◌}
+use Rattle.std.specs.Prelude.{slice_set}
 use Rattle.xpath_tokens.specs.declared.token.Name.{Name}
 use Rattle.xpath_grammar.specs.declared.operators.Production.{Production}
 use Rattle.xpath_grammar.specs.declared.operators.Production.TheVariants as p
@@ -27,7 +28,8 @@ use Rattle.xpath_types.specs.Scopes.{Declared, written_name}
 use Rattle.xpath_types.specs.Functions.{function_called, type_named}
 use Rattle.xpath_types.specs.Variables.{innermost}
 use Rattle.xpath_types.specs.Refusals.{first_of}
-use Rattle.xpath_types.specs.Judging.{Environment, is_empty, standing_at, leaf_kinds, leaf_refusals, call_refusals, cast_kinds, labels, variables_behind, form_refusals, own_refusals, focus_inside, focus_behind, operand_refusals, is_sure_error, is_last, called_kinds}
+use Rattle.xpath_types.specs.Judging.{Environment, is_empty, standing_at, leaf_kinds, leaf_refusals, call_refusals, cast_kinds, labels, variables_behind}
+use Rattle.xpath_types.specs.Judging.{form_refusals, own_refusals, focus_inside, focus_behind, operand_refusals, is_sure_error, is_last, called_kinds}
 use Rattle.xpath_types.specs.Parts.{no_uses, joined, leaf_uses, has_outer_focus, begins_at_root, uses_any, is_document_alone}
 
 -- Variables
@@ -62,7 +64,8 @@ leaf_lowest bound (l.Variable name) = Some (height_of (innermost (written_name n
 leaf_lowest bound x = None
 
 abbrev pub leaf_facts : Declared → List (List ℕ × Kinds) → Kinds → Leaf → Facts
-leaf_facts declared bound focus x = facts_of (leaf_kinds (environment declared focus bound) x) (not (is_empty (leaf_refusals (environment declared focus bound) x)))
+leaf_facts declared bound focus x = facts_of (leaf_kinds (environment declared focus bound) x)
+    (not (is_empty (leaf_refusals (environment declared focus bound) x)))
     (leaf_uses declared x) (leaf_lowest bound x)
 
 abbrev pub variable_facts : Declared → List (List ℕ × Kinds) → Name → Facts
@@ -132,7 +135,13 @@ leaf_walked declared focus bound token s x = (
 -- before the parts of an expression
 abbrev pub node_begun : Declared → ℕ → Form → Parts → Walked
 node_begun declared token form parts = record {
-  facts = record { kinds = no_kinds; refused = not (is_empty (own_refusals declared token form parts)); uses = record no_uses { root = begins_at_root form (labels parts) }; lowest = None };
+  facts = record {
+    kinds = no_kinds;
+    refused = not (is_empty (own_refusals declared token form parts));
+    uses =
+        record no_uses { root = begins_at_root form (labels parts) };
+    lowest = None;
+  };
   end = token;
 }
 

@@ -17,7 +17,8 @@ pub fn parts_are_typed()
 
 /// The first of refusals is one of them, and none of them is before it.
 pub fn first_refusal()
-    ensures { (refusals : List Refusal) → MatchOption (first_of None refusals) (refusals ≡ []) (λ first. Contains refusals first × All (λ other. is_before other first ≡ false) refusals) }
+    ensures { (refusals : List Refusal) → MatchOption (first_of None refusals) (refusals ≡ [])
+        (λ first. Contains refusals first × All (λ other. is_before other first ≡ false) refusals) }
 {}
 
 /// What is right in a scope is right with one variable more.

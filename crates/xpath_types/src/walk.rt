@@ -185,8 +185,10 @@ fn end(
     inner: Walked,
 ) -> Result<Walked, AllocError>
     requires { index < length state.old.parts.items }
-    ensures walked { IfOk result (λ walked. walked ≡ (spec.node_ended scope.now focus (length state.old.variables) index form.now (map (λ part. part.0) parts.now) (inner, spec.seen state.old)).0) }
-    ensures seen { OnOk result (spec.seen state.new ≡ (spec.node_ended scope.now focus (length state.old.variables) index form.now (map (λ part. part.0) parts.now) (inner, spec.seen state.old)).1) }
+    ensures walked { IfOk result (λ walked. walked ≡ (spec.node_ended scope.now focus (length state.old.variables) index form.now
+        (map (λ part. part.0) parts.now) (inner, spec.seen state.old)).0) }
+    ensures seen { OnOk result (spec.seen state.new ≡ (spec.node_ended scope.now focus (length state.old.variables) index form.now
+        (map (λ part. part.0) parts.now) (inner, spec.seen state.old)).1) }
     ensures kept { OnOk result (state.new.variables ≡ state.old.variables) }
     ensures long { OnOk result (length state.new.parts.items ≡ length state.old.parts.items) }
 {

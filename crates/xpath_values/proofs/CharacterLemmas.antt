@@ -1,5 +1,6 @@
 -- Texts made character by character.
-use Rattle.std.proofs.Common.{◌≡◌, ℕ, zero, suc, ◌+◌, ◌<◌, Bool, true, false, cond, List, [], ◌∷◌, ◌++◌, length, drop, get_or, Option, Some, None, refl, ap, sym, ◌∙◌, arith, add-one, append_assoc, ◌⊎◌, inl, inr, string_bytes, String}
+use Rattle.std.proofs.Common.{◌≡◌, ℕ, zero, suc, ◌+◌, ◌<◌, Bool, true, false, cond, List, [], ◌∷◌, ◌++◌, length, drop, get_or, Option, Some, None, refl, ap}
+use Rattle.std.proofs.Common.{sym, ◌∙◌, arith, add-one, append_assoc, ◌⊎◌, inl, inr, string_bytes, String}
 use Rattle.std.specs.Prelude.{◌==◌, if◌then◌else◌, Result, Ok, Err, is_ok, IfOk, OnOk, slice_get}
 use Rattle.std.specs.Ordering.{nat_cmp, is_eq}
 use Rattle.std.specs.Option.{option_to_list}
@@ -25,9 +26,11 @@ rest_at xs k x h = drop-cons xs k x h.0 ∙ (ap (λ y. y ∷ drop (suc k) xs) (s
 -- one character pushed
 
 one_character : (c : ℕ) → IsUtf8 (encode c) → chars (encode c) ≡ c ∷ []
-one_character c u = ap chars (sym (append-nil (encode c))) ∙ (chars_past_char (encode c ++ []) [] c (let e : IsUtf8 (encode c ++ []) = rw append-nil u in e) refl ∙ ap (λ x. c ∷ x) chars-nil)
+one_character c u = ap chars (sym (append-nil (encode c))) ∙
+    (chars_past_char (encode c ++ []) [] c (let e : IsUtf8 (encode c ++ []) = rw append-nil u in e) refl ∙ ap (λ x. c ∷ x) chars-nil)
 
-pub character_pushed : {E : Type 0} (r : Result (Unit {0}) E) (old new : List ℕ) (c : ℕ) → IsUtf8 old → IsUtf8 (encode c) → new ≡ (if is_ok r then old ++ encode c else old) → OnOk r (chars new ≡ chars old ++ c ∷ [])
+pub character_pushed : {E : Type 0} (r : Result (Unit {0}) E) (old new : List ℕ) (c : ℕ) → IsUtf8 old → IsUtf8 (encode c) →
+    new ≡ (if is_ok r then old ++ encode c else old) → OnOk r (chars new ≡ chars old ++ c ∷ [])
 character_pushed (Ok x) old new c uo uc e = ap chars e ∙ (chars-append old (encode c) uo ∙ ap (λ x. chars old ++ x) (one_character c uc))
 character_pushed (Err x) old new c uo uc e = tt
 
@@ -43,13 +46,17 @@ piece_more out grown piece rest whole g h = ap (λ x. x ++ rest) g ∙ (append_a
 -- white space
 
 spaced_step : (white in_run : Bool) (c : ℕ) (text : List ℕ) →
-    (elim white as (λ _. List ℕ) [ true ↦ elim in_run [ true ↦ single_spaced true text | false ↦ 32 ∷ single_spaced true text ] | false ↦ c ∷ single_spaced false text ])
+    (elim white as (λ _. List ℕ) [
+      | true ↦ elim in_run [ true ↦ single_spaced true text | false ↦ 32 ∷ single_spaced true text ]
+      | false ↦ c ∷ single_spaced false text
+    ])
     ≡ (elim white as (λ _. List ℕ) [ true ↦ elim in_run [ true ↦ [] | false ↦ 32 ∷ [] ] | false ↦ c ∷ [] ]) ++ single_spaced white text
 spaced_step true true c text = refl
 spaced_step true false c text = refl
 spaced_step false in_run c text = refl
 
-pub spaced_more : (cs out grown piece : List ℕ) (k c : ℕ) (in_run next : Bool) (whole : List ℕ) → (k < length cs) × (c ≡ get_or cs k c) → out ++ single_spaced in_run (drop k cs) ≡ whole
+pub spaced_more : (cs out grown piece : List ℕ) (k c : ℕ) (in_run next : Bool) (whole : List ℕ) → (k < length cs) × (c ≡ get_or cs k c) → out ++
+    single_spaced in_run (drop k cs) ≡ whole
     → piece ≡ spaced_piece in_run c → next ≡ is_white_space c → grown ≡ out ++ piece → grown ++ single_spaced next (drop (k + 1) cs) ≡ whole
 spaced_more cs out grown piece k c in_run next whole t h p n g =
     piece_more out grown piece (single_spaced next (drop (k + 1) cs)) whole g
@@ -63,7 +70,8 @@ spaced_end cs out k in_run whole e h =
 
 -- translation
 
-pub translated_more : (from to cs out grown piece : List ℕ) (k c : ℕ) (whole : List ℕ) → (k < length cs) × (c ≡ get_or cs k c) → out ++ translated (drop k cs) from to ≡ whole
+pub translated_more : (from to cs out grown piece : List ℕ) (k c : ℕ) (whole : List ℕ) → (k < length cs) × (c ≡ get_or cs k c) → out ++
+    translated (drop k cs) from to ≡ whole
     → piece ≡ translated_character from to c → grown ≡ out ++ piece → grown ++ translated (drop (k + 1) cs) from to ≡ whole
 translated_more from to cs out grown piece k c whole t h p g =
     piece_more out grown piece (translated (drop (k + 1) cs) from to) whole g
@@ -101,8 +109,10 @@ put_in from to k c d found old false e f h =
 next_is : (k : ℕ) → suc k ≡ k + 1
 next_is k = omega arith
 
-pub translation_put : (old new : ℕ → Option (Option ℕ)) (from to : List ℕ) (k next d : ℕ) (found : Option ℕ) → next ≡ suc k → k < length from → d ≡ get_or from k d → found ≡ slice_get to k
-    → ((q : ℕ) → new q ≡ cond (is_eq (nat_cmp d q)) (Some found) (old q)) → Translates old (drop next from) (drop next to) → Translates new (drop k from) (drop k to)
+pub translation_put : (old new : ℕ → Option (Option ℕ)) (from to : List ℕ) (k next d : ℕ) (found : Option ℕ) → next ≡ suc k → k < length from →
+    d ≡ get_or from k d → found ≡ slice_get to k
+    → ((q : ℕ) → new q ≡ cond (is_eq (nat_cmp d q)) (Some found) (old q)) → Translates old (drop next from) (drop next to) →
+    Translates new (drop k from) (drop k to)
 translation_put old new from to k next d found n l at is put same c =
     ap (or_itself c) (put c ∙ ap (λ b. cond b (Some found) (old c)) (tested d c))
     ∙ (put_in (drop (suc k) from) to k c d found (old c) (c == d) refl (ap option_to_list is ∙ sym (first_is to k))
@@ -113,6 +123,7 @@ drop_all : (from : List ℕ) → drop (length from) from ≡ []
 drop_all [] = refl
 drop_all (c ∷ from) = drop_all from
 
-pub translation_start : (table : ℕ → Option (Option ℕ)) (from to : List ℕ) (n : ℕ) → n ≡ length from → ((q : ℕ) → table q ≡ None) → Translates table (drop n from) (drop n to)
+pub translation_start : (table : ℕ → Option (Option ℕ)) (from to : List ℕ) (n : ℕ) → n ≡ length from → ((q : ℕ) → table q ≡ None) →
+    Translates table (drop n from) (drop n to)
 translation_start table from to n e h c =
     ap (or_itself c) (h c) ∙ ap (λ xs. translated_character xs (drop n to) c) (sym (drop_all from) ∙ ap (λ m. drop m from) (sym e))

@@ -1,5 +1,6 @@
 -- The first of equal items.
-use Rattle.std.proofs.Common.{◌≡◌, ℕ, zero, suc, ◌+◌, ◌<◌, ◌≤◌, Bool, true, false, cond, List, [], ◌∷◌, ◌++◌, length, drop, get_or, refl, ap, sym, ◌∙◌, append_assoc, arith, ◌⊎◌, inl, inr}
+use Rattle.std.proofs.Common.{◌≡◌, ℕ, zero, suc, ◌+◌, ◌<◌, ◌≤◌, Bool, true, false, cond, List, [], ◌∷◌, ◌++◌, length, drop, get_or, refl, ap, sym, ◌∙◌}
+use Rattle.std.proofs.Common.{append_assoc, arith, ◌⊎◌, inl, inr}
 use Rattle.std.specs.Prelude.{not, ◌||◌, ◌&&◌, filter}
 use Rattle.std.specs.List.{list_all}
 use Rattle.std.specs.Ordering.{is_eq, int_cmp, bool_cmp, nat_cmp, ordering_then, ordering_reverse}
@@ -49,7 +50,8 @@ stand_congr n d (i.Date a) (i.Date b) h _ = refl
 stand_congr n d _ _ h c = absurd (false≢true h)
 
 -- what is equal to a known item is known
-known_along : IsTotalOrder int_cmp → IsTotalOrder day_cmp → (kept : List Item) (x y : Item) → is_known kept x ≡ true → are_equal x y ≡ true → is_known kept y ≡ true
+known_along : IsTotalOrder int_cmp → IsTotalOrder day_cmp → (kept : List Item) (x y : Item) → is_known kept x ≡ true → are_equal x y ≡ true →
+    is_known kept y ≡ true
 known_along n d [] x y h e = absurd (false≢true h)
 known_along n d (k ∷ kept) x y h e = elim (bool_cases (are_equal k x)) as (λ _. is_known (k ∷ kept) y ≡ true) [
   | inl same ↦ ap (λ b. b || is_known kept y) (stand_congr n d (as_text k) (as_text x) same (as_text y) ∙ e)
@@ -71,14 +73,15 @@ filter_out test y ys e = ap (λ b. cond b (y ∷ filter test ys) (filter test ys
 known_filter : IsTotalOrder int_cmp → IsTotalOrder day_cmp → (kept : List Item) (x : Item) (items : List Item) → is_known kept x ≡ true
     → unknown kept (filter (λ y. not (are_equal x y)) items) ≡ unknown kept items
 known_filter n d kept x [] h = refl
-known_filter n d kept x (y ∷ items) h = elim (bool_cases (are_equal x y)) as (λ _. unknown kept (filter (λ z. not (are_equal x z)) (y ∷ items)) ≡ unknown kept (y ∷ items)) [
-  | inl same ↦
-      ap (unknown kept) (filter_out (λ z. not (are_equal x z)) y items (ap not same)) ∙ (known_filter n d kept x items h
-      ∙ sym (filter_out (λ z. not (is_known kept z)) y items (ap not (known_along n d kept x y h same))))
-  | inr apart ↦
-      ap (unknown kept) (filter_in (λ z. not (are_equal x z)) y items (ap not apart))
-      ∙ (ap (λ t. cond (not (is_known kept y)) (y ∷ t) t) (known_filter n d kept x items h))
-]
+known_filter n d kept x (y ∷ items) h = elim (bool_cases (are_equal x y)) as
+    (λ _. unknown kept (filter (λ z. not (are_equal x z)) (y ∷ items)) ≡ unknown kept (y ∷ items)) [
+      | inl same ↦
+          ap (unknown kept) (filter_out (λ z. not (are_equal x z)) y items (ap not same)) ∙ (known_filter n d kept x items h
+          ∙ sym (filter_out (λ z. not (is_known kept z)) y items (ap not (known_along n d kept x y h same))))
+      | inr apart ↦
+          ap (unknown kept) (filter_in (λ z. not (are_equal x z)) y items (ap not apart))
+          ∙ (ap (λ t. cond (not (is_known kept y)) (y ∷ t) t) (known_filter n d kept x items h))
+    ]
 
 known_push : (kept : List Item) (x y : Item) → is_known (kept ++ x ∷ []) y ≡ (is_known kept y || are_equal x y)
 known_push kept x y = list_any-append (λ known. are_equal known y) kept (x ∷ []) ∙ ap (λ b. is_known kept y || b) (or_false (are_equal x y))
@@ -96,14 +99,18 @@ or_unknown a b c e g = ap (λ z. z || b) e ∙ g
 -- the items unknown beside one more
 more_filter : (kept : List Item) (x : Item) (items : List Item) → unknown (kept ++ x ∷ []) items ≡ unknown kept (filter (λ y. not (are_equal x y)) items)
 more_filter kept x [] = refl
-more_filter kept x (y ∷ items) = elim (bool_cases (are_equal x y)) as (λ _. unknown (kept ++ x ∷ []) (y ∷ items) ≡ unknown kept (filter (λ z. not (are_equal x z)) (y ∷ items))) [
-  | inl same ↦
-      filter_out (λ z. not (is_known (kept ++ x ∷ []) z)) y items (ap not (known_push kept x y ∙ (ap (λ b. is_known kept y || b) same ∙ or_true (is_known kept y))))
-      ∙ (more_filter kept x items ∙ sym (ap (unknown kept) (filter_out (λ z. not (are_equal x z)) y items (ap not same))))
-  | inr apart ↦
-      ap (λ b. cond (not b) (y ∷ unknown (kept ++ x ∷ []) items) (unknown (kept ++ x ∷ []) items)) (known_push kept x y ∙ (ap (λ b. is_known kept y || b) apart ∙ or_false (is_known kept y)))
-      ∙ (ap (λ t. cond (not (is_known kept y)) (y ∷ t) t) (more_filter kept x items) ∙ sym (ap (unknown kept) (filter_in (λ z. not (are_equal x z)) y items (ap not apart))))
-]
+more_filter kept x (y ∷ items) = elim (bool_cases (are_equal x y)) as
+    (λ _. unknown (kept ++ x ∷ []) (y ∷ items) ≡ unknown kept (filter (λ z. not (are_equal x z)) (y ∷ items))) [
+      | inl same ↦
+          filter_out (λ z. not (is_known (kept ++ x ∷ []) z)) y items
+          (ap not (known_push kept x y ∙ (ap (λ b. is_known kept y || b) same ∙ or_true (is_known kept y))))
+          ∙ (more_filter kept x items ∙ sym (ap (unknown kept) (filter_out (λ z. not (are_equal x z)) y items (ap not same))))
+      | inr apart ↦
+          ap (λ b. cond (not b) (y ∷ unknown (kept ++ x ∷ []) items) (unknown (kept ++ x ∷ []) items))
+          (known_push kept x y ∙ (ap (λ b. is_known kept y || b) apart ∙ or_false (is_known kept y)))
+          ∙ (ap (λ t. cond (not (is_known kept y)) (y ∷ t) t) (more_filter kept x items) ∙
+          sym (ap (unknown kept) (filter_in (λ z. not (are_equal x z)) y items (ap not apart))))
+    ]
   where
     or_true : (b : Bool) → (b || true) ≡ true
     or_true true = refl
@@ -113,7 +120,8 @@ more_filter kept x (y ∷ items) = elim (bool_cases (are_equal x y)) as (λ _. u
     or_false true = refl
     or_false false = refl
 
-pub distinct_known : IsTotalOrder int_cmp → IsTotalOrder day_cmp → (kept items : List Item) (k : ℕ) (x : Item) (whole : List Item) → k < length items → x ≡ get_or items k x
+pub distinct_known : IsTotalOrder int_cmp → IsTotalOrder day_cmp → (kept items : List Item) (k : ℕ) (x : Item) (whole : List Item) → k < length items →
+    x ≡ get_or items k x
     → kept ++ unknown kept (distinct (drop k items)) ≡ whole → is_known kept x ≡ true → kept ++ unknown kept (distinct (drop (k + 1) items)) ≡ whole
 distinct_known n d kept items k x whole l at h e =
     ap (λ t. kept ++ t) (sym (known_filter n d kept x (distinct (drop (k + 1) items)) e)
@@ -121,7 +129,8 @@ distinct_known n d kept items k x whole l at h e =
     ∙ (sym (ap (λ t. kept ++ unknown kept (distinct t)) (rest_at items k x (l, at))) ∙ h)
 
 pub distinct_fresh : (kept grown items : List Item) (k : ℕ) (x : Item) (whole : List Item) → k < length items → x ≡ get_or items k x
-    → kept ++ unknown kept (distinct (drop k items)) ≡ whole → is_known kept x ≡ false → grown ≡ kept ++ x ∷ [] → grown ++ unknown grown (distinct (drop (k + 1) items)) ≡ whole
+    → kept ++ unknown kept (distinct (drop k items)) ≡ whole → is_known kept x ≡ false → grown ≡ kept ++ x ∷ [] → grown ++
+    unknown grown (distinct (drop (k + 1) items)) ≡ whole
 distinct_fresh kept grown items k x whole l at h e g =
     ap (λ t. t ++ unknown t (distinct (drop (k + 1) items))) g
     ∙ (append_assoc kept (x ∷ []) (unknown (kept ++ x ∷ []) (distinct (drop (k + 1) items)))
@@ -129,7 +138,8 @@ distinct_fresh kept grown items k x whole l at h e g =
     ∙ (ap (λ t. kept ++ t) (sym (filter_in (λ z. not (is_known kept z)) x (filter (λ y. not (are_equal x y)) (distinct (drop (k + 1) items))) (ap not e)))
     ∙ (sym (ap (λ t. kept ++ unknown kept (distinct t)) (rest_at items k x (l, at))) ∙ h))))
 
-pub distinct_end : (kept items : List Item) (k : ℕ) (whole : List Item) → length items ≤ k → kept ++ unknown kept (distinct (drop k items)) ≡ whole → kept ≡ whole
+pub distinct_end : (kept items : List Item) (k : ℕ) (whole : List Item) → length items ≤ k → kept ++ unknown kept (distinct (drop k items)) ≡ whole →
+    kept ≡ whole
 distinct_end kept items k whole l h = sym (append-nil kept) ∙ (sym (at_drop_all (λ t. kept ++ unknown kept (distinct t)) items k l) ∙ h)
 
 nothing_known : (items : List Item) → unknown [] items ≡ items
@@ -145,12 +155,15 @@ kept_known kept x e = ap (λ (b : Bool). elim b [ true ↦ kept | false ↦ kept
 pub kept_fresh : (kept : List Item) (x : Item) → false ≡ is_known kept x → kept ++ x ∷ [] ≡ with_item kept x
 kept_fresh kept x e = ap (λ (b : Bool). elim b [ true ↦ kept | false ↦ kept ++ x ∷ [] ]) e
 
-pub distinct_more : IsTotalOrder int_cmp → IsTotalOrder day_cmp → (kept grown items : List Item) (k : ℕ) (x : Item) (whole : List Item) → k < length items → x ≡ get_or items k x
+pub distinct_more : IsTotalOrder int_cmp → IsTotalOrder day_cmp → (kept grown items : List Item) (k : ℕ) (x : Item) (whole : List Item) → k < length items →
+    x ≡ get_or items k x
     → kept ++ unknown kept (distinct (drop k items)) ≡ whole → grown ≡ with_item kept x → grown ++ unknown grown (distinct (drop (k + 1) items)) ≡ whole
-distinct_more n d kept grown items k x whole l at h g = elim (bool_cases (is_known kept x)) as (λ _. grown ++ unknown grown (distinct (drop (k + 1) items)) ≡ whole) [
-  | inl known ↦ ap (λ t. t ++ unknown t (distinct (drop (k + 1) items))) (g ∙ sym (kept_known kept x (sym known))) ∙ distinct_known n d kept items k x whole l at h known
-  | inr fresh ↦ distinct_fresh kept grown items k x whole l at h fresh (g ∙ sym (kept_fresh kept x (sym fresh)))
-]
+distinct_more n d kept grown items k x whole l at h g =
+    elim (bool_cases (is_known kept x)) as (λ _. grown ++ unknown grown (distinct (drop (k + 1) items)) ≡ whole) [
+      | inl known ↦ ap (λ t. t ++ unknown t (distinct (drop (k + 1) items))) (g ∙ sym (kept_known kept x (sym known))) ∙
+          distinct_known n d kept items k x whole l at h known
+      | inr fresh ↦ distinct_fresh kept grown items k x whole l at h fresh (g ∙ sym (kept_fresh kept x (sym fresh)))
+    ]
 
 -- ---- what is known of the kept ones
 
@@ -210,7 +223,8 @@ alike_is n d (i.Date a) (i.Untyped b) h = refl
 pub known_start : (known kept : List Item) → known ≡ [] → kept ≡ [] → AreKnown known kept
 known_start known kept e g = λ x h. ap (λ ys. has_alike ys x) e ∙ sym (ap (λ ys. is_known ys x) g)
 
-pub fresh_by : (known kept : List Item) (item : Item) (b : Bool) → AreKnown known kept → is_atomic item ≡ true → b ≡ not (has_alike known item) → b ≡ not (is_known kept item)
+pub fresh_by : (known kept : List Item) (item : Item) (b : Bool) → AreKnown known kept → is_atomic item ≡ true → b ≡ not (has_alike known item) →
+    b ≡ not (is_known kept item)
 fresh_by known kept item b a h e = e ∙ ap not (a item h)
 
 pub known_more : IsTotalOrder int_cmp → IsTotalOrder day_cmp → (known grown kept : List Item) (item : Item) → AreKnown known kept
@@ -223,7 +237,8 @@ known_more n d known grown kept item a g = λ x h.
     or_same false true f = sym (f refl)
     or_same false false f = refl
 
-    kept_so : (x : Item) (b : Bool) → is_known kept item ≡ b → (is_known kept x || are_equal item x) ≡ is_known (elim b [ true ↦ kept | false ↦ kept ++ item ∷ [] ]) x
+    kept_so : (x : Item) (b : Bool) → is_known kept item ≡ b →
+        (is_known kept x || are_equal item x) ≡ is_known (elim b [ true ↦ kept | false ↦ kept ++ item ∷ [] ]) x
     kept_so x true e = or_same (is_known kept x) (are_equal item x) (λ same. known_along n d kept item x e same)
     kept_so x false e = sym (known_push kept item x)
 

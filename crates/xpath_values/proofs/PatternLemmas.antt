@@ -7,4 +7,7 @@ use Rattle.xpath_meaning.specs.Texts.{finds}
 
 pub found-nowhere : (pattern text : List ℕ) (fault : PatternFault) → fault_of pattern ≡ Some fault → finds pattern text ≡ false
 unfolding finds
-found-nowhere pattern text fault is = ap (λ found. elim found as (λ _. Bool) [ None ↦ found_by_core text (core_by_tokens (tokens_of pattern)) | Some fault ↦ false ]) is
+found-nowhere pattern text fault is = ap (λ found. elim found as (λ _. Bool) [
+  | None ↦ found_by_core text (core_by_tokens (tokens_of pattern))
+  | Some fault ↦ false
+]) is

@@ -1,5 +1,6 @@
 -- Pieces of texts, by bytes and by characters.
-use Rattle.std.proofs.Common.{◌≡◌, ℕ, ◌+◌, ◌-◌, ◌<◌, ◌≤◌, suc, List, [], ◌∷◌, ◌++◌, length, take, drop, Bool, true, false, ◌&&◌, Option, Some, None, refl, ap, sym, ◌∙◌, arith, length-append, append_assoc}
+use Rattle.std.proofs.Common.{◌≡◌, ℕ, ◌+◌, ◌-◌, ◌<◌, ◌≤◌, suc, List, [], ◌∷◌, ◌++◌, length, take, drop, Bool, true, false, ◌&&◌, Option, Some, None, refl, ap}
+use Rattle.std.proofs.Common.{sym, ◌∙◌, arith, length-append, append_assoc}
 use Rattle.std.specs.Prelude.{◌==◌, nat_le}
 use Rattle.std.specs.Str.{chars, IsUtf8, bytes_eq}
 use Rattle.std.specs.Str.Pattern.{FindsText, LacksTextAt, FindsTextPrefix, FindsTextSuffix}
@@ -61,7 +62,8 @@ first_place-none p [] h = none_at_end p (h 0 (omega arith))
 first_place-none p (c ∷ t) h =
     passed_step p t c (h 0 (omega arith)) ∙ ap one_on (first_place-none p t (λ k l. h (suc k) (omega arith)))
 
-first_place-at : (p xs ys : List ℕ) → begins p ys ≡ true → ((k : ℕ) → k < length xs → begins p (drop k (xs ++ ys)) ≡ false) → first_place p (xs ++ ys) ≡ Some (length xs)
+first_place-at : (p xs ys : List ℕ) → begins p ys ≡ true → ((k : ℕ) → k < length xs → begins p (drop k (xs ++ ys)) ≡ false) →
+    first_place p (xs ++ ys) ≡ Some (length xs)
 first_place-at p [] ys e h = found_at_front p ys e
 first_place-at p (c ∷ xs) ys e h =
     passed_step p (xs ++ ys) c (h 0 (omega arith)) ∙ ap one_on (first_place-at p xs ys e (λ k l. h (suc k) (omega arith)))
@@ -77,7 +79,8 @@ cut_at k s u = sym (encodes-chars s u) ∙ (ap encodes (sym (take-append-drop k 
 lacks_character : (n s : List ℕ) (k : ℕ) → IsUtf8 s → IsUtf8 n → LacksTextAt n s (bytes_before k s) → begins (chars n) (drop k (chars s)) ≡ false
 lacks_character n s k us un h = or_false _ (λ yes.
     let r = begins-true (chars n) (drop k (chars s)) yes in
-    let back : encodes (drop k (chars s)) ≡ n ++ encodes r.0 = ap encodes r.1 ∙ (encodes-append (chars n) r.0 ∙ ap (λ x. x ++ encodes r.0) (encodes-chars n un)) in
+    let back : encodes (drop k (chars s)) ≡ n ++ encodes r.0 = ap encodes r.1 ∙
+    (encodes-append (chars n) r.0 ∙ ap (λ x. x ++ encodes r.0) (encodes-chars n un)) in
     absurd (h (encodes r.0) (front_rest s (encodes (take k (chars s))) (encodes (drop k (chars s))) (cut_at k s us) ∙ back)))
 
 pub place-none : (n s : List ℕ) → IsUtf8 s → IsUtf8 n → FindsText n s None → first_place (chars n) (chars s) ≡ None
@@ -104,16 +107,25 @@ placed p xs ys t e h = record {
   place = h;
   before = ap (λ (o : Option ℕ). elim o [ None ↦ [] | Some n ↦ take n t ]) h ∙ (ap (take (length xs)) e ∙ take_front xs (p ++ ys));
   behind = ap (λ (o : Option ℕ). elim o [ None ↦ [] | Some n ↦ drop (n + length p) t ]) h
-      ∙ (ap (drop (length xs + length p)) (e ∙ sym (append_assoc xs p ys)) ∙ (ap (λ n. drop n ((xs ++ p) ++ ys)) (sym (length-append xs p)) ∙ drop_front (xs ++ p) ys));
+      ∙ (ap (drop (length xs + length p)) (e ∙ sym (append_assoc xs p ys)) ∙
+      (ap (λ n. drop n ((xs ++ p) ++ ys)) (sym (length-append xs p)) ∙ drop_front (xs ++ p) ys));
 }
 
-pub place-some : (n s front back : List ℕ) (i j : ℕ) → IsUtf8 s → IsUtf8 n → IsUtf8 front → FindsText n s (Some (i, j)) → front ≡ take i s → back ≡ drop j s → i ≤ length s → IsAround (chars n) (chars s) (chars front) (chars back)
+pub place-some : (n s front back : List ℕ) (i j : ℕ) → IsUtf8 s → IsUtf8 n → IsUtf8 front → FindsText n s (Some (i, j)) → front ≡ take i s → back ≡ drop j s →
+    i ≤ length s → IsAround (chars n) (chars s) (chars front) (chars back)
 place-some n s front back i j us un uf h ef eb fits =
-    let bytes : s ≡ front ++ (n ++ back) = sym (take-append-drop i s) ∙ (ap (λ x. take i s ++ x) (h.1.split ∙ ap (λ x. n ++ x) (sym eb)) ∙ ap (λ x. x ++ (n ++ back)) (sym ef)) in
-    let whole : chars s ≡ chars front ++ (chars n ++ chars back) = ap chars bytes ∙ (chars-append front (n ++ back) uf ∙ ap (λ x. chars front ++ x) (chars-append n back un)) in
+    let bytes : s ≡ front ++ (n ++ back) = sym (take-append-drop i s) ∙
+    (ap (λ x. take i s ++ x) (h.1.split ∙ ap (λ x. n ++ x) (sym eb)) ∙ ap (λ x. x ++ (n ++ back)) (sym ef)) in
+    let whole : chars s ≡ chars front ++ (chars n ++ chars back) = ap chars bytes ∙
+    (chars-append front (n ++ back) uf ∙ ap (λ x. chars front ++ x) (chars-append n back un)) in
     let long : length front ≡ i = ap length ef ∙ (let e : length (take i s) ≡ i = grind (arith, common_steps) in e) in
     let none : (k : ℕ) → k < length (chars front) → begins (chars n) (drop k (chars front ++ (chars n ++ chars back))) ≡ false = λ k l.
-    let at : bytes_before k s < i = omega (arith, ap (λ x. length (encodes (take k x))) whole, earlier (chars front) (chars n ++ chars back) k l, ap length (encodes-chars front uf)) in
+    let at : bytes_before k s < i = omega (
+      arith,
+      ap (λ x. length (encodes (take k x))) whole,
+      earlier (chars front) (chars n ++ chars back) k l,
+      ap length (encodes-chars front uf),
+    ) in
     ap (λ x. begins (chars n) (drop k x)) (sym whole) ∙ lacks_character n s k us un (h.0 (bytes_before k s) at) in
     placed (chars n) (chars front) (chars back) (chars s) whole
     (ap (first_place (chars n)) whole ∙ first_place-at (chars n) (chars front) (chars n ++ chars back) (begins-append (chars n) (chars back)) none)
@@ -134,7 +146,8 @@ le_true a b h = grind (arith, nat_tests)
 ends-append : (a p : List ℕ) → ends p (a ++ p) ≡ true
 ends-append a p =
     let le : nat_le (length p) (length (a ++ p)) ≡ true = le_true (length p) (length (a ++ p)) (omega (arith, length-append a p)) in
-    let rest : drop (length (a ++ p) - length p) (a ++ p) ≡ p = ap (λ n. drop n (a ++ p)) (let e : length (a ++ p) - length p ≡ length a = omega (arith, length-append a p) in e) ∙ drop_front a p in
+    let rest : drop (length (a ++ p) - length p) (a ++ p) ≡ p =
+    ap (λ n. drop n (a ++ p)) (let e : length (a ++ p) - length p ≡ length a = omega (arith, length-append a p) in e) ∙ drop_front a p in
     ap (λ (b : Bool). b && bytes_eq p (drop (length (a ++ p) - length p) (a ++ p))) le ∙ (ap (bytes_eq p) rest ∙ same_text p)
 
 ends-true : (p t : List ℕ) → ends p t ≡ true → t ≡ take (length t - length p) t ++ p
@@ -146,7 +159,8 @@ ends-true p t h =
 pub ends-none : (n s : List ℕ) → IsUtf8 s → IsUtf8 n → FindsTextSuffix n s None → ends (chars n) (chars s) ≡ false
 ends-none n s us un h = or_false _ (λ yes.
     let front : List ℕ = take (length (chars s) - length (chars n)) (chars s) in
-    let bytes : s ≡ encodes front ++ n = sym (encodes-chars s us) ∙ (ap encodes (ends-true (chars n) (chars s) yes) ∙ (encodes-append front (chars n) ∙ ap (λ x. encodes front ++ x) (encodes-chars n un))) in
+    let bytes : s ≡ encodes front ++ n = sym (encodes-chars s us) ∙
+    (ap encodes (ends-true (chars n) (chars s) yes) ∙ (encodes-append front (chars n) ∙ ap (λ x. encodes front ++ x) (encodes-chars n un))) in
     absurd (h (encodes front) bytes))
 
 pub ends-some : (n s : List ℕ) (k : ℕ) → IsUtf8 s → IsUtf8 n → FindsTextSuffix n s (Some k) → ends (chars n) (chars s) ≡ true

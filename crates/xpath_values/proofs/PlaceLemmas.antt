@@ -1,5 +1,6 @@
 -- Characters by their places are a part of the text in a row.
-use Rattle.std.proofs.Common.{◌≡◌, ℕ, zero, suc, ◌-◌, ◌<◌, ◌≤◌, Bool, true, false, List, [], ◌∷◌, take, drop, ℤ, pos, negsuc, refl, ap, sym, ◌∙◌, arith, inl, inr, max}
+use Rattle.std.proofs.Common.{◌≡◌, ℕ, zero, suc, ◌-◌, ◌<◌, ◌≤◌, Bool, true, false, List, [], ◌∷◌, take, drop, ℤ, pos, negsuc, refl, ap, sym, ◌∙◌, arith, inl}
+use Rattle.std.proofs.Common.{inr, max}
 use Rattle.std.specs.Prelude.{int_le, int_lt, ◌&&◌}
 use Rattle.std.proofs.lemmas.Bool.Decides.{nat_tests}
 use Rattle.std.proofs.lemmas.Bool.{cases_lt}
@@ -40,7 +41,8 @@ empty_take (suc n) (suc m) = refl
 from_here : (test : ℕ → Bool) (from end p : ℕ) (cs : List ℕ) → IsRun test from end → from ≤ p → at_places test p cs ≡ take (end - p) cs
 from_here test from end p [] r h = empty_take (end - p) 0
 from_here test from end p (c ∷ cs) r h = elim (cases_lt p end) as (λ _. at_places test p (c ∷ cs) ≡ take (end - p) (c ∷ cs)) [
-  | inl below ↦ passed test p c cs (r.inside p h below) ∙ (ap (λ x. c ∷ x) (from_here test from end (suc p) cs r (omega arith)) ∙ sym (take_one (end - p) (end - suc p) c cs (omega arith)))
+  | inl below ↦ passed test p c cs (r.inside p h below) ∙
+      (ap (λ x. c ∷ x) (from_here test from end (suc p) cs r (omega arith)) ∙ sym (take_one (end - p) (end - suc p) c cs (omega arith)))
   | inr above ↦ none_left test from end p (c ∷ cs) r above ∙ sym (take_none (end - p) (c ∷ cs) (omega arith))
 ]
 
@@ -100,7 +102,8 @@ and_false false b e = refl
 pub places_from : (start : ℤ) (cs : List ℕ) → at_places (λ place. int_le start (pos place)) 1 cs ≡ drop (skipped start) cs
 places_from start cs = open_is (λ place. int_le start (pos place)) (at_least_none start) 1 cs (record { inside = low start; before = below_low start })
 
-pub places_between : (start end : ℤ) (cs : List ℕ) → at_places (λ place. int_le start (pos place) && int_lt (pos place) end) 1 cs ≡ take (kept start end) (drop (skipped start) cs)
+pub places_between : (start end : ℤ) (cs : List ℕ) → at_places (λ place. int_le start (pos place) && int_lt (pos place) end) 1 cs ≡ take (kept start end)
+    (drop (skipped start) cs)
 places_between start end cs = run_is (λ place. int_le start (pos place) && int_lt (pos place) end) (at_least_none start) (at_least_none end) 1 cs (record {
   inside = λ p l h. ap (λ b. b && int_lt (pos p) end) (low start p l) ∙ high end p h;
   before = λ p l. ap (λ b. b && int_lt (pos p) end) (below_low start p l);

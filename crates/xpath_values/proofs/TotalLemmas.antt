@@ -1,5 +1,6 @@
 -- Sums and extremes of items that are read.
-use Rattle.std.proofs.Common.{◌≡◌, ℕ, ◌+◌, ◌<◌, ◌≤◌, true, false, List, [], ◌∷◌, ◌++◌, length, map, drop, get_or, Result, Ok, Err, ℤ, pos, refl, ap, sym, ◌∙◌, subst, append_assoc}
+use Rattle.std.proofs.Common.{◌≡◌, ℕ, ◌+◌, ◌<◌, ◌≤◌, true, false, List, [], ◌∷◌, ◌++◌, length, map, drop, get_or, Result, Ok, Err, ℤ, pos, refl, ap, sym, ◌∙◌}
+use Rattle.std.proofs.Common.{subst, append_assoc}
 use Rattle.std.specs.List.{list_all}
 use Rattle.std.proofs.lemmas.Bool.{false≢true}
 use Rattle.std.proofs.lemmas.List.{append-nil, at_drop_all}
@@ -28,7 +29,8 @@ one_behind : {Y : Type 0} (out : List Y) (y : Y) (r : Result (List Y) DynError) 
 one_behind out y (Ok ys) = ap Ok (sym (append_assoc out (y ∷ []) ys))
 one_behind out y (Err error) = refl
 
-taken_step : {X Y : Type 0} (f : X → Result Y DynError) (xs : List X) (k : ℕ) (x : X) → k < length xs → x ≡ get_or xs k x → all_taken f (drop k xs) ≡ then_ (f x) (λ y. then_ (all_taken f (drop (k + 1) xs)) (λ ys. Ok (y ∷ ys)))
+taken_step : {X Y : Type 0} (f : X → Result Y DynError) (xs : List X) (k : ℕ) (x : X) → k < length xs → x ≡ get_or xs k x →
+    all_taken f (drop k xs) ≡ then_ (f x) (λ y. then_ (all_taken f (drop (k + 1) xs)) (λ ys. Ok (y ∷ ys)))
 taken_step f xs k x l at = ap (all_taken f) (rest_at xs k x (l, at))
 
 pub taken_more : {X Y : Type 0} (f : X → Result Y DynError) (xs : List X) (k : ℕ) (x : X) (y : Y) (out grown : List Y) → k < length xs → x ≡ get_or xs k x
@@ -44,7 +46,8 @@ taken_erred f xs k x out v.Memory l at h g = tt
 taken_erred f xs k x out (v.Error error) l at h g =
     sym h ∙ ap (behind out) (taken_step f xs k x l at ∙ ap (λ r. then_ r (λ z. then_ (all_taken f (drop (k + 1) xs)) (λ ys. Ok (z ∷ ys)))) g)
 
-pub taken_end : {X Y : Type 0} (f : X → Result Y DynError) (xs : List X) (k : ℕ) (out : List Y) → length xs ≤ k → behind out (all_taken f (drop k xs)) ≡ all_taken f xs → all_taken f xs ≡ Ok out
+pub taken_end : {X Y : Type 0} (f : X → Result Y DynError) (xs : List X) (k : ℕ) (out : List Y) → length xs ≤ k →
+    behind out (all_taken f (drop k xs)) ≡ all_taken f xs → all_taken f xs ≡ Ok out
 taken_end f xs k out l h = sym h ∙ (at_drop_all (λ x. behind out (all_taken f x)) xs k l ∙ ap Ok (append-nil out))
 
 behind_none : {Y : Type 0} (r : Result (List Y) DynError) → behind [] r ≡ r
@@ -84,16 +87,23 @@ summed_step : (total : ℤ) (items : List Item) (k : ℕ) (x : Item) → k < len
     → summed total (map number_in (drop k items)) ≡ then_ (in_range (d.sum_of total (number_in x))) (λ next. summed next (map number_in (drop (k + 1) items)))
 summed_step total items k x l at = ap (λ t. summed total (map number_in t)) (rest_at items k x (l, at))
 
-pub summed_more : (items : List Item) (k : ℕ) (x : Item) (total z next : ℤ) (added : Result ℤ Overflow) (whole : Result ℤ DynError) → k < length items → x ≡ get_or items k x
-    → summed total (map number_in (drop k items)) ≡ whole → z ≡ number_in x → added ≡ d.sum_of total z → Ok next ≡ in_range added → summed next (map number_in (drop (k + 1) items)) ≡ whole
+pub summed_more : (items : List Item) (k : ℕ) (x : Item) (total z next : ℤ) (added : Result ℤ Overflow) (whole : Result ℤ DynError) → k < length items →
+    x ≡ get_or items k x
+    → summed total (map number_in (drop k items)) ≡ whole → z ≡ number_in x → added ≡ d.sum_of total z → Ok next ≡ in_range added →
+    summed next (map number_in (drop (k + 1) items)) ≡ whole
 summed_more items k x total z next added whole l at h ez ea en =
-    ap (λ r. then_ r (λ n. summed n (map number_in (drop (k + 1) items)))) (en ∙ ap in_range (ea ∙ ap (d.sum_of total) ez)) ∙ (sym (summed_step total items k x l at) ∙ h)
+    ap (λ r. then_ r (λ n. summed n (map number_in (drop (k + 1) items)))) (en ∙ ap in_range (ea ∙ ap (d.sum_of total) ez)) ∙
+    (sym (summed_step total items k x l at) ∙ h)
 
-pub summed_erred : (items : List Item) (k : ℕ) (x : Item) (total z : ℤ) (error : DynError) (added : Result ℤ Overflow) (whole : Result ℤ DynError) → k < length items → x ≡ get_or items k x
+pub summed_erred : (items : List Item) (k : ℕ) (x : Item) (total z : ℤ) (error : DynError) (added : Result ℤ Overflow) (whole : Result ℤ DynError) →
+    k < length items → x ≡ get_or items k x
     → summed total (map number_in (drop k items)) ≡ whole → z ≡ number_in x → added ≡ d.sum_of total z → Err error ≡ in_range added → Err error ≡ whole
 summed_erred items k x total z error added whole l at h ez ea en =
-    ap (λ r. then_ r (λ n. summed n (map number_in (drop (k + 1) items)))) (en ∙ ap in_range (ea ∙ ap (d.sum_of total) ez)) ∙ (sym (summed_step total items k x l at) ∙ h)
+    ap (λ r. then_ r (λ n. summed n (map number_in (drop (k + 1) items)))) (en ∙ ap in_range (ea ∙ ap (d.sum_of total) ez)) ∙
+    (sym (summed_step total items k x l at) ∙ h)
 
-pub sum_goes : (items read : List Item) (r : Result (List Item) Fault) → all_taken untyped_read items ≡ Ok read → Gives r (number (sum_of read)) → Gives r (sum items)
+pub sum_goes : (items read : List Item) (r : Result (List Item) Fault) → all_taken untyped_read items ≡ Ok read → Gives r (number (sum_of read)) →
+    Gives r (sum items)
 sum_goes items read r e g =
-    subst (Gives r) (sym (ap (λ t. then_ t (λ xs. then_ (all_taken summand xs) (λ numbers. number (summed (pos 0) numbers)))) e ∙ then_assoc (all_taken summand read) (λ numbers. summed (pos 0) numbers) (λ z. Ok (i.Number z ∷ [])))) g
+    subst (Gives r) (sym (ap (λ t. then_ t (λ xs. then_ (all_taken summand xs) (λ numbers. number (summed (pos 0) numbers)))) e ∙
+    then_assoc (all_taken summand read) (λ numbers. summed (pos 0) numbers) (λ z. Ok (i.Number z ∷ [])))) g

@@ -19,7 +19,8 @@ pub(crate) fn ends(piece: &str, text: &str) -> bool
 
 /// What stands before and behind the first place of the piece, if it has one.
 fn around<'t>(text: &'t str, piece: &str) -> Option<(&'t str, &'t str)>
-    ensures { MatchOption result (spec.first_place (chars piece.now) (chars text.now) ≡ None) (λ x. IsAround (chars piece.now) (chars text.now) (chars x.0.now) (chars x.1.now)) }
+    ensures { MatchOption result (spec.first_place (chars piece.now) (chars text.now) ≡ None)
+        (λ x. IsAround (chars piece.now) (chars text.now) (chars x.0.now) (chars x.1.now)) }
 {
     match text.find(piece) {
         Some(at) => {

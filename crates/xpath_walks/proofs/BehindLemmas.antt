@@ -1,5 +1,6 @@
 -- The first of a sort behind a node, along the chain of the sort and along the nodes at once.
-use Rattle.std.proofs.Common.{◌≡◌, get_or, ℕ, zero, suc, ◌+◌, ◌*◌, ◌<◌, ◌≤◌, Bool, true, false, cond, ◌&&◌, ⊎_elim, List, [], ◌∷◌, ◌++◌, length, drop, Option, Some, None, refl, ap, sym, ◌∙◌, arith}
+use Rattle.std.proofs.Common.{◌≡◌, get_or, ℕ, zero, suc, ◌+◌, ◌*◌, ◌<◌, ◌≤◌, Bool, true, false, cond, ◌&&◌, ⊎_elim, List, [], ◌∷◌, ◌++◌, length, drop, Option}
+use Rattle.std.proofs.Common.{Some, None, refl, ap, sym, ◌∙◌, arith}
 use Rattle.std.specs.Prelude.{filter, nat_le}
 use Rattle.std.proofs.lemmas.Bool.{cases_lt, le-leb, false≢true}
 use Rattle.inv_base.specs.Tree.{Node, Name}
@@ -60,7 +61,8 @@ first_is is_so from m nodes counted le within is before = by (first_that is_so (
     by None e = absurd (false≢true (sym (none_that is_so from nodes e m le within) ∙ is))
     by (Some k) e = ap Some (same k (first_from is_so from nodes k counted e))
 
-module _ (is_so : Node → Bool) (from here : ℕ) (ahead : Option ℕ) (before now : ℕ) (nodes : List Node) (counted : AreCounted nodes) (a : IsAhead is_so from here ahead before now nodes) where
+module _ (is_so : Node → Bool) (from here : ℕ) (ahead : Option ℕ) (before now : ℕ) (nodes : List Node) (counted : AreCounted nodes)
+    (a : IsAhead is_so from here ahead before now nodes) where
   pub at_first : (m : ℕ) → ahead ≡ Some m → IsFirstFrom is_so a.place nodes m
   at_first m is = first_from is_so a.place nodes m counted (sym a.first ∙ is)
 
@@ -88,10 +90,12 @@ module _ (is_so : Node → Bool) (from here : ℕ) (ahead : Option ℕ) (before 
       first_is is_so (from + 1) n nodes counted (omega (arith, next, long)) within is (λ k le less. a.none k (omega (arith, le)) (omega (arith, less, next)))
 
   -- the next node isn't so, and what is ahead isn't behind the node
-  one_passed : (m : ℕ) → ahead ≡ Some m → m ≤ from → length (filter (upto is_so from) (drop a.place nodes)) ≡ length (filter (upto is_so from) (drop (m + 1) nodes)) + 1
+  one_passed : (m : ℕ) → ahead ≡ Some m → m ≤ from → length (filter (upto is_so from) (drop a.place nodes)) ≡ length
+      (filter (upto is_so from) (drop (m + 1) nodes)) + 1
   one_passed m is le =
       let f = at_first m is in
-      let here_so : upto is_so from (tree_node nodes m) ≡ true = ap (λ b. b && nat_le (tree_node nodes m).number from) f.is ∙ (ap (λ k. nat_le k from) (counted m f.within) ∙ le-leb m from le) in
+      let here_so : upto is_so from (tree_node nodes m) ≡ true = ap (λ b. b && nat_le (tree_node nodes m).number from) f.is ∙
+      (ap (λ k. nat_le k from) (counted m f.within) ∙ le-leb m from le) in
       ap length (skip (upto is_so from) a.place m nodes f.behind_it (λ k b c d. ap (λ t. t && nat_le (tree_node nodes k).number from) (f.before k b c)))
       ∙ (ap length (one_more (upto is_so from) m nodes f.within)
       ∙ (ap (λ b. length (cond b (tree_node nodes m ∷ []) [] ++ filter (upto is_so from) (drop (suc m) nodes))) here_so
@@ -100,7 +104,8 @@ module _ (is_so : Node → Bool) (from here : ℕ) (ahead : Option ℕ) (before 
   pub least_left : (m : ℕ) → ahead ≡ Some m → m ≤ from → now + 1 ≤ before + (2 * length (filter (upto is_so from) nodes) + 1)
   least_left m is le = let one = one_passed m is le in omega (arith, a.cost, one)
 
-  pub goes_on : (m n : ℕ) (next : Option ℕ) (later : ℕ) → ahead ≡ Some m → m ≤ from → n ≡ here + 1 → is_so (tree_node nodes n) ≡ false → next ≡ first_that is_so (behind m nodes) → later ≡ now + 2
+  pub goes_on : (m n : ℕ) (next : Option ℕ) (later : ℕ) → ahead ≡ Some m → m ≤ from → n ≡ here + 1 → is_so (tree_node nodes n) ≡ false →
+      next ≡ first_that is_so (behind m nodes) → later ≡ now + 2
       → IsAhead is_so from n next before later nodes
   goes_on m n next later is le after not_so leads took = record {
     place = m + 1;

@@ -1,5 +1,6 @@
 -- The chain of a name leads over all that pass a test for that name.
-use Rattle.std.proofs.Common.{◌≡◌, ℕ, zero, suc, ◌+◌, ◌<◌, ◌≤◌, Bool, true, false, not, cond, ◌&&◌, ⊎_elim, List, [], ◌∷◌, ◌++◌, length, get_or, Option, Some, None, option_map, refl, ap, sym, subst, ◌∙◌, arith}
+use Rattle.std.proofs.Common.{◌≡◌, ℕ, zero, suc, ◌+◌, ◌<◌, ◌≤◌, Bool, true, false, not, cond, ◌&&◌, ⊎_elim, List, [], ◌∷◌, ◌++◌, length, get_or, Option, Some}
+use Rattle.std.proofs.Common.{None, option_map, refl, ap, sym, subst, ◌∙◌, arith}
 use Rattle.std.specs.Prelude.{nat_le}
 use Rattle.std.specs.Option.{ForSome}
 use Rattle.std.proofs.lemmas.Bool.{cases_Bool, and_parts, lt-ltb, le-leb, false≢true}
@@ -45,16 +46,19 @@ at_more name first names (Some j) h = (omega (arith, h.0), ap (name_at (first �
 is_at : (name : Name) (names : List Name) → IsAt name names (find_name name names)
 is_at name [] = tt
 is_at name (first ∷ names) = ⊎_elim
-    (λ (same : same_name first name ≡ true). subst (λ b. IsAt name (first ∷ names) (cond b (Some 0) (option_map (λ k. k + 1) (find_name name names)))) (sym same)
+    (λ (same : same_name first name ≡ true). subst (λ b. IsAt name (first ∷ names) (cond b (Some 0) (option_map (λ k. k + 1) (find_name name names))))
+    (sym same)
     (let here : IsAt name (first ∷ names) (Some 0) = (omega arith, same_is first name same) in here))
-    (λ (other : same_name first name ≡ false). subst (λ b. IsAt name (first ∷ names) (cond b (Some 0) (option_map (λ k. k + 1) (find_name name names)))) (sym other)
+    (λ (other : same_name first name ≡ false). subst (λ b. IsAt name (first ∷ names) (cond b (Some 0) (option_map (λ k. k + 1) (find_name name names))))
+    (sym other)
     (at_more name first names (find_name name names) (is_at name names)))
     (cases_Bool (same_name first name))
 
 -- ---- where the chain leads
 
 pub none_of_name : (document : Document) (names : List Name) (k : ℕ)
-    → ((name : Name) (n : ℕ) → n < length (tree_nodes document) → has_name name (tree_node (tree_nodes document) n) ≡ has_found (find_name name document.names) (node_at document.nodes n))
+    → ((name : Name) (n : ℕ) → n < length (tree_nodes document) → has_name name (tree_node (tree_nodes document) n) ≡ has_found (find_name name document.names)
+    (node_at document.nodes n))
     → None ≡ get_or (numbers_of document.names names) k None
     → None ≡ first_that (has_wanted (test_seen names (t.Named k))) (tree_nodes document)
 none_of_name document [] k law e = none_first (has_wanted None) (tree_nodes document) (λ n h. refl)
@@ -113,7 +117,8 @@ IsOfName axis test = (node : Node) → has_wanted test node ≡ false → is_pas
 pub is_of_name : (names : List Name) (k : ℕ) (axis : Axis) (test : StepTest) → test ≡ t.Named k → IsOfName axis (test_seen names test)
 is_of_name names k axis test e = subst (λ x. IsOfName axis (test_seen names x)) (sym e) (wanted_only names k axis)
 
-pub taken_only : (nodes : List Node) (axis : Axis) (test : Option NodeTest) → IsOfName axis test → (node : Node) → has_wanted test node ≡ false → is_taken w.All nodes axis test node ≡ false
+pub taken_only : (nodes : List Node) (axis : Axis) (test : Option NodeTest) → IsOfName axis test → (node : Node) → has_wanted test node ≡ false →
+    is_taken w.All nodes axis test node ≡ false
 taken_only nodes axis test only node h = ap (λ b. not (is_attribute node) && b) (only node h) ∙ right_none (not (is_attribute node))
 
 nameless : (test : Option NodeTest) (node : Node) → node.name ≡ None → has_wanted test node ≡ false
@@ -135,9 +140,11 @@ module _ (nodes : List Node) (s : IsWalkable nodes) (axis : Axis) (test : Option
 
   -- Everything but the document's own node, which has no name, is inside it.
   whole_alike : 0 < length nodes → (tree_node nodes 0).name ≡ None → parent nodes 0 ≡ None → (k : ℕ) → 0 ≤ k → k < length nodes
-      → (is_on a.Descendant (tree_node nodes 0) (tree_node nodes k) && is_passed axis test (tree_node nodes k)) ≡ is_taken w.All nodes axis test (tree_node nodes k)
+      → (is_on a.Descendant (tree_node nodes 0) (tree_node nodes k) && is_passed axis test (tree_node nodes k)) ≡ is_taken w.All nodes axis test
+      (tree_node nodes k)
   whole_alike rooted no_name alone zero le h =
-      not_passed (is_inside (tree_node nodes 0).number (tree_node nodes 0)) (not (is_attribute (tree_node nodes 0))) (only (tree_node nodes 0) (nameless test (tree_node nodes 0) no_name))
+      not_passed (is_inside (tree_node nodes 0).number (tree_node nodes 0)) (not (is_attribute (tree_node nodes 0)))
+      (only (tree_node nodes 0) (nameless test (tree_node nodes 0) no_name))
   whole_alike rooted no_name alone (suc k) le h =
       let last = last_inside nodes 0 in
       let to : suc k ≤ last = omega (arith, h, (s.leads 0 rooted).whole alone) in
@@ -157,9 +164,11 @@ module _ (nodes : List Node) (s : IsWalkable nodes) (axis : Axis) (test : Option
 
 pub chain_first : (nodes : List Node) (s : IsWalkable nodes) (test : Option NodeTest) (first : Option ℕ) → first ≡ first_that (has_wanted test) nodes
     → length (chain_from nodes first test) ≡ length (chain_of nodes test)
-chain_first nodes s test first e = ap (λ ns. length (node_numbers ns)) (sym (from_first (has_wanted test) (has_wanted test) 0 nodes first s.counted (λ node h. h) e))
+chain_first nodes s test first e = ap (λ ns. length (node_numbers ns))
+    (sym (from_first (has_wanted test) (has_wanted test) 0 nodes first s.counted (λ node h. h) e))
 
-pub chain_more : (nodes : List Node) (s : IsWalkable nodes) (test : Option NodeTest) (n : ℕ) (next : Option ℕ) → n < length nodes → has_wanted test (tree_node nodes n) ≡ true
+pub chain_more : (nodes : List Node) (s : IsWalkable nodes) (test : Option NodeTest) (n : ℕ) (next : Option ℕ) → n < length nodes →
+    has_wanted test (tree_node nodes n) ≡ true
     → next ≡ first_that (has_wanted test) (behind n nodes) → length (chain_from nodes (Some n) test) ≡ length (chain_from nodes next test) + 1
 chain_more nodes s test n next within is e =
     ap length (one_step (has_wanted test) (has_wanted test) nodes n next s.counted within (λ node h. h) e

@@ -1,5 +1,6 @@
 -- Filters of nodes by their places, and the first of a sort.
-use Rattle.std.proofs.Common.{◌≡◌, ℕ, zero, suc, ◌+◌, ◌-◌, ◌<◌, ◌≤◌, Bool, true, false, cond, ◌&&◌, ⊎_elim, List, [], ◌∷◌, ◌++◌, length, drop, Option, Some, None, IfSome, option_map, find, refl, ap, sym, ◌∙◌, arith}
+use Rattle.std.proofs.Common.{◌≡◌, ℕ, zero, suc, ◌+◌, ◌-◌, ◌<◌, ◌≤◌, Bool, true, false, cond, ◌&&◌, ⊎_elim, List, [], ◌∷◌, ◌++◌, length, drop, Option, Some}
+use Rattle.std.proofs.Common.{None, IfSome, option_map, find, refl, ap, sym, ◌∙◌, arith}
 use Rattle.std.specs.Prelude.{filter}
 use Rattle.std.proofs.lemmas.List.{get_or-drop, length-drop}
 use Rattle.std.proofs.lemmas.Bool.{cases_Bool}
@@ -24,7 +25,8 @@ skip p (suc from) (suc to) [] le h = refl
 skip p zero (suc to) (node ∷ nodes) le h =
     filter-no p node nodes (h 0 (omega arith) (omega arith) (omega arith))
     ∙ skip p zero to nodes (omega arith) (λ k a b c. h (suc k) (omega arith) (omega (arith, b)) (omega (arith, c)))
-skip p (suc from) (suc to) (node ∷ nodes) le h = skip p from to nodes (omega (arith, le)) (λ k a b c. h (suc k) (omega (arith, a)) (omega (arith, b)) (omega (arith, c)))
+skip p (suc from) (suc to) (node ∷ nodes) le h = skip p from to nodes (omega (arith, le))
+    (λ k a b c. h (suc k) (omega (arith, a)) (omega (arith, b)) (omega (arith, c)))
 
 pub alike : (p q : Node → Bool) (from : ℕ) (nodes : List Node) → ((k : ℕ) → from ≤ k → k < length nodes → p (tree_node nodes k) ≡ q (tree_node nodes k))
     → filter p (drop from nodes) ≡ filter q (drop from nodes)
@@ -94,8 +96,10 @@ first_in is_so (node ∷ nodes) m e = ⊎_elim
 none_in : (is_so : Node → Bool) (nodes : List Node) → first_that is_so nodes ≡ None → (k : ℕ) → k < length nodes → is_so (tree_node nodes k) ≡ false
 none_in is_so [] e k h = absurd (omega (arith, h))
 none_in is_so (node ∷ nodes) e k h = ⊎_elim
-    (λ (so : is_so node ≡ true). let none : ◌≡◌ {A = Option ℕ} (Some node.number) None = ap (λ b. option_map (λ (x : Node). x.number) (cond b (Some node) (find is_so nodes))) (sym so) ∙ e in cc)
-    (λ (not_so : is_so node ≡ false). at k h not_so (none_in is_so nodes (ap (λ b. option_map (λ (x : Node). x.number) (cond b (Some node) (find is_so nodes))) (sym not_so) ∙ e)))
+    (λ (so : is_so node ≡ true). let none : ◌≡◌ {A = Option ℕ} (Some node.number) None =
+    ap (λ b. option_map (λ (x : Node). x.number) (cond b (Some node) (find is_so nodes))) (sym so) ∙ e in cc)
+    (λ (not_so : is_so node ≡ false). at k h not_so
+    (none_in is_so nodes (ap (λ b. option_map (λ (x : Node). x.number) (cond b (Some node) (find is_so nodes))) (sym not_so) ∙ e)))
     (cases_Bool (is_so node))
   where
     at : (k : ℕ) → k < length (node ∷ nodes) → is_so node ≡ false → ((k : ℕ) → k < length nodes → is_so (tree_node nodes k) ≡ false)

@@ -1,5 +1,6 @@
 -- The axes that lead forward are walks.
-use Rattle.std.proofs.Common.{◌≡◌, ℕ, suc, ◌+◌, ◌<◌, ◌≤◌, Bool, true, false, not, cond, ◌&&◌, ◌||◌, ◌==◌, ⊎_elim, List, [], ◌∷◌, ◌++◌, length, drop, reverse, Option, Some, None, Result, Ok, Err, IfSome, refl, ap, sym, ◌∙◌, arith, append_assoc}
+use Rattle.std.proofs.Common.{◌≡◌, ℕ, suc, ◌+◌, ◌<◌, ◌≤◌, Bool, true, false, not, cond, ◌&&◌, ◌||◌, ◌==◌, ⊎_elim, List, [], ◌∷◌, ◌++◌, length, drop, reverse}
+use Rattle.std.proofs.Common.{Option, Some, None, Result, Ok, Err, IfSome, refl, ap, sym, ◌∙◌, arith, append_assoc}
 use Rattle.std.specs.Prelude.{filter, nat_le, nat_lt}
 use Rattle.std.proofs.lemmas.List.{append-nil}
 use Rattle.std.proofs.lemmas.Bool.{cases_Bool, cases_lt, le-leb, lt-leb, lt-ltb, le-ltb, eq-eqb, ne_eqb}
@@ -7,7 +8,8 @@ use Rattle.inv_base.specs.Tree.{Node}
 use Rattle.node_arena.specs.Document.{Document}
 use Rattle.xpath_plan.specs.Plans.{test_seen}
 use Rattle.xpath_walks.specs.declared.step.Step.{Step}
-use Rattle.node_arena.specs.Moves.{tree_node, behind, nearest, is_attribute, is_child, is_attribute_of, is_inside, is_between, first_that, parent, first_child, first_attribute, next_sibling, last_inside}
+use Rattle.node_arena.specs.Moves.{tree_node, behind, nearest, is_attribute, is_child, is_attribute_of, is_inside, is_between, first_that, parent, first_child}
+use Rattle.node_arena.specs.Moves.{first_attribute, next_sibling, last_inside}
 use Rattle.xpath_grammar.specs.declared.step.Axis.{Axis}
 use Rattle.xpath_grammar.specs.declared.step.Axis.TheVariants as a
 use Rattle.xpath_meaning.specs.Expressions.{NodeTest}
@@ -20,7 +22,8 @@ use Rattle.xpath_walks.proofs.FilterLemmas.{AreCounted, right_none, number_is, s
 use Rattle.xpath_walks.proofs.WalkLemmas.{numbers-cond, first_is_on}
 
 -- What is wanted is what a walk takes, where it is nothing before the walk's first place.
-pub walk_is : (p : Node → Bool) (way : Way) (nodes : List Node) (from : ℕ) (begin : Option ℕ) (last : ℕ) (axis : Axis) (test : Option NodeTest) → AreCounted nodes
+pub walk_is : (p : Node → Bool) (way : Way) (nodes : List Node) (from : ℕ) (begin : Option ℕ) (last : ℕ) (axis : Axis) (test : Option NodeTest) →
+    AreCounted nodes
     → ((k : ℕ) → k < from → k < length nodes → p (tree_node nodes k) ≡ false)
     → ((k : ℕ) → from ≤ k → k < length nodes → p (tree_node nodes k) ≡ is_walked way nodes last axis test (tree_node nodes k))
     → begin ≡ first_that (is_on_way way) (drop from nodes)
@@ -116,7 +119,8 @@ module _ (nodes : List Node) (s : IsWalkable nodes) (n : ℕ) (h : n < length no
       walk_is (λ node. is_on a.Child (tree_node nodes n) node && is_passed axis test node) (w.Children n) nodes 0 begin last axis test s.counted
       (λ k a b. absurd (omega (arith, a)))
       (λ k a b. ap (λ m. is_child m (tree_node nodes k) && is_passed axis test (tree_node nodes k)) (s.counted n h)
-      ∙ ap (λ c. is_child n (tree_node nodes k) && (c && is_passed axis test (tree_node nodes k))) (sym (up_to nodes last k s.counted b (omega (arith, b, few)))))
+      ∙ ap (λ c. is_child n (tree_node nodes k) && (c && is_passed axis test (tree_node nodes k)))
+      (sym (up_to nodes last k s.counted b (omega (arith, b, few)))))
       e
 
   pub attribute_is : (begin : Option ℕ) (last : ℕ) → length nodes ≤ last + 1 → begin ≡ first_attribute nodes n
@@ -125,7 +129,8 @@ module _ (nodes : List Node) (s : IsWalkable nodes) (n : ℕ) (h : n < length no
       walk_is (λ node. is_on a.Attribute (tree_node nodes n) node && is_passed axis test node) (w.Attributes n) nodes 0 begin last axis test s.counted
       (λ k a b. absurd (omega (arith, a)))
       (λ k a b. ap (λ m. is_attribute_of m (tree_node nodes k) && is_passed axis test (tree_node nodes k)) (s.counted n h)
-      ∙ ap (λ c. is_attribute_of n (tree_node nodes k) && (c && is_passed axis test (tree_node nodes k))) (sym (up_to nodes last k s.counted b (omega (arith, b, few)))))
+      ∙ ap (λ c. is_attribute_of n (tree_node nodes k) && (c && is_passed axis test (tree_node nodes k)))
+      (sym (up_to nodes last k s.counted b (omega (arith, b, few)))))
       e
 
   pub itself_is : if_so (is_passed axis test (tree_node nodes n)) n ≡ found_on a.Itself axis nodes n test
@@ -138,20 +143,24 @@ module _ (nodes : List Node) (s : IsWalkable nodes) (n : ℕ) (h : n < length no
       → walked w.All nodes begin last axis test ≡ found_on a.Descendant axis nodes n test
   descendant_is begin last l e =
       walk_is (λ node. is_on a.Descendant (tree_node nodes n) node && is_passed axis test node) w.All nodes (n + 1) begin last axis test s.counted
-      (λ k a b. inside_out (is_inside (tree_node nodes n).number (tree_node nodes k)) (not (is_attribute (tree_node nodes k))) (is_passed axis test (tree_node nodes k))
+      (λ k a b. inside_out (is_inside (tree_node nodes n).number (tree_node nodes k)) (not (is_attribute (tree_node nodes k)))
+      (is_passed axis test (tree_node nodes k))
       (inside_before k b (omega (arith, a))))
-      (λ k a b. and_assoc (is_inside (tree_node nodes n).number (tree_node nodes k)) (not (is_attribute (tree_node nodes k))) (is_passed axis test (tree_node nodes k))
+      (λ k a b. and_assoc (is_inside (tree_node nodes n).number (tree_node nodes k)) (not (is_attribute (tree_node nodes k)))
+      (is_passed axis test (tree_node nodes k))
       ∙ ap (λ c. c && (not (is_attribute (tree_node nodes k)) && is_passed axis test (tree_node nodes k)))
       (inside_behind k b (omega (arith, a)) ∙ (ap (λ m. nat_le k m) (sym l) ∙ ap (λ m. nat_le m last) (sym (s.counted k b)))))
       e
 
-  pub descendant_or_self_is : if_so (is_passed axis test (tree_node nodes n)) n ++ found_on a.Descendant axis nodes n test ≡ found_on a.DescendantOrSelf axis nodes n test
+  pub descendant_or_self_is : if_so (is_passed axis test (tree_node nodes n)) n ++
+      found_on a.Descendant axis nodes n test ≡ found_on a.DescendantOrSelf axis nodes n test
   descendant_or_self_is =
       let t : Node → Bool = λ node. is_passed axis test node in
       let p : Node → Bool = λ node. is_on a.Descendant (tree_node nodes n) node && is_passed axis test node in
       let q : Node → Bool = λ node. is_on a.DescendantOrSelf (tree_node nodes n) node && is_passed axis test node in
       let before : filter q (drop 0 nodes) ≡ filter q (drop n nodes) = skip q 0 n nodes (omega arith) (λ k a b c.
-      or_none (is_the (tree_node nodes n) (tree_node nodes k)) (is_inside (tree_node nodes n).number (tree_node nodes k)) (not (is_attribute (tree_node nodes k))) (t (tree_node nodes k))
+      or_none (is_the (tree_node nodes n) (tree_node nodes k)) (is_inside (tree_node nodes n).number (tree_node nodes k))
+      (not (is_attribute (tree_node nodes k))) (t (tree_node nodes k))
       (the_other k (λ e. omega (arith, e, b)) c) (inside_before k c (omega (arith, b)))) in
       let same : filter q (drop (suc n) nodes) ≡ filter p (drop (suc n) nodes) = alike q p (suc n) nodes (λ k le b.
       or_other (is_the (tree_node nodes n) (tree_node nodes k)) (is_on a.Descendant (tree_node nodes n) (tree_node nodes k)) (t (tree_node nodes k))
@@ -159,31 +168,37 @@ module _ (nodes : List Node) (s : IsWalkable nodes) (n : ℕ) (h : n < length no
       let rest : filter p (drop 0 nodes) ≡ filter p (drop (suc n) nodes) = skip p 0 (suc n) nodes (omega arith) (λ k a b c.
       inside_out (is_inside (tree_node nodes n).number (tree_node nodes k)) (not (is_attribute (tree_node nodes k))) (t (tree_node nodes k))
       (inside_before k c (omega (arith, b)))) in
-      let here : q (tree_node nodes n) ≡ t (tree_node nodes n) = or_self (is_the (tree_node nodes n) (tree_node nodes n)) (is_on a.Descendant (tree_node nodes n) (tree_node nodes n)) (t (tree_node nodes n)) the_same in
+      let here : q (tree_node nodes n) ≡ t (tree_node nodes n) =
+      or_self (is_the (tree_node nodes n) (tree_node nodes n)) (is_on a.Descendant (tree_node nodes n) (tree_node nodes n))
+      (t (tree_node nodes n)) the_same in
       sym (ap node_numbers (before ∙ one_more q n nodes h)
       ∙ (numbers-cond (q (tree_node nodes n)) (tree_node nodes n) (filter q (drop (suc n) nodes))
       ∙ (ap (λ m. if_so (q (tree_node nodes n)) m ++ node_numbers (filter q (drop (suc n) nodes))) (s.counted n h)
       ∙ (ap (λ b. if_so b n ++ node_numbers (filter q (drop (suc n) nodes))) here
       ∙ ap (λ ns. if_so (t (tree_node nodes n)) n ++ node_numbers ns) (same ∙ sym rest)))))
 
-  pub following_is : (begin : Option ℕ) (last most : ℕ) → last ≡ last_inside nodes n → n ≤ last → length nodes ≤ most + 1 → begin ≡ first_that (λ _. true) (behind last nodes)
+  pub following_is : (begin : Option ℕ) (last most : ℕ) → last ≡ last_inside nodes n → n ≤ last → length nodes ≤ most + 1 →
+      begin ≡ first_that (λ _. true) (behind last nodes)
       → walked w.All nodes begin most axis test ≡ found_on a.Following axis nodes n test
   following_is begin last most l le few e =
       walk_is (λ node. is_on a.Following (tree_node nodes n) node && is_passed axis test node) w.All nodes (last + 1) begin most axis test s.counted
       (λ k a b. before k b (omega (arith, a)))
-      (λ k a b. following_in (is_earlier (tree_node nodes n) (tree_node nodes k)) (not (is_attribute (tree_node nodes k))) (is_inside (tree_node nodes n).number (tree_node nodes k))
+      (λ k a b. following_in (is_earlier (tree_node nodes n) (tree_node nodes k)) (not (is_attribute (tree_node nodes k)))
+      (is_inside (tree_node nodes n).number (tree_node nodes k))
       (is_passed axis test (tree_node nodes k)) (nat_le (tree_node nodes k).number most)
       (earlier_is k b ∙ lt-ltb n k (omega (arith, a, le)))
       (inside_behind k b (omega (arith, a, le)) ∙ lt-leb k (last_inside nodes n) (omega (arith, a, l)))
       (up_to nodes most k s.counted b (omega (arith, b, few))))
       e
     where
-      before : (k : ℕ) → k < length nodes → k ≤ last → (is_on a.Following (tree_node nodes n) (tree_node nodes k) && is_passed axis test (tree_node nodes k)) ≡ false
+      before : (k : ℕ) → k < length nodes → k ≤ last →
+          (is_on a.Following (tree_node nodes n) (tree_node nodes k) && is_passed axis test (tree_node nodes k)) ≡ false
       before k b to = ⊎_elim
           (λ (in_it : n < k). following_out (is_earlier (tree_node nodes n) (tree_node nodes k)) (not (is_attribute (tree_node nodes k)))
           (is_inside (tree_node nodes n).number (tree_node nodes k)) (is_passed axis test (tree_node nodes k))
           (inside_behind k b in_it ∙ le-leb k (last_inside nodes n) (omega (arith, to, l))))
-          (λ (out : k ≤ n). ap (λ c. (c && (not (is_attribute (tree_node nodes k)) && not (is_inside (tree_node nodes n).number (tree_node nodes k)))) && is_passed axis test (tree_node nodes k))
+          (λ (out : k ≤ n). ap (λ c. (c && (not (is_attribute (tree_node nodes k)) && not (is_inside (tree_node nodes n).number (tree_node nodes k)))) &&
+          is_passed axis test (tree_node nodes k))
           (earlier_is k b ∙ le-ltb n k out))
           (cases_lt n k)
 
@@ -212,7 +227,8 @@ module _ (nodes : List Node) (s : IsWalkable nodes) (n : ℕ) (h : n < length no
       ap (λ b. cond b None (elim (parent nodes n) [ None ↦ None | Some q ↦ first_that (is_child q) (behind n nodes) ])) plain
       ∙ ap (λ o. elim o [ None ↦ None | Some q ↦ first_that (is_child q) (behind n nodes) ]) e
 
-  pub sibling_on : (begin : Option ℕ) (p : ℕ) → parent nodes n ≡ Some p → begin ≡ next_sibling nodes n → IfSome begin (λ m. is_on_way (w.Children p) (tree_node nodes m) ≡ true)
+  pub sibling_on : (begin : Option ℕ) (p : ℕ) → parent nodes n ≡ Some p → begin ≡ next_sibling nodes n →
+      IfSome begin (λ m. is_on_way (w.Children p) (tree_node nodes m) ≡ true)
   sibling_on begin p par e = ⊎_elim
       (λ (so : is_attribute (tree_node nodes n) ≡ true). nowhere begin
       (e ∙ ap (λ b. cond b None (elim (parent nodes n) [ None ↦ None | Some q ↦ first_that (is_child q) (behind n nodes) ])) so))
@@ -230,16 +246,21 @@ module _ (nodes : List Node) (s : IsWalkable nodes) (n : ℕ) (h : n < length no
       ap (λ o. walked (w.Children p) nodes o most axis test)
       (e ∙ ap (λ b. cond b None (elim (parent nodes n) [ None ↦ None | Some q ↦ first_that (is_child q) (behind n nodes) ])) so)
       ∙ sym (ap node_numbers (none_from (λ node. is_on a.FollowingSibling (tree_node nodes n) node && is_passed axis test node) 0 nodes (λ k a b.
-      ap (λ c. ((not c && is_child_of_nearest (tree_node nodes n).above (tree_node nodes k)) && is_earlier (tree_node nodes n) (tree_node nodes k)) && is_passed axis test (tree_node nodes k)) so))))
+      ap (λ c. ((not c && is_child_of_nearest (tree_node nodes n).above (tree_node nodes k)) && is_earlier (tree_node nodes n) (tree_node nodes k)) &&
+      is_passed axis test (tree_node nodes k)) so))))
       (λ (plain : is_attribute (tree_node nodes n) ≡ false).
-      walk_is (λ node. is_on a.FollowingSibling (tree_node nodes n) node && is_passed axis test node) (w.Children p) nodes (n + 1) begin most axis test s.counted
-      (λ k a b. sibling_out (are_siblings (tree_node nodes n) (tree_node nodes k)) (is_earlier (tree_node nodes n) (tree_node nodes k)) (is_passed axis test (tree_node nodes k))
+      walk_is (λ node. is_on a.FollowingSibling (tree_node nodes n) node && is_passed axis test node) (w.Children p) nodes
+      (n + 1) begin most axis test s.counted
+      (λ k a b. sibling_out (are_siblings (tree_node nodes n) (tree_node nodes k)) (is_earlier (tree_node nodes n) (tree_node nodes k))
+      (is_passed axis test (tree_node nodes k))
       (earlier_is k b ∙ le-ltb n k (omega (arith, a))))
-      (λ k a b. sibling_in (are_siblings (tree_node nodes n) (tree_node nodes k)) (is_earlier (tree_node nodes n) (tree_node nodes k)) (is_passed axis test (tree_node nodes k))
+      (λ k a b. sibling_in (are_siblings (tree_node nodes n) (tree_node nodes k)) (is_earlier (tree_node nodes n) (tree_node nodes k))
+      (is_passed axis test (tree_node nodes k))
       (nat_le (tree_node nodes k).number most)
       (earlier_is k b ∙ lt-ltb n k (omega (arith, a))) (up_to nodes most k s.counted b (omega (arith, b, few)))
       ∙ ap (λ c. c && (nat_le (tree_node nodes k).number most && is_passed axis test (tree_node nodes k)))
-      (ap (λ c. not c && is_child_of_nearest (tree_node nodes n).above (tree_node nodes k)) plain ∙ child_of (tree_node nodes n).above p (tree_node nodes k) par))
+      (ap (λ c. not c && is_child_of_nearest (tree_node nodes n).above (tree_node nodes k)) plain ∙
+      child_of (tree_node nodes n).above p (tree_node nodes k) par))
       (e ∙ sibling_link p plain par))
       (cases_Bool (is_attribute (tree_node nodes n)))
 

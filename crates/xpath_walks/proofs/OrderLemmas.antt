@@ -94,7 +94,8 @@ rising all ns h r =
     let q : Node → Bool = λ node. is_among node.number (reverse ns) && true in
     let back : node_numbers (reverse (filter q all)) ≡ filter (λ _. true) (reverse ns) =
     falling all h.counted (λ _. true) (reverse ns) (falls_back ns r) (λ m e. h.within m (sym (among-reverse m ns) ∙ e)) in
-    let same : filter q all ≡ filter p all = alike q p 0 all (λ k l b. sym (and_true (is_among (tree_node all k).number (reverse ns))) ∙ among-reverse (tree_node all k).number ns) in
+    let same : filter q all ≡ filter p all = alike q p 0 all (λ k l b. sym (and_true (is_among (tree_node all k).number (reverse ns))) ∙
+    among-reverse (tree_node all k).number ns) in
     sym (reverse-reverse ns)
     ∙ (ap reverse (sym (filter-all (reverse ns)) ∙ sym back)
     ∙ (ap reverse (sym (reverse-numbers (filter q all)))
@@ -164,4 +165,5 @@ pub items_ordered : (all : List Node) (ns ms : List ℕ) → ms ≡ node_numbers
 items_ordered all ns ms e =
     ap node_items e
     ∙ (items-of (filter (λ (node : Node). is_among node.number ns) all)
-    ∙ ap (map node_item) (alike (λ node. is_among node.number ns) (λ node. has_node (node_items ns) node.number) 0 all (λ k l b. has-among ns (tree_node all k).number)))
+    ∙ ap (map node_item) (alike (λ node. is_among node.number ns) (λ node. has_node (node_items ns) node.number) 0 all
+    (λ k l b. has-among ns (tree_node all k).number)))

@@ -1,8 +1,10 @@
 -- The axes that lead back.
-use Rattle.std.proofs.Common.{◌≡◌, ℕ, zero, suc, ◌+◌, ◌-◌, ◌<◌, ◌≤◌, Bool, true, false, not, cond, ◌&&◌, ◌||◌, ◌==◌, ⊎_elim, ◌⊎◌, List, [], ◌∷◌, ◌++◌, length, take, drop, reverse, Option, Some, None, Ok, refl, ap, sym, subst, ◌∙◌, arith}
+use Rattle.std.proofs.Common.{◌≡◌, ℕ, zero, suc, ◌+◌, ◌-◌, ◌<◌, ◌≤◌, Bool, true, false, not, cond, ◌&&◌, ◌||◌, ◌==◌, ⊎_elim, ◌⊎◌, List, [], ◌∷◌, ◌++◌, length}
+use Rattle.std.proofs.Common.{take, drop, reverse, Option, Some, None, Ok, refl, ap, sym, subst, ◌∙◌, arith}
 use Rattle.std.specs.Prelude.{filter, nat_le, nat_lt}
 use Rattle.std.proofs.lemmas.List.{append-nil, map-append, reverse-append, take_at, drop_at}
-use Rattle.std.proofs.lemmas.Bool.{cases_lt, cases_eq, or_cases, le-leb, lt-leb, lt-ltb, le-ltb, eqb-true, eq-eqb, ne_eqb, false≢true, false_from_ne_true, or_left}
+use Rattle.std.proofs.lemmas.Bool.{cases_lt, cases_eq, or_cases, le-leb, lt-leb, lt-ltb, le-ltb, eqb-true, eq-eqb, ne_eqb, false≢true, false_from_ne_true}
+use Rattle.std.proofs.lemmas.Bool.{or_left}
 use Rattle.inv_base.specs.Tree.{Node, is_among}
 use Rattle.node_arena.specs.Document.{Document}
 use Rattle.node_arena.specs.Moves.{tree_node, nearest, is_nearest, is_attribute, is_child, is_inside, first_that, parent, first_child}
@@ -50,7 +52,8 @@ add_last p q (suc n) (node ∷ nodes) h before later none =
     ∙ (ap (λ b. cond b (node ∷ (filter q nodes ++ last)) (filter q nodes ++ last)) (before 0 (omega arith) (omega arith))
     ∙ cond-append (q node) node (filter q nodes) last)
 
-numbers-back : (b : Bool) (node : Node) (nodes : List Node) → node_numbers (reverse (nodes ++ cond b (node ∷ []) [])) ≡ if_so b node.number ++ node_numbers (reverse nodes)
+numbers-back : (b : Bool) (node : Node) (nodes : List Node) → node_numbers (reverse (nodes ++ cond b (node ∷ []) [])) ≡ if_so b node.number ++
+    node_numbers (reverse nodes)
 numbers-back true node nodes = ap node_numbers (reverse-append nodes (node ∷ []))
 numbers-back false node nodes = ap (λ ns. node_numbers (reverse ns)) (append-nil nodes)
 
@@ -121,9 +124,11 @@ module _ (nodes : List Node) (s : IsWalkable nodes) where
   below (suc b) (suc n) l h m e =
       let at : suc n ≡ n + 1 = suc-one n in
       let in_it : n < length nodes = omega (arith, h) in
-      let next : (p : ℕ) × (parent nodes (n + 1) ≡ Some p) × ((p ≡ n) ⊎ (is_inside p (tree_node nodes n) ≡ true)) = (s.leads n in_it).next_parent (omega (arith, h)) in
+      let next : (p : ℕ) × (parent nodes (n + 1) ≡ Some p) × ((p ≡ n) ⊎ (is_inside p (tree_node nodes n) ≡ true)) =
+      (s.leads n in_it).next_parent (omega (arith, h)) in
       let p : ℕ = next.0 in
-      let to : p ≤ n = ⊎_elim (λ (same : next.0 ≡ n). omega (arith, same)) (λ (i : is_inside next.0 (tree_node nodes n) ≡ true). omega (arith, below b n (omega (arith, l)) in_it next.0 i)) next.2 in
+      let to : p ≤ n = ⊎_elim (λ (same : next.0 ≡ n). omega (arith, same))
+      (λ (i : is_inside next.0 (tree_node nodes n) ≡ true). omega (arith, below b n (omega (arith, l)) in_it next.0 i)) next.2 in
       let above_is : (tree_node nodes (suc n)).above ≡ p ∷ (tree_node nodes p).above = (s.leads (suc n) h).around p (ap (parent nodes) at ∙ next.1) in
       ⊎_elim
       (λ (same : (m == p) ≡ true). omega (arith, eqb-true m p same, to))
@@ -149,14 +154,17 @@ module _ (nodes : List Node) (s : IsWalkable nodes) where
 
   module _ (n : ℕ) (h : n < length nodes) (axis : Axis) (test : Option NodeTest) where
     pub ancestor_is : passing axis nodes (tree_node nodes n).above test ≡ found_on a.Ancestor axis nodes n test
-    ancestor_is = sym (falling nodes s.counted (λ node. is_passed axis test node) (tree_node nodes n).above (above_falls n h) (λ m e. omega (arith, above_below n h m e, h)))
+    ancestor_is = sym (falling nodes s.counted (λ node. is_passed axis test node) (tree_node nodes n).above (above_falls n h)
+        (λ m e. omega (arith, above_below n h m e, h)))
 
-    pub ancestor_or_self_is : if_so (is_passed axis test (tree_node nodes n)) n ++ passing axis nodes (tree_node nodes n).above test ≡ found_on a.AncestorOrSelf axis nodes n test
+    pub ancestor_or_self_is : if_so (is_passed axis test (tree_node nodes n)) n ++
+        passing axis nodes (tree_node nodes n).above test ≡ found_on a.AncestorOrSelf axis nodes n test
     ancestor_or_self_is =
         let up : List ℕ = (tree_node nodes n).above in
         cond-split (is_passed axis test (tree_node nodes n)) n (passing axis nodes up test)
         ∙ (sym (falling nodes s.counted (λ node. is_passed axis test node) (n ∷ up) (above_below n h, above_falls n h) (within n h))
-        ∙ ap (λ m. node_numbers (reverse (filter (λ node. is_among node.number (m ∷ (tree_node nodes n).above) && is_passed axis test node) nodes))) (sym (s.counted n h)))
+        ∙ ap (λ m. node_numbers (reverse (filter (λ node. is_among node.number (m ∷ (tree_node nodes n).above) && is_passed axis test node) nodes)))
+        (sym (s.counted n h)))
       where
         within : (n : ℕ) → n < length nodes → (m : ℕ) → is_among m (n ∷ (tree_node nodes n).above) ≡ true → m < length nodes
         within n h m e = ⊎_elim
@@ -186,7 +194,8 @@ reverse-numbers (node ∷ nodes) =
     ∙ (ap (λ ns. ns ++ node.number ∷ []) (reverse-numbers nodes)
     ∙ (sym (map-append (λ (x : Node). x.number) (reverse nodes) (node ∷ [])) ∙ ap node_numbers (sym (reverse-append (node ∷ []) nodes))))
 
-pub adds_back : {X Y : Type 0} (E : Type 0) (document : Document) (step : Step) (x : X) (y : Y) (old middle new : List ℕ) (at : ℕ) (f g : Option NodeTest → List ℕ)
+pub adds_back : {X Y : Type 0} (E : Type 0) (document : Document) (step : Step) (x : X) (y : Y) (old middle new : List ℕ) (at : ℕ)
+    (f g : Option NodeTest → List ℕ)
     → length old ≡ at → new ≡ take at middle ++ reverse (drop at middle) → ((test : Option NodeTest) → reverse (f test) ≡ g test)
     → Adds {X = X} {E = E} document step (Ok x) old middle f → Adds {X = Y} {E = E} document step (Ok y) old new g
 adds_back E document step x y old middle new at f g long turned same h = λ names is.
@@ -253,7 +262,8 @@ module _ (nodes : List Node) (s : IsWalkable nodes) (n : ℕ) (h : n < length no
           (or_cases (m == p) false i)
 
   pub no_parent : parent nodes n ≡ None → [] ≡ found_on a.Parent axis nodes n test
-  no_parent e = ap (λ ns. node_numbers (reverse ns)) (sym (none_from (λ node. is_nearest node.number (tree_node nodes n).above && is_passed axis test node) 0 nodes
+  no_parent e = ap (λ ns. node_numbers (reverse ns))
+      (sym (none_from (λ node. is_nearest node.number (tree_node nodes n).above && is_passed axis test node) 0 nodes
       (λ k l b. ap (λ c. c && is_passed axis test (tree_node nodes k)) (no_nearest (tree_node nodes n).above (tree_node nodes k).number e))))
 
   pub preceding_is : (begin : Option ℕ) (last : ℕ) → last ≡ n - 1 → 0 < n → begin ≡ first_that (λ _. true) nodes
@@ -269,30 +279,38 @@ module _ (nodes : List Node) (s : IsWalkable nodes) (n : ℕ) (h : n < length no
       ∙ reverse-numbers (filter (λ node. is_on a.Preceding (tree_node nodes n) node && is_passed axis test node) nodes)
 
   pub none_preceding : n ≡ 0 → [] ≡ found_on a.Preceding axis nodes n test
-  none_preceding e = ap (λ ns. node_numbers (reverse ns)) (sym (none_from (λ node. is_on a.Preceding (tree_node nodes n) node && is_passed axis test node) 0 nodes
-      (λ k l b. ap (λ c. (c && (not (is_attribute (tree_node nodes k)) && not (is_inside (tree_node nodes k).number (tree_node nodes n)))) && is_passed axis test (tree_node nodes k))
+  none_preceding e = ap (λ ns. node_numbers (reverse ns))
+      (sym (none_from (λ node. is_on a.Preceding (tree_node nodes n) node && is_passed axis test node) 0 nodes
+      (λ k l b. ap (λ c. (c && (not (is_attribute (tree_node nodes k)) && not (is_inside (tree_node nodes k).number (tree_node nodes n)))) &&
+      is_passed axis test (tree_node nodes k))
       (earlier_is k b ∙ le-ltb k n (omega (arith, e))))))
 
   pub preceding_sibling_is : (begin : Option ℕ) (p last : ℕ) → is_attribute (tree_node nodes n) ≡ false → parent nodes n ≡ Some p → last ≡ n - 1 → 0 < n
       → begin ≡ first_child nodes p
       → reverse (walked (w.Children p) nodes begin last axis test) ≡ found_on a.PrecedingSibling axis nodes n test
   preceding_sibling_is begin p last plain par l z e =
-      ap reverse (walk_is (λ node. is_on a.PrecedingSibling (tree_node nodes n) node && is_passed axis test node) (w.Children p) nodes 0 begin last axis test s.counted
+      ap reverse (walk_is (λ node. is_on a.PrecedingSibling (tree_node nodes n) node && is_passed axis test node)
+      (w.Children p) nodes 0 begin last axis test s.counted
       (λ k le b. absurd (omega (arith, le)))
       (λ k le b.
       ap (λ c. (are_siblings (tree_node nodes n) (tree_node nodes k) && c) && is_passed axis test (tree_node nodes k)) (to_last k last b l z)
       ∙ (and_assoc (are_siblings (tree_node nodes n) (tree_node nodes k)) (nat_le (tree_node nodes k).number last) (is_passed axis test (tree_node nodes k))
       ∙ ap (λ c. c && (nat_le (tree_node nodes k).number last && is_passed axis test (tree_node nodes k)))
-      (ap (λ c. not c && is_child_of_nearest (tree_node nodes n).above (tree_node nodes k)) plain ∙ child_of (tree_node nodes n).above p (tree_node nodes k) par)))
+      (ap (λ c. not c && is_child_of_nearest (tree_node nodes n).above (tree_node nodes k)) plain ∙
+      child_of (tree_node nodes n).above p (tree_node nodes k) par)))
       e)
       ∙ reverse-numbers (filter (λ node. is_on a.PrecedingSibling (tree_node nodes n) node && is_passed axis test node) nodes)
 
   pub attribute_alone : is_attribute (tree_node nodes n) ≡ true → [] ≡ found_on a.PrecedingSibling axis nodes n test
-  attribute_alone so = ap (λ ns. node_numbers (reverse ns)) (sym (none_from (λ node. is_on a.PrecedingSibling (tree_node nodes n) node && is_passed axis test node) 0 nodes
-      (λ k l b. ap (λ c. ((not c && is_child_of_nearest (tree_node nodes n).above (tree_node nodes k)) && is_earlier (tree_node nodes k) (tree_node nodes n)) && is_passed axis test (tree_node nodes k)) so)))
+  attribute_alone so = ap (λ ns. node_numbers (reverse ns))
+      (sym (none_from (λ node. is_on a.PrecedingSibling (tree_node nodes n) node && is_passed axis test node) 0 nodes
+      (λ k l b. ap (λ c. ((not c && is_child_of_nearest (tree_node nodes n).above (tree_node nodes k)) && is_earlier (tree_node nodes k) (tree_node nodes n)) &&
+      is_passed axis test (tree_node nodes k)) so)))
 
   pub outermost_alone : parent nodes n ≡ None → [] ≡ found_on a.PrecedingSibling axis nodes n test
-  outermost_alone e = ap (λ ns. node_numbers (reverse ns)) (sym (none_from (λ node. is_on a.PrecedingSibling (tree_node nodes n) node && is_passed axis test node) 0 nodes
-      (λ k l b. ap (λ c. ((not (is_attribute (tree_node nodes n)) && c) && is_earlier (tree_node nodes k) (tree_node nodes n)) && is_passed axis test (tree_node nodes k))
+  outermost_alone e = ap (λ ns. node_numbers (reverse ns))
+      (sym (none_from (λ node. is_on a.PrecedingSibling (tree_node nodes n) node && is_passed axis test node) 0 nodes
+      (λ k l b. ap (λ c. ((not (is_attribute (tree_node nodes n)) && c) && is_earlier (tree_node nodes k) (tree_node nodes n)) &&
+      is_passed axis test (tree_node nodes k))
       (no_child (tree_node nodes n).above (tree_node nodes k) e)
       ∙ middle_false (not (is_attribute (tree_node nodes n))) (is_earlier (tree_node nodes k) (tree_node nodes n)) (is_passed axis test (tree_node nodes k)))))

@@ -1,5 +1,6 @@
 -- Names that are looked up once.
-use Rattle.std.proofs.Common.{◌≡◌, ℕ, ◌<◌, zero, suc, Bool, true, false, ◌&&◌, List, [], ◌∷◌, length, get_or, slice_get, Option, Some, None, option_map, Result, Ok, Err, IfOk, refl, ap, sym, ◌∙◌}
+use Rattle.std.proofs.Common.{◌≡◌, ℕ, ◌<◌, zero, suc, Bool, true, false, ◌&&◌, List, [], ◌∷◌, length, get_or, slice_get, Option, Some, None, option_map, Result}
+use Rattle.std.proofs.Common.{Ok, Err, IfOk, refl, ap, sym, ◌∙◌}
 use Rattle.inv_base.specs.Tree.{Node, Name}
 use Rattle.xml_state.specs.Names.{find_name}
 use Rattle.node_arena.specs.Document.{Document, document_node, node_at}

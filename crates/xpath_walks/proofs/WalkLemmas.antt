@@ -1,11 +1,13 @@
 -- What a walk takes, step by step.
-use Rattle.std.proofs.Common.{◌≡◌, ℕ, zero, suc, ◌+◌, ◌<◌, ◌≤◌, Bool, true, false, not, cond, ◌&&◌, ⊎_elim, List, [], ◌∷◌, ◌++◌, length, drop, Option, Some, None, IfSome, SomeIff, refl, ap, sym, subst, ◌∙◌, arith, append_assoc}
+use Rattle.std.proofs.Common.{◌≡◌, ℕ, zero, suc, ◌+◌, ◌<◌, ◌≤◌, Bool, true, false, not, cond, ◌&&◌, ⊎_elim, List, [], ◌∷◌, ◌++◌, length, drop, Option, Some}
+use Rattle.std.proofs.Common.{None, IfSome, SomeIff, refl, ap, sym, subst, ◌∙◌, arith, append_assoc}
 use Rattle.std.specs.Prelude.{filter, nat_le}
 use Rattle.std.proofs.lemmas.List.{length-map, append-nil, get_or-map, drop_all, drop_more}
 use Rattle.std.proofs.lemmas.Bool.{cases_lt, and_parts, le-leb, lt-leb, eqb-true, false≢true, not-true}
 use Rattle.inv_base.specs.Tree.{Node}
 use Rattle.node_arena.specs.Document.{Document, Placed, AreNumbered, node_at, document_node}
-use Rattle.node_arena.specs.Moves.{tree_nodes, tree_node, node_of, behind, nearest, is_nearest, is_inside, is_attribute, is_child, is_attribute_of, first_that, parent, next_sibling, next_attribute}
+use Rattle.node_arena.specs.Moves.{tree_nodes, tree_node, node_of, behind, nearest, is_nearest, is_inside, is_attribute, is_child, is_attribute_of, first_that}
+use Rattle.node_arena.specs.Moves.{parent, next_sibling, next_attribute}
 use Rattle.xpath_grammar.specs.declared.step.Axis.{Axis}
 use Rattle.xpath_meaning.specs.Expressions.{NodeTest}
 use Rattle.xpath_walks.specs.declared.walk.Way.{Way}
@@ -43,7 +45,8 @@ elim_parent (m ∷ above) p f h = ap f (eqb-true m p h)
 pub next_child : (nodes : List Node) (n p : ℕ) → is_child p (tree_node nodes n) ≡ true → next_sibling nodes n ≡ first_that (is_child p) (behind n nodes)
 next_child nodes n p h =
     let parts = and_parts (is_nearest p (tree_node nodes n).above) (not (is_attribute (tree_node nodes n))) h in
-    ap (λ b. cond b None (elim (parent nodes n) [ None ↦ None | Some q ↦ first_that (is_child q) (behind n nodes) ])) (not-true (is_attribute (tree_node nodes n)) parts.1)
+    ap (λ b. cond b None (elim (parent nodes n) [ None ↦ None | Some q ↦ first_that (is_child q) (behind n nodes) ]))
+    (not-true (is_attribute (tree_node nodes n)) parts.1)
     ∙ elim_parent (tree_node nodes n).above p (λ q. first_that (is_child q) (behind n nodes)) parts.0
 
 pub next_attribute_of : (nodes : List Node) (n p : ℕ) → is_attribute_of p (tree_node nodes n) ≡ true
@@ -118,7 +121,8 @@ one_step p is_so nodes n next counted within only e =
     ∙ ap (λ ns. if_so (p (tree_node nodes n)) n ++ node_numbers ns) (from_first p is_so (n + 1) nodes next counted only e))))
 
 -- one step of a walk
-pub walked_step : (way : Way) (nodes : List Node) (last : ℕ) (axis : Axis) (test : Option NodeTest) (n : ℕ) (next : Option ℕ) → AreCounted nodes → n < length nodes
+pub walked_step : (way : Way) (nodes : List Node) (last : ℕ) (axis : Axis) (test : Option NodeTest) (n : ℕ) (next : Option ℕ) → AreCounted nodes →
+    n < length nodes
     → is_on_way way (tree_node nodes n) ≡ true → n ≤ last → next ≡ first_that (is_on_way way) (behind n nodes)
     → walked way nodes (Some n) last axis test ≡ if_so (is_taken way nodes axis test (tree_node nodes n)) n ++ walked way nodes next last axis test
 walked_step way nodes last axis test n next counted within on le e =
@@ -151,7 +155,8 @@ pub then_some : (P Q : ℕ → Type 0) (o : Option ℕ) → IfSome o P → ((n :
 then_some P Q None h f = tt
 then_some P Q (Some n) h f = f n h
 
-pub past_last : (way : Way) (nodes : List Node) (last : ℕ) (axis : Axis) (test : Option NodeTest) (n : ℕ) (next : Option ℕ) (before whole : List ℕ) → AreCounted nodes
+pub past_last : (way : Way) (nodes : List Node) (last : ℕ) (axis : Axis) (test : Option NodeTest) (n : ℕ) (next : Option ℕ) (before whole : List ℕ) →
+    AreCounted nodes
     → last < n → next ≡ Some n → before ++ walked way nodes next last axis test ≡ whole → before ≡ whole
 past_last way nodes last axis test n next before whole counted past e h =
     sym (append-nil before)

@@ -1,8 +1,10 @@
 -- Walks over the nodes of a document by its links.
-use Rattle.std.specs.Prelude.{◌≡◌, ℕ, ◌+◌, ◌*◌, ◌++◌, ◌<◌, ◌≤◌, ◌^◌, Bool, true, false, not, ◌&&◌, nat_le, List, [], ◌∷◌, length, map, filter, drop, Option, Some, None, Result, OnOk, if◌then◌else◌}
+use Rattle.std.specs.Prelude.{◌≡◌, ℕ, ◌+◌, ◌*◌, ◌++◌, ◌<◌, ◌≤◌, ◌^◌, Bool, true, false, not, ◌&&◌, nat_le, List, [], ◌∷◌, length, map, filter, drop, Option}
+use Rattle.std.specs.Prelude.{Some, None, Result, OnOk, if◌then◌else◌}
 use Rattle.inv_base.specs.Tree.{Node, Name}
 use Rattle.node_arena.specs.Document.{Document}
-use Rattle.node_arena.specs.Moves.{tree_nodes, tree_node, behind, first_that, has_name, is_attribute, is_child, is_attribute_of, is_inside, is_between, last_inside}
+use Rattle.node_arena.specs.Moves.{tree_nodes, tree_node, behind, first_that, has_name, is_attribute, is_child, is_attribute_of, is_inside, is_between}
+use Rattle.node_arena.specs.Moves.{last_inside}
 use Rattle.node_arena.specs.Walks.{LeadsOn}
 use Rattle.xpath_grammar.specs.declared.step.Axis.{Axis}
 use Rattle.xpath_meaning.specs.Expressions.{NodeTest, named}
@@ -117,7 +119,8 @@ taken_from nodes begin axis test = node_numbers (filter (is_taken w.All nodes ax
 
 -- the numbers of the nodes on the first axis that pass on the second, in the order of the first
 abbrev pub found_on : Axis → Axis → List Node → ℕ → Option NodeTest → List ℕ
-found_on axis principal nodes n test = node_numbers (in_order_of axis (filter (λ node. is_on axis (tree_node nodes n) node && is_passed principal test node) nodes))
+found_on axis principal nodes n test = node_numbers
+    (in_order_of axis (filter (λ node. is_on axis (tree_node nodes n) node && is_passed principal test node) nodes))
 
 -- the numbers of the nodes on an axis that pass, in the order of the axis
 abbrev pub found : Axis → List Node → ℕ → Option NodeTest → List ℕ

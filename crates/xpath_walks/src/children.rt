@@ -146,7 +146,8 @@ fn put_numbered(
     requires number { Some number ≡ get_or numbers.now k None }
     requires within { n < length doc.now.nodes }
     ensures { (names : List Name) → numbers.now ≡ numbers_of doc.now.names names
-        → OnOk result (out.new.items ≡ out.old.items ++ node_items (if_so (is_passed Axis.Child (test_seen names (StepTest.Named k)) (tree_node (tree_nodes doc.now) n)) n)) }
+        → OnOk result (out.new.items ≡ out.old.items ++
+        node_items (if_so (is_passed Axis.Child (test_seen names (StepTest.Named k)) (tree_node (tree_nodes doc.now) n)) n)) }
 {
     if is_numbered(doc, numbers, Axis::Child, k, number, n) {
         out.push(Item::Node(n))?;

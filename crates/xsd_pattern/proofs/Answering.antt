@@ -15,7 +15,8 @@ use Rattle.xsd_pattern.specs.Spelling.{Spells}
 use Rattle.xsd_pattern.specs.Lexing.{tokens_of}
 use Rattle.xsd_pattern.specs.Finding.{Finds}
 use Rattle.xsd_pattern.specs.Machine as m
-use Rattle.xsd_pattern.specs.Matching.{sizes, size, size_by_tokens, fault_of, fault_by_size, fault_by_test, found_unless, cores, matches, IsFault, found_by_core}
+use Rattle.xsd_pattern.specs.Matching.{sizes, size, size_by_tokens, fault_of, fault_by_size, fault_by_test, found_unless, cores, matches, IsFault}
+use Rattle.xsd_pattern.specs.Matching.{found_by_core}
 use Rattle.xsd_pattern.specs.Core.{Core, is_empty}
 use Rattle.xsd_pattern.specs.Marks.{is_in}
 use Rattle.xsd_pattern.specs.Steps.{code, has_at}

@@ -1,5 +1,6 @@
 -- What tokens are spelled as is read as those tokens.
-use Rattle.std.proofs.Common.{◌≡◌, ℕ, ◌+◌, ◌*◌, ◌-◌, ◌≤◌, ◌<◌, Bool, true, false, not, ◌||◌, List, [], ◌∷◌, ◌++◌, length, Option, Some, None, inl, inr, refl, sym, ap, subst, ◌∙◌, append_assoc, append-nil, arith, add-zero}
+use Rattle.std.proofs.Common.{◌≡◌, ℕ, ◌+◌, ◌*◌, ◌-◌, ◌≤◌, ◌<◌, Bool, true, false, not, ◌||◌, List, [], ◌∷◌, ◌++◌, length, Option, Some, None, inl, inr, refl}
+use Rattle.std.proofs.Common.{sym, ap, subst, ◌∙◌, append_assoc, append-nil, arith, add-zero}
 use Rattle.std.specs.Prelude.{if◌then◌else◌, ◌==◌}
 use Rattle.std.specs.List.{list_all}
 use Rattle.std.proofs.lemmas.Bool.{cases_Bool, and_parts, or_parts, not-true, eqb-true, ne_eqb, lt-ltb, le-leb, and_from}
@@ -13,7 +14,8 @@ use Rattle.xsd_pattern.specs.declared.token.Token.TheVariants.{Item, Quantifier,
 use Rattle.xsd_pattern.specs.declared.mode.Mode.{Mode}
 use Rattle.xsd_pattern.specs.declared.mode.Mode.TheVariants.{Between, Escaped, Bracket, Inside, Got, Dash, Escape, DashEscape, Least, Most}
 use Rattle.inv_base.specs.Characters.{is_char}
-use Rattle.xsd_pattern.specs.Classes.{is_special, is_special_inside, is_plain, is_plain_inside, is_digit, single, class_of, any_but_line_feed, escaped_one, escaped_several}
+use Rattle.xsd_pattern.specs.Classes.{is_special, is_special_inside, is_plain, is_plain_inside, is_digit, single, class_of, any_but_line_feed, escaped_one}
+use Rattle.xsd_pattern.specs.Classes.{escaped_several}
 use Rattle.xsd_pattern.specs.Spelling.{SpelledOne, SpelledMember, SpelledMembers, SpelledToken, SpelledTokens, IsNumber, value_from, caret}
 use Rattle.xsd_pattern.specs.Spelling as p
 use Rattle.xsd_pattern.specs.Lexing.{

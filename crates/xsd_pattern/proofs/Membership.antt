@@ -1,5 +1,6 @@
 -- A pattern is found where what it comes down to has the text.
-use Rattle.std.proofs.Common.{◌≡◌, ℕ, Bool, true, false, List, [], ◌∷◌, ◌++◌, Option, Some, None, length, refl, sym, ap, subst, ◌∙◌, ◌⊎◌, inl, inr, append-nil, zero, suc, arith}
+use Rattle.std.proofs.Common.{◌≡◌, ℕ, Bool, true, false, List, [], ◌∷◌, ◌++◌, Option, Some, None, length, refl, sym, ap, subst, ◌∙◌, ◌⊎◌, inl, inr, append-nil}
+use Rattle.std.proofs.Common.{zero, suc, arith}
 use Rattle.xsd_pattern.specs.declared.token.Class.{Class}
 use Rattle.xsd_pattern.specs.declared.token.Repeat.{Repeat}
 use Rattle.xsd_pattern.specs.Classes.{has, any, least, more}

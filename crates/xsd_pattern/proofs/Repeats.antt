@@ -1,5 +1,6 @@
 -- So many parts between bounds, and the operators that have them.
-use Rattle.std.proofs.Common.{◌≡◌, ℕ, suc, zero, ◌+◌, ◌≤◌, Bool, List, [], ◌∷◌, ◌++◌, length, Option, Some, None, refl, sym, ap, subst, ◌∙◌, inl, inr, arith, append_assoc, length-append}
+use Rattle.std.proofs.Common.{◌≡◌, ℕ, suc, zero, ◌+◌, ◌≤◌, Bool, List, [], ◌∷◌, ◌++◌, length, Option, Some, None, refl, sym, ap, subst, ◌∙◌, inl, inr, arith}
+use Rattle.std.proofs.Common.{append_assoc, length-append}
 use Rattle.xsd_pattern.specs.declared.token.Repeat.{Repeat}
 use Rattle.xsd_pattern.specs.Cuts.{AllIn, joined}
 use Rattle.xsd_pattern.specs.Classes.{least, more}

@@ -1,5 +1,6 @@
 -- Parts as steps stand for the texts of the patterns that they are parts of.
-use Rattle.std.proofs.Common.{◌≡◌, ℕ, zero, suc, ◌+◌, ◌≤◌, Bool, true, false, ◌&&◌, ◌||◌, List, [], ◌∷◌, ◌++◌, length, Option, Some, None, refl, sym, ap, subst, ◌∙◌, ◌⊎◌, inl, inr, append-nil, append_assoc, arith}
+use Rattle.std.proofs.Common.{◌≡◌, ℕ, zero, suc, ◌+◌, ◌≤◌, Bool, true, false, ◌&&◌, ◌||◌, List, [], ◌∷◌, ◌++◌, length, Option, Some, None, refl, sym, ap, subst}
+use Rattle.std.proofs.Common.{◌∙◌, ◌⊎◌, inl, inr, append-nil, append_assoc, arith}
 use Rattle.std.specs.Prelude.{if◌then◌else◌, ◌==◌, nat_lt, max, ◌*◌}
 use Rattle.std.proofs.Math.Nat.{mul-le-mul_left}
 use Rattle.std.proofs.lemmas.Bool.{ltb-false, ne_eqb}
@@ -15,7 +16,8 @@ use Rattle.xsd_pattern.specs.Core.{Core, Has, Run, is_empty, times, up_to}
 use Rattle.xsd_pattern.specs.Core as r
 use Rattle.xsd_pattern.specs.Matching.{repeated_size}
 use Rattle.xsd_pattern.specs.Steps.{code}
-use Rattle.xsd_pattern.specs.Parts.{part, is_nothing, large, no_part, one_part, looped, optional, all_steps, is_empty_part, with_size, with_flags, joined, followed, alternated, either_part, copies, tail_steps, copied, repeated_part, open_part}
+use Rattle.xsd_pattern.specs.Parts.{part, is_nothing, large, no_part, one_part, looped, optional, all_steps, is_empty_part, with_size, with_flags, joined}
+use Rattle.xsd_pattern.specs.Parts.{followed, alternated, either_part, copies, tail_steps, copied, repeated_part, open_part}
 use Rattle.xsd_pattern.proofs.Repeats.{all_in, all_append, joined-append, parted_map, parted-yes, parted-only}
 
 abbrev pub loop_of : Bool → Core (Option ℕ) → Core (Option ℕ)

@@ -1,5 +1,6 @@
 -- The tokens of a text, by a fold over its characters: no token's text begins another's, so nothing is looked ahead.
-use Rattle.std.specs.Prelude.{ℕ, ◌+◌, ◌*◌, ◌-◌, Bool, true, false, ◌&&◌, List, [], ◌∷◌, ◌++◌, Option, Some, None, nat_le, nat_lt, ◌==◌, if◌then◌else◌, length, ◌≡◌}
+use Rattle.std.specs.Prelude.{ℕ, ◌+◌, ◌*◌, ◌-◌, Bool, true, false, ◌&&◌, List, [], ◌∷◌, ◌++◌, Option, Some, None, nat_le, nat_lt, ◌==◌, if◌then◌else◌, length}
+use Rattle.std.specs.Prelude.{◌≡◌}
 use Rattle.xsd_pattern.specs.declared.token.Member.{Member}
 use Rattle.xsd_pattern.specs.declared.token.Member.TheVariants.{Range}
 use Rattle.xsd_pattern.specs.declared.token.Class.{Class}

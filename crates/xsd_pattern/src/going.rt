@@ -83,7 +83,8 @@ fn act(
     at: Place,
     places: &mut Places,
 ) -> Result<Place, AllocError>
-    ensures { IfOk result (λ p. (has : Option ℕ → ℕ → Bool) (c : ℕ) → new ≡ spec.marked has c step at.before at.behind → spec.stepped has c step mark later at.before at.behind places.old ≡ spec.at p.before p.behind places.new) }
+    ensures { IfOk result (λ p. (has : Option ℕ → ℕ → Bool) (c : ℕ) → new ≡ spec.marked has c step at.before at.behind →
+        spec.stepped has c step mark later at.before at.behind places.old ≡ spec.at p.before p.behind places.new) }
 {
     match step {
         Step::One(_) => Ok(Place {

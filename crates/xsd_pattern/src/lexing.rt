@@ -67,7 +67,8 @@ fn put_class(
     member: Member,
     tokens: &mut Many<Token<Class>>,
 ) -> Result<Option<Mode>, AllocError>
-    ensures { IfOk result (λ next. (next ≡ Some Mode.Between) × (tokens.new ≡ tokens.old ++ Token.Item (record { negated = negated; members = member ∷ [] }) ∷ [])) }
+    ensures { IfOk result (λ next. (next ≡ Some Mode.Between) ×
+        (tokens.new ≡ tokens.old ++ Token.Item (record { negated = negated; members = member ∷ [] }) ∷ [])) }
 {
     let class = class_of(alloc, negated, member)?;
     put(tokens, Token::Item(class))
@@ -187,7 +188,8 @@ fn at_dash(
 }
 
 fn at_escape(negated: bool, members: &mut Many<Member>, c: char) -> Result<Option<Mode>, AllocError>
-    ensures { IfOk result (λ next. (tokens : List (Token Class)) → spec.Gives (spec.escape_ended negated members.old (classes.escaped_one c) (classes.escaped_several c)) next members.new tokens tokens) }
+    ensures { IfOk result (λ next. (tokens : List (Token Class)) →
+        spec.Gives (spec.escape_ended negated members.old (classes.escaped_one c) (classes.escaped_several c)) next members.new tokens tokens) }
 {
     match escaped_one(c) {
         Some(c) => Ok(Some(Mode::Got(negated, c))),
@@ -207,7 +209,8 @@ fn at_dash_escape(
     low: char,
     c: char,
 ) -> Result<Option<Mode>, AllocError>
-    ensures { IfOk result (λ next. (tokens : List (Token Class)) → spec.Gives (spec.range_ended negated members.old low (classes.escaped_one c)) next members.new tokens tokens) }
+    ensures { IfOk result (λ next. (tokens : List (Token Class)) →
+        spec.Gives (spec.range_ended negated members.old low (classes.escaped_one c)) next members.new tokens tokens) }
 {
     match escaped_one(c) {
         Some(high) => ranged(negated, members, low, high),

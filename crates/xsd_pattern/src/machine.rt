@@ -117,7 +117,8 @@ impl State {
 
     /// Puts what stands last into the branch.
     fn settle(&mut self, alloc: Global) -> Result<(), AllocError>
-        ensures { OnOk result (seen self.new ≡ m.at self.old.lines self.old.starts self.old.frames self.old.before (m.settled parts self.old.branch self.old.last) m.nothing) }
+        ensures { OnOk result (seen self.new ≡ m.at self.old.lines self.old.starts self.old.frames self.old.before
+            (m.settled parts self.old.branch self.old.last) m.nothing) }
     {
         let last = mem::replace(&mut self.last, Last::Nothing);
         let branch = mem::replace(&mut self.branch, Part::nothing(alloc));
@@ -169,7 +170,8 @@ impl State {
 
     /// Takes the alternatives of the group that is open, or of the line.
     fn take_alternatives(&mut self, alloc: Global) -> Result<Part, AllocError>
-        ensures { IfOk result (λ part. (part ≡ m.with_branch parts self.old.before (m.settled parts self.old.branch self.old.last)) × (seen self.new ≡ m.at self.old.lines self.old.starts self.old.frames None no_part m.nothing)) }
+        ensures { IfOk result (λ part. (part ≡ m.with_branch parts self.old.before (m.settled parts self.old.branch self.old.last)) ×
+            (seen self.new ≡ m.at self.old.lines self.old.starts self.old.frames None no_part m.nothing)) }
     {
         let last = mem::replace(&mut self.last, Last::Nothing);
         let branch = mem::replace(&mut self.branch, Part::nothing(alloc));

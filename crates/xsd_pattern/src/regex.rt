@@ -47,7 +47,8 @@ pub fn parse(alloc: Global, text: &str) -> Result<Regex, PatternFault>
     ensures found { IfOk result (λ _. (p : Top Class) × Spells (chars text.now) p × (size p ≤ most_marks)) }
     ensures bad { result ≡ Err PatternFault.Bad → (p : Top Class) → Spells (chars text.now) p → ⊥ }
     ensures large { result ≡ Err PatternFault.TooLarge → (p : Top Class) × Spells (chars text.now) p × (most_marks < size p) }
-    ensures only { (p : Top Class) → Spells (chars text.now) p → (result ≡ Err PatternFault.Memory) ⊎ (((size p ≤ most_marks) × IsOk result) ⊎ ((most_marks < size p) × (result ≡ Err PatternFault.TooLarge))) }
+    ensures only { (p : Top Class) → Spells (chars text.now) p →
+        (result ≡ Err PatternFault.Memory) ⊎ (((size p ≤ most_marks) × IsOk result) ⊎ ((most_marks < size p) × (result ≡ Err PatternFault.TooLarge))) }
     ensures fault { Judges result (fault_of (chars text.now)) }
 {
     let pattern = Txt::of(alloc, text)?;

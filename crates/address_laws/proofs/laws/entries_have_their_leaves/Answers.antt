@@ -8,4 +8,5 @@ use Rattle.address_laws.proofs.laws.entries_have_their_leaves.Goals as goal
 pub returns : goal.returns
 returns c es row term e said invoice fits among outer inner k =
     among-contains (leaf_at (address_in e.context row.path) said) (entry_leaves es row)
-    (entry-leaf es invoice.numbered row term fits e (contains-among e es among) outer inner said (contains-among said (said_of_row es row e.context (last_step None row.path)) k))
+    (entry-leaf es invoice.numbered row term fits e (contains-among e es among) outer inner said
+    (contains-among said (said_of_row es row e.context (last_step None row.path)) k))

@@ -11,14 +11,16 @@ characters-init c = record { same = subject-whole (chars c.args.text.now); withi
 
 pub returns-then-not-fits_subject : goal.returns-then-not-fits_subject
 returns-then-not-fits_subject c =
-    let turn = YieldsList-turn (YieldsList-from_chars c.args.text.now c.utf8.text cc) c.characters.yielded _ c.characters.yielded_by _ _ c.in-Some.c c.in-Some.is c.next.ensures.steps in
+    let turn = YieldsList-turn (YieldsList-from_chars c.args.text.now c.utf8.text cc) c.characters.yielded _ c.characters.yielded_by _ _ c.in-Some.c
+    c.in-Some.is c.next.ensures.steps in
     let no : fits_subject c.characters.place c.in-Some.c ≡ false = sym c.fits_subject.ensures ∙ c.if-not-fits_subject.true in
     sym (ap (λ x. x && subject_from (c.characters.place + 1) (drop (length c.characters.yielded + 1) (chars c.args.text.now))) no)
     ∙ (sym (subject-turn _ _ _ c.characters.place turn) ∙ c.characters.invariant.same)
 
 pub characters-preserved : goal.characters-preserved
 characters-preserved c =
-    let turn = YieldsList-turn (YieldsList-from_chars c.args.text.now c.utf8.text cc) c.characters.yielded _ c.characters.yielded_by _ _ c.in-Some.c c.in-Some.is c.next.ensures.steps in
+    let turn = YieldsList-turn (YieldsList-from_chars c.args.text.now c.utf8.text cc) c.characters.yielded _ c.characters.yielded_by _ _ c.in-Some.c
+    c.in-Some.is c.next.ensures.steps in
     let yes : fits_subject c.characters.place c.in-Some.c ≡ true = sym c.fits_subject.ensures ∙ c.if-not-fits_subject.false in
     let bound = subject-bound c.characters.place c.in-Some.c yes in
     record {
@@ -30,5 +32,6 @@ characters-preserved c =
 
 pub returns : goal.returns
 returns c =
-    let end = YieldsList-end (YieldsList-from_chars c.args.text.now c.utf8.text cc) c.characters.yielded _ c.characters.yielded_by _ _ c.in-None.is c.next.ensures.steps in
+    let end = YieldsList-end (YieldsList-from_chars c.args.text.now c.utf8.text cc) c.characters.yielded _ c.characters.yielded_by _ _ c.in-None.is
+    c.next.ensures.steps in
     sym (subject-end (chars c.args.text.now) (length c.characters.yielded) c.characters.place (let e = end.1 in omega arith)) ∙ c.characters.invariant.same

@@ -6,4 +6,5 @@ use Rattle.bind_carrying.proofs.tables.is_word.Goals as goal
 
 pub returns : goal.returns
 returns c =
-    c.eq.ensures ∙ (same_text c.args.word.now c.args.text.now c.utf8.word c.utf8.text ∙ ap (λ x. bytes_eq x (chars c.args.text.now)) (chars-word c.args.word.now c.requires))
+    c.eq.ensures ∙ (same_text c.args.word.now c.args.text.now c.utf8.word c.utf8.text ∙
+    ap (λ x. bytes_eq x (chars c.args.text.now)) (chars-word c.args.word.now c.requires))

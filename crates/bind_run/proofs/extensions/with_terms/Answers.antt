@@ -13,4 +13,5 @@ extend-more-requires-clause-numbers c = subst (All HasSmallNumbers) (sym c.requi
 pub extend-more-requires-clause-room : goal.extend-more-requires-clause-room
 extend-more-requires-clause-room c =
     subst (λ added. HasRooms c.args.table c.args.own.now added) (sym (c.as_slice.ensures ∙ c.in_ok-added.ensures))
-    (subst (λ rows. HasRooms c.args.table rows (terms_for c.args.table c.args.terms.now)) (sym c.requires.own) (rooms-each c.args.table c.args.terms.now c.requires.fine))
+    (subst (λ rows. HasRooms c.args.table rows (terms_for c.args.table c.args.terms.now)) (sym c.requires.own)
+    (rooms-each c.args.table c.args.terms.now c.requires.fine))

@@ -7,7 +7,8 @@ use Rattle.bind_run.proofs.reading.read_document.Goals as goal
 pub returns-in-Ok-clause-reads : goal.returns-in-Ok-clause-reads
 returns-in-Ok-clause-reads c =
     let table = known-ok _ c.in-Ok.which (sym c.binding_of.ensures ∙ c.in-Ok.is) in
-    subst (λ expected. Reads expected c.read_counted.result) (sym (ap (by_root (rows_in c.args.tables.now) _ c.args.lists.now) table)) c.read_counted.ensures.reads
+    subst (λ expected. Reads expected c.read_counted.result)
+    (sym (ap (by_root (rows_in c.args.tables.now) _ c.args.lists.now) table)) c.read_counted.ensures.reads
 
 pub returns-in-Ok-clause-within : goal.returns-in-Ok-clause-within
 returns-in-Ok-clause-within c =

@@ -1,4 +1,5 @@
-use Rattle.std.proofs.Common.{◌≡◌, ◌++◌, ◌==◌, take, drop, ℕ, ◌+◌, ◌≤◌, Bool, true, false, ◌&&◌, List, [], ◌∷◌, length, arith, refl, sym, ap, ◌∙◌, subst, IfOk, Ok, Err, Result, Some, None, set}
+use Rattle.std.proofs.Common.{◌≡◌, ◌++◌, ◌==◌, take, drop, ℕ, ◌+◌, ◌≤◌, Bool, true, false, ◌&&◌, List, [], ◌∷◌, length, arith, refl, sym, ap, ◌∙◌, subst, IfOk}
+use Rattle.std.proofs.Common.{Ok, Err, Result, Some, None, set}
 use Rattle.std.specs.Prelude.{nat_lt, slice_get}
 use Rattle.std.proofs.lemmas.Bool.{eqb-true}
 use Rattle.std.proofs.lemmas.Option.{same_Some}
@@ -34,7 +35,8 @@ adds_new_in : (lines new : List Line) (from to at : ℕ) (path : List Step) (s :
     → AddsWithin path row from to more lines new
 adds_new_in lines new from to at path s steps row more path_is sp absent says front back plan cell w named =
     let P : List Step → Type 0 = λ p. (more ≡ length p) × (new ≡ take at lines ++ (chain p row ++ drop at lines)) → Adds p cell more front back plan new in
-    subst P (sym path_is) (λ h. let Q : ℕ → Type 0 = λ n. Adds (s ∷ steps) cell n front back plan new in subst Q (sym h.0) (adds_new lines to at s steps cell row front back plan new (sp front back plan w) absent named h.1)) says
+    subst P (sym path_is) (λ h. let Q : ℕ → Type 0 = λ n. Adds (s ∷ steps) cell n front back plan new in
+    subst Q (sym h.0) (adds_new lines to at s steps cell row front back plan new (sp front back plan w) absent named h.1)) says
 
 none_left : (steps : List Step) → (length steps == 0) ≡ true → steps ≡ []
 none_left [] e = refl
@@ -111,7 +113,20 @@ extend-requires t c =
 
 -- some cell of that number
 abbrev a_cell : ℕ → Cell
-a_cell n = record { number = n; row = record { path = []; leaf = leaves.Element; outer = None; inner = None; content = contents.Constant []; form = forms.Model; repeats = repeat.Once; written = write.Never; check = checks.Nothing } }
+a_cell n = record {
+  number = n;
+  row = record {
+    path = [];
+    leaf = leaves.Element;
+    outer = None;
+    inner = None;
+    content = contents.Constant [];
+    form = forms.Model;
+    repeats = repeat.Once;
+    written = write.Never;
+    check = checks.Nothing;
+  };
+}
 
 -- what the lines inside it are, once the row is there
 adds_deeper : (t : ℕ) (c : goal.After-enlarge-arg-1 t) (front back : List Line) (plan : Plan) (cell : Cell)
@@ -130,8 +145,10 @@ inside_line_fits : (lines : List Line) (to at : ℕ) (s : Step) (steps : List St
     → (slice_get inner at ≡ Some st.line) × (at + (1 + (st.line.size + more)) ≤ length inner)
 inside_line_fits lines to at s steps cell more front back plan inner st m a =
     let P : List Step → Type 0 = λ p. Adds p cell more ((front ++ flat st.passed) ++ (st.line ∷ [])) (flat st.rest ++ back) st.inside inner in
-    let b = subst P m.is a in
-    (inner_got lines to at s m.first m.others cell more front back plan inner st b, inner_room lines to at s m.first m.others cell more front back plan inner st b)
+    let b = subst P m.is a in (
+      inner_got lines to at s m.first m.others cell more front back plan inner st b,
+      inner_room lines to at s m.first m.others cell more front back plan inner st b,
+    )
 
 adds_inside_in : (lines : List Line) (to at : ℕ) (s : Step) (steps : List Step) (cell : Cell) (more : ℕ) (front back : List Line) (plan : Plan)
     (inner new : List Line) → (st : Stands lines to at s front back plan) → More steps

@@ -24,20 +24,24 @@ moved items rest first old new e f =
     ap (λ l. flat_map entries_of rest ++ reverse l) f
     ∙ (ap (λ l. flat_map entries_of rest ++ l) (reverse-append old (entries_of first) ∙ ap (λ l. l ++ reverse old) (one first.value first.context first.term))
     ∙ (sym (append_assoc (flat_map entries_of rest) (entries_of first) (reverse old))
-    ∙ ap (λ l. l ++ reverse old) (ap (λ l. flat_map entries_of rest ++ l) (sym (append-nil (entries_of first))) ∙ (sym (flat_map-append entries_of rest (first ∷ [])) ∙ ap (flat_map entries_of) (sym e)))))
+    ∙ ap (λ l. l ++ reverse old) (ap (λ l. flat_map entries_of rest ++ l) (sym (append-nil (entries_of first))) ∙
+    (sym (flat_map-append entries_of rest (first ∷ [])) ∙ ap (flat_map entries_of) (sym e)))))
 
-ends : (items firsts : List First) (entries : List Entry) (len : ℕ) → len ≡ 0 → len ≡ length items → flat_map entries_of items ++ reverse entries ≡ flat_map entries_of firsts
+ends : (items firsts : List First) (entries : List Entry) (len : ℕ) → len ≡ 0 → len ≡ length items → flat_map entries_of items ++
+    reverse entries ≡ flat_map entries_of firsts
     → reverse entries ≡ flat_map entries_of firsts
 ends [] firsts entries len e l h = h
 ends (f ∷ items) firsts entries len e l h = absurd (omega (arith, e, l))
 
 pub firsts-init : goal.firsts-init
-firsts-init c = ap (λ l. flat_map entries_of c.args.firsts.items ++ reverse l) c.new-entries.ensures.items ∙ append-nil (flat_map entries_of c.args.firsts.items)
+firsts-init c = ap (λ l. flat_map entries_of c.args.firsts.items ++ reverse l) c.new-entries.ensures.items ∙
+    append-nil (flat_map entries_of c.args.firsts.items)
 
 pub firsts-preserved : goal.firsts-preserved
 firsts-preserved c =
     ap (λ l. flat_map entries_of l ++ reverse c.push_first.new.entries.items) c.give_back.ensures.items
-    ∙ (moved c.firsts.rest.items c.pop.new.self.items c.in-Some.first c.firsts.entries.items c.push_first.new.entries.items c.in-Some.ensures.items c.in_ok-push_first.ensures
+    ∙ (moved c.firsts.rest.items c.pop.new.self.items c.in-Some.first c.firsts.entries.items c.push_first.new.entries.items c.in-Some.ensures.items
+    c.in_ok-push_first.ensures
     ∙ c.firsts.invariant)
 
 pub returns : goal.returns

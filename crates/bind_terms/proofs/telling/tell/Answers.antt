@@ -9,5 +9,6 @@ pub returns : goal.returns
 returns g c =
     on_ok_weaker c.put_cause.result
     (λ put. tells-one _ _ _ _ _ c.args.said _ _ _ _ _ _ _ _ c.context_of-context.ensures c.row_in-listed.ensures
-    (c.get-first.ensures ∙ ap (λ place. kept_at place c.args.firsts.now.entries) c.place_at-place.ensures) c.in_ok-kind.ensures c.in_ok-put_first.ensures.entries
+    (c.get-first.ensures ∙ ap (λ place. kept_at place c.args.firsts.now.entries) c.place_at-place.ensures) c.in_ok-kind.ensures
+    c.in_ok-put_first.ensures.entries
     c.in_ok-put_first.ensures.look_up put) c.put_cause.ensures

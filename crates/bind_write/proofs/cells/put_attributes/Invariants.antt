@@ -7,7 +7,9 @@ use Rattle.bind_write.proofs.cells.put_attributes.Given as goal
 
 abbrev pub invariant-rows : goal.invariant-rows
 invariant-rows g l = record {
-  ahead : Ahead (g.W.Writer.view l.initial.pen) (g.K.Sink.view l.initial.out) (flat_map (attribute_calls l.source.rows.now l.source.entries.now l.source.context) l.numbers)
-      (g.W.Writer.view l.pen) (g.K.Sink.view l.out) (flat_map (attribute_calls l.source.rows.now l.source.entries.now l.source.context) (drop l.number-index l.numbers));
+  ahead : Ahead (g.W.Writer.view l.initial.pen) (g.K.Sink.view l.initial.out)
+      (flat_map (attribute_calls l.source.rows.now l.source.entries.now l.source.context) l.numbers)
+      (g.W.Writer.view l.pen) (g.K.Sink.view l.out) (flat_map (attribute_calls l.source.rows.now l.source.entries.now l.source.context)
+      (drop l.number-index l.numbers));
   state : state_of (g.W.Writer.view l.pen) ≡ InsideTag;
 }

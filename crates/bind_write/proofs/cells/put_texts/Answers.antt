@@ -3,7 +3,8 @@ use Rattle.bind_write.proofs.cells.put_texts.Goals as goal
 
 pub returns-in_err-put_text-clause-makes : goal.returns-in_err-put_text-clause-makes
 returns-in_err-put_text-clause-makes g c =
-    text-loop-err _ _ _ _ _ _ _ _ _ _ _ c.as_slice-numbers.ensures c.rows-test.true c.rows.invariant.ahead c.in_err-put_text.ensures.makes c.from_residual.ensures.0
+    text-loop-err _ _ _ _ _ _ _ _ _ _ _ c.as_slice-numbers.ensures c.rows-test.true c.rows.invariant.ahead c.in_err-put_text.ensures.makes
+    c.from_residual.ensures.0
 
 pub rows-preserved : goal.rows-preserved
 rows-preserved g c = record {

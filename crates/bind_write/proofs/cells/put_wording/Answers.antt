@@ -11,5 +11,6 @@ same_call a b c d e f = ap (λ x. call_attribute x c ∷ []) e ∙ ap (λ x. cal
 pub returns-clause-makes : goal.returns-clause-makes
 returns-clause-makes g c =
     Makes-same _ _ _ _ _ _ _
-    (same_call _ _ _ _ (text-bytes _ _ c.as_str.utf8 c.as_str.ensures) (text-bytes _ _ c.text_of.utf8 (c.text_of.ensures ∙ plain-note _ _ (ap option_copied c.requires.plain))))
+    (same_call _ _ _ _ (text-bytes _ _ c.as_str.utf8 c.as_str.ensures)
+    (text-bytes _ _ c.text_of.utf8 (c.text_of.ensures ∙ plain-note _ _ (ap option_copied c.requires.plain))))
     c.attribute.ensures.makes

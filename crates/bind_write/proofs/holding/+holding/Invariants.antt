@@ -11,7 +11,8 @@ abbrev pub invariant-holds-lines : goal.invariant-holds-lines
 invariant-holds-lines l = record {
   lines : AreLines l.rest;
   same : (plan : Plan) → IsPlanOf l.source.rows.now l.fn.lines plan
-      → (left : Plan) × IsPlanOf l.source.rows.now l.rest left × (trees.holds l.source.entries.now plan l.source.context ≡ trees.holds l.source.entries.now left l.source.context);
+      → (left : Plan) × IsPlanOf l.source.rows.now l.rest left ×
+      (trees.holds l.source.entries.now plan l.source.context ≡ trees.holds l.source.entries.now left l.source.context);
   fewer : length l.rest ≤ length l.fn.lines;
 }
 

@@ -15,4 +15,5 @@ pub returns-else-is_none-clause-same : goal.returns-else-is_none-clause-same
 returns-else-is_none-clause-same c =
     let P : List Entry → Type 0 = λ es. HasSameValues c.args.source.now.entries.now es c.args.context in
     subst P (sym c.requires.source.run)
-    (run_values c.args.source.now.entries.now c.args.source.now.context c.args.context (same_outer _ _ _ c.is_none.ensures c.if-is_none.false c.requires.context.outer))
+    (run_values c.args.source.now.entries.now c.args.source.now.context c.args.context
+    (same_outer _ _ _ c.is_none.ensures c.if-is_none.false c.requires.context.outer))

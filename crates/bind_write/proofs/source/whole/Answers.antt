@@ -8,5 +8,11 @@ returns c = record {
   rows_are = refl;
   entries_are = refl;
   context_is = refl;
-  source = record { order = c.requires.order; run = whole_run c.args.entries.now; known = known-any _ c.of_any.ensures c.args.entries.now; notes = c.requires.notes };
+  source = record {
+    order = c.requires.order;
+    run = whole_run c.args.entries.now;
+    known = known-any _ c.of_any.ensures c.args.entries.now;
+    notes =
+        c.requires.notes;
+  };
 }

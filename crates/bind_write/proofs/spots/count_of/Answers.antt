@@ -7,4 +7,5 @@ returns-in-None c = c.last_outer.ensures ∙ count-none c.args.source.now.entrie
 
 pub returns-in-Some : goal.returns-in-Some
 returns-in-Some c =
-    c.last_inner.ensures ∙ count-some c.args.source.now.entries.now c.args.source.now.run.now c.args.source.now.context _ c.args.group c.in-Some.is c.requires.run
+    c.last_inner.ensures ∙ count-some c.args.source.now.entries.now c.args.source.now.run.now c.args.source.now.context _ c.args.group c.in-Some.is
+    c.requires.run

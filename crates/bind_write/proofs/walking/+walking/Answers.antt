@@ -12,20 +12,23 @@ use Rattle.bind_write.proofs.walking.+walking.Goals as goal
 pub put_element-returns-in_err-put_start-in-Some-clause-makes : goal.put_element-returns-in_err-put_start-in-Some-clause-makes
 put_element-returns-in_err-put_start-in-Some-clause-makes g t c cells plan h =
     let es = c.args.source.now.entries.now in
-    Makes-same _ _ _ _ _ _ _ (element-some c.args.source.now.rows.now es c.args.line.now c.args.inside.now cells plan c.args.held c.in-Some.further c.args.source.now.context h (sym (c.in-Some.ensures cells plan h)))
+    Makes-same _ _ _ _ _ _ _ (element-some c.args.source.now.rows.now es c.args.line.now c.args.inside.now cells plan c.args.held c.in-Some.further
+    c.args.source.now.context h (sym (c.in-Some.ensures cells plan h)))
     (Makes-at_err _ _ _ _ _ _ c.from_residual.ensures.0 (break _ _ _ _ _ _ _ _ c.in_err-put_start-in-Some.ensures.makes (begin _ _ _)))
 
 pub put_element-returns-in_err-put_cells-in-Some-clause-makes : goal.put_element-returns-in_err-put_cells-in-Some-clause-makes
 put_element-returns-in_err-put_cells-in-Some-clause-makes g t c cells plan h =
     let es = c.args.source.now.entries.now in
-    Makes-same _ _ _ _ _ _ _ (element-some c.args.source.now.rows.now es c.args.line.now c.args.inside.now cells plan c.args.held c.in-Some.further c.args.source.now.context h (sym (c.in-Some.ensures cells plan h)))
+    Makes-same _ _ _ _ _ _ _ (element-some c.args.source.now.rows.now es c.args.line.now c.args.inside.now cells plan c.args.held c.in-Some.further
+    c.args.source.now.context h (sym (c.in-Some.ensures cells plan h)))
     (Makes-at_err _ _ _ _ _ _ c.from_residual-in_err-put_cells-in-Some.ensures.0
     (break _ _ _ _ _ _ _ _ c.in_err-put_cells-in-Some.ensures.makes (step _ _ _ _ _ _ _ _ _ c.in_ok-put_start-in-Some.ensures.makes (begin _ _ _))))
 
 pub put_element-returns-in_err-put_lines-in-Some-clause-makes : goal.put_element-returns-in_err-put_lines-in-Some-clause-makes
 put_element-returns-in_err-put_lines-in-Some-clause-makes g t c cells plan h =
     let es = c.args.source.now.entries.now in
-    Makes-same _ _ _ _ _ _ _ (element-some c.args.source.now.rows.now es c.args.line.now c.args.inside.now cells plan c.args.held c.in-Some.further c.args.source.now.context h (sym (c.in-Some.ensures cells plan h)))
+    Makes-same _ _ _ _ _ _ _ (element-some c.args.source.now.rows.now es c.args.line.now c.args.inside.now cells plan c.args.held c.in-Some.further
+    c.args.source.now.context h (sym (c.in-Some.ensures cells plan h)))
     (Makes-at_err _ _ _ _ _ _ c.from_residual-in_err-put_lines-in-Some.ensures.0
     (break _ _ _ _ _ _ _ _ (c.in_err-put_lines-in-Some.ensures.makes plan h.inside_is)
     (step _ _ _ _ _ _ _ _ _ c.in_ok-put_cells-in-Some.ensures.makes (step _ _ _ _ _ _ _ _ _ c.in_ok-put_start-in-Some.ensures.makes (begin _ _ _)))))
@@ -33,7 +36,8 @@ put_element-returns-in_err-put_lines-in-Some-clause-makes g t c cells plan h =
 pub put_element-returns-in_ok-put_lines-in-Some-clause-makes : goal.put_element-returns-in_ok-put_lines-in-Some-clause-makes
 put_element-returns-in_ok-put_lines-in-Some-clause-makes g t c cells plan h =
     let es = c.args.source.now.entries.now in
-    Makes-same _ _ _ _ _ _ _ (element-some c.args.source.now.rows.now es c.args.line.now c.args.inside.now cells plan c.args.held c.in-Some.further c.args.source.now.context h (sym (c.in-Some.ensures cells plan h)))
+    Makes-same _ _ _ _ _ _ _ (element-some c.args.source.now.rows.now es c.args.line.now c.args.inside.now cells plan c.args.held c.in-Some.further
+    c.args.source.now.context h (sym (c.in-Some.ensures cells plan h)))
     (last _ _ _ _ _ _ _ _ _ c.put_end.ensures.makes
     (step _ _ _ _ _ _ _ _ _ (c.in_ok-put_lines-in-Some.ensures.makes plan h.inside_is)
     (step _ _ _ _ _ _ _ _ _ c.in_ok-put_cells-in-Some.ensures.makes (step _ _ _ _ _ _ _ _ _ c.in_ok-put_start-in-Some.ensures.makes (begin _ _ _)))))
@@ -89,7 +93,8 @@ put_lines-returns-in_err-put_line-clause-makes g t c plan h =
     let a = c.lines.invariant.ahead plan h in
     let o = opened _ _ _ _ _ _ a.0 c.in-Some.ensures.cases.0 c.split_at.ensures.front c.split_at.ensures.back a.1 in
     Makes-at_err _ _ _ _ _ _ c.from_residual.ensures.0
-    (break _ _ _ _ _ _ _ (plan_calls c.args.source.now.entries.now o.rest c.args.held c.args.source.now.context) (c.in_err-put_line.ensures.makes o.cells o.within o.line_is)
+    (break _ _ _ _ _ _ _ (plan_calls c.args.source.now.entries.now o.rest c.args.held c.args.source.now.context)
+    (c.in_err-put_line.ensures.makes o.cells o.within o.line_is)
     (same_left _ _ _ _ _ _ _ (ap (λ p. plan_calls c.args.source.now.entries.now p c.args.held c.args.source.now.context) o.plan_is) a.2))
 
 pub put_lines-lines-preserved : goal.put_lines-lines-preserved
@@ -107,7 +112,8 @@ put_lines-lines-preserved g t c =
           let o = opened _ _ _ _ _ _ a.0 c.in-Some.ensures.cases.0 c.split_at.ensures.front c.split_at.ensures.back a.1 in (
             o.rest,
             o.rest_is,
-            step _ _ _ _ _ _ _ _ (plan_calls c.args.source.now.entries.now o.rest c.args.held c.args.source.now.context) (c.in_ok-put_line.ensures.makes o.cells o.within o.line_is)
+            step _ _ _ _ _ _ _ _ (plan_calls c.args.source.now.entries.now o.rest c.args.held c.args.source.now.context)
+                (c.in_ok-put_line.ensures.makes o.cells o.within o.line_is)
                 (same_left _ _ _ _ _ _ _ (ap (λ p. plan_calls c.args.source.now.entries.now p c.args.held c.args.source.now.context) o.plan_is) a.2),
           );
     }
@@ -116,4 +122,5 @@ pub put_lines-returns-clause-makes : goal.put_lines-returns-clause-makes
 put_lines-returns-clause-makes g t c plan h =
     let a = c.lines.invariant.ahead plan h in
     end _ _ _ _ _
-    (same_left _ _ _ _ _ _ _ (ap (λ p. plan_calls c.args.source.now.entries.now p c.args.held c.args.source.now.context) (no_lines _ _ a.0 (nothing_left _ c.in_default.ensures.cases) a.1)) a.2)
+    (same_left _ _ _ _ _ _ _ (ap (λ p. plan_calls c.args.source.now.entries.now p c.args.held c.args.source.now.context)
+    (no_lines _ _ a.0 (nothing_left _ c.in_default.ensures.cases) a.1)) a.2)

@@ -14,27 +14,34 @@ is_chain : (code : List ℕ) → written_among images code ≡ chain (bytes_eq (
 is_chain code = refl
 
 -- what a test of the code's text says of the code
-tested : (word text code : List ℕ) (r b : Bool) → chars word ≡ word → chars text ≡ code → r ≡ bytes_eq (chars word) (chars text) → r ≡ b → bytes_eq word code ≡ b
+tested : (word text code : List ℕ) (r b : Bool) → chars word ≡ word → chars text ≡ code → r ≡ bytes_eq (chars word) (chars text) → r ≡ b →
+    bytes_eq word code ≡ b
 tested word text code r b w t e v = ap (bytes_eq word) (sym t) ∙ (ap (λ x. bytes_eq x (chars text)) (sym w) ∙ (sym e ∙ v))
 
 first : (code : List ℕ) → bytes_eq (codes "3") code ≡ true → codes "5" ≡ written_among images code
 first code a = ap (λ x. chain x (bytes_eq (codes "35") code) (bytes_eq (codes "432") code) code) (sym a)
 
 second : (code : List ℕ) → bytes_eq (codes "3") code ≡ false → bytes_eq (codes "35") code ≡ true → codes "29" ≡ written_among images code
-second code a b = ap (λ x. chain false x (bytes_eq (codes "432") code) code) (sym b) ∙ ap (λ x. chain x (bytes_eq (codes "35") code) (bytes_eq (codes "432") code) code) (sym a)
+second code a b = ap (λ x. chain false x (bytes_eq (codes "432") code) code) (sym b) ∙
+    ap (λ x. chain x (bytes_eq (codes "35") code) (bytes_eq (codes "432") code) code) (sym a)
 
-third : (code : List ℕ) → bytes_eq (codes "3") code ≡ false → bytes_eq (codes "35") code ≡ false → bytes_eq (codes "432") code ≡ true → codes "72" ≡ written_among images code
+third : (code : List ℕ) → bytes_eq (codes "3") code ≡ false → bytes_eq (codes "35") code ≡ false → bytes_eq (codes "432") code ≡ true →
+    codes "72" ≡ written_among images code
 third code a b c =
     ap (λ x. chain false false x code) (sym c)
-    ∙ (ap (λ x. chain false x (bytes_eq (codes "432") code) code) (sym b) ∙ ap (λ x. chain x (bytes_eq (codes "35") code) (bytes_eq (codes "432") code) code) (sym a))
+    ∙ (ap (λ x. chain false x (bytes_eq (codes "432") code) code) (sym b) ∙ ap (λ x. chain x (bytes_eq (codes "35") code) (bytes_eq (codes "432") code) code)
+    (sym a))
 
-none : (code : List ℕ) → bytes_eq (codes "3") code ≡ false → bytes_eq (codes "35") code ≡ false → bytes_eq (codes "432") code ≡ false → code ≡ written_among images code
+none : (code : List ℕ) → bytes_eq (codes "3") code ≡ false → bytes_eq (codes "35") code ≡ false → bytes_eq (codes "432") code ≡ false →
+    code ≡ written_among images code
 none code a b c =
     ap (λ x. chain false false x code) (sym c)
-    ∙ (ap (λ x. chain false x (bytes_eq (codes "432") code) code) (sym b) ∙ ap (λ x. chain x (bytes_eq (codes "35") code) (bytes_eq (codes "432") code) code) (sym a))
+    ∙ (ap (λ x. chain false x (bytes_eq (codes "432") code) code) (sym b) ∙ ap (λ x. chain x (bytes_eq (codes "35") code) (bytes_eq (codes "432") code) code)
+    (sym a))
 
 pub returns-then-is_word : goal.returns-then-is_word
-returns-then-is_word c = first (spelled c.args.value.now) (tested _ _ _ _ _ (chars-word (codes "3") refl) c.text-code.ensures c.is_word.ensures c.if-is_word.true)
+returns-then-is_word c = first (spelled c.args.value.now)
+    (tested _ _ _ _ _ (chars-word (codes "3") refl) c.text-code.ensures c.is_word.ensures c.if-is_word.true)
 
 pub returns-then-is_word-2 : goal.returns-then-is_word-2
 returns-then-is_word-2 c =

@@ -1,4 +1,5 @@
-use Rattle.binding_laws.proofs.Counts.{terms-invoice, plain-invoice, attributes-invoice, terms-credit_note, plain-credit_note, attributes-credit_note, terms-cii, plain-cii, attributes-cii}
+use Rattle.binding_laws.proofs.Counts.{terms-invoice, plain-invoice, attributes-invoice, terms-credit_note, plain-credit_note, attributes-credit_note}
+use Rattle.binding_laws.proofs.Counts.{terms-cii, plain-cii, attributes-cii}
 use Rattle.binding_laws.proofs.laws.tables_have_plain_rows.Goals as goal
 
 pub returns-clause-invoice : goal.returns-clause-invoice

@@ -1,4 +1,6 @@
-use Rattle.binding_laws.proofs.Leaves.{covered-invoice, settled-invoice, faultless-invoice, left-invoice, covered-credit_note, settled-credit_note, faultless-credit_note, left-credit_note, covered-cii, settled-cii, faultless-cii, left-cii, unlike-invoice, unlike-credit_note, together-invoice, together-credit_note, asked-cii}
+use Rattle.binding_laws.proofs.Leaves.{covered-invoice, settled-invoice, faultless-invoice, left-invoice, covered-credit_note, settled-credit_note}
+use Rattle.binding_laws.proofs.Leaves.{faultless-credit_note, left-credit_note, covered-cii, settled-cii, faultless-cii, left-cii, unlike-invoice}
+use Rattle.binding_laws.proofs.Leaves.{unlike-credit_note, together-invoice, together-credit_note, asked-cii}
 use Rattle.binding_laws.proofs.laws.tables_leave_terms_out.Goals as goal
 
 pub returns-clause-invoice : goal.returns-clause-invoice

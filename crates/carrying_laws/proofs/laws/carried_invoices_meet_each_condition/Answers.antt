@@ -1,5 +1,6 @@
 use Rattle.binding_laws.proofs.PlacedLemmas.{contains-among}
-use Rattle.carrying_laws.proofs.ConditionLemmas.{carried-keeps, carried-entries, entries-keep, row-kept, part-kept, creditor-kept, filler-kept, note-kept, code-kept, means-kept, currency-kept}
+use Rattle.carrying_laws.proofs.ConditionLemmas.{carried-keeps, carried-entries, entries-keep, row-kept, part-kept, creditor-kept, filler-kept, note-kept}
+use Rattle.carrying_laws.proofs.ConditionLemmas.{code-kept, means-kept, currency-kept}
 use Rattle.carrying_laws.proofs.TableLemmas.{tables-keep}
 use Rattle.carrying_laws.proofs.laws.carried_invoices_meet_each_condition.Goals as goal
 

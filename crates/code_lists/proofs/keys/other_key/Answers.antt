@@ -7,7 +7,8 @@ pub returns-then-not-is_among-clause-first : goal.returns-then-not-is_among-clau
 returns-then-not-is_among-clause-first c =
     let (can, finite, same) = c.keys.invariant in
     key-found _ c.args.table.now.entries c.keys-key-items.ensures.ordered c.keys.key-iterator same c.in-Some.key.now c.next.new.self c.as_str.result.now
-    c.as_str-then-not-is_among.result.now c.in-Some.ensures.steps c.as_str.ensures.value (ap not (sym c.if-not-is_among.ensures)) c.as_str-then-not-is_among.ensures.value
+    c.as_str-then-not-is_among.result.now c.in-Some.ensures.steps c.as_str.ensures.value
+    (ap not (sym c.if-not-is_among.ensures)) c.as_str-then-not-is_among.ensures.value
 
 pub keys-preserved : goal.keys-preserved
 keys-preserved c =

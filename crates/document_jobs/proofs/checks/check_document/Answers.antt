@@ -10,5 +10,6 @@ pub returns : goal.returns
 returns g c =
     let asked = c.args.asked.now in
     check_reported asked.svrl asked.file.now (map chosen_of c.args.chosen.now) (g.S.Shelf.view c.args.shelf.now) (g.S.Shelf.view c.load_document.new.shelf)
-    (g.O.Sink.view c.args.out.now) (g.O.Sink.view c.report.new.out) (g.E.Sink.view c.args.err.now) (g.E.Sink.view c.load_document.new.err) c.report.result c.in-Ok.doc
+    (g.O.Sink.view c.args.out.now) (g.O.Sink.view c.report.new.out) (g.E.Sink.view c.args.err.now)
+    (g.E.Sink.view c.load_document.new.err) c.report.result c.in-Ok.doc
     c.in-Ok.ensures.read c.in-Ok.ensures.quiet c.in-Ok.ensures.loaded c.report.ensures

@@ -10,7 +10,8 @@ pub files-preserved : goal.files-preserved
 files-preserved g c =
     c.in_ok-push.ensures.items
     ∙ (ap (λ found. found ++ c.in_ok-judge.field-0 ∷ []) c.files.invariant
-    ∙ found_more (tree_nodes c.args.doc.now) c.args.chosen.now c.files.file-index c.file-item.result c.in_ok-judge.field-0 c.files-test.true c.file-item.is c.in_ok-judge.ensures)
+    ∙ found_more (tree_nodes c.args.doc.now) c.args.chosen.now c.files.file-index c.file-item.result c.in_ok-judge.field-0 c.files-test.true c.file-item.is
+    c.in_ok-judge.ensures)
 
 pub judge-requires : goal.judge-requires
 judge-requires g c = came_at c.args.chosen.now c.files.file-index c.file-item.result c.files-test.true c.file-item.is c.requires

@@ -10,5 +10,6 @@ returns-then-is_memory g c =
 
 pub returns : goal.returns
 returns g c =
-    subst (λ b. IsRefusalBy b c.args.name.now c.args.library.now c.args.fault.now statuses.RulesRefused (g.E.Sink.view c.args.err.now) (g.E.Sink.view c.tell_at_home.new.err))
+    subst (λ b. IsRefusalBy b c.args.name.now c.args.library.now c.args.fault.now statuses.RulesRefused (g.E.Sink.view c.args.err.now)
+    (g.E.Sink.view c.tell_at_home.new.err))
     (sym c.if-is_memory.false ∙ c.is_memory.ensures) (refl, c.tell_at_home.ensures)

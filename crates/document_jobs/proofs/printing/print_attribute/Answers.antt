@@ -6,6 +6,8 @@ use Rattle.document_jobs.proofs.printing.print_attribute.Goals as goal
 
 pub returns : goal.returns
 returns g c =
-    Prints-same _ _ _ _ _ _ (attribute_line-bytes c.args.doc.now.names (node_at c.args.doc.now.nodes c.args.at.now.node) _ (deep c.args.doc.now c.args.at.now c.requires) _ _ c.name.ensures.value c.text.ensures)
-    (Prints-append _ _ _ _ _ _ _ _ c.print_indent.ensures (Prints-append (0x40 ∷ []) _ _ _ _ _ _ _ c.put.ensures (Prints-append _ _ _ _ _ _ _ _ c.print_name.ensures
+    Prints-same _ _ _ _ _ _ (attribute_line-bytes c.args.doc.now.names (node_at c.args.doc.now.nodes c.args.at.now.node) _
+    (deep c.args.doc.now c.args.at.now c.requires) _ _ c.name.ensures.value c.text.ensures)
+    (Prints-append _ _ _ _ _ _ _ _ c.print_indent.ensures
+    (Prints-append (0x40 ∷ []) _ _ _ _ _ _ _ c.put.ensures (Prints-append _ _ _ _ _ _ _ _ c.print_name.ensures
     (Prints-append (0x3D ∷ []) _ _ _ _ _ _ _ c.put-2.ensures (Prints-append _ (0xA ∷ []) _ _ _ _ _ _ c.put_quoted.ensures c.put-3.ensures)))))

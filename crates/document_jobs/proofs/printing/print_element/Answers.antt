@@ -6,5 +6,6 @@ use Rattle.document_jobs.proofs.printing.print_element.Goals as goal
 
 pub returns : goal.returns
 returns g c =
-    Prints-same _ _ _ _ _ _ (element_line-bytes c.args.doc.now.names (node_at c.args.doc.now.nodes c.args.at.now.node) _ (deep c.args.doc.now c.args.at.now c.requires) _ c.name.ensures.value)
+    Prints-same _ _ _ _ _ _ (element_line-bytes c.args.doc.now.names (node_at c.args.doc.now.nodes c.args.at.now.node) _
+    (deep c.args.doc.now c.args.at.now c.requires) _ c.name.ensures.value)
     (Prints-append _ _ _ _ _ _ _ _ c.print_indent.ensures (Prints-append _ (0xA ∷ []) _ _ _ _ _ _ c.print_name.ensures c.put.ensures))

@@ -18,5 +18,6 @@ levels-preserved g c =
     let levels : spaces (so_far + some) ≡ spaces (c.args.level - 1 - (c.levels.rest - some)) = ap spaces (omega arith) in
     record {
       within = omega arith;
-      printed = Prints-same _ _ _ _ _ _ (spaces_more so_far some ∙ levels) (Prints-append (spaces so_far) (spaces some) _ _ _ _ _ _ c.levels.invariant.printed put);
+      printed = Prints-same _ _ _ _ _ _ (spaces_more so_far some ∙ levels)
+          (Prints-append (spaces so_far) (spaces some) _ _ _ _ _ _ c.levels.invariant.printed put);
     }

@@ -12,4 +12,5 @@ returns-in-Some g c =
     let uri = c.uri.ensures ∙ ap (λ (names : List Name). (name_at names c.in-Some.id).uri) c.names.ensures in
     let local = c.local.ensures ∙ ap (λ (names : List Name). (name_at names c.in-Some.id).local) c.names-in-Some.ensures in
     let named = encode-name c.args.doc.now.names c.in-Some.id _ _ uri local c.local.utf8 in
-    rw c.in-Some.is (Prints-same _ _ _ _ _ _ (ap (λ x. encode_utf8_all (braced (chars c.uri.result.now)) ++ x) c.as_bytes.ensures.value ∙ named) (Prints-append _ _ _ _ _ _ _ _ c.print_uri.ensures c.put.ensures))
+    rw c.in-Some.is (Prints-same _ _ _ _ _ _ (ap (λ x. encode_utf8_all (braced (chars c.uri.result.now)) ++ x) c.as_bytes.ensures.value ∙ named)
+    (Prints-append _ _ _ _ _ _ _ _ c.print_uri.ensures c.put.ensures))

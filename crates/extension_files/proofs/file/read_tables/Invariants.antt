@@ -6,5 +6,6 @@ use Rattle.extension_files.proofs.file.read_tables.Given as goal
 
 abbrev pub invariant-tables : goal.invariant-tables
 invariant-tables l =
-    (behind l.terms (spec.terms_from l.before (length l.terms + 1) (items_view (drop l.table-index l.table-items))) ≡ spec.terms_from 0 1 (items_view l.table-items))
+    (behind l.terms (spec.terms_from l.before (length l.terms + 1) (items_view (drop l.table-index l.table-items))) ≡ spec.terms_from 0 1
+    (items_view l.table-items))
     × ((length l.terms ≤ l.before) × (l.before ≤ 99))

@@ -11,4 +11,8 @@ returns-then-is_accepted-clause-handed g c =
 
 pub returns-else-is_accepted-clause-handed : goal.returns-else-is_accepted-clause-handed
 returns-else-is_accepted-clause-handed g c =
-    inr (inr (subst (λ b. MatchBool b (IsAccepted c.args.status) (IsAccepted c.args.status → ⊥)) c.if-is_accepted.false c.is_accepted.ensures, refl, c.give_up.ensures.front))
+    inr (inr (
+      subst (λ b. MatchBool b (IsAccepted c.args.status) (IsAccepted c.args.status → ⊥)) c.if-is_accepted.false c.is_accepted.ensures,
+      refl,
+      c.give_up.ensures.front,
+    ))

@@ -7,7 +7,8 @@ use Rattle.held_rules.proofs.ready.ready_rules.Goals as goal
 pub returns-in-Ok-Some-clause-said : goal.returns-in-Ok-Some-clause-said
 unfolding ready_in
 returns-in-Ok-Some-clause-said c =
-    subst (λ rules. IfOk c.by_default.result (λ ready. option_map seen_ready ready ≡ by_default rules)) ((rw c.in-Ok-Some.field-0-is at c.in-Ok-Some.ensures) ∙ ap rules_in c.in_ok-doc.ensures) c.by_default.ensures.said
+    subst (λ rules. IfOk c.by_default.result (λ ready. option_map seen_ready ready ≡ by_default rules)) ((rw c.in-Ok-Some.field-0-is at c.in-Ok-Some.ensures) ∙
+    ap rules_in c.in_ok-doc.ensures) c.by_default.ensures.said
 
 pub returns-in-Ok-None-clause-said : goal.returns-in-Ok-None-clause-said
 unfolding ready_in

@@ -4,4 +4,5 @@ use Rattle.held_rules.proofs.RuleLemmas.{none-said}
 use Rattle.held_rules.proofs.ready.rules_of.Goals as goal
 
 pub returns-in-Err : goal.returns-in-Err
-returns-in-Err c = none-said c.args.doc.now c.in-Err.fault (rules_of (tree_nodes c.args.doc.now)) c.no_rules.result c.in-Err.ensures c.no_rules.ensures.so c.no_rules.ensures.refused
+returns-in-Err c = none-said c.args.doc.now c.in-Err.fault (rules_of (tree_nodes c.args.doc.now)) c.no_rules.result c.in-Err.ensures c.no_rules.ensures.so
+    c.no_rules.ensures.refused

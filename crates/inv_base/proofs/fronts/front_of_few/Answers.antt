@@ -3,7 +3,8 @@ use Rattle.inv_base.proofs.FrontLemmas.{first-here, first-nowhere, none-one-more
 use Rattle.inv_base.proofs.fronts.front_of_few.Goals as goal
 
 pub returns-then-is_stop : goal.returns-then-is_stop
-returns-then-is_stop g c = first-here g.S.Stops.stops c.args.bytes.now c.bytes.count (omega arith) c.bytes.invariant.none (sym c.is_stop.ensures ∙ c.if-is_stop.true)
+returns-then-is_stop g c = first-here g.S.Stops.stops c.args.bytes.now c.bytes.count (omega arith) c.bytes.invariant.none
+    (sym c.is_stop.ensures ∙ c.if-is_stop.true)
 
 pub bytes-preserved : goal.bytes-preserved
 bytes-preserved g c = record {

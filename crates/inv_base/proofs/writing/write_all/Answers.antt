@@ -7,7 +7,8 @@ pub pieces-preserved : goal.pieces-preserved
 pieces-preserved g c =
     let so_far = c.pieces.invariant in (
       so_far.0 ++ take c.in-Ok.taken c.pieces.rest.now,
-      append_assoc so_far.0 _ _ ∙ (ap (λ x. so_far.0 ++ (take c.in-Ok.taken c.pieces.rest.now ++ x)) c.split_at.ensures.back ∙ (ap (λ x. so_far.0 ++ x) (take-append-drop c.in-Ok.taken c.pieces.rest.now) ∙ so_far.1)),
+      append_assoc so_far.0 _ _ ∙ (ap (λ x. so_far.0 ++ (take c.in-Ok.taken c.pieces.rest.now ++ x)) c.split_at.ensures.back ∙
+          (ap (λ x. so_far.0 ++ x) (take-append-drop c.in-Ok.taken c.pieces.rest.now) ∙ so_far.1)),
       WritesAll-append _ _ _ _ _ so_far.2 (record { told = c.in-Ok.ensures.told; faults = c.in-Ok.ensures.faults }),
     )
 

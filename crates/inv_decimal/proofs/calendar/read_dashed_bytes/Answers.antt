@@ -18,4 +18,5 @@ returns-then-text-ne45 c =
 pub returns : goal.returns
 returns c =
     let text = c.args.text.now in
-    c.from_digits.ensures ∙ ap (day_from (take 4 text) (take 2 (drop 5 text))) (take_rest text 8) ∙ dashed_is text c.if-text-ne10.false c.if-text-ne45.false c.if-text-ne45-2.false
+    c.from_digits.ensures ∙ ap (day_from (take 4 text) (take 2 (drop 5 text))) (take_rest text 8) ∙
+    dashed_is text c.if-text-ne10.false c.if-text-ne45.false c.if-text-ne45-2.false

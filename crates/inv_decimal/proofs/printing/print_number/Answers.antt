@@ -22,7 +22,8 @@ pub returns-clause-text : goal.returns-clause-text
 returns-clause-text c =
     let short : length (decimal c.args.whole) ≤ 18 = length-decimal-le 18 c.args.whole (omega arith) (omega arith) (omega arith) in
     let sign = length-sign_text c.args.negative in
-    printed_is _ _ _ _ _ _ _ _ _ _ _ c.told-buf sign short c.print_sign-start.ensures.text c.print_sign-start.ensures.len c.digit_count.ensures (decimal-last_digits c.args.whole (omega arith)) c.write_last_digits.ensures c.print_fraction.ensures.text c.print_fraction.ensures.len
+    printed_is _ _ _ _ _ _ _ _ _ _ _ c.told-buf sign short c.print_sign-start.ensures.text c.print_sign-start.ensures.len c.digit_count.ensures
+    (decimal-last_digits c.args.whole (omega arith)) c.write_last_digits.ensures c.print_fraction.ensures.text c.print_fraction.ensures.len
 
 pub returns-clause-short : goal.returns-clause-short
 returns-clause-short c =

@@ -14,7 +14,8 @@ returns-then-not-is_ascii_digit c =
 
 pub loop-digit-preserved : goal.loop-digit-preserved
 loop-digit-preserved c =
-    reads_more _ _ _ _ c.loop-digit.invariant c.loop-digit-test.true (sym c.is_ascii_digit.ensures.value ∙ c.if-not-is_ascii_digit.false) c.if-value-ge100000000000000000.false c.from.ensures
+    reads_more _ _ _ _ c.loop-digit.invariant c.loop-digit-test.true
+    (sym c.is_ascii_digit.ensures.value ∙ c.if-not-is_ascii_digit.false) c.if-value-ge100000000000000000.false c.from.ensures
 
 pub returns : goal.returns
 returns c = reads_end _ _ _ c.loop-digit.invariant c.loop-digit-test.false

@@ -19,8 +19,10 @@ returns-in_err-rest-clause-value c =
 
 pub returns-clause-value : goal.returns-clause-value
 returns-clause-value c =
-    parts_read _ _ _ _ _ _ _ c.if-whole-fraction-eq0.false c.if-fraction-gt18.false c.in_ok-ones.ensures c.in_ok-rest.ensures c.from.ensures c.from-2.ensures c.pow-unused.ensures
+    parts_read _ _ _ _ _ _ _ c.if-whole-fraction-eq0.false c.if-fraction-gt18.false c.in_ok-ones.ensures c.in_ok-rest.ensures c.from.ensures c.from-2.ensures
+    c.pow-unused.ensures
 
 pub returns-clause-bound : goal.returns-clause-bound
 returns-clause-bound c =
-    parts_bound c.args.whole.now c.args.fraction.now _ _ _ _ _ c.if-fraction-gt18.false c.in_ok-ones.ensures c.in_ok-rest.ensures c.from.ensures c.from-2.ensures c.pow-unused.ensures
+    parts_bound c.args.whole.now c.args.fraction.now _ _ _ _ _ c.if-fraction-gt18.false c.in_ok-ones.ensures c.in_ok-rest.ensures c.from.ensures
+    c.from-2.ensures c.pow-unused.ensures

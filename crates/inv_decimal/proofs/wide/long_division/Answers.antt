@@ -11,11 +11,19 @@ overflow_mul-left c =
 
 pub overflow_mul-quotient : goal.overflow_mul-quotient
 overflow_mul-quotient c =
-    omega (arith, long_division_fits c.loop.quotient c.args.divisor c.loop.left c.args.rest c.args.step c.loop.counter c.args.times c.loop.invariant c.requires.rest_in c.requires.step_in c.loop-test.true c.requires.quotient_in)
+    omega (
+      arith,
+      long_division_fits c.loop.quotient c.args.divisor c.loop.left c.args.rest c.args.step c.loop.counter c.args.times c.loop.invariant
+          c.requires.rest_in c.requires.step_in c.loop-test.true c.requires.quotient_in,
+    )
 
 pub overflow_add-quotient : goal.overflow_add-quotient
 overflow_add-quotient c =
-    omega (arith, long_division_fits c.loop.quotient c.args.divisor c.loop.left c.args.rest c.args.step c.loop.counter c.args.times c.loop.invariant c.requires.rest_in c.requires.step_in c.loop-test.true c.requires.quotient_in)
+    omega (
+      arith,
+      long_division_fits c.loop.quotient c.args.divisor c.loop.left c.args.rest c.args.step c.loop.counter c.args.times c.loop.invariant
+          c.requires.rest_in c.requires.step_in c.loop-test.true c.requires.quotient_in,
+    )
 
 pub loop-preserved : goal.loop-preserved
 loop-preserved c = long_division_more _ _ _ _ _ _ c.loop.invariant

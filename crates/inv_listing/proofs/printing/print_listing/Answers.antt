@@ -8,6 +8,8 @@ use Rattle.inv_listing.proofs.printing.print_listing.Goals as goal
 pub returns : goal.returns
 unfolding listing
 returns g c =
-    let all = ap (flat_map entry_line) (take_all c.entries.e-index c.entries-e-items.result.now (omega (arith, c.entries-test.false)) ∙ c.entries-e-items.ensures.entries) in
-    subst (λ text. Printed c.print_passed.new.printer.failed (text ++ passed_line c.args.passed_over) (g.K.Sink.view c.args.out.now) (g.K.Sink.view c.print_passed.new.out)) all
+    let all = ap (flat_map entry_line) (take_all c.entries.e-index c.entries-e-items.result.now (omega (arith, c.entries-test.false)) ∙
+    c.entries-e-items.ensures.entries) in
+    subst (λ text. Printed c.print_passed.new.printer.failed (text ++ passed_line c.args.passed_over) (g.K.Sink.view c.args.out.now)
+    (g.K.Sink.view c.print_passed.new.out)) all
     (c.print_passed.ensures _ _ c.entries.invariant)

@@ -9,4 +9,5 @@ use Rattle.inv_terms.proofs.attachments.without_white_space.Goals as goal
 pub returns : goal.returns
 returns c =
     IfOk-at_ok _ c.in_ok-bare.was (text_from_collect c.collect.result c.collect.ensures.ran
-    (YieldsList-from_filter _ (λ x. not (is_white_space x)) (YieldsList-from_chars c.args.text.now c.utf8.text cc) c.filter.ensures.closure (λ x b q k. search (rules, tests))))
+    (YieldsList-from_filter _ (λ x. not (is_white_space x)) (YieldsList-from_chars c.args.text.now c.utf8.text cc) c.filter.ensures.closure
+    (λ x b q k. search (rules, tests))))

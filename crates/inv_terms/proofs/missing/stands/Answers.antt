@@ -8,4 +8,5 @@ use Rattle.inv_terms.proofs.missing.stands.Goals as goal
 pub returns : goal.returns
 returns g c =
     c.stands_among.ensures
-    ∙ ap (list_any (λ (row : TermRow). is_around c.args.group row.group && (shows_its_group row.term && has_term (map g.T.Seated.seat_of c.args.seats.now) row.term))) c.term_rows.ensures
+    ∙ ap (list_any (λ (row : TermRow). is_around c.args.group row.group &&
+    (shows_its_group row.term && has_term (map g.T.Seated.seat_of c.args.seats.now) row.term))) c.term_rows.ensures

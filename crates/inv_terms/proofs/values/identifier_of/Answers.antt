@@ -6,4 +6,5 @@ pub returns-then-is_empty : goal.returns-then-is_empty
 returns-then-is_empty c = identifier-empty _ _ c.trimmed-identifier.utf8 c.trimmed-identifier.ensures (sym c.is_empty.ensures ∙ c.if-is_empty.true)
 
 pub returns : goal.returns
-returns c = ap Some c.in_ok-of.ensures ∙ identifier-full _ _ c.trimmed-identifier.utf8 c.trimmed-identifier.ensures (sym c.is_empty.ensures ∙ c.if-is_empty.false)
+returns c = ap Some c.in_ok-of.ensures ∙ identifier-full _ _ c.trimmed-identifier.utf8 c.trimmed-identifier.ensures
+    (sym c.is_empty.ensures ∙ c.if-is_empty.false)

@@ -9,10 +9,12 @@ take-front xs ys n h = grind (arith, common_steps)
 
 pub ascii_text-requires : goal.ascii_text-requires
 ascii_text-requires c =
-    let text : take c.print-len.result c.print-len.new.buf ≡ scaled_text c.args.number.now = ap (take c.print-len.result) c.print-len.ensures.text ∙ take-front _ _ _ c.print-len.ensures.len in
+    let text : take c.print-len.result c.print-len.new.buf ≡ scaled_text c.args.number.now = ap (take c.print-len.result) c.print-len.ensures.text ∙
+    take-front _ _ _ c.print-len.ensures.len in
     subst IsAscii (sym text) (c.printed_texts_are_ascii.ensures.scaled _ c.print-len.ensures.in_range)
 
 pub returns : goal.returns
 returns c =
-    let text : take c.print-len.result c.print-len.new.buf ≡ scaled_text c.args.number.now = ap (take c.print-len.result) c.print-len.ensures.text ∙ take-front _ _ _ c.print-len.ensures.len in
+    let text : take c.print-len.result c.print-len.new.buf ≡ scaled_text c.args.number.now = ap (take c.print-len.result) c.print-len.ensures.text ∙
+    take-front _ _ _ c.print-len.ensures.len in
     c.ascii_text.ensures.characters ∙ text

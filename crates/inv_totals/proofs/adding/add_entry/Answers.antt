@@ -6,7 +6,14 @@ use Rattle.inv_totals.proofs.adding.add_entry.Goals as goal
 pub returns-in-Some : goal.returns-in-Some
 returns-in-Some c = λ es so_far.
     let old = c.args.tally.now in
-    let mid : Tally = record { sums = old.sums; categories = old.categories; taxes = c.with_tax-tally.result; breakdowns = c.max-tally.result; key = old.key } in
+    let mid : Tally = record {
+      sums = old.sums;
+      categories = old.categories;
+      taxes = c.with_tax-tally.result;
+      breakdowns = c.max-tally.result;
+      key =
+          old.key;
+    } in
     let counts : Counts c.args.e.now old mid =
     record {
       sums = refl;
@@ -21,7 +28,14 @@ returns-in-Some c = λ es so_far.
 pub returns-in-None : goal.returns-in-None
 returns-in-None c = λ es so_far.
     let old = c.args.tally.now in
-    let mid : Tally = record { sums = old.sums; categories = old.categories; taxes = c.with_tax-tally.result; breakdowns = c.max-tally.result; key = old.key } in
+    let mid : Tally = record {
+      sums = old.sums;
+      categories = old.categories;
+      taxes = c.with_tax-tally.result;
+      breakdowns = c.max-tally.result;
+      key =
+          old.key;
+    } in
     let counts : Counts c.args.e.now old mid =
     record {
       sums = refl;

@@ -23,7 +23,8 @@ returns-in-Some-with_value-clause-follows g c = λ further.
     let value = string_bytes c.in-Some-split_first.value.now in
     let is_offered = ap (offered c.args.command given) (sym c.as_str.ensures.value) ∙ (sym c.offered.ensures.is ∙ c.in-Some-offered.is) in
     let takes : takes_value c.in-Some-offered.switch ≡ true = cc in
-    let is_more = ap (with_value given c.in-Some-offered.switch) (sym c.as_str-2.ensures.value) ∙ (sym c.with_value.ensures ∙ ap (option_map given_options) c.in-Some-with_value.is) in
+    let is_more = ap (with_value given c.in-Some-offered.switch) (sym c.as_str-2.ensures.value) ∙
+    (sym c.with_value.ensures ∙ ap (option_map given_options) c.in-Some-with_value.is) in
     let words = ap words_of c.in-Some.ensures.cases.0 ∙ ap (λ behind. word ∷ words_of behind) c.in-Some-split_first.ensures.cases.0 in
     c.scan-in-Some-with_value.ensures.follows further
     ∙ (sym (optioned-on c.args.command further given c.args.number word c.in-Some-offered.switch (given_options c.in-Some-with_value.more) value

@@ -10,7 +10,11 @@ use Rattle.invoice_cli.proofs.TrialLemmas.{lines_are_few}
 use Rattle.invoice_cli.proofs.program.answer.Goals as goal
 
 pub returns-in-Outline : goal.returns-in-Outline
-returns-in-Outline g c = (0, rw (← asked_is c.command_of-asked.result c.command_of-asked.ensures c.in-Outline.is) (c.outline.ensures.opens, c.outline.ensures.runs))
+returns-in-Outline g c = (
+  0,
+  rw (← asked_is c.command_of-asked.result c.command_of-asked.ensures c.in-Outline.is)
+      (c.outline.ensures.opens, c.outline.ensures.runs),
+)
 
 pub returns-in-Show : goal.returns-in-Show
 returns-in-Show g c = (0, rw (← asked_is c.command_of-asked.result c.command_of-asked.ensures c.in-Show.is) (tt, c.show.ensures))
@@ -26,7 +30,8 @@ returns-in-Check g c =
     let before : Outside = record { shelf = g.S.Shelf.view c.args.shelf.now; out = g.O.Sink.view c.args.out.now; err = g.E.Sink.view c.args.err.now } in
     let after : Outside = record { shelf = g.S.Shelf.view c.check.new.shelf; out = g.O.Sink.view c.check.new.out; err = g.E.Sink.view c.check.new.err } in
     let phase = option_map text_of c.in-Check.phase in
-    let runs = subst (λ names. Runs (check_course c.in-Check.svrl phase names c.in-Check.file.now) before after c.check.result) c.as_slice.ensures c.check.ensures in
+    let runs = subst (λ names. Runs (check_course c.in-Check.svrl phase names c.in-Check.file.now) before after c.check.result) c.as_slice.ensures
+    c.check.ensures in
     (0, rw (← asked_is c.command_of-asked.result c.command_of-asked.ensures c.in-Check.is) (tt, runs))
 
 pub returns-in-Validate : goal.returns-in-Validate
@@ -39,7 +44,8 @@ pub returns-in-Query : goal.returns-in-Query
 returns-in-Query g c = (0, rw (← asked_is c.command_of-asked.result c.command_of-asked.ensures c.in-Query.is) c.query.ensures)
 
 pub trial-requires : goal.trial-requires
-trial-requires g c = lines_are_few (words_of c.args.words.now) c.in-Trial.lines (sym (asked_is c.command_of-asked.result c.command_of-asked.ensures c.in-Trial.is))
+trial-requires g c = lines_are_few (words_of c.args.words.now) c.in-Trial.lines
+    (sym (asked_is c.command_of-asked.result c.command_of-asked.ensures c.in-Trial.is))
 
 pub returns-in-Trial : goal.returns-in-Trial
 returns-in-Trial g c = (

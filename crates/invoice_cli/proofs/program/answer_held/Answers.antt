@@ -23,7 +23,12 @@ returns-clause-answers g c =
     let written = c.answer-status.new.out in
     let shown = with_held (g.O.Sink.view written.sink.now) (drop written.sent written.held.items) in
     let now = g.O.Sink.view c.hand_over.result.0.sink.now in
-    let ran = subst (λ (o : SinkView). Ends ends.0 wanted (record { shelf = shelf; out = o; err = err }) (record { shelf = shelf'; out = shown; err = err' }) c.answer-status.result)
+    let ran = subst (λ (o : SinkView). Ends ends.0 wanted (record { shelf = shelf; out = o; err = err })
+    (record { shelf = shelf'; out = shown; err = err' }) c.answer-status.result)
     (c.new-held.ensures ∙ with_none start) ends.1 in
-    let handed = subst (λ (s : SinkView). HandedOver c.answer-status.result c.hand_over.result.1 s shown now) (sym c.requires.start) c.hand_over.ensures.handed in
-    (ends.0, answers_of_ends ends.0 wanted _ _ _ (ends_handed start shown now c.answer-status.result c.hand_over.result.1 shelf shelf' err err' handed ends.0 wanted ran))
+    let handed = subst (λ (s : SinkView). HandedOver c.answer-status.result c.hand_over.result.1 s shown now)
+    (sym c.requires.start) c.hand_over.ensures.handed in (
+      ends.0,
+      answers_of_ends ends.0 wanted _ _ _
+          (ends_handed start shown now c.answer-status.result c.hand_over.result.1 shelf shelf' err err' handed ends.0 wanted ran),
+    )

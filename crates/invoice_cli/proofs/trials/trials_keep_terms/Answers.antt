@@ -22,4 +22,5 @@ kept lines tried same total told = λ i. record {
 
 pub returns : goal.returns
 returns c = λ steps lines files some few. ap (λ t. done (trial_text t)) (kept lines (trial_of lines steps)
-    (c.trials_keep_the_terms.ensures.same lines steps some few) (c.trials_keep_the_terms.ensures.total lines steps some few) (c.trials_find_one_report.ensures.tally lines steps some few))
+    (c.trials_keep_the_terms.ensures.same lines steps some few) (c.trials_keep_the_terms.ensures.total lines steps some few)
+    (c.trials_find_one_report.ensures.tally lines steps some few))

@@ -13,7 +13,8 @@ returns-in-Err-clause-fails g c =
 pub returns-in-Ok-load_extended-clause-goes_on : goal.returns-in-Ok-load_extended-clause-goes_on
 returns-in-Ok-load_extended-clause-goes_on g c =
     let named = c.args.sources.now in
-    basis_goes_on (listed_course (option_map text_of named.codes_file)) (option_map text_of named.extension_file) c.in-Ok.lists (g.S.Shelf.view c.args.shelf.now)
+    basis_goes_on (listed_course (option_map text_of named.codes_file)) (option_map text_of named.extension_file) c.in-Ok.lists
+    (g.S.Shelf.view c.args.shelf.now)
     (g.S.Shelf.view c.load_lists.new.shelf) (g.S.Shelf.view c.load_extended.new.shelf) (g.E.Sink.view c.args.err.now) (g.E.Sink.view c.load_lists.new.err)
     (g.E.Sink.view c.load_extended.new.err) c.in-Ok.ensures.goes_on c.in-Ok-load_extended.field-0.extension c.in-Ok-load_extended.ensures.goes_on
 

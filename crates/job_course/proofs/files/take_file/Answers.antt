@@ -6,7 +6,8 @@ use Rattle.job_course.proofs.files.take_file.Goals as goal
 pub returns-in-Ok-clause-goes_on : goal.returns-in-Ok-clause-goes_on
 returns-in-Ok-clause-goes_on g c =
     let reads = c.in-Ok.ensures.reads in
-    taken_goes_on c.args.name.now (g.S.Shelf.view c.args.shelf.now) (g.S.Shelf.view c.read_whole.new.shelf) (g.E.Sink.view c.args.err.now) (g.E.Sink.view c.args.err.now)
+    taken_goes_on c.args.name.now (g.S.Shelf.view c.args.shelf.now) (g.S.Shelf.view c.read_whole.new.shelf) (g.E.Sink.view c.args.err.now)
+    (g.E.Sink.view c.args.err.now)
     (record { held = reads.held; opens = reads.opens; faults = reads.quiet (λ e. cc) }) refl c.in-Ok.bytes.items c.in-Ok.ensures.bytes
 
 pub returns-in-Err-Read-clause-fails : goal.returns-in-Err-Read-clause-fails

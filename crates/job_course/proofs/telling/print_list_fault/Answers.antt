@@ -13,6 +13,7 @@ returns-in-NotALists g c =
 
 pub returns-in-BadCode : goal.returns-in-BadCode
 returns-in-BadCode g c =
-    let key = c.as_bytes-in-BadCode.ensures.value ∙ (sym (encode-chars c.as_str-in-BadCode.result.now c.as_str-in-BadCode.utf8) ∙ ap encode_utf8_all c.as_str-in-BadCode.ensures) in
+    let key = c.as_bytes-in-BadCode.ensures.value ∙ (sym (encode-chars c.as_str-in-BadCode.result.now c.as_str-in-BadCode.utf8) ∙
+    ap encode_utf8_all c.as_str-in-BadCode.ensures) in
     let text = ap list_fault_text (sym c.in-BadCode.is) in
     Prints-same _ _ _ _ _ _ text (Prints-append _ _ _ _ _ _ _ _ c.put-in-BadCode.ensures (Prints-same _ _ _ _ _ _ key c.put-in-BadCode-2.ensures))

@@ -9,7 +9,8 @@ pub nodes-init : goal.nodes-init
 nodes-init c =
     let all = length-keys c.args.family c.args.nodes.now in
     record {
-      linking = subst (IsLinking _ c.args.next.now c.args.first.now c.args.next.now) all (linking-begin _ c.args.first.now c.args.next.now (c.requires.long ∙ sym all) c.requires.none);
+      linking = subst (IsLinking _ c.args.next.now c.args.first.now c.args.next.now) all
+          (linking-begin _ c.args.first.now c.args.next.now (c.requires.long ∙ sym all) c.requires.none);
       long = refl;
     }
 
@@ -38,6 +39,7 @@ nodes-preserved-in-Some c =
     let linked = linking-some _ _ _ _ c.nodes.n n c.nodes.invariant.linking (omega (arith, test)) c.in-Some.key c.index-first-key.result (key ∙ c.in-Some.is)
     (omega (arith, bound, c.nodes.invariant.long)) c.index-first-key.is in
     record {
-      linking = subst (λ link. IsLinking (keys c.args.family (kept c.args.nodes.now)) c.args.next.now (set c.nodes.first c.in-Some.key link) (set c.nodes.next n c.index-first-key.result) n) (sym c.to.ensures) linked;
+      linking = subst (λ link. IsLinking (keys c.args.family (kept c.args.nodes.now)) c.args.next.now (set c.nodes.first c.in-Some.key link)
+          (set c.nodes.next n c.index-first-key.result) n) (sym c.to.ensures) linked;
       long = length-set c.nodes.first c.in-Some.key c.to.result ∙ c.nodes.invariant.long;
     }

@@ -33,5 +33,7 @@ returns-in-None g t c =
     let doc = c.args.doc.now in
     let tree = c.is_of_a_tree.ensures.tree in
     let leads = walk_of doc tree.tree tree.has_nodes in
-    let first = no_parent doc c.is_of_a_tree.ensures.distinct c.is_of_a_tree.ensures.named leads c.args.n c.requires.within (sym c.parent.ensures.node ∙ c.in-None.is) in
-    path_begin (tree_nodes doc) c.args.n (chars (string_bytes c.args.out.now)) first leads.begins (ap (λ (nodes : List Node). (tree_node nodes 0).kind) tree.has_nodes)
+    let first = no_parent doc c.is_of_a_tree.ensures.distinct c.is_of_a_tree.ensures.named leads c.args.n c.requires.within
+    (sym c.parent.ensures.node ∙ c.in-None.is) in
+    path_begin (tree_nodes doc) c.args.n (chars (string_bytes c.args.out.now)) first leads.begins
+    (ap (λ (nodes : List Node). (tree_node nodes 0).kind) tree.has_nodes)

@@ -13,5 +13,6 @@ returns g c =
     let t = c.is_of_a_tree.ensures in
     let long : length c.count_all.new.counts ≡ length doc.nodes =
     c.count_all.ensures.long ∙ (c.deref_mut-2.ensures.len ∙ (c.in_ok-counts.ensures.len ∙ c.node_count.ensures)) in
-    rw all (ordinals_are doc t.distinct t.named (walk_of doc t.tree.tree t.tree.has_nodes) (ap (λ (nodes : List Node). (tree_node nodes 0).kind) t.tree.has_nodes) c.count_all.new.counts long
+    rw all (ordinals_are doc t.distinct t.named (walk_of doc t.tree.tree t.tree.has_nodes)
+    (ap (λ (nodes : List Node). (tree_node nodes 0).kind) t.tree.has_nodes) c.count_all.new.counts long
     c.count_all.ensures.counted)

@@ -11,14 +11,16 @@ characters-init c = along-begin (chars c.args.text.now) (chars (string_bytes c.a
 
 pub returns-in_err-push_character : goal.returns-in_err-push_character
 returns-in_err-push_character c =
-    let turn = YieldsList-turn (YieldsList-from_chars c.args.text.now c.utf8.text cc) c.characters.yielded _ c.characters.yielded_by _ _ c.in-Some.c c.in-Some.is
+    let turn = YieldsList-turn (YieldsList-from_chars c.args.text.now c.utf8.text cc) c.characters.yielded _ c.characters.yielded_by _ _ c.in-Some.c
+    c.in-Some.is
     c.next.ensures.steps in
     Puts-at_err _ _ _ _ c.from_residual.ensures.0
     (along-broken (chars c.args.text.now) _ _ _ _ c.in-Some.c turn c.characters.invariant c.in_err-push_character.ensures)
 
 pub characters-preserved : goal.characters-preserved
 characters-preserved c =
-    let turn = YieldsList-turn (YieldsList-from_chars c.args.text.now c.utf8.text cc) c.characters.yielded _ c.characters.yielded_by _ _ c.in-Some.c c.in-Some.is
+    let turn = YieldsList-turn (YieldsList-from_chars c.args.text.now c.utf8.text cc) c.characters.yielded _ c.characters.yielded_by _ _ c.in-Some.c
+    c.in-Some.is
     c.next.ensures.steps in
     rw (length_push c.characters.yielded c.in-Some.c)
     (along-more (chars c.args.text.now) _ _ _ _ c.in-Some.c turn c.characters.invariant c.in_ok-push_character.ensures)

@@ -9,4 +9,5 @@ returns-then-is_same_text c = λ value.
     compared _ _ _ _ _ _ _ _ _ c.is_same_text.ensures c.if-is_same_text.true c.uri.ensures chars-nil c.is_same_text-then-is_same_text.ensures c.local.ensures
 
 pub returns-else-is_same_text : goal.returns-else-is_same_text
-returns-else-is_same_text c = λ value. other_uri _ _ _ _ _ (name_at c.args.names.now c.args.id).local (chars c.args.local.now) c.is_same_text.ensures c.if-is_same_text.false c.uri.ensures chars-nil
+returns-else-is_same_text c = λ value. other_uri _ _ _ _ _ (name_at c.args.names.now c.args.id).local
+    (chars c.args.local.now) c.is_same_text.ensures c.if-is_same_text.false c.uri.ensures chars-nil

@@ -8,6 +8,7 @@ use Rattle.rule_library.proofs.asking.takes_roots.Goals as goal
 pub returns-in-Some : goal.returns-in-Some
 returns-in-Some c =
     let name = name_at c.args.names.now c.in-Some.id in
-    one_of_four _ _ _ _ _ _ _ _ (is_named _ (codes "schema") name refl c.is_schematron.ensures) (is_named _ (codes "phase") name refl c.is_schematron-in-Some.ensures)
+    one_of_four _ _ _ _ _ _ _ _ (is_named _ (codes "schema") name refl c.is_schematron.ensures)
+    (is_named _ (codes "phase") name refl c.is_schematron-in-Some.ensures)
     (is_named _ (codes "pattern") name refl c.is_schematron-in-Some-2.ensures) (is_named _ (codes "rule") name refl c.is_schematron-in-Some-3.ensures)
     ∙ sym (ap (λ p. takes_roots (option_map (name_at c.args.names.now) p)) c.in-Some.is)

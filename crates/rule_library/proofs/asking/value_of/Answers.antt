@@ -14,9 +14,11 @@ returns-then-is_plain c =
     let at = c.in-Some.given in
     let value = (node_at doc.nodes at.node).text in
     let given : Given = record { name = name_at doc.names at.name; value = value } in
-    let plain = sym (c.is_plain.ensures value ∙ ap (λ (names : List Name). is_plain local (record { name = name_at names at.name; value = value })) c.names.ensures) ∙ c.if-is_plain.true in
+    let plain = sym (c.is_plain.ensures value ∙ ap (λ (names : List Name). is_plain local (record { name = name_at names at.name; value = value }))
+    c.names.ensures) ∙ c.if-is_plain.true in
     ap Some c.text.ensures
-    ∙ (sym (value-found local given (given_at doc.names (drop (at.node + 1) doc.nodes)) plain) ∙ (sym (ap (value_of local) c.in-Some.ensures.is) ∙ c.attributes.invariant.same))
+    ∙ (sym (value-found local given (given_at doc.names (drop (at.node + 1) doc.nodes)) plain) ∙
+    (sym (ap (value_of local) c.in-Some.ensures.is) ∙ c.attributes.invariant.same))
 
 pub attributes-preserved : goal.attributes-preserved
 attributes-preserved c =
@@ -25,9 +27,11 @@ attributes-preserved c =
     let at = c.in-Some.given in
     let value = (node_at doc.nodes at.node).text in
     let given : Given = record { name = name_at doc.names at.name; value = value } in
-    let other = sym (c.is_plain.ensures value ∙ ap (λ (names : List Name). is_plain local (record { name = name_at names at.name; value = value })) c.names.ensures) ∙ c.if-is_plain.false in
+    let other = sym (c.is_plain.ensures value ∙ ap (λ (names : List Name). is_plain local (record { name = name_at names at.name; value = value }))
+    c.names.ensures) ∙ c.if-is_plain.false in
     record {
       within = c.next_of-at-in-Some.ensures.within;
       same = ap (λ (nodes : List Placed). value_of local (given_at doc.names nodes)) c.next_of-at-in-Some.ensures.rest
-          ∙ (sym (value-passed local given (given_at doc.names (drop (at.node + 1) doc.nodes)) other) ∙ (sym (ap (value_of local) c.in-Some.ensures.is) ∙ c.attributes.invariant.same));
+          ∙ (sym (value-passed local given (given_at doc.names (drop (at.node + 1) doc.nodes)) other) ∙
+          (sym (ap (value_of local) c.in-Some.ensures.is) ∙ c.attributes.invariant.same));
     }

@@ -9,7 +9,8 @@ use Rattle.rule_library.proofs.asking.value_of.Given as goal
 abbrev pub invariant-attributes : goal.invariant-attributes
 invariant-attributes l = record {
   within : ForSome l.at (λ m. m < length l.doc.nodes);
-  same : value_of (chars l.local) (given_at l.doc.names (from l.at l.doc.nodes)) ≡ value_of (chars l.local) (given_at l.doc.names (drop (l.fn.n + 1) l.doc.nodes));
+  same : value_of (chars l.local) (given_at l.doc.names (from l.at l.doc.nodes)) ≡ value_of (chars l.local)
+      (given_at l.doc.names (drop (l.fn.n + 1) l.doc.nodes));
 }
 
 abbrev pub decreases-attributes : goal.decreases-attributes

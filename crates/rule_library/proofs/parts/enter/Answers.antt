@@ -13,8 +13,10 @@ returns-then-is_full c =
     let at = c.behind-at.result in
     let behind = subst (λ (d : Document). IsBehind d c.args.n (from at d.nodes)) c.top_doc.ensures c.behind-at.ensures.rest in
     record {
-      goes = enters-none w c.args.n c.args.bare c.args.k (w.parts + 1) at behind (le_true 64 (length w.outer.items + 1) c.is_full.result c.is_full.ensures c.if-is_full.true);
-      stands = stands_passed (record w { parts = w.parts + 1 }) at (record { top = c.requires.at.stands.top; outer = c.requires.at.stands.outer; long = c.requires.at.stands.long; few = c.requires.at.stands.few })
+      goes = enters-none w c.args.n c.args.bare c.args.k (w.parts + 1) at behind
+          (le_true 64 (length w.outer.items + 1) c.is_full.result c.is_full.ensures c.if-is_full.true);
+      stands = stands_passed (record w { parts = w.parts + 1 }) at
+          (record { top = c.requires.at.stands.top; outer = c.requires.at.stands.outer; long = c.requires.at.stands.long; few = c.requires.at.stands.few })
           (subst (λ (d : Document). ForSome at (λ m. m < length d.nodes)) c.top_doc.ensures c.behind-at.ensures.within);
     }
 
@@ -28,5 +30,6 @@ returns c =
     record {
       goes = on_ok_weaker c.descend.result (λ d. descends w c.descend.new.walk c.args.n c.args.bare c.args.k at behind few d) c.descend.ensures;
       stands = on_ok_weaker c.descend.result (λ d. stands_below w c.descend.new.walk c.args.bare c.args.k at
-          (record { top = c.requires.at.stands.top; outer = c.requires.at.stands.outer; long = c.requires.at.stands.long; few = c.requires.at.stands.few }) within c.requires.within d) c.descend.ensures;
+          (record { top = c.requires.at.stands.top; outer = c.requires.at.stands.outer; long = c.requires.at.stands.long; few = c.requires.at.stands.few })
+          within c.requires.within d) c.descend.ensures;
     }

@@ -8,5 +8,6 @@ file_in-requires c = (open_at c.args.files.now c.args.frames.now c.frames.frame-
 
 pub frames-preserved : goal.frames-preserved
 frames-preserved c =
-    one_around c.args.name.now c.args.files.now c.args.frames.now c.frames.frame-index c.frame-item.result c.frames.found c.has_name-found.result c.frames.invariant c.frames-test.true c.frame-item.is
+    one_around c.args.name.now c.args.files.now c.args.frames.now c.frames.frame-index c.frame-item.result c.frames.found c.has_name-found.result
+    c.frames.invariant c.frames-test.true c.frame-item.is
     (c.has_name-found.ensures ∙ ap (λ (f : File). bytes_eq f.name c.args.name.now) c.file_in.ensures)

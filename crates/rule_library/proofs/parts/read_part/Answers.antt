@@ -10,11 +10,13 @@ pub returns-then-has_many-clause-fails : goal.returns-then-has_many-clause-fails
 returns-then-has_many-clause-fails g c =
     let w = c.args.walk.now in
     refused_fails (new_rest w c.args.wanted.now.node c.args.wanted.now.bare c.args.wanted.now.name.now) c.fault_in.result (g.S.Shelf.view c.args.shelf.now)
-    (given (fault_at w c.args.wanted.now.node kinds.TooManyFiles) tt (new-many w c.args.wanted.now.node c.args.wanted.now.bare c.args.wanted.now.name.now (sym c.has_many.ensures ∙ c.if-has_many.true)) c.fault_in.ensures)
+    (given (fault_at w c.args.wanted.now.node kinds.TooManyFiles) tt
+    (new-many w c.args.wanted.now.node c.args.wanted.now.bare c.args.wanted.now.name.now (sym c.has_many.ensures ∙ c.if-has_many.true)) c.fault_in.ensures)
 
 pub returns-in-Err-clause-fails : goal.returns-in-Err-clause-fails
 returns-in-Err-clause-fails g c =
-    part_fails c.args.walk.now c.args.wanted.now.node c.args.wanted.now.bare c.args.wanted.now.name.now c.in-Err.fault (g.S.Shelf.view c.args.shelf.now) (g.S.Shelf.view c.read_file.new.shelf) (sym c.has_many.ensures ∙ c.if-has_many.false)
+    part_fails c.args.walk.now c.args.wanted.now.node c.args.wanted.now.bare c.args.wanted.now.name.now c.in-Err.fault (g.S.Shelf.view c.args.shelf.now)
+    (g.S.Shelf.view c.read_file.new.shelf) (sym c.has_many.ensures ∙ c.if-has_many.false)
     c.in-Err.ensures.fails
 
 pub keep-requires-clause-few : goal.keep-requires-clause-few
@@ -26,7 +28,8 @@ returns-in-Ok-keep g c =
     let v = c.keep.new.walk in
     let k = c.in-Ok-keep.k in
     record {
-      found = reads_part w v c.args.wanted.now.node k c.args.wanted.now.bare c.args.wanted.now.name.now c.in-Ok.file (g.S.Shelf.view c.args.shelf.now) (g.S.Shelf.view c.read_file.new.shelf) c.requires.at.stands
+      found = reads_part w v c.args.wanted.now.node k c.args.wanted.now.bare c.args.wanted.now.name.now c.in-Ok.file (g.S.Shelf.view c.args.shelf.now)
+          (g.S.Shelf.view c.read_file.new.shelf) c.requires.at.stands
           (sym c.has_many.ensures ∙ c.if-has_many.false) c.in-Ok.ensures.read c.in-Ok-keep.ensures.kept;
       at = at-kept w v c.args.wanted.now.node k c.in-Ok.file c.requires.at c.in-Ok-keep.ensures.kept c.in-Ok-keep.ensures.stands;
       within = within-kept w v k c.in-Ok.file c.in-Ok-keep.ensures.kept;
@@ -35,5 +38,6 @@ returns-in-Ok-keep g c =
 
 pub returns-in-Err-keep-clause-fails : goal.returns-in-Err-keep-clause-fails
 returns-in-Err-keep-clause-fails g c =
-    full_behind c.args.walk.now c.args.wanted.now.node c.args.wanted.now.bare c.args.wanted.now.name.now c.in-Ok.file c.want_of_memory.result (g.S.Shelf.view c.args.shelf.now) (g.S.Shelf.view c.read_file.new.shelf)
+    full_behind c.args.walk.now c.args.wanted.now.node c.args.wanted.now.bare c.args.wanted.now.name.now c.in-Ok.file c.want_of_memory.result
+    (g.S.Shelf.view c.args.shelf.now) (g.S.Shelf.view c.read_file.new.shelf)
     (sym c.has_many.ensures ∙ c.if-has_many.false) c.in-Ok.ensures.read c.want_of_memory.ensures

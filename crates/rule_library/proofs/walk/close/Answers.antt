@@ -14,6 +14,12 @@ returns c =
     let count = c.in_ok-count.ensures ∙ ap (λ l. w.top.base + (l - around w.top.bare)) level in
     record {
       closed = on_ok_weaker c.close_to.result (λ e. closes w c.args.n c.close_to.new.self at (e ∙ ap (λ m. closed_to m w.joined) count)) c.close_to.ensures;
-      stands = on_ok_weaker c.close_to.result (λ e. record { stands = record { top = at.stands.top; outer = at.stands.outer; long = at.stands.long; few = at.stands.few }; here = at.here; within = at.within }) c.close_to.ensures;
+      stands = on_ok_weaker c.close_to.result
+          (λ e. record {
+            stands = record { top = at.stands.top; outer = at.stands.outer; long = at.stands.long; few = at.stands.few };
+            here = at.here;
+            within =
+                at.within;
+          }) c.close_to.ensures;
       nodes = on_ok_weaker c.close_to.result (λ e. refl) c.close_to.ensures;
     }

@@ -17,7 +17,13 @@ returns-in-Some c =
     let stacked = subst (λ (fs : List Frame). AreOpen w.files.items fs) outer c.requires.stands.outer in
     record {
       turns = leaves-in w frames frame c.close_to.new.self c.requires.behind outer c.in_ok-close_to.ensures;
-      stands = record { top = AreOpen-last w.files.items frames frame stacked; outer = AreOpen-front w.files.items frames frame stacked; long = c.requires.stands.long; few = c.requires.stands.few };
+      stands = record {
+        top = AreOpen-last w.files.items frames frame stacked;
+        outer = AreOpen-front w.files.items frames frame stacked;
+        long =
+            c.requires.stands.long;
+        few = c.requires.stands.few;
+      };
     }
 
 pub returns-in-None : goal.returns-in-None

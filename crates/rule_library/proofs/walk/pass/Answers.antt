@@ -11,5 +11,6 @@ returns c =
     let at = c.next_of-at.result in
     record {
       passed = passes w c.args.n at (subst (λ (d : Document). from at d.nodes ≡ drop (c.args.n + 1) d.nodes) c.top_doc.ensures c.next_of-at.ensures.rest);
-      stands = stands_passed w at c.requires.stands (subst (λ (d : Document). ForSome at (λ m. m < length d.nodes)) c.top_doc.ensures c.next_of-at.ensures.within);
+      stands = stands_passed w at c.requires.stands
+          (subst (λ (d : Document). ForSome at (λ m. m < length d.nodes)) c.top_doc.ensures c.next_of-at.ensures.within);
     }

@@ -36,10 +36,12 @@ returns-in-RootOf g c =
     let n = c.args.n in
     let same = ap (λ r. asked_rest w n (asked_by r)) (sym c.in-RootOf.is) ∙ c.request_in.ensures in
     record {
-      goes = subst (λ (r : Readings). IfOk c.put_part.result (λ _. Reaches r (rest_of c.put_part.new.walk) (g.S.Shelf.view c.args.shelf.now) (g.S.Shelf.view c.put_part.new.shelf)))
+      goes = subst (λ (r : Readings). IfOk c.put_part.result
+          (λ _. Reaches r (rest_of c.put_part.new.walk) (g.S.Shelf.view c.args.shelf.now) (g.S.Shelf.view c.put_part.new.shelf)))
           same c.put_part.ensures.goes;
       stands = c.put_part.ensures.stands;
-      fails = subst (λ (r : Readings). IfErr c.put_part.result (λ fault. Fails r fault (g.S.Shelf.view c.args.shelf.now) (g.S.Shelf.view c.put_part.new.shelf))) same c.put_part.ensures.fails;
+      fails = subst (λ (r : Readings). IfErr c.put_part.result (λ fault. Fails r fault (g.S.Shelf.view c.args.shelf.now) (g.S.Shelf.view c.put_part.new.shelf)))
+          same c.put_part.ensures.fails;
     }
 
 pub returns-in-InsideOf : goal.returns-in-InsideOf
@@ -48,9 +50,11 @@ returns-in-InsideOf g c =
     let n = c.args.n in
     let same = ap (λ r. asked_rest w n (asked_by r)) (sym c.in-InsideOf.is) ∙ c.request_in.ensures in
     record {
-      goes = subst (λ (r : Readings). IfOk c.put_part-in-InsideOf.result (λ _. Reaches r (rest_of c.put_part-in-InsideOf.new.walk) (g.S.Shelf.view c.args.shelf.now) (g.S.Shelf.view c.put_part-in-InsideOf.new.shelf)))
+      goes = subst (λ (r : Readings). IfOk c.put_part-in-InsideOf.result
+          (λ _. Reaches r (rest_of c.put_part-in-InsideOf.new.walk) (g.S.Shelf.view c.args.shelf.now) (g.S.Shelf.view c.put_part-in-InsideOf.new.shelf)))
           same c.put_part-in-InsideOf.ensures.goes;
       stands = c.put_part-in-InsideOf.ensures.stands;
-      fails = subst (λ (r : Readings). IfErr c.put_part-in-InsideOf.result (λ fault. Fails r fault (g.S.Shelf.view c.args.shelf.now) (g.S.Shelf.view c.put_part-in-InsideOf.new.shelf)))
+      fails = subst (λ (r : Readings). IfErr c.put_part-in-InsideOf.result
+          (λ fault. Fails r fault (g.S.Shelf.view c.args.shelf.now) (g.S.Shelf.view c.put_part-in-InsideOf.new.shelf)))
           same c.put_part-in-InsideOf.ensures.fails;
     }

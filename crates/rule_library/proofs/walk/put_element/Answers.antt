@@ -18,13 +18,17 @@ returns-in-Ok-put_element-clause-goes c =
     let w = c.args.walk.now in
     let n = c.args.n in
     let doc = c.doc.ensures ∙ ap (λ (f : File). f.document) (c.file_in.ensures ∙ ap (file_at w.top.file) c.as_slice.ensures.value) in
-    let joined = c.in-Ok-put_element.ensures ∙ (λ i. with_element (own_name (doc i) (node_at (doc i).nodes n)) (given_at (doc i).names (drop (n + 1) (doc i).nodes)) (c.in-Ok.ensures i) w.joined) in
-    on_ok_weaker c.settle.result (λ e. e ∙ sym (put_in_place w n c.put_element.new.self (sym c.is_left_out.ensures ∙ c.if-is_left_out.false) joined)) c.settle.ensures.goes
+    let joined = c.in-Ok-put_element.ensures ∙
+    (λ i. with_element (own_name (doc i) (node_at (doc i).nodes n)) (given_at (doc i).names (drop (n + 1) (doc i).nodes)) (c.in-Ok.ensures i) w.joined) in
+    on_ok_weaker c.settle.result (λ e. e ∙ sym (put_in_place w n c.put_element.new.self (sym c.is_left_out.ensures ∙ c.if-is_left_out.false) joined))
+    c.settle.ensures.goes
 
 pub returns-in-Ok-put_element-clause-fails : goal.returns-in-Ok-put_element-clause-fails
 returns-in-Ok-put_element-clause-fails c =
     let w = c.args.walk.now in
     let n = c.args.n in
     let doc = c.doc.ensures ∙ ap (λ (f : File). f.document) (c.file_in.ensures ∙ ap (file_at w.top.file) c.as_slice.ensures.value) in
-    let joined = c.in-Ok-put_element.ensures ∙ (λ i. with_element (own_name (doc i) (node_at (doc i).nodes n)) (given_at (doc i).names (drop (n + 1) (doc i).nodes)) (c.in-Ok.ensures i) w.joined) in
-    subst (λ (r : Readings). IfErr c.settle.result (Refuses r)) (sym (put_in_place w n c.put_element.new.self (sym c.is_left_out.ensures ∙ c.if-is_left_out.false) joined)) c.settle.ensures.fails
+    let joined = c.in-Ok-put_element.ensures ∙
+    (λ i. with_element (own_name (doc i) (node_at (doc i).nodes n)) (given_at (doc i).names (drop (n + 1) (doc i).nodes)) (c.in-Ok.ensures i) w.joined) in
+    subst (λ (r : Readings). IfErr c.settle.result (Refuses r))
+    (sym (put_in_place w n c.put_element.new.self (sym c.is_left_out.ensures ∙ c.if-is_left_out.false) joined)) c.settle.ensures.fails

@@ -16,4 +16,5 @@ returns-in-Text g c =
 pub returns-in-Document-clause-goes : goal.returns-in-Document-clause-goes
 returns-in-Document-clause-goes g c =
     let w = c.args.walk.now in
-    reaches_same (node_rest w c.args.n) (rest_of c.pass.new.walk) (g.S.Shelf.view c.args.shelf.now) (at_other w c.args.n c.kind_in.result c.kind_in.ensures c.in-Document.is ∙ sym c.pass.ensures.passed)
+    reaches_same (node_rest w c.args.n) (rest_of c.pass.new.walk) (g.S.Shelf.view c.args.shelf.now)
+    (at_other w c.args.n c.kind_in.result c.kind_in.ensures c.in-Document.is ∙ sym c.pass.ensures.passed)

@@ -8,7 +8,8 @@ pub returns-in-Some-clause-fails : goal.returns-in-Some-clause-fails
 returns-in-Some-clause-fails c =
     let w = c.args.walk.now in
     let limit = c.in-Some.ensures ∙ ap (λ part. passed_limit part w.joined) c.is_part-is_part.ensures in
-    given (fault_at w c.args.n c.in-Some.kind) (passes-node (is_part (outer_of w)) w.joined c.in-Some.kind (sym limit)) (settled-some w c.args.n c.in-Some.kind limit) c.fault_in.ensures
+    given (fault_at w c.args.n c.in-Some.kind) (passes-node (is_part (outer_of w)) w.joined c.in-Some.kind (sym limit))
+    (settled-some w c.args.n c.in-Some.kind limit) c.fault_in.ensures
 
 pub returns-in-None-clause-goes : goal.returns-in-None-clause-goes
 returns-in-None-clause-goes c =

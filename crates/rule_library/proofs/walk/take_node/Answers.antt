@@ -8,10 +8,12 @@ returns-in-Err-clause-fails g c = fails_full (rest_of c.args.walk.now) c.want_of
 
 pub returns-in-Ok-put_node-clause-turns : goal.returns-in-Ok-put_node-clause-turns
 returns-in-Ok-put_node-clause-turns g c =
-    reaches_from (rest_of c.args.walk.now) (node_rest c.close.new.walk c.args.n) (rest_of c.put_node.new.walk) (g.S.Shelf.view c.args.shelf.now) (g.S.Shelf.view c.put_node.new.shelf)
+    reaches_from (rest_of c.args.walk.now) (node_rest c.close.new.walk c.args.n) (rest_of c.put_node.new.walk) (g.S.Shelf.view c.args.shelf.now)
+    (g.S.Shelf.view c.put_node.new.shelf)
     (sym c.in-Ok.ensures.closed) c.in-Ok-put_node.ensures.goes
 
 pub returns-in-Err-put_node-clause-fails : goal.returns-in-Err-put_node-clause-fails
 returns-in-Err-put_node-clause-fails g c =
-    fails_same (rest_of c.args.walk.now) (node_rest c.close.new.walk c.args.n) c.in-Err-put_node.fault (g.S.Shelf.view c.args.shelf.now) (g.S.Shelf.view c.put_node.new.shelf)
+    fails_same (rest_of c.args.walk.now) (node_rest c.close.new.walk c.args.n) c.in-Err-put_node.fault (g.S.Shelf.view c.args.shelf.now)
+    (g.S.Shelf.view c.put_node.new.shelf)
     (sym c.in-Ok.ensures.closed) c.in-Err-put_node.ensures.fails

@@ -14,5 +14,6 @@ returns-in-Ok-flag_and_role c =
       level = c.level.result;
       message = c.in-Ok.message;
     } in
-    assertion_is c.args.file.now.entries c.args.params.now c.args.scope.now (seen_entry c.args.e.now) found c.kind_of.ensures c.in-Ok.ensures.test c.in_ok-id.ensures
+    assertion_is c.args.file.now.entries c.args.params.now c.args.scope.now
+    (seen_entry c.args.e.now) found c.kind_of.ensures c.in-Ok.ensures.test c.in_ok-id.ensures
     c.in-Ok-flag_and_role.ensures.flag c.in-Ok-flag_and_role.ensures.role c.level.ensures c.in-Ok.ensures.message

@@ -8,7 +8,8 @@ use Rattle.schematron_compile.proofs.assertions.assertions_of.Goals as goal
 pub entries-init : goal.entries-init
 entries-init c =
     let gives = c.into_iter-e-iterator.ensures.into_iter_gives in (
-      map_begun seen_assertion (λ e. seen_entry e.now) (spec.assertion_of c.args.file.now.entries c.args.params.now c.args.scope.now) _ _ _ _ c.new-found.ensures gives.0 refl,
+      map_begun seen_assertion (λ e. seen_entry e.now) (spec.assertion_of c.args.file.now.entries c.args.params.now c.args.scope.now) _ _ _ _
+          c.new-found.ensures gives.0 refl,
       gives.1 ∙ (c.args.entries.ok.0 ∙ sym (ap length gives.0)),
     )
 

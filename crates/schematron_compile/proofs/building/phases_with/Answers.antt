@@ -5,7 +5,8 @@ use Rattle.schematron_compile.proofs.BuiltLemmas.{outer_is, phases_are}
 use Rattle.schematron_compile.proofs.building.phases_with.Goals as goal
 
 pub returns-in-Ok-clause-phases : goal.returns-in-Ok-clause-phases
-returns-in-Ok-clause-phases c = phases_are c.args.file.now.entries (seen_entries c.entries.result.now) (lent_entries c.in_ok-found.found.items) (seen_phases c.in_ok-phases.phases)
+returns-in-Ok-clause-phases c = phases_are c.args.file.now.entries (seen_entries c.entries.result.now) (lent_entries c.in_ok-found.found.items)
+    (seen_phases c.in_ok-phases.phases)
     c.in_ok-found.ensures c.entries.ensures c.in_ok-phases.ensures.phases
 
 pub returns-in-Ok-clause-scope : goal.returns-in-Ok-clause-scope

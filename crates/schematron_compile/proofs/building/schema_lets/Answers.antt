@@ -5,7 +5,8 @@ use Rattle.schematron_compile.proofs.BuiltLemmas.{schema_is, schema_lets_are}
 use Rattle.schematron_compile.proofs.building.schema_lets.Goals as goal
 
 pub returns-clause-lets : goal.returns-clause-lets
-returns-clause-lets c = schema_lets_are c.args.file.now.entries (inside is_let c.args.file.now.entries the_schema) [] c.args.scope.now (seen_lets c.in_ok-lets.lets)
+returns-clause-lets c = schema_lets_are c.args.file.now.entries (inside is_let c.args.file.now.entries the_schema) [] c.args.scope.now
+    (seen_lets c.in_ok-lets.lets)
     c.requires refl refl c.in_ok-lets.ensures.lets
 
 pub returns-clause-scope : goal.returns-clause-scope

@@ -6,5 +6,6 @@ use Rattle.schematron_compile.proofs.lets.declare_all.Given as goal
 
 -- the scope so far with the lets to come is the scope with all
 abbrev pub invariant-lets : goal.invariant-lets
-invariant-lets l = (with_lets l.params l.scope (lent_entries (into_iter_items l.one-iterator)) ≡ with_lets l.params l.initial.scope (lent_entries l.fn.lets.items))
+invariant-lets l = (with_lets l.params l.scope (lent_entries (into_iter_items l.one-iterator)) ≡ with_lets l.params l.initial.scope
+    (lent_entries l.fn.lets.items))
     × (into_iter_len l.one-iterator ≡ length (into_iter_items l.one-iterator))

@@ -10,7 +10,8 @@ lets-init c =
 
 pub lets-preserved : goal.lets-preserved
 lets-preserved c = (
-  lets_on _ _ _ _ _ _ _ _ _ _ _ c.in-Some.ensures.steps.0 c.in_ok-push.ensures.ok c.in_ok-declared_let.ensures.found c.in_ok-declared_let.ensures.scope c.lets.invariant.0,
+  lets_on _ _ _ _ _ _ _ _ _ _ _ c.in-Some.ensures.steps.0 c.in_ok-push.ensures.ok c.in_ok-declared_let.ensures.found c.in_ok-declared_let.ensures.scope
+      c.lets.invariant.0,
   less _ _ _ _ _ c.in-Some.ensures.steps.0 c.in-Some.ensures.steps.1 c.lets.invariant.1,
 )
 

@@ -10,8 +10,10 @@ use Rattle.schematron_compile.proofs.messages.message_of.Goals as goal
 pub parts-init : goal.parts-init
 parts-init c =
     let gives = c.into_iter-part-iterator.ensures.into_iter_gives in (
-      map_begun seen_part (λ e. seen_entry e.now) (λ (part : Entry). spec.part_by part.role c.args.params.now c.args.scope.now part) _ _ _ _ c.new-parts.ensures gives.0
-          (ap (map (λ (part : Entry). spec.part_by part.role c.args.params.now c.args.scope.now part)) (c.in_ok-inside.ensures ∙ ap (inside is_part c.args.file.now.entries) c.number.ensures)),
+      map_begun seen_part (λ e. seen_entry e.now) (λ (part : Entry). spec.part_by part.role c.args.params.now c.args.scope.now part) _ _ _ _ c.new-parts.ensures
+          gives.0
+          (ap (map (λ (part : Entry). spec.part_by part.role c.args.params.now c.args.scope.now part))
+          (c.in_ok-inside.ensures ∙ ap (inside is_part c.args.file.now.entries) c.number.ensures)),
       gives.1 ∙ (c.in_ok-inside.inside.ok.0 ∙ sym (ap length gives.0)),
     )
 
@@ -23,4 +25,5 @@ parts-preserved c = (
 )
 
 pub returns : goal.returns
-returns c = map_over seen_part (λ e. seen_entry e.now) (λ (part : Entry). spec.part_by part.role c.args.params.now c.args.scope.now part) _ _ _ _ c.in-None.ensures.steps.0 c.parts.invariant.1 c.parts.invariant.0
+returns c = map_over seen_part (λ e. seen_entry e.now) (λ (part : Entry). spec.part_by part.role c.args.params.now c.args.scope.now part) _ _ _ _
+    c.in-None.ensures.steps.0 c.parts.invariant.1 c.parts.invariant.0

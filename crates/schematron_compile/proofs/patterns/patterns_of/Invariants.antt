@@ -6,4 +6,5 @@ use Rattle.schematron_compile.proofs.patterns.patterns_of.Given as goal
 
 -- the patterns so far, and the scope as it was
 abbrev pub invariant-patterns : goal.invariant-patterns
-invariant-patterns l = (map seen_pattern l.patterns ≡ map (spec.pattern_of l.file l.initial.scope) (lent_instances (take l.instance-index l.instances))) × (l.scope ≡ l.initial.scope)
+invariant-patterns l = (map seen_pattern l.patterns ≡ map (spec.pattern_of l.file l.initial.scope) (lent_instances (take l.instance-index l.instances))) ×
+    (l.scope ≡ l.initial.scope)

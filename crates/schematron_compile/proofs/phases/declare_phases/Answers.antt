@@ -8,12 +8,16 @@ use Rattle.schematron_compile.proofs.phases.declare_phases.Goals as goal
 
 pub phases-init : goal.phases-init
 phases-init c =
-    let gives = c.into_iter-e-iterator.ensures.into_iter_gives in
-    (ap (λ xs. with_lets [] c.args.scope.now (lets_of_phases c.args.file.now.entries (lent_entries xs))) gives.0, gives.1 ∙ (c.args.phases.ok.0 ∙ sym (ap length gives.0)))
+    let gives = c.into_iter-e-iterator.ensures.into_iter_gives in (
+      ap (λ xs. with_lets [] c.args.scope.now (lets_of_phases c.args.file.now.entries (lent_entries xs))) gives.0,
+      gives.1 ∙
+          (c.args.phases.ok.0 ∙ sym (ap length gives.0)),
+    )
 
 pub phases-preserved : goal.phases-preserved
 phases-preserved c = (
-  phase_declared c.args.file.now.entries _ _ _ _ _ _ _ c.in-Some.ensures.steps.0 (c.in_ok-lets.ensures ∙ ap (inside is_let c.args.file.now.entries) c.number.ensures)
+  phase_declared c.args.file.now.entries _ _ _ _ _ _ _ c.in-Some.ensures.steps.0
+      (c.in_ok-lets.ensures ∙ ap (inside is_let c.args.file.now.entries) c.number.ensures)
       (c.in_ok-declare_all.ensures ∙ ap (λ p. with_lets p c.phases.scope (lent_entries c.in_ok-lets.lets.items)) c.new-none.ensures) c.phases.invariant.0,
   less _ _ _ _ _ c.in-Some.ensures.steps.0 c.in-Some.ensures.steps.1 c.phases.invariant.1,
 )

@@ -10,7 +10,8 @@ actives-init c =
 
 pub actives-preserved : goal.actives-preserved
 actives-preserved c = (
-  (λ ids known. active_on ids _ _ _ _ _ _ _ c.in-Some.ensures.steps.0 (c.in_ok-push_places.ensures ids known) c.attribute.ensures (c.actives.invariant.0 ids known)),
+  (λ ids known. active_on ids _ _ _ _ _ _ _ c.in-Some.ensures.steps.0 (c.in_ok-push_places.ensures ids known) c.attribute.ensures
+      (c.actives.invariant.0 ids known)),
   less _ _ _ _ _ c.in-Some.ensures.steps.0 c.in-Some.ensures.steps.1 c.actives.invariant.1,
 )
 

@@ -6,5 +6,6 @@ use Rattle.schematron_compile.proofs.BuiltLemmas.{picked_part}
 use Rattle.schematron_compile.proofs.rules.lets_among.Goals as goal
 
 pub puts-preserved : goal.puts-preserved
-puts-preserved c = picked_part seen_put (λ (put : Put). put.entry) (λ (e : Entry). is_let e.role) c.args.puts.now c.puts.put-index c.put-item.result _ _ _ c.puts-test.true c.put-item.is
+puts-preserved c = picked_part seen_put (λ (put : Put). put.entry) (λ (e : Entry). is_let e.role) c.args.puts.now c.puts.put-index c.put-item.result _ _ _
+    c.puts-test.true c.put-item.is
     c.is_let.ensures c.puts.invariant c.in_ok-push_if.ensures

@@ -18,5 +18,6 @@ returns-in-Ok-clause-rule c =
 
 pub returns-in-Ok-clause-scope : goal.returns-in-Ok-clause-scope
 returns-in-Ok-clause-scope c =
-    cut_back c.args.instance.now.params c.args.scope.now c.lets_and_assertions.new.scope c.truncate.new.self (lets_among (lent_puts c.args.puts.now)) c.count-count.result
+    cut_back c.args.instance.now.params c.args.scope.now c.lets_and_assertions.new.scope c.truncate.new.self
+    (lets_among (lent_puts c.args.puts.now)) c.count-count.result
     c.count-count.ensures c.in-Ok.ensures.scope c.truncate.ensures

@@ -9,5 +9,6 @@ abbrev pub invariant-entries : goal.invariant-entries
 invariant-entries l = record {
   names : spec.AreKeysOf spec.name_key l.names (seen_entries (take l.e-index l.entries));
   left : first_declared (seen_entries l.entries)
-      ≡ first_in (declared_behind (seen_entries l.entries) (abstract_rules (seen_entries l.entries)) (seen_entries (take l.e-index l.entries)) (seen_entries (drop l.e-index l.entries)));
+      ≡ first_in (declared_behind (seen_entries l.entries) (abstract_rules (seen_entries l.entries)) (seen_entries (take l.e-index l.entries))
+      (seen_entries (drop l.e-index l.entries)));
 }

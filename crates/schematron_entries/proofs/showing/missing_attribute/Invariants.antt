@@ -8,5 +8,7 @@ use Rattle.schematron_entries.specs.Seen.{seen_entry}
 use Rattle.schematron_entries.proofs.showing.missing_attribute.Given as goal
 
 abbrev pub invariant-needed : goal.invariant-needed
-invariant-needed l = spec.first_in (flat_map (λ name. spec.when (is_none (attribute name (seen_entry l.e))) (spec.fault MissingAttribute (Some name) (seen_entry l.e))) (drop l.name-index l.needed))
+invariant-needed l = spec.first_in
+    (flat_map (λ name. spec.when (is_none (attribute name (seen_entry l.e))) (spec.fault MissingAttribute (Some name) (seen_entry l.e)))
+    (drop l.name-index l.needed))
     ≡ spec.first_in (spec.missing_attribute (seen_entry l.e))

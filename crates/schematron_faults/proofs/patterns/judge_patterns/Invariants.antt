@@ -8,6 +8,7 @@ use Rattle.schematron_faults.proofs.patterns.judge_patterns.Given as goal
 
 abbrev pub invariant-instances : goal.invariant-instances
 invariant-instances l = record {
-  goes : IsRead l.file → Goes l.initial.search l.search (flat_map (written_pattern l.file (outer_scope l.file.entries)) (map seen_instance (take l.at l.instances.items)));
+  goes : IsRead l.file → Goes l.initial.search l.search
+      (flat_map (written_pattern l.file (outer_scope l.file.entries)) (map seen_instance (take l.at l.instances.items)));
   scopes : AreAll l.scopes (outer_scope l.file.entries);
 }

@@ -7,6 +7,7 @@ use Rattle.schematron_faults.proofs.phases.declare_inside.Given as goal
 
 abbrev pub invariant-lets : goal.invariant-lets
 invariant-lets l = record {
-  scope : with_lets [] l.scope (map (λ e. seen_entry e.now) (into_iter_items l.e-iterator)) ≡ with_lets [] l.initial.scope (inside is_let l.file.entries l.number);
+  scope : with_lets [] l.scope (map (λ e. seen_entry e.now) (into_iter_items l.e-iterator)) ≡ with_lets [] l.initial.scope
+      (inside is_let l.file.entries l.number);
   count : into_iter_len l.e-iterator ≡ length (into_iter_items l.e-iterator);
 }

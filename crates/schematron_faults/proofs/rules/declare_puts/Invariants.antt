@@ -7,5 +7,6 @@ use Rattle.schematron_faults.proofs.rules.declare_puts.Given as goal
 abbrev pub invariant-puts : goal.invariant-puts
 invariant-puts l = record {
   goes : Goes l.initial.search l.search [];
-  scope : with_lets l.params l.scope (lets_among (map seen_put (drop l.put-index l.puts))) ≡ with_lets l.params l.initial.scope (lets_among (map seen_put l.puts));
+  scope : with_lets l.params l.scope (lets_among (map seen_put (drop l.put-index l.puts))) ≡ with_lets l.params l.initial.scope
+      (lets_among (map seen_put l.puts));
 }

@@ -9,6 +9,7 @@ use Rattle.schematron_faults.proofs.rules.judge_parts.Given as goal
 
 abbrev pub invariant-parts : goal.invariant-parts
 invariant-parts l = record {
-  goes : (u : Search) → Goes l.search u (written_parts l.stand l.params l.all (map (λ e. seen_entry e.now) (into_iter_items l.part-iterator))) → Goes l.fn.search u (written_parts l.stand l.params l.all (inside is_part l.file.entries (seen_entry l.e).number));
+  goes : (u : Search) → Goes l.search u (written_parts l.stand l.params l.all (map (λ e. seen_entry e.now) (into_iter_items l.part-iterator))) →
+      Goes l.fn.search u (written_parts l.stand l.params l.all (inside is_part l.file.entries (seen_entry l.e).number));
   count : into_iter_len l.part-iterator ≡ length (into_iter_items l.part-iterator);
 }

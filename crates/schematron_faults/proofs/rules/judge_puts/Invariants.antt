@@ -7,6 +7,8 @@ use Rattle.schematron_faults.proofs.rules.judge_puts.Given as goal
 
 abbrev pub invariant-puts : goal.invariant-puts
 invariant-puts l = record {
-  goes : (u : Search) → Goes l.search u (written_puts l.file.entries l.params l.all l.before (map seen_put (drop l.put-index l.puts))) → Goes l.initial.search u (written_puts l.file.entries l.params l.all l.initial.before (map seen_put l.puts));
-  before : with_lets l.params l.before (lets_among (map seen_put (drop l.put-index l.puts))) ≡ with_lets l.params l.initial.before (lets_among (map seen_put l.puts));
+  goes : (u : Search) → Goes l.search u (written_puts l.file.entries l.params l.all l.before (map seen_put (drop l.put-index l.puts))) →
+      Goes l.initial.search u (written_puts l.file.entries l.params l.all l.initial.before (map seen_put l.puts));
+  before : with_lets l.params l.before (lets_among (map seen_put (drop l.put-index l.puts))) ≡ with_lets l.params l.initial.before
+      (lets_among (map seen_put l.puts));
 }

@@ -5,4 +5,5 @@ pub entries-init : goal.entries-init
 entries-init c = no_texts c.args.blanks.now _
 
 pub entries-preserved : goal.entries-preserved
-entries-preserved c = texts_on c.args.blanks.now c.args.entries.now c.entries.e-index c.e-item.result c.entries.texts c.take_entry.new.texts c.entries-test.true c.e-item.is c.in_ok-take_entry.ensures c.entries.invariant
+entries-preserved c = texts_on c.args.blanks.now c.args.entries.now c.entries.e-index c.e-item.result c.entries.texts c.take_entry.new.texts c.entries-test.true
+    c.e-item.is c.in_ok-take_entry.ensures c.entries.invariant

@@ -8,4 +8,5 @@ use Rattle.schematron_graph.proofs.once.push_part_once.Goals as goal
 pub returns-then-contains-clause-alike : goal.returns-then-contains-clause-alike
 returns-then-contains-clause-alike c =
     subst (λ p. Alike c.args.out.now.items (c.args.out.now.items ++ things_of (found (things_behind (bodies_of c.args.bodies.now))) p)) (sym c.in-Puts.is)
-    (alike-skip c.args.out.now.items (found (things_behind (bodies_of c.args.bodies.now)) c.in-Puts.rule) (c.requires.written c.in-Puts.rule (sym c.contains.ensures ∙ c.if-contains.true)))
+    (alike-skip c.args.out.now.items (found (things_behind (bodies_of c.args.bodies.now)) c.in-Puts.rule)
+    (c.requires.written c.in-Puts.rule (sym c.contains.ensures ∙ c.if-contains.true)))

@@ -3,19 +3,22 @@ use Rattle.schematron_graph.specs.declared.part.Part.{Part}
 use Rattle.schematron_graph.specs.Rules.{bodies_of, things_of}
 use Rattle.schematron_graph.specs.Ranked.{found, things_behind}
 use Rattle.schematron_graph.proofs.RankedLemmas.{things_of-Agrees}
-use Rattle.schematron_graph.proofs.WalkLemmas.{behind_one, things_left, rest_of, first_of, rest-first, things_left-own, things_left-puts, things_left-back, things_left-end, turns_left-own, turns_left-puts, turns_left-back}
+use Rattle.schematron_graph.proofs.WalkLemmas.{behind_one, things_left, rest_of, first_of, rest-first, things_left-own, things_left-puts, things_left-back}
+use Rattle.schematron_graph.proofs.WalkLemmas.{things_left-end, turns_left-own, turns_left-puts, turns_left-back}
 use Rattle.schematron_graph.proofs.walk.push_things.Goals as goal
 
 pub turns-init : goal.turns-init
 turns-init c =
     let bodies : List (List Part) = bodies_of c.args.bodies.now in
     let all : things_left bodies (first_of c.args.rank) [] ≡ found (things_behind bodies) c.args.rank =
-    append-nil (rest_of (things_of (found (things_behind bodies))) bodies (first_of c.args.rank)) ∙ sym (rest-first things_of things_of-Agrees bodies c.args.rank c.requires) in
+    append-nil (rest_of (things_of (found (things_behind bodies))) bodies (first_of c.args.rank)) ∙
+    sym (rest-first things_of things_of-Agrees bodies c.args.rank c.requires) in
     rw c.new-above.ensures.items (ap (λ t. c.args.out.now.items ++ t) all)
 
 pub turns-smaller-in-Some-Own : goal.turns-smaller-in-Some-Own
 turns-smaller-in-Some-Own c =
-    let e = turns_left-own (bodies_of c.args.bodies.now) c.turns.place c.turns.above.items c.in-Some-Own.thing (sym c.in-Some-Own.ensures.part ∙ ap Some c.in-Some-Own.field-0-is) in
+    let e = turns_left-own (bodies_of c.args.bodies.now) c.turns.place c.turns.above.items c.in-Some-Own.thing
+    (sym c.in-Some-Own.ensures.part ∙ ap Some c.in-Some-Own.field-0-is) in
     omega (arith, e)
 
 pub turns-preserved-in-Some-Own : goal.turns-preserved-in-Some-Own
@@ -28,13 +31,15 @@ turns-preserved-in-Some-Own c =
 
 pub turns-smaller-in-Some-Puts : goal.turns-smaller-in-Some-Puts
 turns-smaller-in-Some-Puts c =
-    let e = turns_left-puts (bodies_of c.args.bodies.now) c.turns.place c.turns.above.items c.in-Some-Puts.rule c.requires (sym c.in-Some-Puts.ensures.part ∙ ap Some c.in-Some-Puts.field-0-is) in
+    let e = turns_left-puts (bodies_of c.args.bodies.now) c.turns.place c.turns.above.items c.in-Some-Puts.rule c.requires
+    (sym c.in-Some-Puts.ensures.part ∙ ap Some c.in-Some-Puts.field-0-is) in
     rw c.in_ok-push-in-Some-Puts.ensures.items (omega (arith, e))
 
 pub turns-preserved-in-Some-Puts : goal.turns-preserved-in-Some-Puts
 turns-preserved-in-Some-Puts c =
     let bodies : List (List Part) = bodies_of c.args.bodies.now in
-    let e = things_left-puts bodies c.turns.place c.turns.above.items c.in-Some-Puts.rule c.requires (sym c.in-Some-Puts.ensures.part ∙ ap Some c.in-Some-Puts.field-0-is) in
+    let e = things_left-puts bodies c.turns.place c.turns.above.items c.in-Some-Puts.rule c.requires
+    (sym c.in-Some-Puts.ensures.part ∙ ap Some c.in-Some-Puts.field-0-is) in
     rw c.in_ok-push-in-Some-Puts.ensures.items (ap (λ t. c.turns.out.items ++ t) (sym e) ∙ c.turns.invariant)
 
 pub turns-smaller : goal.turns-smaller
@@ -52,6 +57,8 @@ pub returns-in-None-pop : goal.returns-in-None-pop
 returns-in-None-pop c =
     let bodies : List (List Part) = bodies_of c.args.bodies.now in
     let none : c.turns.above.items ≡ [] =
-    c.in-None-pop.ensures.items ∙ (append-nil c.pop.new.self.items ∙ (c.in-None-pop.ensures.rest ∙ ap (λ n. take (n - 1) c.turns.above.items) c.in-None-pop.ensures.cases.0)) in
+    c.in-None-pop.ensures.items ∙ (append-nil c.pop.new.self.items ∙
+    (c.in-None-pop.ensures.rest ∙ ap (λ n. take (n - 1) c.turns.above.items) c.in-None-pop.ensures.cases.0)) in
     sym (append-nil c.turns.out.items)
-    ∙ (ap (λ t. c.turns.out.items ++ t) (sym (things_left-end bodies c.turns.place (sym c.in-None.ensures.part)) ∙ ap (things_left bodies c.turns.place) (sym none)) ∙ c.turns.invariant)
+    ∙ (ap (λ t. c.turns.out.items ++ t) (sym (things_left-end bodies c.turns.place (sym c.in-None.ensures.part)) ∙
+    ap (things_left bodies c.turns.place) (sym none)) ∙ c.turns.invariant)

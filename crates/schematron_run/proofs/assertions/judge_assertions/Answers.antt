@@ -13,15 +13,20 @@ judge_assertion-requires-clause-ready g c =
 
 pub assertions-preserved : goal.assertions-preserved
 assertions-preserved g c = record {
-  same = map-set_same ready_assertion c.assertions.assertions c.assertions.k c.judge_assertion.new.assertion c.index-assertions-k.result c.in_ok-judge_assertion.ensures.same
+  same = map-set_same ready_assertion c.assertions.assertions c.assertions.k c.judge_assertion.new.assertion c.index-assertions-k.result
+      c.in_ok-judge_assertion.ensures.same
       ∙ c.assertions.invariant.same;
-  ready = All-set (IsAssertionFor c.args.scene.now.doc.now) c.assertions.assertions c.assertions.k c.judge_assertion.new.assertion c.in_ok-judge_assertion.ensures.ready c.assertions.invariant.ready;
-  found = flat_seen (by_assertion (nodes_of c.args.scene.now) c.args.n c.args.env.now) ready_assertion c.assertions.assertions c.args.assertions.now c.assertions.k
-      c.index-assertions-k.result c.assertions.findings c.judge_assertion.new.findings (omega (arith, c.assertions-test.true, c.assertions.auto.assertions)) c.assertions.invariant.same
+  ready = All-set (IsAssertionFor c.args.scene.now.doc.now) c.assertions.assertions c.assertions.k c.judge_assertion.new.assertion
+      c.in_ok-judge_assertion.ensures.ready c.assertions.invariant.ready;
+  found = flat_seen (by_assertion (nodes_of c.args.scene.now) c.args.n c.args.env.now) ready_assertion c.assertions.assertions c.args.assertions.now
+      c.assertions.k
+      c.index-assertions-k.result c.assertions.findings c.judge_assertion.new.findings
+      (omega (arith, c.assertions-test.true, c.assertions.auto.assertions)) c.assertions.invariant.same
       c.in_ok-judge_assertion.ensures.found c.assertions.invariant.found;
 }
 
 pub returns-clause-found : goal.returns-clause-found
 returns-clause-found g c =
-    flat_seen-done (by_assertion (nodes_of c.args.scene.now) c.args.n c.args.env.now) ready_assertion c.assertions.assertions c.args.assertions.now c.assertions.k c.assertions.findings
+    flat_seen-done (by_assertion (nodes_of c.args.scene.now) c.args.n c.args.env.now) ready_assertion c.assertions.assertions c.args.assertions.now
+    c.assertions.k c.assertions.findings
     (omega (arith, c.assertions-test.false, c.assertions.auto.assertions)) c.assertions.invariant.same c.assertions.invariant.found

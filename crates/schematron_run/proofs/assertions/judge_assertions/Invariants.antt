@@ -11,5 +11,6 @@ invariant-assertions g l =
     record {
       same : map ready_assertion l.assertions ≡ map ready_assertion l.initial.assertions;
       ready : All (IsAssertionFor l.scene.doc.now) l.assertions;
-      found : l.findings ++ flat_map f (drop l.k (map ready_assertion l.initial.assertions)) ≡ l.initial.findings ++ flat_map f (map ready_assertion l.initial.assertions);
+      found : l.findings ++ flat_map f (drop l.k (map ready_assertion l.initial.assertions)) ≡ l.initial.findings ++
+          flat_map f (map ready_assertion l.initial.assertions);
     }

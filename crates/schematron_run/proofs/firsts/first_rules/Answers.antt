@@ -16,7 +16,8 @@ rules-init g c = record {
 }
 
 pub mark_rule-requires-clause-context : goal.mark_rule-requires-clause-context
-mark_rule-requires-clause-context g c = all_at HasContext seen_rule c.args.rules.now c.rules.rule-index c.rule-item.result c.requires.contexts c.rule-item.is c.rules-test.true
+mark_rule-requires-clause-context g c = all_at HasContext seen_rule c.args.rules.now c.rules.rule-index c.rule-item.result c.requires.contexts c.rule-item.is
+    c.rules-test.true
 
 pub mark_rule-requires-clause-long : goal.mark_rule-requires-clause-long
 mark_rule-requires-clause-long g c = c.rules.invariant.long ∙ c.requires.long
@@ -31,17 +32,21 @@ rules-preserved g c =
       long = c.mark_rule.ensures.long ∙ c.rules.invariant.long;
       number = c.in_ok-number.ensures ∙ ap (λ k. k + 1) c.rules.invariant.number;
       touched = c.in_ok-mark_rule.ensures.touched;
-      coming = coming_next nodes c.args.env.now c.args.rules.now c.rules.rule-index c.rule-item.result c.rules.table c.mark_rule.new.table c.rule-item.is c.rules-test.true
-          (subst (λ k. MarkedBy nodes c.args.env.now (seen_rule c.rule-item.result) k c.rules.table c.mark_rule.new.table) c.rules.invariant.number c.in_ok-mark_rule.ensures.kept)
+      coming = coming_next nodes c.args.env.now c.args.rules.now c.rules.rule-index c.rule-item.result c.rules.table c.mark_rule.new.table c.rule-item.is
+          c.rules-test.true
+          (subst (λ k. MarkedBy nodes c.args.env.now (seen_rule c.rule-item.result) k c.rules.table c.mark_rule.new.table) c.rules.invariant.number
+          c.in_ok-mark_rule.ensures.kept)
           c.rules.invariant.coming;
     }
 
 pub returns-clause-firsts : goal.returns-clause-firsts
-returns-clause-firsts g c = coming_end (nodes_of c.args.scene.now) c.args.env.now c.args.rules.now c.rules.rule-index c.rules.table c.rules-test.false c.rules.invariant.coming
+returns-clause-firsts g c = coming_end (nodes_of c.args.scene.now) c.args.env.now c.args.rules.now c.rules.rule-index c.rules.table c.rules-test.false
+    c.rules.invariant.coming
 
 pub returns-clause-touched : goal.returns-clause-touched
 returns-clause-touched g c =
     let nodes = nodes_of c.args.scene.now in
     let walked = c.documents_are_walkable.ensures in
-    c.in_order.ensures.numbers nodes (are_numbers nodes walked.walkable c.rules.table c.rules.touched.items (c.rules.invariant.long ∙ (c.requires.long ∙ sym walked.long)) c.rules.invariant.touched)
+    c.in_order.ensures.numbers nodes (are_numbers nodes walked.walkable c.rules.table c.rules.touched.items
+    (c.rules.invariant.long ∙ (c.requires.long ∙ sym walked.long)) c.rules.invariant.touched)
     ∙ kept_of nodes c.rules.table c.rules.touched.items c.rules.invariant.touched

@@ -23,4 +23,5 @@ lets-preserved g c = record {
 
 pub returns-clause-filled : goal.returns-clause-filled
 returns-clause-filled g c =
-    fill_done (nodes_of c.args.scene.now) c.args.n c.lets.lets c.args.lets.now c.lets.k c.lets.env (omega (arith, c.lets-test.false, c.lets.auto.lets)) c.lets.invariant.same c.lets.invariant.filled
+    fill_done (nodes_of c.args.scene.now) c.args.n c.lets.lets c.args.lets.now c.lets.k c.lets.env
+    (omega (arith, c.lets-test.false, c.lets.auto.lets)) c.lets.invariant.same c.lets.invariant.filled

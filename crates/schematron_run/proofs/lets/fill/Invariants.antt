@@ -11,5 +11,6 @@ invariant-lets g l = record {
   same : map ready_let l.lets ≡ map ready_let l.initial.lets;
   ready : All (IsLetFor l.scene.doc.now) l.lets;
   within : ValuesWithin (count l.scene) l.env;
-  filled : filled (nodes_of l.scene) l.n (drop l.k (map ready_let l.initial.lets)) l.env ≡ filled (nodes_of l.scene) l.n (map ready_let l.initial.lets) l.initial.env;
+  filled : filled (nodes_of l.scene) l.n (drop l.k (map ready_let l.initial.lets)) l.env ≡ filled (nodes_of l.scene) l.n
+      (map ready_let l.initial.lets) l.initial.env;
 }

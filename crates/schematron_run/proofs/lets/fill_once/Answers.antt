@@ -12,5 +12,6 @@ fill-filled-requires-clause-ready g c = subst (All (IsLetFor c.args.scene.now.do
 pub returns-clause-filled : goal.returns-clause-filled
 returns-clause-filled g c =
     on_ok c.fill-filled.result
-    (λ e. e ∙ ap (λ lets. filled (nodes_of c.args.scene.now) c.args.n lets c.args.env.now) (ap (map ready_let) c.as_mut_slice.ensures.value ∙ c.in_ok-ready.ensures.seen))
+    (λ e. e ∙ ap (λ lets. filled (nodes_of c.args.scene.now) c.args.n lets c.args.env.now) (ap (map ready_let) c.as_mut_slice.ensures.value ∙
+    c.in_ok-ready.ensures.seen))
     c.fill-filled.ensures.filled

@@ -8,4 +8,5 @@ use Rattle.schematron_run.proofs.lets.fill_one.Goals as goal
 pub returns-clause-within : goal.returns-clause-within
 returns-clause-within g c =
     subst (ValuesWithin (count c.args.scene.now)) (sym c.in_ok-push.ensures.ok)
-    (put_within (count c.args.scene.now) c.args.env.now (chars c.as_str.result.now, value c.in_ok-outcome.outcome) c.requires.variables c.in_ok-outcome.ensures.within)
+    (put_within (count c.args.scene.now) c.args.env.now (chars c.as_str.result.now, value c.in_ok-outcome.outcome) c.requires.variables
+    c.in_ok-outcome.ensures.within)

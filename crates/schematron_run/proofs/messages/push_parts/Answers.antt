@@ -15,10 +15,12 @@ parts-preserved g c = record {
   same = map-set_same ready_part c.parts.parts c.parts.k c.push_part.new.part c.index-parts-k.result c.in_ok-push_part.ensures.same ∙ c.parts.invariant.same;
   ready = All-set (IsPartFor c.args.scene.now.doc.now) c.parts.parts c.parts.k c.push_part.new.part c.in_ok-push_part.ensures.ready c.parts.invariant.ready;
   ahead = says_seen (part_text (nodes_of c.args.scene.now) c.args.n c.args.env.now) ready_part c.parts.parts c.args.parts.now c.parts.k c.index-parts-k.result
-      c.args.message.now c.parts.message c.push_part.new.message (omega (arith, c.parts-test.true, c.parts.auto.parts)) c.parts.invariant.same c.in_ok-push_part.ensures.says c.parts.invariant.ahead;
+      c.args.message.now c.parts.message c.push_part.new.message (omega (arith, c.parts-test.true, c.parts.auto.parts)) c.parts.invariant.same
+      c.in_ok-push_part.ensures.says c.parts.invariant.ahead;
 }
 
 pub returns-clause-says : goal.returns-clause-says
 returns-clause-says g c =
-    says_seen-all (part_text (nodes_of c.args.scene.now) c.args.n c.args.env.now) ready_part c.parts.parts c.args.parts.now c.parts.k c.args.message.now c.parts.message
+    says_seen-all (part_text (nodes_of c.args.scene.now) c.args.n c.args.env.now) ready_part c.parts.parts c.args.parts.now c.parts.k c.args.message.now
+    c.parts.message
     (omega (arith, c.parts-test.false, c.parts.auto.parts)) c.parts.invariant.same c.parts.invariant.ahead

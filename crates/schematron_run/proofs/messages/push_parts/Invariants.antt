@@ -14,5 +14,6 @@ invariant-parts g l =
     record {
       same : map ready_part l.parts ≡ map ready_part l.initial.parts;
       ready : All (IsPartFor l.scene.doc.now) l.parts;
-      ahead : (new : Written) → Says (flat_map f (drop l.k (map ready_part l.initial.parts))) l.message new → Says (flat_map f (map ready_part l.initial.parts)) l.initial.message new;
+      ahead : (new : Written) → Says (flat_map f (drop l.k (map ready_part l.initial.parts))) l.message new →
+          Says (flat_map f (map ready_part l.initial.parts)) l.initial.message new;
     }

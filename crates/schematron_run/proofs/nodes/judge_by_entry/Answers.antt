@@ -29,4 +29,5 @@ returns-else-place-rules-clause-found g c =
     let past : length rules ≤ c.in-Some.k = omega arith in
     sym (append-nil old)
     ∙ ap (λ lines. old ++ lines)
-    (sym (ap (by_entry nodes c.args.env.now (map ready_rule rules) c.args.n) c.in-Some.is ∙ no_entry nodes c.args.env.now rules c.args.n c.in-Some.k (slice_get_past rules c.in-Some.k past)))
+    (sym (ap (by_entry nodes c.args.env.now (map ready_rule rules) c.args.n) c.in-Some.is ∙
+    no_entry nodes c.args.env.now rules c.args.n c.in-Some.k (slice_get_past rules c.in-Some.k past)))

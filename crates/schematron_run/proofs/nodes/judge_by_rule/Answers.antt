@@ -11,7 +11,8 @@ pub returns-clause-found : goal.returns-clause-found
 returns-clause-found g c =
     let nodes = nodes_of c.args.scene.now in
     let rule = c.args.rule.now in
-    let told = flat_map (by_assertion nodes c.args.n (filled nodes c.args.n (map ready_let rule.lets.items) c.args.env.now)) (map ready_assertion rule.assertions.items) in
+    let told = flat_map (by_assertion nodes c.args.n (filled nodes c.args.n (map ready_let rule.lets.items) c.args.env.now))
+    (map ready_assertion rule.assertions.items) in
     let old = c.args.findings.now in
     on_ok c.judge_inside.result
     (λ e. e ∙ (ap (λ lines. lines ++ told) c.in_ok-push.ensures.ok

@@ -14,7 +14,8 @@ pub fill-requires-clause-ready : goal.fill-requires-clause-ready
 fill-requires-clause-ready g c = subst (All (IsLetFor c.args.scene.now.doc.now)) (sym c.as_mut_slice.ensures.value) c.requires.ready.lets
 
 pub judge_assertions-requires-clause-ready : goal.judge_assertions-requires-clause-ready
-judge_assertions-requires-clause-ready g c = subst (All (IsAssertionFor c.args.scene.now.doc.now)) (sym c.as_mut_slice-2.ensures.value) c.requires.ready.assertions
+judge_assertions-requires-clause-ready g c = subst (All (IsAssertionFor c.args.scene.now.doc.now))
+    (sym c.as_mut_slice-2.ensures.value) c.requires.ready.assertions
 
 pub returns-clause-found : goal.returns-clause-found
 returns-clause-found g c =
@@ -38,8 +39,10 @@ returns-clause-env g c =
 pub returns-clause-same : goal.returns-clause-same
 returns-clause-same g c =
     let rule = c.args.rule.now in
-    let lets = back_seen ready_let rule.lets c.as_mut_slice.result.now c.fill.new.lets c.as_mut_slice.ensures.len c.in_ok-fill.ensures.same c.as_mut_slice.ensures.value in
-    let assertions = back_seen ready_assertion rule.assertions c.as_mut_slice-2.result.now c.judge_assertions.new.assertions c.as_mut_slice-2.ensures.len c.in_ok-judge_assertions.ensures.same
+    let lets = back_seen ready_let rule.lets c.as_mut_slice.result.now c.fill.new.lets c.as_mut_slice.ensures.len c.in_ok-fill.ensures.same
+    c.as_mut_slice.ensures.value in
+    let assertions = back_seen ready_assertion rule.assertions c.as_mut_slice-2.result.now c.judge_assertions.new.assertions c.as_mut_slice-2.ensures.len
+    c.in_ok-judge_assertions.ensures.same
     c.as_mut_slice-2.ensures.value in
     λ i. record { context = seen_shown rule.source.now.context; lets = lets i; assertions = assertions i }
 
@@ -48,7 +51,9 @@ returns-clause-ready g c =
     let rule = c.args.rule.now in
     let document = c.args.scene.now.doc.now in
     record {
-      lets = back_all ready_let rule.lets c.as_mut_slice.result.now c.fill.new.lets c.as_mut_slice.ensures.len c.in_ok-fill.ensures.same (IsLetFor document) c.in_ok-fill.ensures.ready;
-      assertions = back_all ready_assertion rule.assertions c.as_mut_slice-2.result.now c.judge_assertions.new.assertions c.as_mut_slice-2.ensures.len c.in_ok-judge_assertions.ensures.same
+      lets = back_all ready_let rule.lets c.as_mut_slice.result.now c.fill.new.lets c.as_mut_slice.ensures.len c.in_ok-fill.ensures.same
+          (IsLetFor document) c.in_ok-fill.ensures.ready;
+      assertions = back_all ready_assertion rule.assertions c.as_mut_slice-2.result.now c.judge_assertions.new.assertions c.as_mut_slice-2.ensures.len
+          c.in_ok-judge_assertions.ensures.same
           (IsAssertionFor document) c.in_ok-judge_assertions.ensures.ready;
     }

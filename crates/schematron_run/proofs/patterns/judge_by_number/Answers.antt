@@ -7,7 +7,8 @@ use Rattle.schematron_run.proofs.FirstLemmas.{no_number, a_number}
 use Rattle.schematron_run.proofs.patterns.judge_by_number.Goals as goal
 
 pub judge_pattern-requires-clause-contexts : goal.judge_pattern-requires-clause-contexts
-judge_pattern-requires-clause-contexts g c = all_of HaveContexts seen_pattern c.args.patterns.now c.args.k c.in-Some.pattern.now c.requires.contexts (sym c.in-Some.ensures)
+judge_pattern-requires-clause-contexts g c = all_of HaveContexts seen_pattern c.args.patterns.now c.args.k c.in-Some.pattern.now c.requires.contexts
+    (sym c.in-Some.ensures)
 
 pub returns-in-None-clause-found : goal.returns-in-None-clause-found
 returns-in-None-clause-found g c =
@@ -19,5 +20,6 @@ pub returns-in-Some-clause-found : goal.returns-in-Some-clause-found
 returns-in-Some-clause-found g c =
     let old = c.args.findings.now in
     on_ok c.judge_pattern.result
-    (λ e. e ∙ ap (λ lines. old ++ lines) (sym (a_number (nodes_of c.args.scene.now) c.args.env.now c.args.patterns.now c.args.k c.in-Some.pattern.now (sym c.in-Some.ensures))))
+    (λ e. e ∙ ap (λ lines. old ++ lines)
+    (sym (a_number (nodes_of c.args.scene.now) c.args.env.now c.args.patterns.now c.args.k c.in-Some.pattern.now (sym c.in-Some.ensures))))
     c.judge_pattern.ensures.found

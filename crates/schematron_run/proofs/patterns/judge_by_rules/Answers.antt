@@ -17,13 +17,15 @@ pub judge_nodes-requires-clause-within : goal.judge_nodes-requires-clause-within
 judge_nodes-requires-clause-within g c =
     let walked = c.documents_are_walkable.ensures in
     subst (λ k. AreBelow k c.as_slice.result.now) walked.long
-    (kept_below (nodes_of c.args.scene.now) walked.walkable c.first_rules.new.table c.as_slice.result.now (c.as_slice.ensures.value ∙ c.in_ok-touched.ensures.touched))
+    (kept_below (nodes_of c.args.scene.now) walked.walkable c.first_rules.new.table c.as_slice.result.now
+    (c.as_slice.ensures.value ∙ c.in_ok-touched.ensures.touched))
 
 pub clear-requires-clause-within : goal.clear-requires-clause-within
 clear-requires-clause-within g c =
     let walked = c.documents_are_walkable.ensures in
     subst (λ k. AreBelow k c.as_slice-2.result.now) (walked.long ∙ sym (c.first_rules.ensures.long ∙ c.requires.long))
-    (kept_below (nodes_of c.args.scene.now) walked.walkable c.first_rules.new.table c.as_slice-2.result.now (c.as_slice-2.ensures.value ∙ c.in_ok-touched.ensures.touched))
+    (kept_below (nodes_of c.args.scene.now) walked.walkable c.first_rules.new.table c.as_slice-2.result.now
+    (c.as_slice-2.ensures.value ∙ c.in_ok-touched.ensures.touched))
 
 pub clear-requires-clause-touched : goal.clear-requires-clause-touched
 clear-requires-clause-touched g c =
@@ -44,4 +46,5 @@ returns-clause-found g c =
     c.in_ok-judge_nodes.ensures.found
     ∙ (ap (λ rules. old ++ flat_map (λ n. by_entry nodes env rules n (entry table n)) touched) same
     ∙ ap (λ lines. old ++ lines)
-    (all_found nodes walked.walkable env (map seen_rule c.args.rules.now) table touched c.in_ok-touched.ensures.firsts (c.as_slice.ensures.value ∙ c.in_ok-touched.ensures.touched)))
+    (all_found nodes walked.walkable env (map seen_rule c.args.rules.now) table touched c.in_ok-touched.ensures.firsts
+    (c.as_slice.ensures.value ∙ c.in_ok-touched.ensures.touched)))

@@ -16,7 +16,8 @@ returns-clause-found g c =
     let env = c.args.env.now in
     let inner = filled nodes 0 (seen_lets pattern.lets) env in
     let inside : c.fill_once.new.env ≡ inner =
-    c.in_ok-fill_once.ensures.filled ∙ (ap (λ n. filled nodes n (seen_lets c.as_slice.result.now) env) c.document.ensures.number ∙ ap (λ lets. filled nodes 0 (seen_lets lets) env) c.as_slice.ensures) in
+    c.in_ok-fill_once.ensures.filled ∙ (ap (λ n. filled nodes n (seen_lets c.as_slice.result.now) env) c.document.ensures.number ∙
+    ap (λ lets. filled nodes 0 (seen_lets lets) env) c.as_slice.ensures) in
     let told = flat_map (λ (node : Node). by_first nodes inner node 0 (map seen_rule pattern.rules)) nodes in
     c.in_ok-judge_by_rules.ensures.found
     ∙ (ap (λ v. c.push.new.self ++ flat_map (λ (node : Node). by_first nodes v node 0 (map seen_rule c.as_slice-2.result.now)) nodes) inside

@@ -26,12 +26,14 @@ numbers-preserved g c =
       env = c.in_ok-judge_by_number.ensures.env ∙ c.numbers.invariant.env;
       long = c.judge_by_number.ensures.long ∙ c.numbers.invariant.long;
       clear = c.in_ok-judge_by_number.ensures.clear;
-      found = flat_next-plain (by_number nodes c.args.env.now patterns) numbers c.numbers.k-index k c.numbers.findings c.judge_by_number.new.findings (drop_more numbers c.numbers.k-index 0 c.numbers-test.true)
+      found = flat_next-plain (by_number nodes c.args.env.now patterns) numbers c.numbers.k-index k c.numbers.findings c.judge_by_number.new.findings
+          (drop_more numbers c.numbers.k-index 0 c.numbers-test.true)
           (c.in_ok-judge_by_number.ensures.found ∙ ap (λ env. c.numbers.findings ++ by_number nodes env patterns k) c.numbers.invariant.env)
           c.numbers.invariant.found;
     }
 
 pub returns : goal.returns
 returns g c =
-    flat_done-plain (by_number (nodes_of c.args.scene.now) c.args.env.now (map seen_pattern c.args.patterns.now)) c.args.numbers.now c.numbers.k-index c.numbers.findings c.numbers-test.false
+    flat_done-plain (by_number (nodes_of c.args.scene.now) c.args.env.now (map seen_pattern c.args.patterns.now)) c.args.numbers.now c.numbers.k-index
+    c.numbers.findings c.numbers-test.false
     c.numbers.invariant.found

@@ -11,16 +11,19 @@ pub run_plan-requires-clause-focus : goal.run_plan-requires-clause-focus
 run_plan-requires-clause-focus g c = subst (λ (document : Document). c.args.n < length document.nodes) (sym c.requires.ready) c.requires.within
 
 pub run_plan-requires-clause-env : goal.run_plan-requires-clause-env
-run_plan-requires-clause-env g c = subst (λ (document : Document). ValuesWithin (length document.nodes) c.args.env.now) (sym c.requires.ready) c.requires.variables
+run_plan-requires-clause-env g c = subst (λ (document : Document). ValuesWithin (length document.nodes) c.args.env.now)
+    (sym c.requires.ready) c.requires.variables
 
 pub returns-clause-value : goal.returns-clause-value
 returns-clause-value g c =
-    subst (λ (document : Document). IfOk c.run_plan.result (λ outcome. value outcome ≡ mean (tree_nodes document) (expression c.args.run.now.plan) (at_top c.args.n c.args.env.now)))
+    subst (λ (document : Document). IfOk c.run_plan.result
+    (λ outcome. value outcome ≡ mean (tree_nodes document) (expression c.args.run.now.plan) (at_top c.args.n c.args.env.now)))
     c.requires.ready c.run_plan.ensures.value
 
 pub returns-clause-within : goal.returns-clause-within
 returns-clause-within g c =
-    subst (λ (document : Document). IfOk c.run_plan.result (λ outcome. ValueWithin (length document.nodes) (value outcome))) c.requires.ready c.run_plan.ensures.within
+    subst (λ (document : Document). IfOk c.run_plan.result (λ outcome. ValueWithin (length document.nodes) (value outcome))) c.requires.ready
+    c.run_plan.ensures.within
 
 pub returns-clause-plan : goal.returns-clause-plan
 returns-clause-plan g c = c.run_plan.ensures.slots.plan

@@ -11,10 +11,14 @@ characters-init c = λ told e. e ∙ ap message_of (sym (append-nil told))
 
 pub characters-preserved : goal.characters-preserved
 characters-preserved c =
-    let turn = YieldsList-turn (YieldsList-from_chars c.args.piece.now c.utf8.piece cc) c.characters.yielded _ c.characters.yielded_by _ _ c.in-Some.c c.in-Some.is c.next.ensures.steps in
-    λ told e. rw (length_push c.characters.yielded c.in-Some.c) (c.in_ok-spacing.ensures _ (c.characters.invariant told e) ∙ ap message_of (told_more told (chars c.args.piece.now) _ c.in-Some.c turn))
+    let turn = YieldsList-turn (YieldsList-from_chars c.args.piece.now c.utf8.piece cc) c.characters.yielded _ c.characters.yielded_by _ _ c.in-Some.c
+    c.in-Some.is c.next.ensures.steps in
+    λ told e. rw (length_push c.characters.yielded c.in-Some.c) (c.in_ok-spacing.ensures _ (c.characters.invariant told e) ∙
+    ap message_of (told_more told (chars c.args.piece.now) _ c.in-Some.c turn))
 
 pub returns : goal.returns
 returns c =
-    let end = YieldsList-end (YieldsList-from_chars c.args.piece.now c.utf8.piece cc) c.characters.yielded _ c.characters.yielded_by _ _ c.in-None.is c.next.ensures.steps in
-    λ told e. c.characters.invariant told e ∙ ap (λ t. message_of (told ++ t)) (take_all (length c.characters.yielded) (chars c.args.piece.now) (omega (arith, end.1)))
+    let end = YieldsList-end (YieldsList-from_chars c.args.piece.now c.utf8.piece cc) c.characters.yielded _ c.characters.yielded_by _ _ c.in-None.is
+    c.next.ensures.steps in
+    λ told e. c.characters.invariant told e ∙ ap (λ t. message_of (told ++ t))
+    (take_all (length c.characters.yielded) (chars c.args.piece.now) (omega (arith, end.1)))

@@ -6,4 +6,5 @@ use Rattle.schematron_texts.proofs.messages.push_piece.Given as goal
 abbrev pub invariant-characters : goal.invariant-characters
 invariant-characters l =
     (told : List ℕ) → record { text = chars (string_bytes l.fn.text); begun = l.fn.spacing.begun; waits = l.fn.spacing.waits } ≡ message_of told
-    → record { text = chars (string_bytes l.text); begun = l.spacing.begun; waits = l.spacing.waits } ≡ message_of (told ++ take (length l.yielded) (chars l.piece))
+    → record { text = chars (string_bytes l.text); begun = l.spacing.begun; waits = l.spacing.waits } ≡ message_of
+    (told ++ take (length l.yielded) (chars l.piece))

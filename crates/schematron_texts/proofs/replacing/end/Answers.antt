@@ -7,5 +7,8 @@ use Rattle.schematron_texts.proofs.replacing.end.Goals as goal
 pub returns-then-branch : goal.returns-then-branch
 returns-then-branch c =
     let made = all_made c.args.most c.in_ok-close.field-0 _ _ c.if-branch.true c.in_ok-close.ensures.made in
-    let out = string_bytes c.close.new.walk.out in
-    (made, subst (λ t. bytes_of t ≤ c.args.most) made (not_too_long out c.args.most (IsUtf8-string_bytes c.close.new.walk.out) (omega (arith, c.close.ensures.within))))
+    let out = string_bytes c.close.new.walk.out in (
+      made,
+      subst (λ t. bytes_of t ≤ c.args.most) made
+          (not_too_long out c.args.most (IsUtf8-string_bytes c.close.new.walk.out) (omega (arith, c.close.ensures.within))),
+    )

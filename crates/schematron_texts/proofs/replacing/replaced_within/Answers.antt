@@ -21,23 +21,30 @@ characters-init c =
 
 pub returns-then-not-branch : goal.returns-then-not-branch
 returns-then-not-branch c =
-    let turn = YieldsList-turn (YieldsList-from_chars c.args.text.now c.utf8.text cc) c.characters.yielded _ c.characters.yielded_by _ _ c.in-Some.c c.in-Some.is c.next.ensures.steps in
-    let whole = ap (made_with c.args.parameters.now c.characters.walk) (sym (rest_at (chars c.args.text.now) _ c.in-Some.c turn)) ∙ c.characters.invariant.all in
+    let turn = YieldsList-turn (YieldsList-from_chars c.args.text.now c.utf8.text cc) c.characters.yielded _ c.characters.yielded_by _ _ c.in-Some.c
+    c.in-Some.is c.next.ensures.steps in
+    let whole = ap (made_with c.args.parameters.now c.characters.walk) (sym (rest_at (chars c.args.text.now) _ c.in-Some.c turn)) ∙
+    c.characters.invariant.all in
     subst (λ t. c.args.most < bytes_of t) whole
-    (too_much c.args.most c.in_ok-take.field-0 _ _ c.if-not-branch.true (c.in_ok-take.ensures.made (drop (length c.characters.yielded + 1) (chars c.args.text.now))))
+    (too_much c.args.most c.in_ok-take.field-0 _ _ c.if-not-branch.true
+    (c.in_ok-take.ensures.made (drop (length c.characters.yielded + 1) (chars c.args.text.now))))
 
 pub characters-preserved : goal.characters-preserved
 characters-preserved c =
-    let turn = YieldsList-turn (YieldsList-from_chars c.args.text.now c.utf8.text cc) c.characters.yielded _ c.characters.yielded_by _ _ c.in-Some.c c.in-Some.is c.next.ensures.steps in
+    let turn = YieldsList-turn (YieldsList-from_chars c.args.text.now c.utf8.text cc) c.characters.yielded _ c.characters.yielded_by _ _ c.in-Some.c
+    c.in-Some.is c.next.ensures.steps in
     record {
       all = rw (length_push c.characters.yielded c.in-Some.c)
-          (all_made c.args.most c.in_ok-take.field-0 _ _ c.if-not-branch.false (c.in_ok-take.ensures.made (drop (length c.characters.yielded + 1) (chars c.args.text.now)))
+          (all_made c.args.most c.in_ok-take.field-0 _ _ c.if-not-branch.false
+          (c.in_ok-take.ensures.made (drop (length c.characters.yielded + 1) (chars c.args.text.now)))
           ∙ (ap (made_with c.args.parameters.now c.characters.walk) (sym (rest_at (chars c.args.text.now) _ c.in-Some.c turn)) ∙ c.characters.invariant.all));
       within = c.take.ensures.within;
     }
 
 pub returns : goal.returns
 returns c =
-    let end = YieldsList-end (YieldsList-from_chars c.args.text.now c.utf8.text cc) c.characters.yielded _ c.characters.yielded_by _ _ c.in-None.is c.next.ensures.steps in
-    let whole = sym (at_drop_all (made_with c.args.parameters.now c.characters.walk) (chars c.args.text.now) _ (omega (arith, end.1))) ∙ c.characters.invariant.all in
+    let end = YieldsList-end (YieldsList-from_chars c.args.text.now c.utf8.text cc) c.characters.yielded _ c.characters.yielded_by _ _ c.in-None.is
+    c.next.ensures.steps in
+    let whole = sym (at_drop_all (made_with c.args.parameters.now c.characters.walk) (chars c.args.text.now) _ (omega (arith, end.1))) ∙
+    c.characters.invariant.all in
     subst (λ t. IfOk c.end.result (λ made. IsWithin c.args.most t made)) whole c.end.ensures

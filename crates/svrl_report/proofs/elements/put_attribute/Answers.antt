@@ -5,4 +5,5 @@ use Rattle.svrl_report.proofs.WriterSteps.{Makes-same}
 use Rattle.svrl_report.proofs.elements.put_attribute.Goals as goal
 
 pub returns-clause-makes : goal.returns-clause-makes
-returns-clause-makes g c = Makes-same _ _ _ _ _ _ _ (ap (λ v. call_attribute c.args.name.now v ∷ []) (bytes-of c.as_str.result.now c.args.value.now c.as_str.utf8 c.as_str.ensures)) c.attribute.ensures.makes
+returns-clause-makes g c = Makes-same _ _ _ _ _ _ _
+    (ap (λ v. call_attribute c.args.name.now v ∷ []) (bytes-of c.as_str.result.now c.args.value.now c.as_str.utf8 c.as_str.ensures)) c.attribute.ensures.makes

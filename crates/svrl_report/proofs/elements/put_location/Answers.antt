@@ -5,4 +5,6 @@ use Rattle.svrl_report.proofs.WriterSteps.{Makes-same}
 use Rattle.svrl_report.proofs.elements.put_location.Goals as goal
 
 pub returns-clause-makes : goal.returns-clause-makes
-returns-clause-makes g c = Makes-same _ _ _ _ _ _ _ (ap (λ v. call_attribute (codes "location") v ∷ []) (bytes-of c.as_str.result.now c.args.location.now c.as_str.utf8 c.as_str.ensures)) c.attribute.ensures.makes
+returns-clause-makes g c = Makes-same _ _ _ _ _ _ _
+    (ap (λ v. call_attribute (codes "location") v ∷ []) (bytes-of c.as_str.result.now c.args.location.now c.as_str.utf8 c.as_str.ensures))
+    c.attribute.ensures.makes

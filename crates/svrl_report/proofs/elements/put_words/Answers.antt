@@ -5,4 +5,5 @@ use Rattle.svrl_report.proofs.WriterSteps.{Makes-same}
 use Rattle.svrl_report.proofs.elements.put_words.Goals as goal
 
 pub returns-clause-makes : goal.returns-clause-makes
-returns-clause-makes g c = Makes-same _ _ _ _ _ _ _ (ap byte_calls (bytes-of c.as_str.result.now c.args.text.now c.as_str.utf8 c.as_str.ensures)) c.put_text.ensures.makes
+returns-clause-makes g c = Makes-same _ _ _ _ _ _ _ (ap byte_calls (bytes-of c.as_str.result.now c.args.text.now c.as_str.utf8 c.as_str.ensures))
+    c.put_text.ensures.makes

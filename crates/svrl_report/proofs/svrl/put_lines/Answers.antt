@@ -4,7 +4,8 @@ use Rattle.svrl_report.proofs.svrl.put_lines.Goals as goal
 
 pub returns-in_err-put_line-clause-makes : goal.returns-in_err-put_line-clause-makes
 returns-in_err-put_line-clause-makes g c =
-    loop-err line_calls c.args.lines.now _ _ _ _ _ _ _ _ _ c.lines-test.true c.line-item.is c.lines.invariant.ahead c.in_err-put_line.ensures.makes c.from_residual.ensures.0
+    loop-err line_calls c.args.lines.now _ _ _ _ _ _ _ _ _ c.lines-test.true c.line-item.is c.lines.invariant.ahead c.in_err-put_line.ensures.makes
+    c.from_residual.ensures.0
 
 pub lines-preserved : goal.lines-preserved
 lines-preserved g c = record {

@@ -9,10 +9,12 @@ pub row_from-requires : goal.row_from-requires
 row_from-requires c = subst (λ first. first ≤ length TERMS) (sym c.first_of.ensures) (first_fits c.args.term.number)
 
 pub returns-then-is_extension : goal.returns-then-is_extension
-returns-then-is_extension c = c.extension_row.ensures ∙ extension-row_is c.args.term c.args.outer c.args.inner (sym c.is_extension.ensures ∙ c.if-is_extension.true)
+returns-then-is_extension c = c.extension_row.ensures ∙ extension-row_is c.args.term c.args.outer c.args.inner
+    (sym c.is_extension.ensures ∙ c.if-is_extension.true)
 
 pub returns : goal.returns
 returns c =
     c.row_from.ensures
     ∙ (ap (λ first. row_from TERMS first c.args.term c.args.outer c.args.inner) c.first_of.ensures
-    ∙ (row_from-is c.args.term c.args.outer c.args.inner ∙ modelled-row_is c.args.term c.args.outer c.args.inner (sym c.is_extension.ensures ∙ c.if-is_extension.false)))
+    ∙ (row_from-is c.args.term c.args.outer c.args.inner ∙
+    modelled-row_is c.args.term c.args.outer c.args.inner (sym c.is_extension.ensures ∙ c.if-is_extension.false)))

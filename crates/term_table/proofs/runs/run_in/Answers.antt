@@ -13,9 +13,11 @@ returns g c =
     let context = c.args.context in
     let k = c.partition_point-first.result in
     let m = c.partition_point-len.result in
-    let first = c.partition_point-first.ensures.partitioned (λ x. stands_before context (f x)) (always_returns_same _ _ _ (λ a r q k. search rules)) (before_first f xs context c.requires.context c.requires.order) in
+    let first = c.partition_point-first.ensures.partitioned (λ x. stands_before context (f x)) (always_returns_same _ _ _ (λ a r q k. search rules))
+    (before_first f xs context c.requires.context c.requires.order) in
     let back = c.split_at.ensures.back in
-    let parts = subst (IsPartitionedBy (λ x. is_inside context (f x).context)) (sym back) (inside_first f xs context c.requires.context c.requires.order k first) in
+    let parts = subst (IsPartitionedBy (λ x. is_inside context (f x).context)) (sym back)
+    (inside_first f xs context c.requires.context c.requires.order k first) in
     let second = subst (λ ys. IsPartitionPoint (λ x. is_inside context (f x).context ≡ true) (λ x. is_inside context (f x).context ≡ false) ys m) back
     (c.partition_point-len.ensures.partitioned (λ x. is_inside context (f x).context) (always_returns_same _ _ _ (λ a r q k. search rules)) parts) in
     c.split_at-2.ensures.front ∙ (ap (take m) back ∙ sym (run-is f xs context c.requires.context c.requires.order k m first second))

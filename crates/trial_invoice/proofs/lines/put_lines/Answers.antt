@@ -9,7 +9,8 @@ lines-init c = put-none c.args.entries.now.items ∙ ap (λ ls. c.args.entries.n
 
 pub lines-preserved : goal.lines-preserved
 lines-preserved c =
-    put-all c.args.entries.now.items (lines_of c.lines.behind) (line (c.lines.behind + 1)) c.lines.entries.items c.put_line.new.entries.items c.lines.invariant c.in_ok-put_line.ensures
+    put-all c.args.entries.now.items (lines_of c.lines.behind) (line (c.lines.behind + 1)) c.lines.entries.items c.put_line.new.entries.items c.lines.invariant
+    c.in_ok-put_line.ensures
     ∙ ap (λ ls. c.args.entries.now.items ++ ls) (sym (lines-next c.lines.behind))
 
 pub returns : goal.returns

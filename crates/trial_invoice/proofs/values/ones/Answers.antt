@@ -6,9 +6,11 @@ use Rattle.trial_invoice.proofs.values.ones.Goals as goal
 pub returns : goal.returns
 returns c =
     found-same c.in-Some.number (ones c.args.n)
-    (sym c.in-Some.is ∙ (c.read.ensures ∙ ones-read c.printed_numbers_are_read.ensures.scaled c.args.n c.requires _ c.format.ensures.text c.format.ensures.ascii))
+    (sym c.in-Some.is ∙ (c.read.ensures ∙ ones-read c.printed_numbers_are_read.ensures.scaled c.args.n c.requires _ c.format.ensures.text
+    c.format.ensures.ascii))
 
 pub unreachable-requires : goal.unreachable-requires
 unreachable-requires c =
     none-found (ones c.args.n)
-    (sym c.in-None.is ∙ (c.read.ensures ∙ ones-read c.printed_numbers_are_read.ensures.scaled c.args.n c.requires _ c.format.ensures.text c.format.ensures.ascii))
+    (sym c.in-None.is ∙ (c.read.ensures ∙ ones-read c.printed_numbers_are_read.ensures.scaled c.args.n c.requires _ c.format.ensures.text
+    c.format.ensures.ascii))

@@ -7,7 +7,8 @@ use Rattle.trial_run.proofs.judging.see.Goals as goal
 
 pub returns-clause-invoice : goal.returns-clause-invoice
 unfolding terms_read
-returns-clause-invoice g c = subst (λ nodes. IfOk c.seen_in-seen.result (λ seen. seen.invoice ≡ terms_in nodes)) c.in_ok-doc.ensures c.seen_in-seen.ensures.invoice
+returns-clause-invoice g c = subst (λ nodes. IfOk c.seen_in-seen.result (λ seen. seen.invoice ≡ terms_in nodes)) c.in_ok-doc.ensures
+    c.seen_in-seen.ensures.invoice
 
 pub returns-clause-tally : goal.returns-clause-tally
 unfolding trial_findings

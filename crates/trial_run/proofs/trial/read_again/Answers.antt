@@ -8,7 +8,8 @@ returns-clause-total c = c.in_ok-total.ensures ∙ ap total_in (c.in_ok-last.ens
 
 pub returns-clause-same_terms : goal.returns-clause-same_terms
 returns-clause-same_terms c =
-    c.are_same_terms.ensures ∙ ap (λ last. same_terms c.args.invoice.now c.args.first.now last) (c.in_ok-last.ensures ∙ ap terms_read (c.bytes.ensures ∙ c.in_ok-cii.ensures))
+    c.are_same_terms.ensures ∙ ap (λ last. same_terms c.args.invoice.now c.args.first.now last)
+    (c.in_ok-last.ensures ∙ ap terms_read (c.bytes.ensures ∙ c.in_ok-cii.ensures))
 
 pub returns-clause-bytes : goal.returns-clause-bytes
 returns-clause-bytes c = ap length (c.bytes-2.ensures ∙ c.in_ok-cii.ensures)

@@ -10,15 +10,19 @@ report-status-requires-clause-ready g c = c.in-Ok-Some.ensures.ready c.in-Ok-Som
 
 pub returns-in-Ok-Some : goal.returns-in-Ok-Some
 returns-in-Ok-Some g c = λ content lines shelf.
-    document_judged c.args.svrl content c.args.placed.now.doc shelf (faulted_of c.args.faulted.now) (seen_ready c.in-Ok-Some.ready) (g.O.Sink.view c.args.out.now)
-    (g.O.Sink.view c.report-status.new.out) (g.E.Sink.view c.args.err.now) (g.E.Sink.view c.args.err.now) c.report-status.result (sym (rw c.in-Ok-Some.field-0-is at c.in-Ok-Some.ensures.rules))
+    document_judged c.args.svrl content c.args.placed.now.doc shelf (faulted_of c.args.faulted.now) (seen_ready c.in-Ok-Some.ready)
+    (g.O.Sink.view c.args.out.now)
+    (g.O.Sink.view c.report-status.new.out) (g.E.Sink.view c.args.err.now) (g.E.Sink.view c.args.err.now) c.report-status.result
+    (sym (rw c.in-Ok-Some.field-0-is at c.in-Ok-Some.ensures.rules))
     (c.report-status.ensures content lines shelf (g.E.Sink.view c.args.err.now))
 
 pub returns-in-Ok-None : goal.returns-in-Ok-None
 returns-in-Ok-None g c = λ content lines shelf.
-    document_unjudged c.args.svrl content c.args.placed.now.doc shelf (faulted_of c.args.faulted.now) (g.O.Sink.view c.args.out.now) (g.E.Sink.view c.args.err.now)
+    document_unjudged c.args.svrl content c.args.placed.now.doc shelf (faulted_of c.args.faulted.now) (g.O.Sink.view c.args.out.now)
+    (g.E.Sink.view c.args.err.now)
     (g.E.Sink.view c.tell_not_built_in.new.err) (sym (rw c.in-Ok-None.field-0-is at c.in-Ok-None.ensures.rules)) c.tell_not_built_in.ensures
 
 pub returns-in-Err : goal.returns-in-Err
 returns-in-Err g c = λ content lines shelf.
-    memory_here (judged_next c.args.svrl content c.args.placed.now.doc (faulted_of c.args.faulted.now)) shelf (g.O.Sink.view c.args.out.now) (g.E.Sink.view c.args.err.now)
+    memory_here (judged_next c.args.svrl content c.args.placed.now.doc (faulted_of c.args.faulted.now)) shelf (g.O.Sink.view c.args.out.now)
+    (g.E.Sink.view c.args.err.now)

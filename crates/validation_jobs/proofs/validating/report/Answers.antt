@@ -16,7 +16,22 @@ pub returns-in-Ok-made : goal.returns-in-Ok-made
 returns-in-Ok-made g c = λ content lines shelf err.
     let doc = c.args.placed.now.doc in
     let v = validated content doc (faulted_of c.args.faulted.now) (seen_ready c.args.ready.now) in
-    let same : report_of (record { content = content; document = doc; faults = c.deref.result.now; passed = c.deref-2.result.now; lines = c.in-Ok.found }) ≡ report_of v =
-    λ i. report_of (record { content = content; document = doc; faults = c.deref.ensures.value i; passed = c.deref-2.ensures.value i; lines = c.in-Ok.ensures i }) in
-    report_is_written c.args.svrl v c.in-Ok-made.validation c.write_report-status.result shelf (g.O.Sink.view c.args.out.now) (g.O.Sink.view c.write_report-status.new.out) err
+    let same : report_of (record {
+      content = content;
+      document = doc;
+      faults = c.deref.result.now;
+      passed = c.deref-2.result.now;
+      lines =
+          c.in-Ok.found;
+    }) ≡ report_of v =
+    λ i. report_of (record {
+      content = content;
+      document = doc;
+      faults = c.deref.ensures.value i;
+      passed = c.deref-2.ensures.value i;
+      lines =
+          c.in-Ok.ensures i;
+    }) in
+    report_is_written c.args.svrl v c.in-Ok-made.validation c.write_report-status.result shelf (g.O.Sink.view c.args.out.now)
+    (g.O.Sink.view c.write_report-status.new.out) err
     (c.in-Ok-made.ensures content lines ∙ same) (c.write_report-status.ensures shelf err)

@@ -10,7 +10,8 @@ returns-in-Ok g c = λ content lines shelf.
     let held = c.args.basis.now in
     let doc = c.args.placed.now.doc in
     document_faulted c.args.svrl c.args.file.now (basis_of held) content doc shelf (faulted_of c.in-Ok.faulted) (g.O.Sink.view c.args.out.now)
-    (g.O.Sink.view c.judge_document-status.new.out) (g.E.Sink.view c.args.err.now) (g.E.Sink.view c.judge_document-status.new.err) c.judge_document-status.result
+    (g.O.Sink.view c.judge_document-status.new.out) (g.E.Sink.view c.args.err.now)
+    (g.E.Sink.view c.judge_document-status.new.err) c.judge_document-status.result
     (same_faults held.extension held.tables c.requires.tables (tree_nodes doc) held.lists ∙ c.in-Ok.ensures.finds)
     (c.judge_document-status.ensures content lines shelf)
 

@@ -17,7 +17,8 @@ returns-in-Ok g c =
     let out' = g.O.Sink.view c.validate_document-status.new.out in
     let err' = g.E.Sink.view c.validate_document-status.new.err in
     let status = c.validate_document-status.result in
-    behind_told file (g.S.Shelf.view c.args.shelf.now) mid mid out out' (g.E.Sink.view c.args.err.now) mid_err err' status c.in-Ok.ensures.read c.in-Ok.ensures.quiet
+    behind_told file (g.S.Shelf.view c.args.shelf.now) mid mid out out'
+    (g.E.Sink.view c.args.err.now) mid_err err' status c.in-Ok.ensures.read c.in-Ok.ensures.quiet
     (found_next c.args.svrl file basis) c.in-Ok.placed.doc found
     (subst (λ (d : Document). Runs (document_next c.args.svrl file basis found.content d) (record { shelf = mid; out = out; err = mid_err })
     (record { shelf = mid; out = out'; err = err' }) status)

@@ -5,4 +5,5 @@ use Rattle.inv_base.proofs.PrintingLemmas.{Prints-same}
 use Rattle.validation_report.proofs.printing.print_kind.Goals as goal
 
 pub returns : goal.returns
-returns g c = Prints-same _ _ _ _ _ _ (c.as_bytes.ensures.value ∙ (sym (encode-chars c.as_str.result.now c.as_str.utf8) ∙ ap encode_utf8_all c.as_str.ensures)) c.put.ensures
+returns g c = Prints-same _ _ _ _ _ _ (c.as_bytes.ensures.value ∙ (sym (encode-chars c.as_str.result.now c.as_str.utf8) ∙ ap encode_utf8_all c.as_str.ensures))
+    c.put.ensures

@@ -15,7 +15,8 @@ returns g c =
     let opened = c.in-Ok.ensures in
     let read = c.read_open.ensures in
     record {
-      reads = opened_from _ _ (g.S.Shelf.view c.args.shelf.now) (g.S.Shelf.view c.open.new.self) (g.S.Shelf.view c.read_open.new.shelf) opened.held opened.opens opened.faults read.reads;
+      reads = opened_from _ _ (g.S.Shelf.view c.args.shelf.now) (g.S.Shelf.view c.open.new.self)
+          (g.S.Shelf.view c.read_open.new.shelf) opened.held opened.opens opened.faults read.reads;
       loaded = subst (λ told. IfOk c.read_open.result (λ loaded. IsLoadedAndGiven limits told loaded.length loaded.doc
           (g.B.ByteReceiver.taken c.args.bytes.now) (g.B.ByteReceiver.taken c.read_open.new.bytes))) opened.left read.loaded;
       refused = λ fault is. subst (λ told. IsRefused limits told fault) opened.left (read.refused fault is);

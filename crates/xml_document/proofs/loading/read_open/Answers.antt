@@ -11,8 +11,10 @@ finish-requires-in-Ok-finish g c =
     let limits = c.args.limits in
     let fed = c.in-Ok.ensures.fed in
     let kept : c.feed_all.new.reader.limits ≡ limits = c.feed_all.ensures.limits ∙ ap (λ (p : Progress). p.limits) c.in_ok-reader.ensures in
-    wholly_built _ limits (g.S.Shelf.view c.args.shelf.now).left c.in-Ok-finish.names c.finish.new.events (g.B.ByteReceiver.taken c.args.bytes.now) (g.B.ByteReceiver.taken c.feed_all.new.bytes)
-    (read_wholly _ limits (g.S.Shelf.view c.args.shelf.now).left _ c.feed_all.new.reader c.in_ok-builder.builder c.feed_all.new.events c.finish.new.events c.in-Ok-finish.names
+    wholly_built _ limits (g.S.Shelf.view c.args.shelf.now).left c.in-Ok-finish.names c.finish.new.events (g.B.ByteReceiver.taken c.args.bytes.now)
+    (g.B.ByteReceiver.taken c.feed_all.new.bytes)
+    (read_wholly _ limits (g.S.Shelf.view c.args.shelf.now).left _ c.feed_all.new.reader c.in_ok-builder.builder c.feed_all.new.events c.finish.new.events
+    c.in-Ok-finish.names
     (g.B.ByteReceiver.taken c.args.bytes.now) (g.B.ByteReceiver.taken c.feed_all.new.bytes) kept c.in_ok-builder.ensures fed
     (c.in-Ok-finish.ensures.ended fed.fed fed.read) (λ found is. c.read_builds_its_tree.ensures limits fed.fed found (omega arith) is))
 
@@ -23,7 +25,8 @@ returns-in_ok-doc-in-Ok-finish-clause-loaded g c =
     let kept : c.feed_all.new.reader.limits ≡ limits = c.feed_all.ensures.limits ∙ ap (λ (p : Progress). p.limits) c.in_ok-reader.ensures in
     wholly_given _ limits (g.S.Shelf.view c.args.shelf.now).left c.in-Ok-finish.names c.finish.new.events c.in_ok-doc-in-Ok-finish.doc
     (g.B.ByteReceiver.taken c.args.bytes.now) (g.B.ByteReceiver.taken c.feed_all.new.bytes)
-    (read_wholly _ limits (g.S.Shelf.view c.args.shelf.now).left _ c.feed_all.new.reader c.in_ok-builder.builder c.feed_all.new.events c.finish.new.events c.in-Ok-finish.names
+    (read_wholly _ limits (g.S.Shelf.view c.args.shelf.now).left _ c.feed_all.new.reader c.in_ok-builder.builder c.feed_all.new.events c.finish.new.events
+    c.in-Ok-finish.names
     (g.B.ByteReceiver.taken c.args.bytes.now) (g.B.ByteReceiver.taken c.feed_all.new.bytes) kept c.in_ok-builder.ensures fed
     (c.in-Ok-finish.ensures.ended fed.fed fed.read) (λ found is. c.read_builds_its_tree.ensures limits fed.fed found (omega arith) is))
     c.in_ok-doc-in-Ok-finish.ensures
@@ -34,7 +37,8 @@ returns-in-Err-finish-clause-refused g c = λ told is.
     let fed = c.in-Ok.ensures.fed in
     let kept : c.feed_all.new.reader.limits ≡ limits = c.feed_all.ensures.limits ∙ ap (λ (p : Progress). p.limits) c.in_ok-reader.ensures in
     let found = c.fault_of_reader.ensures.refused told cc in
-    refused_at_end limits c.feed_all.new.reader.limits (g.S.Shelf.view c.args.shelf.now).left fed.fed _ _ c.in-Err-finish.fault told kept (c.in-Err-finish.ensures.ended fed.fed fed.read)
+    refused_at_end limits c.feed_all.new.reader.limits (g.S.Shelf.view c.args.shelf.now).left fed.fed _ _ c.in-Err-finish.fault told kept
+    (c.in-Err-finish.ensures.ended fed.fed fed.read)
     found.1 found.0 fed.whole
 
 pub returns-in-Err-finish-clause-stops : goal.returns-in-Err-finish-clause-stops
@@ -51,4 +55,11 @@ returns-in_ok-doc-in-Ok-finish-clause-reads g c =
 pub returns-in-Err-finish-clause-reads : goal.returns-in-Err-finish-clause-reads
 returns-in-Err-finish-clause-reads g c =
     let reads = c.in-Ok.ensures.reads in
-    record { held = reads.held; opens = reads.opens; rose = λ is. absurd (c.fault_of_reader.ensures.read cc); rises = reads.rises; quiet = λ other. reads.quiet (λ is. cc) }
+    record {
+      held = reads.held;
+      opens = reads.opens;
+      rose = λ is. absurd (c.fault_of_reader.ensures.read cc);
+      rises = reads.rises;
+      quiet =
+          λ other. reads.quiet (λ is. cc);
+    }

@@ -14,7 +14,8 @@ returns g c =
     let opened = c.in-Ok.ensures in
     let read = c.read_open.ensures in
     record {
-      reads = opened_from _ _ (g.S.Shelf.view c.args.shelf.now) (g.S.Shelf.view c.open.new.self) (g.S.Shelf.view c.read_open.new.shelf) opened.held opened.opens opened.faults read.reads;
+      reads = opened_from _ _ (g.S.Shelf.view c.args.shelf.now) (g.S.Shelf.view c.open.new.self)
+          (g.S.Shelf.view c.read_open.new.shelf) opened.held opened.opens opened.faults read.reads;
       bytes = subst (λ told. IfOk c.read_open.result (λ bytes. IsReadWhole c.args.limit told bytes.items)) opened.left read.bytes;
       too_long = λ is. subst (λ told. IsTooLong c.args.limit told (g.S.Shelf.view c.read_open.new.shelf).left) opened.left (read.too_long is);
     }

@@ -5,4 +5,5 @@ use Rattle.xml_state.specs.StartTags.{written_names}
 use Rattle.xml_state.proofs.duplicates.has_name.Given as goal
 
 abbrev pub invariant-loop-attribute : goal.invariant-loop-attribute
-invariant-loop-attribute l = list_any (bytes_eq l.name) (written_names (map seen_attribute (drop l.attribute-index l.attributes))) ≡ list_any (bytes_eq l.name) (written_names (map seen_attribute l.attributes))
+invariant-loop-attribute l = list_any (bytes_eq l.name) (written_names (map seen_attribute (drop l.attribute-index l.attributes))) ≡ list_any (bytes_eq l.name)
+    (written_names (map seen_attribute l.attributes))

@@ -15,9 +15,11 @@ returns-clause-filed c =
     let last : Kept = record { space = c.args.space; local = c.in_ok-text.text } in
     let same = ap length c.in_ok-reserve.ensures.items in
     let at : c.len.result ≡ length c.args.names.now.items = omega (arith, same) in
-    let whole = written-whole c.reach.new.places.len c.file_in.new.places c.reach.new.places.items (c.file_in.auto.places ∙ c.deref_mut.ensures.len) (sym (ap length c.deref_mut.ensures.value) ∙ c.deref_mut.ensures.len) in
+    let whole = written-whole c.reach.new.places.len c.file_in.new.places c.reach.new.places.items (c.file_in.auto.places ∙ c.deref_mut.ensures.len)
+    (sym (ap length c.deref_mut.ensures.value) ∙ c.deref_mut.ensures.len) in
     subst (λ x. AreFiled x c.push_reserved.new.self.items) (sym whole)
-    (filed-push c.args.places.now.items c.file_in.new.places c.args.names.now.items c.push_reserved.new.self.items last c.args.space c.len.result c.args.local.now (string_bytes c.in_ok-key.key) c.requires.filed c.requires.absent
+    (filed-push c.args.places.now.items c.file_in.new.places c.args.names.now.items c.push_reserved.new.self.items last c.args.space c.len.result
+    c.args.local.now (string_bytes c.in_ok-key.key) c.requires.filed c.requires.absent
     refl c.in_ok-text.ensures.ok c.in_ok-key.ensures.ok at
     (λ m other.
     c.in_ok-file_in.ensures.ok m other

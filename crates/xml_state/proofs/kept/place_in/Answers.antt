@@ -7,4 +7,5 @@ returns-then-space-places c = place-outside c.args.places.now c.args.space c.arg
 
 pub returns : goal.returns
 returns c =
-    c.copied.ensures ∙ (c.get.ensures.value ∙ place-inside c.args.places.now c.args.space c.index-places-space.result c.args.local.now c.if-space-places.false c.index-places-space.is)
+    c.copied.ensures ∙ (c.get.ensures.value ∙ place-inside c.args.places.now c.args.space c.index-places-space.result c.args.local.now c.if-space-places.false
+    c.index-places-space.is)

@@ -10,4 +10,5 @@ pub returns-in-Some-clause-names : goal.returns-in-Some-clause-names
 returns-in-Some-clause-names c = if_ok c.at.result (still_known c.args.space c.args.local.now c.args.names.now c.in-Some.index c.in-Some.ensures)
 
 pub returns-in_ok-push-in-None-clause-number : goal.returns-in_ok-push-in-None-clause-number
-returns-in_ok-push-in-None-clause-number c = new_place (is_kept c.args.space c.args.local.now) c.args.names.now _ c.in-None.ensures (c.in_ok-id-in-None.ensures ∙ c.len.ensures)
+returns-in_ok-push-in-None-clause-number c = new_place (is_kept c.args.space c.args.local.now) c.args.names.now _ c.in-None.ensures
+    (c.in_ok-id-in-None.ensures ∙ c.len.ensures)

@@ -8,12 +8,14 @@ pub returns-then-branch : goal.returns-then-branch
 returns-then-branch c =
     let declared = c.in_ok-declare.ensures in
     let numbered = c.in_ok-number_tag.ensures in
-    duplicate-answered _ _ _ (seen_tag c.args.tag.now) _ _ (ap (map seen_attribute) c.deref.ensures.value) declared.open declared.bound declared.names (sym c.if-has_undeclared_prefix.ensures) numbered.names numbered.numbers
+    duplicate-answered _ _ _ (seen_tag c.args.tag.now) _ _ (ap (map seen_attribute) c.deref.ensures.value) declared.open declared.bound declared.names
+    (sym c.if-has_undeclared_prefix.ensures) numbered.names numbered.numbers
     (ap (is_duplicated (seen_tag c.args.tag.now)) (sym c.deref-2.ensures.value) ∙ (sym c.in_ok-is_duplicated.ensures ∙ c.if-branch.true))
 
 pub returns : goal.returns
 returns c =
     let declared = c.in_ok-declare.ensures in
     let numbered = c.in_ok-number_tag.ensures in
-    names-told _ _ _ (seen_tag c.args.tag.now) _ _ (ap (map seen_attribute) c.deref.ensures.value) declared.open declared.bound declared.names (sym c.if-has_undeclared_prefix.ensures) numbered.names numbered.numbers
+    names-told _ _ _ (seen_tag c.args.tag.now) _ _ (ap (map seen_attribute) c.deref.ensures.value) declared.open declared.bound declared.names
+    (sym c.if-has_undeclared_prefix.ensures) numbered.names numbered.numbers
     (ap (is_duplicated (seen_tag c.args.tag.now)) (sym c.deref-2.ensures.value) ∙ (sym c.in_ok-is_duplicated.ensures ∙ c.if-branch.false))

@@ -16,7 +16,8 @@ loop-attribute-preserved c = record {
 
 pub returns-clause-declares : goal.returns-clause-declares
 returns-clause-declares c =
-    let items = YieldsList-end (YieldsList-from_rev_slice c.args.attributes.now cc) c.loop-attribute.yielded _ c.loop-attribute.yielded_by _ _ c.in-None.is c.next.ensures.steps in
+    let items = YieldsList-end (YieldsList-from_rev_slice c.args.attributes.now cc) c.loop-attribute.yielded _ c.loop-attribute.yielded_by _ _ c.in-None.is
+    c.next.ensures.steps in
     record {
       grows = c.loop-attribute.invariant.grows;
       declared = c.loop-attribute.invariant.done ∙ declared_after-all _ c.args.attributes.now c.loop-attribute.yielded items.0;

@@ -8,7 +8,8 @@ use Rattle.xml_state.proofs.scopes.declare_all.Given as goal
 
 abbrev pub invariant-loop-attribute : goal.invariant-loop-attribute
 invariant-loop-attribute l = record {
-  done : bindings_of l.spaces l.bindings.items ≡ declared_after (bindings_of l.initial.spaces l.initial.bindings.items) (map (λ (attribute : Bor Attribute). seen_attribute attribute.now) l.yielded);
+  done : bindings_of l.spaces l.bindings.items ≡ declared_after (bindings_of l.initial.spaces l.initial.bindings.items)
+      (map (λ (attribute : Bor Attribute). seen_attribute attribute.now) l.yielded);
   grows : Grows l.initial.spaces l.spaces l.initial.bindings.items l.bindings.items;
   found : AreFound l.shown l.bindings.items;
 }

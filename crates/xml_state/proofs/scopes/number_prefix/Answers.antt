@@ -7,4 +7,5 @@ returns-in-Some c = takes-inside _ _ _ c.in-Some.space c.requires.bound (c.in-So
 
 pub returns-in-None : goal.returns-in-None
 returns-in-None c =
-    takes-outside c.args.spaces.now c.args.prefix.now c.args.bindings.now _ _ _ (c.in-None.ensures ∙ c.requires.found.shows c.args.prefix.now) c.known_uri.ensures c.number_space.ensures
+    takes-outside c.args.spaces.now c.args.prefix.now c.args.bindings.now _ _ _
+    (c.in-None.ensures ∙ c.requires.found.shows c.args.prefix.now) c.known_uri.ensures c.number_space.ensures

@@ -4,7 +4,8 @@ use Rattle.xml_state.proofs.FoundLemmas.{shows-update}
 use Rattle.xml_state.proofs.scopes.unbind.Goals as goal
 
 pub returns-in-Ok : goal.returns-in-Ok
-returns-in-Ok c = shows-update c.args.shown.now c.insert.new.self (string_bytes c.args.bound.prefix) (Some c.in-Some.space) c.args.bound.hid c.in-Ok.ensures.updates c.in-Some.is
+returns-in-Ok c = shows-update c.args.shown.now c.insert.new.self (string_bytes c.args.bound.prefix)
+    (Some c.in-Some.space) c.args.bound.hid c.in-Ok.ensures.updates c.in-Some.is
 
 pub returns-in-None : goal.returns-in-None
 returns-in-None c =

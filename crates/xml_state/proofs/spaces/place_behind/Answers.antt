@@ -13,5 +13,6 @@ pub returns-clause-placed : goal.returns-clause-placed
 returns-clause-placed c =
     let same = ap length c.in_ok-reserve.ensures.items in
     let at : c.len.result ≡ length c.args.texts.now.items = omega (arith, same) in
-    placed-push c.args.places.now c.insert.new.self c.args.texts.now.items _ c.in_ok-key.key c.in_ok-last.last c.args.text.now c.len.result c.requires.placed c.requires.absent c.in_ok-key.ensures.ok c.in_ok-last.ensures.ok
+    placed-push c.args.places.now c.insert.new.self c.args.texts.now.items _ c.in_ok-key.key c.in_ok-last.last c.args.text.now c.len.result c.requires.placed
+    c.requires.absent c.in_ok-key.ensures.ok c.in_ok-last.ensures.ok
     at c.in_ok-insert.ensures.updates (c.push_reserved.ensures.items ∙ ap (λ x. x ++ c.in_ok-last.last ∷ []) c.in_ok-reserve.ensures.items)

@@ -6,4 +6,5 @@ use Rattle.xml_state.proofs.tags.has_bad_namespace.Given as goal
 
 abbrev pub invariant-loop-attribute : goal.invariant-loop-attribute
 invariant-loop-attribute l =
-    list_any is_bad_binding (declared_bindings (map seen_attribute (drop l.attribute-index l.attributes))) ≡ list_any is_bad_binding (declared_bindings (map seen_attribute l.attributes))
+    list_any is_bad_binding (declared_bindings (map seen_attribute (drop l.attribute-index l.attributes))) ≡ list_any is_bad_binding
+    (declared_bindings (map seen_attribute l.attributes))

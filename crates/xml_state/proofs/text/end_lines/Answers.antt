@@ -12,11 +12,13 @@ loop-c-init c = ap (λ x. x ++ read_lines false (chars c.args.written.now)) (ap 
 
 pub loop-c-preserved : goal.loop-c-preserved
 loop-c-preserved c =
-    let turn = YieldsList-turn (YieldsList-from_chars c.args.written.now c.utf8.written cc) c.loop-c.yielded _ c.loop-c.yielded_by _ _ c.in-Some.c c.in-Some.is c.next.ensures.steps in
+    let turn = YieldsList-turn (YieldsList-from_chars c.args.written.now c.utf8.written cc) c.loop-c.yielded _ c.loop-c.yielded_by _ _ c.in-Some.c c.in-Some.is
+    c.next.ensures.steps in
     rw (length_push c.loop-c.yielded c.in-Some.c)
     (lines-more (chars c.args.written.now) _ _ _ c.in-Some.c c.loop-c.is_behind_return _ turn c.loop-c.invariant c.in_ok-push_character.ensures)
 
 pub returns : goal.returns
 returns c =
-    let end = YieldsList-end (YieldsList-from_chars c.args.written.now c.utf8.written cc) c.loop-c.yielded _ c.loop-c.yielded_by _ _ c.in-None.is c.next.ensures.steps in
+    let end = YieldsList-end (YieldsList-from_chars c.args.written.now c.utf8.written cc) c.loop-c.yielded _ c.loop-c.yielded_by _ _ c.in-None.is
+    c.next.ensures.steps in
     lines-end (chars c.args.written.now) _ _ c.loop-c.is_behind_return end.1 c.loop-c.invariant

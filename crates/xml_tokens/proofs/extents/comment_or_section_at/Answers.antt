@@ -4,14 +4,19 @@ use Rattle.xml_tokens.proofs.SearchingLemmas.{few-searched, any-inside-short}
 use Rattle.xml_tokens.proofs.extents.comment_or_section_at.Goals as goal
 
 pub returns-then-begins_with-3-clause-answer : goal.returns-then-begins_with-3-clause-answer
-returns-then-begins_with-3-clause-answer c = doctype-shown c.args.bytes.now (sym c.begins_with.ensures.exact ∙ c.if-begins_with.false) (sym c.begins_with-else-begins_with.ensures.exact ∙ c.if-begins_with-2.false) (sym c.begins_with-else-begins_with-2.ensures.exact ∙ c.if-begins_with-3.true)
+returns-then-begins_with-3-clause-answer c = doctype-shown c.args.bytes.now (sym c.begins_with.ensures.exact ∙ c.if-begins_with.false)
+    (sym c.begins_with-else-begins_with.ensures.exact ∙ c.if-begins_with-2.false) (sym c.begins_with-else-begins_with-2.ensures.exact ∙ c.if-begins_with-3.true)
 
 pub returns-then-ends_inside_any-clause-answer : goal.returns-then-ends_inside_any-clause-answer
-returns-then-ends_inside_any-clause-answer c = inside-shown c.args.bytes.now (sym c.begins_with.ensures.exact ∙ c.if-begins_with.false) (sym c.begins_with-else-begins_with.ensures.exact ∙ c.if-begins_with-2.false) (sym c.begins_with-else-begins_with-2.ensures.exact ∙ c.if-begins_with-3.false)
+returns-then-ends_inside_any-clause-answer c = inside-shown c.args.bytes.now (sym c.begins_with.ensures.exact ∙ c.if-begins_with.false)
+    (sym c.begins_with-else-begins_with.ensures.exact ∙ c.if-begins_with-2.false) (sym c.begins_with-else-begins_with-2.ensures.exact ∙
+    c.if-begins_with-3.false)
     (sym c.ends_inside_any.ensures ∙ c.if-ends_inside_any.true)
 
 pub returns-else-ends_inside_any-clause-answer : goal.returns-else-ends_inside_any-clause-answer
-returns-else-ends_inside_any-clause-answer c = other-shown c.args.bytes.now c.shared_with_any.result (sym c.begins_with.ensures.exact ∙ c.if-begins_with.false) (sym c.begins_with-else-begins_with.ensures.exact ∙ c.if-begins_with-2.false) (sym c.begins_with-else-begins_with-2.ensures.exact ∙ c.if-begins_with-3.false)
+returns-else-ends_inside_any-clause-answer c = other-shown c.args.bytes.now c.shared_with_any.result (sym c.begins_with.ensures.exact ∙ c.if-begins_with.false)
+    (sym c.begins_with-else-begins_with.ensures.exact ∙ c.if-begins_with-2.false) (sym c.begins_with-else-begins_with-2.ensures.exact ∙
+    c.if-begins_with-3.false)
     (sym c.ends_inside_any.ensures ∙ c.if-ends_inside_any.false) c.shared_with_any.ensures
 
 pub returns-then-ends_inside_any-clause-search : goal.returns-then-ends_inside_any-clause-search

@@ -12,14 +12,19 @@ pub end_of-requires-clause-in_vain : goal.end_of-requires-clause-in_vain
 end_of-requires-clause-in_vain c = instruction-vain c.args.search.now c.args.behind.now c.requires
 
 pub returns-in-Ok-clause-answer : goal.returns-in-Ok-clause-answer
-returns-in-Ok-clause-answer c = subst (λ b. Shows b (extent_through (codes "?>") 2 c.args.behind.now (markup.instruction c.args.may_declare))) (sym c.beginning_of.ensures)
-    (through-right (codes "?>") 2 (markup.instruction c.args.may_declare) c.args.behind.now c.split_at.result.0.now c.in-Ok.inside.now c.in-Some.end c.instruction.result c.in-Some.ensures.exact c.split_at.ensures.front c.in-Ok.ensures c.instruction.ensures)
+returns-in-Ok-clause-answer c = subst (λ b. Shows b (extent_through (codes "?>") 2 c.args.behind.now (markup.instruction c.args.may_declare)))
+    (sym c.beginning_of.ensures)
+    (through-right (codes "?>") 2 (markup.instruction c.args.may_declare) c.args.behind.now c.split_at.result.0.now c.in-Ok.inside.now c.in-Some.end
+    c.instruction.result c.in-Some.ensures.exact c.split_at.ensures.front c.in-Ok.ensures c.instruction.ensures)
 
 pub returns-in-Err-clause-answer : goal.returns-in-Err-clause-answer
-returns-in-Err-clause-answer c = through-wrong (codes "?>") 2 (markup.instruction c.args.may_declare) c.args.behind.now c.split_at.result.0.now c.in-Some.end c.in-Err.kind c.in-Some.ensures.exact c.split_at.ensures.front c.in-Err.ensures
+returns-in-Err-clause-answer c = through-wrong (codes "?>") 2 (markup.instruction c.args.may_declare) c.args.behind.now c.split_at.result.0.now c.in-Some.end
+    c.in-Err.kind c.in-Some.ensures.exact c.split_at.ensures.front c.in-Err.ensures
 
 pub returns-in-None-clause-answer : goal.returns-in-None-clause-answer
-returns-in-None-clause-answer c = subst (λ b. Shows Later b) (sym (through-open (codes "?>") 2 (markup.instruction c.args.may_declare) c.args.behind.now c.in-None.ensures.exact)) shows_later
+returns-in-None-clause-answer c = subst (λ b. Shows Later b)
+    (sym (through-open (codes "?>") 2 (markup.instruction c.args.may_declare) c.args.behind.now c.in-None.ensures.exact)) shows_later
 
 pub returns-in-None-clause-search : goal.returns-in-None-clause-search
-returns-in-None-clause-search c = instruction-out c.end_of.new.search c.args.behind.now (ap (λ (s : Searched). s.searched) c.in-None.ensures.search) (ap (λ (s : Searched). s.quote) c.in-None.ensures.search) c.in-None.ensures.exact
+returns-in-None-clause-search c = instruction-out c.end_of.new.search c.args.behind.now (ap (λ (s : Searched). s.searched) c.in-None.ensures.search)
+    (ap (λ (s : Searched). s.quote) c.in-None.ensures.search) c.in-None.ensures.exact

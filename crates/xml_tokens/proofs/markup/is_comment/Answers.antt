@@ -13,4 +13,5 @@ returns-then-is_none c =
 pub returns-else-is_none : goal.returns-else-is_none
 returns-else-is_none c =
     let none : is_none (place_of (codes "--") c.args.inside.now) ≡ false = search rules in
-    c.if-is_none.false ∙ (ap (λ t. t && not (get_or c.args.inside.now (length c.args.inside.now - 1) 0 == 0x2D)) (sym none) ∙ sym (comment-told c.args.inside.now))
+    c.if-is_none.false ∙ (ap (λ t. t && not (get_or c.args.inside.now (length c.args.inside.now - 1) 0 == 0x2D)) (sym none) ∙
+    sym (comment-told c.args.inside.now))

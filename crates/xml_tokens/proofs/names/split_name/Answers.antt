@@ -5,4 +5,5 @@ use Rattle.xml_tokens.proofs.CutLemmas.{boundary-before, name-end-ascii}
 use Rattle.xml_tokens.proofs.names.split_name.Goals as goal
 
 pub split_at-requires : goal.split_at-requires
-split_at-requires c = boundary-before ends_name c.args.text.now c.in-Some.place name-end-ascii (c.in-Some.ensures ∙ ap (position ends_name) c.as_bytes.ensures.value)
+split_at-requires c = boundary-before ends_name c.args.text.now c.in-Some.place name-end-ascii
+    (c.in-Some.ensures ∙ ap (position ends_name) c.as_bytes.ensures.value)

@@ -2,7 +2,8 @@ use Rattle.std.proofs.Common.{◌≡◌, arith, rules, false, get_or}
 use Rattle.xml_tokens.specs.References.{is_reference_byte}
 use Rattle.xml_tokens.proofs.SpellingLemmas.{body-full, body-stop}
 use Rattle.xml_tokens.proofs.references.body_length.Goals as goal
-use Rattle.xml_tokens.proofs.references.body_length.Goals.{then-i-eq-GREATEST_REFERENCE-via-then-i-eq-GREATEST_REFERENCE, then-i-eq-GREATEST_REFERENCE-via-else-i-eq-GREATEST_REFERENCE+then-not-is_reference_byte}
+use Rattle.xml_tokens.proofs.references.body_length.Goals.{then-i-eq-GREATEST_REFERENCE-via-then-i-eq-GREATEST_REFERENCE}
+use Rattle.xml_tokens.proofs.references.body_length.Goals.{then-i-eq-GREATEST_REFERENCE-via-else-i-eq-GREATEST_REFERENCE+then-not-is_reference_byte}
 
 pub returns-then-i-eq-GREATEST_REFERENCE-clause-exact : goal.returns-then-i-eq-GREATEST_REFERENCE-clause-exact
 returns-then-i-eq-GREATEST_REFERENCE-clause-exact c =

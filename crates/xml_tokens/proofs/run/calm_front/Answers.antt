@@ -6,7 +6,9 @@ use Rattle.xml_tokens.proofs.FrontLemmas.{before-stir}
 use Rattle.xml_tokens.proofs.run.calm_front.Goals as goal
 
 pub returns-clause-none : goal.returns-clause-none
-returns-clause-none c = ap (list_any ends_run) (c.split_at.ensures.front ∙ ap (λ n. take n c.args.bytes.now) c.front_len.ensures.exact) ∙ (before-stir c.args.bytes.now).0
+returns-clause-none c = ap (list_any ends_run) (c.split_at.ensures.front ∙ ap (λ n. take n c.args.bytes.now) c.front_len.ensures.exact) ∙
+    (before-stir c.args.bytes.now).0
 
 pub returns-clause-calm : goal.returns-clause-calm
-returns-clause-calm c = ap (list_all is_calm) (c.split_at.ensures.front ∙ ap (λ n. take n c.args.bytes.now) c.front_len.ensures.exact) ∙ (before-stir c.args.bytes.now).1
+returns-clause-calm c = ap (list_all is_calm) (c.split_at.ensures.front ∙ ap (λ n. take n c.args.bytes.now) c.front_len.ensures.exact) ∙
+    (before-stir c.args.bytes.now).1

@@ -4,7 +4,8 @@ use Rattle.xml_tokens.proofs.StringLemmas.{starts-begins, inside-short, inside-l
 use Rattle.xml_tokens.proofs.scanning.ends_inside.Goals as goal
 
 pub returns-then-bytes-string : goal.returns-then-bytes-string
-returns-then-bytes-string c = c.starts_with.ensures.value ∙ (starts-begins c.args.bytes.now c.args.string.now ∙ sym (inside-short c.args.string.now c.args.bytes.now c.if-bytes-string.true))
+returns-then-bytes-string c = c.starts_with.ensures.value ∙
+    (starts-begins c.args.bytes.now c.args.string.now ∙ sym (inside-short c.args.string.now c.args.bytes.now c.if-bytes-string.true))
 
 pub returns-else-bytes-string : goal.returns-else-bytes-string
 returns-else-bytes-string c =

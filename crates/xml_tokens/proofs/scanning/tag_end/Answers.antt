@@ -17,7 +17,8 @@ returns-then-ends_tag c = ends_behind c.places.place
 pub places-preserved : goal.places-preserved
 places-preserved c = elim c.if-not-is_passed.branch [
   | then-not-is_passed+else-ends_tag w ↦ searching-step c.args.bytes.now (drop (c.places.place + 1) c.args.bytes.now) 262143 c.places.place c.places.quote _ _
-      (drop_more c.args.bytes.now c.places.place _ (omega arith)) refl (omega arith) (omega arith) (sym w.ends_tag.ensures ∙ w.if-ends_tag.false) (w.quote-is ∙ w.quote_behind-quote.ensures) c.places.invariant
+      (drop_more c.args.bytes.now c.places.place _ (omega arith)) refl (omega arith) (omega arith) (sym w.ends_tag.ensures ∙ w.if-ends_tag.false)
+      (w.quote-is ∙ w.quote_behind-quote.ensures) c.places.invariant
   | else-not-is_passed w ↦ let known = c.is_passed.ensures w.if-not-is_passed.false in
       searching-step c.args.bytes.now (drop (c.places.place + 1) c.args.bytes.now) 262143 c.places.place c.places.quote _ _
       (drop_more c.args.bytes.now c.places.place _ (omega arith)) refl (omega arith) (omega arith) known.0 (w.quote-is ∙ known.1) c.places.invariant
@@ -26,7 +27,8 @@ places-preserved c = elim c.if-not-is_passed.branch [
 pub returns-then-end-lt-ROOM : goal.returns-then-end-lt-ROOM
 returns-then-end-lt-ROOM c =
     let all : length c.args.bytes.now ≤ c.places.place = omega arith in
-    ends_not_yet c.places.quote (searching-end c.args.bytes.now 262143 c.places.place c.places.quote (drop_all c.places.place c.args.bytes.now all) (omega arith) c.places.invariant)
+    ends_not_yet c.places.quote (searching-end c.args.bytes.now 262143 c.places.place c.places.quote (drop_all c.places.place c.args.bytes.now all)
+    (omega arith) c.places.invariant)
     (c.places.invariant.open_is ∙ ap (quote_after None) (take_all c.places.place c.args.bytes.now all))
 
 pub returns-else-end-lt-ROOM : goal.returns-else-end-lt-ROOM

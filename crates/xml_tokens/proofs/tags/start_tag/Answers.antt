@@ -11,16 +11,19 @@ returns-then-not-is_qname c =
 pub returns-in-None : goal.returns-in-None
 returns-in-None c =
     let right : is_qname c.split_name.result.0.now ≡ true = search rules in
-    tells-no-rest c.args.inside.now c.split_name.result.0.now c.split_name.result.1.now c.in_ok-attributes.attributes c.split_name.ensures.name c.split_name.ensures.rest right c.in_ok-attributes.ensures c.in-None.ensures
+    tells-no-rest c.args.inside.now c.split_name.result.0.now c.split_name.result.1.now c.in_ok-attributes.attributes c.split_name.ensures.name
+    c.split_name.ensures.rest right c.in_ok-attributes.ensures c.in-None.ensures
 
 pub returns-in-Some : goal.returns-in-Some
 returns-in-Some c =
     let right : is_qname c.split_name.result.0.now ≡ true = search rules in
     let wrong : c.in_ok-attributes.attributes.are_right ≡ false = search rules in
-    tells-bad-reference c.args.inside.now c.split_name.result.0.now c.split_name.result.1.now c.in_ok-attributes.attributes c.in-Some.field-0 c.split_name.ensures.name c.split_name.ensures.rest right c.in_ok-attributes.ensures c.in-Some.ensures wrong
+    tells-bad-reference c.args.inside.now c.split_name.result.0.now c.split_name.result.1.now c.in_ok-attributes.attributes c.in-Some.field-0
+    c.split_name.ensures.name c.split_name.ensures.rest right c.in_ok-attributes.ensures c.in-Some.ensures wrong
 
 pub returns : goal.returns
 returns c =
     let right : is_qname c.split_name.result.0.now ≡ true = search rules in
     let all : c.in_ok-attributes.attributes.are_right ≡ true = search rules in
-    tells-start c.args.inside.now c.split_name.result.0 c.split_name.result.1.now c.in_ok-attributes.attributes c.in-Some.field-0 c.split_name.ensures.name c.split_name.ensures.rest right c.in_ok-attributes.ensures c.in-Some.ensures all
+    tells-start c.args.inside.now c.split_name.result.0 c.split_name.result.1.now c.in_ok-attributes.attributes c.in-Some.field-0 c.split_name.ensures.name
+    c.split_name.ensures.rest right c.in_ok-attributes.ensures c.in-Some.ensures all

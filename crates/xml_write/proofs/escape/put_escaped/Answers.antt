@@ -25,10 +25,13 @@ runs-preserved g c =
     let run = c.split_at.result.0.now in
     let reference = c.in-Some.reference.now in
     let after = c.split_at-in-Some.result.1.now in
-    let after_is : after ≡ drop (c.in-Some.at + 1) c.runs.rest.now = c.split_at-in-Some.ensures.back ∙ (ap (drop 1) c.split_at.ensures.back ∙ drop-drop 1 c.in-Some.at c.runs.rest.now) in
-    let step : run ++ (reference ++ escaped c.args.within after) ≡ escaped c.args.within c.runs.rest.now = rw (after_is, c.split_at.ensures.front) (sym c.in-Some.ensures.1) in (
+    let after_is : after ≡ drop (c.in-Some.at + 1) c.runs.rest.now = c.split_at-in-Some.ensures.back ∙
+    (ap (drop 1) c.split_at.ensures.back ∙ drop-drop 1 c.in-Some.at c.runs.rest.now) in
+    let step : run ++ (reference ++ escaped c.args.within after) ≡ escaped c.args.within c.runs.rest.now =
+    rw (after_is, c.split_at.ensures.front) (sym c.in-Some.ensures.1) in (
       so_far.0 ++ (run ++ reference),
-      append_assoc so_far.0 (run ++ reference) (escaped c.args.within after) ∙ (ap (λ x. so_far.0 ++ x) (append_assoc run reference (escaped c.args.within after) ∙ step) ∙ so_far.1),
+      append_assoc so_far.0 (run ++ reference) (escaped c.args.within after) ∙
+          (ap (λ x. so_far.0 ++ x) (append_assoc run reference (escaped c.args.within after) ∙ step) ∙ so_far.1),
       WritesAll-append _ _ _ _ _ so_far.2 (WritesAll-append _ _ _ _ _ c.in_ok-put_bytes.ensures c.in_ok-put.ensures),
     )
 

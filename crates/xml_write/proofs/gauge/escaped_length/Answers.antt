@@ -12,7 +12,11 @@ returns-then-bytes-ge-MOST_MEASURED c =
 pub overflow_add-length : goal.overflow_add-length
 overflow_add-length c =
     let few = c.if-bytes-ge-MOST_MEASURED.false in
-    omega (arith, next_fits c.args.within c.as_bytes-bytes.result.now c.bytes.byte-index c.bytes.length c.escape_length-length.result c.bytes-test.true c.bytes.invariant.1 (omega arith) c.escape_length-length.ensures)
+    omega (
+      arith,
+      next_fits c.args.within c.as_bytes-bytes.result.now c.bytes.byte-index c.bytes.length c.escape_length-length.result c.bytes-test.true
+          c.bytes.invariant.1 (omega arith) c.escape_length-length.ensures,
+    )
 
 pub bytes-preserved : goal.bytes-preserved
 bytes-preserved c =

@@ -8,7 +8,8 @@ use Rattle.xpath_marks.proofs.TurnLemmas.{item_within, flat_done, ordered_within
 use Rattle.xpath_marks.proofs.first_steps.around.Goals as goal
 
 pub put_around-requires-clause-within : goal.put_around-requires-clause-within
-put_around-requires-clause-within g c = item_within c.args.ground.now c.args.from.now c.from.n-index c.n-item.result c.n-item.is refl c.requires c.from-test.true
+put_around-requires-clause-within g c = item_within c.args.ground.now c.args.from.now c.from.n-index c.n-item.result c.n-item.is refl c.requires
+    c.from-test.true
 
 pub from-preserved : goal.from-preserved
 from-preserved g c = record {

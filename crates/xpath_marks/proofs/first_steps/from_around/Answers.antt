@@ -13,6 +13,7 @@ returns-clause-marked g c =
     let base = c.args.ground.now in
     let e = seen base.names.now c.args.work.now in
     along_ok c.reached.result (λ found. Reached base e c.as_slice-2.result.now found.items) (λ found. FoundByStep base e found.items)
-    (λ found r. children_everywhere base c.documents_are_walkable.ensures c.args.k e c.in_ok-named.named.items c.as_slice.result.now c.in_ok-from.from.items c.as_slice-2.result.now found.items
+    (λ found r. children_everywhere base c.documents_are_walkable.ensures c.args.k e c.in_ok-named.named.items c.as_slice.result.now c.in_ok-from.from.items
+    c.as_slice-2.result.now found.items
     c.requires.children c.in_ok-named.ensures.found c.as_slice.ensures.value c.in_ok-from.ensures.around c.as_slice-2.ensures.value r)
     c.reached.ensures.reached

@@ -7,7 +7,8 @@ use Rattle.xpath_marks.proofs.first_steps.put_around.Goals as goal
 
 pub returns-in_ok-push-in-Some-clause-put : goal.returns-in_ok-push-in-Some-clause-put
 returns-in_ok-push-in-Some-clause-put g c =
-    c.in_ok-push-in-Some.ensures.items ∙ ap (λ ns. c.args.out.now.items ++ ns) (around_some (nodes_of c.args.ground.now) c.args.n c.in-Some.around c.in-Some.ensures.node)
+    c.in_ok-push-in-Some.ensures.items ∙ ap (λ ns. c.args.out.now.items ++ ns)
+    (around_some (nodes_of c.args.ground.now) c.args.n c.in-Some.around c.in-Some.ensures.node)
 
 pub returns-in_ok-push-in-Some-clause-within : goal.returns-in_ok-push-in-Some-clause-within
 returns-in_ok-push-in-Some-clause-within g c =
@@ -16,4 +17,5 @@ returns-in_ok-push-in-Some-clause-within g c =
     subst (AreNodes base) (sym c.in_ok-push-in-Some.ensures.items) (nodes_append base c.args.out.now.items (c.in-Some.around ∷ []) c.requires.out (within, tt))
 
 pub returns-in-None-clause-put : goal.returns-in-None-clause-put
-returns-in-None-clause-put g c = sym (append-nil c.args.out.now.items) ∙ ap (λ ns. c.args.out.now.items ++ ns) (around_none (nodes_of c.args.ground.now) c.args.n c.in-None.ensures.node)
+returns-in-None-clause-put g c = sym (append-nil c.args.out.now.items) ∙
+    ap (λ ns. c.args.out.now.items ++ ns) (around_none (nodes_of c.args.ground.now) c.args.n c.in-None.ensures.node)

@@ -14,14 +14,18 @@ from-init g c = λ w. record {
 }
 
 pub go_in-requires-clause-around : goal.go_in-requires-clause-around
-go_in-requires-clause-around g c = around_within c.args.ground.now c.documents_are_walkable.ensures c.from.around c.from.out.items (c.from.invariant c.documents_are_walkable.ensures).around
+go_in-requires-clause-around g c = around_within c.args.ground.now c.documents_are_walkable.ensures c.from.around c.from.out.items
+    (c.from.invariant c.documents_are_walkable.ensures).around
 
 pub go_in-requires-clause-within : goal.go_in-requires-clause-within
-go_in-requires-clause-within g c = item_within c.args.ground.now c.args.from.now c.from.n-index c.n-item.result c.n-item.is refl c.requires.from c.from-test.true
+go_in-requires-clause-within g c = item_within c.args.ground.now c.args.from.now c.from.n-index c.n-item.result c.n-item.is refl c.requires.from
+    c.from-test.true
 
 pub from-preserved : goal.from-preserved
-from-preserved g c = λ w. goes_on c.args.ground.now w c.args.from.now c.from.n-index c.n-item.result c.from.around c.in_ok-go_in.field-0 c.from.out.items c.go_in.new.out.items c.n-item.is c.from-test.true
-    (item_within c.args.ground.now c.args.from.now c.from.n-index c.n-item.result c.n-item.is refl c.requires.from c.from-test.true) c.in_ok-go_in.ensures (c.from.invariant w)
+from-preserved g c = λ w. goes_on c.args.ground.now w c.args.from.now c.from.n-index c.n-item.result c.from.around c.in_ok-go_in.field-0 c.from.out.items
+    c.go_in.new.out.items c.n-item.is c.from-test.true
+    (item_within c.args.ground.now c.args.from.now c.from.n-index c.n-item.result c.n-item.is refl c.requires.from c.from-test.true) c.in_ok-go_in.ensures
+    (c.from.invariant w)
 
 pub returns-clause-reached : goal.returns-clause-reached
 returns-clause-reached g c =

@@ -16,7 +16,8 @@ nodes-preserved g c =
     record {
       next = next_within (count base) n c.next_node-next.result c.next_node-next.ensures.node;
       within = subst (AreNodes base) (sym c.in_ok-push.ensures.items) (nodes_append base c.nodes.all.items (n ∷ []) c.nodes.invariant.within (within, tt));
-      left = every_next (nodes_of base) n c.next_node-next.result c.nodes.all.items c.push.new.self.items doc.walkable.counted (subst (λ k. n < k) (sym doc.long) within)
+      left = every_next (nodes_of base) n c.next_node-next.result c.nodes.all.items c.push.new.self.items doc.walkable.counted
+          (subst (λ k. n < k) (sym doc.long) within)
           (subst (λ k. SomeIff c.next_node-next.result (n + 1 < k) (n + 1)) (sym doc.long) c.next_node-next.ensures.node) c.in_ok-push.ensures.items
           (ap (λ o. c.nodes.all.items ++ node_numbers (from_on o (nodes_of base))) (sym c.in-Some.is) ∙ c.nodes.invariant.left);
     }

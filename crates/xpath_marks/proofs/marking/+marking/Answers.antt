@@ -13,12 +13,14 @@ use Rattle.xpath_marks.specs.Marking.{Marked, Reached, FoundByStep, nodes_of, un
 use Rattle.xpath_marks.proofs.AloneLemmas.{empty_alone, first_alone, others_alone}
 use Rattle.xpath_marks.proofs.FirstStepLemmas.{filter_children}
 use Rattle.xpath_marks.proofs.TurnLemmas.{alone_is}
-use Rattle.xpath_marks.proofs.MarkingLemmas.{along_ok, nothing_found, none_of_none, first_marked, chain_marked, others_marked, below_marked, inside_marked, beside_marked, otherwise_marked, chain_more}
+use Rattle.xpath_marks.proofs.MarkingLemmas.{along_ok, nothing_found, none_of_none, first_marked, chain_marked, others_marked, below_marked, inside_marked}
+use Rattle.xpath_marks.proofs.MarkingLemmas.{beside_marked, otherwise_marked, chain_more}
 use Rattle.xpath_marks.proofs.marking.+marking.Goals as goal
 
 pub chain-returns-in_default-clause-marked : goal.chain-returns-in_default-clause-marked
 chain-returns-in_default-clause-marked g t c =
-    subst (λ ps. Marked c.args.ground.now (chained (operands_of c.args.ground.now.names.now ps)) c.new.result.items) (sym (none_of_none c.args.parts.now c.in_default.ensures.cases))
+    subst (λ ps. Marked c.args.ground.now (chained (operands_of c.args.ground.now.names.now ps)) c.new.result.items)
+    (sym (none_of_none c.args.parts.now c.in_default.ensures.cases))
     (λ p. nothing_found c.args.ground.now c.new.result.items c.new.ensures.items)
 
 pub found-returns-in_default-clause-cost : goal.found-returns-in_default-clause-cost
@@ -33,8 +35,10 @@ found-returns-then-is_found_by_first-clause-marked g t c =
     let others = c.in-Some.others.now in
     let kind = c.in-Node.kind in
     let divided : c.in-Node.parts ≡ first ∷ others = sym c.as_slice.ensures ∙ c.in-Some.ensures.cases.0 in
-    let yes : is_found_by_first kind first.0 (is_empty others) ≡ true = ap (is_found_by_first kind first.0) (alone_is others ∙ sym c.is_empty.ensures) ∙ sym c.if-is_found_by_first.ensures in
-    along_ok c.found.result (λ found. Marked base (seen base.names.now first.1) found.items) (λ found. Marked base (seen base.names.now c.args.work.now) found.items)
+    let yes : is_found_by_first kind first.0 (is_empty others) ≡ true = ap (is_found_by_first kind first.0) (alone_is others ∙ sym c.is_empty.ensures) ∙
+    sym c.if-is_found_by_first.ensures in
+    along_ok c.found.result (λ found. Marked base (seen base.names.now first.1) found.items)
+    (λ found. Marked base (seen base.names.now c.args.work.now) found.items)
     (λ found m. first_marked base c.args.work.now kind c.in-Node.parts c.in-Node.is found.items first others divided yes m) c.found.ensures.marked
 
 pub found-returns-then-is_found_by_first-clause-cost : goal.found-returns-then-is_found_by_first-clause-cost
@@ -44,14 +48,16 @@ found-returns-then-is_found_by_first-clause-cost g t c =
     let others = c.in-Some.others.now in
     let kind = c.in-Node.kind in
     let divided : c.in-Node.parts ≡ first ∷ others = sym c.as_slice.ensures ∙ c.in-Some.ensures.cases.0 in
-    let yes : is_found_by_first kind first.0 (is_empty others) ≡ true = ap (is_found_by_first kind first.0) (alone_is others ∙ sym c.is_empty.ensures) ∙ sym c.if-is_found_by_first.ensures in
+    let yes : is_found_by_first kind first.0 (is_empty others) ≡ true = ap (is_found_by_first kind first.0) (alone_is others ∙ sym c.is_empty.ensures) ∙
+    sym c.if-is_found_by_first.ensures in
     λ name e. c.found.ensures.cost name (first_alone base.names.now c.args.work.now kind c.in-Node.parts c.in-Node.is first others divided yes ∙ e)
 
 pub found-returns-then-is_chain-clause-marked : goal.found-returns-then-is_chain-clause-marked
 found-returns-then-is_chain-clause-marked g t c =
     let base = c.args.ground.now in
     let lent = c.as_slice-then-is_chain.result.now in
-    along_ok c.chain.result (λ found. Marked base (chained (operands_of base.names.now lent)) found.items) (λ found. Marked base (seen base.names.now c.args.work.now) found.items)
+    along_ok c.chain.result (λ found. Marked base (chained (operands_of base.names.now lent)) found.items)
+    (λ found. Marked base (seen base.names.now c.args.work.now) found.items)
     (λ found m. chain_marked base c.args.work.now c.in-Node.kind c.in-Node.parts c.in-Node.is found.items (sym c.if-is_chain.ensures)
     (subst (λ ps. Marked base (chained (operands_of base.names.now ps)) found.items) c.as_slice-then-is_chain.ensures m))
     c.chain.ensures.marked
@@ -63,7 +69,8 @@ found-returns-then-is_chain-clause-cost g t c =
     let others = c.in-Some.others.now in
     let kind = c.in-Node.kind in
     let divided : c.in-Node.parts ≡ first ∷ others = sym c.as_slice.ensures ∙ c.in-Some.ensures.cases.0 in
-    let no : is_found_by_first kind first.0 (is_empty others) ≡ false = ap (is_found_by_first kind first.0) (alone_is others ∙ sym c.is_empty.ensures) ∙ sym c.if-is_found_by_first.ensures in
+    let no : is_found_by_first kind first.0 (is_empty others) ≡ false = ap (is_found_by_first kind first.0) (alone_is others ∙ sym c.is_empty.ensures) ∙
+    sym c.if-is_found_by_first.ensures in
     λ name e. absurd (others_alone base.names.now c.args.work.now kind c.in-Node.parts c.in-Node.is first others divided name no e)
 
 pub found-from_around-requires-clause-children : goal.found-from_around-requires-clause-children
@@ -80,8 +87,10 @@ found-returns-in-Some-filtered_name-clause-marked g t c =
     let others = c.in-Some.others.now in
     let kind = c.in-Node.kind in
     let divided : c.in-Node.parts ≡ first ∷ others = sym c.as_slice.ensures ∙ c.in-Some.ensures.cases.0 in
-    let no : is_found_by_first kind first.0 (is_empty others) ≡ false = ap (is_found_by_first kind first.0) (alone_is others ∙ sym c.is_empty.ensures) ∙ sym c.if-is_found_by_first.ensures in
-    along_ok c.from_around.result (λ found. FoundByStep base (seen base.names.now c.args.work.now) found.items) (λ found. Marked base (seen base.names.now c.args.work.now) found.items)
+    let no : is_found_by_first kind first.0 (is_empty others) ≡ false = ap (is_found_by_first kind first.0) (alone_is others ∙ sym c.is_empty.ensures) ∙
+    sym c.if-is_found_by_first.ensures in
+    along_ok c.from_around.result (λ found. FoundByStep base (seen base.names.now c.args.work.now) found.items)
+    (λ found. Marked base (seen base.names.now c.args.work.now) found.items)
     (λ found f. others_marked base c.args.work.now kind c.in-Node.parts c.in-Node.is found.items first others divided no (sym c.if-is_chain.ensures) f)
     c.from_around.ensures.marked
 
@@ -92,7 +101,8 @@ found-returns-in-Some-filtered_name-clause-cost g t c =
     let others = c.in-Some.others.now in
     let kind = c.in-Node.kind in
     let divided : c.in-Node.parts ≡ first ∷ others = sym c.as_slice.ensures ∙ c.in-Some.ensures.cases.0 in
-    let no : is_found_by_first kind first.0 (is_empty others) ≡ false = ap (is_found_by_first kind first.0) (alone_is others ∙ sym c.is_empty.ensures) ∙ sym c.if-is_found_by_first.ensures in
+    let no : is_found_by_first kind first.0 (is_empty others) ≡ false = ap (is_found_by_first kind first.0) (alone_is others ∙ sym c.is_empty.ensures) ∙
+    sym c.if-is_found_by_first.ensures in
     λ name e. absurd (others_alone base.names.now c.args.work.now kind c.in-Node.parts c.in-Node.is first others divided name no e)
 
 pub found-returns-in-None-clause-marked : goal.found-returns-in-None-clause-marked
@@ -102,8 +112,10 @@ found-returns-in-None-clause-marked g t c =
     let others = c.in-Some.others.now in
     let kind = c.in-Node.kind in
     let divided : c.in-Node.parts ≡ first ∷ others = sym c.as_slice.ensures ∙ c.in-Some.ensures.cases.0 in
-    let no : is_found_by_first kind first.0 (is_empty others) ≡ false = ap (is_found_by_first kind first.0) (alone_is others ∙ sym c.is_empty.ensures) ∙ sym c.if-is_found_by_first.ensures in
-    along_ok c.from_everywhere-in-None.result (λ found. FoundByStep base (seen base.names.now c.args.work.now) found.items) (λ found. Marked base (seen base.names.now c.args.work.now) found.items)
+    let no : is_found_by_first kind first.0 (is_empty others) ≡ false = ap (is_found_by_first kind first.0) (alone_is others ∙ sym c.is_empty.ensures) ∙
+    sym c.if-is_found_by_first.ensures in
+    along_ok c.from_everywhere-in-None.result (λ found. FoundByStep base (seen base.names.now c.args.work.now) found.items)
+    (λ found. Marked base (seen base.names.now c.args.work.now) found.items)
     (λ found f. others_marked base c.args.work.now kind c.in-Node.parts c.in-Node.is found.items first others divided no (sym c.if-is_chain.ensures) f)
     c.from_everywhere-in-None.ensures.marked
 
@@ -114,7 +126,8 @@ found-returns-in-None-clause-cost g t c =
     let others = c.in-Some.others.now in
     let kind = c.in-Node.kind in
     let divided : c.in-Node.parts ≡ first ∷ others = sym c.as_slice.ensures ∙ c.in-Some.ensures.cases.0 in
-    let no : is_found_by_first kind first.0 (is_empty others) ≡ false = ap (is_found_by_first kind first.0) (alone_is others ∙ sym c.is_empty.ensures) ∙ sym c.if-is_found_by_first.ensures in
+    let no : is_found_by_first kind first.0 (is_empty others) ≡ false = ap (is_found_by_first kind first.0) (alone_is others ∙ sym c.is_empty.ensures) ∙
+    sym c.if-is_found_by_first.ensures in
     λ name e. absurd (others_alone base.names.now c.args.work.now kind c.in-Node.parts c.in-Node.is first others divided name no e)
 
 pub link_on-returns-in-Below-clause-marked : goal.link_on-returns-in-Below-clause-marked
@@ -123,7 +136,8 @@ link_on-returns-in-Below-clause-marked g t c =
     let f = seen base.names.now c.args.work.now in
     along_ok c.reached.result (λ found. Reached base f c.as_slice.result.now found.items)
     (λ found. (e : Exp) → Marked base e c.args.before.items → Marked base (linked e (label_of c.args.link) f) found.items)
-    (λ found r e m. below_marked base c.documents_are_walkable.ensures c.args.link e f c.args.before.items found.items m c.in-Below.ensures (subst (λ xs. Reached base f xs found.items) c.as_slice.ensures.value r))
+    (λ found r e m. below_marked base c.documents_are_walkable.ensures c.args.link e f c.args.before.items found.items m c.in-Below.ensures
+    (subst (λ xs. Reached base f xs found.items) c.as_slice.ensures.value r))
     c.reached.ensures.reached
 
 pub link_on-returns-in_ok-inside-in-Inside-clause-marked : goal.link_on-returns-in_ok-inside-in-Inside-clause-marked
@@ -135,7 +149,8 @@ link_on-returns-in_ok-inside-in-Inside-clause-marked g t c =
     c.in_ok-inside-in-Inside.ensures.reached ∙ ap (all_reached (nodes_of base) base.env.now all_inside) c.as_slice-in-Inside.ensures.value in
     along_ok c.reached-in-Inside.result (λ found. Reached base f c.as_slice-in-Inside-2.result.now found.items)
     (λ found. (e : Exp) → Marked base e c.args.before.items → Marked base (linked e (label_of c.args.link) f) found.items)
-    (λ found r e m. inside_marked base c.documents_are_walkable.ensures c.args.link e f c.args.before.items found.items m inside c.in-Inside.ensures is (subst (λ xs. Reached base f xs found.items) c.as_slice-in-Inside-2.ensures.value r))
+    (λ found r e m. inside_marked base c.documents_are_walkable.ensures c.args.link e f c.args.before.items found.items m inside c.in-Inside.ensures is
+    (subst (λ xs. Reached base f xs found.items) c.as_slice-in-Inside-2.ensures.value r))
     c.reached-in-Inside.ensures.reached
 
 pub link_on-returns-in_ok-other-in-Beside-clause-marked : goal.link_on-returns-in_ok-other-in-Beside-clause-marked
@@ -145,12 +160,14 @@ link_on-returns-in_ok-other-in-Beside-clause-marked g t c =
     let other = c.in_ok-other-in-Beside.other.items in
     along_ok c.united.result (λ found. found.items ≡ united_of base c.args.before.items other)
     (λ found. (e : Exp) → Marked base e c.args.before.items → Marked base (linked e (label_of c.args.link) f) found.items)
-    (λ found u e m. beside_marked base c.documents_are_walkable.ensures c.args.link e f c.args.before.items found.items m other c.in-Beside.ensures c.in_ok-other-in-Beside.ensures.marked u)
+    (λ found u e m. beside_marked base c.documents_are_walkable.ensures c.args.link e f c.args.before.items found.items m other c.in-Beside.ensures
+    c.in_ok-other-in-Beside.ensures.marked u)
     c.united.ensures.marked
 
 pub link_on-returns-in-Otherwise-clause-marked : goal.link_on-returns-in-Otherwise-clause-marked
 link_on-returns-in-Otherwise-clause-marked g t c = λ e m.
-    otherwise_marked c.args.ground.now c.args.link e (seen c.args.ground.now.names.now c.args.work.now) c.new.result.items c.in-Otherwise.ensures c.new.ensures.items
+    otherwise_marked c.args.ground.now c.args.link e (seen c.args.ground.now.names.now c.args.work.now) c.new.result.items c.in-Otherwise.ensures
+    c.new.ensures.items
 
 pub links_on-parts-preserved : goal.links_on-parts-preserved
 links_on-parts-preserved g t c =

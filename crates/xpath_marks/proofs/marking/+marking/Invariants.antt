@@ -23,5 +23,6 @@ abbrev pub invariant-links_on-parts : goal.invariant-links_on-parts
 invariant-links_on-parts g l = record {
   within : AreNodes l.ground l.before.items;
   held : AreHeld l.ground l.slots;
-  marked : (e : Exp) → Marked l.ground e l.fn.before.items → Marked l.ground (chained_on e (operands_of l.ground.names.now (take l.part-index l.parts))) l.before.items;
+  marked : (e : Exp) → Marked l.ground e l.fn.before.items →
+      Marked l.ground (chained_on e (operands_of l.ground.names.now (take l.part-index l.parts))) l.before.items;
 }

@@ -23,17 +23,20 @@ pub returns-in-Some-clause-marked : goal.returns-in-Some-clause-marked
 returns-in-Some-clause-marked g c =
     let base = c.args.ground.now in
     along_ok c.all_of_name.result (λ found. found.items ≡ elements_of base c.in-Some.k) (λ found. Marked base (seen base.names.now c.args.work.now) found.items)
-    (λ found e. named_marked base c.documents_are_walkable.ensures c.args.work.now c.args.simple.now c.in-Some.k found.items c.requires.is c.in-Some.ensures.step e) c.all_of_name.ensures.found
+    (λ found e. named_marked base c.documents_are_walkable.ensures c.args.work.now c.args.simple.now c.in-Some.k found.items c.requires.is
+    c.in-Some.ensures.step e) c.all_of_name.ensures.found
 
 pub returns-in-Some-clause-cost : goal.returns-in-Some-clause-cost
 returns-in-Some-clause-cost g c = λ name e.
     subst (λ test. Bounds (length (chain_of (nodes_of c.args.ground.now) test)) true c.all_of_name.result c.args.steps.now c.all_of_name.new.steps)
-    (alone_named c.args.ground.now.names.now c.args.work.now c.args.simple.now c.in-Some.k name c.requires.is c.in-Some.ensures.step e) c.all_of_name.ensures.cost
+    (alone_named c.args.ground.now.names.now c.args.work.now c.args.simple.now c.in-Some.k name c.requires.is c.in-Some.ensures.step e)
+    c.all_of_name.ensures.cost
 
 pub returns-in-None-clause-marked : goal.returns-in-None-clause-marked
 returns-in-None-clause-marked g c =
     let base = c.args.ground.now in
-    along_ok c.from_everywhere.result (λ found. FoundByStep base (seen base.names.now c.args.work.now) found.items) (λ found. Marked base (seen base.names.now c.args.work.now) found.items)
+    along_ok c.from_everywhere.result (λ found. FoundByStep base (seen base.names.now c.args.work.now) found.items)
+    (λ found. Marked base (seen base.names.now c.args.work.now) found.items)
     (λ found f. simple_marked base c.args.work.now c.args.simple.now found.items c.requires.is (sym c.if-is_root.ensures) f) c.from_everywhere.ensures.marked
 
 pub returns-in-None-clause-cost : goal.returns-in-None-clause-cost

@@ -20,5 +20,6 @@ returns-clause-within c =
     let base = c.args.ground.now in
     let all : AreNodes base c.append.new.self.items =
     subst (AreNodes base) (sym c.in_ok-append.ensures.items) (nodes_append base c.args.before.items c.args.other.items c.requires.before c.requires.other) in
-    subst (AreNodes base) (sym (c.in_order.ensures.numbers (nodes_of base) (are_numbers base.doc.now c.append.new.self.items c.documents_are_walkable.ensures all)))
+    subst (AreNodes base) (sym (c.in_order.ensures.numbers (nodes_of base)
+    (are_numbers base.doc.now c.append.new.self.items c.documents_are_walkable.ensures all)))
     (ordered_within base c.documents_are_walkable.ensures (λ node. is_among node.number c.append.new.self.items))

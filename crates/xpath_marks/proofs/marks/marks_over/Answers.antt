@@ -27,19 +27,22 @@ found-requires-clause-slots g c = subst (HoldIn c.args.doc.now (kept_of c.args.p
 pub returns-clause-marks : goal.returns-clause-marks
 returns-clause-marks g c = λ p.
     let nodes = tree_nodes c.args.doc.now in
-    let is : seen c.names-2.result.now c.work.result.now ≡ expression c.args.plan.now = ap (λ names. seen names c.work.result.now) c.names-2.ensures ∙ ap (seen c.args.plan.now.names) c.work.ensures in
+    let is : seen c.names-2.result.now c.work.result.now ≡ expression c.args.plan.now = ap (λ names. seen names c.work.result.now) c.names-2.ensures ∙
+    ap (seen c.args.plan.now.names) c.work.ensures in
     subst (λ e. is_pattern e ≡ true → c.in_ok-nodes.nodes.items ≡ all_found nodes c.args.env.now e) is c.in_ok-nodes.ensures.marked p
     ∙ sym (c.marks_are_found.ensures nodes c.args.env.now (expression c.args.plan.now) c.documents_are_walkable.ensures.walkable p)
 
 pub returns-clause-cost : goal.returns-clause-cost
 returns-clause-cost g c = λ name e.
-    let is : seen c.names-2.result.now c.work.result.now ≡ expression c.args.plan.now = ap (λ names. seen names c.work.result.now) c.names-2.ensures ∙ ap (seen c.args.plan.now.names) c.work.ensures in
+    let is : seen c.names-2.result.now c.work.result.now ≡ expression c.args.plan.now = ap (λ names. seen names c.work.result.now) c.names-2.ensures ∙
+    ap (seen c.args.plan.now.names) c.work.ensures in
     let bounds = c.in_ok-nodes.ensures.cost name (ap alone is ∙ e) in
     record { most = bounds.most; least = bounds.least }
 
 pub returns-in_err-nodes-clause-cost : goal.returns-in_err-nodes-clause-cost
 returns-in_err-nodes-clause-cost g c = λ name e.
-    let is : seen c.names-2.result.now c.work.result.now ≡ expression c.args.plan.now = ap (λ names. seen names c.work.result.now) c.names-2.ensures ∙ ap (seen c.args.plan.now.names) c.work.ensures in
+    let is : seen c.names-2.result.now c.work.result.now ≡ expression c.args.plan.now = ap (λ names. seen names c.work.result.now) c.names-2.ensures ∙
+    ap (seen c.args.plan.now.names) c.work.ensures in
     let bounds = c.in_err-nodes.ensures.cost name (ap alone is ∙ e) in
     rw (err_from_is_err_and c.from_residual-in_err-nodes.result c.from_residual-in_err-nodes.ensures.1).1 (record { most = bounds.most; least = λ leading. tt })
 

@@ -10,5 +10,6 @@ returns c =
     subst (Gives c.without_memory.result)
     (c.some_is_in.ensures
     ∙ (ap (λ ks. rows c.index-ys-0.result (is_in ks) c.args.xs.now) c.deref.ensures.value
-    ∙ equal_is c.args.xs.now c.args.ys.now ranked c.index-ys-0.result c.requires (some_right c.args.xs.now c.args.ys.now c.requires) c.index-ys-0.is c.in_ok-ranked.ensures.same))
+    ∙ equal_is c.args.xs.now c.args.ys.now ranked c.index-ys-0.result c.requires
+    (some_right c.args.xs.now c.args.ys.now c.requires) c.index-ys-0.is c.in_ok-ranked.ensures.same))
     c.without_memory.ensures

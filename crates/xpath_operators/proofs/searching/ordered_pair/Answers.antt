@@ -12,4 +12,5 @@ returns c =
     let best = c.index-ys-best.result in
     c.some_beside.ensures
     ∙ ordered_is c.args.op c.args.xs.now ys at best c.requires.orders c.requires.comparable c.deciding-best.ensures.within c.index-ys-best.is
-    (λ n d l. subst (λ y. decides c.args.op (item_cmp (get_or ys n d) y) ≡ false) (sym (get_or_read ys _ _ c.deciding-best.ensures.within c.index-ys-best.is d)) (c.deciding-best.ensures.best n d l))
+    (λ n d l. subst (λ y. decides c.args.op (item_cmp (get_or ys n d) y) ≡ false) (sym (get_or_read ys _ _ c.deciding-best.ensures.within c.index-ys-best.is d))
+    (c.deciding-best.ensures.best n d l))

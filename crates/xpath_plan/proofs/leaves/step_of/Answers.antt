@@ -9,4 +9,5 @@ returns-in-Some-clause-step c = λ later.
     λ j. meaning.step_of (c.axis_of-axis.ensures j) (found j)
 
 pub returns-in-None-clause-step : goal.returns-in-None-clause-step
-returns-in-None-clause-step c = λ later. ap (meaning.step_of (meaning.axis_of c.args.form c.args.test.now)) (ap (spec.test_in (c.test_of.new.names ++ [])) (sym c.in-None.is) ∙ c.in_ok-found.ensures.test [])
+returns-in-None-clause-step c = λ later. ap (meaning.step_of (meaning.axis_of c.args.form c.args.test.now))
+    (ap (spec.test_in (c.test_of.new.names ++ [])) (sym c.in-None.is) ∙ c.in_ok-found.ensures.test [])

@@ -8,7 +8,8 @@ use Rattle.xpath_run.proofs.calling.called.Goals as goal
 pub returns-then-takes-clause-within : goal.returns-then-takes-clause-within
 returns-then-takes-clause-within c =
     gives-within (length c.args.doc.now.nodes) c.value_of.result _ c.value_of.ensures (value-within (length c.args.doc.now.nodes) _ _ c.in_ok-call.ensures
-    (call-within (length c.args.doc.now.nodes) (tree_nodes c.args.doc.now) c.args.function c.args.focus.now _ (all_within-along (length c.args.doc.now.nodes) _ _ c.as_slice.ensures c.requires.arguments)))
+    (call-within (length c.args.doc.now.nodes) (tree_nodes c.args.doc.now) c.args.function c.args.focus.now _
+    (all_within-along (length c.args.doc.now.nodes) _ _ c.as_slice.ensures c.requires.arguments)))
 
 pub returns-clause-within : goal.returns-clause-within
 returns-clause-within c =

@@ -9,7 +9,8 @@ use Rattle.xpath_run.proofs.calling.called_otherwise.Goals as goal
 pub call-requires-clause-within : goal.call-requires-clause-within
 call-requires-clause-within c =
     let n = length c.args.doc.now.nodes in
-    all_within-along n _ _ c.as_slice.ensures (all_within-along n _ _ c.in_ok-all.ensures (all_within-append n _ _ (all_within-append n _ _ c.requires.arguments (tt, tt)) (tt, tt)))
+    all_within-along n _ _ c.as_slice.ensures (all_within-along n _ _ c.in_ok-all.ensures
+    (all_within-append n _ _ (all_within-append n _ _ c.requires.arguments (tt, tt)) (tt, tt)))
 
 pub returns-then-is_concat : goal.returns-then-is_concat
 returns-then-is_concat c =

@@ -1,4 +1,5 @@
-use Rattle.std.proofs.Common.{rules, ◌≡◌, ◌+◌, ◌-◌, List, [], ◌∷◌, ◌++◌, length, drop, reverse, true, false, Ok, Err, IfOk, refl, sym, ap, ◌∙◌, subst, arith, ⊎_elim}
+use Rattle.std.proofs.Common.{rules, ◌≡◌, ◌+◌, ◌-◌, List, [], ◌∷◌, ◌++◌, length, drop, reverse, true, false, Ok, Err, IfOk, refl, sym, ap, ◌∙◌, subst, arith}
+use Rattle.std.proofs.Common.{⊎_elim}
 use Rattle.node_arena.specs.Moves.{tree_nodes}
 use Rattle.xpath_items.specs.Faults.{Gives}
 use Rattle.xpath_meaning.specs.Resolving.{in_axis_order}
@@ -1153,7 +1154,8 @@ pub operand-returns-in-Some-clause-grown : goal.operand-returns-in-Some-clause-g
 operand-returns-in-Some-clause-grown g t c = slots.grows_same c.args.slots.now
 
 pub operand-returns-in-Some-clause-within : goal.operand-returns-in-Some-clause-within
-operand-returns-in-Some-clause-within g t c = outcome-within (count c.args.ground.now) c.in-Some.found c.outcome.result c.outcome.ensures c.in-Some.ensures.within
+operand-returns-in-Some-clause-within g t c = outcome-within (count c.args.ground.now) c.in-Some.found c.outcome.result c.outcome.ensures
+    c.in-Some.ensures.within
 
 pub operand-returns-in-Ok-clause-within : goal.operand-returns-in-Ok-clause-within
 operand-returns-in-Ok-clause-within g t c =

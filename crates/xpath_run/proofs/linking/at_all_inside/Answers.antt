@@ -14,4 +14,5 @@ returns-in-Ok-clause-ahead g c = λ y d. let nodes = tree_nodes c.args.ground.no
 pub returns-in-Err-Error-clause-ahead : goal.returns-in-Err-Error-clause-ahead
 returns-in-Err-Error-clause-ahead g c = λ y d. let nodes = tree_nodes c.args.ground.now.doc.now in
     ap (λ v. then_ v (path nodes (turn nodes y d)))
-    (ap (path nodes (turn nodes all_inside d)) (sym c.as_slice.ensures) ∙ rw c.in-Err-Error.field-0-is at (c.in-Err-Error.ensures.stepped c.args.ground.now.names.now c.requires.numbered))
+    (ap (path nodes (turn nodes all_inside d)) (sym c.as_slice.ensures) ∙
+    rw c.in-Err-Error.field-0-is at (c.in-Err-Error.ensures.stepped c.args.ground.now.names.now c.requires.numbered))

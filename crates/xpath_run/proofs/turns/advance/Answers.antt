@@ -9,7 +9,8 @@ returns-in_err-push-in-Some-next-2-clause-turns c = λ count h. all_within-along
 
 pub returns-in-Some-next-clause-bound : goal.returns-in-Some-next-clause-bound
 returns-in-Some-next-clause-bound c = λ count inside h. within-along count _ _ c.in_ok-push-in-Some-next-2.ensures.items
-    (within-append count _ (c.in-Some-next.item ∷ []) (within-along count _ _ c.truncate.ensures.items (within-take count _ _ (within-along count _ _ c.turns.invariant.bound inside)))
+    (within-append count _ (c.in-Some-next.item ∷ [])
+    (within-along count _ _ c.truncate.ensures.items (within-take count _ _ (within-along count _ _ c.turns.invariant.bound inside)))
     ((taken-within count _ _ _ _ _ c.in-Some.ensures.items c.in-Some-next.ensures (c.turns.invariant.within count h)).1, tt))
 
 pub returns-in-Some-next-clause-turns : goal.returns-in-Some-next-clause-turns

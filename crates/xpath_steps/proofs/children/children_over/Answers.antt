@@ -18,7 +18,8 @@ items-preserved g c = λ names is.
     let axis = c.args.step.now.axis in
     let test = test_seen names c.args.step.now.test.now in
     over_more (λ n. axis_numbers nodes axis n test) c.args.items.now c.items.item-index c.item-item.result c.items.found.items c.take_children.new.out.items
-    (node_items (numbers_over nodes axis test c.args.items.now)) c.items-test.true c.item-item.is (c.in_ok-take_children.ensures names is) (c.items.invariant names is)
+    (node_items (numbers_over nodes axis test c.args.items.now)) c.items-test.true c.item-item.is (c.in_ok-take_children.ensures names is)
+    (c.items.invariant names is)
 
 pub returns : goal.returns
 returns g c = λ names is.
@@ -26,5 +27,6 @@ returns g c = λ names is.
     let axis = c.args.step.now.axis in
     let test = test_seen names c.args.step.now.test.now in
     c.of_items.ensures
-    ∙ over_done (λ n. axis_numbers nodes axis n test) c.args.items.now c.items.item-index c.items.found.items (node_items (numbers_over nodes axis test c.args.items.now))
+    ∙ over_done (λ n. axis_numbers nodes axis n test) c.args.items.now c.items.item-index c.items.found.items
+    (node_items (numbers_over nodes axis test c.args.items.now))
     c.items-test.false (c.items.invariant names is)

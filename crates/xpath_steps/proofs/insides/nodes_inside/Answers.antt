@@ -10,14 +10,17 @@ from-init g c = record {
 }
 
 pub go_in-requires-clause-within : goal.go_in-requires-clause-within
-go_in-requires-clause-within g c = at_within (length c.args.doc.now.nodes) c.args.from.now c.from.n-index c.n-item.result c.requires c.from-test.true c.n-item.is
+go_in-requires-clause-within g c = at_within (length c.args.doc.now.nodes) c.args.from.now c.from.n-index c.n-item.result c.requires c.from-test.true
+    c.n-item.is
 
 pub from-preserved : goal.from-preserved
 from-preserved g c = record {
   around = c.in_ok-go_in.ensures.within;
-  gone = λ names is w. goes_on c.args.doc.now w (test_seen names c.args.test.now) c.args.from.now c.from.n-index c.n-item.result c.from.around c.in_ok-go_in.field-0
+  gone = λ names is w. goes_on c.args.doc.now w (test_seen names c.args.test.now) c.args.from.now c.from.n-index c.n-item.result c.from.around
+      c.in_ok-go_in.field-0
       c.from.found.items c.go_in.new.out.items c.n-item.is c.from-test.true
-      (subst (λ k. c.n-item.result < k) (sym w.long) (at_within (length c.args.doc.now.nodes) c.args.from.now c.from.n-index c.n-item.result c.requires c.from-test.true c.n-item.is))
+      (subst (λ k. c.n-item.result < k) (sym w.long)
+      (at_within (length c.args.doc.now.nodes) c.args.from.now c.from.n-index c.n-item.result c.requires c.from-test.true c.n-item.is))
       (c.in_ok-go_in.ensures.goes names is) (c.from.invariant.gone names is w);
 }
 

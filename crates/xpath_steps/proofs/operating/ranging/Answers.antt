@@ -5,4 +5,5 @@ use Rattle.xpath_steps.proofs.operating.ranging.Goals as goal
 
 pub returns-clause-within : goal.returns-clause-within
 returns-clause-within c =
-    gives_within (length c.args.doc.now.nodes) c.range.result _ c.range.ensures (range_within (length c.args.doc.now.nodes) c.deref.result.now c.deref-2.result.now)
+    gives_within (length c.args.doc.now.nodes) c.range.result _ c.range.ensures
+    (range_within (length c.args.doc.now.nodes) c.deref.result.now c.deref-2.result.now)

@@ -19,15 +19,19 @@ returns-clause-value c =
     let left : list_all is_node xs ≡ true = search rules in
     let right : list_all is_node ys ≡ true = search rules in
     let within = set_within count c.args.operator c.in_ok-left.left.items c.in_ok-right.right.items c.in_ok-nodes.nodes.items c.in_ok-nodes.ensures
-    (among_within count xs c.in_ok-left.left.items c.in_ok-left.ensures c.requires.xs) (among_within count ys c.in_ok-right.right.items c.in_ok-right.ensures c.requires.ys) in
-    let members : (n : ℕ) → is_among n c.in_ok-nodes.nodes.items ≡ is_in_both c.args.operator (is_among n (numbers_among xs)) (is_among n (numbers_among ys)) = λ n.
+    (among_within count xs c.in_ok-left.left.items c.in_ok-left.ensures c.requires.xs)
+    (among_within count ys c.in_ok-right.right.items c.in_ok-right.ensures c.requires.ys) in
+    let members : (n : ℕ) → is_among n c.in_ok-nodes.nodes.items ≡ is_in_both c.args.operator (is_among n (numbers_among xs)) (is_among n (numbers_among ys)) =
+    λ n.
     c.in_ok-nodes.ensures n ∙ (ap (λ ns. is_in_both c.args.operator (is_among n ns) (is_among n c.in_ok-right.right.items)) c.in_ok-left.ensures
     ∙ ap (λ ns. is_in_both c.args.operator (is_among n (numbers_among xs)) (is_among n ns)) c.in_ok-right.ensures) in
-    of_sets nodes c.args.operator xs ys left right ∙ ap Ok (sym (set_is nodes c.args.operator xs ys c.in_ok-nodes.nodes.items members) ∙ sym (c.in_ok-ordered.ensures within))
+    of_sets nodes c.args.operator xs ys left right ∙ ap Ok (sym (set_is nodes c.args.operator xs ys c.in_ok-nodes.nodes.items members) ∙
+    sym (c.in_ok-ordered.ensures within))
 
 pub returns-clause-within : goal.returns-clause-within
 returns-clause-within c =
     let count = length c.args.doc.now.nodes in
     let within = set_within count c.args.operator c.in_ok-left.left.items c.in_ok-right.right.items c.in_ok-nodes.nodes.items c.in_ok-nodes.ensures
-    (among_within count c.args.xs.now c.in_ok-left.left.items c.in_ok-left.ensures c.requires.xs) (among_within count c.args.ys.now c.in_ok-right.right.items c.in_ok-right.ensures c.requires.ys) in
+    (among_within count c.args.xs.now c.in_ok-left.left.items c.in_ok-left.ensures c.requires.xs)
+    (among_within count c.args.ys.now c.in_ok-right.right.items c.in_ok-right.ensures c.requires.ys) in
     order_within c.args.doc.now (node_items c.in_ok-nodes.nodes.items) c.in_ok-ordered.field-0 c.documents_are_walkable.ensures (c.in_ok-ordered.ensures within)

@@ -26,7 +26,8 @@ returns-clause-value g c = λ names is.
     let walked = c.documents_are_walkable.ensures in
     let found = axis_numbers nodes a.Descendant c.args.from test in
     let numbers : c.named_nodes.new.out.items ≡ found = c.in_ok-named_nodes.ensures.found names is ∙ ap (λ xs. xs ++ found) c.new-nodes.ensures.items in
-    let within = subst (λ ns. AreWithin count (node_items ns)) (sym numbers) (axis_within count nodes a.Descendant test c.args.from (document_below c.args.doc.now walked)) in
+    let within = subst (λ ns. AreWithin count (node_items ns)) (sym numbers)
+    (axis_within count nodes a.Descendant test c.args.from (document_below c.args.doc.now walked)) in
     let here : AreWithin (length nodes) (i.Node c.args.from ∷ []) = subst (λ n. AreWithin n (i.Node c.args.from ∷ [])) (sym walked.long) (c.requires, tt) in
     if_ok c.ordered.result (c.ordered.ensures within) (λ items e.
     sym (one_step nodes walked.walkable test (i.Node c.args.from ∷ []) here)
@@ -41,5 +42,6 @@ returns-clause-within g c = λ names is.
     let walked = c.documents_are_walkable.ensures in
     let found = axis_numbers nodes a.Descendant c.args.from test in
     let numbers : c.named_nodes.new.out.items ≡ found = c.in_ok-named_nodes.ensures.found names is ∙ ap (λ xs. xs ++ found) c.new-nodes.ensures.items in
-    let within = subst (λ ns. AreWithin count (node_items ns)) (sym numbers) (axis_within count nodes a.Descendant test c.args.from (document_below c.args.doc.now walked)) in
+    let within = subst (λ ns. AreWithin count (node_items ns)) (sym numbers)
+    (axis_within count nodes a.Descendant test c.args.from (document_below c.args.doc.now walked)) in
     if_ok c.ordered.result (c.ordered.ensures within) (λ items e. order_within c.args.doc.now (node_items c.named_nodes.new.out.items) items walked e)

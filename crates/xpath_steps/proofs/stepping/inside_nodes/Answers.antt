@@ -14,7 +14,8 @@ if_ok (Ok x) p f = f x p
 if_ok (Err e) p f = tt
 
 pub nodes_inside-requires : goal.nodes_inside-requires
-nodes_inside-requires g c = among_within (length c.args.doc.now.nodes) c.args.items.now c.as_slice.result.now (c.as_slice.ensures.value ∙ c.in_ok-from.ensures) c.requires.within
+nodes_inside-requires g c = among_within (length c.args.doc.now.nodes) c.args.items.now c.as_slice.result.now
+    (c.as_slice.ensures.value ∙ c.in_ok-from.ensures) c.requires.within
 
 pub returns-clause-value : goal.returns-clause-value
 returns-clause-value g c = λ names is.

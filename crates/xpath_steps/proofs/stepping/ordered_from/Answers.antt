@@ -15,7 +15,8 @@ returns-in_ok-items-in-Some g c = λ names is.
     let items = c.in_ok-items-in-Some.ensures names is in
     subst (λ xs. IfOk c.put_in_order.result (λ found. found ≡ in_document_order nodes xs)) items
     (c.put_in_order.ensures (subst (AreWithin count) (sym items)
-    (axis_within count nodes c.args.step.now.axis (test_seen names c.args.step.now.test.now) c.args.from (document_below c.args.doc.now c.documents_are_walkable.ensures))))
+    (axis_within count nodes c.args.step.now.axis (test_seen names c.args.step.now.test.now) c.args.from
+    (document_below c.args.doc.now c.documents_are_walkable.ensures))))
 
 pub returns-in_ok-nodes-in-None : goal.returns-in_ok-nodes-in-None
 returns-in_ok-nodes-in-None g c = λ names is.
@@ -24,4 +25,5 @@ returns-in_ok-nodes-in-None g c = λ names is.
     let numbers = c.in_ok-nodes-in-None.ensures names is in
     subst (λ ns. IfOk c.ordered.result (λ items. items ≡ in_document_order nodes (node_items ns))) numbers
     (c.ordered.ensures (subst (λ ns. AreWithin count (node_items ns)) (sym numbers)
-    (axis_within count nodes c.args.step.now.axis (test_seen names c.args.step.now.test.now) c.args.from (document_below c.args.doc.now c.documents_are_walkable.ensures))))
+    (axis_within count nodes c.args.step.now.axis (test_seen names c.args.step.now.test.now) c.args.from
+    (document_below c.args.doc.now c.documents_are_walkable.ensures))))

@@ -18,4 +18,5 @@ pub returns-in_ok-items-in-Node-clause-within : goal.returns-in_ok-items-in-Node
 returns-in_ok-items-in-Node-clause-within g c = λ names is.
     let count = length c.args.doc.now.nodes in
     subst (AreWithin count) (sym (c.in_ok-items-in-Node.ensures names is))
-    (axis_within count (tree_nodes c.args.doc.now) c.args.step.now.axis (test_seen names c.args.step.now.test.now) c.in-Node.from (document_below c.args.doc.now c.documents_are_walkable.ensures))
+    (axis_within count (tree_nodes c.args.doc.now) c.args.step.now.axis (test_seen names c.args.step.now.test.now) c.in-Node.from
+    (document_below c.args.doc.now c.documents_are_walkable.ensures))

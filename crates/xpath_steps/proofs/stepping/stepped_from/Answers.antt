@@ -17,5 +17,6 @@ returns-in_ok-items-in-Node-clause-value g c = λ names is.
 
 pub returns-in_ok-items-in-Node-clause-within : goal.returns-in_ok-items-in-Node-clause-within
 returns-in_ok-items-in-Node-clause-within g c = λ names is.
-    order_within c.args.doc.now (node_items (axis_numbers (tree_nodes c.args.doc.now) c.args.step.now.axis c.in-Node.from (test_seen names c.args.step.now.test.now)))
+    order_within c.args.doc.now (node_items (axis_numbers (tree_nodes c.args.doc.now) c.args.step.now.axis c.in-Node.from
+    (test_seen names c.args.step.now.test.now)))
     c.in_ok-items-in-Node.items c.documents_are_walkable.ensures (c.in_ok-items-in-Node.ensures names is)

@@ -23,5 +23,6 @@ returns-clause-stepped g c = λ names is.
 
 pub returns-clause-within : goal.returns-clause-within
 returns-clause-within g c = λ names is.
-    order_within c.args.doc.now (node_items (numbers_over (tree_nodes c.args.doc.now) c.args.step.now.axis (test_seen names c.args.step.now.test.now) c.args.items.now))
+    order_within c.args.doc.now (node_items (numbers_over (tree_nodes c.args.doc.now) c.args.step.now.axis
+    (test_seen names c.args.step.now.test.now) c.args.items.now))
     c.in_ok-found.found c.documents_are_walkable.ensures (c.in_ok-found.ensures names is)

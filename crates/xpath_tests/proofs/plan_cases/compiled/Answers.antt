@@ -3,4 +3,5 @@ use Rattle.xpath_types.specs.Typing.{typing}
 use Rattle.xpath_tests.proofs.plan_cases.compiled.Goals as goal
 
 pub compile-plan-requires : goal.compile-plan-requires
-compile-plan-requires c = c.typed_expressions_are_grammatical.ensures c.args.scope.now (view c.args.expression.now) (typing c.in-Ok.typed) c.in-Ok.ensures c.requires
+compile-plan-requires c = c.typed_expressions_are_grammatical.ensures c.args.scope.now (view c.args.expression.now)
+    (typing c.in-Ok.typed) c.in-Ok.ensures c.requires

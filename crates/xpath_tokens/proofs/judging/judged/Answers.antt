@@ -15,18 +15,22 @@ pub returns-in-None : goal.returns-in-None
 returns-in-None c =
     let none : None ≡ token_of c.words.place _ (first_of (map (λ word. word.now) (drop (c.words.i + 1) c.args.words.now)))
     = sym c.in-None.is ∙ c.in_ok-token.ensures ∙ ap (token_of c.words.place _) c.next_of.ensures in
-    lacking-step c.words.tokens.items c.words.place c.words.i _ (map (λ word. word.now) (drop (c.words.i + 1) c.args.words.now)) (map (λ word. word.now) (drop c.words.i c.args.words.now)) _
+    lacking-step c.words.tokens.items c.words.place c.words.i _ (map (λ word. word.now) (drop (c.words.i + 1) c.args.words.now))
+    (map (λ word. word.now) (drop c.words.i c.args.words.now)) _
     (next_word c.args.words.now c.words.i _ (omega arith)) none c.words.invariant.same
 
 pub words-preserved : goal.words-preserved
 words-preserved c =
     let some : Some c.in-Some.token ≡ token_of c.words.place _ (first_of (map (λ word. word.now) (drop (c.words.i + 1) c.args.words.now)))
     = sym c.in-Some.is ∙ c.in_ok-token.ensures ∙ ap (token_of c.words.place _) c.next_of.ensures in
-    let known = token-step c.words.tokens.items c.words.place c.words.i _ (map (λ word. word.now) (drop (c.words.i + 1) c.args.words.now)) (map (λ word. word.now) (drop c.words.i c.args.words.now)) c.in-Some.token _
+    let known = token-step c.words.tokens.items c.words.place c.words.i _ (map (λ word. word.now) (drop (c.words.i + 1) c.args.words.now))
+    (map (λ word. word.now) (drop c.words.i c.args.words.now)) c.in-Some.token _
     (next_word c.args.words.now c.words.i _ (omega arith)) some c.words.invariant.same in
     record {
-      same = ap (λ items. with_tokens items (judged c.place_behind-place.result (c.words.i + 1) (map (λ word. word.now) (drop (c.words.i + 1) c.args.words.now)))) c.in_ok-push-in-Some.ensures.items
-          ∙ ap (λ place. with_tokens (c.words.tokens.items ++ c.in-Some.token ∷ []) (judged place (c.words.i + 1) (map (λ word. word.now) (drop (c.words.i + 1) c.args.words.now)))) c.place_behind-place.ensures
+      same = ap (λ items. with_tokens items (judged c.place_behind-place.result (c.words.i + 1)
+          (map (λ word. word.now) (drop (c.words.i + 1) c.args.words.now)))) c.in_ok-push-in-Some.ensures.items
+          ∙ ap (λ place. with_tokens (c.words.tokens.items ++ c.in-Some.token ∷ [])
+          (judged place (c.words.i + 1) (map (λ word. word.now) (drop (c.words.i + 1) c.args.words.now)))) c.place_behind-place.ensures
           ∙ known;
     }
 

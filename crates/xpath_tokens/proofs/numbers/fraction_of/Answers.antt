@@ -6,7 +6,8 @@ use Rattle.xpath_tokens.proofs.numbers.fraction_of.Goals as goal
 pub returns-in-None-clause-exact : goal.returns-in-None-clause-exact
 returns-in-None-clause-exact c =
     passed (value_of 0 c.args.digits.now) _ (replicate (18 - length c.args.digits.now) 48)
-    (sym (value_of-append 0 c.args.digits.now (replicate (18 - length c.args.digits.now) 48))) (below-past (value_of 0 c.args.digits.now) c.in-None.ensures.exact)
+    (sym (value_of-append 0 c.args.digits.now (replicate (18 - length c.args.digits.now) 48)))
+    (below-past (value_of 0 c.args.digits.now) c.in-None.ensures.exact)
 
 pub returns-in-Some-clause-exact : goal.returns-in-Some-clause-exact
 returns-in-Some-clause-exact c =

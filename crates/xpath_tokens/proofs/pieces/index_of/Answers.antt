@@ -11,4 +11,5 @@ returns-then-d-c-clause-exact c =
 
 pub returns-clause-exact : goal.returns-clause-exact
 returns-clause-exact c =
-    sym (position_or_len_is (λ d. eqb d c.args.c) c.args.word.now (length c.args.word.now) 0 (omega arith) (λ k h. c.characters.invariant k (omega arith)) (λ h. absurd (omega arith)))
+    sym (position_or_len_is (λ d. eqb d c.args.c) c.args.word.now (length c.args.word.now) 0 (omega arith) (λ k h. c.characters.invariant k (omega arith))
+    (λ h. absurd (omega arith)))

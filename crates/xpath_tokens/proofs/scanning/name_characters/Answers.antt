@@ -12,4 +12,5 @@ returns-then-not-is_name_char-clause-exact c =
 
 pub returns-clause-exact : goal.returns-clause-exact
 returns-clause-exact c =
-    sym (prefix_len_is is_name_char c.args.text.now (length c.args.text.now) 0 (omega arith) (λ k h. c.loop-i.invariant k (omega arith)) (λ h. absurd (omega arith)))
+    sym (prefix_len_is is_name_char c.args.text.now (length c.args.text.now) 0 (omega arith) (λ k h. c.loop-i.invariant k (omega arith))
+    (λ h. absurd (omega arith)))

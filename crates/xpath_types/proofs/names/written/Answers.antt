@@ -10,4 +10,5 @@ returns-in_ok-joined-in-AnyLocal c = c.in_ok-joined-in-AnyLocal.ensures
 
 pub returns-in_ok-joined-in-AnyPrefix : goal.returns-in_ok-joined-in-AnyPrefix
 returns-in_ok-joined-in-AnyPrefix c = c.in_ok-joined-in-AnyPrefix.ensures
-    ∙ (ap (λ prefix. with_colon prefix (chars c.as_str-in-AnyPrefix.result.now)) star ∙ (ap (with_colon (42 ∷ [])) c.as_str-in-AnyPrefix.ensures ∙ ap written_name (sym c.in-AnyPrefix.is)))
+    ∙ (ap (λ prefix. with_colon prefix (chars c.as_str-in-AnyPrefix.result.now)) star ∙
+    (ap (with_colon (42 ∷ [])) c.as_str-in-AnyPrefix.ensures ∙ ap written_name (sym c.in-AnyPrefix.is)))

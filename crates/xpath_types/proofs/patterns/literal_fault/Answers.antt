@@ -11,8 +11,12 @@ returns-in-Ok c = sym (ap fault_refusals c.in-Ok.ensures.fault)
 
 pub returns-in-Err-Bad : goal.returns-in-Err-Bad
 unfolding literal_refusals
-returns-in-Err-Bad c = sym (ap fault_refusals (subst (λ (e : PatternFault). Judges {T = List ℕ} (Err e) (fault_of (chars c.args.text.now))) c.in-Err-Bad.field-0-is c.in-Err-Bad.ensures.fault))
+returns-in-Err-Bad c =
+    sym (ap fault_refusals (subst (λ (e : PatternFault). Judges {T = List ℕ} (Err e) (fault_of (chars c.args.text.now))) c.in-Err-Bad.field-0-is
+    c.in-Err-Bad.ensures.fault))
 
 pub returns-in-Err-TooLarge : goal.returns-in-Err-TooLarge
 unfolding literal_refusals
-returns-in-Err-TooLarge c = sym (ap fault_refusals (subst (λ (e : PatternFault). Judges {T = List ℕ} (Err e) (fault_of (chars c.args.text.now))) c.in-Err-TooLarge.field-0-is c.in-Err-TooLarge.ensures.fault))
+returns-in-Err-TooLarge c =
+    sym (ap fault_refusals (subst (λ (e : PatternFault). Judges {T = List ℕ} (Err e) (fault_of (chars c.args.text.now))) c.in-Err-TooLarge.field-0-is
+    c.in-Err-TooLarge.ensures.fault))

@@ -8,6 +8,12 @@ pub returns-clause-walked : goal.returns-clause-walked
 returns-clause-walked c =
     let root = c.begins_at_root.ensures ∙ ap (begins_at_root c.args.form.now) (sym (labels-viewed c.args.parts.now)) in
     λ i. record {
-      facts = record { kinds = no_kinds; refused = c.in_ok-refused.ensures.told i; uses = record { position = false; root = root i; item = false }; lowest = None };
+      facts = record {
+        kinds = no_kinds;
+        refused = c.in_ok-refused.ensures.told i;
+        uses = record { position = false; root = root i; item = false };
+        lowest =
+            None;
+      };
       end = c.args.token;
     }

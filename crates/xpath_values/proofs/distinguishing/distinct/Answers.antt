@@ -17,7 +17,8 @@ keep-requires c = record {
 
 pub items-preserved : goal.items-preserved
 items-preserved c = record {
-  kept = distinct_more int_cmp_total c.days_are_ordered.ensures.total _ _ c.args.items.now c.items.item-index c.item-item.result _ c.items-test.true c.item-item.is c.items.invariant.kept c.in_ok-keep.ensures.kept;
+  kept = distinct_more int_cmp_total c.days_are_ordered.ensures.total _ _ c.args.items.now c.items.item-index c.item-item.result _ c.items-test.true
+      c.item-item.is c.items.invariant.kept c.in_ok-keep.ensures.kept;
   known = c.in_ok-keep.ensures.known;
 }
 

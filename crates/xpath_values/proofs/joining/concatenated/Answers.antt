@@ -16,6 +16,7 @@ one_text-requires c =
 
 pub arguments-preserved : goal.arguments-preserved
 arguments-preserved c =
-    concat_more (tree_nodes c.args.doc.now) c.args.arguments.now c.arguments.argument-index c.argument-item.result _ c.in-Ok.piece _ c.arguments-test.true c.argument-item.is c.arguments.invariant
+    concat_more (tree_nodes c.args.doc.now) c.args.arguments.now c.arguments.argument-index c.argument-item.result _ c.in-Ok.piece _ c.arguments-test.true
+    c.argument-item.is c.arguments.invariant
     (ap (one_text (tree_nodes c.args.doc.now)) (sym c.as_slice.ensures) ∙ c.in-Ok.ensures)
     (c.in_ok-push-in-Ok.ensures ∙ ap (λ t. chars (string_bytes c.arguments.out) ++ t) c.as_str.ensures)

@@ -7,4 +7,5 @@ use Rattle.xpath_values.proofs.joining.concatenated.Given as goal
 
 abbrev pub invariant-arguments : goal.invariant-arguments
 invariant-arguments l =
-    then_ (concatenated (tree_nodes l.doc) (drop l.argument-index l.arguments)) (λ t. Ok (chars (string_bytes l.out) ++ t)) ≡ concatenated (tree_nodes l.doc) l.arguments
+    then_ (concatenated (tree_nodes l.doc) (drop l.argument-index l.arguments)) (λ t. Ok (chars (string_bytes l.out) ++ t)) ≡ concatenated
+    (tree_nodes l.doc) l.arguments

@@ -16,4 +16,5 @@ returns-in-Err-Bad c = sym (found-nowhere (chars c.args.pattern.now) (chars c.ar
 
 pub returns-in-Err-TooLarge : goal.returns-in-Err-TooLarge
 returns-in-Err-TooLarge c = sym (found-nowhere (chars c.args.pattern.now) (chars c.args.text.now) _
-    (subst (λ (e : PatternFault). Judges {T = List ℕ} (Err e) (fault_of (chars c.args.pattern.now))) c.in-Err-TooLarge.field-0-is c.in-Err-TooLarge.ensures.fault))
+    (subst (λ (e : PatternFault). Judges {T = List ℕ} (Err e) (fault_of (chars c.args.pattern.now))) c.in-Err-TooLarge.field-0-is
+    c.in-Err-TooLarge.ensures.fault))

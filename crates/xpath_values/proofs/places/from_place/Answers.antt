@@ -18,4 +18,5 @@ returns c =
     subst (λ xs. IfOk c.collect.result (λ s. chars (string_bytes s) ≡ xs)) part
     (collected c.collect.result (drop c.before_place.result (chars c.args.text.now))
     (text_from_collect c.collect.result c.collect.ensures.ran
-    (YieldsList-from_skip c.before_place.result (YieldsList-at c.skip.ensures.source (YieldsList-from_chars c.args.text.now c.utf8.text cc)) c.skip.ensures.count)))
+    (YieldsList-from_skip c.before_place.result (YieldsList-at c.skip.ensures.source (YieldsList-from_chars c.args.text.now c.utf8.text cc))
+    c.skip.ensures.count)))

@@ -22,9 +22,11 @@ chain-init g c =
     let last = c.number-last.result in
     let leads : (names : List Name) → step.numbers.now ≡ numbers_of c.args.doc.now.names names
     → LeadsInside (has_wanted (test_seen names step.test.now)) n last nodes first.result =
-    λ names is. subst (λ test. LeadsInside (has_wanted (test_seen names test)) n last nodes first.result) (sym c.requires.named) (first.ensures.node names is) in
+    λ names is. subst (λ test. LeadsInside (has_wanted (test_seen names test)) n last nodes first.result) (sym c.requires.named)
+    (first.ensures.node names is) in
     record {
-      within = then_some (λ m. (n < m) × (m < length c.args.doc.now.nodes)) (λ m. m < length c.args.doc.now.nodes) first.result first.ensures.within (λ m h. h.1);
+      within = then_some (λ m. (n < m) × (m < length c.args.doc.now.nodes)) (λ m. m < length c.args.doc.now.nodes) first.result first.ensures.within
+          (λ m h. h.1);
       on = λ names is. first_is_so nodes doc.walkable (test_seen names step.test.now) n last first.result (leads names is);
       left = λ names is.
           ap (λ ns. c.args.out.now.items ++ ns)
@@ -55,7 +57,8 @@ chain-preserved g c =
     let n = c.in-Some.n in
     let last = c.number-last.result in
     let next = c.next_named-next in
-    let within : n < length nodes = subst (λ k. n < k) (sym doc.long) (at_some (λ m. m < length c.args.doc.now.nodes) c.chain.next n c.in-Some.is c.chain.invariant.within) in
+    let within : n < length nodes = subst (λ k. n < k) (sym doc.long)
+    (at_some (λ m. m < length c.args.doc.now.nodes) c.chain.next n c.in-Some.is c.chain.invariant.within) in
     let to : n ≤ last = omega arith in
     record {
       within = then_some (λ m. (n < m) × (m < length c.args.doc.now.nodes)) (λ m. m < length c.args.doc.now.nodes) next.result next.ensures.within (λ m h. h.1);

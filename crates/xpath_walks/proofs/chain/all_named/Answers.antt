@@ -26,7 +26,8 @@ chain-init g c =
           (first.ensures.node names is ∙ ap (λ test. first_that (has_wanted (test_seen names test)) nodes) (sym c.requires));
       left = λ names is.
           ap (λ ns. c.args.out.now.items ++ ns)
-          (all_is nodes doc.walkable step.axis (test_seen names step.test.now) (is_of_name names c.args.k step.axis step.test.now c.requires) first.result rooted nameless alone
+          (all_is nodes doc.walkable step.axis (test_seen names step.test.now) (is_of_name names c.args.k step.axis step.test.now c.requires) first.result
+          rooted nameless alone
           (first.ensures.node names is ∙ ap (λ test. first_that (has_wanted (test_seen names test)) nodes) (sym c.requires)));
       most = λ names is. omega (
         arith,
@@ -49,7 +50,8 @@ chain-preserved g c =
     let step = c.args.step.now in
     let n = c.in-Some.n in
     let next = c.next_named-next in
-    let within : n < length nodes = subst (λ k. n < k) (sym doc.long) (at_some (λ m. m < length c.args.doc.now.nodes) c.chain.next n c.in-Some.is c.chain.invariant.within) in
+    let within : n < length nodes = subst (λ k. n < k) (sym doc.long)
+    (at_some (λ m. m < length c.args.doc.now.nodes) c.chain.next n c.in-Some.is c.chain.invariant.within) in
     record {
       within = then_some (λ m. (n < m) × (m < length c.args.doc.now.nodes)) (λ m. m < length c.args.doc.now.nodes) next.result next.ensures.within (λ m h. h.1);
       on = λ names is.

@@ -19,12 +19,14 @@ children-init g c =
     let first = c.first_child-next in
     let h : from < length nodes = subst (λ k. from < k) (sym doc.long) c.requires.within in
     record {
-      within = then_some (λ m. (from < m) × (m < length c.args.doc.now.nodes)) (λ m. m < length c.args.doc.now.nodes) first.result first.ensures.behind (λ m h. h.1);
+      within = then_some (λ m. (from < m) × (m < length c.args.doc.now.nodes)) (λ m. m < length c.args.doc.now.nodes) first.result first.ensures.behind
+          (λ m h. h.1);
       on = first_is_on (w.Children from) nodes 0 first.result doc.walkable.counted first.ensures.node;
       left = λ names is.
           let test = test_seen names (t.Named c.args.k) in
           ap (λ ns. c.args.out.now.items ++ node_items ns)
-          (child_is nodes doc.walkable from h a.Child test first.result 4294967295 (most nodes doc.walkable) first.ensures.node ∙ found_is nodes a.Child from test);
+          (child_is nodes doc.walkable from h a.Child test first.result 4294967295 (most nodes doc.walkable) first.ensures.node ∙
+          found_is nodes a.Child from test);
     }
 
 pub children-preserved : goal.children-preserved
@@ -34,7 +36,8 @@ children-preserved g c =
     let doc = c.documents_are_walkable.ensures in
     let n = c.in-Some.n in
     let next = c.next_sibling-next in
-    let within : n < length nodes = subst (λ k. n < k) (sym doc.long) (at_some (λ m. m < length c.args.doc.now.nodes) c.children.next n c.in-Some.is c.children.invariant.within) in
+    let within : n < length nodes = subst (λ k. n < k) (sym doc.long)
+    (at_some (λ m. m < length c.args.doc.now.nodes) c.children.next n c.in-Some.is c.children.invariant.within) in
     let on = at_some (λ m. is_on_way way (tree_node nodes m) ≡ true) c.children.next n c.in-Some.is c.children.invariant.on in
     let to : n ≤ 4294967295 = omega (arith, within, doc.walkable.few) in
     let leads = on_children way c.args.from nodes n next.result refl on next.ensures.node in

@@ -9,7 +9,8 @@ use Rattle.xpath_walks.proofs.forward.attribute.Goals as goal
 
 pub walk-requires-clause-on : goal.walk-requires-clause-on
 walk-requires-clause-on g c =
-    first_is_on (w.Attributes c.args.from) (tree_nodes c.args.doc.now) 0 c.first_attribute-begin.result c.documents_are_walkable.ensures.walkable.counted c.first_attribute-begin.ensures.node
+    first_is_on (w.Attributes c.args.from) (tree_nodes c.args.doc.now) 0 c.first_attribute-begin.result c.documents_are_walkable.ensures.walkable.counted
+    c.first_attribute-begin.ensures.node
 
 pub returns : goal.returns
 returns g c =
@@ -20,4 +21,5 @@ returns g c =
     let axis = c.args.step.now.axis in
     adds_same c.args.doc.now c.args.step.now c.walk.result c.args.out.now.items c.walk.new.out.items
     (walked (w.Attributes n) nodes c.first_attribute-begin.result 4294967295 axis) (found_on a.Attribute axis nodes n)
-    (λ test. attribute_is nodes doc.walkable n h axis test c.first_attribute-begin.result 4294967295 (most nodes doc.walkable) c.first_attribute-begin.ensures.node) c.walk.ensures
+    (λ test. attribute_is nodes doc.walkable n h axis test c.first_attribute-begin.result 4294967295
+    (most nodes doc.walkable) c.first_attribute-begin.ensures.node) c.walk.ensures

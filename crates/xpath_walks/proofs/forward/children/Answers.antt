@@ -9,7 +9,8 @@ use Rattle.xpath_walks.proofs.forward.children.Goals as goal
 
 pub walk-requires-clause-on : goal.walk-requires-clause-on
 walk-requires-clause-on g c =
-    first_is_on (w.Children c.args.from) (tree_nodes c.args.doc.now) 0 c.first_child-begin.result c.documents_are_walkable.ensures.walkable.counted c.first_child-begin.ensures.node
+    first_is_on (w.Children c.args.from) (tree_nodes c.args.doc.now) 0 c.first_child-begin.result c.documents_are_walkable.ensures.walkable.counted
+    c.first_child-begin.ensures.node
 
 pub returns : goal.returns
 returns g c =
@@ -20,4 +21,5 @@ returns g c =
     let axis = c.args.step.now.axis in
     adds_same c.args.doc.now c.args.step.now c.walk.result c.args.out.now.items c.walk.new.out.items
     (walked (w.Children n) nodes c.first_child-begin.result 4294967295 axis) (found_on a.Child axis nodes n)
-    (λ test. child_is nodes doc.walkable n h axis test c.first_child-begin.result 4294967295 (most nodes doc.walkable) c.first_child-begin.ensures.node) c.walk.ensures
+    (λ test. child_is nodes doc.walkable n h axis test c.first_child-begin.result 4294967295 (most nodes doc.walkable) c.first_child-begin.ensures.node)
+    c.walk.ensures

@@ -18,4 +18,5 @@ returns g c =
     (walked w.All nodes c.next_node-begin.result 4294967295 axis) (found_on a.Following axis nodes n)
     (λ test. following_is nodes doc.walkable n h axis test c.next_node-begin.result c.last_inside-last.result 4294967295 c.last_inside-last.ensures.node
     c.last_inside-last.ensures.within.0 (most nodes doc.walkable)
-    (next_all nodes c.last_inside-last.result (length c.args.doc.now.nodes) c.next_node-begin.result doc.long doc.walkable.counted c.next_node-begin.ensures.node)) c.walk.ensures
+    (next_all nodes c.last_inside-last.result (length c.args.doc.now.nodes) c.next_node-begin.result doc.long doc.walkable.counted
+    c.next_node-begin.ensures.node)) c.walk.ensures

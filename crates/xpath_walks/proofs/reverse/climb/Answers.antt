@@ -33,7 +33,8 @@ around-preserved g c =
       within = then_some (λ m. m < n) (λ m. m < length c.args.doc.now.nodes) next c.parent-next-in-Some.ensures.before (λ m l. omega (arith, l, in_it));
       left = λ names is.
           let test = test_seen names c.args.step.now.test.now in
-          put_on (c.args.out.now.items ++ passing axis nodes (tree_node nodes c.args.from).above test) c.around.out.items c.take_passing.new.out.items (if_so (is_passed axis test (tree_node nodes n)) n) (passing axis nodes (from_up c.around.next nodes) test)
+          put_on (c.args.out.now.items ++ passing axis nodes (tree_node nodes c.args.from).above test) c.around.out.items c.take_passing.new.out.items
+          (if_so (is_passed axis test (tree_node nodes n)) n) (passing axis nodes (from_up c.around.next nodes) test)
           (passing axis nodes (from_up next nodes) test) (c.in_ok-take_passing.ensures names is)
           (climbed axis nodes doc.walkable n h c.around.next next test c.in-Some.is c.parent-next-in-Some.ensures.node) (c.around.invariant.left names is);
     }

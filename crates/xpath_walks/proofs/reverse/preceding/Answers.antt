@@ -26,7 +26,8 @@ returns g c =
     let h : n < length nodes = subst (λ k. n < k) (sym doc.long) c.requires in
     let axis = c.args.step.now.axis in
     let last = c.number-last.result - 1 in
-    adds_back {X = Unit {0}} {Y = Unit {0}} AllocError c.args.doc.now c.args.step.now c.in_ok-walk.field-0 tt c.args.out.now.items c.walk.new.out.items c.turn_round.new.nodes.items
+    adds_back {X = Unit {0}} {Y = Unit {0}} AllocError c.args.doc.now c.args.step.now c.in_ok-walk.field-0 tt c.args.out.now.items c.walk.new.out.items
+    c.turn_round.new.nodes.items
     c.len-at.result (walked (w.Before n) nodes (Some c.document.result) last axis) (found_on a.Preceding axis nodes n) (search rules) c.turn_round.ensures
     (λ test. preceding_is nodes doc.walkable n h axis test (Some c.document.result) last (ap (λ m. m - 1) c.number-last.ensures) (omega arith)
     (first_all nodes c.document.result doc.walkable.counted (omega (arith, h)) c.document.ensures.number)) c.in_ok-walk.ensures

@@ -26,4 +26,5 @@ returns-else-is_no_attribute g c =
     let h : n < length nodes = subst (λ k. n < k) (sym doc.long) c.requires in
     let axis = c.args.step.now.axis in
     adds_none {X = Unit {0}} AllocError c.args.doc.now c.args.step.now tt c.args.out.now.items (found_on a.PrecedingSibling axis nodes n)
-    (λ test. attribute_alone nodes doc.walkable n h axis test (not-false (is_attribute (tree_node nodes n)) (sym c.is_no_attribute.ensures ∙ c.if-is_no_attribute.false)))
+    (λ test. attribute_alone nodes doc.walkable n h axis test
+    (not-false (is_attribute (tree_node nodes n)) (sym c.is_no_attribute.ensures ∙ c.if-is_no_attribute.false)))

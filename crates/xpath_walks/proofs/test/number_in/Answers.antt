@@ -13,4 +13,5 @@ returns-in_default-local c = no_number c.args.table.now c.args.doc.now.names c.a
 pub returns : goal.returns
 returns c = ok_then c.find.result c.find.ensures (λ id is.
     is ∙ (ap (find_name (record { uri = chars c.in-Some.uri.now; local = chars c.in-Some-local.local.now })) c.names.ensures
-    ∙ number-at c.args.table.now c.args.doc.now.names c.args.k (chars c.in-Some.uri.now) (chars c.in-Some-local.local.now) c.in-Some.ensures c.in-Some-local.ensures))
+    ∙ number-at c.args.table.now c.args.doc.now.names c.args.k (chars c.in-Some.uri.now)
+    (chars c.in-Some-local.local.now) c.in-Some.ensures c.in-Some-local.ensures))

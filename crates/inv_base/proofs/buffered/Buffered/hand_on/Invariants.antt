@@ -5,7 +5,8 @@ use Rattle.inv_base.proofs.buffered.Buffered.hand_on.Given as goal
 -- what was handed on and what is held back are what was taken
 abbrev pub invariant-pieces : goal.invariant-pieces
 invariant-pieces g l =
-    with_held (g.K.Sink.view l.self.sink) (drop l.self.sent l.self.held.items) ≡ with_held (g.K.Sink.view l.initial.self.sink) (drop l.initial.self.sent l.initial.self.held.items)
+    with_held (g.K.Sink.view l.self.sink) (drop l.self.sent l.self.held.items) ≡ with_held (g.K.Sink.view l.initial.self.sink)
+    (drop l.initial.self.sent l.initial.self.held.items)
 
 abbrev pub decreases-pieces : goal.decreases-pieces
 decreases-pieces g l = vec_len l.self.held - l.self.sent

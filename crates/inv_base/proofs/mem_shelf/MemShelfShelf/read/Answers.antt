@@ -10,6 +10,16 @@ returns-in-Some-clause-reads c =
     let inside = c.self.inside in
     let count = c.give-count.result in
     let opened : Opened = record { file = c.in-Some.opened.file; position = c.in-Some.opened.position + count } in
-    let behind = the_view (record { alloc = inside.alloc; files = inside.files; opened = Some opened; piece = inside.piece; failing = inside.failing; calls = c.saturating_add-self-inside.result; faults = inside.faults; opens = inside.opens }) in
+    let behind = the_view (record {
+      alloc = inside.alloc;
+      files = inside.files;
+      opened = Some opened;
+      piece = inside.piece;
+      failing = inside.failing;
+      calls =
+          c.saturating_add-self-inside.result;
+      faults = inside.faults;
+      opens = inside.opens;
+    }) in
     Reads-behind_read count c.args.self.now behind c.args.buf.now c.give-count.new.buf
     (grind (arith, common_steps)) (grind (arith, common_steps)) (grind (arith, common_steps)) (grind (arith, common_steps))

@@ -9,4 +9,5 @@ returns c =
     let v = c.args.block in
     let long = c.fits-block.0 in
     masked _ is_escaped v _ long c.fits-block.1
-    (either _ _ v (either _ _ v (either _ _ v (zip2_splat hit v 16 0x5C long) (zip2_splat hit v 16 0x22 long)) (either _ _ v (zip2_splat hit v 16 0xA long) (zip2_splat hit v 16 0xD long))) (zip2_splat hit v 16 0x9 long)) refl
+    (either _ _ v (either _ _ v (either _ _ v (zip2_splat hit v 16 0x5C long) (zip2_splat hit v 16 0x22 long))
+    (either _ _ v (zip2_splat hit v 16 0xA long) (zip2_splat hit v 16 0xD long))) (zip2_splat hit v 16 0x9 long)) refl

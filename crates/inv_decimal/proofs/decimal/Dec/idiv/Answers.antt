@@ -7,4 +7,5 @@ pub returns-then-whole-lt-UNIT : goal.returns-then-whole-lt-UNIT
 returns-then-whole-lt-UNIT c =
     let apart : 0 < unsigned_abs c.other.inside.units = omega (arith, ints) in
     rw (← c.self.view_is, ← c.other.view_is)
-    (whole_quotient_some _ _ _ apart (code_quotient c.self.inside.units c.other.inside.units c.self.invariant c.other.invariant) c.if-whole.true c.if-whole-lt-UNIT.true)
+    (whole_quotient_some _ _ _ apart (code_quotient c.self.inside.units c.other.inside.units c.self.invariant c.other.invariant) c.if-whole.true
+    c.if-whole-lt-UNIT.true)

@@ -14,7 +14,9 @@ returns-clause-text c =
     let unused : c.pow-unused.result ≡ 10 ^ (18 - c.from-digits.result) =
     c.pow-unused.ensures ∙ ap (λ k. 10 ^ (18 - k)) (c.from.ensures ∙ sym c.from-digits.ensures) in
     rw (← c.self.view_is)
-    (c.print_number.ensures.text ∙ ap (λ x. x ++ drop c.print_number.result c.args.buf.now) (scaled_text_is s _ _ _ _ _ c.parts-whole.ensures.whole c.parts-whole.ensures.rest c.is_negative.ensures c.from-digits.ensures c.self.invariant.at_most unused))
+    (c.print_number.ensures.text ∙ ap (λ x. x ++ drop c.print_number.result c.args.buf.now)
+    (scaled_text_is s _ _ _ _ _ c.parts-whole.ensures.whole c.parts-whole.ensures.rest c.is_negative.ensures c.from-digits.ensures c.self.invariant.at_most
+    unused))
 
 pub returns-clause-len : goal.returns-clause-len
 returns-clause-len c =
@@ -22,4 +24,5 @@ returns-clause-len c =
     let unused : c.pow-unused.result ≡ 10 ^ (18 - c.from-digits.result) =
     c.pow-unused.ensures ∙ ap (λ k. 10 ^ (18 - k)) (c.from.ensures ∙ sym c.from-digits.ensures) in
     rw (← c.self.view_is)
-    (c.print_number.ensures.len ∙ ap length (scaled_text_is s _ _ _ _ _ c.parts-whole.ensures.whole c.parts-whole.ensures.rest c.is_negative.ensures c.from-digits.ensures c.self.invariant.at_most unused))
+    (c.print_number.ensures.len ∙ ap length (scaled_text_is s _ _ _ _ _ c.parts-whole.ensures.whole c.parts-whole.ensures.rest c.is_negative.ensures
+    c.from-digits.ensures c.self.invariant.at_most unused))

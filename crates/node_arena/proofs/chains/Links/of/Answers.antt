@@ -33,7 +33,8 @@ returns c =
     let child = with_items_is c.in_ok-links.links.first_child c.link.new.first (c.link.ensures.first_long ∙ c.deref_mut.ensures.len) in
     let attribute = with_items_is c.in_ok-links.links.first_attribute c.link-2.new.first (c.link-2.ensures.first_long ∙ c.deref_mut-3.ensures.len) in
     let before = with_items_is c.in_ok-links.links.next_beside c.link.new.next (c.link.ensures.next_long ∙ c.deref_mut-2.ensures.len) in
-    let beside = with_items_is (with_items c.in_ok-links.links.next_beside c.link.new.next) c.link-2.new.next (c.link-2.ensures.next_long ∙ c.deref_mut-4.ensures.len) in
+    let beside = with_items_is (with_items c.in_ok-links.links.next_beside c.link.new.next) c.link-2.new.next
+    (c.link-2.ensures.next_long ∙ c.deref_mut-4.ensures.len) in
     let named = with_items_is c.in_ok-links.links.next_named c.link-3.new.next (c.link-3.ensures.next_long ∙ c.deref_mut-6.ensures.len) in
     let names = with_items_is c.in_ok-links.links.first_named c.link-3.new.first (c.link-3.ensures.first_long ∙ c.deref_mut-5.ensures.len) in
     let child_count : length c.deref_mut.result.now ≡ length slots =
@@ -54,10 +55,12 @@ returns c =
           ∙ ap (λ other. next_keyed other n (keys families.Attributes (kept slots))) (ap (λ links. get_or links n None) second
           ∙ (c.link.ensures.next n (omega (arith, h, all))
           ∙ ap (λ other. next_keyed other n (keys families.Children (kept slots)))
-          (none_yet c.deref_mut-2.result.now (length slots) (c.deref_mut-2.ensures.value ∙ c.in_ok-links.ensures.next_beside) n (omega (arith, h, all, beside_count)))));
+          (none_yet c.deref_mut-2.result.now (length slots) (c.deref_mut-2.ensures.value ∙ c.in_ok-links.ensures.next_beside) n
+          (omega (arith, h, all, beside_count)))));
       next_named = λ n h. c.link-3.ensures.next n (omega (arith, h, all))
           ∙ ap (λ other. next_keyed other n (keys families.Named (kept slots)))
-          (none_yet c.deref_mut-6.result.now (length slots) (c.deref_mut-6.ensures.value ∙ c.in_ok-links.ensures.next_named) n (omega (arith, h, all, named_count)));
+          (none_yet c.deref_mut-6.result.now (length slots) (c.deref_mut-6.ensures.value ∙ c.in_ok-links.ensures.next_named) n
+          (omega (arith, h, all, named_count)));
       first_named = λ name h. c.link-3.ensures.first name (omega (arith, h, names_count));
       child_long = c.link.ensures.first_long ∙ (child_count ∙ sym all);
       attribute_long = c.link-2.ensures.first_long ∙ (attribute_count ∙ sym all);

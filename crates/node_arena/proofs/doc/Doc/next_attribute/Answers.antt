@@ -11,5 +11,6 @@ returns-in-Document g c =
 
 pub returns-in-Attribute : goal.returns-in-Attribute
 returns-in-Attribute g c =
-    let leads = answers_next_attribute _ _ _ _ _ c.self.invariant c.self.view_is c.args.n c.requires (ap is_attribute_kind (sym c.kind.ensures ∙ c.in-Attribute.is)) in
+    let leads = answers_next_attribute _ _ _ _ _ c.self.invariant c.self.view_is c.args.n c.requires
+    (ap is_attribute_kind (sym c.kind.ensures ∙ c.in-Attribute.is)) in
     moved _ _ _ _ _ _ _ _ c.linked.ensures c.deref.ensures.value leads.node leads.behind_it c.tick.ensures

@@ -5,7 +5,8 @@ use Rattle.node_arena.proofs.doc.Doc.next_sibling.Goals as goal
 
 pub returns-in-Attribute : goal.returns-in-Attribute
 returns-in-Attribute g c =
-    let leads = answers_no_sibling _ _ _ _ _ c.self.invariant c.self.view_is c.args.n c.requires (ap is_attribute_kind (sym c.kind.ensures ∙ c.in-Attribute.is)) in
+    let leads = answers_no_sibling _ _ _ _ _ c.self.invariant c.self.view_is c.args.n c.requires
+    (ap is_attribute_kind (sym c.kind.ensures ∙ c.in-Attribute.is)) in
     not_moved _ _ _ _ _ leads.node c.tick.ensures
 
 pub returns-in-Document : goal.returns-in-Document

@@ -10,7 +10,8 @@ ends-init c = record {
   depth = c.self.invariant.0;
   some = c.self.invariant.1;
   names = ap (λ (j : Joined). j.names) c.self.view_is;
-  same = ap (λ k. ended_times (k - c.args.n) c.self.inside.builder) c.self.invariant.0 ∙ ap (λ (j : Joined). ended_times (length j.built.open_nodes - c.args.n) j.built) c.self.view_is;
+  same = ap (λ k. ended_times (k - c.args.n) c.self.inside.builder) c.self.invariant.0 ∙
+      ap (λ (j : Joined). ended_times (length j.built.open_nodes - c.args.n) j.built) c.self.view_is;
 }
 
 pub ends-preserved : goal.ends-preserved
@@ -23,5 +24,6 @@ ends-preserved c =
       depth = omega (arith, less, few, c.ends.invariant.depth);
       some = omega (arith, c.requires, c.ends-test.true);
       names = c.ends.invariant.names;
-      same = ap (λ (other : Built). ended_times (c.ends.self-inside.depth - 1 - c.args.n) other) e ∙ closes-one c.args.n c.ends.self-inside.depth b _ c.ends-test.true c.ends.invariant.same;
+      same = ap (λ (other : Built). ended_times (c.ends.self-inside.depth - 1 - c.args.n) other) e ∙
+          closes-one c.args.n c.ends.self-inside.depth b _ c.ends-test.true c.ends.invariant.same;
     }

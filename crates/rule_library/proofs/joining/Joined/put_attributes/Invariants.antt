@@ -9,7 +9,8 @@ use Rattle.rule_library.proofs.joining.Joined.put_attributes.Given as goal
 abbrev pub invariant-attributes : goal.invariant-attributes
 invariant-attributes l = record {
   within : ForSome l.at (λ m. m < length l.doc.nodes);
-  same : with_attributes (given_at l.doc.names (from l.at l.doc.nodes)) l.self ≡ with_attributes (given_at l.doc.names (drop (l.fn.n + 1) l.doc.nodes)) l.fn.self;
+  same : with_attributes (given_at l.doc.names (from l.at l.doc.nodes)) l.self ≡ with_attributes
+      (given_at l.doc.names (drop (l.fn.n + 1) l.doc.nodes)) l.fn.self;
 }
 
 abbrev pub decreases-attributes : goal.decreases-attributes

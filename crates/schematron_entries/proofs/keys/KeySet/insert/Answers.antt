@@ -9,4 +9,5 @@ returns-clause-added c = c.in_ok-insert.ensures.added ∙ ap not (any_same c.arg
     ∙ ap (list_any (spec.is_same (spec.seen_key c.args.key))) c.self.view_is)
 
 pub returns-clause-keys : goal.returns-clause-keys
-returns-clause-keys c = put_same c.args.key c.self.inside.keys.keys c.insert.new.self.keys c.args.self.now c.text_is_its_characters.ensures c.self.invariant c.self.view_is c.in_ok-insert.ensures.keys
+returns-clause-keys c = put_same c.args.key c.self.inside.keys.keys c.insert.new.self.keys c.args.self.now c.text_is_its_characters.ensures c.self.invariant
+    c.self.view_is c.in_ok-insert.ensures.keys

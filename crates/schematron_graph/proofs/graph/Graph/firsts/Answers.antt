@@ -10,6 +10,7 @@ use Rattle.schematron_graph.proofs.graph.Graph.firsts.Goals as goal
 
 pub returns : goal.returns
 returns c =
-    let all = ap (flat_map (things_of (found (things_behind c.self.inside.ranked)))) (c.deref-2.ensures.value ∙ (c.in_ok-parts.ensures ∙ ap (λ puts. built_body puts c.args.body.now) c.deref.ensures.value))
+    let all = ap (flat_map (things_of (found (things_behind c.self.inside.ranked))))
+    (c.deref-2.ensures.value ∙ (c.in_ok-parts.ensures ∙ ap (λ puts. built_body puts c.args.body.now) c.deref.ensures.value))
     ∙ (built-expansion _ _ _ c.self.invariant.0 c.self.invariant.1 c.args.body.now ∙ ap (λ rules. expansion rules c.args.body.now) c.self.view_is) in
     subst (λ t. IfOk c.firsts.result (λ things. things.items ≡ t)) (ap firsts all) c.firsts.ensures

@@ -11,4 +11,5 @@ pub returns : goal.returns
 returns c =
     c.size_of_parts.ensures
     ∙ (ap (λ puts. count_of (flat_map (things_of (found (things_behind c.self.inside.ranked))) (built_body puts c.args.body.now))) c.deref.ensures.value
-    ∙ (ap count_of (built-expansion _ _ _ c.self.invariant.0 c.self.invariant.1 c.args.body.now) ∙ ap (λ rules. count_of (expansion rules c.args.body.now)) c.self.view_is))
+    ∙ (ap count_of (built-expansion _ _ _ c.self.invariant.0 c.self.invariant.1 c.args.body.now) ∙
+    ap (λ rules. count_of (expansion rules c.args.body.now)) c.self.view_is))

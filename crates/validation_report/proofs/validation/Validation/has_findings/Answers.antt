@@ -11,4 +11,5 @@ returns c =
     let spots = c.self.inside.spots in
     c.counts_against.ensures
     ∙ (ap (λ (found : List (List Line)). counts_against (length spots.faults.items) (tally_of (rules_in found))) c.deref.ensures.value
-    ∙ sym (ap (λ (r : Report). r.findings) (sym c.self.view_is) ∙ held-findings c.self.inside.found.items spots.faults.items spots.passed.items spots.findings.items))
+    ∙ sym (ap (λ (r : Report). r.findings) (sym c.self.view_is) ∙
+    held-findings c.self.inside.found.items spots.faults.items spots.passed.items spots.findings.items))

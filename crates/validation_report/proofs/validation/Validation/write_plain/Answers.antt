@@ -9,7 +9,8 @@ use Rattle.validation_report.proofs.validation.Validation.write_plain.Goals as g
 pub returns : goal.returns
 returns g c =
     let spots = c.self.inside.spots in
-    let plain : List (List Line) → List ℕ = λ found. held_plain (reading_in found) (rules_in found) spots.faults.items spots.passed.items spots.findings.items in
+    let plain : List (List Line) → List ℕ = λ found. held_plain (reading_in found) (rules_in found) spots.faults.items spots.passed.items spots.findings.items
+    in
     let is : c.args.self.now.plain ≡ plain c.deref.result.now =
     ap (λ (r : Report). r.plain) (sym c.self.view_is)
     ∙ (held-plain c.self.inside.found.items spots.faults.items spots.passed.items spots.findings.items ∙ sym (ap plain c.deref.ensures.value)) in

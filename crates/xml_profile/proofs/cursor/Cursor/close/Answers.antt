@@ -5,7 +5,8 @@ use Rattle.xml_profile.proofs.cursor.Cursor.close.Goals as goal
 
 pub returns-then-not-has_room_behind : goal.returns-then-not-has_room_behind
 returns-then-not-has_room_behind g c = λ held bytes long is.
-    breaks-as _ _ _ _ _ _ _ _ c.too_long.ensures (close-beyond _ _ _ _ _ _ _ _ is (sym c.has_room_behind.ensures ∙ c.if-not-has_room_behind.true) (λ events t. t))
+    breaks-as _ _ _ _ _ _ _ _ c.too_long.ensures (close-beyond _ _ _ _ _ _ _ _ is (sym c.has_room_behind.ensures ∙ c.if-not-has_room_behind.true)
+    (λ events t. t))
 
 pub returns-in-Some : goal.returns-in-Some
 returns-in-Some g c = λ held bytes long is.

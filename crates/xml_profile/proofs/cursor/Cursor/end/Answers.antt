@@ -7,7 +7,8 @@ returns-then-left-gt0 c rest is = end-left c.args.self.nest c.args.self.place re
 
 pub returns-then-not-root_seen : goal.returns-then-not-root_seen
 returns-then-not-root_seen c rest is =
-    end-unseen c.args.self.nest c.args.self.place rest c.args.left is c.if-left-gt0.false (sym c.is_outside.ensures ∙ c.if-not-is_outside.false) (sym c.root_seen.ensures ∙ c.if-not-root_seen.true)
+    end-unseen c.args.self.nest c.args.self.place rest c.args.left is c.if-left-gt0.false (sym c.is_outside.ensures ∙ c.if-not-is_outside.false)
+    (sym c.root_seen.ensures ∙ c.if-not-root_seen.true)
     ∙ ap Some (sym c.fault_at-then-not-root_seen.ensures)
 
 pub returns-then-not-is_outside : goal.returns-then-not-is_outside

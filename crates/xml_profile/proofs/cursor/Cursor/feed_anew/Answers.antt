@@ -13,7 +13,8 @@ pub returns-else-is_err : goal.returns-else-is_err
 returns-else-is_err g c =
     leaves-as _ _ _ _ _ _ _ _ _ _ (sym (nothing-before _ _ c.requires.empty))
     (reaches-leaves _ _ _ _ _ _ _ _ _ _ c.in-Ok.ensures c.inside_of-held.ensures
-    (front-kept _ _ _ _ _ _ c.requires.empty c.kept_len-len.ensures c.split_at.ensures.front (extended _ c.args.rest.now.items c.split_at.result.0.now _ (sym c.is_err.ensures.value ∙ c.if-is_err.false) c.extend_from_slice.ensures.items)))
+    (front-kept _ _ _ _ _ _ c.requires.empty c.kept_len-len.ensures c.split_at.ensures.front
+    (extended _ c.args.rest.now.items c.split_at.result.0.now _ (sym c.is_err.ensures.value ∙ c.if-is_err.false) c.extend_from_slice.ensures.items)))
 
 pub returns-in-Err : goal.returns-in-Err
 returns-in-Err g c = breaks-from _ _ _ _ _ _ _ _ (sym (nothing-before _ _ c.requires.empty)) c.in-Err.ensures

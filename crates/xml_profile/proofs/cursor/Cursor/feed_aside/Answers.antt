@@ -12,7 +12,8 @@ pub feed_anew-requires-clause-empty : goal.feed_anew-requires-clause-empty
 feed_anew-requires-clause-empty g c = c.requires.none
 
 pub returns-in-Behind : goal.returns-in-Behind
-returns-in-Behind g c = λ bytes inside. fed-behind _ _ _ _ _ _ _ _ _ _ _ _ _ (c.in-Behind.ensures bytes inside) (fed-as _ _ _ _ _ _ _ _ _ _ _ (nothing-before _ _ c.requires.none) c.feed_anew.ensures)
+returns-in-Behind g c = λ bytes inside. fed-behind _ _ _ _ _ _ _ _ _ _ _ _ _ (c.in-Behind.ensures bytes inside)
+    (fed-as _ _ _ _ _ _ _ _ _ _ _ (nothing-before _ _ c.requires.none) c.feed_anew.ensures)
 
 pub returns-in-Unfinished : goal.returns-in-Unfinished
 returns-in-Unfinished g c = λ bytes inside. stays-leaves _ _ _ _ _ _ _ _ _ (c.in-Unfinished.ensures bytes inside) c.requires.none

@@ -7,4 +7,5 @@ pub at-requires : goal.at-requires
 at-requires c = within-kept _ _ _ c.at-kept.result.now c.at-kept.ensures c.self.invariant.within
 
 pub returns : goal.returns
-returns c = c.at.ensures ∙ ap (λ (name : Name). name.uri) (name_at-kept c.self.inside.spaces c.self.inside.names _ c.at-kept.result.now _ _ c.at-kept.ensures c.self.view_is c.id.view_is)
+returns c = c.at.ensures ∙ ap (λ (name : Name). name.uri)
+    (name_at-kept c.self.inside.spaces c.self.inside.names _ c.at-kept.result.now _ _ c.at-kept.ensures c.self.view_is c.id.view_is)

@@ -30,4 +30,5 @@ returns g c =
     let behind : List Open → List Name → State = λ elements names. record s { position = Farther; open_elements = elements; in_text = false; names = names } in
     rw (← c.self.view_is)
     (end_told _ s _ _ c.args.place.byte _ _ (sym c.if-is_long.ensures) (sym c.if-not-is_innermost.ensures)
-    (ap (λ x. behind x c.close.new.self.names) c.close.ensures.open ∙ ap (behind (around_innermost nest.scopes.open_elements)) c.close.ensures.names) c.in-Ok.ensures)
+    (ap (λ x. behind x c.close.new.self.names) c.close.ensures.open ∙ ap (behind (around_innermost nest.scopes.open_elements)) c.close.ensures.names)
+    c.in-Ok.ensures)

@@ -13,4 +13,5 @@ returns g c =
     let one : chars c.encode_utf8.result.now ≡ c.args.c ∷ [] =
     chars_past_char _ [] c.args.c c.encode_utf8.utf8 (c.encode_utf8.ensures.value ∙ sym (append-nil _)) ∙ ap (λ x. c.args.c ∷ x) chars-nil in
     text_told _ _ _ _ _ _ _ _ _ (reference_tells _ _ c.args.c (sym c.if-is_outside.ensures))
-    (subst (λ x. TakesText c.tell.result c.args.limits.now c.args.self.now c.tell.new.self x c.args.place.byte (g.E.Events.taken c.args.events.now) (g.E.Events.taken c.tell.new.events)) one c.tell.ensures)
+    (subst (λ x. TakesText c.tell.result c.args.limits.now c.args.self.now c.tell.new.self x c.args.place.byte (g.E.Events.taken c.args.events.now)
+    (g.E.Events.taken c.tell.new.events)) one c.tell.ensures)

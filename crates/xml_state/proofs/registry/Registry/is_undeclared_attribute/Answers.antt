@@ -7,4 +7,5 @@ pub returns-in-Some : goal.returns-in-Some
 returns-in-Some c =
     let registry = c.self.inside in
     attribute-declared registry.scopes _ c.self.view_is c.args.name.now _
-    (c.in-Some.ensures (is_attribute registry.scopes) (ap (are_right (is_attribute registry.scopes) registry.stamp) c.deref.ensures.value ∙ c.self.invariant.attributes_are))
+    (c.in-Some.ensures (is_attribute registry.scopes) (ap (are_right (is_attribute registry.scopes) registry.stamp) c.deref.ensures.value ∙
+    c.self.invariant.attributes_are))

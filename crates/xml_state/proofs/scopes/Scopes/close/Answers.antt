@@ -16,4 +16,5 @@ invariant_of-self c = record {
 pub returns-in-Some-clause-open : goal.returns-in-Some-clause-open
 returns-in-Some-clause-open c =
     rw c.truncate.ensures.items
-    (closed_opened c.self.inside.spaces _ _ c.in-Some.frame _ _ _ c.in-Some.ensures.items c.self.invariant.scoped.nested (ap (λ (s : InScope). s.open_elements) c.self.view_is))
+    (closed_opened c.self.inside.spaces _ _ c.in-Some.frame _ _ _ c.in-Some.ensures.items c.self.invariant.scoped.nested
+    (ap (λ (s : InScope). s.open_elements) c.self.view_is))

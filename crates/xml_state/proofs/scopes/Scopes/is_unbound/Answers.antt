@@ -14,5 +14,6 @@ pub returns-in-None : goal.returns-in-None
 returns-in-None c =
     let scopes = c.self.inside in
     c.is_unknown.ensures
-    ∙ (sym (ap is_none (bound-outside scopes.spaces c.args.prefix.now scopes.bindings.items (c.in-None.ensures ∙ c.self.invariant.found.shows c.args.prefix.now)))
+    ∙ (sym (ap is_none (bound-outside scopes.spaces c.args.prefix.now scopes.bindings.items
+    (c.in-None.ensures ∙ c.self.invariant.found.shows c.args.prefix.now)))
     ∙ ap (λ (s : InScope). is_none (bound_uri c.args.prefix.now s.bound)) c.self.view_is)

@@ -12,7 +12,11 @@ pub number_prefix-requires-clause-found : goal.number_prefix-requires-clause-fou
 number_prefix-requires-clause-found c = rw c.deref.ensures.value c.self.invariant.found
 
 pub invariant_of-self : goal.invariant_of-self
-invariant_of-self c = record { scoped = scoped-grown c.number_prefix.result _ _ _ _ _ _ _ c.self.invariant.scoped c.number_prefix.ensures; found = c.self.invariant.found }
+invariant_of-self c = record {
+  scoped = scoped-grown c.number_prefix.result _ _ _ _ _ _ _ c.self.invariant.scoped c.number_prefix.ensures;
+  found =
+      c.self.invariant.found;
+}
 
 pub returns-in_err-space-clause-err : goal.returns-in_err-space-clause-err
 returns-in_err-space-clause-err c =
@@ -24,7 +28,8 @@ invariant_of-self-2 c =
     let bound = ap (bindings_of c.self.inside.spaces) c.deref.ensures.value ∙ ap (λ (s : InScope). s.bound) c.self.view_is in
     let takes = takes-named _ _ _ _ _ (ap (λ x. uri_of x c.args.prefix.now) bound) c.in_ok-space.ensures in
     record {
-      scoped = scoped-named c.number_kept.result _ _ _ _ _ _ _ _ _ _ c.self.invariant.scoped c.self.view_is takes c.utf8.local c.number_kept.ensures.names c.number_kept.ensures.err;
+      scoped = scoped-named c.number_kept.result _ _ _ _ _ _ _ _ _ _ c.self.invariant.scoped c.self.view_is takes c.utf8.local c.number_kept.ensures.names
+          c.number_kept.ensures.err;
       found = c.self.invariant.found;
     }
 
@@ -32,7 +37,8 @@ pub returns-clause-number : goal.returns-clause-number
 returns-clause-number c =
     let bound = ap (bindings_of c.self.inside.spaces) c.deref.ensures.value ∙ ap (λ (s : InScope). s.bound) c.self.view_is in
     let takes = takes-named _ _ _ _ _ (ap (λ x. uri_of x c.args.prefix.now) bound) c.in_ok-space.ensures in
-    named-number c.number_kept.result c.self.inside.frames.items c.self.inside.written.items _ _ c.self.inside.bindings.items _ c.number_kept.new.names _ _ _ c.self.invariant.scoped c.self.view_is takes
+    named-number c.number_kept.result c.self.inside.frames.items c.self.inside.written.items _ _ c.self.inside.bindings.items _ c.number_kept.new.names _ _ _
+    c.self.invariant.scoped c.self.view_is takes
     c.utf8.local c.number_kept.ensures.number
 
 pub returns-clause-names : goal.returns-clause-names

@@ -9,4 +9,5 @@ returns c =
     let v = c.args.block in
     let long = c.fits-block.0 in
     masked _ is_restless v _ long c.fits-block.1
-    (either _ _ v (both_of _ _ v (both_of _ _ v (zip2_splat _ v 16 0x20 long) (zip2_splat _ v 16 0x9 long)) (both_of _ _ v (zip2_splat _ v 16 0xA long) (zip2_splat _ v 16 0xD long))) (zip2_splat hit v 16 0xEF long)) refl
+    (either _ _ v (both_of _ _ v (both_of _ _ v (zip2_splat _ v 16 0x20 long) (zip2_splat _ v 16 0x9 long))
+    (both_of _ _ v (zip2_splat _ v 16 0xA long) (zip2_splat _ v 16 0xD long))) (zip2_splat hit v 16 0xEF long)) refl

@@ -9,4 +9,5 @@ returns c =
     let v = c.args.block in
     let long = c.fits-block.0 in
     masked _ ends_run v _ long c.fits-block.1
-    (either _ _ v (either _ _ v (zip2_splat hit v 16 0x3C long) (zip2_splat hit v 16 0x26 long)) (either _ _ v (zip2_splat hit v 16 0x5D long) (zip2_splat hit v 16 0xD long))) refl
+    (either _ _ v (either _ _ v (zip2_splat hit v 16 0x3C long) (zip2_splat hit v 16 0x26 long))
+    (either _ _ v (zip2_splat hit v 16 0x5D long) (zip2_splat hit v 16 0xD long))) refl

@@ -9,4 +9,6 @@ returns c =
     let v = c.args.block in
     let long = c.fits-block.0 in
     masked _ stirs v _ long c.fits-block.1
-    (either _ _ v (either _ _ v (either _ _ v (zip2_splat hit v 16 0x3C long) (zip2_splat hit v 16 0x26 long)) (both_of _ _ v (both_of _ _ v (zip2_splat _ v 16 0x20 long) (zip2_splat _ v 16 0x9 long)) (zip2_splat _ v 16 0xA long))) (either _ _ v (zip2_splat hit v 16 0x5D long) (zip2_splat hit v 16 0xEF long))) refl
+    (either _ _ v (either _ _ v (either _ _ v (zip2_splat hit v 16 0x3C long) (zip2_splat hit v 16 0x26 long))
+    (both_of _ _ v (both_of _ _ v (zip2_splat _ v 16 0x20 long) (zip2_splat _ v 16 0x9 long)) (zip2_splat _ v 16 0xA long)))
+    (either _ _ v (zip2_splat hit v 16 0x5D long) (zip2_splat hit v 16 0xEF long))) refl

@@ -5,14 +5,16 @@
 
 PROGRAM is crates/einv/out/einv if it isn't given, RUNS 5. Prints three tables: invoices of 100, 1,000, 10,000 and 20,000 lines in UBL and in
 CII (each made from the UBL one by `einv convert`), with the times of outline, show, and convert to either syntax, and the ratios to
-outline; invoices with as many VAT breakdowns as lines, with the times of show and totals; and hostile invoices, with what einv answers. Each time is the best of the runs, wall clock, start-up included, output to /dev/null.
+outline; invoices with as many VAT breakdowns as lines, with the times of show and totals; and hostile invoices, with what einv answers. Each time is the least of the runs, in which the commands of a row take turns, in seconds
+of a processor, start-up included.
 """
 import pathlib
 import re
 import subprocess
 import sys
 import tempfile
-import time
+
+import measuring
 
 HOME = pathlib.Path(__file__).resolve().parent.parent
 
@@ -83,18 +85,6 @@ HOSTILE = {
 }
 
 
-def run(words):
-    begun = time.perf_counter()
-    done = subprocess.run(words, stdin=subprocess.DEVNULL, stdout=subprocess.DEVNULL, stderr=subprocess.PIPE)
-    return time.perf_counter() - begun, done.stderr.decode(errors="replace").strip()
-
-
-def best(words, runs):
-    """The best time, and what was said on standard error at last."""
-    taken = [run(words) for _ in range(runs)]
-    return min(seconds for seconds, _ in taken), taken[-1][1]
-
-
 def main():
     program = sys.argv[1] if len(sys.argv) > 1 else str(HOME / "crates/einv/out/einv")
     runs = int(sys.argv[2]) if len(sys.argv) > 2 else 5
@@ -111,12 +101,12 @@ def main():
                         print("| CII | %d | the invoice isn't converted within the limits |" % lines)
                         continue
                     path.write_bytes(other)
-                times = []
-                for words in (["outline"], ["show"], ["convert", "--to", "ubl"], ["convert", "--to", "cii"]):
-                    seconds, said = best([program, *words, str(path)], runs)
+                commands = (["outline"], ["show"], ["convert", "--to", "ubl"], ["convert", "--to", "cii"])
+                taken = measuring.in_turns([[program, *words, str(path)] for words in commands], runs)
+                for words, (_, _, said) in zip(commands, taken):
                     if said:
                         print("%s %d %s: %s" % (syntax, lines, " ".join(words), said.replace(str(path), "FILE")), file=sys.stderr)
-                    times.append(seconds)
+                times = [seconds for seconds, _, _ in taken]
                 outline, show, ubl, cii = times
                 figures = " | ".join("%.3f" % seconds for seconds in times)
                 ratios = " | ".join("%.2f" % ratio for ratio in (show / outline, ubl / show, cii / show))
@@ -125,7 +115,7 @@ def main():
         print("|---|---|---|---|---|")
         for lines in (1_000, 10_000, 20_000):
             path.write_text(many_breakdowns(lines))
-            (show, said), (totals, told) = (best([program, word, str(path)], runs) for word in ("show", "totals"))
+            (show, _, said), (totals, _, told) = measuring.in_turns([[program, word, str(path)] for word in ("show", "totals")], runs)
             if said or told:
                 print("%d breakdowns: %s %s" % (lines, said, told), file=sys.stderr)
             print("| %d | %.2f | %.3f | %.3f | %.2f |" % (lines, path.stat().st_size / 1e6, show, totals, totals / show))
@@ -133,8 +123,7 @@ def main():
         print("|---|---|---|---|---|")
         for name, make in HOSTILE.items():
             path.write_text(make())
-            outline, _ = best([program, "outline", str(path)], 1)
-            show, said = best([program, "show", str(path)], 1)
+            (outline, _, _), (show, _, said) = measuring.in_turns([[program, word, str(path)] for word in ("outline", "show")], 1)
             answer = said.replace(str(path) + ": ", "") or "Done"
             print("| %s | %.1f | %.3f | %.3f | %s |" % (name, path.stat().st_size / 1e6, outline, show, answer))
 

@@ -7,6 +7,7 @@ pub mod Currencies
 pub mod Values
 pub mod Judging
 pub mod Terms
+pub mod KindTexts
 pub mod Faults
 pub mod Writing
 pub mod Trees

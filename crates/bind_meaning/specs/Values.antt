@@ -1,5 +1,5 @@
 -- What the string of a picked node says: the value of the row's term, by the row's form.
-use Rattle.std.specs.Prelude.{ℕ, ◌==◌, Bool, true, false, not, ◌&&◌, ◌||◌, List, [], ◌∷◌, codes, Option, Some, None, find, option_map, option_and_then}
+use Rattle.std.specs.Prelude.{ℕ, ◌==◌, Bool, true, false, not, ◌&&◌, ◌||◌, List, [], ◌∷◌, codes, Option, Some, None, option_map, option_and_then}
 use Rattle.std.specs.List.{list_all}
 use Rattle.std.specs.Str.{bytes_eq}
 use Rattle.inv_base.specs.Characters.{is_char, is_within}
@@ -10,9 +10,8 @@ use Rattle.inv_terms.specs.declared.values.Value.TheVariants as values
 use Rattle.inv_terms.specs.Values.{is_blank, trimmed, value_of}
 use Rattle.term_table.specs.declared.terms.Letter.{Letter}
 use Rattle.term_table.specs.declared.terms.Letter.TheVariants as letters
-use Rattle.term_table.specs.declared.terms.TermRow.{TermRow}
-use Rattle.term_table.specs.SemanticModel.{same_term, terms, is_extension}
-use Rattle.term_table.specs.Rows.{is_base64}
+use Rattle.term_table.specs.SemanticModel.{is_extension}
+use Rattle.term_table.specs.Rows.{is_base64, letter_of}
 use Rattle.bind_rows.specs.declared.rows.Form.{Form}
 use Rattle.bind_rows.specs.declared.rows.Form.TheVariants as forms
 use Rattle.bind_rows.specs.Added.{letter_of_form}
@@ -22,10 +21,7 @@ pub record Said : Type 0 where
   pub term : Term
   pub value : Option Value
 
--- the type of a term, which is one wherever it stands
-abbrev pub letter_of : Term → Option Letter
-letter_of term = option_map (λ (row : TermRow). row.letter) (find (λ (row : TermRow). same_term row.term term) terms)
-
+-- by the type of the term, which is one wherever it stands
 abbrev pub by_type : Term → List ℕ → Option Value
 by_type term string = option_and_then (λ letter. value_of letter string) (letter_of term)
 

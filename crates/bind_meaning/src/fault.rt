@@ -1,3 +1,7 @@
+ghost use Rattle.std.specs.Prelude.{◌≡◌};
+ghost use Rattle.std.specs.Str.{IsAscii};
+ghost use Rattle.bind_meaning.specs.KindTexts.{kind_text};
+
 use inv_terms::Name;
 use node_arena::NodeId;
 
@@ -22,6 +26,26 @@ pub enum BindKind {
     Missing,
     /// Memory ran out.
     Memory,
+}
+
+impl BindKind {
+    /// Its name in what is told of a fault.
+    pub fn name(self) -> &'static str
+        ensures name { result.now ≡ kind_text self }
+        ensures ascii { IsAscii result.now }
+    {
+        match self {
+            BindKind::UnknownRoot => "UnknownRoot",
+            BindKind::Excess => "Excess",
+            BindKind::ElementInValue => "ElementInValue",
+            BindKind::BadValue => "BadValue",
+            BindKind::CodeNotListed => "CodeNotListed",
+            BindKind::CurrencyDiffers => "CurrencyDiffers",
+            BindKind::Disagree => "Disagree",
+            BindKind::Missing => "Missing",
+            BindKind::Memory => "Memory",
+        }
+    }
 }
 
 /// The first fault of a document as an invoice: its kind, the term or group, and the node, which for a missing one is the element of

@@ -1,28 +1,9 @@
 //! The types of terms, and the forms in which their values are written.
-ghost use Rattle.std.specs.Prelude.{◌≡◌, find, option_map};
-ghost use Rattle.term_table.specs.SemanticModel.{same_term};
+ghost use Rattle.std.specs.Prelude.{◌≡◌};
 ghost use Rattle.bind_meaning.specs.Values as spec;
 
 use bind_rows::{Form, letter_of_form};
-use term_table::{Letter, Term, TermRow, term_rows};
-
-/// The type of a term, which is one wherever the term stands. None of what is no business term.
-pub fn letter_of(term: Term) -> Option<Letter>
-    ensures { result ≡ spec.letter_of term }
-{
-    letter_among(term_rows(), term)
-}
-
-fn letter_among(rows: &[TermRow], term: Term) -> Option<Letter>
-    ensures { result ≡ option_map (λ row. row.letter) (find (λ row. same_term row.term term) rows.now) }
-{
-    'rows: for row in rows {
-        if row.term.is_same(term) {
-            return Some(row.letter);
-        }
-    }
-    None
-}
+use term_table::{Letter, Term, letter_of};
 
 /// The form in which a row writes the values of a term: its own, or that of the model where its own isn't one for the
 /// term.

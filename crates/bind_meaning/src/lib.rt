@@ -11,6 +11,6 @@ mod tables;
 pub use bind_rows::Which;
 pub use elements::{is_blank_at, is_element};
 pub use fault::{BindFault, BindKind};
-pub use forms::{form_for, letter_of, type_of};
+pub use forms::{form_for, type_of};
 pub use picked::{Picked, PlacedPick, Seated};
 pub use tables::Syntax;

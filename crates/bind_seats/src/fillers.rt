@@ -174,7 +174,7 @@ pub(crate) fn staying<L: Ledger>(
     ensures { IfOk result (λ kept. kept.items ≡ filter (spec.stays (tree_nodes scene.now.doc.now) scene.now.rows.now
         (record { invoice = currencies.now.invoice; accounting = currencies.now.accounting }) marks.now) picks.now) }
 {
-    let mut kept = Vec::new(scene.alloc);
+    let mut kept = Vec::with_capacity(scene.alloc, picks.len())?;
     'picks: for pick in picks {
         if stays(scene, currencies, marks, pick, steps)? {
             kept.push(*pick)?;

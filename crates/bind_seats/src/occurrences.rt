@@ -2,7 +2,6 @@
 
 ghost use Rattle.std.specs.Prelude.{◌≡◌, ◌+◌, ◌<◌, ◌^◌, ◌++◌, ◌∷◌, [], length, true, IfOk, OnOk};
 ghost use Rattle.std.specs.Option.{ForSome};
-ghost use Rattle.term_table.specs.Groups as groups;
 ghost use Rattle.bind_seats.specs.declared.marks.Mark.{Mark};
 ghost use Rattle.bind_seats.specs.Marks.{rises, has_mark};
 ghost use Rattle.bind_seats.specs.Rowed.{AreRowed, IsRowed};
@@ -20,56 +19,12 @@ use term_table::{Group, Slot};
 /// The number of the node in which the occurrences of outer groups stand: the document's own.
 const DOCUMENT: u32 = 0;
 
-/// A number for each group.
-fn number_of(group: Group) -> u32
-    ensures { result ≡ groups.number_of group }
-{
-    match group {
-        Group::Root => 0,
-        Group::InvoiceNote => 1,
-        Group::ProcessControl => 2,
-        Group::PrecedingInvoice => 3,
-        Group::Seller => 4,
-        Group::SellerAddress => 5,
-        Group::SellerContact => 6,
-        Group::Buyer => 7,
-        Group::BuyerAddress => 8,
-        Group::BuyerContact => 9,
-        Group::Payee => 10,
-        Group::TaxRepresentative => 11,
-        Group::TaxRepresentativeAddress => 12,
-        Group::Delivery => 13,
-        Group::InvoicingPeriod => 14,
-        Group::DeliveryAddress => 15,
-        Group::PaymentInstructions => 16,
-        Group::CreditTransfer => 17,
-        Group::PaymentCard => 18,
-        Group::DirectDebit => 19,
-        Group::DocumentAllowance => 20,
-        Group::DocumentCharge => 21,
-        Group::DocumentTotals => 22,
-        Group::VatBreakdown => 23,
-        Group::SupportingDocument => 24,
-        Group::InvoiceLine => 25,
-        Group::LinePeriod => 26,
-        Group::LineAllowance => 27,
-        Group::LineCharge => 28,
-        Group::PriceDetails => 29,
-        Group::LineVat => 30,
-        Group::ItemInformation => 31,
-        Group::ItemAttribute => 32,
-        Group::SellerIdentifier => 101,
-        Group::SellerSchemedIdentifier => 102,
-        Group::ItemClassification => 103,
-    }
-}
-
 fn group_mark(around: u32, group: Group, element: NodeId) -> Mark
     ensures { result ≡ spec.group_mark around group element }
 {
     Mark {
         around,
-        kind: number_of(group),
+        kind: group.number(),
         number: element.number(),
     }
 }
@@ -275,7 +230,7 @@ pub(crate) fn all_seated(
 {
     let outers = outer_marks(alloc, rows, picks)?;
     let inners = inner_marks(alloc, rows, picks)?;
-    let mut seats = Vec::new(alloc);
+    let mut seats = Vec::with_capacity(alloc, picks.len())?;
     let mut last = None;
     'picks: for pick in picks {
         last = add_seat(

@@ -21,7 +21,7 @@ use Rattle.bind_meaning.specs.declared.picked.PlacedPick.{PlacedPick}
 use Rattle.bind_meaning.specs.Elements.{string_at}
 use Rattle.bind_meaning.specs.Picks.{term_in}
 use Rattle.bind_meaning.specs.Currencies.{Currencies}
-use Rattle.bind_meaning.specs.Kept.{kept, kept_placed, all_kept_placed}
+use Rattle.bind_meaning.specs.Kept.{kept_placed, all_kept_placed}
 use Rattle.bind_meaning.specs.Seats.{Placed, context_of}
 use Rattle.bind_meaning.specs.Values.{Said, said}
 use Rattle.bind_meaning.specs.Judging.{Found, Told, told_by, said_by, first_before, first_cause, causes, fault_of, seat_of}

@@ -16,9 +16,9 @@ use crate::telling::context_of;
 use crate::{Said, Scene};
 use bind_meaning::{BindKind, form_for, type_of};
 use bind_rows::{Repeats, Row, Written};
-use code_lists::CodeLists;
+use code_lists::{CodeLists, List};
 use inv_base::Steps;
-use inv_terms::Value;
+use inv_terms::{Value, is_outside};
 use std::alloc::AllocError;
 use std::sync::ledger::Ledger;
 use term_table::{Context, Letter, Term, list_in};
@@ -91,27 +91,15 @@ fn is_not_listed(lists: &CodeLists, context: Context, said: &Said) -> bool
     ensures { result ≡ kinds.is_not_listed lists.now context (said_of said.now) }
 {
     match &said.value {
-        Some(value) => is_outside(lists, said.term, context, value),
+        Some(value) => is_outside(lists, list_of(said.term, context), value),
         None => false,
     }
 }
 
-fn is_outside(lists: &CodeLists, term: Term, context: Context, value: &Value) -> bool
-    ensures { result ≡ lacks.is_outside lists.now (lacks.list_of term context) (lacks.code_in value.now) }
+fn list_of(term: Term, context: Context) -> Option<List>
+    ensures { result ≡ lacks.list_of term context }
 {
-    match list_in(term, context.outer_group(), context.inner_group()) {
-        None => false,
-        Some(list) => match value {
-            Value::Code(code) => !lists.allows(list, code.as_str()),
-            Value::Text(_) => false,
-            Value::Identifier(_) => false,
-            Value::Amount(_) => false,
-            Value::Quantity(_) => false,
-            Value::Percent(_) => false,
-            Value::Date(_) => false,
-            Value::Base64(_) => false,
-        },
-    }
+    list_in(term, context.outer_group(), context.inner_group())
 }
 
 // Whether the row's values of the term are amounts.

@@ -1,5 +1,5 @@
 //! The entries of an invoice.
-ghost use Rattle.std.specs.Prelude.{◌≡◌, ◌++◌, flat_map, reverse, vec_len, IfOk, OnOk};
+ghost use Rattle.std.specs.Prelude.{◌≡◌, ◌++◌, [], flat_map, reverse, vec_len, IfOk, OnOk};
 ghost use Rattle.inv_terms.specs.Listing.{IsInvoice};
 ghost use Rattle.bind_terms.specs.Entries.{entries_of};
 
@@ -19,18 +19,27 @@ pub(crate) fn invoice_of(alloc: Global, firsts: Vec<First>) -> Result<Invoice, A
 fn entries_of(alloc: Global, firsts: Vec<First>) -> Result<Vec<Entry>, AllocError>
     ensures { IfOk result (λ entries. entries.items ≡ flat_map entries_of firsts.items) }
 {
-    let mut entries = from_last(alloc, firsts)?;
-    entries.reverse();
-    Ok(entries)
+    match Vec::with_capacity(alloc, firsts.len()) {
+        Ok(room) => {
+            let mut entries = from_last(firsts, room)?;
+            entries.reverse();
+            Ok(entries)
+        }
+        Err(error) => {
+            drop(firsts);
+            Err(error)
+        }
+    }
 }
 
 /// The entries, the last first. Each list takes about half as much memory as the document, so the one is given back while the other
 /// grows.
-fn from_last(alloc: Global, firsts: Vec<First>) -> Result<Vec<Entry>, AllocError>
+fn from_last(firsts: Vec<First>, room: Vec<Entry>) -> Result<Vec<Entry>, AllocError>
+    requires { room.items ≡ [] }
     ensures { IfOk result (λ entries. reverse entries.items ≡ flat_map entries_of firsts.items) }
 {
     let mut rest = firsts;
-    let mut entries = Vec::new(alloc);
+    let mut entries = room;
     'firsts: while let Some(first) = rest.pop() {
         push_first(&mut entries, first)?;
         give_back(&mut rest);

@@ -143,7 +143,7 @@ fn find_all<L: Ledger, K: Keeper>(
     ensures { IfOk result (λ firsts. HasFound (nodes_of scene.now) (lists_of scene.now) (rows_of scene.now) firsts.items (K.given keeper.new)) }
 {
     scene.doc.is_of_a_tree();
-    let mut told = OrderedMap::new(scene.alloc);
+    let mut told = OrderedMap::with_capacity(scene.alloc, picks.len())?;
     find_at_nodes(scene, picks, indicators, &mut told, keeper, steps)?;
     let firsts = in_listing_order(scene.alloc, told)?;
     put_lacks(scene, &firsts, picks, keeper, steps)?;

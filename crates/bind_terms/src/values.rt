@@ -3,12 +3,11 @@ ghost use Rattle.std.specs.Prelude.{◌≡◌, chars, IfOk};
 ghost use Rattle.bind_meaning.specs.Values as spec;
 ghost use Rattle.inv_terms.specs.declared.values.Value.TheVariants as values;
 
-use bind_meaning::letter_of;
 use inv_base::{Txt, is_same_text};
 use inv_decimal::Day;
 use inv_terms::{Value, trimmed};
 use std::alloc::{AllocError, Global};
-use term_table::Term;
+use term_table::{Term, letter_of};
 
 /// The value that a string has by the type of the term.
 pub(crate) fn by_type(alloc: Global, term: Term, text: &str) -> Result<Option<Value>, AllocError>

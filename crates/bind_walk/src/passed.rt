@@ -56,7 +56,8 @@ pub(crate) fn passed_of<L: Ledger>(
     ensures within { IfOk result (λ passed. All (λ m. m < length doc.now.nodes) passed.items) }
 {
     names_lead_through(doc);
-    let mut reached = beginning(alloc, rows, lines)?;
+    let last = doc.last_inside(doc.document(), steps);
+    let mut reached = beginning(alloc, rows, lines, last)?;
     let mut passed = Vec::new(alloc);
     let mut n = doc.document();
     'nodes: while let Some(m) = doc.next_node(n, steps) {
@@ -78,12 +79,18 @@ fn note(m: NodeId, is_passed: bool, passed: &mut Vec<NodeId>) -> Result<(), Allo
     Ok(())
 }
 
-/// All lines, for the document's own node; none where the table has no row.
-fn beginning(alloc: Global, rows: &[Row], lines: &[FoundLine]) -> Result<Reached, AllocError>
+/// All lines, for the document's own node, with room for the parts of as many nodes as there are up to the last; none where the table
+/// has no row.
+fn beginning(
+    alloc: Global,
+    rows: &[Row],
+    lines: &[FoundLine],
+    last: NodeId,
+) -> Result<Reached, AllocError>
     ensures { IfOk result (λ reached. spec.Begins rows.now lines.now reached.spans.items reached.parts.items) }
 {
+    let mut parts = Vec::with_capacity(alloc, last.number() as usize)?;
     let mut spans = Vec::new(alloc);
-    let mut parts = Vec::new(alloc);
     if rows.is_empty() {
         parts.push(Span { from: 0, to: 0 })?;
     } else {

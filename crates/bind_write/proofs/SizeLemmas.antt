@@ -1,5 +1,5 @@
 -- The sizes of a document are those of the calls of its root and of its end.
-use Rattle.std.proofs.Common.{◌≡◌, ℕ, zero, suc, ◌+◌, Bool, true, false, not, ◌&&◌, List, [], ◌∷◌, ◌++◌, length, map, Option, Some, None, refl, ap, sym, ◌∙◌}
+use Rattle.std.proofs.Common.{◌≡◌, ℕ, suc, ◌+◌, Bool, true, false, not, ◌&&◌, List, [], ◌∷◌, ◌++◌, length, map, Some, None, refl, ap, sym, ◌∙◌}
 use Rattle.std.proofs.Common.{subst, inl, inr, ◌⊎◌, arith}
 use Rattle.std.specs.Prelude.{◌==◌, encode_utf8_all}
 use Rattle.std.proofs.lemmas.Bool.Decides.{nat_tests}
@@ -13,7 +13,7 @@ use Rattle.xml_write.specs.Calls.{Call, call_close, calls_of, encoded}
 use Rattle.xml_write.specs.Writers.{measuring}
 use Rattle.xml_write.specs.Sizes.{stopped, tag_stopped, unmeasured, gauged, gauged_by_all, longest, canonical_tags}
 use Rattle.bind_rows.specs.declared.rows.Row.{Row}
-use Rattle.bind_table.specs.Lines.{Plan, Cell, nothing, a_line, plan_of}
+use Rattle.bind_table.specs.Lines.{Plan, nothing, a_line, plan_of}
 use Rattle.bind_meaning.specs.Trees as trees
 use Rattle.bind_meaning.specs.Trees.{document_of}
 use Rattle.bind_write.specs.Roots.{Rooted, first_root, root_calls}

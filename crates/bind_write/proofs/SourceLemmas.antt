@@ -1,9 +1,8 @@
 -- What is looked up among the entries of one occurrence is what all entries have.
-use Rattle.std.proofs.Common.{◌⊎◌, inl, inr, ◌≡◌, ℕ, ◌+◌, ◌==◌, Bool, true, false, ◌&&◌, ◌||◌, cond, List, [], ◌∷◌, Option, Some, None, refl, ap, sym, ◌∙◌}
-use Rattle.std.proofs.Common.{subst, arith, fold, max, map, length, suc, ◌<◌, ◌≤◌, get_or, drop, drop-cons, add-one}
+use Rattle.std.proofs.Common.{◌⊎◌, inl, inr, ◌≡◌, ℕ, ◌==◌, Bool, true, false, ◌&&◌, ◌||◌, cond, List, [], ◌∷◌, Option, Some, None, refl, ap, sym, ◌∙◌}
+use Rattle.std.proofs.Common.{subst, arith, fold, max, map}
 use Rattle.std.specs.Prelude.{filter, find, option_map, option_and_then, is_none, is_some, not, nat_eq, if◌then◌else◌}
 use Rattle.std.proofs.lemmas.Bool.Decides.{nat_tests}
-use Rattle.std.proofs.lemmas.Grind.{common_steps}
 use Rattle.std.proofs.lemmas.List.Elements.{All-filter}
 use Rattle.std.proofs.lemmas.List.Kept.{AllPairs-filter}
 use Rattle.term_table.specs.declared.groups.Group.{Group}
@@ -162,21 +161,6 @@ inner_counts es outer c group e =
     (λ x p. ap (inner_index group x.context.inner) (back x p))
     (λ x p. ap (inner_index group x.context.inner) (not_true (here x) (λ t. let q = forth x t in cc)))
     es 0
-
--- ---- entries one by one
-
-drop-next : (es : List Entry) (k : ℕ) (e : Entry) → k < length es → e ≡ get_or es k e → drop k es ≡ e ∷ drop (k + 1) es
-drop-next es k e h is = rw (add-one, drop-cons es k e h) (ap (λ x. x ∷ drop (suc k) es) (sym is))
-
-pub one_entry : (f : Entry → ℕ) (n : ℕ) (es : List Entry) (k : ℕ) (e : Entry) → k < length es → e ≡ get_or es k e
-    → fold max n (map f (drop k es)) ≡ fold max (max n (f e)) (map f (drop (k + 1) es))
-one_entry f n es k e h is = ap (λ x. fold max n (map f x)) (drop-next es k e h is)
-
-drop-past : (es : List Entry) (k : ℕ) → length es ≤ k → drop k es ≡ []
-drop-past es k h = grind (arith, common_steps)
-
-pub no_entry : (f : Entry → ℕ) (n : ℕ) (es : List Entry) (k : ℕ) → length es ≤ k → fold max n (map f (drop k es)) ≡ n
-no_entry f n es k h = ap (λ x. fold max n (map f x)) (drop-past es k h)
 
 -- ---- what a row writes by the entries of one occurrence
 

@@ -1,6 +1,6 @@
 -- Where a line is written, spot by spot.
 use Rattle.std.proofs.Common.{◌≡◌, ℕ, suc, zero, ◌+◌, ◌<◌, ◌≤◌, ◌==◌, false, List, [], ◌∷◌, Option, Some, None, length, drop, map, max, refl, ap, sym, ◌∙◌}
-use Rattle.std.proofs.Common.{subst, arith, cond}
+use Rattle.std.proofs.Common.{subst, arith, cond, fold}
 use Rattle.std.specs.List.{range_with_len}
 use Rattle.std.proofs.lemmas.Grind.{common_steps}
 use Rattle.std.proofs.lemmas.Bool.Decides.{nat_tests}
@@ -9,10 +9,12 @@ use Rattle.term_table.specs.declared.groups.Group.{Group}
 use Rattle.term_table.specs.declared.contexts.Slot.{Slot}
 use Rattle.term_table.specs.declared.contexts.Context.{Context}
 use Rattle.inv_terms.specs.declared.entries.Entry.{Entry}
-use Rattle.bind_meaning.specs.Trees.{outer_count, inner_count, spots}
+use Rattle.inv_terms.specs.Listing as listing
+use Rattle.inv_terms.specs.Listing.{last_outer}
+use Rattle.bind_meaning.specs.Trees.{index_in, outer_count, inner_count, spots}
 use Rattle.bind_write.specs.Sources.{spot_of, spots_by, run_of}
 use Rattle.bind_write.specs.Spots.{count_in, nth_spot, inner_count_of}
-use Rattle.bind_write.proofs.SourceLemmas.{inner_counts}
+use Rattle.bind_write.proofs.SourceLemmas.{inner_counts, same-index}
 
 -- ---- how many there are
 
@@ -25,6 +27,16 @@ pub count-some : (es run : List Entry) (c : Context) (outer : Slot) (group : Gro
 count-some es run c outer group e r =
     let P : Option Slot → Type 0 = λ o. inner_count es outer group ≡ elim o [ None ↦ outer_count es group | Some x ↦ inner_count es x group ] in
     ap (λ x. inner_count_of x group) r ∙ (sym (inner_counts es outer c group e) ∙ subst P (sym e) refl)
+
+-- as an invoice's listing counts them, and as a document's tree does
+pub same-last : (es : List Entry) (group : Group) → last_outer es group ≡ outer_count es group
+same-last es group = ap (fold max 0) (same es)
+  where
+    same : (es : List Entry) → map (λ (e : Entry). listing.index_in group e.context.outer) es ≡ map (λ (e : Entry). index_in group e.context.outer) es
+    same [] = refl
+    same (e ∷ es) =
+        ap (λ n. n ∷ map (λ (e : Entry). listing.index_in group e.context.outer) es) (same-index group e.context.outer) ∙
+        ap (λ ns. index_in group e.context.outer ∷ ns) (same es)
 
 spots-in : (es : List Entry) (outer inner : Option Slot) (group : Group) (count : ℕ) → count ≡ count_in es (record { outer = outer; inner = inner }) group
     → spots_by (record { outer = outer; inner = inner }) group count ≡ spots es (record { outer = outer; inner = inner }) (Some group)

@@ -36,7 +36,7 @@ use Rattle.bind_rows.specs.Namespaces.{declarations_of}
 use Rattle.bind_meaning.specs.Currencies.{currency_id}
 use Rattle.bind_meaning.specs.Trees as trees
 use Rattle.bind_write.specs.Cells as cells
-use Rattle.bind_write.specs.Cells.{currency_at, attribute_at, text_of, text_calls, attribute_with, attribute_if, calls_if, bytes_if, bytes_or_none}
+use Rattle.bind_write.specs.Cells.{currency_at, attribute_at, text_of, text_calls, calls_if, bytes_if, bytes_or_none}
 use Rattle.bind_write.specs.Holding.{AreCellsOf, IsLineOf, standing, standing_by}
 use Rattle.bind_write.specs.Walking.{plan_calls, element_calls, if_standing, around, cells_calls, start_calls, end_calls, name_bytes}
 

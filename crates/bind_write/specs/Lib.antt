@@ -1,5 +1,4 @@
 pub mod Documents
-pub mod Presences
 pub mod Sources
 pub mod Spots
 pub mod Wordings

@@ -10,6 +10,8 @@ use Rattle.term_table.specs.Contexts.{is_inside, outer_context}
 use Rattle.term_table.specs.Runs.{IsInOrder}
 use Rattle.inv_terms.specs.declared.entries.Entry.{Entry}
 use Rattle.inv_terms.specs.Listing.{seat_of, value_in}
+use Rattle.inv_terms.specs.Presences.{AreKnown}
+use Rattle.inv_terms.specs.Counts.{AreCounted}
 use Rattle.bind_rows.specs.declared.names.Leaf.{Leaf}
 use Rattle.bind_rows.specs.declared.names.Leaf.TheVariants as leaves
 use Rattle.bind_rows.specs.declared.rows.Row.{Row}
@@ -17,7 +19,6 @@ use Rattle.bind_rows.specs.declared.rows.Form.{Form}
 use Rattle.bind_rows.specs.declared.rows.Form.TheVariants as forms
 use Rattle.bind_meaning.specs.Trees.{or_here}
 use Rattle.bind_write.specs.declared.source.Source.{Source}
-use Rattle.bind_write.specs.Presences.{AreKnown}
 
 -- ---- notes with a code stand in elements, not in attributes
 
@@ -50,8 +51,9 @@ run_of es c = filter (λ (e : Entry). is_inside (outer_context c) e.context) es
 pub record IsSource (s : Source) : Type 0 where
   pub order : IsInOrder (map seat_of s.entries.now)
   pub run : s.run.now ≡ run_of s.entries.now s.context
-  pub known : AreKnown s.presence s.run.now
+  pub known : AreKnown s.presence (map seat_of s.run.now)
   pub notes : list_all has_plain_attribute s.rows.now ≡ true
+  pub counted : AreCounted s.counts.now s.entries.now
 
 -- It is the source of these rows and entries, from the context.
 pub record Sees (rows : List Row) (es : List Entry) (c : Context) (s : Source) : Type 0 where

@@ -9,7 +9,7 @@ use crate::roots::{put_root, root_of};
 use crate::source::whole;
 use bind_table::Binding;
 use inv_base::Sink;
-use inv_terms::{Invoice, invoices_are_in_listing_order};
+use inv_terms::{Counts, Invoice, invoices_are_in_listing_order};
 use xml_write::{Pen, WriteFault, calls_append_canonical_text};
 
 /// Writes the document of an invoice by a table. Behind a fault the sink has taken a front of it.
@@ -20,7 +20,9 @@ pub fn write<K: Sink>(i: &Invoice, b: &Binding, out: &mut K) -> Result<(), Write
 {
     invoices_are_in_listing_order();
     calls_append_canonical_text();
-    let source = whole(b.rows(), i.entries());
+    let entries = i.entries();
+    let counts = Counts::among(entries);
+    let source = whole(b.rows(), entries, &counts);
     match root_of(&source, b.lines()) {
         None => Ok(()),
         Some(root) => {

@@ -5,7 +5,6 @@ mod cells;
 mod documents;
 mod holding;
 mod looking;
-mod presence;
 mod roots;
 mod sizes;
 mod source;

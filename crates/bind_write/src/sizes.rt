@@ -7,7 +7,7 @@ ghost use Rattle.bind_write.specs.Documents as spec;
 use crate::roots::{put_root, root_of};
 use crate::source::whole;
 use bind_table::Binding;
-use inv_terms::{Invoice, invoices_are_in_listing_order};
+use inv_terms::{Counts, Invoice, invoices_are_in_listing_order};
 use xml_write::{Gauge, Nowhere, gauged_calls_are_sizes};
 
 /// How large the document of an invoice by a table is, which isn't written: its bytes, those of its longest tag, and its nodes. It takes
@@ -19,7 +19,9 @@ pub fn measure(i: &Invoice, b: &Binding) -> Gauge
 {
     invoices_are_in_listing_order();
     gauged_calls_are_sizes();
-    let source = whole(b.rows(), i.entries());
+    let entries = i.entries();
+    let counts = Counts::among(entries);
+    let source = whole(b.rows(), entries, &counts);
     match root_of(&source, b.lines()) {
         None => Gauge::new(),
         Some(root) => {

@@ -3,12 +3,12 @@ ghost use Rattle.std.specs.List.{list_all};
 ghost use Rattle.term_table.specs.Contexts.{root_context};
 ghost use Rattle.term_table.specs.Runs.{IsInOrder};
 ghost use Rattle.inv_terms.specs.Listing.{seat_of};
+ghost use Rattle.inv_terms.specs.Counts.{AreCounted};
 ghost use Rattle.bind_meaning.specs.Writing as writing;
 ghost use Rattle.bind_write.specs.Sources as spec;
 
-use crate::presence::Presence;
 use bind_rows::Row;
-use inv_terms::Entry;
+use inv_terms::{Counts, Entry, Presence};
 use term_table::{Context, Group, ROOT, Slot, run_in};
 
 /// An invoice and a table, seen from one of the invoice's contexts.
@@ -21,13 +21,16 @@ pub(crate) struct Source<'a> {
     pub run: &'a [Entry],
     /// What may stand among those.
     pub presence: Presence,
+    /// How many occurrences of outer groups the invoice has.
+    pub counts: &'a Counts,
     pub context: Context,
 }
 
 /// The invoice itself.
-pub(crate) fn whole<'a>(rows: &'a [Row], entries: &'a [Entry]) -> Source<'a>
+pub(crate) fn whole<'a>(rows: &'a [Row], entries: &'a [Entry], counts: &'a Counts) -> Source<'a>
     requires order { IsInOrder (map seat_of entries.now) }
     requires notes { list_all spec.has_plain_attribute rows.now ≡ true }
+    requires counted { AreCounted counts.now entries.now }
     ensures { spec.Sees rows.now entries.now root_context result }
 {
     Source {
@@ -35,6 +38,7 @@ pub(crate) fn whole<'a>(rows: &'a [Row], entries: &'a [Entry]) -> Source<'a>
         entries,
         run: entries,
         presence: Presence::of_any(),
+        counts,
         context: ROOT,
     }
 }
@@ -65,6 +69,7 @@ fn outer_occurrence<'a>(source: &Source<'a>, slot: Slot) -> Source<'a>
         entries: source.entries,
         run,
         presence: Presence::among(run),
+        counts: source.counts,
         context,
     }
 }
@@ -78,6 +83,7 @@ fn inner_occurrence<'a>(source: &Source<'a>, slot: Slot) -> Source<'a>
         entries: source.entries,
         run: source.run,
         presence: source.presence,
+        counts: source.counts,
         context: Context {
             outer: source.context.outer,
             inner: Some(slot),

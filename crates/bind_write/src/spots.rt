@@ -57,19 +57,9 @@ fn count_of(source: &Source<'_>, group: Group) -> u32
     ensures { result ≡ spec.count_in source.now.entries.now source.now.context group }
 {
     match source.context.outer {
-        None => last_outer(source.entries, group),
+        None => source.counts.last(group),
         Some(_) => last_inner(source.run, group),
     }
-}
-
-fn last_outer(entries: &[Entry], group: Group) -> u32
-    ensures { result ≡ trees.outer_count entries.now group }
-{
-    let mut last = 0u32;
-    'entries: for e in entries {
-        last = last.max(index_in(group, e.context.outer));
-    }
-    last
 }
 
 fn last_inner(run: &[Entry], group: Group) -> u32

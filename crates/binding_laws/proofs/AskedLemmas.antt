@@ -13,6 +13,7 @@ use Rattle.term_table.specs.declared.contexts.Context.{Context}
 use Rattle.term_table.specs.Contexts.{root_context, outer_context, slot_group, same_groups}
 use Rattle.term_table.proofs.GroupLemmas.{same_group_itself}
 use Rattle.term_table.specs.SemanticModel.{same_term}
+use Rattle.term_table.specs.Rows.{letter_of}
 use Rattle.inv_terms.specs.declared.values.Value.{Value}
 use Rattle.inv_terms.specs.declared.entries.Entry.{Entry}
 use Rattle.inv_terms.specs.Values.{trimmed, spelled}
@@ -24,7 +25,6 @@ use Rattle.bind_rows.specs.declared.rows.Content.TheVariants as contents
 use Rattle.bind_rows.specs.declared.rows.Form.TheVariants as forms
 use Rattle.bind_rows.specs.declared.rows.Row.{Row}
 use Rattle.bind_rows.specs.Same.{same_step}
-use Rattle.bind_meaning.specs.Values.{letter_of}
 use Rattle.bind_meaning.specs.Elements.{is_full}
 use Rattle.bind_meaning.specs.Trees.{spots}
 use Rattle.binding_laws.specs.Apart.{Unlike, Together, is_of_group}

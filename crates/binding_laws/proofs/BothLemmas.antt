@@ -12,6 +12,7 @@ use Rattle.term_table.specs.declared.contexts.Context.{Context}
 use Rattle.term_table.specs.Contexts.{root_context}
 use Rattle.term_table.specs.SemanticModel.{same_term, terms}
 use Rattle.term_table.proofs.SeatLemmas.{same_term_is}
+use Rattle.term_table.specs.Rows.{letter_of}
 use Rattle.inv_terms.specs.declared.values.Value.{Value}
 use Rattle.inv_terms.specs.declared.entries.Entry.{Entry}
 use Rattle.inv_terms.specs.Values.{is_blank, trimmed, spelled}
@@ -23,7 +24,7 @@ use Rattle.bind_rows.specs.declared.rows.Form.{Form}
 use Rattle.bind_rows.specs.declared.rows.Form.TheVariants as forms
 use Rattle.bind_rows.specs.declared.rows.Written.TheVariants as written
 use Rattle.bind_table.specs.Lines.{plan_of}
-use Rattle.bind_meaning.specs.Values.{letter_of, form_for, type_of}
+use Rattle.bind_meaning.specs.Values.{form_for, type_of}
 use Rattle.bind_meaning.specs.Elements.{is_full}
 use Rattle.bind_meaning.specs.Picks.{has_term, term_in}
 use Rattle.bind_meaning.specs.Currencies.{Currencies, invoice_currency, accounting_currency, currency_id, is_accounting}

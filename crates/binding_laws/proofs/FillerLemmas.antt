@@ -13,6 +13,7 @@ use Rattle.term_table.specs.declared.terms.Term.{Term}
 use Rattle.term_table.specs.declared.contexts.Context.{Context}
 use Rattle.term_table.specs.Contexts.{root_context, same_groups}
 use Rattle.term_table.specs.SemanticModel.{same_term}
+use Rattle.term_table.specs.Rows.{letter_of}
 use Rattle.inv_terms.specs.declared.entries.Entry.{Entry}
 use Rattle.inv_terms.specs.Values.{trimmed}
 use Rattle.inv_terms.specs.Listing.{IsInvoice, value_in}
@@ -25,7 +26,7 @@ use Rattle.bind_rows.specs.declared.rows.Written.TheVariants as written
 use Rattle.bind_rows.specs.Same.{same_step}
 use Rattle.bind_table.proofs.SameLemmas.{step-sound}
 use Rattle.bind_table.specs.Lines.{Plan, nothing, a_line, plan_of}
-use Rattle.bind_meaning.specs.Values.{letter_of, form_for}
+use Rattle.bind_meaning.specs.Values.{form_for}
 use Rattle.bind_meaning.specs.Elements.{is_full, string_at}
 use Rattle.bind_meaning.specs.Currencies.{invoice_currency, accounting_currency}
 use Rattle.bind_meaning.specs.Picks.{Pick, has_term, has_any_term, term_in, Numbered, numbered, rows_where, all_picked, around_last, last_of, leaves_of}

@@ -20,7 +20,7 @@ use Rattle.term_table.specs.declared.terms.Letter.TheVariants as letters
 use Rattle.term_table.specs.declared.terms.Term.{Term}
 use Rattle.term_table.specs.declared.contexts.Context.{Context}
 use Rattle.term_table.specs.SemanticModel.{is_extension}
-use Rattle.term_table.specs.Rows.{is_base64}
+use Rattle.term_table.specs.Rows.{is_base64, letter_of}
 use Rattle.term_table.proofs.SeatLemmas.{same_term_is}
 use Rattle.term_table.proofs.ExtensionLemmas.{one-type, modelled-type}
 use Rattle.inv_terms.specs.declared.values.Value.{Value}
@@ -33,7 +33,7 @@ use Rattle.bind_rows.specs.declared.rows.Form.{Form}
 use Rattle.bind_rows.specs.declared.rows.Form.TheVariants as forms
 use Rattle.bind_rows.specs.Added.{is_typed}
 use Rattle.bind_meaning.specs.Values as meaning
-use Rattle.bind_meaning.specs.Values.{Image, images, Said, letter_of, by_type, is_day, suits, form_for, said_in}
+use Rattle.bind_meaning.specs.Values.{Image, images, Said, by_type, is_day, suits, form_for, said_in}
 use Rattle.bind_meaning.specs.Elements.{is_full}
 use Rattle.bind_meaning.specs.Writing as writing
 use Rattle.bind_meaning.specs.Writing.{formed, is_of_type, of_form}

@@ -20,6 +20,7 @@ use Rattle.term_table.specs.SemanticModel.{same_term, terms, extension_rows, lis
 use Rattle.term_table.specs.Groups.{parent_of, occurrence_of}
 use Rattle.term_table.proofs.SeatLemmas.{same_term_is}
 use Rattle.term_table.proofs.GroupLemmas.{same_group_itself}
+use Rattle.term_table.specs.Rows.{letter_of}
 use Rattle.inv_terms.specs.declared.values.Value.{Value}
 use Rattle.inv_terms.specs.declared.entries.Entry.{Entry}
 use Rattle.inv_terms.specs.Values.{trimmed, spelled}
@@ -41,7 +42,7 @@ use Rattle.bind_table.specs.Lines.{plan_of}
 use Rattle.bind_table.specs.WellFormed.{depth_of, is_carried, first_fault}
 use Rattle.bind_table.specs.Fronts.{HasGroup}
 use Rattle.bind_table.proofs.FrontLemmas.{one-element, modelled-row}
-use Rattle.bind_meaning.specs.Values.{letter_of, Said, said, subject_code, note, suits, form_for}
+use Rattle.bind_meaning.specs.Values.{Said, said, subject_code, note, suits, form_for}
 use Rattle.bind_meaning.specs.Elements.{has_element_inside, number, string_at}
 use Rattle.bind_meaning.specs.Picks.{Pick, has_term, term_in, has_any_term, Numbered, numbered, rows_where, all_picked, around_last, stands_beside, is_filler}
 use Rattle.bind_meaning.specs.Picks.{without_fillers, last_of, leaves_of, nodes_picked}

@@ -9,6 +9,7 @@ use Rattle.term_table.specs.declared.terms.Term.{Term}
 use Rattle.term_table.specs.declared.terms.TermRow.{TermRow}
 use Rattle.term_table.specs.SemanticModel.{same_term, terms}
 use Rattle.term_table.specs.Contexts.{root_context}
+use Rattle.term_table.specs.Rows.{letter_of}
 use Rattle.inv_terms.specs.declared.entries.Entry.{Entry}
 use Rattle.inv_terms.specs.Values.{is_blank, trimmed, spelled}
 use Rattle.inv_terms.specs.Listing.{value_in}
@@ -28,7 +29,7 @@ use Rattle.bind_rows.specs.Same.{same_step}
 use Rattle.bind_table.specs.Lines.{Cell, Plan, nothing, a_line, plan_of}
 use Rattle.bind_meaning.specs.Currencies.{Currencies, invoice_currency, accounting_currency, currency_id}
 use Rattle.bind_meaning.specs.Picks.{has_term, has_any_term}
-use Rattle.bind_meaning.specs.Values.{Image, images, subject_code, note, is_subject_character, letter_of, form_for}
+use Rattle.bind_meaning.specs.Values.{Image, images, subject_code, note, is_subject_character, form_for}
 use Rattle.bind_meaning.specs.Writing.{is_of_type}
 use Rattle.bind_meaning.specs.Trees.{is_at_element, is_amount, is_vat_total}
 use Rattle.binding_laws.specs.Apart.{is_called, is_nothing, is_at_attribute, rows_so, Known, without, unknown, holds_none, is_apart}

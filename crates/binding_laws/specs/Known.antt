@@ -11,6 +11,7 @@ use Rattle.term_table.specs.declared.terms.Letter.TheVariants as letters
 use Rattle.term_table.specs.declared.terms.Term.{Term}
 use Rattle.term_table.specs.Contexts.{slot_group, same_groups}
 use Rattle.term_table.specs.SemanticModel.{same_term}
+use Rattle.term_table.specs.Rows.{letter_of}
 use Rattle.inv_terms.specs.declared.entries.Entry.{Entry}
 use Rattle.inv_terms.specs.Values.{spelled}
 use Rattle.inv_terms.specs.Listing.{value_in}
@@ -24,7 +25,6 @@ use Rattle.bind_rows.specs.declared.rows.Content.TheVariants as contents
 use Rattle.bind_rows.specs.declared.rows.Step.{Step}
 use Rattle.bind_rows.specs.declared.rows.Row.{Row}
 use Rattle.bind_rows.specs.Same.{same_step}
-use Rattle.bind_meaning.specs.Values.{letter_of}
 use Rattle.binding_laws.specs.Apart.{is_called, is_attribute_named, Unlike, Together, Known, is_of_group}
 use Rattle.binding_laws.specs.Plain.{is_element, stands_nowhere_else}
 

@@ -116,7 +116,8 @@ pub fn plain_attributes_pick_the_values_beside_their_main_terms()
     ensures { (rows : List Row) (es : List Entry) (k : ℕ) (row : Row) (term : Term) (main : Row) (main_term : Term) → IsInvoice es
         → IsPlainAttribute rows row term main main_term
         → map (λ pick. string_at (document_nodes (document_of rows es)) pick.node) (nodes_picked (document_nodes (document_of rows es)) k row)
-        ≡ map (λ e. formed (form_for row.form term) es e.context e.value) (filter (λ e. same_term e.term term && is_written_by main main_term es e.context) es) }
+        ≡ map (λ e. formed (form_for row.form term) es e.context e.value)
+        (filter (λ e. same_term e.term term && is_written_by main main_term es e.context) es) }
 {
     spelled_values_are_read_back();
     printed_days_are_read();
@@ -281,10 +282,12 @@ pub fn tables_leave_terms_out()
         (map (λ t. t.number) (left_out_terms credit_note_rows) ≡ []) }
     ensures cii { (count_covered cii_rows ≡ 185) × (is_settled cii_rows ≡ true) × (is_faultless cii_rows ≡ true) ×
         (map (λ t. t.number) (left_out_terms cii_rows) ≡ []) }
-    ensures asked_invoice { (list_all (λ (u : Unlike). (same_term u.term (record { number = 29; part = 1 }) || same_term u.term (record { number = 60; part = 1 })) &&
+    ensures asked_invoice { (list_all (λ (u : Unlike). (same_term u.term (record { number = 29; part = 1 })
+        || same_term u.term (record { number = 60; part = 1 })) &&
         bytes_eq u.text (codes "SEPA")) (known_of invoice_rows).unlike ≡ true)
         × (map (λ (x : Together). x.term.number) (known_of invoice_rows).together ≡ 29 ∷ []) }
-    ensures asked_credit_note { (list_all (λ (u : Unlike). (same_term u.term (record { number = 29; part = 1 }) || same_term u.term (record { number = 60; part = 1 })) &&
+    ensures asked_credit_note { (list_all (λ (u : Unlike). (same_term u.term (record { number = 29; part = 1 })
+        || same_term u.term (record { number = 60; part = 1 })) &&
         bytes_eq u.text (codes "SEPA")) (known_of credit_note_rows).unlike ≡ true)
         × (map (λ (x : Together). x.term.number) (known_of credit_note_rows).together ≡ 29 ∷ []) }
     ensures asked_cii { known_of cii_rows ≡ unknown }

@@ -19,7 +19,7 @@ use Rattle.term_table.specs.declared.terms.Letter.{Letter}
 use Rattle.term_table.specs.declared.terms.Term.{Term}
 use Rattle.term_table.specs.declared.contexts.Context.{Context}
 use Rattle.term_table.specs.SemanticModel.{terms, extension_rows, listing_rows}
-use Rattle.term_table.specs.Rows.{modelled}
+use Rattle.term_table.specs.Rows.{modelled, letter_of}
 use Rattle.term_table.specs.Groups.{parent_of, occurrence_of}
 use Rattle.term_table.specs.Places.{first_row}
 use Rattle.term_table.specs.Contexts.{root_context}
@@ -36,7 +36,7 @@ use Rattle.xml_write.specs.Escapes.{in_value, in_text}
 use Rattle.bind_write.specs.Documents.{document_text}
 use Rattle.ubl_binding.specs.Tables.{invoice_listing, invoice_rows}
 use Rattle.cii_binding.specs.Table.{cii_listing, cii_rows}
-use Rattle.bind_meaning.specs.Values.{letter_of, by_type}
+use Rattle.bind_meaning.specs.Values.{by_type}
 use Rattle.bind_meaning.specs.Trees.{document_of}
 use Rattle.bind_carrying.specs.Carrying.{carrying}
 use Rattle.binding_laws.proofs.ListLemmas.{both-true}

@@ -264,7 +264,8 @@ fn choose<'r, E: Sink>(
     ensures chosen { IfOk result (λ chosen. spec.chosen phase.now (map named_of files.now) ≡ Ok (map chosen_of chosen.items)) }
     ensures came { IfOk result (λ chosen. AreChosen (map chosen_of chosen.items)) }
     ensures quiet { OnOk result (E.view err.new ≡ E.view err.old) }
-    ensures fails { IfErr result (λ status. IsPhaseRefusal phase.now (spec.chosen phase.now (map named_of files.now)) status (E.view err.old) (E.view err.new)) }
+    ensures fails { IfErr result (λ status. IsPhaseRefusal phase.now (spec.chosen phase.now (map named_of files.now)) status (E.view err.old)
+        (E.view err.new)) }
 {
     let mut chosen = Vec::new(alloc);
     'files: for file in files {

@@ -6,7 +6,7 @@ use Rattle.std.specs.Cmp.Lexicographic.{pointwise}
 use Rattle.std.proofs.lemmas.Bool.{false≢true}
 use Rattle.term_table.specs.declared.groups.Group.{Group}
 use Rattle.term_table.specs.declared.terms.Term.{Term}
-use Rattle.term_table.specs.Rows.{is_base64}
+use Rattle.term_table.specs.Rows.{is_base64, letter_of}
 use Rattle.term_table.specs.SemanticModel.{is_extension, same_term}
 use Rattle.bind_rows.specs.declared.names.Leaf.{Leaf}
 use Rattle.bind_rows.specs.declared.names.Leaf.TheVariants as leaves
@@ -22,7 +22,7 @@ use Rattle.bind_rows.specs.declared.rows.Written.TheVariants as written
 use Rattle.bind_rows.specs.Same.{same_step}
 use Rattle.bind_rows.specs.Added as added
 use Rattle.bind_meaning.specs.Picks.{term_in, has_term}
-use Rattle.bind_meaning.specs.Values.{subject_code, letter_of, form_for}
+use Rattle.bind_meaning.specs.Values.{subject_code, form_for}
 use Rattle.binding_laws.specs.Apart.{is_called, is_unguarded, Together, is_of_group}
 use Rattle.binding_laws.specs.Known.{is_trimmed, is_place_of, texts_of, texts_asked, is_presence_asked, unlike_of, is_main_of, together_by, together_of}
 use Rattle.binding_laws.specs.Known.{at_attributes, known_of}

@@ -7,6 +7,7 @@ use Rattle.std.specs.Cmp.Lexicographic.{pointwise}
 use Rattle.std.proofs.lemmas.Bool.{false≢true}
 use Rattle.term_table.specs.declared.terms.Term.{Term}
 use Rattle.term_table.specs.Groups.{same_group}
+use Rattle.term_table.specs.Rows.{letter_of}
 use Rattle.bind_rows.specs.declared.names.Leaf.{Leaf}
 use Rattle.bind_rows.specs.declared.names.Leaf.TheVariants as leaves
 use Rattle.bind_rows.specs.declared.rows.Content.{Content}
@@ -19,7 +20,7 @@ use Rattle.bind_rows.specs.Same.{same_step, same_or_none}
 use Rattle.bind_table.specs.Lines.{Cell, Plan, plan_of}
 use Rattle.bind_meaning.specs.Currencies.{invoice_currency, accounting_currency, currency_id}
 use Rattle.bind_meaning.specs.Picks.{has_term}
-use Rattle.bind_meaning.specs.Values.{letter_of, form_for}
+use Rattle.bind_meaning.specs.Values.{form_for}
 use Rattle.bind_meaning.specs.Trees.{is_at_element, is_amount, is_vat_total}
 use Rattle.inv_terms.specs.Values.{trimmed}
 use Rattle.binding_laws.specs.Apart.{is_at_attribute, Known, without, unknown, is_apart}

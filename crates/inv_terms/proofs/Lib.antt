@@ -8,6 +8,9 @@ pub mod OrderLemmas
 pub mod SpellLemmas
 pub mod GapLemmas
 pub mod MapLemmas
+pub mod PresenceLemmas
+pub mod CountLemmas
+pub mod LineRowLemmas
 pub mod WalkLemmas
 mod LackRows
 pub mod ContextLemmas

@@ -4,7 +4,10 @@ pub mod LastEntry
 pub mod Refusals
 pub mod Looking
 pub mod Attachments
+pub mod Presences
+pub mod Counts
 pub mod Lacking
+pub mod LineRows
 pub mod Validity
 pub mod Opened
 pub mod Whole

@@ -3,6 +3,7 @@
 #![tactic(auto)]
 
 mod attachments;
+mod counts;
 mod entries;
 mod invoice;
 mod lack_laws;
@@ -11,11 +12,13 @@ mod laws;
 mod listing;
 mod looking;
 mod missing;
+mod presence;
 mod spaces;
 mod validity;
 mod values;
 
 pub use attachments::{AttachFault, attachment};
+pub use counts::Counts;
 pub use entries::Entry;
 pub use invoice::{Invoice, PushFault};
 pub use lack_laws::{
@@ -30,7 +33,8 @@ pub use laws::{
 pub use listing::index_in;
 pub use looking::value_in;
 pub use missing::{all_missing, first_missing};
+pub use presence::Presence;
 pub use spaces::{is_blank, trimmed};
 pub use term_table::{Context, Group, Letter, Mark, Slot, Term, TermRow, term_row};
-pub use validity::{check, is_unlisted};
+pub use validity::{check, is_outside, is_unlisted};
 pub use values::Value;

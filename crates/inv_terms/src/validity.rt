@@ -117,7 +117,8 @@ fn list_of(term: Term, context: Context) -> Option<List>
     list_in(term, context.outer_group(), context.inner_group())
 }
 
-fn is_outside(lists: &CodeLists, list: Option<List>, value: &Value) -> bool
+/// Whether the value is a code that isn't in the list, if there is one.
+pub fn is_outside(lists: &CodeLists, list: Option<List>, value: &Value) -> bool
     ensures { result ≡ spec.is_outside lists.now list (spec.code_in value.now) }
 {
     match list {

@@ -1,4 +1,5 @@
--- What every trial finds, whatever the number of its lines is: the terms of the invoice that it generates, in both syntaxes, and by its rules the last line alone.
+-- What every trial finds, whatever the number of its lines is: the terms of the invoice that it generates, in both syntaxes,
+-- and by its rules the last line alone.
 use Rattle.std.specs.Prelude.{◌≡◌, ◌≤◌, ◌*◌, ℕ, true, Some}
 use Rattle.inv_base.specs.Files.{Files}
 use Rattle.inv_terms.specs.Values.{spelled}

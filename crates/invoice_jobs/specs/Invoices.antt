@@ -9,8 +9,8 @@ use Rattle.inv_listing.specs.Listing.{name_text, listing}
 use Rattle.node_arena.specs.Document.{Document, node_at}
 use Rattle.node_arena.specs.Moves.{tree_nodes}
 use Rattle.bind_meaning.specs.declared.fault.BindFault.{BindFault}
-use Rattle.bind_meaning.specs.declared.fault.BindKind.{BindKind}
 use Rattle.bind_meaning.specs.declared.fault.BindKind.TheVariants as kinds
+use Rattle.bind_meaning.specs.KindTexts.{kind_text}
 use Rattle.bind_meaning.specs.Terms.{Read}
 use Rattle.bind_carrying.specs.declared.carrying.NotCarried.{NotCarried}
 use Rattle.bind_meaning.specs.declared.tables.Syntax.{Syntax}
@@ -27,22 +27,10 @@ use Rattle.job_course.specs.Views.{document_read}
 use Rattle.invoice_jobs.specs.declared.invoices.Loaded.{Loaded}
 use Rattle.invoice_jobs.specs.Sources.{Sources, Basis, no_sources, basis_course, basis_of, term_or_dash}
 
--- the name of a kind of fault
-abbrev pub bind_kind_text : BindKind → List ℕ
-bind_kind_text kinds.UnknownRoot = codes "UnknownRoot"
-bind_kind_text kinds.Excess = codes "Excess"
-bind_kind_text kinds.ElementInValue = codes "ElementInValue"
-bind_kind_text kinds.BadValue = codes "BadValue"
-bind_kind_text kinds.CodeNotListed = codes "CodeNotListed"
-bind_kind_text kinds.CurrencyDiffers = codes "CurrencyDiffers"
-bind_kind_text kinds.Disagree = codes "Disagree"
-bind_kind_text kinds.Missing = codes "Missing"
-bind_kind_text kinds.Memory = codes "Memory"
-
 -- a fault with its term or group, and its place, which is that of its node
 abbrev pub invoice_line : List ℕ → Document → BindFault → List ℕ
 invoice_line file document fault =
-    codes "einv: " ++ (file ++ (codes ": " ++ (bind_kind_text fault.kind ++
+    codes "einv: " ++ (file ++ (codes ": " ++ (kind_text fault.kind ++
     (name_text fault.name ++ (codes " at " ++ (decimal (node_at document.nodes fault.node).place ++ 0xA ∷ []))))))
 
 -- what follows by an invoice, or its first fault

@@ -3,9 +3,9 @@ ghost use Rattle.std.specs.Prelude.{◌≡◌, ◌<◌, length};
 ghost use Rattle.inv_base.specs.Printing.{Prints};
 ghost use Rattle.job_course.specs.Outside.{TakesOrFails};
 ghost use Rattle.invoice_jobs.specs.Sources.{term_or_dash, extension_line, extension_fault_text, bad_row_line, table_kind_text};
-ghost use Rattle.invoice_jobs.specs.Invoices.{invoice_line, bind_kind_text, condition_line, attachment_line, attach_fault_text};
+ghost use Rattle.invoice_jobs.specs.Invoices.{invoice_line, condition_line, attachment_line, attach_fault_text};
 
-use bind_run::{BadRow, BindFault, BindKind, NotCarried};
+use bind_run::{BadRow, BindFault, NotCarried};
 use bind_table::TableKind;
 use extension_files::ExtFault;
 use inv_base::{Printer, Sink};
@@ -25,28 +25,11 @@ pub(crate) fn tell_invoice_fault<E: Sink>(doc: &Doc<'_>, file: &str, fault: &Bin
     printer.put(err, b"einv: ");
     printer.put(err, file.as_bytes());
     printer.put(err, b": ");
-    printer.put(err, kind_name(fault.kind).as_bytes());
+    printer.put(err, fault.kind.name().as_bytes());
     print_name(fault.name, &mut printer, err);
     printer.put(err, b" at ");
     printer.put(err, digits.format(doc.place(fault.node).byte).as_bytes());
     printer.put(err, b"\n");
-}
-
-/// The name of a kind of fault.
-fn kind_name(kind: BindKind) -> &'static str
-    ensures { result.now ≡ bind_kind_text kind }
-{
-    match kind {
-        BindKind::UnknownRoot => "UnknownRoot",
-        BindKind::Excess => "Excess",
-        BindKind::ElementInValue => "ElementInValue",
-        BindKind::BadValue => "BadValue",
-        BindKind::CodeNotListed => "CodeNotListed",
-        BindKind::CurrencyDiffers => "CurrencyDiffers",
-        BindKind::Disagree => "Disagree",
-        BindKind::Missing => "Missing",
-        BindKind::Memory => "Memory",
-    }
 }
 
 /// Tells the condition on which an invoice can't be carried, with the term of its first entry, or `-`.

@@ -2,10 +2,12 @@ ghost use Rattle.term_table.specs.Runs.{IsNested};
 
 use crate::building::{context_of, full_without};
 use code_lists::CodeLists;
-use inv_terms::{Entry, Invoice, Name, TermFault, first_missing, is_unlisted};
+use inv_terms::{
+    Counts, Entry, Invoice, Name, Presence, TermFault, all_missing, first_missing, is_unlisted,
+};
 use std::alloc::Global;
 use std::test::Fail;
-use term_table::{Context, Group, ROOT, Seat, Slot, Term};
+use term_table::{Context, Group, Letter, ROOT, Seat, Slot, Term, letter_of};
 use test_rows::expect;
 
 fn is_found(full: &Invoice, lists: &CodeLists, e: &Entry) -> bool {
@@ -118,4 +120,82 @@ fn lacks_are_found_over_seats() -> Result<(), Fail> {
         None => expect(false, "none")?,
     }
     expect(first_missing(&seats[1..], second).is_none(), "second")
+}
+
+#[test]
+fn terms_that_may_stand_are_noted() -> Result<(), Fail> {
+    let seats = [seat(21, 1), seat(22, 2)];
+    let presence = Presence::among(&seats);
+    expect(presence.may_have(seats[1].term), "noted")?;
+    expect(
+        !presence.may_have(Term {
+            number: 59,
+            part: 0,
+        }),
+        "absent",
+    )?;
+    expect(
+        Presence::of_any().may_have(Term {
+            number: 59,
+            part: 0,
+        }),
+        "any",
+    )
+}
+
+#[test]
+fn occurrences_are_counted_at_once(rt: HostRuntime) -> Result<(), Fail> {
+    let full = full_without(rt.alloc(), 1000)?;
+    let counts = Counts::among(full.entries());
+    let mut same = true;
+    'groups: for group in [Group::InvoiceNote, Group::InvoiceLine, Group::ItemAttribute] {
+        let mut last = 0u32;
+        'entries: for e in full.entries() {
+            last = last.max(inv_terms::index_in(group, e.context.outer));
+        }
+        same &= counts.last(group) == last;
+    }
+    let lines = counts.last(Group::InvoiceLine);
+    drop(full);
+    expect(same && lines > 0, "counts")
+}
+
+#[test]
+fn all_that_a_line_lacks_is_found(rt: HostRuntime) -> Result<(), Fail> {
+    let line = context_of(Group::InvoiceLine, 1, 0);
+    let alone = [Seat {
+        term: Term {
+            number: 126,
+            part: 0,
+        },
+        context: line,
+    }];
+    let lacks = all_missing(rt.alloc(), &alone, line)?;
+    let count = lacks.len();
+    drop(lacks);
+    expect(count == 6, "BT-129, BT-130, BT-131, BT-146, BT-151, BT-153")
+}
+
+#[test]
+fn a_term_has_its_type() -> Result<(), Fail> {
+    expect(
+        letter_of(Term { number: 2, part: 0 }) == Some(Letter::D),
+        "BT-2",
+    )?;
+    expect(
+        letter_of(Term {
+            number: 165,
+            part: 0,
+        }) == Some(Letter::T),
+        "BT-165",
+    )?;
+    expect(letter_of(Term { number: 4, part: 0 }).is_none(), "BT-4")?;
+    expect(
+        letter_of(Term {
+            number: 9999,
+            part: 0,
+        })
+        .is_none(),
+        "none",
+    )
 }

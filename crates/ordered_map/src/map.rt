@@ -52,6 +52,17 @@ impl<K: Ord + Copy, V: Keyed<K>> OrderedMap<K, V> {
         }
     }
 
+    /// No values, with room for as many in the order of their keys, none of which moves as more come.
+    pub fn with_capacity(alloc: Global, count: usize) -> Result<OrderedMap<K, V>, AllocError>
+        ensures { IfOk result (λ map. map.entries ≡ []) }
+    {
+        let sorted = Vec::with_capacity(alloc, count)?;
+        Ok(OrderedMap {
+            sorted,
+            others: BTreeMap::new(alloc),
+        })
+    }
+
     /// The value of a key.
     pub fn get(&self, key: &K) -> Option<&V>
         ensures { option_copied result ≡ value_at K.cmp key.now self.now.entries }

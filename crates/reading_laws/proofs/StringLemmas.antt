@@ -16,7 +16,7 @@ use Rattle.term_table.specs.declared.terms.Letter.{Letter}
 use Rattle.term_table.specs.declared.terms.Letter.TheVariants as letters
 use Rattle.term_table.specs.declared.terms.Term.{Term}
 use Rattle.term_table.specs.SemanticModel.{terms, is_extension}
-use Rattle.term_table.specs.Rows.{is_base64, HasType, modelled, added}
+use Rattle.term_table.specs.Rows.{is_base64, HasType, modelled, added, letter_of}
 use Rattle.term_table.proofs.GroupLemmas.{both}
 use Rattle.inv_terms.specs.declared.values.Value.{Value}
 use Rattle.inv_terms.specs.declared.values.Value.TheVariants as values
@@ -25,7 +25,7 @@ use Rattle.inv_terms.specs.Values.{is_blank, trimmed, value_of}
 use Rattle.inv_terms.proofs.TrimLemmas.{HasEnds, trimmed-between}
 use Rattle.bind_rows.specs.declared.rows.Form.{Form}
 use Rattle.bind_rows.specs.declared.rows.Form.TheVariants as forms
-use Rattle.bind_meaning.specs.Values.{Said, letter_of, by_type, plain_date, Image, images, image_among, due_date_type, subject_code, note, plain_note, coded}
+use Rattle.bind_meaning.specs.Values.{Said, by_type, plain_date, Image, images, image_among, due_date_type, subject_code, note, plain_note, coded}
 use Rattle.bind_meaning.specs.Values.{is_subject_character, note_behind, note_of, is_term, is_day, suits, said_in, said}
 use Rattle.reading_laws.specs.Sayings.{FitsIts, AllFit}
 

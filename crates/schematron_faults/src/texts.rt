@@ -97,7 +97,8 @@ fn take_entry(
     texts: &mut Texts,
     e: &Entry<'_>,
 ) -> Result<(), AllocError>
-    ensures { OnOk result ((es : List meaning.Entry) → spec.AreTexts blanks.now es texts.old → spec.AreTexts blanks.now (es ++ seen_entry e.now ∷ []) texts.new) }
+    ensures { OnOk result ((es : List meaning.Entry) → spec.AreTexts blanks.now es texts.old →
+        spec.AreTexts blanks.now (es ++ seen_entry e.now ∷ []) texts.new) }
 {
     let stay = expressions_stay(alloc, blanks, e)?;
     note(&mut texts.changed, e.node.number(), stay)?;

@@ -96,7 +96,8 @@ fn push_piece(text: &mut String, spacing: Spacing, piece: &str) -> Result<Spacin
 
 fn push_character(text: &mut String, spacing: Spacing, c: char) -> Result<Spacing, AllocError>
     ensures { (told : List ℕ) → record { text = chars (string_bytes text.old); begun = spacing.begun; waits = spacing.waits } ≡ spec.message_of told
-        → IfOk result (λ behind. record { text = chars (string_bytes text.new); begun = behind.begun; waits = behind.waits } ≡ spec.message_of (told ++ c ∷ [])) }
+        → IfOk result (λ behind. record { text = chars (string_bytes text.new); begun = behind.begun; waits = behind.waits } ≡ spec.message_of
+        (told ++ c ∷ [])) }
 {
     if is_white_space(c) {
         return Ok(Spacing {

@@ -1,7 +1,7 @@
 -- Seats in listing order: those of a context stand together, behind those that come before it.
 use Rattle.std.proofs.Common.{◌≡◌, ℕ, ◌+◌, ◌-◌, ◌<◌, ◌≤◌, zero, suc, Bool, true, false, ◌&&◌, ◌||◌, List, [], ◌∷◌, length, get_or, Option, Some, None, take}
 use Rattle.std.proofs.Common.{drop, refl, sym, ap, ◌∙◌, subst, ◌⊎◌, inl, inr, arith, length-drop}
-use Rattle.std.specs.Prelude.{slice_get, is_some, is_none, filter, map}
+use Rattle.std.specs.Prelude.{slice_get, is_some, is_none, filter, map, option_map, cond, nat_lt, ◌++◌}
 use Rattle.std.specs.Ordering.{is_lt, nat_cmp, ordering_reverse}
 use Rattle.std.specs.Cmp.Lexicographic.{slice_cmp}
 use Rattle.std.specs.declared.cmp.Ordering.{Ordering}
@@ -12,17 +12,18 @@ use Rattle.std.specs.List.{prefix_len}
 use Rattle.std.proofs.lemmas.List.{get_or-map, get_or-drop, length-map}
 use Rattle.std.proofs.lemmas.List.Sums.{prefix_len_passes, prefix_len_stops}
 use Rattle.std.proofs.lemmas.Option.{slice_get_within, get_or_from_slice_get}
-use Rattle.std.proofs.lemmas.Bool.{false≢true}
+use Rattle.std.proofs.lemmas.Bool.{false≢true, cases_Bool}
 use Rattle.std.proofs.lemmas.Bool.Decides.{nat_tests}
 use Rattle.term_table.specs.declared.groups.Group.{Group}
 use Rattle.term_table.specs.declared.contexts.Slot.{Slot}
 use Rattle.term_table.specs.declared.contexts.Context.{Context}
 use Rattle.term_table.specs.declared.contexts.Seat.{Seat}
 use Rattle.term_table.specs.Groups.{same_group}
+use Rattle.term_table.specs.Rows.{row_of}
 use Rattle.term_table.specs.Contexts.{outer_group, inner_group, same_slot}
-use Rattle.term_table.specs.Places.{first_row, precedes, seat_place, comes_before}
+use Rattle.term_table.specs.Places.{first_row, slot_place, place, precedes, seat_place, comes_before}
 use Rattle.term_table.specs.Runs.{MayFollow, IsInOrder, IsNested, is_in}
-use Rattle.term_table.specs.Starts.{slot_start, context_start, is_before, stands_before}
+use Rattle.term_table.specs.Starts.{slot_start, context_start, is_before, stands_before, by_starts, stands_ahead}
 use Rattle.term_table.proofs.GroupLemmas.{both, same_group_is, same_group_itself, start, same_outer_start, same_inner_start}
 use Rattle.term_table.proofs.SeatLemmas.{At, numbers, rest, at-place, index_of, is_slot_of, slot_group-is, slot_of_group, outer_slot}
 
@@ -233,6 +234,69 @@ follow_inside c a b n m behind h =
 follow_before : (c : Context) (a b : Seat) → MayFollow a b → stands_before c b ≡ true → stands_before c a ≡ true
 follow_before c a b m h = ap (is_before c) m.first_is ∙ not_less m.first m.second (context_start c) m.order (ap (is_before c) (sym m.second_is) ∙ h)
 
+-- ---- a seat that has a place is told by its outer slot
+
+less_first : (a x : ℕ) (p q : List ℕ) → a < x → precedes (a ∷ p) (x ∷ q) ≡ true
+less_first a x p q l = grind (arith, nat_tests)
+
+more_first : (a x : ℕ) (p q : List ℕ) → x < a → precedes (a ∷ p) (x ∷ q) ≡ false
+more_first a x p q l = grind (arith, nat_tests)
+
+below : (a b : ℕ) → nat_lt a b ≡ true → a < b
+below a b e = grind (arith, nat_tests)
+
+level_with : (a b : ℕ) → nat_lt a b ≡ false → nat_lt b a ≡ false → a ≡ b
+level_with a b e f = grind (arith, nat_tests)
+
+by_starts-is : (a b x y : ℕ) (p q : List ℕ) → by_starts a b x y (precedes (a ∷ b ∷ p) (x ∷ y ∷ q)) ≡ precedes (a ∷ b ∷ p) (x ∷ y ∷ q)
+by_starts-is a b x y p q = elim (cases_Bool (nat_lt a x)) [
+  | inl t ↦ ap (λ (c : Bool). cond c true (cond (nat_lt x a) false (cond (nat_lt b y) true (cond (nat_lt y b) false here)))) t ∙
+      sym (less_first a x (b ∷ p) (y ∷ q) (below a x t))
+  | inr s ↦ ap (λ (c : Bool). cond c true (cond (nat_lt x a) false (cond (nat_lt b y) true (cond (nat_lt y b) false here)))) s ∙
+      elim (cases_Bool (nat_lt x a)) [
+        | inl t ↦ ap (λ (c : Bool). cond c false (cond (nat_lt b y) true (cond (nat_lt y b) false here))) t ∙
+            sym (more_first a x (b ∷ p) (y ∷ q) (below x a t))
+        | inr r ↦ ap (λ (c : Bool). cond c false (cond (nat_lt b y) true (cond (nat_lt y b) false here))) r ∙
+            elim (cases_Bool (nat_lt b y)) [
+              | inl t ↦ ap (λ (c : Bool). cond c true (cond (nat_lt y b) false here)) t ∙
+                  sym (same_ahead a x (b ∷ p) (y ∷ q) (level_with a x s r) ∙ less_first b y p q (below b y t))
+              | inr u ↦ ap (λ (c : Bool). cond c true (cond (nat_lt y b) false here)) u ∙
+                  elim (cases_Bool (nat_lt y b)) [
+                    | inl t ↦ ap (λ (c : Bool). cond c false here) t ∙
+                        sym (same_ahead a x (b ∷ p) (y ∷ q) (level_with a x s r) ∙ more_first b y p q (below y b t))
+                    | inr v ↦ ap (λ (c : Bool). cond c false here) v
+                  ]
+            ]
+      ]
+]
+  where
+    here : Bool
+    here = precedes (a ∷ b ∷ p) (x ∷ y ∷ q)
+
+placed_row : (context : Context) (row : Option ℕ) → is_some (option_map (λ (n : ℕ). place n context) row) ≡ true → (n : ℕ) × (row ≡ Some n)
+placed_row context None h = absurd (false≢true h)
+placed_row context (Some n) h = (n, refl)
+
+pub ahead-is : (c : Context) (s : Seat) → is_some (seat_place s) ≡ true → stands_ahead c s ≡ stands_before c s
+ahead-is c s h = by (placed_row s.context (row_of s.term s.context) h)
+  where
+    go : (row : ℕ) (o t : Option Slot) → c.outer ≡ o → s.context.outer ≡ t → stands_before c s ≡ precedes (place row s.context) (context_start c)
+        → stands_ahead c s ≡ stands_before c s
+    go row None t e f is = rw e refl
+    go row (Some outer) None e f is = rw (e, f) refl
+    go row (Some outer) (Some slot) e f is =
+        let inside : List ℕ = slot_place row s.context.inner ++ row ∷ [] in
+        let here : stands_before c s ≡ precedes (first_row slot.group ∷ slot.index ∷ inside) (first_row outer.group ∷ outer.index ∷ slot_start c.inner) =
+        is ∙ (ap (λ x. precedes (slot_place row x ++ inside) (context_start c)) f ∙
+        ap (λ x. precedes (slot_place row (Some slot) ++ inside) (slot_start x ++ slot_start c.inner)) e) in
+        let told : stands_ahead c s ≡ by_starts (first_row slot.group) slot.index (first_row outer.group) outer.index (stands_before c s) =
+        rw (e, f) refl in
+        told ∙ (ap (by_starts (first_row slot.group) slot.index (first_row outer.group) outer.index) here ∙
+        (by_starts-is (first_row slot.group) slot.index (first_row outer.group) outer.index inside (slot_start c.inner) ∙ sym here))
+
+    by : (w : (n : ℕ) × (row_of s.term s.context ≡ Some n)) → stands_ahead c s ≡ stands_before c s
+    by w = go w.0 c.outer s.context.outer refl refl (ap (λ o. is_before c (option_map (λ (n : ℕ). place n s.context) o)) w.1)
+
 -- ---- lists in listing order
 
 module _ {A : Type 0} (f : A → Seat) (xs : List A) (c : Context) (n : IsNested c) (o : IsInOrder (map f xs)) where
@@ -246,11 +310,23 @@ module _ {A : Type 0} (f : A → Seat) (xs : List A) (c : Context) (n : IsNested
   pub up_to : (i j : ℕ) → i ≤ j → (i ≡ j) ⊎ (i < j)
   up_to i j l = grind arith
 
+  pub same_at : (i : ℕ) (d : A) → i < length xs → stands_ahead c (f (get_or xs i d)) ≡ stands_before c (f (get_or xs i d))
+  same_at i d l =
+      ahead-is c (f (get_or xs i d)) (subst (λ s. is_some (seat_place s) ≡ true) (get_or-map f xs i d (f d) l)
+      (o.placed i (f d) (rw (length-map xs f) l)))
+
   pub before_first : IsPartitionedBy (λ x. stands_before c (f x)) xs
   before_first i j d l u h = elim (up_to i j l) [
     | inl e ↦ ap (λ k. stands_before c (f (get_or xs k d))) e ∙ h
     | inr m ↦ follow_before c _ _ (follows i j d m u) h
   ]
+
+  pub ahead_first : IsPartitionedBy (λ x. stands_ahead c (f x)) xs
+  ahead_first i j d l u h = same_at i d (omega (arith, l, u)) ∙ before_first i j d l u (sym (same_at j d u) ∙ h)
+
+  pub ahead_point : (k : ℕ) → k ≤ length xs → IsPartitionPoint (λ x. stands_ahead c (f x) ≡ true) (λ x. stands_ahead c (f x) ≡ false) xs k
+      → IsPartitionPoint (λ x. stands_before c (f x) ≡ true) (λ x. stands_before c (f x) ≡ false) xs k
+  ahead_point k b point = (λ i d l u. sym (same_at i d (omega (arith, b, u))) ∙ point.0 i d l u, λ i d l u. sym (same_at i d u) ∙ point.1 i d l u)
 
   pub inside_first : (k : ℕ) → IsPartitionPoint (λ x. stands_before c (f x) ≡ true) (λ x. stands_before c (f x) ≡ false) xs k →
       IsPartitionedBy (λ x. is_in c (f x)) (drop k xs)

@@ -1,6 +1,7 @@
 -- The table of terms in the code is the one of the semantic model, and the rows of a number are where the code looks
 -- for them.
-use Rattle.std.proofs.Common.{◌≡◌, ℕ, ◌+◌, ◌≤◌, ◌<◌, zero, suc, Bool, true, false, ◌&&◌, List, [], ◌∷◌, length, Option, Some, None, take, drop, refl, sym, ap}
+use Rattle.std.proofs.Common.{◌≡◌, ℕ, ◌+◌, ◌≤◌, ◌<◌, zero, suc, Bool, true, false, ◌&&◌, List, [], ◌∷◌, length, Option, Some, None, find, take, drop, refl, sym}
+use Rattle.std.proofs.Common.{ap}
 use Rattle.std.proofs.Common.{◌∙◌, subst, ◌⊎◌, inl, inr, arith}
 use Rattle.std.specs.Prelude.{◌==◌, nat_lt, nat_le, position, slice_get, option_map}
 use Rattle.std.specs.List.{list_all, position_or_len}
@@ -11,8 +12,8 @@ use Rattle.term_table.specs.declared.terms.Term.{Term}
 use Rattle.term_table.specs.declared.terms.TermRow.{TermRow}
 use Rattle.term_table.specs.declared.terms.TheConstants.{TERMS, FIRST_ROWS}
 use Rattle.term_table.specs.SemanticModel.{same_term, terms}
-use Rattle.term_table.specs.Rows.{is_row_in}
-use Rattle.term_table.specs.Numbers.{first_of, row_from}
+use Rattle.term_table.specs.Rows.{is_row_in, letter_of}
+use Rattle.term_table.specs.Numbers.{first_of, row_from, letter_from}
 use Rattle.term_table.proofs.GroupLemmas.{both}
 
 pub table_is : TERMS ≡ terms
@@ -79,6 +80,36 @@ position-among p (x ∷ xs) (suc a) m h = elim (bool_cases (p x)) [
       add_one a _ ∙ (ap (option_map (λ k. 1 + k)) rest ∙ sym (position-there p x xs failing))
 ]
 
+-- The same for the first one that passes.
+found_first : {X : Type 0} (p : X → Bool) (xs : List X) (m : ℕ) → ((k : ℕ) (x : X) → slice_get xs k ≡ Some x → p x ≡ true → k < m) →
+    find p (take m xs) ≡ find p xs
+found_first p [] zero h = refl
+found_first p [] (suc m) h = refl
+found_first p (x ∷ xs) zero h = elim (bool_cases (p x)) [
+  | inl passing ↦ absurd (let k : 0 < 0 = h 0 x refl passing in omega arith)
+  | inr failing ↦
+      let rest : find p (take 0 xs) ≡ find p xs = found_first p xs 0 (λ k y e q. absurd (let l : suc k < 0 = h (suc k) y e q in omega arith)) in
+      rw failing rest
+]
+found_first p (x ∷ xs) (suc m) h = elim (bool_cases (p x)) [
+  | inl passing ↦ rw passing refl
+  | inr failing ↦
+      let rest : find p (take m xs) ≡ find p xs = found_first p xs m (λ k y e q. let l : suc k < suc m = h (suc k) y e q in omega arith) in
+      rw failing rest
+]
+
+found-among : {X : Type 0} (p : X → Bool) (xs : List X) (a m : ℕ) → ((k : ℕ) (x : X) → slice_get xs k ≡ Some x → p x ≡ true → (a ≤ k) × (k < a + m))
+    → find p (take m (drop a xs)) ≡ find p xs
+found-among p xs zero m h = found_first p xs m (λ k x e q. let l = (h k x e q).1 in omega (arith, l))
+found-among p [] (suc a) zero h = refl
+found-among p [] (suc a) (suc m) h = refl
+found-among p (x ∷ xs) (suc a) m h = elim (bool_cases (p x)) [
+  | inl passing ↦ absurd (let l = (h 0 x refl passing).0 in omega (arith, l))
+  | inr failing ↦
+      let rest = found-among p xs a m (λ k y e q. let l = h (suc k) y e q in (omega (arith, l.0), omega (arith, l.1))) in
+      rw failing rest
+]
+
 -- ---- where the rows of a number begin
 
 rows_behind : List ℕ → ℕ → List TermRow → Bool
@@ -129,14 +160,23 @@ first_fits n = rw table_length (first_within FIRST_ROWS n firsts_fit)
 numbered : (row term : Term) → same_term row term ≡ true → row.number ≡ term.number
 numbered row term h = let p = (both (row.number == term.number) _ h).0 in grind (arith, nat_tests, p)
 
+near_first : (term : Term) (k : ℕ) (row : TermRow) → slice_get terms k ≡ Some row → same_term row.term term ≡ true
+    → (first_of FIRST_ROWS term.number ≤ k) × (k < first_of FIRST_ROWS term.number + 3)
+near_first term k row e h =
+    let l = row_at FIRST_ROWS 0 terms k row rows_are e in
+    subst (λ n. (first_of FIRST_ROWS n ≤ k) × (k < first_of FIRST_ROWS n + 3)) (numbered row.term term h) (omega (arith, l.0), omega (arith, l.1))
+
+pub letter_from-is : (term : Term) → letter_from TERMS (first_of FIRST_ROWS term.number) term ≡ letter_of term
+letter_from-is term =
+    ap (λ rows. letter_from rows (first_of FIRST_ROWS term.number) term) table_is ∙
+    ap (option_map (λ (row : TermRow). row.letter)) (found-among (λ (row : TermRow). same_term row.term term) terms (first_of FIRST_ROWS term.number) 3
+    (near_first term))
+
 pub row_from-is : (term : Term) (outer inner : Option Group) → row_from TERMS (first_of FIRST_ROWS term.number) term outer inner ≡ position
     (is_row_in term outer inner) terms
 row_from-is term outer inner =
     let passes : (k : ℕ) (row : TermRow) → slice_get terms k ≡ Some row → is_row_in term outer inner row ≡ true
     → (first_of FIRST_ROWS term.number ≤ k) × (k < first_of FIRST_ROWS term.number + 3) =
-    λ k row e h.
-    let same = numbered row.term term (both (same_term row.term term) _ h).0 in
-    let l = row_at FIRST_ROWS 0 terms k row rows_are e in
-    subst (λ n. (first_of FIRST_ROWS n ≤ k) × (k < first_of FIRST_ROWS n + 3)) same (omega (arith, l.0), omega (arith, l.1)) in
+    λ k row e h. near_first term k row e (both (same_term row.term term) _ h).0 in
     ap (λ rows. row_from rows (first_of FIRST_ROWS term.number) term outer inner) table_is ∙
     position-among (is_row_in term outer inner) terms (first_of FIRST_ROWS term.number) 3 passes

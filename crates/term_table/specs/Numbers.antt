@@ -1,9 +1,11 @@
 -- Private functions that find a row by the number of its term: what they answer. No public clause cites it.
-use Rattle.std.specs.Prelude.{ℕ, ◌+◌, ◌-◌, ◌*◌, Bool, true, false, List, Option, Some, None, option_map, position, slice_get, take, drop, unwrap_or}
+use Rattle.std.specs.Prelude.{ℕ, ◌+◌, ◌-◌, ◌*◌, Bool, true, false, List, Option, Some, None, find, option_map, position, slice_get, take, drop, unwrap_or}
 use Rattle.term_table.specs.declared.groups.Group.{Group}
 use Rattle.term_table.specs.declared.groups.Group.TheVariants as groups
+use Rattle.term_table.specs.declared.terms.Letter.{Letter}
 use Rattle.term_table.specs.declared.terms.Term.{Term}
 use Rattle.term_table.specs.declared.terms.TermRow.{TermRow}
+use Rattle.term_table.specs.SemanticModel.{same_term}
 use Rattle.term_table.specs.Rows.{is_row_in}
 use Rattle.term_table.specs.Contexts.{stands_in}
 
@@ -14,6 +16,10 @@ first_of firsts number = unwrap_or (slice_get firsts number) 181
 -- the number of the row among the three from the first one on
 abbrev pub row_from : List TermRow → ℕ → Term → Option Group → Option Group → Option ℕ
 row_from rows first term outer inner = option_map (λ k. first + k) (position (is_row_in term outer inner) (take 3 (drop first rows)))
+
+-- the type of the term among the three from the first one on
+abbrev pub letter_from : List TermRow → ℕ → Term → Option Letter
+letter_from rows first term = option_map (λ (row : TermRow). row.letter) (find (λ (row : TermRow). same_term row.term term) (take 3 (drop first rows)))
 
 -- the number of the row of a term that a table adds: first that in a line, and then that in the invoice itself
 abbrev pub extension_place : Bool → Bool → Option ℕ

@@ -21,6 +21,10 @@ row_in term outer inner = position (is_row_in term outer inner) listing_rows
 abbrev pub row_of : Term → Context → Option ℕ
 row_of term context = row_in term (slot_group context.outer) (slot_group context.inner)
 
+-- the type of a term, which is one wherever the term stands: none of what is no business term
+abbrev pub letter_of : Term → Option Letter
+letter_of term = option_map (λ (row : TermRow). row.letter) (find (λ (row : TermRow). same_term row.term term) terms)
+
 -- the type of its value, and the list that it is from
 abbrev pub letter_in : Term → Option Group → Option Group → Option Letter
 letter_in term outer inner = option_map (λ (row : TermRow). row.letter) (option_and_then (slice_get terms) (row_in term outer inner))
@@ -35,5 +39,5 @@ is_base64 _ = false
 -- The term has the type, wherever it stands: one of the semantic model has one type, and one that a table adds has any
 -- but base64.
 pub data HasType (term : Term) (letter : Letter) : Type 0 where
-  modelled : option_map (λ (row : TermRow). row.letter) (find (λ (row : TermRow). same_term row.term term) terms) ≡ Some letter → HasType term letter
+  modelled : letter_of term ≡ Some letter → HasType term letter
   added : is_extension term ≡ true → is_base64 letter ≡ false → HasType term letter

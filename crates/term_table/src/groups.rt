@@ -1,5 +1,5 @@
-ghost use Rattle.std.specs.Prelude.{◌≡◌};
-ghost use Rattle.term_table.specs.Groups.{parent_of, occurrence_of, is_repeated, label_of, name_of, same_group};
+ghost use Rattle.std.specs.Prelude.{◌≡◌, ◌<◌};
+ghost use Rattle.term_table.specs.Groups.{parent_of, occurrence_of, is_repeated, label_of, name_of, number_of, same_group};
 ghost use Rattle.term_table.specs.Contexts.{outer_group, inner_group};
 
 /// The groups of business terms of EN 16931-1, the invoice itself, and three groups of this program for the terms
@@ -162,6 +162,51 @@ impl Group {
         match self.occurrence() {
             Occurrence::AnyNumber | Occurrence::AtLeastOnce => true,
             Occurrence::Once | Occurrence::AtMostOnce => false,
+        }
+    }
+
+    /// A number of its own, below 104.
+    pub fn number(self) -> u32
+        ensures value { result ≡ number_of self }
+        ensures below { result < 104 }
+    {
+        match self {
+            Group::Root => 0,
+            Group::InvoiceNote => 1,
+            Group::ProcessControl => 2,
+            Group::PrecedingInvoice => 3,
+            Group::Seller => 4,
+            Group::SellerAddress => 5,
+            Group::SellerContact => 6,
+            Group::Buyer => 7,
+            Group::BuyerAddress => 8,
+            Group::BuyerContact => 9,
+            Group::Payee => 10,
+            Group::TaxRepresentative => 11,
+            Group::TaxRepresentativeAddress => 12,
+            Group::Delivery => 13,
+            Group::InvoicingPeriod => 14,
+            Group::DeliveryAddress => 15,
+            Group::PaymentInstructions => 16,
+            Group::CreditTransfer => 17,
+            Group::PaymentCard => 18,
+            Group::DirectDebit => 19,
+            Group::DocumentAllowance => 20,
+            Group::DocumentCharge => 21,
+            Group::DocumentTotals => 22,
+            Group::VatBreakdown => 23,
+            Group::SupportingDocument => 24,
+            Group::InvoiceLine => 25,
+            Group::LinePeriod => 26,
+            Group::LineAllowance => 27,
+            Group::LineCharge => 28,
+            Group::PriceDetails => 29,
+            Group::LineVat => 30,
+            Group::ItemInformation => 31,
+            Group::ItemAttribute => 32,
+            Group::SellerIdentifier => 101,
+            Group::SellerSchemedIdentifier => 102,
+            Group::ItemClassification => 103,
         }
     }
 

@@ -19,6 +19,6 @@ pub use laws::{
 };
 pub use names::term_name;
 pub use places::{ListingPlace, first_row, place_at, place_of};
-pub use rows::{has_context, letter_in, list_in, row_in, row_of};
+pub use rows::{has_context, letter_in, letter_of, list_in, row_in, row_of};
 pub use runs::{Seated, run_in};
 pub use terms::{Letter, Mark, Term, TermRow, term_row, term_rows};

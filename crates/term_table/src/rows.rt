@@ -126,6 +126,24 @@ pub fn letter_in(term: Term, outer: Option<Group>, inner: Option<Group>) -> Opti
     Some(row.letter)
 }
 
+// The type of the first three rows' term that is this one.
+fn letter_from(rows: &[TermRow], first: usize, term: Term) -> Option<Letter>
+    requires { first ≤ length rows.now }
+    ensures { result ≡ numbers.letter_from rows.now first term }
+{
+    let (_, behind) = rows.split_at(first);
+    let row = behind.iter().take(3).find(|row| row.term.is_same(term))?;
+    Some(row.letter)
+}
+
+/// The type of a term, which is one wherever the term stands. None of what is no business term. It looks at three rows
+/// at most.
+pub fn letter_of(term: Term) -> Option<Letter>
+    ensures { result ≡ spec.letter_of term }
+{
+    letter_from(&TERMS, first_of(&FIRST_ROWS, term.number), term)
+}
+
 /// The list that a term's codes come from in occurrences of these groups, where it stands in such and has a list.
 pub fn list_in(term: Term, outer: Option<Group>, inner: Option<Group>) -> Option<List>
     ensures { result ≡ spec.list_in term outer inner }

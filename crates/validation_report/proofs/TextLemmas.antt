@@ -10,9 +10,10 @@ use Rattle.schematron_findings.specs.declared.finding.Line.{Line}
 use Rattle.schematron_findings.specs.declared.finding.Line.TheVariants as line
 use Rattle.svrl_report.specs.Plain.{tally_of}
 use Rattle.svrl_report.specs.Svrl.{svrl_report}
+use Rattle.bind_meaning.specs.KindTexts.{kind_text}
 use Rattle.validation_report.specs.declared.places.Spot.{Spot}
 use Rattle.validation_report.specs.declared.places.Passed.{Passed}
-use Rattle.validation_report.specs.Told.{kind_text, fault_finding, fault_line, reading_lines, Told, told_from, told_in, in_order}
+use Rattle.validation_report.specs.Told.{fault_finding, fault_line, reading_lines, Told, told_from, told_in, in_order}
 use Rattle.validation_report.specs.Validating.{Validated, finding_text, fault_text, passed_at, told_text, count_text, plain_validation, svrl_validation}
 use Rattle.validation_report.specs.Validating.{counts_against, has_findings, report_of}
 use Rattle.validation_report.specs.Held.{place_at, spot_at, fault_spots, spots_from, spots_of, ordered, passed_of, optional_text, spot_text, fault_word}

@@ -9,8 +9,7 @@ use Rattle.node_arena.specs.Document.{Document}
 use Rattle.node_arena.specs.Moves.{tree_nodes}
 use Rattle.node_locations.specs.Locations.{location}
 use Rattle.bind_meaning.specs.declared.fault.BindFault.{BindFault}
-use Rattle.bind_meaning.specs.declared.fault.BindKind.{BindKind}
-use Rattle.bind_meaning.specs.declared.fault.BindKind.TheVariants as kinds
+use Rattle.bind_meaning.specs.KindTexts.{kind_text}
 use Rattle.schematron_findings.specs.declared.level.Level.TheVariants as levels
 use Rattle.schematron_findings.specs.declared.finding.FindingKind.TheVariants as outcomes
 use Rattle.schematron_findings.specs.declared.finding.Finding.{Finding}
@@ -18,18 +17,6 @@ use Rattle.schematron_findings.specs.declared.finding.Line.{Line}
 use Rattle.schematron_findings.specs.declared.finding.Line.TheVariants as line
 
 -- ---- faults of reading
-
--- the name of a kind of fault
-abbrev pub kind_text : BindKind → List ℕ
-kind_text kinds.UnknownRoot = codes "UnknownRoot"
-kind_text kinds.Excess = codes "Excess"
-kind_text kinds.ElementInValue = codes "ElementInValue"
-kind_text kinds.BadValue = codes "BadValue"
-kind_text kinds.CodeNotListed = codes "CodeNotListed"
-kind_text kinds.CurrencyDiffers = codes "CurrencyDiffers"
-kind_text kinds.Disagree = codes "Disagree"
-kind_text kinds.Missing = codes "Missing"
-kind_text kinds.Memory = codes "Memory"
 
 -- the number of a term or a group
 abbrev pub label : Name → Option (List ℕ)

@@ -13,7 +13,8 @@ use Rattle.schematron_findings.specs.declared.finding.Line.{Line}
 use Rattle.svrl_report.specs.declared.tally.Tally.{Tally}
 use Rattle.svrl_report.specs.Plain.{outcome_text, id_text, tally_of, counts_line}
 use Rattle.svrl_report.specs.Svrl.{svrl_report}
-use Rattle.validation_report.specs.Told.{kind_text, fault_finding, reading_lines, Told, told_in}
+use Rattle.bind_meaning.specs.KindTexts.{kind_text}
+use Rattle.validation_report.specs.Told.{fault_finding, reading_lines, Told, told_in}
 
 -- what a validation comes to: the file's bytes and the document that they are, the faults of reading and the elements
 -- that were passed over, both in document order, and what rules find

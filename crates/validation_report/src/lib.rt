@@ -8,5 +8,4 @@ mod reading;
 mod texts;
 mod validation;
 
-pub use texts::kind_name;
 pub use validation::Validation;

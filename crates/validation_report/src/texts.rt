@@ -5,7 +5,8 @@ ghost use Rattle.term_table.specs.Names as terms;
 ghost use Rattle.inv_listing.specs.Listing.{term_text, part_text};
 ghost use Rattle.node_arena.specs.Moves.{tree_nodes};
 ghost use Rattle.node_locations.specs.Locations.{AreOrdinals, location};
-ghost use Rattle.validation_report.specs.Told.{kind_text, label, title};
+ghost use Rattle.bind_meaning.specs.KindTexts.{kind_text};
+ghost use Rattle.validation_report.specs.Told.{label, title};
 
 use bind_meaning::BindKind;
 use inv_base::{Str, Txt};
@@ -16,24 +17,6 @@ use node_locations::{Ordinals, push_location};
 use schematron_findings::Lent;
 use std::alloc::{AllocError, Global};
 use term_table::{Term, term_name};
-
-/// The name of a kind of fault.
-pub fn kind_name(kind: BindKind) -> &'static str
-    ensures name { result.now ≡ kind_text kind }
-    ensures ascii { IsAscii result.now }
-{
-    match kind {
-        BindKind::UnknownRoot => "UnknownRoot",
-        BindKind::Excess => "Excess",
-        BindKind::ElementInValue => "ElementInValue",
-        BindKind::BadValue => "BadValue",
-        BindKind::CodeNotListed => "CodeNotListed",
-        BindKind::CurrencyDiffers => "CurrencyDiffers",
-        BindKind::Disagree => "Disagree",
-        BindKind::Missing => "Missing",
-        BindKind::Memory => "Memory",
-    }
-}
 
 /// A text of the program of ASCII, whose bytes are its characters.
 pub(crate) fn plain_text(text: &str) -> Lent<'_>
@@ -47,7 +30,7 @@ pub(crate) fn plain_text(text: &str) -> Lent<'_>
 pub(crate) fn kind_of<'r>(kind: BindKind) -> Lent<'r>
     ensures { result ≡ kind_text kind }
 {
-    plain_text(kind_name(kind))
+    plain_text(kind.name())
 }
 
 /// The number of a term or a group, where there is one. That of a group is a text of the program.

@@ -161,7 +161,8 @@ pub(crate) fn told_at_hand<'r, 'a>(
     requires ready { IsReady ground.now focus.now bound.now }
     requires placed { PlacedParts ground.now parts.now }
     requires slots { AreHeld ground.now slots.now }
-    ensures value { IfSome result (λ found. Gives found (value_in ground.now (made kind.now (operands_of ground.now.names.now parts.now)) focus.now bound.now)) }
+    ensures value { IfSome result (λ found. Gives found
+        (value_in ground.now (made kind.now (operands_of ground.now.names.now parts.now)) focus.now bound.now)) }
     ensures within { IfSome result (λ found. IfOk found (λ items. AreWithin (count ground.now) items)) }
 {
     match sized_at_hand(ground, kind, parts, focus, bound, slots) {

@@ -437,7 +437,8 @@ fn turns<'a, L: Ledger>(
     requires items { AreWithin (count ground.now) items }
     requires placed { PlacedWork ground.now work.now }
     requires slots { AreHeld ground.now slots.old }
-    ensures value { Gives result (steps_spec.turns (turn_in ground.now (seen ground.now.names.now work.now) bound.old.items) (length items.entry) 1 items.entry) }
+    ensures value { Gives result (steps_spec.turns (turn_in ground.now (seen ground.now.names.now work.now) bound.old.items)
+        (length items.entry) 1 items.entry) }
     ensures within { IfOk result (λ items. AreWithin (count ground.now) items) }
     ensures kept { bound.new.items ≡ bound.old.items }
     ensures held { AreHeld ground.now slots.new }

@@ -34,7 +34,7 @@ ends [] firsts entries len e l h = h
 ends (f ∷ items) firsts entries len e l h = absurd (omega (arith, e, l))
 
 pub firsts-init : goal.firsts-init
-firsts-init c = ap (λ l. flat_map entries_of c.args.firsts.items ++ reverse l) c.new-entries.ensures.items ∙
+firsts-init c = ap (λ l. flat_map entries_of c.args.firsts.items ++ reverse l) c.requires ∙
     append-nil (flat_map entries_of c.args.firsts.items)
 
 pub firsts-preserved : goal.firsts-preserved

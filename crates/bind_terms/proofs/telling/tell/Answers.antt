@@ -1,6 +1,5 @@
-use Rattle.std.proofs.Common.{option_map, ap, ◌∙◌}
+use Rattle.std.proofs.Common.{ap, ◌∙◌}
 use Rattle.std.proofs.lemmas.Result.{on_ok_weaker}
-use Rattle.bind_terms.specs.declared.firsts.First.{First}
 use Rattle.bind_terms.specs.Telling.{kept_at}
 use Rattle.bind_terms.proofs.Pass.{tells-one}
 use Rattle.bind_terms.proofs.telling.tell.Goals as goal

@@ -11,8 +11,8 @@ returns c = record {
   source = record {
     order = c.requires.order;
     run = whole_run c.args.entries.now;
-    known = known-any _ c.of_any.ensures c.args.entries.now;
-    notes =
-        c.requires.notes;
+    known = known-any _ c.of_any.ensures.any c.args.entries.now;
+    notes = c.requires.notes;
+    counted = c.requires.counted;
   };
 }

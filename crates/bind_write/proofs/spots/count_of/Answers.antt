@@ -1,9 +1,10 @@
 use Rattle.std.proofs.Common.{◌∙◌}
-use Rattle.bind_write.proofs.SpotLemmas.{count-none, count-some}
+use Rattle.bind_write.proofs.SpotLemmas.{count-none, count-some, same-last}
 use Rattle.bind_write.proofs.spots.count_of.Goals as goal
 
 pub returns-in-None : goal.returns-in-None
-returns-in-None c = c.last_outer.ensures ∙ count-none c.args.source.now.entries.now c.args.source.now.context c.args.group c.in-None.is
+returns-in-None c = c.last.ensures ∙ (c.requires.counted c.args.group ∙
+    (same-last c.args.source.now.entries.now c.args.group ∙ count-none c.args.source.now.entries.now c.args.source.now.context c.args.group c.in-None.is))
 
 pub returns-in-Some : goal.returns-in-Some
 returns-in-Some c =

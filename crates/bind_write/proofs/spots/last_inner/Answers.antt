@@ -1,7 +1,8 @@
 use Rattle.std.proofs.Common.{◌+◌, max, fold, map, drop, ap, sym, ◌∙◌, arith}
 use Rattle.inv_terms.specs.declared.entries.Entry.{Entry}
 use Rattle.bind_meaning.specs.Trees.{index_in}
-use Rattle.bind_write.proofs.SourceLemmas.{one_entry, no_entry, same-index}
+use Rattle.inv_terms.proofs.CountLemmas.{one_entry, no_entry}
+use Rattle.bind_write.proofs.SourceLemmas.{same-index}
 use Rattle.bind_write.proofs.spots.last_inner.Goals as goal
 
 pub entries-preserved : goal.entries-preserved

@@ -1,9 +1,8 @@
-use Rattle.std.proofs.Common.{◌≡◌, ◌++◌, drop}
-use Rattle.std.specs.Prelude.{map}
+use Rattle.std.proofs.Common.{◌≡◌, ◌++◌, ◌+◌, drop}
 use Rattle.inv_terms.specs.Lacking as spec
 use Rattle.inv_terms.proofs.missing.all_missing_among.Given as goal
 
 abbrev pub invariant-rows : goal.invariant-rows
 invariant-rows g l =
-    l.lacks.items ++ spec.all_missing_from (map g.T.Seated.seat_of l.seats) l.context l.k (drop l.k l.rows) ≡ spec.all_missing_from
-    (map g.T.Seated.seat_of l.seats) l.context 0 l.rows
+    l.lacks.items ++ spec.all_missing_from l.standing l.context (l.first + l.k) (drop l.k l.rows) ≡ spec.all_missing_from
+    l.standing l.context l.first l.rows

@@ -1,8 +1,7 @@
 use Rattle.std.proofs.Common.{◌≡◌, drop}
-use Rattle.std.specs.Prelude.{map}
 use Rattle.inv_terms.specs.Lacking as spec
 use Rattle.inv_terms.proofs.missing.missing_among.Given as goal
 
 abbrev pub invariant-rows : goal.invariant-rows
 invariant-rows g l =
-    spec.missing_from (map g.T.Seated.seat_of l.seats) l.context l.k (drop l.k l.rows) ≡ spec.missing_from (map g.T.Seated.seat_of l.seats) l.context 0 l.rows
+    spec.missing_from l.standing l.context l.k (drop l.k l.rows) ≡ spec.missing_from l.standing l.context 0 l.rows

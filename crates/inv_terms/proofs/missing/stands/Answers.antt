@@ -1,5 +1,4 @@
 use Rattle.std.proofs.Common.{◌&&◌, ap, ◌∙◌}
-use Rattle.std.specs.Prelude.{map}
 use Rattle.std.specs.List.{list_any}
 use Rattle.term_table.specs.declared.terms.TermRow.{TermRow}
 use Rattle.inv_terms.specs.Lacking.{is_around, shows_its_group, has_term}
@@ -9,4 +8,4 @@ pub returns : goal.returns
 returns g c =
     c.stands_among.ensures
     ∙ ap (list_any (λ (row : TermRow). is_around c.args.group row.group &&
-    (shows_its_group row.term && has_term (map g.T.Seated.seat_of c.args.seats.now) row.term))) c.term_rows.ensures
+    (shows_its_group row.term && has_term c.args.standing.now row.term))) c.term_rows.ensures

@@ -8,7 +8,7 @@ use Rattle.invoice_jobs.proofs.refusals.tell_invoice_fault.Goals as goal
 pub returns : goal.returns
 returns g c =
     let file = Prints-same _ _ _ _ _ _ c.as_bytes.ensures.value c.put-2.ensures in
-    let kind = Prints-same _ _ _ _ _ _ (c.as_bytes-2.ensures.value ∙ c.kind_name.ensures) c.put-4.ensures in
+    let kind = Prints-same _ _ _ _ _ _ (c.as_bytes-2.ensures.value ∙ c.name.ensures.name) c.put-4.ensures in
     let place = Prints-same _ _ _ _ _ _ (c.as_bytes-3.ensures.value ∙ (c.format.ensures.text ∙ ap decimal c.place.ensures)) c.put-6.ensures in
     let all = Prints-append _ _ _ _ _ _ _ _ c.put.ensures (Prints-append _ _ _ _ _ _ _ _ file (Prints-append _ _ _ _ _ _ _ _ c.put-3.ensures
     (Prints-append _ _ _ _ _ _ _ _ kind (Prints-append _ _ _ _ _ _ _ _ c.print_name.ensures (Prints-append _ _ _ _ _ _ _ _ c.put-5.ensures

@@ -1,4 +1,4 @@
-ghost use Rattle.std.specs.Prelude.{◌≡◌, ◌++◌, chars, IfOk};
+ghost use Rattle.std.specs.Prelude.{◌≡◌, ◌++◌, chars, string_bytes, IfOk};
 ghost use Rattle.inv_base.specs.Strings.{characters};
 
 use crate::txt::Txt;
@@ -13,9 +13,15 @@ pub(crate) enum Held<'a> {
 }
 
 /// A text, lent or its own. Contracts see the list of its characters.
-#[derive(Drop)]
 pub struct Str<'a> {
     held: Held<'a>,
+}
+
+impl Drop for Str<'_> {
+    fn drop(self) {
+        let Str { held } = self;
+        drop(held);
+    }
 }
 
 impl<'a> Model for Str<'a> {
@@ -48,6 +54,13 @@ impl<'a> Str<'a> {
         }
     }
 
+    /// A string that stands nowhere else, without a copy.
+    pub fn made(t: String) -> Str<'a>
+        ensures { result ≡ chars (string_bytes t) }
+    {
+        Str { held: Held::Own(t) }
+    }
+
     /// The text itself.
     pub fn as_str(&self) -> &str
         ensures { chars result.now ≡ self.now }
@@ -55,6 +68,16 @@ impl<'a> Str<'a> {
         match &self.held {
             Held::Lent(t) => *t,
             Held::Own(t) => t.as_str(),
+        }
+    }
+
+    /// The same text once more: lent where it is lent, else a copy.
+    pub fn copied(&self, alloc: Global) -> Result<Str<'a>, AllocError>
+        ensures { IfOk result (λ t. t ≡ self.now) }
+    {
+        match &self.held {
+            Held::Lent(t) => Ok(Str::lent(*t)),
+            Held::Own(t) => Ok(Str::made(String::from_str(alloc, t.as_str())?)),
         }
     }
 

@@ -1,6 +1,6 @@
 ghost use Rattle.std.specs.Prelude.{◌≡◌, IfOk};
 
-use crate::text::Str;
+use inv_base::Str;
 use inv_decimal::{Day, Dec};
 use node_arena::NodeId;
 use std::alloc::{AllocError, Global};

@@ -6,11 +6,10 @@ mod fault;
 mod item;
 mod outcome;
 mod seq;
-mod text;
 
 pub use codes::code_of;
 pub use fault::Fault;
+pub use inv_base::Str;
 pub use item::Item;
 pub use outcome::{DynError, Focus, Outcome};
 pub use seq::Seq;
-pub use text::Str;

@@ -24,7 +24,7 @@ fn string_by<'a, L: Ledger>(
     ensures { IfOk result (λ text. text ≡ string_at (tree_nodes doc.now) node) }
 {
     let mut steps = Steps::<L>::new(ledger);
-    Ok(Str::of_node(doc.string(alloc, node, &mut steps)?))
+    doc.string(alloc, node, &mut steps)
 }
 
 /// The string of a node: lent where one text of the document alone has it, else joined.

@@ -23,13 +23,21 @@ use node_arena::NodeId;
 use std::alloc::AllocError;
 use std::collections::BTreeSet;
 use std::sync::ledger::Ledger;
-use term_table::{Context, ListingPlace, ROOT, place_at, run_in};
+use term_table::{Context, ListingPlace, ROOT, place_at, run_near};
 
 /// A scene, with what was told in it first of each term in each context, in listing order.
 #[derive(Clone, Copy)]
 pub(crate) struct ToldScene<'t, 'd> {
     pub(crate) scene: &'t Scene<'t, 'd>,
     pub(crate) firsts: &'t [First],
+}
+
+/// The contexts in which it was told what is missing, and how many of what was told stand before the end of the last: there those of
+/// the next are looked for first.
+#[derive(Drop)]
+struct SeenContexts {
+    places: BTreeSet<ListingPlace>,
+    end: usize,
 }
 
 /// Gives the keeper all that is missing: in the invoice itself, and in each occurrence of a group, of which the picks have
@@ -47,8 +55,11 @@ pub(crate) fn put_lacks<L: Ledger, K: Keeper>(
         → Puts (K.given keeper.old) (K.given keeper.new) (flat_map (lacks_in (nodes_of scene.now) (map seat_of_first firsts.now)) (rooms ps))) }
 {
     let told = ToldScene { scene, firsts };
-    put_lacks_in(&told, ROOT, scene.doc.root(), keeper, steps)?;
-    let mut seen = BTreeSet::new(scene.alloc);
+    put_lacks_in(&told, ROOT, scene.doc.root(), &mut 0, keeper, steps)?;
+    let mut seen = SeenContexts {
+        places: BTreeSet::new(scene.alloc),
+        end: 0,
+    };
     let mut last = ROOT;
     'picks: for pick in picks {
         put_lacks_of(&told, pick, last, &mut seen, keeper, steps)?;
@@ -63,13 +74,13 @@ fn put_lacks_of<L: Ledger, K: Keeper>(
     told: &ToldScene<'_, '_>,
     pick: &PlacedPick,
     last: Context,
-    seen: &mut BTreeSet<ListingPlace>,
+    seen: &mut SeenContexts,
     keeper: &mut K,
     steps: &mut Steps<L>,
 ) -> Result<(), AllocError>
     requires order { IsInOrder (map seat_of_first told.now.firsts.now) }
     requires within { IsWithin (count told.now.scene.now) pick.now }
-    ensures { OnOk result (SeesPick (nodes_of told.now.scene.now) (map seat_of_first told.now.firsts.now) pick.now last seen.old.keys seen.new.keys
+    ensures { OnOk result (SeesPick (nodes_of told.now.scene.now) (map seat_of_first told.now.firsts.now) pick.now last seen.old.places.keys seen.new.places.keys
         (K.given keeper.old) (K.given keeper.new)) }
 {
     let context = context_of(pick);
@@ -89,22 +100,22 @@ fn put_lacks_at<L: Ledger, K: Keeper>(
     told: &ToldScene<'_, '_>,
     context: Context,
     seat: Option<SeatAt>,
-    seen: &mut BTreeSet<ListingPlace>,
+    seen: &mut SeenContexts,
     keeper: &mut K,
     steps: &mut Steps<L>,
 ) -> Result<(), AllocError>
     requires order { IsInOrder (map seat_of_first told.now.firsts.now) }
     requires nested { IsNested context }
     requires within { IsSeatWithin (count told.now.scene.now) seat }
-    ensures { OnOk result ((before : List Room) → AreKeysOf before seen.old.keys
-        → SeesMore (nodes_of told.now.scene.now) (map seat_of_first told.now.firsts.now) before context seat seen.new.keys
+    ensures { OnOk result ((before : List Room) → AreKeysOf before seen.old.places.keys
+        → SeesMore (nodes_of told.now.scene.now) (map seat_of_first told.now.firsts.now) before context seat seen.new.places.keys
         (K.given keeper.old) (K.given keeper.new)) }
 {
     match seat {
         Some(seat) => {
-            let added = seen.insert(key_of(context))?;
+            let added = seen.places.insert(key_of(context))?;
             if added {
-                return put_lacks_in(told, context, seat.element, keeper, steps);
+                return put_lacks_in(told, context, seat.element, &mut seen.end, keeper, steps);
             }
             Ok(())
         }
@@ -119,11 +130,12 @@ fn key_of(context: Context) -> ListingPlace
     place_at(181, context)
 }
 
-// The same in one context.
+// The same in one context. What was told there is looked for at a place first, which becomes its end.
 fn put_lacks_in<L: Ledger, K: Keeper>(
     told: &ToldScene<'_, '_>,
     context: Context,
     element: NodeId,
+    place: &mut usize,
     keeper: &mut K,
     steps: &mut Steps<L>,
 ) -> Result<(), AllocError>
@@ -133,7 +145,9 @@ fn put_lacks_in<L: Ledger, K: Keeper>(
     ensures { OnOk result (Puts (K.given keeper.old) (K.given keeper.new)
         (lacks_in (nodes_of told.now.scene.now) (map seat_of_first told.now.firsts.now) (room_at context element))) }
 {
-    let lacks = all_missing(told.scene.alloc, run_in(told.firsts, context), context)?;
+    let run = run_near(told.firsts, context, *place);
+    *place = run.end;
+    let lacks = all_missing(told.scene.alloc, run.seats, context)?;
     let found = lacks.as_slice();
     if found.is_empty() {
         drop(lacks);

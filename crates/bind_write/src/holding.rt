@@ -137,7 +137,7 @@ fn is_held_somewhere(source: &Source<'_>, line: &Line, inside: &[Line]) -> bool
     }
     let spots = spots_of(source, line.step.group);
     'spots: for k in 0..number_of(spots) {
-        if is_held(&spot_at(source, spots, k), line, inside) {
+        if is_held(&spot_at(source, spots, k, 0), line, inside) {
             return true;
         }
     }

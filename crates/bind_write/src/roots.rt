@@ -52,7 +52,7 @@ fn root_at<'a>(source: &Source<'a>, line: &'a Line, inside: &'a [Line]) -> Optio
 {
     let spots = spots_of(source, line.step.group);
     'spots: for k in 0..number_of(spots) {
-        let here = spot_at(source, spots, k);
+        let here = spot_at(source, spots, k, 0);
         match standing(&here, line, inside, false) {
             None => {}
             Some(held) => {

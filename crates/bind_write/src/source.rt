@@ -9,7 +9,7 @@ ghost use Rattle.bind_write.specs.Sources as spec;
 
 use bind_rows::Row;
 use inv_terms::{Counts, Entry, Presence};
-use term_table::{Context, Group, ROOT, Slot, run_in};
+use term_table::{Context, Group, ROOT, Slot, run_near};
 
 /// An invoice and a table, seen from one of the invoice's contexts.
 #[derive(Clone, Copy)]
@@ -19,6 +19,8 @@ pub(crate) struct Source<'a> {
     pub entries: &'a [Entry],
     /// Those in the outer occurrence of the context. All, where it has none.
     pub run: &'a [Entry],
+    /// How many of all stand before those and among them: where those of the next outer occurrence are looked for first.
+    pub end: usize,
     /// What may stand among those.
     pub presence: Presence,
     /// How many occurrences of outer groups the invoice has.
@@ -37,25 +39,32 @@ pub(crate) fn whole<'a>(rows: &'a [Row], entries: &'a [Entry], counts: &'a Count
         rows,
         entries,
         run: entries,
+        end: 0,
         presence: Presence::of_any(),
         counts,
         context: ROOT,
     }
 }
 
-/// The same from an occurrence of a group: of an outer one where the context has none, else of an inner one.
-pub(crate) fn occurrence<'a>(source: &Source<'a>, group: Group, index: u32) -> Source<'a>
+/// The same from an occurrence of a group: of an outer one where the context has none, whose entries are looked for at a place
+/// first, else of an inner one.
+pub(crate) fn occurrence<'a>(
+    source: &Source<'a>,
+    group: Group,
+    index: u32,
+    place: usize,
+) -> Source<'a>
     requires { spec.IsSource source.now }
     ensures { spec.Sees source.now.rows.now source.now.entries.now (spec.spot_of source.now.context group index) result }
 {
     let slot = Slot { group, index };
     match source.context.outer {
-        None => outer_occurrence(source, slot),
+        None => outer_occurrence(source, slot, place),
         Some(_) => inner_occurrence(source, slot),
     }
 }
 
-fn outer_occurrence<'a>(source: &Source<'a>, slot: Slot) -> Source<'a>
+fn outer_occurrence<'a>(source: &Source<'a>, slot: Slot, place: usize) -> Source<'a>
     requires { spec.IsSource source.now }
     ensures { spec.Sees source.now.rows.now source.now.entries.now (spec.in_outer slot) result }
 {
@@ -63,12 +72,13 @@ fn outer_occurrence<'a>(source: &Source<'a>, slot: Slot) -> Source<'a>
         outer: Some(slot),
         inner: None,
     };
-    let run = run_in(source.entries, context);
+    let run = run_near(source.entries, context, place);
     Source {
         rows: source.rows,
         entries: source.entries,
-        run,
-        presence: Presence::among(run),
+        run: run.seats,
+        end: run.end,
+        presence: Presence::among(run.seats),
         counts: source.counts,
         context,
     }
@@ -82,6 +92,7 @@ fn inner_occurrence<'a>(source: &Source<'a>, slot: Slot) -> Source<'a>
         rows: source.rows,
         entries: source.entries,
         run: source.run,
+        end: source.end,
         presence: source.presence,
         counts: source.counts,
         context: Context {

@@ -38,8 +38,8 @@ pub(crate) fn number_of(spots: Spots) -> u32
     spots.count.max(1)
 }
 
-/// The invoice as the k-th of the spots sees it, from 0.
-pub(crate) fn spot_at<'a>(source: &Source<'a>, spots: Spots, k: u32) -> Source<'a>
+/// The invoice as the k-th of the spots sees it, from 0. Its entries are looked for at a place first.
+pub(crate) fn spot_at<'a>(source: &Source<'a>, spots: Spots, k: u32, place: usize) -> Source<'a>
     requires source { sources.IsSource source.now }
     requires among { k < max spots.count 1 }
     ensures { sources.Sees source.now.rows.now source.now.entries.now (spec.nth_spot source.now.context spots.group spots.count k) result }
@@ -47,7 +47,7 @@ pub(crate) fn spot_at<'a>(source: &Source<'a>, spots: Spots, k: u32) -> Source<'
     if spots.count == 0 {
         *source
     } else {
-        occurrence(source, spots.group, k + 1)
+        occurrence(source, spots.group, k + 1, place)
     }
 }
 

@@ -99,8 +99,11 @@ fn put_line<W: Writer, K: Sink>(
         return put_element(pen, out, source, line, inside, held);
     }
     let spots = spots_of(source, line.step.group);
+    let mut place = 0;
     'spots: for k in 0..number_of(spots) {
-        put_element(pen, out, &spot_at(source, spots, k), line, inside, held)?;
+        let here = spot_at(source, spots, k, place);
+        place = here.end;
+        put_element(pen, out, &here, line, inside, held)?;
     }
     Ok(())
 }

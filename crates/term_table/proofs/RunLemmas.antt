@@ -8,7 +8,7 @@ use Rattle.std.specs.declared.cmp.Ordering.{Ordering}
 use Rattle.std.specs.declared.cmp.Ordering.TheVariants.{Less, Equal, Greater}
 use Rattle.std.specs.List.Sorted.{IsPartitionedBy, IsPartitionPoint}
 use Rattle.std.proofs.lemmas.Cmp.{nat_list_cmp_total}
-use Rattle.std.specs.List.{prefix_len}
+use Rattle.std.specs.List.{prefix_len, HoldsAt}
 use Rattle.std.proofs.lemmas.List.{get_or-map, get_or-drop, length-map}
 use Rattle.std.proofs.lemmas.List.Sums.{prefix_len_passes, prefix_len_stops}
 use Rattle.std.proofs.lemmas.Option.{slice_get_within, get_or_from_slice_get}
@@ -371,6 +371,29 @@ module _ {A : Type 0} (f : A → Seat) (xs : List A) (c : Context) (n : IsNested
           let j = at_place i x e (omega (arith, l)) in
           let v = j.1 in
           ap (λ y. is_in c (f y)) (sym j.3) ∙ second.1 j.0 x (omega (arith, l, v)) j.2
+
+-- ---- where those that pass and those that don't part
+
+-- the last of the first so many passes, and the one behind them doesn't
+pub parts-at : {X : Type 0} (p : X → Bool) (xs : List X) (k : ℕ) → IsPartitionedBy p xs → k ≤ length xs
+    → (0 < k → HoldsAt (λ x. p x ≡ true) xs (k - 1)) → (k < length xs → HoldsAt (λ x. p x ≡ false) xs k)
+    → IsPartitionPoint (λ x. p x ≡ true) (λ x. p x ≡ false) xs k
+parts-at p xs k h l before behind =
+    (λ i d u v. h i (k - 1) d (omega (arith, v)) (omega (arith, v, l)) (before (omega (arith, v)) d), λ i d u v. go i d u v (p (get_or xs i d)) refl)
+  where
+    go : (i : ℕ) (d : _) → k ≤ i → i < length xs → (b : Bool) → p (get_or xs i d) ≡ b → p (get_or xs i d) ≡ false
+    go i d u v false e = e
+    go i d u v true e = absurd (false≢true (sym (behind (omega (arith, u, v)) d) ∙ h k i d u v e))
+
+-- all before a place pass, and the one there doesn't
+pub parts-before : {X : Type 0} (p : X → Bool) (xs : List X) (k : ℕ) → IsPartitionedBy p xs
+    → ((i : ℕ) (d : X) → i < k → p (get_or xs i d) ≡ true) → HoldsAt (λ x. p x ≡ false) xs k
+    → IsPartitionPoint (λ x. p x ≡ true) (λ x. p x ≡ false) xs k
+parts-before p xs k h before stops = (λ i d u v. before i d v, λ i d u v. go i d u v (p (get_or xs i d)) refl)
+  where
+    go : (i : ℕ) (d : _) → k ≤ i → i < length xs → (b : Bool) → p (get_or xs i d) ≡ b → p (get_or xs i d) ≡ false
+    go i d u v false e = e
+    go i d u v true e = absurd (false≢true (sym (stops d) ∙ h k i d u v e))
 
 -- ---- the law
 

@@ -1,4 +1,6 @@
-ghost use Rattle.std.specs.Prelude.{◌≡◌, filter, map};
+ghost use Rattle.std.specs.Prelude.{◌≡◌, ◌<◌, ◌≤◌, ◌-◌, true, false, length, filter, map};
+ghost use Rattle.std.specs.List.{HoldsAt};
+ghost use Rattle.std.specs.List.Sorted.{IsPartitionedBy, IsPartitionPoint};
 ghost use Rattle.term_table.specs.Contexts.{is_inside};
 ghost use Rattle.term_table.specs.Runs.{IsInOrder, IsNested};
 ghost use Rattle.term_table.specs.Places as places;
@@ -69,15 +71,102 @@ fn stands_ahead_of(outer: Slot, slot: Slot, context: Context, seat: Seat) -> boo
     stands_before(context, seat)
 }
 
-/// The seats in a context and in those inside it, of seats in listing order: a run of them, which is found by halving.
+/// Seats of a list that stand together.
+#[derive(Drop)]
+pub struct Run<'s, T> {
+    pub seats: &'s [T],
+    /// How many of the list stand before them and among them.
+    pub end: usize,
+}
+
+/// How many of the first seats stand in the context or in one inside it, where none behind those does.
+fn len_inside<T: Seated>(seats: &[T], context: Context) -> usize
+    requires { IsPartitionedBy (λ item. is_inside context (T.seat_of item).context) seats.now }
+    ensures bound { result ≤ length seats.now }
+    ensures point { IsPartitionPoint (λ item. is_inside context (T.seat_of item).context ≡ true)
+        (λ item. is_inside context (T.seat_of item).context ≡ false) seats.now result }
+{
+    'seats: for (k, item) in seats.iter().enumerate() {
+        if !context.is_around(item.seat().context) {
+            return k;
+        }
+    }
+    seats.len()
+}
+
+/// Whether the seat before a place stands ahead of the context, or there is none.
+fn is_behind_ahead<T: Seated>(seats: &[T], context: Context, place: usize) -> bool
+    requires { place ≤ length seats.now }
+    ensures { result ≡ true → 0 < place → HoldsAt (λ item. starts.stands_ahead context (T.seat_of item) ≡ true) seats.now (place - 1) }
+{
+    if place == 0 {
+        return true;
+    }
+    stands_ahead(context, seats[place - 1].seat())
+}
+
+/// Whether the seat at a place doesn't stand ahead of the context, or there is none.
+fn is_not_ahead<T: Seated>(seats: &[T], context: Context, place: usize) -> bool
+    requires { place ≤ length seats.now }
+    ensures { result ≡ true → place < length seats.now → HoldsAt (λ item. starts.stands_ahead context (T.seat_of item) ≡ false) seats.now place }
+{
+    if place == seats.len() {
+        return true;
+    }
+    !stands_ahead(context, seats[place].seat())
+}
+
+/// Whether the seats before a place stand ahead of the context and those from there on don't, where none does behind one that doesn't.
+fn begins_at<T: Seated>(seats: &[T], context: Context, place: usize) -> bool
+    requires { IsPartitionedBy (λ item. starts.stands_ahead context (T.seat_of item)) seats.now }
+    ensures bound { result ≡ true → place ≤ length seats.now }
+    ensures point { result ≡ true → IsPartitionPoint (λ item. starts.stands_ahead context (T.seat_of item) ≡ true)
+        (λ item. starts.stands_ahead context (T.seat_of item) ≡ false) seats.now place }
+{
+    if seats.len() < place {
+        return false;
+    }
+    if !is_behind_ahead(seats, context, place) {
+        return false;
+    }
+    is_not_ahead(seats, context, place)
+}
+
+/// How many seats stand ahead of the context. It is looked for at a place first, and else found by halving.
+fn count_ahead<T: Seated>(seats: &[T], context: Context, place: usize) -> usize
+    requires { IsPartitionedBy (λ item. starts.stands_ahead context (T.seat_of item)) seats.now }
+    ensures bound { result ≤ length seats.now }
+    ensures point { IsPartitionPoint (λ item. starts.stands_ahead context (T.seat_of item) ≡ true)
+        (λ item. starts.stands_ahead context (T.seat_of item) ≡ false) seats.now result }
+{
+    if begins_at(seats, context, place) {
+        return place;
+    }
+    seats.partition_point(|item| stands_ahead(context, item.seat()))
+}
+
+/// The seats in a context and in those inside it, of seats in listing order: a run of them. It is looked for at a place first, as
+/// behind the run of the context before, and else found by halving.
+pub fn run_near<T: Seated>(seats: &[T], context: Context, place: usize) -> Run<'_, T>
+    requires order { IsInOrder (map T.seat_of seats.now) }
+    requires context { IsNested context }
+    ensures run { result.seats.now ≡ filter (λ item. is_inside context (T.seat_of item).context) seats.now }
+{
+    let first = count_ahead(seats, context, place);
+    let (_, behind) = seats.split_at(first);
+    let len = len_inside(behind, context);
+    let (run, _) = behind.split_at(len);
+    Run {
+        seats: run,
+        end: first + len,
+    }
+}
+
+/// The same run, found by halving.
 pub fn run_in<T: Seated>(seats: &[T], context: Context) -> &[T]
     requires order { IsInOrder (map T.seat_of seats.now) }
     requires context { IsNested context }
     ensures { result.now ≡ filter (λ item. is_inside context (T.seat_of item).context) seats.now }
 {
-    let first = seats.partition_point(|item| stands_ahead(context, item.seat()));
-    let (_, behind) = seats.split_at(first);
-    let len = behind.partition_point(|item| context.is_around(item.seat().context));
-    let (run, _) = behind.split_at(len);
-    run
+    run_near(seats, context, 0).seats
 }

@@ -12,13 +12,13 @@ use Rattle.bind_terms.proofs.lacks.put_lacks.Goals as goal
 pub picks-init : goal.picks-init
 picks-init g c =
     up-to-none (nodes_of c.args.scene.now) (map seat_of_first c.args.firsts.now)
-    (g.K.Keeper.given c.put_lacks_in.new.keeper) c.args.picks.now c.new-seen.result.keys c.new-seen.ensures.empty
+    (g.K.Keeper.given c.put_lacks_in.new.keeper) c.args.picks.now c.new.result.keys c.new.ensures.empty
 
 pub picks-preserved : goal.picks-preserved
 picks-preserved g c =
     up-to-more (nodes_of c.args.scene.now) (map seat_of_first c.args.firsts.now)
     (g.K.Keeper.given c.put_lacks_in.new.keeper) c.args.picks.now c.picks.pick-index c.pick-item.result c.picks.last c.context_of-last.result
-    c.picks.seen.keys c.put_lacks_of.new.seen.keys
+    c.picks.seen.places.keys c.put_lacks_of.new.seen.places.keys
     (g.K.Keeper.given c.picks.keeper) (g.K.Keeper.given c.put_lacks_of.new.keeper)
     (omega arith) c.pick-item.is c.context_of-last.ensures
     c.in_ok-put_lacks_of.ensures c.picks.invariant
@@ -27,7 +27,7 @@ pub returns : goal.returns
 returns g c =
     seen-all (nodes_of c.args.scene.now) (map seat_of_first c.args.firsts.now) (g.K.Keeper.given c.args.keeper.now)
     (g.K.Keeper.given c.put_lacks_in.new.keeper) c.args.picks.now c.picks.pick-index
-    c.picks.seen.keys (g.K.Keeper.given c.picks.keeper) (omega arith)
+    c.picks.seen.places.keys (g.K.Keeper.given c.picks.keeper) (omega arith)
     (subst (λ n. Puts (g.K.Keeper.given c.args.keeper.now) (g.K.Keeper.given c.put_lacks_in.new.keeper)
     (lacks_in (nodes_of c.args.scene.now) (map seat_of_first c.args.firsts.now) (room_at root_context n)))
     c.root.ensures.number c.in_ok-put_lacks_in.ensures) c.picks.invariant.seen

@@ -7,4 +7,4 @@ use Rattle.bind_terms.proofs.lacks.put_lacks.Given as goal
 abbrev pub invariant-picks : goal.invariant-picks
 invariant-picks g l =
     SeenUpTo (nodes_of l.fn.scene) (map seat_of_first l.firsts) (g.K.Keeper.given l.initial.keeper)
-    l.picks l.pick-index l.last l.seen.keys (g.K.Keeper.given l.keeper)
+    l.picks l.pick-index l.last l.seen.places.keys (g.K.Keeper.given l.keeper)

@@ -20,14 +20,14 @@ pub returns-then-added : goal.returns-then-added
 returns-then-added g c =
     on_ok_weaker c.put_lacks_in.result
     (λ put. room-new (nodes_of c.args.told.now.scene.now)
-    (map seat_of_first c.args.told.now.firsts.now) c.args.context c.args.seat c.in-Some.seat c.in-Some.is c.args.seen.now.keys c.insert.new.self.keys
-    c.in_ok-added-in-Some.added (c.in_ok-added-in-Some.ensures.added ∙ ap (λ key. not (has_key c.args.seen.now.keys key)) c.key_of.ensures)
+    (map seat_of_first c.args.told.now.firsts.now) c.args.context c.args.seat c.in-Some.seat c.in-Some.is c.args.seen.now.places.keys c.insert.new.self.keys
+    c.in_ok-added-in-Some.added (c.in_ok-added-in-Some.ensures.added ∙ ap (λ key. not (has_key c.args.seen.now.places.keys key)) c.key_of.ensures)
     (g.K.Keeper.given c.args.keeper.now) (g.K.Keeper.given c.put_lacks_in.new.keeper) c.if-added.true
-    (c.in_ok-added-in-Some.ensures.keys ∙ ap (insert_key (slice_cmp nat_cmp) c.args.seen.now.keys) c.key_of.ensures) put) c.put_lacks_in.ensures
+    (c.in_ok-added-in-Some.ensures.keys ∙ ap (insert_key (slice_cmp nat_cmp) c.args.seen.now.places.keys) c.key_of.ensures) put) c.put_lacks_in.ensures
 
 pub returns-else-added : goal.returns-else-added
 returns-else-added g c =
     room-old (nodes_of c.args.told.now.scene.now)
-    (map seat_of_first c.args.told.now.firsts.now) c.args.context c.args.seat c.in-Some.seat c.in-Some.is c.args.seen.now.keys c.insert.new.self.keys
-    c.in_ok-added-in-Some.added (c.in_ok-added-in-Some.ensures.added ∙ ap (λ key. not (has_key c.args.seen.now.keys key)) c.key_of.ensures)
+    (map seat_of_first c.args.told.now.firsts.now) c.args.context c.args.seat c.in-Some.seat c.in-Some.is c.args.seen.now.places.keys c.insert.new.self.keys
+    c.in_ok-added-in-Some.added (c.in_ok-added-in-Some.ensures.added ∙ ap (λ key. not (has_key c.args.seen.now.places.keys key)) c.key_of.ensures)
     (g.K.Keeper.given c.args.keeper.now) c.if-added.false (on-false c.in_ok-added-in-Some.added _ c.in_ok-added-in-Some.ensures.unchanged c.if-added.false)

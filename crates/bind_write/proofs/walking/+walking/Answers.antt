@@ -49,9 +49,9 @@ put_line-returns-in_err-put_element-clause-makes g t c cells plan h =
     let f : _ → List Call = element_calls c.args.source.now.entries.now c.args.line.now.step cells plan c.args.held in
     spot-err f _ _ _ _ _ _ _ _ _ _ _ _ _ c.spots_of-spots.ensures
     (spots-next c.args.source.now.context c.spots_of-spots.result.group c.spots_of-spots.result.count c.spots.k (omega arith))
-    (calls-seen c.spot_at.result _ _ _ c.args.line.now.step cells plan c.args.held c.spot_at.ensures)
+    (calls-seen c.spot_at-here.result _ _ _ c.args.line.now.step cells plan c.args.held c.spot_at-here.ensures)
     (c.spots.invariant.ahead cells plan h)
-    (c.in_err-put_element.ensures.makes cells plan (line-seen c.spot_at.result _ _ _ _ _ cells plan c.spot_at.ensures h)) c.from_residual.ensures.0
+    (c.in_err-put_element.ensures.makes cells plan (line-seen c.spot_at-here.result _ _ _ _ _ cells plan c.spot_at-here.ensures h)) c.from_residual.ensures.0
 
 pub put_line-spots-preserved : goal.put_line-spots-preserved
 put_line-spots-preserved g t c =
@@ -62,9 +62,9 @@ put_line-spots-preserved g t c =
       ahead = λ cells plan h.
           spot-ok (element_calls c.args.source.now.entries.now c.args.line.now.step cells plan c.args.held) _ _ _ _ _ _ _ _ _ _ _
           (spots-next c.args.source.now.context c.spots_of-spots.result.group c.spots_of-spots.result.count c.spots.k (omega arith))
-          (calls-seen c.spot_at.result _ _ _ c.args.line.now.step cells plan c.args.held c.spot_at.ensures)
+          (calls-seen c.spot_at-here.result _ _ _ c.args.line.now.step cells plan c.args.held c.spot_at-here.ensures)
           (c.spots.invariant.ahead cells plan h)
-          (c.in_ok-put_element.ensures.makes cells plan (line-seen c.spot_at.result _ _ _ _ _ cells plan c.spot_at.ensures h));
+          (c.in_ok-put_element.ensures.makes cells plan (line-seen c.spot_at-here.result _ _ _ _ _ cells plan c.spot_at-here.ensures h));
     }
 
 pub put_line-returns-clause-makes : goal.put_line-returns-clause-makes

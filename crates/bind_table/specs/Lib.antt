@@ -16,3 +16,4 @@ pub mod Paths
 pub mod Items
 pub mod Making
 pub mod Listings
+pub mod Charges

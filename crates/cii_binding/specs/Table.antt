@@ -7,8 +7,8 @@ use Rattle.bind_rows.specs.declared.rows.Row.{Row}
 use Rattle.bind_rows.specs.declared.rows.Written.TheVariants as written
 use Rattle.bind_table.specs.Listings.{Listing, bt, part, constant, spread, in_form, when, named, element, at, ◌◂◌, each, always, given, rows_of}
 use Rattle.cii_binding.specs.Parts.{holding, leaf_in, leaf, leaf_with, type_code, date_leaf, date, identifier, global_identifier, identifiers, address}
-use Rattle.cii_binding.specs.Parts.{tax_registration, contact, electronic_address, reference, period, document_allowance, document_charge, line_allowance}
-use Rattle.cii_binding.specs.Parts.{line_charge}
+use Rattle.cii_binding.specs.Parts.{tax_registration, contact, electronic_address, reference, period, charging}
+use Rattle.bind_table.specs.Charges.{document_allowance, document_charge, line_allowance, line_charge}
 
 abbrev pub context : Listing
 context =
@@ -64,8 +64,8 @@ line_settlement =
     ◂ leaf "CategoryCode" (bt 151)
     ◂ leaf "RateApplicablePercent" (bt 152))
     ◂ period 134 135
-    ◂ line_allowance 136 137 138 139 140 groups.LineAllowance
-    ◂ line_charge 141 142 143 144 145 groups.LineCharge
+    ◂ line_allowance charging 136 137 138 139 140 groups.LineAllowance
+    ◂ line_charge charging 141 142 143 144 145 groups.LineCharge
     ◂ holding "SpecifiedTradeSettlementLineMonetarySummation" (leaf "LineTotalAmount" (bt 131))
     ◂ given (type_code "130") (holding "AdditionalReferencedDocument"
     (leaf "IssuerAssignedID" (bt 128)
@@ -216,8 +216,8 @@ settlement =
     ◂ payment_means
     ◂ vat_breakdown
     ◂ period 73 74
-    ◂ document_allowance 92 93 94 95 96 97 98 groups.DocumentAllowance
-    ◂ document_charge 99 100 101 102 103 104 105 groups.DocumentCharge
+    ◂ document_allowance charging 92 93 94 95 96 97 98 groups.DocumentAllowance
+    ◂ document_charge charging 99 100 101 102 103 104 105 groups.DocumentCharge
     ◂ holding "SpecifiedTradePaymentTerms"
     (leaf "Description" (bt 20)
     ◂ holding "DueDateDateTime" (date 9)

@@ -2,14 +2,14 @@
 -- schemes, allowances and charges wherever they stand.
 use Prim.Native.String.{String}
 use Rattle.std.specs.Prelude.{ℕ, List, [], ◌∷◌, codes}
-use Rattle.term_table.specs.declared.groups.Group.{Group}
 use Rattle.bind_rows.specs.declared.names.Namespace.TheVariants as spaces
 use Rattle.bind_rows.specs.declared.names.Leaf.TheVariants as leaves
 use Rattle.bind_rows.specs.declared.guards.Guard.{Guard}
 use Rattle.bind_rows.specs.declared.guards.Test.{Test}
 use Rattle.bind_rows.specs.declared.rows.Check.TheVariants as checks
-use Rattle.bind_table.specs.Listings.{Listing, nothing, Value, Placed, bt, term, part, constant, checked, named, element, at_element, at, ◌◂◌, each, given}
-use Rattle.bind_table.specs.Listings.{guard, one_of, none_of}
+use Rattle.bind_table.specs.Charges.{Charging}
+use Rattle.bind_table.specs.Listings.{Listing, nothing, Value, Placed, bt, term, part, constant, checked, named, element, at_element, at, ◌◂◌}
+use Rattle.bind_table.specs.Listings.{guard}
 
 -- Below the root an element that holds elements is in the namespace of aggregates, and one that holds a value in that
 -- of basic components.
@@ -72,20 +72,5 @@ sums indicator a b p t k =
 abbrev pub taxed : ℕ → ℕ → Listing
 taxed c r = holding "TaxCategory" (leaf "ID" (bt c) ◂ leaf "Percent" (bt r) ◂ vat)
 
-abbrev pub allowance : Group → Listing → Listing
-allowance group inside = each group (given (charge_indicator (none_of ("true" ∷ "1" ∷ []))) (holding "AllowanceCharge" inside))
-
-abbrev pub charge : Group → Listing → Listing
-charge group inside = each group (given (charge_indicator (one_of ("true" ∷ "1" ∷ []))) (holding "AllowanceCharge" inside))
-
-abbrev pub document_allowance : ℕ → ℕ → ℕ → ℕ → ℕ → ℕ → ℕ → Group → Listing
-document_allowance a b p c r t k group = allowance group (sums "false" a b p t k ◂ taxed c r)
-
-abbrev pub document_charge : ℕ → ℕ → ℕ → ℕ → ℕ → ℕ → ℕ → Group → Listing
-document_charge a b p c r t k group = charge group (sums "true" a b p t k ◂ taxed c r)
-
-abbrev pub line_allowance : ℕ → ℕ → ℕ → ℕ → ℕ → Group → Listing
-line_allowance a b p t k group = allowance group (sums "false" a b p t k)
-
-abbrev pub line_charge : ℕ → ℕ → ℕ → ℕ → ℕ → Group → Listing
-line_charge a b p t k group = charge group (sums "true" a b p t k)
+abbrev pub charging : Charging
+charging = record { indicator = charge_indicator; around = holding "AllowanceCharge"; sums = sums; taxed = taxed }

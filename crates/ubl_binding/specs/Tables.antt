@@ -9,8 +9,8 @@ use Rattle.bind_rows.specs.declared.rows.Row.{Row}
 use Rattle.bind_rows.specs.declared.rows.Written.TheVariants as written
 use Rattle.bind_table.specs.Listings.{Listing, bt, term, part, constant, agreeing, spread, in_form, when, named, element, at, nothing, ◌◂◌, each, given, one_of}
 use Rattle.bind_table.specs.Listings.{none_of, rows_of}
-use Rattle.ubl_binding.specs.Parts.{holding, leaf, leaf_with, identifier, document_type, scheme, tax_scheme, address, vat, document_allowance, document_charge}
-use Rattle.ubl_binding.specs.Parts.{line_allowance, line_charge}
+use Rattle.ubl_binding.specs.Parts.{holding, leaf, leaf_with, identifier, document_type, scheme, tax_scheme, address, vat, charging}
+use Rattle.bind_table.specs.Charges.{document_allowance, document_charge, line_allowance, line_charge}
 
 -- ---- what both have
 
@@ -157,8 +157,8 @@ payment_means due_date =
 abbrev pub totals : Listing
 totals =
     holding "PaymentTerms" (leaf "Note" (bt 20))
-    ◂ document_allowance 92 93 94 95 96 97 98 groups.DocumentAllowance
-    ◂ document_charge 99 100 101 102 103 104 105 groups.DocumentCharge
+    ◂ document_allowance charging 92 93 94 95 96 97 98 groups.DocumentAllowance
+    ◂ document_charge charging 99 100 101 102 103 104 105 groups.DocumentCharge
     ◂ holding "TaxTotal"
     (leaf "TaxAmount" (when written.VatTotal (bt 110))
     ◂ each groups.VatBreakdown (holding "TaxSubtotal"
@@ -226,8 +226,8 @@ line name quantity =
     ◂ given (document_type (one_of ("130" ∷ []))) (holding "DocumentReference"
     (identifier "ID" 128
     ◂ leaf "DocumentTypeCode" (constant "130")))
-    ◂ line_allowance 136 137 138 139 140 groups.LineAllowance
-    ◂ line_charge 141 142 143 144 145 groups.LineCharge
+    ◂ line_allowance charging 136 137 138 139 140 groups.LineAllowance
+    ◂ line_charge charging 141 142 143 144 145 groups.LineCharge
     ◂ item
     ◂ price))
 

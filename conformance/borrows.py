@@ -40,7 +40,7 @@ OUTLIVES = "    let mut kept = Seq::new(alloc);\n    {\n        let bump = Bump:
 def read_crates():
     """What each crate of crates.txt stands on."""
     lines = (line.split("#")[0].strip() for line in (HOME / "crates.txt").read_text(encoding="utf-8").splitlines())
-    return {line.split(":")[0]: line.split(":")[1].split() for line in lines if line}
+    return {line.split(":")[0].split()[0]: line.split(":")[1].split() for line in lines if line}
 
 
 def lay(folder):

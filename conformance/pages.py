@@ -33,7 +33,7 @@ def layers():
         if line.startswith("# "):
             found.append((line[2:], []))
         elif ":" in line:
-            found[-1][1].append(line.split(":")[0])
+            found[-1][1].append(line.split(":")[0].split()[0])
     return found
 
 
@@ -112,6 +112,7 @@ def rules():
 def unnamed():
     """The crates that a crate of crates.txt stands on and none of its files names."""
     lists = [line.split(":") for line in (ROOT / "crates.txt").read_text(encoding="utf-8").splitlines() if ":" in line and line[0] != "#"]
+    lists = [(name.split()[0], below) for name, below in lists]
     own, found = {name for name, _ in lists}, []
     for name, below in lists:
         files = [path for path in (ROOT / "crates" / name).rglob("*") if path.suffix in (".rt", ".antt") and "out" not in path.parts]

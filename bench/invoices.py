@@ -79,6 +79,7 @@ HOSTILE = {
     "100,000 picks of one term": lambda: behind("<cbc:BuyerReference>Office 4</cbc:BuyerReference>", "<cbc:BuyerReference>x</cbc:BuyerReference>" * 100_000),
     "120,000 charges inside one line": lambda: behind('<cbc:LineExtensionAmount currencyID="EUR">180.00</cbc:LineExtensionAmount>', CHARGE * 120_000),
     "120,000 notes": lambda: behind("<cbc:InvoiceTypeCode>380</cbc:InvoiceTypeCode>", "<cbc:Note>a note</cbc:Note>" * 120_000),
+    "150,000 notes": lambda: behind("<cbc:InvoiceTypeCode>380</cbc:InvoiceTypeCode>", "<cbc:Note>a note, longer</cbc:Note>" * 150_000),
     "a note of 8 MB": lambda: behind("<cbc:Note>", "a note " * 1_150_000),
     "20,000 payment means beside a remittance text of 500 KB": lambda: many_means(20_000, 500_000),
     "200,000 parties": lambda: behind("</cac:AccountingCustomerParty>", "<cac:AccountingCustomerParty><cac:Party/></cac:AccountingCustomerParty>" * 200_000),

@@ -1,20 +1,31 @@
 """What a run of a command takes: processor time and memory, in turns with others, and instructions."""
-import os
 import re
 import shutil
 import subprocess
+import sys
 import tempfile
 
 
+# A run is begun by a small process: what a program holds at most counts what its parent held when it was begun.
+BEGIN = """import os, sys
+pid = os.fork()
+if pid == 0:
+    os.execvp(sys.argv[2], sys.argv[2:])
+used = os.wait4(pid, 0)[2]
+with open(sys.argv[1], "w") as told:
+    told.write("%r %r" % (used.ru_utime + used.ru_stime, used.ru_maxrss / 1024))
+"""
+
+
 def once(words):
-    """The seconds of a processor of one run, in user and system mode together, the most memory that it held, in MB, and what it says on
-    standard error. The output goes nowhere."""
-    with tempfile.TemporaryFile() as said:
-        program = subprocess.Popen(words, stdin=subprocess.DEVNULL, stdout=subprocess.DEVNULL, stderr=said)
-        _, status, used = os.wait4(program.pid, 0)
-        program.returncode = os.waitstatus_to_exitcode(status)
-        said.seek(0)
-        return used.ru_utime + used.ru_stime, used.ru_maxrss / 1024, said.read().decode(errors="replace").strip()
+    """The seconds of a processor of one run, in user and system mode together, the most memory that it held, in MB, at least some 5, and
+    what it says on standard error. The output goes nowhere."""
+    with tempfile.TemporaryDirectory() as folder:
+        begun = [sys.executable, "-S", "-c", BEGIN, f"{folder}/told", *words]
+        said = subprocess.run(begun, stdin=subprocess.DEVNULL, stdout=subprocess.DEVNULL, stderr=subprocess.PIPE, check=True).stderr
+        with open(f"{folder}/told") as told:
+            seconds, held = (float(figure) for figure in told.read().split())
+    return seconds, held, said.decode(errors="replace").strip()
 
 
 def in_turns(commands, runs):

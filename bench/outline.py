@@ -6,15 +6,15 @@
 PROGRAM is crates/einv/out/einv if it isn't given, RUNS 5. Prints two tables: documents of 1 and 16 MB, rich in elements, in
 attributes or in text, with both times and their ratio; and one hostile document of each kind, with its time, how many times
 that is the time of a document rich in elements of its size, the most memory that einv held, and what it answers. Each time
-is the best of the runs, in which the two take turns, wall clock, start-up included. Where xmllint (libxml2-utils) is missing
+is the least of the runs, in which the two take turns, in seconds of a processor, start-up included. Where xmllint (libxml2-utils) is missing
 its column is left out with a word.
 """
 import pathlib
 import shutil
-import subprocess
 import sys
 import tempfile
-import time
+
+import measuring
 
 HOME = pathlib.Path(__file__).resolve().parent.parent
 MEGABYTE = 1_000_000
@@ -97,36 +97,6 @@ HOSTILE = {
 }
 
 
-def once(words):
-    """The time of one run of the command, and what it said on standard error."""
-    begun = time.perf_counter()
-    done = subprocess.run(words, stdin=subprocess.DEVNULL, stdout=subprocess.DEVNULL, stderr=subprocess.PIPE)
-    return time.perf_counter() - begun, done.stderr.decode(errors="replace").strip().splitlines()
-
-
-def seconds(commands, runs):
-    """The best time of each of the commands, which take turns, and what the first said at last."""
-    rounds = [[once(words) for words in commands] for _ in range(runs)]
-    return [min(done[0] for done in column) for column in zip(*rounds)], rounds[-1][0][1]
-
-
-# A process forked from this one would count what this one holds as its own, so a small one forks it.
-MEASURE = """
-import os, sys, time
-begun = time.perf_counter()
-null = os.open(os.devnull, os.O_RDWR)
-pid = os.posix_spawn(sys.argv[1], sys.argv[1:], os.environ, file_actions=[(os.POSIX_SPAWN_DUP2, null, n) for n in (0, 1, 2)])
-held = os.wait4(pid, 0)[2].ru_maxrss
-print(time.perf_counter() - begun, held / 1000)
-"""
-
-
-def measured(words):
-    """The seconds of one run of the command, and the most memory that it held, in MB, at least some 10."""
-    told = subprocess.run([sys.executable, "-S", "-c", MEASURE, *words], stdout=subprocess.PIPE, check=True).stdout
-    return tuple(float(figure) for figure in told.split())
-
-
 def main():
     program = sys.argv[1] if len(sys.argv) > 1 else str(HOME / "crates/einv/out/einv")
     runs = int(sys.argv[2]) if len(sys.argv) > 2 else 5
@@ -141,20 +111,20 @@ def main():
             for megabytes in (1, 16):
                 path.write_bytes(make(megabytes * MEGABYTE))
                 beside = [[other, "--noout", str(path)]] if other else []
-                (mine, *theirs), said = seconds([[program, "outline", str(path)], *beside], runs)
-                right = f"{theirs[0]:.3f} | {mine / theirs[0]:.2f}" if theirs else "- | -"
-                print(f"| {name} | {megabytes} | {mine:.3f} | {right} |" + (f" {said[0]}" if said else ""))
+                (mine, _, said), *theirs = measuring.in_turns([[program, "outline", str(path)], *beside], runs)
+                right = f"{theirs[0][0]:.3f} | {mine / theirs[0][0]:.2f}" if theirs else "- | -"
+                print(f"| {name} | {megabytes} | {mine:.3f} | {right} | {said}".rstrip())
         print("\n| Hostile document | MB | einv outline | by honest | peak, MB | answer |")
         print("|---|---|---|---|---|---|")
         for name, make in HOSTILE.items():
             content = make()
             path.write_bytes(elements(len(content)))
-            honest = seconds([[program, "outline", str(path)]], runs)[0][0]
-            path.write_bytes(content)
             words = [program, "outline", str(path)]
-            (mine,), said = seconds([words], runs)
-            answer = said[0].replace(str(path) + ": ", "").removeprefix("einv: ") if said else "Done"
-            shown = f"{len(content) / MEGABYTE:.1f} | {mine:.3f} | {mine / honest:.2f} | {measured(words)[1]:.1f}"
+            [(honest, _, _)] = measuring.in_turns([words], runs)
+            path.write_bytes(content)
+            [(mine, held, said)] = measuring.in_turns([words], runs)
+            answer = said.replace(str(path) + ": ", "").removeprefix("einv: ") or "Done"
+            shown = f"{len(content) / MEGABYTE:.1f} | {mine:.3f} | {mine / honest:.2f} | {held:.1f}"
             print(f"| {name} | {shown} | {answer} |")
 
 

@@ -80,8 +80,8 @@ fn put_lacks_of<L: Ledger, K: Keeper>(
 ) -> Result<(), AllocError>
     requires order { IsInOrder (map seat_of_first told.now.firsts.now) }
     requires within { IsWithin (count told.now.scene.now) pick.now }
-    ensures { OnOk result (SeesPick (nodes_of told.now.scene.now) (map seat_of_first told.now.firsts.now) pick.now last seen.old.places.keys seen.new.places.keys
-        (K.given keeper.old) (K.given keeper.new)) }
+    ensures { OnOk result (SeesPick (nodes_of told.now.scene.now) (map seat_of_first told.now.firsts.now) pick.now last seen.old.places.keys
+        seen.new.places.keys (K.given keeper.old) (K.given keeper.new)) }
 {
     let context = context_of(pick);
     if context.is_same(last) {

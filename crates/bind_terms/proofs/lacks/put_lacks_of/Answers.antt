@@ -23,6 +23,7 @@ pub returns : goal.returns
 returns g c =
     on_ok_weaker c.put_lacks_at-3.result
     (sees-both (nodes_of c.args.told.now.scene.now) (map seat_of_first c.args.told.now.firsts.now) c.args.pick.now c.args.last
-    c.context_of-context.result c.context_of-context.ensures c.args.seen.now.places.keys c.put_lacks_at-2.new.seen.places.keys c.put_lacks_at-3.new.seen.places.keys
+    c.context_of-context.result c.context_of-context.ensures c.args.seen.now.places.keys c.put_lacks_at-2.new.seen.places.keys
+    c.put_lacks_at-3.new.seen.places.keys
     (g.K.Keeper.given c.args.keeper.now) (g.K.Keeper.given c.put_lacks_at-2.new.keeper) (g.K.Keeper.given c.put_lacks_at-3.new.keeper)
     c.without_inner-around.result c.without_inner-around.ensures c.in_ok-put_lacks_at.ensures) c.put_lacks_at-3.ensures

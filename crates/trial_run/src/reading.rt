@@ -86,12 +86,12 @@ pub(crate) fn terms_in(
     ensures { IfOk result (λ invoice. invoice ≡ spec.terms_in (option_map tree_nodes doc.now)) }
 {
     match doc {
-        Some(doc) => terms_of(alloc, doc, means),
+        Some(doc) => invoice_of(alloc, doc, means),
         None => Invoice::new(alloc),
     }
 }
 
-fn terms_of(alloc: Global, doc: &Doc<'_>, means: &Means) -> Result<Invoice, AllocError>
+fn invoice_of(alloc: Global, doc: &Doc<'_>, means: &Means) -> Result<Invoice, AllocError>
     requires { spec.AreBuiltIn means.now }
     ensures { IfOk result (λ invoice. invoice ≡ spec.terms_in (Some (tree_nodes doc.now))) }
 {

@@ -262,7 +262,7 @@ fn spots_of(
         passed: Vec::new(alloc),
         findings: Vec::new(alloc),
     };
-    match place_all(alloc, scene, told, &mut spots) {
+    match push_spots(alloc, scene, told, &mut spots) {
         Ok(()) => Ok(spots),
         Err(fault) => {
             drop(spots);
@@ -272,7 +272,7 @@ fn spots_of(
 }
 
 /// Keeps where all stands that is told.
-fn place_all(
+fn push_spots(
     alloc: Global,
     scene: &Scene<'_, '_>,
     told: &Told<'_, '_, '_>,

@@ -3,7 +3,7 @@ use Rattle.std.proofs.lemmas.Result.{IfOk-weaker}
 use Rattle.node_arena.specs.Moves.{tree_nodes}
 use Rattle.trial_run.specs.Memory.{entries_of}
 use Rattle.trial_run.proofs.MemoryLemmas.{by-built_in}
-use Rattle.trial_run.proofs.reading.terms_of.Goals as goal
+use Rattle.trial_run.proofs.reading.invoice_of.Goals as goal
 
 pub returns-in-Ok : goal.returns-in-Ok
 returns-in-Ok c =

@@ -3,11 +3,11 @@
 
     python3 bench/growth.py [PROGRAM] [RUNS]
 
-PROGRAM is crates/einv/out/einv if it isn't given, RUNS 5; a document above 10 MB is run at most three times. The invoices are those of
-bench/invoices.py in UBL. Prints three tables: `outline`, `show` and `convert` with their ratios, and `xmllint --noout` beside them where
-that is installed (libxml2-utils); the seconds and the memory of each command; and the instructions of each over 1,000 lines, where
-valgrind is installed. Seconds are those of a processor in both modes, the least of the runs, in which the commands take turns, start-up
-included.
+PROGRAM is crates/einv/out/einv if it isn't given, RUNS 5; of the second table a document of 10 MB or more is run once. The invoices are
+those of bench/invoices.py in UBL. Prints three tables: `outline`, `show`, `convert`, and `xmllint --noout` where that is installed
+(libxml2-utils), with the times that each takes of `outline`, the median and the quartiles of the runs, each between two of `outline`; the
+seconds and the memory of each command; and the instructions of each over 1,000 lines, where valgrind is installed. Seconds are those of a
+processor in both modes, the least of the runs, start-up included.
 """
 import pathlib
 import shutil
@@ -39,17 +39,15 @@ def write(path, lines):
 
 def beside_outline(program, path, runs):
     other = shutil.which("xmllint")
-    print("| UBL, lines | MB | outline | xmllint --noout | show | convert to ubl | show / outline | convert / outline |")
-    print("|---|---|---|---|---|---|---|---|")
+    print("| UBL, lines | MB | outline | show | convert to ubl | xmllint --noout | show / outline | convert / outline | xmllint / outline |")
+    print("|---|---|---|---|---|---|---|---|---|")
     for lines in LINES:
         size = write(path, lines)
-        commands = [[program, *COMMANDS[name], str(path)] for name in ("outline", "show", "convert to ubl")]
-        beside = [[other, "--noout", str(path)]] if other else []
-        taken = measuring.in_turns([*commands, *beside], runs if size < 10 else min(runs, 3))
-        (outline, _, _), (show, _, _), (convert, _, _) = taken[:3]
-        theirs = "%.3f" % taken[3][0] if other else "-"
-        ratios = "%.2f | %.2f" % (show / outline, convert / outline)
-        print("| %s | %.1f | %.3f | %s | %.3f | %.3f | %s |" % (f"{lines:,}", size, outline, theirs, show, convert, ratios))
+        first, *commands = [[program, *COMMANDS[name], str(path)] for name in ("outline", "show", "convert to ubl")]
+        alone, taken = measuring.beside(first, commands + ([[other, "--noout", str(path)]] if other else []), runs)
+        seconds = " | ".join("%.3f" % it[0] for it in taken) + ("" if other else " | -")
+        ratios = " | ".join("%.2f (%.2f to %.2f)" % it[1:] for it in taken) + ("" if other else " | -")
+        print("| %s | %.1f | %.3f | %s | %s |" % (f"{lines:,}", size, alone, seconds, ratios), flush=True)
 
 
 def each_command(program, path, runs):

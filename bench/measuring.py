@@ -1,6 +1,7 @@
 """What a run of a command takes: processor time and memory, in turns with others, and instructions."""
 import re
 import shutil
+import statistics
 import subprocess
 import sys
 import tempfile
@@ -36,6 +37,20 @@ def in_turns(commands, runs):
         for words, times in zip(commands, taken):
             times.append(once(words))
     return [(min(seconds for seconds, _, _ in times), max(held for _, held, _ in times), times[-1][2]) for times in taken]
+
+
+def beside(first, others, runs):
+    """The least seconds of the first command and of each of the others, and of each of these the times that it takes of the first: the
+    median over so many rounds, the lower and the upper quartile. Each is run between two runs of the first and compared with their
+    mean, since a machine that others share is fast for some seconds and slow for some others."""
+    alone, taken, ratios = [once(first)[0]], [[] for _ in others], [[] for _ in others]
+    for _ in range(runs):
+        for words, times, found in zip(others, taken, ratios):
+            times.append(once(words)[0])
+            alone.append(once(first)[0])
+            found.append(2 * times[-1] / (alone[-2] + alone[-1]))
+    shown = [(statistics.median(found), sorted(found)[runs // 4], sorted(found)[3 * runs // 4]) for found in ratios]
+    return min(alone), [(min(times), *three) for times, three in zip(taken, shown)]
 
 
 def instructions(words):

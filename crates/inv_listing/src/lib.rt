@@ -1,8 +1,11 @@
 //! How an invoice is listed for a person: its entries, a line each, and the names of terms and groups.
 #![tactic(auto)]
 
+mod fronts;
 mod names;
+mod plain;
 mod printing;
+mod short;
 
 pub use names::{print_context, print_name, print_term};
 pub use printing::print_listing;

@@ -1,7 +1,10 @@
-ghost use Rattle.std.specs.Prelude.{◌≡◌};
+ghost use Rattle.std.specs.Prelude.{◌≡◌, ◌+◌, ◌≤◌};
+ghost use Rattle.arrayvec.specs.ArrayVec.{array_vec_len};
 ghost use Rattle.inv_base.specs.Printing.{Prints};
+ghost use Rattle.inv_listing.specs.Composing.{Composes};
 ghost use Rattle.inv_listing.specs.Listing.{part_text, term_text, slot_text, inner_text, context_text, name_text};
 
+use crate::short::{Short, put};
 use inv_base::{Printer, Sink};
 use inv_terms::Name;
 use itoa::Buffer;
@@ -11,27 +14,38 @@ use term_table::{Context, Slot, Term};
 pub fn print_term<K: Sink>(term: Term, printer: &mut Printer, out: &mut K)
     ensures { Prints (term_text term) printer.old.failed printer.new.failed (K.view out.old) (K.view out.new) }
 {
-    let mut digits = Buffer::new();
-    if term.is_extension() {
-        printer.put(out, b"EXT-");
-        printer.put(out, digits.format(term.number - 1000).as_bytes());
-        return;
-    }
-    printer.put(out, b"BT-");
-    printer.put(out, digits.format(term.number).as_bytes());
-    print_part(term.part, printer, out);
+    let mut text = Short::new();
+    put_term(&mut text, term);
+    printer.put(out, text.as_slice());
 }
 
-/// Prints the part of a term, where it is one.
-fn print_part<K: Sink>(part: u8, printer: &mut Printer, out: &mut K)
-    ensures { Prints (part_text part) printer.old.failed printer.new.failed (K.view out.old) (K.view out.new) }
+/// Puts a term behind a short text.
+pub(crate) fn put_term(text: &mut Short, term: Term)
+    requires { array_vec_len text.old + 12 ≤ 128 }
+    ensures { Composes (term_text term) 12 text.old text.new }
+{
+    let mut digits = Buffer::new();
+    if term.is_extension() {
+        put(text, b"EXT-");
+        put(text, digits.format(term.number - 1000).as_bytes());
+        return;
+    }
+    put(text, b"BT-");
+    put(text, digits.format(term.number).as_bytes());
+    put_part(text, term.part);
+}
+
+/// Puts the part of a term, where it is one.
+fn put_part(text: &mut Short, part: u8)
+    requires { array_vec_len text.old + 4 ≤ 128 }
+    ensures { Composes (part_text part) 4 text.old text.new }
 {
     if part == 0 {
         return;
     }
     let mut digits = Buffer::new();
-    printer.put(out, b"-");
-    printer.put(out, digits.format(part).as_bytes());
+    put(text, b"-");
+    put(text, digits.format(part).as_bytes());
 }
 
 /// Prints what a fault names, behind a space: a term or a group, or nothing.
@@ -56,35 +70,47 @@ pub fn print_name<K: Sink>(name: Name, printer: &mut Printer, out: &mut K)
 pub fn print_context<K: Sink>(context: Context, printer: &mut Printer, out: &mut K)
     ensures { Prints (context_text context) printer.old.failed printer.new.failed (K.view out.old) (K.view out.new) }
 {
+    let mut text = Short::new();
+    put_context(&mut text, context);
+    printer.put(out, text.as_slice());
+}
+
+/// Puts the occurrences in which an entry stands behind a short text.
+pub(crate) fn put_context(text: &mut Short, context: Context)
+    requires { array_vec_len text.old + 40 ≤ 128 }
+    ensures { Composes (context_text context) 40 text.old text.new }
+{
     match context.outer {
         None => {}
         Some(slot) => {
-            print_slot(slot, printer, out);
-            print_inner(context.inner, printer, out);
+            put_slot(text, slot);
+            put_inner(text, context.inner);
         }
     }
 }
 
-/// Prints what follows the outer occurrence.
-fn print_inner<K: Sink>(inner: Option<Slot>, printer: &mut Printer, out: &mut K)
-    ensures { Prints (inner_text inner) printer.old.failed printer.new.failed (K.view out.old) (K.view out.new) }
+/// Puts what follows the outer occurrence.
+fn put_inner(text: &mut Short, inner: Option<Slot>)
+    requires { array_vec_len text.old + 21 ≤ 128 }
+    ensures { Composes (inner_text inner) 21 text.old text.new }
 {
     match inner {
-        None => printer.put(out, b" "),
+        None => put(text, b" "),
         Some(slot) => {
-            printer.put(out, b"/");
-            print_slot(slot, printer, out);
-            printer.put(out, b" ");
+            put(text, b"/");
+            put_slot(text, slot);
+            put(text, b" ");
         }
     }
 }
 
-fn print_slot<K: Sink>(slot: Slot, printer: &mut Printer, out: &mut K)
-    ensures { Prints (slot_text slot) printer.old.failed printer.new.failed (K.view out.old) (K.view out.new) }
+fn put_slot(text: &mut Short, slot: Slot)
+    requires { array_vec_len text.old + 19 ≤ 128 }
+    ensures { Composes (slot_text slot) 19 text.old text.new }
 {
     let mut digits = Buffer::new();
-    printer.put(out, slot.group.label().as_bytes());
-    printer.put(out, b"[");
-    printer.put(out, digits.format(slot.index).as_bytes());
-    printer.put(out, b"]");
+    put(text, slot.group.label().as_bytes());
+    put(text, b"[");
+    put(text, digits.format(slot.index).as_bytes());
+    put(text, b"]");
 }

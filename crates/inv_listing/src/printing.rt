@@ -1,8 +1,12 @@
-ghost use Rattle.std.specs.Prelude.{◌≡◌};
+ghost use Rattle.std.specs.Prelude.{◌≡◌, ◌≤◌, [], ◌∷◌, ◌++◌, chars, encode_utf8_all};
+ghost use Rattle.arrayvec.specs.ArrayVec.{array_vec_len};
 ghost use Rattle.inv_base.specs.Printing.{Prints, Printed};
+ghost use Rattle.inv_base.specs.Text.{quoted};
+ghost use Rattle.inv_listing.specs.Composing.{BeginsWithContext};
 ghost use Rattle.inv_listing.specs.Listing.{entry_line, passed_line, listing};
 
-use crate::names::{print_context, print_term};
+use crate::fronts::Front;
+use crate::plain::is_plain;
 use inv_base::{Printer, Sink};
 use inv_terms::{Entry, Invoice};
 use itoa::Buffer;
@@ -13,22 +17,40 @@ pub fn print_listing<K: Sink>(i: &Invoice, passed_over: u32, out: &mut K) -> boo
     ensures { Printed result (listing i.now passed_over) (K.view out.old) (K.view out.new) }
 {
     let mut printer = Printer::new();
+    let mut front = Front::new();
     'entries: for e in i.entries() {
-        print_entry(e, &mut printer, out);
+        print_entry(e, &mut front, &mut printer, out);
     }
     print_passed(passed_over, &mut printer, out);
     printer.failed
 }
 
-/// Prints the line of an entry.
-fn print_entry<K: Sink>(e: &Entry, printer: &mut Printer, out: &mut K)
-    ensures { Prints (entry_line e.now) printer.old.failed printer.new.failed (K.view out.old) (K.view out.new) }
+/// Prints the line of an entry, which becomes the one that the front is of.
+fn print_entry<K: Sink>(e: &Entry, front: &mut Front, printer: &mut Printer, out: &mut K)
+    requires { BeginsWithContext front.old }
+    ensures line { Prints (entry_line e.now) printer.old.failed printer.new.failed (K.view out.old) (K.view out.new) }
+    ensures begins { BeginsWithContext front.new }
 {
     let mut buf = [0; 40];
-    print_context(e.context, printer, out);
-    print_term(e.term, printer, out);
-    printer.put(out, b" ");
-    printer.put_quoted(out, e.value.text(&mut buf));
+    front.turn_to(e);
+    print_value(e.value.text(&mut buf), front, printer, out);
+}
+
+/// Prints the front of a line and the value behind it, in one piece where the value is short and stands for itself.
+fn print_value<K: Sink>(value: &str, front: &mut Front, printer: &mut Printer, out: &mut K)
+    requires begins { BeginsWithContext front.old }
+    requires room { array_vec_len front.old.text ≤ 53 }
+    ensures line { Prints (front.old.text.items ++ (encode_utf8_all (quoted (chars value.now)) ++ 0xA ∷ [])) printer.old.failed printer.new.failed
+        (K.view out.old) (K.view out.new) }
+    ensures begins { BeginsWithContext front.new }
+{
+    if is_plain(value.as_bytes()) {
+        front.end_by(value.as_bytes());
+        printer.put(out, front.text.as_slice());
+        return;
+    }
+    printer.put(out, front.text.as_slice());
+    printer.put_quoted(out, value);
     printer.put(out, b"\n");
 }
 

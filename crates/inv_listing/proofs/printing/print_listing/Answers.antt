@@ -12,4 +12,4 @@ returns g c =
     c.entries-e-items.ensures.entries) in
     subst (λ text. Printed c.print_passed.new.printer.failed (text ++ passed_line c.args.passed_over) (g.K.Sink.view c.args.out.now)
     (g.K.Sink.view c.print_passed.new.out)) all
-    (c.print_passed.ensures _ _ c.entries.invariant)
+    (c.print_passed.ensures _ _ c.entries.invariant.0)

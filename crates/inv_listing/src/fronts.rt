@@ -1,0 +1,71 @@
+ghost use Rattle.std.specs.Prelude.{◌≡◌, ◌+◌, ◌≤◌, [], ◌∷◌, ◌++◌, length};
+ghost use Rattle.arrayvec.specs.ArrayVec.{array_vec_len};
+ghost use Rattle.inv_listing.specs.Listing.{context_text, term_text};
+ghost use Rattle.inv_listing.specs.Composing.{BeginsWithContext, IsContextAlone};
+
+use crate::names::{put_context, put_term};
+use crate::short::{Short, put};
+use inv_terms::Entry;
+use term_table::{Context, ROOT};
+
+/// What stands in front of an entry's value: its context and its term, with a space behind each. The text of the context
+/// stays, so that it is made once for entries that follow one another in one context.
+#[derive(Drop)]
+pub(crate) struct Front {
+    pub(crate) text: Short,
+    context: Context,
+    /// How many bytes of the text are that of the context.
+    context_len: usize,
+}
+
+impl Front {
+    /// The front of no entry, at the root.
+    pub(crate) fn new() -> Front
+        ensures { BeginsWithContext result }
+    {
+        Front {
+            text: Short::new(),
+            context: ROOT,
+            context_len: 0,
+        }
+    }
+
+    /// Becomes the front of an entry.
+    pub(crate) fn turn_to(&mut self, e: &Entry)
+        requires { BeginsWithContext self.old }
+        ensures begins { BeginsWithContext self.new }
+        ensures text { self.new.text.items ≡ context_text e.now.context ++ (term_text e.now.term ++ 0x20 ∷ []) }
+        ensures room { array_vec_len self.new.text ≤ 53 }
+    {
+        self.turn_to_context(e.context);
+        put_term(&mut self.text, e.term);
+        put(&mut self.text, b" ");
+    }
+
+    /// Ends the line by a value that stands for itself, between quotes.
+    pub(crate) fn end_by(&mut self, value: &[u8])
+        requires begins { BeginsWithContext self.old }
+        requires room { array_vec_len self.old.text + length value.now + 3 ≤ 128 }
+        ensures begins { BeginsWithContext self.new }
+        ensures text { self.new.text.items ≡ self.old.text.items ++ (0x22 ∷ (value.now ++ 0x22 ∷ 0xA ∷ [])) }
+    {
+        put(&mut self.text, b"\"");
+        put(&mut self.text, value);
+        put(&mut self.text, b"\"\n");
+    }
+
+    /// Becomes the text of a context alone, which is made where it's another than before.
+    fn turn_to_context(&mut self, context: Context)
+        requires { BeginsWithContext self.old }
+        ensures { IsContextAlone context self.new }
+    {
+        if self.context.is_same(context) {
+            self.text.truncate(self.context_len);
+            return;
+        }
+        self.text.clear();
+        put_context(&mut self.text, context);
+        self.context = context;
+        self.context_len = self.text.len();
+    }
+}

@@ -46,19 +46,28 @@ fn key_of(coming: Coming, k: u64, seed: u64) -> u64 {
     }
 }
 
-/// Puts in the key's number where no value has the key, and answers whether both maps knew the same of it.
+/// Puts the key's number in both maps where no value has the key, and answers whether both knew the same of it.
 fn put(
     map: &mut OrderedMap<u64, Numbered>,
     told: &mut BTreeMap<u64, u64>,
     key: u64,
     number: u64,
 ) -> Result<bool, AllocError> {
-    match map.get(&key) {
-        Some(item) => Ok(told.get(&key) == Some(&item.number)),
-        None => {
-            map.insert(Numbered { key, number })?;
-            Ok(told.insert(key, number)?.is_none())
+    match map.insert(Numbered { key, number })? {
+        Some(back) => {
+            let given_back = back.key == key && back.number == number;
+            drop(back);
+            Ok(given_back && is_held(map, told, key))
         }
+        None => Ok(told.insert(key, number)?.is_none()),
+    }
+}
+
+/// Whether both maps have the same number at the key.
+fn is_held(map: &OrderedMap<u64, Numbered>, told: &BTreeMap<u64, u64>, key: u64) -> bool {
+    match map.get(&key) {
+        Some(item) => told.get(&key) == Some(&item.number),
+        None => false,
     }
 }
 

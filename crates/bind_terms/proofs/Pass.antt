@@ -1,8 +1,10 @@
 -- The steps of the pass over the picks.
 use Rattle.std.proofs.Common.{◌≡◌, ℕ, zero, suc, ◌+◌, ◌<◌, ◌≤◌, List, [], ◌∷◌, ◌++◌, length, get_or, take, map, All, Option, Some, None, is_some, true}
 use Rattle.std.proofs.Common.{option_map, Result, refl, sym, ap, ◌∙◌, subst, append_assoc, arith}
-use Rattle.std.specs.Prelude.{unwrap_or}
+use Rattle.std.specs.Prelude.{cond, unwrap_or}
 use Rattle.std.specs.Result.{OnOk}
+use Rattle.std.specs.Ordering.{nat_cmp, is_eq}
+use Rattle.std.specs.Cmp.Lexicographic.{slice_cmp}
 use Rattle.std.proofs.lemmas.Result.{on_ok_weaker}
 use Rattle.std.proofs.lemmas.Option.{same_Some}
 use Rattle.std.proofs.lemmas.List.{length-map, get_or-map, take_more}
@@ -35,7 +37,7 @@ use Rattle.bind_terms.specs.declared.firsts.First.{First}
 use Rattle.bind_terms.specs.Faults.{Puts}
 use Rattle.bind_terms.specs.Telling.{first_of, said_first, context_in, Entries, kept_at, Holds}
 use Rattle.bind_terms.specs.Steps.{row_numbered, IsOfRow, ArePlaced, said_by_row, told_at, put_entry, kept_behind, faults_at, Tells, TellsPick, TellsOf}
-use Rattle.bind_terms.specs.Steps.{TellsAll}
+use Rattle.bind_terms.specs.Steps.{TellsAll, faults_again}
 use Rattle.bind_terms.proofs.Tolds.{append-nil, puts-same}
 use Rattle.bind_terms.proofs.Holding.{holds-none, holds-more}
 
@@ -51,7 +53,7 @@ kept-said : (o : Option Told) → option_map said_first (option_map first_of o) 
 kept-said None = refl
 kept-said (Some f) = refl
 
-pub tells-one : (nodes : List Node) (lists : Lists) (invoice : Option (List ℕ)) (row : Row) (pick : PlacedPick) (one : Kept) (context : Context) (listed : ℕ)
+tells-one : (nodes : List Node) (lists : Lists) (invoice : Option (List ℕ)) (row : Row) (pick : PlacedPick) (one : Kept) (context : Context) (listed : ℕ)
     (kind : Option BindKind) (first : Option First)
     (old new : Entries) (was is : List Found → Type 0) → context ≡ context_in pick → Some listed ≡ row_of one.term context
     → first ≡ kept_at (row_place listed context) old
@@ -87,6 +89,53 @@ tells-one nodes lists invoice row pick one context listed kind first old new was
     holds-more nodes lists c before old was h t place at_it new is (puts-same was is _ _ fault_is fault)
     (put ∙ ap (put_entry old place) kept_first)
     (λ q. looked q ∙ ap (kept_behind q old place) kept_first)
+
+abbrev first_from : Context → ℕ → Kept → First
+first_from context listed one = record { context = context; row = listed; term = one.term; value = one.value }
+
+none-kept : {X Y : Type 0} (f : X → Y) (o : Option X) → None ≡ option_map f o → None ≡ o
+none-kept f None e = refl
+none-kept f (Some x) e = absurd (let bad : None ≡ Some (f x) = e in cc)
+
+kept-again : (o : Option First) (f back : First) (entries fresh : Option First) → Some back ≡ option_map (λ _. f) o
+    → (back ≡ f) × ((elim o as (λ _. Option First) [ None ↦ fresh | Some other ↦ entries ]) ≡ entries)
+kept-again None f back entries fresh e = absurd (let bad : Some back ≡ None = e in cc)
+kept-again (Some x) f back entries fresh e = (same_Some back f e, refl)
+
+-- the first of its term in its context
+pub tells-first : (nodes : List Node) (lists : Lists) (invoice : Option (List ℕ)) (row : Row) (pick : PlacedPick) (one : Kept) (context : Context) (listed : ℕ)
+    (kind : Option BindKind) (old new : Entries) (was is : List Found → Type 0) → context ≡ context_in pick → Some listed ≡ row_of one.term context
+    → None ≡ option_map (λ _. first_from context listed one) (kept_at (row_place listed context) old)
+    → kind ≡ kind_of nodes lists invoice row pick.node (context_in pick) None (said_of one)
+    → new ≡ put_entry old (row_place listed context) (first_from context listed one)
+    → ((q : List ℕ) → kept_at q new ≡ kept_behind q old (row_place listed context)
+    (first_from context listed one))
+    → Puts was is (faults_at kind pick.node pick.row one.term) → Tells nodes lists invoice pick row (said_of one ∷ []) old was new is
+tells-first nodes lists invoice row pick one context listed kind old new was is in_pick in_row none cause put looked fault =
+    tells-one nodes lists invoice row pick one context listed kind None old new was is in_pick in_row
+    (none-kept (λ _. first_from context listed one) (kept_at (row_place listed context) old) none)
+    cause put looked fault
+
+-- another of its term in its context
+pub tells-again : (nodes : List Node) (lists : Lists) (invoice : Option (List ℕ)) (row : Row) (pick : PlacedPick) (one : Kept) (context : Context) (listed : ℕ)
+    (back : First) (old new : Entries) (was is : List Found → Type 0) → context ≡ context_in pick → Some listed ≡ row_of one.term context
+    → Some back ≡ option_map (λ _. first_from context listed one) (kept_at (row_place listed context) old)
+    → new ≡ put_entry old (row_place listed context) (first_from context listed one)
+    → ((q : List ℕ) → kept_at q new ≡ kept_behind q old (row_place listed context)
+    (first_from context listed one))
+    → Puts was is (faults_again nodes lists invoice pick row back new) → Tells nodes lists invoice pick row (said_of one ∷ []) old was new is
+tells-again nodes lists invoice row pick one context listed back old new was is in_pick in_row some put looked fault =
+    let place : List ℕ = row_place listed context in
+    let f : First = first_from context listed one in
+    let w = kept-again (kept_at place old) f back (kept_at place old) (cond (is_eq (slice_cmp nat_cmp place place)) (Some f) (kept_at place old)) some in
+    let same : faults_again nodes lists invoice pick row back new
+    ≡ faults_at (kind_of nodes lists invoice row pick.node (context_in pick) (option_map said_first (kept_at place old)) (said_of one))
+    pick.node pick.row one.term =
+    ap (λ b. faults_again nodes lists invoice pick row b new) w.0
+    ∙ ap (λ o. faults_at (kind_of nodes lists invoice row pick.node (context_in pick) (option_map said_first o) (said_of one)) pick.node pick.row one.term)
+    (looked place ∙ w.1) in
+    tells-one nodes lists invoice row pick one context listed _ (kept_at place old) old new was is in_pick in_row refl refl put looked
+    (puts-same was is _ _ same fault)
 
 -- ---- all of a pick
 

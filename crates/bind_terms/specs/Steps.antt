@@ -1,9 +1,8 @@
 -- What the steps of the pass over the picks do.
-use Rattle.std.specs.Prelude.{◌≡◌, ◌<◌, ℕ, zero, suc, true, ◌||◌, List, [], ◌∷◌, Option, Some, None, is_some, is_none, slice_get, cond, ◌++◌, map, All}
+use Rattle.std.specs.Prelude.{◌≡◌, ◌<◌, ℕ, zero, suc, true, ◌||◌, List, [], ◌∷◌, Option, Some, None, is_some, is_none, option_map, slice_get, ◌++◌, map, All}
 use Rattle.std.specs.Option.{ForSome}
-use Rattle.std.specs.Ordering.{nat_cmp, is_eq}
+use Rattle.std.specs.Ordering.{nat_cmp}
 use Rattle.std.specs.Cmp.Lexicographic.{slice_cmp}
-use Rattle.std.specs.BTreeMap.{insert_entry}
 use Rattle.term_table.specs.declared.terms.Term.{Term}
 use Rattle.term_table.specs.declared.contexts.Context.{Context}
 use Rattle.term_table.specs.Places.{place_of}
@@ -21,9 +20,11 @@ use Rattle.bind_meaning.specs.Kept.{kept_placed, all_kept_placed}
 use Rattle.bind_meaning.specs.Judging.{Found, found, rank, Told, told_by}
 use Rattle.bind_meaning.specs.Terms.{told}
 use Rattle.inv_base.specs.Tree.{Node}
+use Rattle.ordered_map.specs.Entries.{entries_behind, value_behind}
 use Rattle.code_lists.specs.CodeFiles.{Lists}
 use Rattle.bind_terms.specs.declared.firsts.First.{First}
-use Rattle.bind_terms.specs.Telling.{context_in, Entries, kept_at, Holds}
+use Rattle.bind_terms.specs.Kinds.{kind_of}
+use Rattle.bind_terms.specs.Telling.{said_first, place_of_first, context_in, Entries, kept_at, Holds}
 
 -- the row of a number, from 1
 abbrev pub row_numbered : List Row → ℕ → Option Row
@@ -69,20 +70,23 @@ told_at p said = record { placed = p; said = said }
 
 -- the entries with one more, where none of its place is among them
 abbrev pub put_entry : Entries → List ℕ → First → Entries
-put_entry entries place first = elim (kept_at place entries) [ None ↦ insert_entry (slice_cmp nat_cmp) entries place first | Some other ↦ entries ]
+put_entry = entries_behind (slice_cmp nat_cmp)
 
 -- what is kept at a place behind that
 abbrev pub kept_behind : List ℕ → Entries → List ℕ → First → Option First
-kept_behind q entries place first = elim (kept_at place entries) [
-  | None ↦ cond (is_eq (slice_cmp nat_cmp place q)) (Some first) (kept_at q entries)
-  | Some other ↦ kept_at q entries
-]
+kept_behind = value_behind (slice_cmp nat_cmp)
 
 abbrev pub fault_at : BindKind → ℕ → ℕ → Term → Found
 fault_at kind node row term = found (node ∷ (0 ∷ (row ∷ (rank kind ∷ [])))) kind (names.Term term) node
 
 abbrev pub faults_at : Option BindKind → ℕ → ℕ → Term → List Found
 faults_at kind node row term = elim kind [ None ↦ [] | Some k ↦ fault_at k node row term ∷ [] ]
+
+-- the faults of what is said where something of its place was told before
+abbrev pub faults_again : List Node → Lists → Option (List ℕ) → PlacedPick → Row → First → Entries → List Found
+faults_again nodes lists invoice pick row f entries =
+    faults_at (kind_of nodes lists invoice row pick.node (context_in pick) (option_map said_first (kept_at (place_of_first f) entries)) (said_first f))
+    pick.node pick.row f.term
 
 -- ---- what each step of the pass leaves, behind whatever was told before
 

@@ -1,14 +1,14 @@
 //! One pass over the picks: what each says, the first of each term in each context, and all faults at nodes.
-ghost use Rattle.std.specs.Prelude.{◌≡◌, ◌<◌, [], ◌∷◌, List, ℕ, All, Some, OnOk, option_map, option_copied, is_none, is_some, true};
+ghost use Rattle.std.specs.Prelude.{◌≡◌, ◌<◌, [], ◌∷◌, All, Some, OnOk, option_copied, is_some, true};
 ghost use Rattle.term_table.specs.Places as places;
 ghost use Rattle.term_table.specs.Rows as rows;
 ghost use Rattle.bind_meaning.specs.Seats as seats;
 ghost use Rattle.bind_terms.specs.Sayings.{said_of, all_said};
 ghost use Rattle.bind_terms.specs.Faults.{found_of, Puts};
 ghost use Rattle.bind_terms.specs.Scenes.{nodes_of, count, rows_of, lists_of, currency_of};
-ghost use Rattle.bind_terms.specs.Telling.{context_in, place_of_first, kept_at};
-ghost use Rattle.bind_terms.specs.Steps.{IsWithin, ArePlaced, said_by_row, SaysPlaced, Tells, TellsPick, TellsOf, TellsAll, HasRow, row_numbered, put_entry};
-ghost use Rattle.bind_terms.specs.Steps.{kept_behind, faults_at, fault_at};
+ghost use Rattle.bind_terms.specs.Telling.{context_in};
+ghost use Rattle.bind_terms.specs.Steps.{IsWithin, ArePlaced, said_by_row, SaysPlaced, Tells, TellsPick, TellsOf, TellsAll, HasRow, row_numbered};
+ghost use Rattle.bind_terms.specs.Steps.{faults_again, faults_at, fault_at};
 
 use crate::causes::first_cause;
 use crate::firsts::{First, Firsts};
@@ -22,9 +22,10 @@ use bind_table::Binding;
 use inv_base::Steps;
 use inv_terms::Name;
 use node_arena::NodeId;
+use ordered_map::Keyed;
 use std::alloc::AllocError;
 use std::sync::ledger::Ledger;
-use term_table::{Context, ListingPlace, Slot, Term, place_at, row_of};
+use term_table::{Context, Slot, Term, row_of};
 
 fn slot_of(seat: Option<Seated>) -> Option<Slot>
     ensures { result ≡ seats.slot_of seat }
@@ -160,10 +161,7 @@ fn tell<L: Ledger, K: Keeper>(
     let term = said.term;
     let context = context_of(rowed.pick);
     let listed = row_in(term, context);
-    let place = place_at(listed as usize, context);
-    let first = firsts.get(&place);
-    let is_first = first.is_none();
-    let kind = first_cause(scene, rowed, first, &said, steps)?;
+    let kind = first_cause(scene, rowed, None, &said, steps)?;
     let Said { term: _, value } = said;
     let told = First {
         context,
@@ -171,7 +169,35 @@ fn tell<L: Ledger, K: Keeper>(
         term,
         value,
     };
-    put_first(firsts, told, is_first)?;
+    match firsts.insert(told)? {
+        None => put_cause(keeper, kind, rowed.pick, term),
+        Some(again) => tell_again(scene, rowed, again, firsts, keeper, steps),
+    }
+}
+
+// The fault of a value that isn't the first of its term in its context, where there is one.
+fn tell_again<L: Ledger, K: Keeper>(
+    scene: &Scene<'_, '_>,
+    rowed: &RowedPick<'_>,
+    again: First,
+    firsts: &Firsts,
+    keeper: &mut K,
+    steps: &mut Steps<L>,
+) -> Result<(), AllocError>
+    requires { IsWithin (count scene.now) rowed.now.pick.now }
+    ensures { OnOk result (Puts (K.given keeper.old) (K.given keeper.new) (faults_again (nodes_of scene.now) (lists_of scene.now) (currency_of scene.now)
+        rowed.now.pick.now rowed.now.row.now again firsts.now.entries)) }
+{
+    let first = firsts.get(&again.key());
+    let First {
+        context: _,
+        row: _,
+        term,
+        value,
+    } = again;
+    let said = Said { term, value };
+    let kind = first_cause(scene, rowed, first, &said, steps)?;
+    drop(said);
     put_cause(keeper, kind, rowed.pick, term)
 }
 
@@ -184,20 +210,6 @@ fn row_in(term: Term, context: Context) -> u32
         Some(row) => row as u32,
         None => unreachable!(),
     }
-}
-
-// Puts it by where none of its place is yet.
-fn put_first(firsts: &mut Firsts, first: First, is_first: bool) -> Result<(), AllocError>
-    requires { is_first ≡ is_none (kept_at (place_of_first first) firsts.old.entries) }
-    ensures entries { OnOk result (firsts.new.entries ≡ put_entry firsts.old.entries (place_of_first first) first) }
-    ensures look_up { OnOk result ((q : List ℕ) → kept_at q firsts.new.entries ≡ kept_behind q firsts.old.entries (place_of_first first) first) }
-{
-    if is_first {
-        firsts.insert(first)?;
-    } else {
-        drop(first);
-    }
-    Ok(())
 }
 
 // The fault of a cause at the pick's node, where there is one.

@@ -1,7 +1,8 @@
 -- One more put in, and the least taken, of a list of values and the entries beside it.
-use Rattle.std.proofs.Common.{◌≡◌, ℕ, cond, true, false, List, [], ◌∷◌, ◌++◌, length, get_or, drop, Option, Some, None, refl, sym, ap, ◌∙◌, subst}
+use Rattle.std.proofs.Common.{◌≡◌, ℕ, cond, Bool, true, false, List, [], ◌∷◌, ◌++◌, length, get_or, drop, Option, Some, None, refl, sym, ap, ◌∙◌, subst}
 use Rattle.std.proofs.Common.{arith, Ordering}
 use Rattle.std.specs.Cmp.{IsTotalOrder}
+use Rattle.std.specs.Prelude.{is_some, option_map}
 use Rattle.std.specs.Option.{option_to_list}
 use Rattle.std.specs.Ordering.{is_eq, is_lt}
 use Rattle.std.specs.declared.cmp.Ordering.TheVariants.{Less, Equal, Greater}
@@ -16,9 +17,9 @@ use Rattle.std.proofs.lemmas.Map.Entries.{lookup_tail}
 use Rattle.std.proofs.lemmas.List.Elements.{All-from_recursion}
 use Rattle.ordered_map.specs.declared.places.Place.{Place}
 use Rattle.ordered_map.specs.declared.places.Place.TheVariants as places
-use Rattle.ordered_map.specs.Entries.{with_keys, value_at, value_behind, put_all, entries_of, AreApart, HaveTheirKeys}
+use Rattle.ordered_map.specs.Entries.{with_keys, value_at, entries_behind, value_behind, put_all, entries_of, AreApart, HaveTheirKeys}
 use Rattle.ordered_map.specs.Places.{IsPlace}
-use Rattle.ordered_map.specs.Merging.{ArePutIn, IsTaken, IsTakenIfAny, is_other_next}
+use Rattle.ordered_map.specs.Merging.{ArePutIn, ArePut, IsTaken, IsTakenIfAny, is_other_next}
 use Rattle.ordered_map.proofs.EntryLemmas.{each-weaker, or_else, less-back, greater-trans, other-back, Ascend, Lacks, above-head, put-less, keys-put}
 use Rattle.ordered_map.proofs.EntryLemmas.{entries-put, put-before, put-among, lacks-put, value-put, value-all, ascend-put}
 use Rattle.ordered_map.proofs.EntryLemmas.{ascend-all, each-all, in-front, values-of, own-keys}
@@ -77,13 +78,59 @@ module _ {K X : Type 0} {cmp : K → K → Ordering} (total : IsTotalOrder cmp) 
       };
     }
 
-  pub values-behind : (sorted : List X) (others : List (K × X)) (v : X) (new : List X) (new_others : List (K × X))
-      → ArePutIn cmp key_of sorted others v new new_others
+  pub values-behind : (sorted : List X) (others : List (K × X)) (v : X) (back : Option X) (new : List X) (new_others : List (K × X))
+      → ArePut cmp key_of sorted others v back new new_others
       → (whole : List (K × X)) → entries_of cmp key_of sorted others ≡ whole → (k : K)
       → value_at cmp k (entries_of cmp key_of new new_others) ≡ value_behind cmp k whole (key_of v) v
-  values-behind sorted others v new new_others put whole view_is k =
-      ap (value_at cmp k) (put.entries ∙ ap (λ es. insert_entry cmp es (key_of v) v) view_is)
-      ∙ (value-put cmp total k (key_of v) v whole ∙ ap (λ b. cond b (Some v) (value_at cmp k whole)) ((eq_by_cmp_equiv total).symm k (key_of v)))
+  values-behind sorted others v None new new_others put whole view_is k =
+      ap (value_at cmp k) (put.1.entries ∙ ap (λ es. insert_entry cmp es (key_of v) v) view_is)
+      ∙ (value-put cmp total k (key_of v) v whole
+      ∙ (ap (λ b. cond b (Some v) (value_at cmp k whole)) ((eq_by_cmp_equiv total).symm k (key_of v))
+      ∙ ap (λ o. elim o as (λ _. Option X) [
+        | None ↦ cond (is_eq (cmp (key_of v) k)) (Some v) (value_at cmp k whole)
+        | Some other ↦ value_at cmp k whole
+      ]) (sym (ap (value_at cmp (key_of v)) (sym view_is) ∙ put.0))))
+  values-behind sorted others v (Some back) new new_others put whole view_is k =
+      let whole_is : entries_of cmp key_of new new_others ≡ whole =
+      ap (λ l. entries_of cmp key_of l new_others) put.2 ∙ (ap (entries_of cmp key_of sorted) put.3 ∙ view_is) in
+      ap (value_at cmp k) whole_is
+      ∙ held (value_at cmp (key_of v) whole) (ap (λ es. is_some (value_at cmp (key_of v) es)) (sym view_is) ∙ put.0)
+    where
+      held : (o : Option X) → is_some o ≡ true → value_at cmp k whole ≡ (elim o as (λ _. Option X) [
+        | None ↦ cond (is_eq (cmp (key_of v) k)) (Some v) (value_at cmp k whole)
+        | Some other ↦ value_at cmp k whole
+      ])
+      held None h = absurd (false≢true h)
+      held (Some x) h = refl
+
+  pub entries-are_behind : (sorted : List X) (others : List (K × X)) (v : X) (back : Option X) (new : List X) (new_others : List (K × X))
+      → ArePut cmp key_of sorted others v back new new_others
+      → (whole : List (K × X)) → entries_of cmp key_of sorted others ≡ whole
+      → entries_of cmp key_of new new_others ≡ entries_behind cmp whole (key_of v) v
+  entries-are_behind sorted others v None new new_others put whole view_is =
+      put.1.entries ∙ (ap (λ es. insert_entry cmp es (key_of v) v) view_is
+      ∙ ap (λ o. elim o as (λ _. List (K × X)) [ None ↦ insert_entry cmp whole (key_of v) v | Some other ↦ whole ])
+      (sym (ap (value_at cmp (key_of v)) (sym view_is) ∙ put.0)))
+  entries-are_behind sorted others v (Some back) new new_others put whole view_is =
+      ap (λ l. entries_of cmp key_of l new_others) put.2 ∙ (ap (entries_of cmp key_of sorted) put.3 ∙ (view_is
+      ∙ held (value_at cmp (key_of v) whole) (ap (λ es. is_some (value_at cmp (key_of v) es)) (sym view_is) ∙ put.0)))
+    where
+      held : (o : Option X) → is_some o ≡ true
+          → whole ≡ (elim o as (λ _. List (K × X)) [ None ↦ insert_entry cmp whole (key_of v) v | Some other ↦ whole ])
+      held None h = absurd (false≢true h)
+      held (Some x) h = refl
+
+  pub back-is : (sorted : List X) (others : List (K × X)) (v : X) (back : Option X) (new : List X) (new_others : List (K × X))
+      → ArePut cmp key_of sorted others v back new new_others
+      → (whole : List (K × X)) → entries_of cmp key_of sorted others ≡ whole → back ≡ option_map (λ _. v) (value_at cmp (key_of v) whole)
+  back-is sorted others v None new new_others put whole view_is =
+      ap (option_map (λ _. v)) (sym (ap (value_at cmp (key_of v)) (sym view_is) ∙ put.0))
+  back-is sorted others v (Some back) new new_others put whole view_is =
+      ap Some put.1 ∙ held (value_at cmp (key_of v) whole) (ap (λ es. is_some (value_at cmp (key_of v) es)) (sym view_is) ∙ put.0)
+    where
+      held : (o : Option X) → is_some o ≡ true → Some v ≡ option_map (λ _. v) o
+      held None h = absurd (false≢true h)
+      held (Some x) h = refl
 
   -- ---- the least taken
 
@@ -166,24 +213,12 @@ module _ {K X : Type 0} {cmp : K → K → Ordering} (total : IsTotalOrder cmp) 
 
   -- ---- by what a search answered
 
-  module _ (sorted : List X) (others : List (K × X)) (a : AreApart cmp key_of sorted others) (v : X)
-      (absent : value_at cmp (key_of v) (entries_of cmp key_of sorted others) ≡ None) (q : K) (is : q ≡ key_of v)
-      (seen : List X) (sees : seen ≡ sorted) (p : Place) (found : IsPlace (λ x. cmp q (key_of x)) seen p) where
-    place-is : (r : Place) → p ≡ r → IsPlace (λ x. cmp (key_of v) (key_of x)) sorted r
-    place-is r e = subst (λ l. IsPlace (λ x. cmp (key_of v) (key_of x)) l r) sees
-        (subst (λ k. IsPlace (λ x. cmp k (key_of x)) seen r) is (subst (IsPlace (λ x. cmp q (key_of x)) seen) e found))
-
-    pub not-there : (k : ℕ) → p ≡ places.At k → ⊥
-    not-there k e =
-        let there : IsPlace (λ x. cmp (key_of v) (key_of x)) sorted (places.At k) = place-is (places.At k) e in
-        let value : value_at cmp (key_of v) (with_keys key_of sorted) ≡ Some (get_or sorted k v) =
-        value-at_place key_of total (key_of v) sorted a.sorted_ascend k (get_or sorted k v) there.0 there.1
-        (any-default sorted k v (get_or sorted k v) there.0) in
-        absurd (let n : Some (get_or sorted k v) ≡ None = sym value ∙ (in_neither sorted others a v absent).0 in cc)
-
-    pub put-there : (k : ℕ) → p ≡ places.Before k → (new : List X) → new ≡ insert sorted k v → ArePutIn cmp key_of sorted others v new others
-    put-there k e new n = subst (λ l. ArePutIn cmp key_of sorted others v l others) (sym n)
-        (put-in_list sorted others a v absent k (place-is (places.Before k) e))
+  pub put-there : (sorted : List X) (others : List (K × X)) (a : AreApart cmp key_of sorted others) (v : X)
+      (absent : value_at cmp (key_of v) (entries_of cmp key_of sorted others) ≡ None) (k : ℕ)
+      → IsPlace (λ x. cmp (key_of v) (key_of x)) sorted (places.Before k) → (new : List X) → new ≡ insert sorted k v
+      → ArePutIn cmp key_of sorted others v new others
+  put-there sorted others a v absent k found new n =
+      subst (λ l. ArePutIn cmp key_of sorted others v l others) (sym n) (put-in_list sorted others a v absent k found)
 
   pub put-beside : (sorted : List X) (others : List (K × X)) → AreApart cmp key_of sorted others → (v : X)
       → value_at cmp (key_of v) (entries_of cmp key_of sorted others) ≡ None
@@ -194,7 +229,7 @@ module _ {K X : Type 0} {cmp : K → K → Ordering} (total : IsTotalOrder cmp) 
   module _ (sorted : List X) (others : List (K × X)) (a : AreApart cmp key_of sorted others) (whole : List (K × X))
       (view_is : entries_of cmp key_of sorted others ≡ whole)
       (q : K) (seen : List X) (sees : seen ≡ sorted) (p : Place) (found : IsPlace (λ x. cmp q (key_of x)) seen p) where
-    place-seen : (r : Place) → p ≡ r → IsPlace (λ x. cmp q (key_of x)) sorted r
+    pub place-seen : (r : Place) → p ≡ r → IsPlace (λ x. cmp q (key_of x)) sorted r
     place-seen r e = subst (λ l. IsPlace (λ x. cmp q (key_of x)) l r) sees (subst (IsPlace (λ x. cmp q (key_of x)) seen) e found)
 
     pub value-there : (k : ℕ) (x : X) → p ≡ places.At k → x ≡ get_or sorted k x → Some x ≡ value_at cmp q whole
@@ -208,6 +243,30 @@ module _ {K X : Type 0} {cmp : K → K → Ordering} (total : IsTotalOrder cmp) 
         is ∙ sym (ap (value_at cmp q) (sym view_is) ∙ (value-in_two sorted others a q
         ∙ ap (λ b. or_else b (value_at cmp q others))
         (none-at_place key_of total q sorted k ((place-seen (places.Before k) e).below, (place-seen (places.Before k) e).above))))
+
+    -- whether there is a value, by what a search answered
+
+    pub there-some : (k : ℕ) (v : X) → q ≡ key_of v → p ≡ places.At k → is_some (value_at cmp (key_of v) whole) ≡ true
+    there-some k v is e =
+        ap (λ y. is_some (value_at cmp y whole)) (sym is)
+        ∙ ap is_some (sym (value-there k (get_or sorted k v) e (any-default sorted k v (get_or sorted k v) (place-seen (places.At k) e).0)))
+
+    beside-is : (k : ℕ) (v : X) (b : Bool) → q ≡ key_of v → p ≡ places.Before k → b ≡ is_some (value_at cmp q others)
+        → is_some (value_at cmp (key_of v) whole) ≡ b
+    beside-is k v b is e b_is =
+        ap (λ y. is_some (value_at cmp y whole)) (sym is) ∙ (ap is_some (sym (value-beside k (value_at cmp q others) e refl)) ∙ sym b_is)
+
+    pub beside-some : (k : ℕ) (v : X) (b : Bool) → q ≡ key_of v → p ≡ places.Before k → b ≡ is_some (value_at cmp q others) → b ≡ true
+        → is_some (value_at cmp (key_of v) whole) ≡ true
+    beside-some k v b is e b_is h = beside-is k v b is e b_is ∙ h
+
+    pub beside-none : (k : ℕ) (v : X) (b : Bool) → q ≡ key_of v → p ≡ places.Before k → b ≡ is_some (value_at cmp q others) → b ≡ false
+        → value_at cmp (key_of v) whole ≡ None
+    beside-none k v b is e b_is h = none (value_at cmp (key_of v) whole) (beside-is k v b is e b_is ∙ h)
+      where
+        none : (o : Option X) → is_some o ≡ false → o ≡ None
+        none None n = refl
+        none (Some x) n = absurd (false≢true (sym n))
 
   -- ---- all entries
 

@@ -24,9 +24,16 @@ module _ {K X : Type 0} where
   abbrev pub value_at : (K → K → Ordering) → K → List (K × X) → Option X
   value_at cmp key entries = lookup (is_at (cmp key)) entries
 
-  -- the value at a key, behind a new value at another
+  -- entries with a new one, or as they are where the key has a value
+  abbrev pub entries_behind : (K → K → Ordering) → List (K × X) → K → X → List (K × X)
+  entries_behind cmp entries new value = elim (value_at cmp new entries) [ None ↦ insert_entry cmp entries new value | Some other ↦ entries ]
+
+  -- the value at a key behind that
   abbrev pub value_behind : (K → K → Ordering) → K → List (K × X) → K → X → Option X
-  value_behind cmp key entries new value = cond (is_eq (cmp new key)) (Some value) (value_at cmp key entries)
+  value_behind cmp key entries new value = elim (value_at cmp new entries) [
+    | None ↦ cond (is_eq (cmp new key)) (Some value) (value_at cmp key entries)
+    | Some other ↦ value_at cmp key entries
+  ]
 
   -- entries with others put in, one after the other
   abbrev pub put_all : (K → K → Ordering) → List (K × X) → List (K × X) → List (K × X)

@@ -1,8 +1,7 @@
-ghost use Rattle.std.specs.Prelude.{◌≡◌, [], None, OnOk, OnErr, IfOk, option_copied};
+ghost use Rattle.std.specs.Prelude.{◌≡◌, [], OnOk, OnErr, IfOk, option_copied, option_map};
 ghost use Rattle.std.specs.List.Sorted.{IsStrictlySortedBy};
 ghost use Rattle.std.specs.Map.{keys_of, values_of};
-ghost use Rattle.std.specs.BTreeMap.{insert_entry};
-ghost use Rattle.ordered_map.specs.Entries.{value_at, value_behind, HaveTheirKeys};
+ghost use Rattle.ordered_map.specs.Entries.{value_at, entries_behind, value_behind, HaveTheirKeys};
 
 use crate::keyed::Keyed;
 use crate::merging::{merged, put};
@@ -83,10 +82,11 @@ impl<K: Ord + Copy, V: Keyed<K>> OrderedMap<K, V> {
 }
 
 impl<K: Ord + Copy, V: Keyed<K> + Drop> OrderedMap<K, V> {
-    /// Puts in a value of a new key. Without memory for it nothing changes.
-    pub fn insert(&mut self, value: V) -> Result<(), AllocError>
-        requires { value_at K.cmp (V.key_of value) self.old.entries ≡ None }
-        ensures ok { OnOk result (self.new.entries ≡ insert_entry K.cmp self.old.entries (V.key_of value) value) }
+    /// Puts in a value of a new key. Where its key has a value already, that one stays and the other is given back. Without memory
+    /// nothing changes.
+    pub fn insert(&mut self, value: V) -> Result<Option<V>, AllocError>
+        ensures back { IfOk result (λ back. back ≡ option_map (λ _. value) (value_at K.cmp (V.key_of value) self.old.entries)) }
+        ensures ok { OnOk result (self.new.entries ≡ entries_behind K.cmp self.old.entries (V.key_of value) value) }
         ensures values { OnOk result ((k : K) → value_at K.cmp k self.new.entries ≡ value_behind K.cmp k self.old.entries (V.key_of value) value) }
         ensures err { OnErr result (self.new.entries ≡ self.old.entries) }
     {

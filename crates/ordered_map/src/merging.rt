@@ -1,8 +1,10 @@
 //! A list of values in the order of their keys and the entries beside it: one more, or all of them in one list.
 ghost use Rattle.std.specs.Prelude.{◌≡◌, None, OnOk, OnErr, IfOk};
 ghost use Rattle.std.specs.Map.{values_of};
+ghost use Rattle.ordered_map.specs.declared.places.Place.TheVariants as places;
 ghost use Rattle.ordered_map.specs.Entries.{value_at, entries_of, AreApart};
-ghost use Rattle.ordered_map.specs.Merging.{ArePutIn, IsTakenIfAny, is_other_next};
+ghost use Rattle.ordered_map.specs.Merging.{ArePut, ArePutIn, IsTakenIfAny, is_other_next};
+ghost use Rattle.ordered_map.specs.Places.{IsPlace};
 
 use crate::keyed::Keyed;
 use crate::places::{Place, place_of};
@@ -13,26 +15,46 @@ use std::collections::{BTreeMap, VecDeque};
 /// How many values of the list a new one may push on. Where more would have to move, it goes beside the list.
 const NEAR: usize = 32;
 
-/// Puts in a value of a new key.
+/// Puts in a value of a new key, or gives it back where its key has a value already.
 pub(crate) fn put<K: Ord + Copy, V: Keyed<K> + Drop>(
     sorted: &mut Vec<V>,
     others: &mut BTreeMap<K, V>,
     value: V,
-) -> Result<(), AllocError>
-    requires are_apart { AreApart K.cmp V.key_of sorted.old.items others.old.entries }
-    requires absent { value_at K.cmp (V.key_of value) (entries_of K.cmp V.key_of sorted.old.items others.old.entries) ≡ None }
-    ensures ok { OnOk result (ArePutIn K.cmp V.key_of sorted.old.items others.old.entries value sorted.new.items others.new.entries) }
+) -> Result<Option<V>, AllocError>
+    requires { AreApart K.cmp V.key_of sorted.old.items others.old.entries }
+    ensures ok { IfOk result (λ back. ArePut K.cmp V.key_of sorted.old.items others.old.entries value back sorted.new.items others.new.entries) }
     ensures sorted { OnErr result (sorted.new.items ≡ sorted.old.items) }
     ensures others { OnErr result (others.new.entries ≡ others.old.entries) }
 {
     let key = value.key();
     let Place::Before(place) = place_of(sorted.as_slice(), &key) else {
-        unreachable!()
+        return Ok(Some(value));
     };
+    if others.contains_key(&key) {
+        return Ok(Some(value));
+    }
+    put_new(sorted, others, place, value)?;
+    Ok(None)
+}
+
+// Puts in a value of a new key, which belongs at the place of the list.
+fn put_new<K: Ord + Copy, V: Keyed<K> + Drop>(
+    sorted: &mut Vec<V>,
+    others: &mut BTreeMap<K, V>,
+    place: usize,
+    value: V,
+) -> Result<(), AllocError>
+    requires are_apart { AreApart K.cmp V.key_of sorted.old.items others.old.entries }
+    requires absent { value_at K.cmp (V.key_of value) (entries_of K.cmp V.key_of sorted.old.items others.old.entries) ≡ None }
+    requires place { IsPlace (λ x. K.cmp (V.key_of value) (V.key_of x)) sorted.old.items (places.Before place) }
+    ensures ok { OnOk result (ArePutIn K.cmp V.key_of sorted.old.items others.old.entries value sorted.new.items others.new.entries) }
+    ensures sorted { OnErr result (sorted.new.items ≡ sorted.old.items) }
+    ensures others { OnErr result (others.new.entries ≡ others.old.entries) }
+{
     if sorted.len() - place <= NEAR {
         sorted.insert(place, value)?;
     } else {
-        drop(others.insert(key, value)?);
+        drop(others.insert(value.key(), value)?);
     }
     Ok(())
 }

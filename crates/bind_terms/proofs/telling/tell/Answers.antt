@@ -1,13 +1,18 @@
-use Rattle.std.proofs.Common.{ap, ◌∙◌}
+use Rattle.std.proofs.Common.{sym, ◌∙◌}
 use Rattle.std.proofs.lemmas.Result.{on_ok_weaker}
-use Rattle.bind_terms.specs.Telling.{kept_at}
-use Rattle.bind_terms.proofs.Pass.{tells-one}
+use Rattle.bind_terms.proofs.Pass.{tells-first, tells-again}
 use Rattle.bind_terms.proofs.telling.tell.Goals as goal
 
-pub returns : goal.returns
-returns g c =
+pub returns-in-None : goal.returns-in-None
+returns-in-None g c =
     on_ok_weaker c.put_cause.result
-    (λ put. tells-one _ _ _ _ _ c.args.said _ _ _ _ _ _ _ _ c.context_of-context.ensures c.row_in-listed.ensures
-    (c.get-first.ensures ∙ ap (λ place. kept_at place c.args.firsts.now.entries) c.place_at-place.ensures) c.in_ok-kind.ensures
-    c.in_ok-put_first.ensures.entries
-    c.in_ok-put_first.ensures.look_up put) c.put_cause.ensures
+    (tells-first _ _ _ _ _ c.args.said c.context_of-context.result c.row_in-listed.result _ _ _ _ _ c.context_of-context.ensures c.row_in-listed.ensures
+    (sym c.in-None.is ∙ c.in_ok-insert.ensures.back) c.in_ok-kind.ensures c.in_ok-insert.ensures.ok c.in_ok-insert.ensures.values)
+    c.put_cause.ensures
+
+pub returns-in-Some : goal.returns-in-Some
+returns-in-Some g c =
+    on_ok_weaker c.tell_again.result
+    (tells-again _ _ _ _ _ c.args.said c.context_of-context.result c.row_in-listed.result c.in-Some.again _ _ _ _ c.context_of-context.ensures
+    c.row_in-listed.ensures (sym c.in-Some.is ∙ c.in_ok-insert.ensures.back) c.in_ok-insert.ensures.ok c.in_ok-insert.ensures.values)
+    c.tell_again.ensures

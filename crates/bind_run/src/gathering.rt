@@ -5,15 +5,13 @@ ghost use Rattle.bind_table.specs.WellFormed.{first_fault};
 ghost use Rattle.bind_meaning.specs.Currencies.{currencies};
 ghost use Rattle.bind_meaning.specs.Faults.{passed_nodes};
 ghost use Rattle.bind_meaning.specs.Kept.{all_kept, all_kept_placed};
-ghost use Rattle.bind_meaning.specs.Picks.{all_picked, rows_where, has_any_term};
-ghost use Rattle.bind_meaning.specs.Terms.{in_order, term_picks, place_all};
+ghost use Rattle.bind_meaning.specs.Terms.{in_order};
 ghost use Rattle.bind_terms.specs.Reading.{indicator_picks, term_places};
 
-use bind_meaning::Picked;
 use bind_seats::{Seating, seat};
 use bind_table::Binding;
 use bind_walk::{Picks, pick_all};
-use inv_base::{Steps, Txt};
+use inv_base::Steps;
 use node_arena::Doc;
 use std::alloc::{AllocError, Global};
 use std::mem::replace;
@@ -52,30 +50,11 @@ pub(crate) fn gather<L: Ledger>(
 {
     let mut others = pick_all(alloc, doc, table, steps)?;
     let terms = replace(&mut others.terms, Vec::new(alloc));
-    match seat_all(alloc, doc, table, terms, steps) {
+    match seat(alloc, doc, table, terms, steps) {
         Ok(seating) => Ok(Gathered { others, seating }),
         Err(error) => {
             drop(others);
             Err(error)
         }
     }
-}
-
-fn seat_all<L: Ledger>(
-    alloc: Global,
-    doc: &Doc<'_>,
-    table: &Binding,
-    terms: Vec<Picked>,
-    steps: &mut Steps<L>,
-) -> Result<Seating, AllocError>
-    requires formed { first_fault table.now ≡ Ok tt }
-    requires picks { terms.items
-        ≡ all_kept (in_order (tree_nodes doc.now) (all_picked (tree_nodes doc.now) (rows_where has_any_term table.now))) }
-    ensures picks { IfOk result (λ s. s.picks.items ≡ all_kept_placed (place_all (tree_nodes doc.now)
-        (term_picks (tree_nodes doc.now) (currencies (tree_nodes doc.now) table.now) table.now))) }
-    ensures currency { IfOk result (λ s. s.invoice_currency ≡ (currencies (tree_nodes doc.now) table.now).invoice) }
-{
-    let seating = seat(alloc, doc, table, terms.as_slice(), steps);
-    drop(terms);
-    seating
 }

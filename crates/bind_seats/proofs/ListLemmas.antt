@@ -1,11 +1,11 @@
 -- Lists, their tests and their numbers.
-use Rattle.std.proofs.Common.{◌≡◌, ℕ, ◌<◌, Bool, true, false, ◌&&◌, ◌||◌, List, [], ◌∷◌, ◌++◌, get_or, Option, Some, None, refl, sym, ap, ◌∙◌, cond, inl, inr}
-use Rattle.std.proofs.Common.{arith}
+use Rattle.std.proofs.Common.{◌≡◌, ℕ, ◌+◌, ◌<◌, Bool, true, false, ◌&&◌, ◌||◌, List, [], ◌∷◌, ◌++◌, length, drop, get_or, Option, Some, None, refl, sym, ap}
+use Rattle.std.proofs.Common.{subst, ◌∙◌, cond, inl, inr, arith}
 use Rattle.std.specs.Prelude.{◌==◌, filter, map, flat_map, find, filter_map, option_map}
 use Rattle.std.specs.List.{list_any, All, AllByRecursion, cons_option}
 use Rattle.std.proofs.lemmas.Bool.{false≢true, cases_Bool, cases_order, eqb-true}
 use Rattle.std.proofs.lemmas.Bool.Decides.{nat_tests}
-use Rattle.std.proofs.lemmas.List.{map-append}
+use Rattle.std.proofs.lemmas.List.{map-append, get_or-drop}
 use Rattle.std.proofs.lemmas.List.Concat.{flat_map-append}
 use Rattle.std.proofs.lemmas.List.Elements.{All-nil, All-head, All-tail, All-append}
 use Rattle.inv_base.specs.Tree.{is_among}
@@ -105,6 +105,17 @@ All-each P h xs = λ k d l. h (get_or xs k d)
 
 pub All-both : {X : Type 0} (P Q : X → Type 0) (xs : List X) → All P xs → All Q xs → All (λ x. P x × Q x) xs
 All-both P Q xs p q = λ k d l. (p k d l, q k d l)
+
+-- the item at a place from which on both lists are the same
+item-same : {X : Type 0} (xs ys : List X) (k : ℕ) (d : X) → drop k xs ≡ drop k ys → get_or xs k d ≡ get_or ys k d
+item-same xs ys k d e =
+    let at : k + 0 ≡ k = omega arith in
+    sym (get_or-drop k xs 0 d ∙ ap (λ i. get_or xs i d) at) ∙ (ap (λ zs. get_or zs 0 d) e ∙ (get_or-drop k ys 0 d ∙ ap (λ i. get_or ys i d) at))
+
+-- What holds of all items of a list holds of the item of another list at a place from which on both are the same.
+pub All-same-behind : {X : Type 0} (P : X → Type 0) (xs ys : List X) (k : ℕ) (x : X) → All P xs → drop k ys ≡ drop k xs → k < length xs → x ≡ get_or ys k x
+    → P x
+All-same-behind P xs ys k x h e less is = subst P (sym (is ∙ item-same ys xs k x e)) (h k x less)
 
 -- ---- any of them
 

@@ -36,15 +36,16 @@ same_currencies nodes s rows table e qs h a b x y =
     let named : record { invoice = a; accounting = b } ≡ named_currencies nodes rows qs = λ i. record { invoice = x i; accounting = y i } in
     named ∙ (ap (λ (r : List Row). named_currencies nodes r qs) e ∙ currencies-of nodes s table qs h)
 
-pub kept_terms : (nodes : List Node) → Sound nodes → (rows table : List Row) → rows ≡ table → (qs : List Picked) → qs ≡ all_kept (whole nodes table)
-    → (c : Currencies) → c ≡ currencies nodes table
-    → (marks others : List Mark) → marks ≡ others → ((m : Mark) → has_mark others m ≡ has_mark (marks_beside nodes rows qs) m) → (kept : List Picked)
+pub kept_terms : (nodes : List Node) → Sound nodes → (rows table : List Row) → rows ≡ table → (lent qs : List Picked) → lent ≡ qs
+    → qs ≡ all_kept (whole nodes table) → (c : Currencies) → c ≡ currencies nodes table
+    → (marks others : List Mark) → marks ≡ others → ((m : Mark) → has_mark others m ≡ has_mark (marks_beside nodes rows lent) m) → (kept : List Picked)
     → kept ≡ filter (stays nodes rows c marks) qs
     → kept ≡ all_kept (term_picks nodes (currencies nodes table) table)
-kept_terms nodes s rows table e qs h c same marks others is has kept k =
+kept_terms nodes s rows table e lent qs l h c same marks others is has kept k =
     k ∙ (ap (λ (ms : List Mark). filter (stays nodes rows c ms) qs) is
     ∙ (ap (λ (r : List Row). filter (stays nodes r c others) qs) e
-    ∙ staying-of nodes s table qs h c (currencies nodes table) same others (λ m. has m ∙ ap (λ (r : List Row). has_mark (marks_beside nodes r qs) m) e)))
+    ∙ staying-of nodes s table qs h c (currencies nodes table) same others
+    (λ m. has m ∙ (ap (λ (xs : List Picked). has_mark (marks_beside nodes rows xs) m) l ∙ ap (λ (r : List Row). has_mark (marks_beside nodes r qs) m) e))))
 
 pub seated_terms : StepLaw → (nodes : List Node) → Sound nodes → (rows table : List Row) → rows ≡ table → first_fault table ≡ Ok tt
     → (c : Currencies) (qs kept : List Picked) → qs ≡ kept

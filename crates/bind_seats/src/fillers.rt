@@ -160,25 +160,28 @@ fn stays<L: Ledger>(
     currencies.suit(scene.alloc, scene.doc, row, pick.node, steps)
 }
 
-/// The picks that count, in their order.
+/// The picks that count, in their order. They are moved to the front of the list that is given, so that there is no second one.
 pub(crate) fn staying<L: Ledger>(
     scene: &Scene<'_, '_>,
     currencies: &Currencies,
     marks: &[Mark],
-    picks: &[Picked],
+    mut picks: Vec<Picked>,
     steps: &mut Steps<L>,
 ) -> Result<Vec<Picked>, AllocError>
-    requires within { AreWithin (length scene.now.doc.now.nodes) picks.now }
-    requires rowed { AreRowed (length scene.now.rows.now) picks.now }
+    requires within { AreWithin (length scene.now.doc.now.nodes) picks.items }
+    requires rowed { AreRowed (length scene.now.rows.now) picks.items }
     requires order { rises marks.now ≡ true }
     ensures { IfOk result (λ kept. kept.items ≡ filter (spec.stays (tree_nodes scene.now.doc.now) scene.now.rows.now
-        (record { invoice = currencies.now.invoice; accounting = currencies.now.accounting }) marks.now) picks.now) }
+        (record { invoice = currencies.now.invoice; accounting = currencies.now.accounting }) marks.now) picks.items) }
 {
-    let mut kept = Vec::with_capacity(scene.alloc, picks.len())?;
-    'picks: for pick in picks {
-        if stays(scene, currencies, marks, pick, steps)? {
-            kept.push(*pick)?;
+    let mut count = 0;
+    'picks: for place in 0..picks.len() {
+        let pick = picks[place];
+        if stays(scene, currencies, marks, &pick, steps)? {
+            picks[count] = pick;
+            count += 1;
         }
     }
-    Ok(kept)
+    picks.truncate(count);
+    Ok(picks)
 }

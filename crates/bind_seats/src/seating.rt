@@ -40,16 +40,16 @@ impl Drop for Seating {
 
 /// The picks of rows with a term, without fillers and without VAT totals of the other currency, each with the occurrences
 /// of groups in which it stands (EN 16931-1, section 6.2). Occurrences of a group are numbered from 1 in document order,
-/// those of an inner group in each occurrence of the outer one.
+/// those of an inner group in each occurrence of the outer one. The list that is given serves for the picks that stay.
 pub fn seat<L: Ledger>(
     alloc: Global,
     doc: &Doc<'_>,
     table: &Binding,
-    picks: &[Picked],
+    picks: Vec<Picked>,
     steps: &mut Steps<L>,
 ) -> Result<Seating, AllocError>
     requires formed { first_fault table.now ≡ Ok tt }
-    requires picks { picks.now
+    requires picks { picks.items
         ≡ all_kept (in_order (tree_nodes doc.now) (all_picked (tree_nodes doc.now) (rows_where has_any_term table.now))) }
     ensures picks { IfOk result (λ s. s.picks.items ≡ all_kept_placed (place_all (tree_nodes doc.now)
         (term_picks (tree_nodes doc.now) (currencies (tree_nodes doc.now) table.now) table.now))) }
@@ -58,7 +58,7 @@ pub fn seat<L: Ledger>(
     nodes_are_sound(doc);
     let rows = table.rows();
     let scene = Scene { alloc, doc, rows };
-    let named = Currencies::named(&scene, picks, steps)?;
+    let named = Currencies::named(&scene, picks.as_slice(), steps)?;
     match seats_of(alloc, doc, table, &named, picks, steps) {
         Ok(picks) => {
             let Currencies {
@@ -84,11 +84,11 @@ fn seats_of<L: Ledger>(
     doc: &Doc<'_>,
     table: &Binding,
     named: &Currencies,
-    picks: &[Picked],
+    picks: Vec<Picked>,
     steps: &mut Steps<L>,
 ) -> Result<Vec<PlacedPick>, AllocError>
     requires formed { first_fault table.now ≡ Ok tt }
-    requires picks { picks.now
+    requires picks { picks.items
         ≡ all_kept (in_order (tree_nodes doc.now) (all_picked (tree_nodes doc.now) (rows_where has_any_term table.now))) }
     requires named { record { invoice = named.now.invoice; accounting = named.now.accounting }
         ≡ currencies (tree_nodes doc.now) table.now }
@@ -107,10 +107,10 @@ fn kept_picks<L: Ledger>(
     doc: &Doc<'_>,
     table: &Binding,
     named: &Currencies,
-    picks: &[Picked],
+    picks: Vec<Picked>,
     steps: &mut Steps<L>,
 ) -> Result<Vec<Picked>, AllocError>
-    requires picks { picks.now
+    requires picks { picks.items
         ≡ all_kept (in_order (tree_nodes doc.now) (all_picked (tree_nodes doc.now) (rows_where has_any_term table.now))) }
     requires named { record { invoice = named.now.invoice; accounting = named.now.accounting }
         ≡ currencies (tree_nodes doc.now) table.now }
@@ -120,6 +120,6 @@ fn kept_picks<L: Ledger>(
     nodes_are_sound(doc);
     let rows = table.rows();
     let scene = Scene { alloc, doc, rows };
-    let marks = marks_beside(&scene, picks, steps)?;
+    let marks = marks_beside(&scene, picks.as_slice(), steps)?;
     staying(&scene, named, marks.as_slice(), picks, steps)
 }

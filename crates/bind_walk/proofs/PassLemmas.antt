@@ -1,18 +1,19 @@
 -- Where names lead along the lines of a table is where they lead along its rows.
-use Rattle.std.proofs.Common.{◌≡◌, ℕ, zero, suc, ◌+◌, ◌<◌, ◌≤◌, Bool, true, false, cond, List, [], ◌∷◌, ◌++◌, length, take, drop, get_or, Some, None, refl, ap}
-use Rattle.std.proofs.Common.{sym, ◌∙◌, subst, arith, append_assoc, length-append, length-drop, ⊎_elim}
-use Rattle.std.specs.Prelude.{filter, map, not, ◌&&◌, ◌||◌, nat_lt}
+use Rattle.std.proofs.Common.{◌≡◌, ℕ, zero, suc, ◌+◌, ◌-◌, ◌<◌, ◌≤◌, Bool, true, false, cond, List, [], ◌∷◌, ◌++◌, length, take, drop, get_or, Option, Some}
+use Rattle.std.proofs.Common.{None, refl, ap, sym, ◌∙◌, subst, arith, append_assoc, length-append, length-drop, inl, inr}
+use Rattle.std.specs.Prelude.{filter, map, not, ◌&&◌, ◌||◌, ◌==◌, nat_lt, slice_get}
 use Rattle.std.specs.List.{All, list_any}
-use Rattle.std.proofs.lemmas.List.{append-nil, map-append, drop_more, drop_all, take_more, take_all, take-append-le, get_or-map, get_or-take}
-use Rattle.std.proofs.lemmas.List.{get_or_append_left, get_or_at, length_push, length-map, length-take, length-take-le}
+use Rattle.std.proofs.lemmas.List.{append-nil, map-append, drop_more, drop_all, take_at, take_more, take_all, get_or-map, get_or-take}
+use Rattle.std.proofs.lemmas.List.{get_or_append_left, length-map, length-take, length-take-le}
+use Rattle.std.proofs.lemmas.Option.{slice_get-get_or, get_or_from_slice_get}
 use Rattle.std.proofs.lemmas.List.Elements.{All-append, All-cons, All-nil, filter-append, filter_agree}
-use Rattle.std.proofs.lemmas.Bool.{cases_lt, lt-ltb, le-ltb}
+use Rattle.std.proofs.lemmas.Bool.{false≢true, lt-ltb, le-ltb, eqb-true, or_cases}
 use Rattle.std.proofs.lemmas.List.Folds.{list_any-append}
 use Rattle.std.proofs.Math.Seq.{get_or-append_seam, drop-append_seam}
-use Rattle.inv_base.specs.Tree.{Node}
+use Rattle.inv_base.specs.Tree.{Node, is_among}
 use Rattle.inv_base.specs.declared.tree.Kind.TheVariants as kinds
 use Rattle.node_arena.specs.Document.{Document, document_node, node_at}
-use Rattle.node_arena.specs.Moves.{node_of, tree_nodes, tree_node, has_found, parent}
+use Rattle.node_arena.specs.Moves.{node_of, tree_nodes, tree_node, has_found, nearest, parent}
 use Rattle.bind_rows.specs.declared.rows.Row.{Row}
 use Rattle.bind_rows.specs.declared.rows.Step.{Step}
 use Rattle.bind_rows.specs.Same.{same_step, choose}
@@ -23,14 +24,15 @@ use Rattle.bind_meaning.specs.Faults.{passed_nodes}
 use Rattle.bind_meaning.specs.Terms.{names_row, is_on_a_way, is_passed_over, turned, without_first, way_to}
 use Rattle.bind_walk.specs.Chains.{number}
 use Rattle.bind_walk.specs.declared.lines.FoundLine.{FoundLine}
+use Rattle.bind_walk.specs.declared.passed.Opened.{Opened}
 use Rattle.bind_walk.specs.declared.passed.Span.{Span}
 use Rattle.bind_walk.specs.Lines.{lined}
 use Rattle.bind_walk.specs.Found.{found_element, is_same_number}
 use Rattle.bind_walk.specs.Walks.{line_of}
 use Rattle.bind_walk.proofs.NumberLemmas.{number-says, none-found}
 use Rattle.bind_walk.specs.Passing.{inside_named, insides, led, some_plan, path_of, state, is_passed, roots_of, IsSpan, IsSomeSpan, SpansOf, AreSpans}
-use Rattle.bind_walk.specs.Passing.{AddsNamed, part, LeadsInside, IsPart, no_part, Reaches, AreReached, IsReached, some_of, is_left, Begins, one_if}
-use Rattle.bind_walk.specs.Passing.{LeadsThrough}
+use Rattle.bind_walk.specs.Passing.{AddsNamed, part, LeadsInside, IsPart, no_part, OnWay, Stands, IsAround, IsNear, IsSomeNear, StandsAt, IsBefore}
+use Rattle.bind_walk.specs.Passing.{IsSomeBefore, IsReached, some_of, is_left, first_spans, Begins, one_if, LeadsThrough}
 
 -- ---- tests
 
@@ -450,13 +452,6 @@ module _ (d : Document) where
 
 -- ---- parts
 
-pub part-more : (plans more : List Plan) (p : Span) (own : List Plan) → IsPart plans p own → IsPart (plans ++ more) p own
-part-more plans more p own s = record {
-  ordered = s.ordered;
-  within = let e = length-append plans more in omega (arith, s.within, e);
-  is = ap (drop p.from) (take-append-le p.to plans more s.within) ∙ s.is;
-}
-
 pub part-new : (plans more : List Plan) (p : Span) → p.from ≡ length plans → p.to ≡ length (plans ++ more) → IsPart (plans ++ more) p more
 part-new plans more p from_is to_is = record {
   ordered = let e = length-append plans more in omega (arith, from_is, to_is, e);
@@ -475,69 +470,176 @@ some-part plans p own s =
     at [] e = le-ltb p.from p.to (omega (arith, e))
     at (plan ∷ ps) e = lt-ltb p.from p.to (omega (arith, e))
 
--- ---- the nodes so far
+-- ---- a node and those around it
 
 pub kinds-are : (d : Document) (n : ℕ) → n < length d.nodes → is_element (tree_node (tree_nodes d) n) ≡ is_element_kind (node_at d.nodes n).kind
 kinds-are d n within = ap is_element (get_or-map (node_of d.names) d.nodes n document_node _ within)
 
+last-is : (around way : List Opened) (own last : Opened) → way ≡ around ++ own ∷ [] → Some last ≡ slice_get way (length way - 1) → last ≡ own
+last-is around way own last is read =
+    let long = ap length is ∙ length-append around (own ∷ []) in
+    let place : length way - 1 ≡ length around = omega (arith, long) in
+    sym (get_or_from_slice_get way (length way - 1) last own (sym read))
+    ∙ (ap (λ k. get_or way k own) place ∙ (ap (λ ws. get_or ws (length around) own) is ∙ get_or-append_seam around own [] own))
+
 module _ (d : Document) (lines : List FoundLine) where
-  not-not : (b : Bool) → not (not b) ≡ b
-  not-not true = refl
-  not-not false = refl
+  spans-take : (spans : List Span) (plans : List Plan) (k : ℕ) → SpansOf d lines spans plans → SpansOf d lines (take k spans) (take k plans)
+  spans-take spans plans zero h = tt
+  spans-take [] [] (suc k) h = tt
+  spans-take [] (p ∷ plans) (suc k) h = absurd h
+  spans-take (s ∷ spans) [] (suc k) h = absurd h
+  spans-take (s ∷ spans) (p ∷ plans) (suc k) h = (h.0, spans-take spans plans k h.1)
 
-  pub around-part : (roots : List Plan) (spans parts : List Span) (m k p : ℕ) (around : Span) (r : Reaches d lines roots spans parts m) → p < m → k ≡ p
-      → around ≡ get_or parts k no_part
-      → IsPart r.plans around (state d roots p)
-  around-part roots spans parts m k p around r below place read =
-      let is : around ≡ get_or parts p no_part = read ∙ ap (λ j. get_or parts j no_part) place in
-      subst (λ a. IsPart r.plans a (state d roots p)) (sym is) (r.each p below)
+  -- ---- out to a node around
 
-  pub around_fits : (spans parts : List Span) (m k p : ℕ) (around : Span) → AreReached d lines spans parts m → p < m → k ≡ p → around ≡ get_or parts k no_part
-      → around.to ≤ length spans
-  around_fits spans parts m k p around a below place read =
-      let own = around-part a.roots spans parts m k p around a.reaches below place read in
-      let long = spans-long d lines spans a.reaches.plans a.reaches.are in
-      omega (arith, own.within, long)
+  pub near_some : (spans : List Span) (way : List Opened) (p : ℕ) → IsSomeNear d lines spans way p → None ≡ slice_get way (length way - 1) → ⊥
+  near_some spans way p s read =
+      let on = s.near.stands.on in
+      let own : Opened = record { node = s.near.at; from = length on.1 } in
+      let long = ap length on.2 ∙ length-append on.0 (own ∷ []) in
+      none_some (slice_get way (length way - 1)) _ (sym read) (slice_get-get_or way (length way - 1) own (omega (arith, long)))
+    where
+      none_some : (o : Option Opened) (x : Opened) → o ≡ None → o ≡ Some x → ⊥
+      none_some o x e f = cc
 
-  pub are_spans : (spans parts : List Span) (m : ℕ) → AreReached d lines spans parts m → AreSpans d lines spans
-  are_spans spans parts m a = record { plans = a.reaches.plans; are = a.reaches.are }
+  pub near_here : (roots : List Plan) (spans : List Span) (way : List Opened) (p : ℕ) (last : Opened) (own : Span) → IsNear d lines roots spans way p
+      → Some last ≡ slice_get way (length way - 1) → last.node ≡ p → own ≡ record { from = last.from; to = length spans }
+      → StandsAt d lines roots spans way p own
+  near_here roots spans way p last own n read here own_is =
+      let on = n.stands.on in
+      let is : last ≡ record { node = n.at; from = length on.1 } = last-is on.0 way _ last on.2 read in
+      let from_is : own.from ≡ length on.1 = ap (λ (s : Span). s.from) own_is ∙ ap (λ (o : Opened). o.from) is in
+      let to_is : own.to ≡ length spans = ap (λ (s : Span). s.to) own_is in
+      let long : length spans ≡ length (on.1 ++ state d roots n.at) = spans-long d lines spans n.stands.plans n.stands.are ∙ ap length on.3 in
+      let whole : StandsAt d lines roots spans way n.at own = record {
+        stands = n.stands;
+        is = subst (λ ps. IsPart ps own (state d roots n.at)) (sym on.3) (part-new on.1 (state d roots n.at) own from_is (to_is ∙ long));
+        ends = to_is;
+      } in
+      subst (λ k. StandsAt d lines roots spans way k own) (sym (ap (λ (o : Opened). o.node) is) ∙ here) whole
 
-  pub reached_more : LeadsThrough d → (roots : List Plan) (spans parts : List Span) (m p k : ℕ) (around inside : Span) (more_spans more_parts : List Span)
-      (passed : Bool)
-      → m < length d.nodes → Reaches d lines roots spans parts m → parent (tree_nodes d) m ≡ Some p → p < m → k ≡ p → around ≡ get_or parts k no_part
-      → inside.from ≡ length spans → inside.to ≡ length more_spans → LeadsInside d lines around m spans more_spans → more_parts ≡ parts ++ inside ∷ []
-      → passed ≡ (is_element_kind (node_at d.nodes m).kind && is_left around inside) → IsReached d lines roots more_spans more_parts m passed
-  reached_more through roots spans parts m p k around inside more_spans more_parts passed within r parent_is below place read from_is to_is leads more_is
-      passed_is =
+  among-path : (p q : ℕ) → is_among p (path_of d q) ≡ true → IsAround d p q
+  among-path p q h = elim (or_cases (p == q) (is_among p (tree_node (tree_nodes d) q).above) h) [
+    | inl e ↦ inl (eqb-true p q e)
+    | inr i ↦ inr i
+  ]
+
+  near-out : LeadsThrough d → (roots : List Plan) (spans cut : List Span) (way fewer : List Opened) (p : ℕ) (last : Opened)
+      → IsNear d lines roots spans way p → Some last ≡ slice_get way (length way - 1) → (last.node ≡ p → ⊥)
+      → fewer ≡ take (length way - 1) way → cut ≡ take last.from spans → IsNear d lines roots cut fewer p
+  near-out through roots spans cut way fewer p last n read other fewer_is cut_is =
+      go (tree_node (tree_nodes d) n.at).above refl inside
+    where
+      on : OnWay d roots way n.stands.plans (path_of d n.at)
+      on = n.stands.on
+
+      own : Opened
+      own = record { node = n.at; from = length on.1 }
+
+      is : last ≡ own
+      is = last-is on.0 way own last on.2 read
+
+      inside : is_among p (tree_node (tree_nodes d) n.at).above ≡ true
+      inside = elim n.around [ inl e ↦ absurd (other (ap (λ (o : Opened). o.node) is ∙ sym e)) | inr h ↦ h ]
+
+      fewer-are : fewer ≡ on.0
+      fewer-are = let long = ap length on.2 ∙ length-append on.0 (own ∷ []) in
+          fewer_is ∙ (ap (take (length way - 1)) on.2 ∙ take_at on.0 (own ∷ []) (length way - 1) (omega (arith, long)))
+
+      plans-are : take last.from n.stands.plans ≡ on.1
+      plans-are = ap (take last.from) on.3 ∙ take_at on.1 (state d roots n.at) last.from (sym (ap (λ (o : Opened). o.from) is))
+
+      go : (ns : List ℕ) → (tree_node (tree_nodes d) n.at).above ≡ ns → is_among p ns ≡ true → IsNear d lines roots cut fewer p
+      go [] e h = absurd (false≢true h)
+      go (q ∷ ns) e h =
+          let up : (tree_node (tree_nodes d) n.at).above ≡ path_of d q = through.inside_one n.at q on.4 (ap nearest e) in
+          record {
+            at = q;
+            stands = record {
+              plans = on.1;
+              are = subst (λ ss. SpansOf d lines ss on.1) (sym cut_is)
+                  (subst (SpansOf d lines (take last.from spans)) plans-are (spans-take spans n.stands.plans last.from n.stands.are));
+              on = subst (λ ws. OnWay d roots ws on.1 (path_of d q)) (sym fewer-are) (subst (OnWay d roots on.0 on.1) up on.5);
+            };
+            around = among-path p q (ap (is_among p) (sym up) ∙ inside);
+          }
+
+  -- What was near at first is near still.
+  pub record Coming (p : ℕ) (spans : List Span) (way : List Opened) (left : List Span) (fewer : List Opened) : Type 0 where
+    pub some : IsSomeNear d lines left fewer p
+    pub all : (roots : List Plan) → IsNear d lines roots spans way p → IsNear d lines roots left fewer p
+
+  pub coming_begin : (p : ℕ) (spans : List Span) (way : List Opened) → IsSomeNear d lines spans way p → Coming p spans way spans way
+  coming_begin p spans way some = record { some = some; all = λ roots near. near }
+
+  pub coming_more : LeadsThrough d → (p : ℕ) (spans : List Span) (way : List Opened) (left : List Span) (fewer : List Opened) (last : Opened)
+      (cut : List Span) (rest : List Opened)
+      → Coming p spans way left fewer → Some last ≡ slice_get fewer (length fewer - 1) → (last.node ≡ p → ⊥)
+      → rest ≡ take (length fewer - 1) fewer → cut ≡ take last.from left → Coming p spans way cut rest
+  coming_more through p spans way left fewer last cut rest c read other rest_is cut_is = record {
+    some = record { roots = c.some.roots; near = near-out through c.some.roots left cut fewer rest p last c.some.near read other rest_is cut_is };
+    all = λ roots near. near-out through roots left cut fewer rest p last (c.all roots near) read other rest_is cut_is;
+  }
+
+  -- ---- from a node to the next
+
+  pub near_before : LeadsThrough d → (roots : List Plan) (spans : List Span) (way : List Opened) (m p : ℕ) → m < length d.nodes
+      → parent (tree_nodes d) m ≡ Some p → IsBefore d lines roots spans way m → IsNear d lines roots spans way p
+  near_before through roots spans way m p within parent_is b = record {
+    at = b.last;
+    stands = b.stands;
+    around = through.next b.last p (let e = b.is in omega (arith, within, e)) (subst (λ k. parent (tree_nodes d) k ≡ Some p) b.is parent_is);
+  }
+
+  pub some_near : LeadsThrough d → (spans : List Span) (way : List Opened) (m p : ℕ) → m < length d.nodes → parent (tree_nodes d) m ≡ Some p
+      → IsSomeBefore d lines spans way m → IsSomeNear d lines spans way p
+  some_near through spans way m p within parent_is s =
+      record { roots = s.roots; near = near_before through s.roots spans way m p within parent_is s.before }
+
+  pub stands_fit : (roots : List Plan) (spans : List Span) (way : List Opened) (n : ℕ) (own : Span) → StandsAt d lines roots spans way n own
+      → own.to ≤ length spans
+  stands_fit roots spans way n own s = let e = s.ends in omega (arith, e)
+
+  pub stands_spans : (roots : List Plan) (spans : List Span) (way : List Opened) (n : ℕ) (own : Span) → StandsAt d lines roots spans way n own
+      → AreSpans d lines spans
+  stands_spans roots spans way n own s = record { plans = s.stands.plans; are = s.stands.are }
+
+  pub reached_more : LeadsThrough d → (roots : List Plan) (m p : ℕ) (spans : List Span) (way : List Opened) (around inside : Span) (more_spans : List Span)
+      (more_way : List Opened) (passed : Bool)
+      → m < length d.nodes → StandsAt d lines roots spans way p around → parent (tree_nodes d) m ≡ Some p
+      → inside.from ≡ length spans → inside.to ≡ length more_spans → LeadsInside d lines around m spans more_spans
+      → more_way ≡ way ++ record { node = m; from = inside.from } ∷ []
+      → passed ≡ (is_element_kind (node_at d.nodes m).kind && is_left around inside) → IsReached d lines roots more_spans more_way m passed
+  reached_more through roots m p spans way around inside more_spans more_way passed within s parent_is from_is to_is leads way_is passed_is =
+      let plans : List Plan = s.stands.plans in
       let above = through.inside_one m p within parent_is in
-      let own = around-part roots spans parts m k p around r below place read in
+      let own : IsPart plans around (state d roots p) = s.is in
       let next : state d roots m ≡ insides d m (state d roots p) = state-more d roots m p above in
-      let more : List Plan = insides d m (part r.plans around) in
-      let are : SpansOf d lines more_spans (r.plans ++ more) = leads r.plans r.are in
+      let more : List Plan = insides d m (part plans around) in
+      let are : SpansOf d lines more_spans (plans ++ more) = leads plans s.stands.are in
       let is : more ≡ state d roots m = ap (insides d m) own.is ∙ sym next in
-      let here : IsPart (r.plans ++ more) inside (state d roots m) =
-      subst (IsPart (r.plans ++ more) inside) is
-      (part-new r.plans more inside (from_is ∙ spans-long d lines spans r.plans r.are) (to_is ∙ spans-long d lines more_spans (r.plans ++ more) are)) in
+      let from : inside.from ≡ length plans = from_is ∙ spans-long d lines spans plans s.stands.are in
+      let here : IsPart (plans ++ more) inside (state d roots m) =
+      subst (IsPart (plans ++ more) inside) is (part-new plans more inside from (to_is ∙ spans-long d lines more_spans (plans ++ more) are)) in
       let node = tree_node (tree_nodes d) m in
       let on_around : some_of around ≡ some_plan (led d roots (way_to node.above)) =
-      some-part r.plans around (state d roots p) own ∙ ap (λ a. some_plan (led d roots (way_to a))) (sym above) in
+      some-part plans around (state d roots p) own ∙ ap (λ a. some_plan (led d roots (way_to a))) (sym above) in
       let on_here : some_of inside ≡ some_plan (led d roots (way_to (node.number ∷ node.above))) =
-      some-part (r.plans ++ more) inside (state d roots m) here
+      some-part (plans ++ more) inside (state d roots m) here
       ∙ ap (λ n. some_plan (led d roots (way_to (n ∷ node.above)))) (sym (through.numbers m within)) in
+      let behind : OnWay d roots way plans (tree_node (tree_nodes d) m).above = subst (OnWay d roots way plans) (sym above) s.stands.on in
       record {
-        reaches = record {
-          plans = r.plans ++ more;
+        stands = record {
+          plans = plans ++ more;
           are = are;
-          long = ap length more_is ∙ (length_push parts inside ∙ ap (λ n. n + 1) r.long);
-          each = λ j h. ⊎_elim
-              (λ (before : j < m). subst (λ q. IsPart (r.plans ++ more) q (state d roots j))
-              (sym (ap (λ ps. get_or ps j no_part) more_is ∙ get_or_append_left parts (inside ∷ []) no_part j (omega (arith, before, r.long))))
-              (part-more r.plans more (get_or parts j no_part) (state d roots j) (r.each j before)))
-              (λ (behind : m ≤ j). let e : m ≡ j = omega (arith, behind, h) in
-              subst (λ i. IsPart (r.plans ++ more) (get_or more_parts i no_part) (state d roots i)) e
-              (subst (λ q. IsPart (r.plans ++ more) q (state d roots m))
-              (sym (ap (λ ps. get_or ps m no_part) more_is ∙ get_or_at parts inside [] no_part m r.long)) here))
-              (cases_lt j m);
+          on = (
+            way,
+            plans,
+            way_is ∙ ap (λ n. way ++ record { node = m; from = n } ∷ []) from,
+            ap (λ ps. plans ++ ps) is,
+            within,
+            behind,
+          );
         };
         is = passed_is
             ∙ (ap (λ b. b && is_left around inside) (sym (through.kinds_are m within))
@@ -546,38 +648,33 @@ module _ (d : Document) (lines : List FoundLine) where
             ∙ and-elim (is_element node) (some_plan (led d roots (way_to node.above)) && not (some_plan (led d roots (way_to (node.number ∷ node.above))))))));
       }
 
-  one-reached : (roots : List Plan) (spans parts : List Span) (p : Span) → SpansOf d lines spans roots → IsPart roots p (state d roots 0) → parts ≡ p ∷ []
-      → Reaches d lines roots spans parts 1
-  one-reached roots spans parts p are own is = record {
-    plans = roots;
-    are = are;
-    long = ap length is;
-    each = λ k h. (let z : 0 ≡ k = omega (arith, h) in
-        subst (λ j. IsPart roots (get_or parts j no_part) (state d roots j)) z
-        (subst (λ ps. IsPart roots (get_or ps 0 no_part) (state d roots 0)) (sym is) own));
-  }
+  spans-begin : (rows : List Row) → lines ≡ lined d (plan_of rows) → SpansOf d lines (first_spans rows lines) (roots_of rows)
+  spans-begin [] is = tt
+  spans-begin (row ∷ rows) is = (
+    record {
+      front = [];
+      back = [];
+      is = is ∙ sym (append-nil (lined d (plan_of (row ∷ rows))));
+      begins = refl;
+      ends = (let e = ap length is in omega arith);
+    },
+    tt,
+  )
 
-  pub reaches-begin : LeadsThrough d → (rows : List Row) (spans parts : List Span) → lines ≡ lined d (plan_of rows) → Begins rows lines spans parts
-      → Reaches d lines (roots_of rows) spans parts 1
-  reaches-begin through [] spans parts is begins =
-      one-reached [] spans parts no_part (subst (λ ss. SpansOf d lines ss []) (sym begins.0) tt)
-      (record { ordered = omega arith; within = omega arith; is = sym (state-begin d [] through.outermost) }) begins.1
-  reaches-begin through (row ∷ rows) spans parts is begins =
-      let roots : List Plan = plan_of (row ∷ rows) ∷ [] in
-      let whole : IsSpan d lines 0 (length lines) (plan_of (row ∷ rows)) =
+  stands-begin : LeadsThrough d → (rows : List Row) (spans : List Span) (way : List Opened) → lines ≡ lined d (plan_of rows)
+      → Begins 0 rows lines spans way → Stands d lines (roots_of rows) spans way 0
+  stands-begin through rows spans way is begins =
+      let some : 0 < length d.nodes = let r = through.rooted in omega (arith, r) in
+      let none : OnWay d (roots_of rows) [] [] (tree_node (tree_nodes d) 0).above = subst (OnWay d (roots_of rows) [] []) (sym through.outermost) tt in
       record {
-        front = [];
-        back = [];
-        is = is ∙ sym (append-nil (lined d (plan_of (row ∷ rows))));
-        begins = refl;
-        ends = (let e = ap length is in omega arith);
-      } in
-      one-reached roots spans parts (record { from = 0; to = 1 }) (subst (λ ss. SpansOf d lines ss roots) (sym begins.0) (whole, tt))
-      (record { ordered = omega arith; within = omega arith; is = sym (state-begin d roots through.outermost) }) begins.1
+        plans = roots_of rows;
+        are = subst (λ ss. SpansOf d lines ss (roots_of rows)) (sym begins.0) (spans-begin rows is);
+        on = ([], [], begins.1, sym (state-begin d (roots_of rows) through.outermost), some, none);
+      }
 
-  pub record Noting (rows : List Row) (spans parts : List Span) (n : ℕ) (passed : List ℕ) : Type 0 where
+  pub record Noting (rows : List Row) (spans : List Span) (way : List Opened) (n : ℕ) (passed : List ℕ) : Type 0 where
     pub within : n < length d.nodes
-    pub reaches : Reaches d lines (roots_of rows) spans parts (n + 1)
+    pub stands : Stands d lines (roots_of rows) spans way n
     pub noted : passed ≡ map number (filter (is_passed d (roots_of rows)) (take (n + 1) (tree_nodes d)))
     pub inside : All (λ m. m < length d.nodes) passed
 
@@ -607,10 +704,9 @@ module _ (d : Document) (lines : List FoundLine) where
   one-inside true m within = All-cons (λ k. k < length d.nodes) m [] within (All-nil (λ k. k < length d.nodes))
   one-inside false m within = All-nil (λ k. k < length d.nodes)
 
-  pub noting_begin : LeadsThrough d → (rows : List Row) (spans parts : List Span) (n : ℕ) (passed : List ℕ) → lines ≡ lined d (plan_of rows)
-      → Begins rows lines spans parts
-      → n ≡ 0 → passed ≡ [] → Noting rows spans parts n passed
-  noting_begin through rows spans parts n passed is begins zero_is none =
+  pub noting_begin : LeadsThrough d → (rows : List Row) (spans : List Span) (way : List Opened) (n : ℕ) (passed : List ℕ)
+      → lines ≡ lined d (plan_of rows) → Begins n rows lines spans way → n ≡ 0 → passed ≡ [] → Noting rows spans way n passed
+  noting_begin through rows spans way n passed is begins zero_is none =
       let some : 0 < length d.nodes = let r = through.rooted in omega (arith, r) in
       let first : is_passed d (roots_of rows) (tree_node (tree_nodes d) 0) ≡ false =
       ap (λ b. elim b as (λ _. Bool) [
@@ -618,24 +714,28 @@ module _ (d : Document) (lines : List FoundLine) where
             && not (some_plan (led d (roots_of rows) (way_to ((tree_node (tree_nodes d) 0).number ∷ (tree_node (tree_nodes d) 0).above))))
         | false ↦ false
       ]) through.no_element in
-      let at_zero : Noting rows spans parts 0 [] = record {
+      let at_zero : Noting rows spans way 0 [] = record {
         within = some;
-        reaches = reaches-begin through rows spans parts is begins;
+        stands = stands-begin through rows spans way is (subst (λ k. Begins k rows lines spans way) zero_is begins);
         noted = sym (one-more rows 0 some ∙ ap (λ b. one_if b (tree_node (tree_nodes d) 0).number) first);
         inside = All-nil (λ m. m < length d.nodes);
       } in
-      subst (λ ps. Noting rows spans parts n ps) (sym none) (subst (λ k. Noting rows spans parts k []) (sym zero_is) at_zero)
+      subst (λ ps. Noting rows spans way n ps) (sym none) (subst (λ k. Noting rows spans way k []) (sym zero_is) at_zero)
 
-  pub noting_more : LeadsThrough d → (rows : List Row) (spans parts : List Span) (n : ℕ) (passed : List ℕ) (m : ℕ) (more_spans more_parts : List Span)
-      (is_passed_now : Bool) (more : List ℕ)
-      → Noting rows spans parts n passed → n + 1 < length d.nodes → m ≡ n + 1
-      → IsReached d lines (roots_of rows) more_spans more_parts m is_passed_now → more ≡ passed ++ one_if is_passed_now m
-      → Noting rows more_spans more_parts m more
-  noting_more through rows spans parts n passed m more_spans more_parts is_passed_now more c within m_is v more_is =
+  pub noting_before : (rows : List Row) (spans : List Span) (way : List Opened) (n : ℕ) (passed : List ℕ) (m : ℕ) → Noting rows spans way n passed → m ≡ n + 1
+      → IsBefore d lines (roots_of rows) spans way m
+  noting_before rows spans way n passed m c m_is = record { last = n; is = m_is; stands = c.stands }
+
+  pub noting_more : LeadsThrough d → (rows : List Row) (spans : List Span) (way : List Opened) (n : ℕ) (passed : List ℕ) (m : ℕ) (more_spans : List Span)
+      (more_way : List Opened) (is_passed_now : Bool) (more : List ℕ)
+      → Noting rows spans way n passed → n + 1 < length d.nodes → m ≡ n + 1
+      → IsReached d lines (roots_of rows) more_spans more_way m is_passed_now → more ≡ passed ++ one_if is_passed_now m
+      → Noting rows more_spans more_way m more
+  noting_more through rows spans way n passed m more_spans more_way is_passed_now more c within m_is v more_is =
       let here : m < length d.nodes = omega (arith, within, m_is) in
       record {
         within = here;
-        reaches = v.reaches;
+        stands = v.stands;
         noted =
             more_is ∙ (ap (λ b. passed ++ one_if b m) v.is
             ∙ (ap (λ k. passed ++ one_if (is_passed d (roots_of rows) (tree_node (tree_nodes d) m)) k) (sym (through.numbers m here))
@@ -645,10 +745,10 @@ module _ (d : Document) (lines : List FoundLine) where
             (All-append (λ k. k < length d.nodes) passed (one_if is_passed_now m) c.inside (one-inside is_passed_now m here));
       }
 
-  pub noting_end : LeadsThrough d → (rows : List Row) (spans parts : List Span) (n : ℕ) (passed : List ℕ) → Noting rows spans parts n passed
+  pub noting_end : LeadsThrough d → (rows : List Row) (spans : List Span) (way : List Opened) (n : ℕ) (passed : List ℕ) → Noting rows spans way n passed
       → (n + 1 < length d.nodes → ⊥)
       → passed ≡ passed_nodes (tree_nodes d) rows
   unfolding passed_nodes
-  noting_end through rows spans parts n passed c end =
+  noting_end through rows spans way n passed c end =
       c.noted ∙ (ap (λ xs. map number (filter (is_passed d (roots_of rows)) xs)) (take_all (n + 1) (tree_nodes d) (omega (arith, end, long)))
       ∙ ap (map number) (filter_agree (is_passed d (roots_of rows)) (is_passed_over (tree_nodes d) rows) (through.passed_over rows) (tree_nodes d)))

@@ -1,9 +1,10 @@
 -- Where names lead along the lines of a table, guards aside. No public clause cites it.
-use Rattle.std.specs.Prelude.{◌≡◌, ℕ, ◌+◌, ◌^◌, ◌<◌, ◌≤◌, nat_lt, Bool, true, false, not, ◌&&◌, List, [], ◌∷◌, ◌++◌, length, get_or, take, drop, Some}
+use Rattle.std.specs.Prelude.{◌≡◌, ℕ, ◌+◌, ◌^◌, ◌<◌, ◌≤◌, nat_lt, Bool, true, false, not, ◌&&◌, List, [], ◌∷◌, ◌++◌, length, take, drop, Some}
 use Rattle.std.specs.List.{flat_map}
+use Rattle.std.proofs.Common.{◌⊎◌}
 use Rattle.inv_base.specs.Tree.{Node}
 use Rattle.node_arena.specs.Document.{Document, node_at}
-use Rattle.node_arena.specs.Moves.{tree_nodes, tree_node, has_found, parent}
+use Rattle.node_arena.specs.Moves.{tree_nodes, tree_node, has_found, parent, is_inside}
 use Rattle.bind_rows.specs.declared.rows.Row.{Row}
 use Rattle.bind_rows.specs.declared.names.ElementName.{ElementName}
 use Rattle.bind_table.specs.Lines.{Plan, nothing, a_line, plan_of}
@@ -12,6 +13,7 @@ use Rattle.bind_meaning.specs.Names.{has_element_name}
 use Rattle.bind_meaning.specs.Elements.{is_element_kind, is_element}
 use Rattle.bind_meaning.specs.Terms.{is_passed_over, way_to}
 use Rattle.bind_walk.specs.declared.lines.FoundLine.{FoundLine}
+use Rattle.bind_walk.specs.declared.passed.Opened.{Opened}
 use Rattle.bind_walk.specs.declared.passed.Span.{Span}
 use Rattle.bind_walk.specs.Lines.{lined}
 
@@ -88,8 +90,9 @@ part xs p = drop p.from (take p.to xs)
 abbrev pub LeadsInside : Document → List FoundLine → Span → ℕ → List Span → List Span → Type 0
 LeadsInside d lines around m old new = (plans : List Plan) → SpansOf d lines old plans → SpansOf d lines new (plans ++ insides d m (part plans around))
 
--- ---- the nodes so far
+-- ---- a node and those around it
 
+-- These plans are a part of all.
 pub record IsPart (plans : List Plan) (p : Span) (own : List Plan) : Type 0 where
   pub ordered : p.from ≤ p.to
   pub within : p.to ≤ length plans
@@ -98,20 +101,51 @@ pub record IsPart (plans : List Plan) (p : Span) (own : List Plan) : Type 0 wher
 abbrev pub no_part : Span
 no_part = record { from = 0; to = 0 }
 
--- Of each node before this one it is known where its names lead: to a part of the spans.
-pub record Reaches (d : Document) (lines : List FoundLine) (roots : List Plan) (spans parts : List Span) (m : ℕ) : Type 0 where
+-- Of each node on a way, given from its end on, the plans to which its name leads stand behind those of the nodes around it.
+abbrev pub OnWay : Document → List Plan → List Opened → List Plan → List ℕ → Type 0
+OnWay d roots way plans [] = Unit {0}
+OnWay d roots way plans (n ∷ path) = (around : List Opened) × (below : List Plan) × (way ≡ around ++ record { node = n; from = length below } ∷ [])
+    × (plans ≡ below ++ state d roots n) × (n < length d.nodes) × OnWay d roots around below path
+
+-- It is known of a node and of those around it where their names lead.
+pub record Stands (d : Document) (lines : List FoundLine) (roots : List Plan) (spans : List Span) (way : List Opened) (n : ℕ) : Type 0 where
   pub plans : List Plan
   pub are : SpansOf d lines spans plans
-  pub long : length parts ≡ m
-  pub each : (k : ℕ) → k < m → IsPart plans (get_or parts k no_part) (state d roots k)
+  pub on : OnWay d roots way plans (path_of d n)
 
-pub record AreReached (d : Document) (lines : List FoundLine) (spans parts : List Span) (m : ℕ) : Type 0 where
+-- The first is the second, or around it.
+abbrev pub IsAround : Document → ℕ → ℕ → Type 0
+IsAround d p n = (p ≡ n) ⊎ (is_inside p (tree_node (tree_nodes d) n) ≡ true)
+
+-- The same of a node that the one of this number is, or is around.
+pub record IsNear (d : Document) (lines : List FoundLine) (roots : List Plan) (spans : List Span) (way : List Opened) (p : ℕ) : Type 0 where
+  pub at : ℕ
+  pub stands : Stands d lines roots spans way at
+  pub around : IsAround d p at
+
+pub record IsSomeNear (d : Document) (lines : List FoundLine) (spans : List Span) (way : List Opened) (p : ℕ) : Type 0 where
   pub roots : List Plan
-  pub reaches : Reaches d lines roots spans parts m
+  pub near : IsNear d lines roots spans way p
+
+-- The same of this node, and its name leads to these spans.
+pub record StandsAt (d : Document) (lines : List FoundLine) (roots : List Plan) (spans : List Span) (way : List Opened) (n : ℕ) (own : Span) : Type 0 where
+  pub stands : Stands d lines roots spans way n
+  pub is : IsPart stands.plans own (state d roots n)
+  pub ends : own.to ≡ length spans
+
+-- The same of the node before this one.
+pub record IsBefore (d : Document) (lines : List FoundLine) (roots : List Plan) (spans : List Span) (way : List Opened) (m : ℕ) : Type 0 where
+  pub last : ℕ
+  pub is : m ≡ last + 1
+  pub stands : Stands d lines roots spans way last
+
+pub record IsSomeBefore (d : Document) (lines : List FoundLine) (spans : List Span) (way : List Opened) (m : ℕ) : Type 0 where
+  pub roots : List Plan
+  pub before : IsBefore d lines roots spans way m
 
 -- It is known of this node too where its names lead, and whether it is passed over.
-pub record IsReached (d : Document) (lines : List FoundLine) (roots : List Plan) (spans parts : List Span) (m : ℕ) (passed : Bool) : Type 0 where
-  pub reaches : Reaches d lines roots spans parts (m + 1)
+pub record IsReached (d : Document) (lines : List FoundLine) (roots : List Plan) (spans : List Span) (way : List Opened) (m : ℕ) (passed : Bool) : Type 0 where
+  pub stands : Stands d lines roots spans way m
   pub is : passed ≡ is_passed d roots (tree_node (tree_nodes d) m)
 
 abbrev pub some_of : Span → Bool
@@ -120,9 +154,12 @@ some_of p = nat_lt p.from p.to
 abbrev pub is_left : Span → Span → Bool
 is_left around inside = some_of around && not (some_of inside)
 
-abbrev pub Begins : List Row → List FoundLine → List Span → List Span → Type 0
-Begins [] lines spans parts = (spans ≡ []) × (parts ≡ no_part ∷ [])
-Begins (row ∷ rows) lines spans parts = (spans ≡ record { from = 0; to = length lines } ∷ []) × (parts ≡ record { from = 0; to = 1 } ∷ [])
+abbrev pub first_spans : List Row → List FoundLine → List Span
+first_spans [] lines = []
+first_spans (row ∷ rows) lines = record { from = 0; to = length lines } ∷ []
+
+abbrev pub Begins : ℕ → List Row → List FoundLine → List Span → List Opened → Type 0
+Begins document rows lines spans way = (spans ≡ first_spans rows lines) × (way ≡ record { node = document; from = 0 } ∷ [])
 
 abbrev pub one_if : Bool → ℕ → List ℕ
 one_if true n = n ∷ []
@@ -141,4 +178,5 @@ pub record LeadsThrough (d : Document) : Type 0 where
   pub no_element : is_element (tree_node (tree_nodes d) 0) ≡ false
   pub inside_one : (m p : ℕ) → m < length d.nodes → parent (tree_nodes d) m ≡ Some p → (tree_node (tree_nodes d) m).above ≡ path_of d p
   pub has_parent : (m : ℕ) → 0 < m → m < length d.nodes → (p : ℕ) × (parent (tree_nodes d) m ≡ Some p)
+  pub next : (n p : ℕ) → n + 1 < length d.nodes → parent (tree_nodes d) (n + 1) ≡ Some p → IsAround d p n
   pub passed_over : (rows : List Row) (node : Node) → is_passed d (roots_of rows) node ≡ is_passed_over (tree_nodes d) rows node

@@ -1,6 +1,6 @@
 //! The elements that a table passes over: by names alone, guards aside.
 
-ghost use Rattle.std.specs.Prelude.{◌≡◌, ◌++◌, ◌<◌, ◌≤◌, ◌&&◌, All, List, length, get_or, Some, OnOk, IfOk};
+ghost use Rattle.std.specs.Prelude.{◌≡◌, ◌++◌, ◌-◌, ◌<◌, ◌≤◌, ◌&&◌, All, List, length, get_or, slice_get, Some, OnOk, IfOk};
 ghost use Rattle.node_arena.specs.Document.{node_at};
 ghost use Rattle.node_arena.specs.Moves.{tree_nodes};
 ghost use Rattle.bind_table.specs.Lines.{Plan, plan_of};
@@ -27,19 +27,26 @@ pub(crate) struct Span {
     pub(crate) to: usize,
 }
 
-/// Where the names of the nodes so far, and of those around them, lead: the insides of the lines that have them.
+/// A node, and where the spans begin to which its name leads.
+#[derive(Clone, Copy)]
+pub(crate) struct Opened {
+    pub(crate) node: NodeId,
+    pub(crate) from: usize,
+}
+
+/// Where the names of a node and of those around it lead: the insides of the lines that have them.
 pub(crate) struct Reached {
-    /// Lines that stand beside one another, with what is inside them; those of one node behind those of another.
+    /// Lines that stand beside one another, with what is inside them; those of a node behind those of the one around it.
     pub(crate) spans: Vec<Span>,
-    /// Which of them are a node's, in the order of the nodes.
-    pub(crate) parts: Vec<Span>,
+    /// The node behind those around it, from the outermost on.
+    pub(crate) way: Vec<Opened>,
 }
 
 impl Drop for Reached {
     fn drop(self) {
-        let Reached { spans, parts } = self;
+        let Reached { spans, way } = self;
         drop(spans);
-        drop(parts);
+        drop(way);
     }
 }
 
@@ -56,10 +63,9 @@ pub(crate) fn passed_of<L: Ledger>(
     ensures within { IfOk result (λ passed. All (λ m. m < length doc.now.nodes) passed.items) }
 {
     names_lead_through(doc);
-    let last = doc.last_inside(doc.document(), steps);
-    let mut reached = beginning(alloc, rows, lines, last)?;
-    let mut passed = Vec::new(alloc);
     let mut n = doc.document();
+    let mut reached = beginning(alloc, n, rows, lines)?;
+    let mut passed = Vec::new(alloc);
     'nodes: while let Some(m) = doc.next_node(n, steps) {
         let is_passed = reach(doc, lines, &mut reached, m, steps)?;
         note(m, is_passed, &mut passed)?;
@@ -79,28 +85,28 @@ fn note(m: NodeId, is_passed: bool, passed: &mut Vec<NodeId>) -> Result<(), Allo
     Ok(())
 }
 
-/// All lines, for the document's own node, with room for the parts of as many nodes as there are up to the last; none where the table
-/// has no row.
+/// All lines, for the document's own node; none where the table has no row.
 fn beginning(
     alloc: Global,
+    document: NodeId,
     rows: &[Row],
     lines: &[FoundLine],
-    last: NodeId,
 ) -> Result<Reached, AllocError>
-    ensures { IfOk result (λ reached. spec.Begins rows.now lines.now reached.spans.items reached.parts.items) }
+    ensures { IfOk result (λ reached. spec.Begins document rows.now lines.now reached.spans.items reached.way.items) }
 {
-    let mut parts = Vec::with_capacity(alloc, last.number() as usize)?;
     let mut spans = Vec::new(alloc);
-    if rows.is_empty() {
-        parts.push(Span { from: 0, to: 0 })?;
-    } else {
+    if !rows.is_empty() {
         spans.push(Span {
             from: 0,
             to: lines.len(),
         })?;
-        parts.push(Span { from: 0, to: 1 })?;
     }
-    Ok(Reached { spans, parts })
+    let mut way = Vec::new(alloc);
+    way.push(Opened {
+        node: document,
+        from: 0,
+    })?;
+    Ok(Reached { spans, way })
 }
 
 /// Names lead through a document as they do through the lines of a table. It has no code.
@@ -114,7 +120,7 @@ fn names_lead_through(doc: &Doc<'_>)
     moves_lead_on();
 }
 
-/// Notes where the names of a node lead, and answers whether it is passed over.
+/// Goes on to the next node: notes where its names lead, and answers whether it is passed over.
 fn reach<L: Ledger>(
     doc: &Doc<'_>,
     lines: &[FoundLine],
@@ -124,20 +130,49 @@ fn reach<L: Ledger>(
 ) -> Result<bool, AllocError>
     requires within { m < length doc.now.nodes }
     requires behind { 0 < m }
-    requires reached { spec.AreReached doc.now lines.now reached.old.spans.items reached.old.parts.items m }
-    ensures { IfOk result (λ passed. (roots : List Plan) → spec.Reaches doc.now lines.now roots reached.old.spans.items reached.old.parts.items m
-        → spec.IsReached doc.now lines.now roots reached.new.spans.items reached.new.parts.items m passed) }
+    requires reached { spec.IsSomeBefore doc.now lines.now reached.old.spans.items reached.old.way.items m }
+    ensures { IfOk result (λ passed. (roots : List Plan) → spec.IsBefore doc.now lines.now roots reached.old.spans.items reached.old.way.items m
+        → spec.IsReached doc.now lines.now roots reached.new.spans.items reached.new.way.items m passed) }
 {
     names_lead_through(doc);
     match doc.parent(m, steps) {
         Some(p) => {
-            let around = span_at(reached.parts.as_slice(), p.number() as usize);
+            let around = come_out(doc, lines, reached, p);
             let inside = reach_inside(doc, lines, &mut reached.spans, around, m)?;
-            reached.parts.push(inside)?;
+            reached.way.push(Opened {
+                node: m,
+                from: inside.from,
+            })?;
             Ok(is_left_at(doc.kind(m), around, inside))
         }
         None => unreachable!(),
     }
+}
+
+/// Comes out of a node to one around it, or stays at it, and answers the spans to which its name leads. What lies between is forgotten.
+fn come_out(doc: &Doc<'_>, lines: &[FoundLine], reached: &mut Reached, p: NodeId) -> Span
+    requires { spec.IsSomeNear doc.now lines.now reached.old.spans.items reached.old.way.items p }
+    ensures { (roots : List Plan) → spec.IsNear doc.now lines.now roots reached.old.spans.items reached.old.way.items p
+        → spec.StandsAt doc.now lines.now roots reached.new.spans.items reached.new.way.items p result }
+{
+    names_lead_through(doc);
+    'way: while let Some(last) = innermost(reached.way.as_slice()) {
+        if last.node == p {
+            return Span {
+                from: last.from,
+                to: reached.spans.len(),
+            };
+        }
+        reached.way.pop();
+        reached.spans.truncate(last.from);
+    }
+    unreachable!()
+}
+
+fn innermost(way: &[Opened]) -> Option<Opened>
+    ensures { result ≡ slice_get way.now (length way.now - 1) }
+{
+    way.last().copied()
 }
 
 fn span_at(spans: &[Span], at: usize) -> Span

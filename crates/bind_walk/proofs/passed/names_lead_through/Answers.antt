@@ -1,10 +1,14 @@
-use Rattle.std.proofs.Common.{◌≡◌, ◌+◌, ◌-◌, ap, subst, Some, arith}
+use Rattle.std.proofs.Common.{◌≡◌, ℕ, ◌+◌, ◌-◌, ap, subst, Option, Some, arith}
 use Rattle.std.proofs.lemmas.List.{length-map}
 use Rattle.node_arena.specs.Moves.{node_of, tree_nodes, tree_node, parent}
 use Rattle.bind_meaning.specs.Elements.{is_element}
+use Rattle.bind_walk.specs.Passing.{IsAround}
 use Rattle.bind_walk.proofs.LinkLemmas.{IsRead, name-is}
 use Rattle.bind_walk.proofs.PassLemmas.{kinds-are, passed-is}
 use Rattle.bind_walk.proofs.passed.names_lead_through.Goals as goal
+
+same-parent : (o : Option ℕ) (p q : ℕ) → o ≡ Some p → o ≡ Some q → p ≡ q
+same-parent o p q e f = cc
 
 pub returns : goal.returns
 returns c =
@@ -28,5 +32,10 @@ returns c =
           let w = (c.moves_lead_on.ensures d of.tree.tree of.tree.has_nodes (m - 1) (omega (arith, some, within))).next_parent
           (omega (arith, some, within, long)) in
           (w.0, subst (λ k. parent (tree_nodes d) k ≡ Some w.0) (let e : m - 1 + 1 ≡ m = omega (arith, some) in e) w.1);
+      next = λ n p within is.
+          let long = length-map d.nodes (node_of d.names) in
+          let w = (c.moves_lead_on.ensures d of.tree.tree of.tree.has_nodes n (omega (arith, within))).next_parent (omega (arith, within, long)) in
+          let same : w.0 ≡ p = same-parent (parent (tree_nodes d) (n + 1)) w.0 p w.1 is in
+          subst (λ k. IsAround d k n) same w.2;
       passed_over = passed-is d c.same_steps_are_equal.ensures;
     }

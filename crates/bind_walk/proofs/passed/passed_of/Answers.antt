@@ -1,18 +1,21 @@
-use Rattle.std.proofs.Common.{sym, subst}
-use Rattle.bind_walk.specs.Passing.{Reaches, roots_of}
-use Rattle.bind_walk.proofs.PassLemmas.{noting_begin, noting_more, noting_end}
+use Rattle.bind_walk.specs.Passing.{roots_of}
+use Rattle.bind_walk.proofs.PassLemmas.{noting_begin, noting_before, noting_more, noting_end}
 use Rattle.bind_walk.proofs.passed.passed_of.Goals as goal
 
 pub nodes-init : goal.nodes-init
 nodes-init g c =
     noting_begin _ _ c.names_lead_through.ensures _ _ _ _ _ c.requires c.in_ok-reached.ensures c.document-n.ensures.number c.new-passed.ensures.items
 
+pub reach-requires-clause-reached : goal.reach-requires-clause-reached
+reach-requires-clause-reached g c = record {
+  roots = roots_of c.args.rows.now;
+  before = noting_before _ _ _ _ _ _ _ _ c.nodes.invariant c.in-Some.ensures.node.1;
+}
+
 pub nodes-preserved : goal.nodes-preserved
 nodes-preserved g c =
-    let reached = c.in_ok-is_passed.ensures (roots_of c.args.rows.now)
-    (subst (λ m. Reaches c.args.doc.now c.args.lines.now (roots_of c.args.rows.now) c.nodes.reached.spans.items c.nodes.reached.parts.items m)
-    (sym c.in-Some.ensures.node.1) c.nodes.invariant.reaches) in
-    noting_more _ _ c.names_lead_through.ensures _ _ _ _ _ _ _ _ _ _ c.nodes.invariant c.in-Some.ensures.node.0 c.in-Some.ensures.node.1 reached
+    noting_more _ _ c.names_lead_through.ensures _ _ _ _ _ _ _ _ _ _ c.nodes.invariant c.in-Some.ensures.node.0 c.in-Some.ensures.node.1
+    (c.in_ok-is_passed.ensures (roots_of c.args.rows.now) (noting_before _ _ _ _ _ _ _ _ c.nodes.invariant c.in-Some.ensures.node.1))
     c.in_ok-note.ensures
 
 pub returns-clause-passed : goal.returns-clause-passed

@@ -10,6 +10,7 @@ ghost use Rattle.xml_document.specs.Walking.{StandsIn};
 
 use inv_base::{Kind, Printer, Sink, Steps};
 use node_arena::Doc;
+use short_lines::print_quoted_line;
 use std::marker::Brand;
 use std::sync::ledger::{Blank, Ledger};
 use xml_document::Walk;
@@ -78,8 +79,7 @@ fn print_attribute<K: Sink>(doc: &Doc<'_>, at: &Walk, printer: &mut Printer, out
     printer.put(out, b"@");
     print_name(doc, doc.name(at.node), printer, out);
     printer.put(out, b"=");
-    printer.put_quoted(out, doc.text(at.node));
-    printer.put(out, b"\n");
+    print_quoted_line(doc.text(at.node), printer, out);
 }
 
 fn print_text<K: Sink>(doc: &Doc<'_>, at: &Walk, printer: &mut Printer, out: &mut K)
@@ -88,8 +88,7 @@ fn print_text<K: Sink>(doc: &Doc<'_>, at: &Walk, printer: &mut Printer, out: &mu
         (K.view out.old) (K.view out.new) }
 {
     print_indent(at.level, printer, out);
-    printer.put_quoted(out, doc.text(at.node));
-    printer.put(out, b"\n");
+    print_quoted_line(doc.text(at.node), printer, out);
 }
 
 /// Prints two spaces for each level below the root.

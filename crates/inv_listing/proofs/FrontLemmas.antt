@@ -1,5 +1,5 @@
 -- The text of a context, which stays at the front of what is put behind it.
-use Rattle.std.proofs.Common.{◌≡◌, ℕ, ◌+◌, true, List, [], ◌∷◌, ◌++◌, length, take, decimal, Option, Some, None, refl, ap, ◌∙◌, append_assoc, arith}
+use Rattle.std.proofs.Common.{◌≡◌, ℕ, ◌+◌, true, List, [], ◌∷◌, ◌++◌, length, take, decimal, Option, Some, None, refl, ap, ◌∙◌, arith}
 use Rattle.std.specs.Prelude.{◌==◌}
 use Rattle.std.proofs.lemmas.Bool.{false≢true}
 use Rattle.std.proofs.lemmas.Bool.Decides.{nat_tests}
@@ -11,15 +11,9 @@ use Rattle.term_table.specs.Contexts.{same_slot, same_context}
 use Rattle.term_table.proofs.GroupLemmas.{both, same_group_is}
 use Rattle.arrayvec.specs.ArrayVec.{ArrayVec}
 use Rattle.inv_listing.specs.declared.fronts.Front.{Front}
-use Rattle.inv_listing.specs.Composing.{Composes, BeginsWithContext}
+use Rattle.short_lines.specs.Composing.{Composes}
+use Rattle.inv_listing.specs.Composing.{BeginsWithContext}
 use Rattle.inv_listing.specs.Listing.{slot_text, inner_text, context_text}
-
--- one piece, and then another
-pub Composes-append : (a b : List ℕ) (m n : ℕ) (r s t : ArrayVec ℕ) → Composes a m r s → Composes b n s t → Composes (a ++ b) (m + n) r t
-Composes-append a b m n r s t p q = record {
-  items = q.items ∙ (ap (λ x. x ++ b) p.items ∙ append_assoc r.items a b);
-  room = omega (arith, p.room, q.room);
-}
 
 -- the text of the context stays at the front of what is put behind it
 pub begins-behind : (a : List ℕ) (m : ℕ) (front : Front) (text : ArrayVec ℕ) → BeginsWithContext front → Composes a m front.text text

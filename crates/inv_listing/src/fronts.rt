@@ -1,15 +1,17 @@
-ghost use Rattle.std.specs.Prelude.{◌≡◌, ◌+◌, ◌≤◌, [], ◌∷◌, ◌++◌, length};
+ghost use Rattle.std.specs.Prelude.{◌≡◌, ◌≤◌, [], ◌∷◌, ◌++◌, chars, encode_utf8_all};
 ghost use Rattle.arrayvec.specs.ArrayVec.{array_vec_len};
+ghost use Rattle.inv_base.specs.Text.{quoted};
+ghost use Rattle.short_lines.specs.Composing.{IsPlain};
 ghost use Rattle.inv_listing.specs.Listing.{context_text, term_text};
 ghost use Rattle.inv_listing.specs.Composing.{BeginsWithContext, IsContextAlone};
 
 use crate::names::{put_context, put_term};
-use crate::short::{Short, put};
 use inv_terms::Entry;
+use short_lines::{Short, put, put_quoted_line};
 use term_table::{Context, ROOT};
 
 /// What stands in front of an entry's value: its context and its term, with a space behind each. The text of the context
-/// stays, so that it is made once for entries that follow one another in one context.
+/// stays, so that it is made once for entries that follow one another in one context. It has 40 bytes at most, a term 12.
 #[derive(Drop)]
 pub(crate) struct Front {
     pub(crate) text: Short,
@@ -43,15 +45,14 @@ impl Front {
     }
 
     /// Ends the line by a value that stands for itself, between quotes.
-    pub(crate) fn end_by(&mut self, value: &[u8])
+    pub(crate) fn end_by(&mut self, value: &str)
         requires begins { BeginsWithContext self.old }
-        requires room { array_vec_len self.old.text + length value.now + 3 ≤ 128 }
+        requires plain { IsPlain value.now }
+        requires room { array_vec_len self.old.text ≤ 53 }
         ensures begins { BeginsWithContext self.new }
-        ensures text { self.new.text.items ≡ self.old.text.items ++ (0x22 ∷ (value.now ++ 0x22 ∷ 0xA ∷ [])) }
+        ensures text { self.new.text.items ≡ self.old.text.items ++ (encode_utf8_all (quoted (chars value.now)) ++ 0xA ∷ []) }
     {
-        put(&mut self.text, b"\"");
-        put(&mut self.text, value);
-        put(&mut self.text, b"\"\n");
+        put_quoted_line(&mut self.text, value);
     }
 
     /// Becomes the text of a context alone, which is made where it's another than before.

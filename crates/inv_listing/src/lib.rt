@@ -3,9 +3,7 @@
 
 mod fronts;
 mod names;
-mod plain;
 mod printing;
-mod short;
 
 pub use names::{print_context, print_name, print_term};
 pub use printing::print_listing;

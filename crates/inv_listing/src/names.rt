@@ -1,13 +1,13 @@
 ghost use Rattle.std.specs.Prelude.{◌≡◌, ◌+◌, ◌≤◌};
 ghost use Rattle.arrayvec.specs.ArrayVec.{array_vec_len};
 ghost use Rattle.inv_base.specs.Printing.{Prints};
-ghost use Rattle.inv_listing.specs.Composing.{Composes};
+ghost use Rattle.short_lines.specs.Composing.{Composes};
 ghost use Rattle.inv_listing.specs.Listing.{part_text, term_text, slot_text, inner_text, context_text, name_text};
 
-use crate::short::{Short, put};
 use inv_base::{Printer, Sink};
 use inv_terms::Name;
 use itoa::Buffer;
+use short_lines::{Short, put};
 use term_table::{Context, Slot, Term};
 
 /// Prints a term by its number in the standard, as `BT-1` or `BT-18-1`, or one that a table adds by its own, as `EXT-1`.

@@ -6,10 +6,10 @@ ghost use Rattle.inv_listing.specs.Composing.{BeginsWithContext};
 ghost use Rattle.inv_listing.specs.Listing.{entry_line, passed_line, listing};
 
 use crate::fronts::Front;
-use crate::plain::is_plain;
 use inv_base::{Printer, Sink};
 use inv_terms::{Entry, Invoice};
 use itoa::Buffer;
+use short_lines::is_plain;
 
 /// Prints the entries of an invoice in listing order, a line each, and behind them how many elements of its document were passed over;
 /// answers whether a write failed.
@@ -44,8 +44,8 @@ fn print_value<K: Sink>(value: &str, front: &mut Front, printer: &mut Printer, o
         (K.view out.old) (K.view out.new) }
     ensures begins { BeginsWithContext front.new }
 {
-    if is_plain(value.as_bytes()) {
-        front.end_by(value.as_bytes());
+    if is_plain(value) {
+        front.end_by(value);
         printer.put(out, front.text.as_slice());
         return;
     }

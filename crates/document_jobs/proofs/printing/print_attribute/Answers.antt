@@ -10,4 +10,4 @@ returns g c =
     (deep c.args.doc.now c.args.at.now c.requires) _ _ c.name.ensures.value c.text.ensures)
     (Prints-append _ _ _ _ _ _ _ _ c.print_indent.ensures
     (Prints-append (0x40 ∷ []) _ _ _ _ _ _ _ c.put.ensures (Prints-append _ _ _ _ _ _ _ _ c.print_name.ensures
-    (Prints-append (0x3D ∷ []) _ _ _ _ _ _ _ c.put-2.ensures (Prints-append _ (0xA ∷ []) _ _ _ _ _ _ c.put_quoted.ensures c.put-3.ensures)))))
+    (Prints-append (0x3D ∷ []) _ _ _ _ _ _ _ c.put-2.ensures c.print_quoted_line.ensures))))

@@ -1,4 +1,5 @@
-use Rattle.inv_listing.proofs.FrontLemmas.{Composes-append, begins-behind}
+use Rattle.short_lines.proofs.ComposingLemmas.{Composes-append}
+use Rattle.inv_listing.proofs.FrontLemmas.{begins-behind}
 use Rattle.inv_listing.proofs.fronts.Front.turn_to.Goals as goal
 
 pub returns-clause-begins : goal.returns-clause-begins

@@ -1,18 +1,18 @@
 ghost use Rattle.std.specs.Prelude.{◌≡◌, true};
 ghost use Rattle.inv_base.specs.Text.{is_escaped};
-ghost use Rattle.inv_listing.specs.Composing.{IsPlain};
+ghost use Rattle.short_lines.specs.Composing.{IsPlain};
 
-/// How long a value is at most that is put behind its front.
+/// How long a text is at most that is put between quotes in a short one.
 const MOST: usize = 72;
 
-/// Whether a value is short, and each of its bytes stands for itself between quotes.
-pub(crate) fn is_plain(value: &[u8]) -> bool
-    ensures { result ≡ true → IsPlain value.now }
+/// Whether a text is short, and each of its bytes stands for itself between quotes.
+pub fn is_plain(text: &str) -> bool
+    ensures { result ≡ true → IsPlain text.now }
 {
-    if MOST < value.len() {
+    if MOST < text.len() {
         return false;
     }
-    'bytes: for byte in value {
+    'bytes: for byte in text.as_bytes() {
         if is_escaped(*byte) {
             return false;
         }

@@ -1,0 +1,2 @@
+pub mod ComposingLemmas
+mod PlainLemmas

@@ -7,7 +7,7 @@ PROGRAM is crates/einv/out/einv if it isn't given; with WORD only the rows whose
 bench/outline.py, the invoices those of bench/invoices.py. One run of each command, seconds of a processor, start-up included, output to
 /dev/null. Prints for each document the seconds of each command; the most of the times that one of them takes of what it takes over an
 honest invoice of the same size; and the most memory that one of them held, beside 12 times the document's bytes and 40 MB. Commands that
-take less than 0.05 seconds are left out of the third.
+take less than 0.05 seconds are left out of the third. Expressions have a row each, beside the same over an honest invoice.
 """
 import pathlib
 import sys
@@ -88,13 +88,31 @@ def table(program, commands, rows, folder, asked):
         print("| %s | %s |" % (name, row(program, commands, make(), folder)), flush=True)
 
 
+def expressions(program, folder, asked):
+    """A row for each expression over the nested elements, beside the same over an honest invoice of the same size."""
+    wanted = {name: words for name, words in EXPRESSIONS.items() if asked in name}
+    if not wanted:
+        return
+    path, other = folder / "nested.xml", folder / "honest.xml"
+    path.write_text(nested())
+    size = path.stat().st_size
+    other.write_text(honest(size))
+    print("\n| Over 97 elements in one another around 400,000 | MB | s | honest, s | by honest | peak, MB | allowed |")
+    print("|---|---|---|---|---|---|---|")
+    for name, words in wanted.items():
+        seconds, held = measuring.once([program, *words, str(path)])[:2]
+        beside = measuring.once([program, *words, str(other)])[0]
+        figures = (name, size / 1e6, seconds, beside, seconds / max(beside, 0.001), held, 12 * size / 1e6 + 40)
+        print("| `%s` | %.1f | %.3f | %.3f | %.1f | %.1f | %.0f |" % figures, flush=True)
+
+
 def main():
     program = sys.argv[1] if len(sys.argv) > 1 else str(HOME / "crates/einv/out/einv")
     asked = sys.argv[2] if len(sys.argv) > 2 else ""
     with tempfile.TemporaryDirectory() as name:
         folder = pathlib.Path(name)
         table(program, COMMANDS, {**outline.HOSTILE, **invoices.HOSTILE}, folder, asked)
-        table(program, EXPRESSIONS, {"97 elements in one another around 400,000": nested}, folder, asked)
+        expressions(program, folder, asked)
         terms = folder / "terms.toml"
         terms.write_text(further_terms())
         given = ["--extension", str(terms)]

@@ -1,12 +1,14 @@
 //! Where reading stands as long as nothing is wrong, and one turn of it: a token, or a run of characters that are
 //! tokens one by one.
 ghost use Rattle.std.specs.Prelude.{◌≡◌, ℕ, ◌∷◌, List, ◌<◌, ◌≤◌, ◌+◌, ◌++◌, ◌-◌, [], ◌^◌, Some, None, drop, length, vec_len, slice_index, nat_le, true, false};
-ghost use Rattle.std.specs.Prelude.{MatchResult, if◌then◌else◌};
+ghost use Rattle.std.specs.Prelude.{Bool, IfSome, MatchResult, if◌then◌else◌};
 ghost use Rattle.xml_tokens.specs.Beginnings.{beginning, good, sure_length};
 ghost use Rattle.xml_tokens.specs.Asides.{begins_by, ends_with};
 ghost use Rattle.xml_tokens.specs.Markup.{an_aside};
 ghost use Rattle.xml_tokens.specs.Searching.{fresh};
+ghost use Rattle.xml_tokens.specs.Plain.{plain_token};
 ghost use Rattle.xml_tokens.specs.Seen.{seen_token};
+ghost use Rattle.xml_tokens.specs.declared.beginning.Position.{Position};
 ghost use Rattle.xml_tokens.specs.declared.beginning.Position.TheVariants.{Farther};
 ghost use Rattle.xml_tokens.specs.declared.kind.XmlKind.TheVariants as kinds;
 ghost use Rattle.xml_state.specs.Faults.{fault_at};
@@ -19,7 +21,8 @@ use inv_base::Place;
 use std::alloc::{AllocError, Global};
 use xml_state::{Events, Limits, NameTable, Nest, XmlFault};
 use xml_tokens::{
-    Beginning, ClosedAside, OpenAside, Position, Search, Token, XmlKind, run_at_front, what_begins,
+    Beginning, ClosedAside, OpenAside, PlainTag, Position, Search, Token, XmlKind, plain_tag,
+    run_at_front, what_begins,
 };
 
 /// Where reading stands: what stands behind the tokens before, how many bytes they take, and how far the next one was
@@ -249,8 +252,55 @@ impl Cursor {
         }
     }
 
+    /// The tag that begins here, where it is a name of ASCII and nothing else. One that was searched for its end before isn't
+    /// looked at again.
+    fn plain_tag<'b>(&self, bytes: &'b [u8]) -> Option<PlainTag<'b>>
+        ensures { IfSome result (λ tag. (position : Position) → (ended : Bool) → beginning position ended bytes.now ≡ good (plain_token tag) tag.len) }
+    {
+        if self.search.is_fresh() {
+            plain_tag(bytes)
+        } else {
+            None
+        }
+    }
+
+    /// Takes such a tag.
+    fn take_plain<'b, E: Events>(
+        &mut self,
+        reading: Reading,
+        tag: PlainTag<'b>,
+        bytes: &'b [u8],
+        events: &mut E,
+    ) -> Turn<'b>
+        requires within { self.old.place ≤ reading.limits.bytes }
+        requires begins { beginning self.old.nest.position reading.ended bytes.now ≡ good (plain_token tag) tag.len }
+        ensures { Turns result reading.ended reading.limits self.old self.new bytes.now (E.taken events.old) (E.taken events.new) }
+    {
+        let token = tag.token(reading.alloc);
+        let turn = self.take(reading, &token, tag.len, bytes, events);
+        drop(token);
+        turn
+    }
+
     /// Takes a token, or finds that none is whole.
     fn token<'b, E: Events>(
+        &mut self,
+        reading: Reading,
+        bytes: &'b [u8],
+        events: &mut E,
+    ) -> Turn<'b>
+        requires at { IsAt reading.limits self.old bytes.now }
+        requires some { 0 < length bytes.now }
+        ensures { Turns result reading.ended reading.limits self.old self.new bytes.now (E.taken events.old) (E.taken events.new) }
+    {
+        match self.plain_tag(bytes) {
+            Some(tag) => self.take_plain(reading, tag, bytes, events),
+            None => self.any_token(reading, bytes, events),
+        }
+    }
+
+    /// The same of a token of any sort.
+    fn any_token<'b, E: Events>(
         &mut self,
         reading: Reading,
         bytes: &'b [u8],

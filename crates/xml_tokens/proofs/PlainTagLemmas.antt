@@ -1,6 +1,7 @@
 -- Tags that are a name of ASCII and nothing else.
 use Rattle.std.proofs.Common.{◌≡◌, ℕ, zero, suc, ◌+◌, ◌-◌, ◌<◌, ◌≤◌, ◌==◌, nat_lt, Bool, true, false, not, ◌&&◌, ◌||◌, List, [], ◌∷◌, ◌++◌, length, take, drop}
 use Rattle.std.proofs.Common.{get_or, refl, sym, ap, ◌∙◌, arith, subst, Option, Some, None, Ok, cond, true≢false, if◌then◌else◌}
+use Rattle.std.specs.Option.{IfSome}
 use Rattle.std.specs.Str.{chars, IsAscii, is_utf8}
 use Rattle.std.specs.List.{list_all, position, position_or_len, range_with_len}
 use Rattle.std.proofs.lemmas.Bool.{not-true, eqb-true}
@@ -14,9 +15,11 @@ use Rattle.inv_base.specs.Characters.{is_char, is_white_space, is_name_char, is_
 use Rattle.inv_base.proofs.TextLemmas.{both}
 use Rattle.xml_tokens.specs.declared.kind.XmlKind.TheVariants.{NotUtf8, BadChar, BadMarkup}
 use Rattle.xml_tokens.specs.Ascii.{is_calm, is_plain_name_char, is_plain_name_start, is_plain_ncname, IsPlainName, plain_local, plain_prefixed}
-use Rattle.xml_tokens.specs.Beginnings.{bad, good, of_length, extent, tag_at}
-use Rattle.xml_tokens.specs.Markup.{Token, a_start_tag, an_end_tag, if_right}
+use Rattle.xml_tokens.specs.Beginnings.{Beginning, bad, good, of_length, extent, comment_or_section_at, extent_through, may_declare, markup_at, tag_at, beginning}
+use Rattle.xml_tokens.specs.Markup.{Token, a_start_tag, an_end_tag, if_right, instruction}
 use Rattle.xml_tokens.specs.Searches.{is_quote, begins_with, behind, one_farther, tag_end}
+use Rattle.xml_tokens.specs.Told.{BeginsTag, begins_tag}
+use Rattle.xml_tokens.specs.declared.beginning.Position.{Position}
 use Rattle.xml_tokens.specs.Tags.{tag, start_tag, end_tag, tag_inside, attribute_at, Inside}
 use Rattle.xml_tokens.specs.WrittenNames.{is_colon, is_ncname, is_qname, ends_name, name_at_front}
 use Rattle.xml_tokens.proofs.AsciiLemmas.{plain-ascii, plain-ncname-of}
@@ -25,6 +28,7 @@ use Rattle.xml_tokens.proofs.CutLemmas.{place-of, some-any}
 use Rattle.xml_tokens.proofs.ExtentLemmas.{tagged}
 use Rattle.xml_tokens.proofs.NameLemmas.{qname-parts, qname-whole}
 use Rattle.xml_tokens.proofs.TagEndLemmas.{tag-step, tag-here}
+use Rattle.xml_tokens.proofs.TokenLemmas.{begin-markup}
 use Rattle.xml_tokens.proofs.TagLemmas as tag_lemmas
 
 -- ---- single bytes
@@ -313,3 +317,53 @@ end-shown bytes name rest e plain l h =
     let sum : suc (length name) + 2 ≡ length name + 3 = omega arith in
     ap (λ r. tag_at (0x2F ∷ r)) (e ∙ ap (λ r. name ++ r) (begins-one rest h))
     ∙ (tag-by (0x2F ∷ name) (drop 1 rest) (an_end_tag name) (name-passes name plain) (omega arith) (tag-end name plain) ∙ ap (good (an_end_tag name)) sum)
+
+other-byte : (b k : ℕ) → is_plain_name_start b ≡ true → is_plain_name_start k ≡ false → (b == k) ≡ false
+other-byte b k h fails = by (b == k) refl
+  where
+    by : (t : Bool) → (b == k) ≡ t → t ≡ false
+    by false e = refl
+    by true e = absurd (true≢false (sym h ∙ (ap is_plain_name_start (eqb-true b k e) ∙ fails)))
+
+no-start-mark : is_plain_name_start 0x21 ≡ false
+unfolding is_name_start
+no-start-mark = refl
+
+no-start-question : is_plain_name_start 0x3F ≡ false
+unfolding is_name_start
+no-start-question = refl
+
+ncname-begins : (name rest : List ℕ) → is_plain_ncname name ≡ true → BeginsTag (name ++ rest)
+ncname-begins [] rest h = absurd (true≢false (sym h))
+ncname-begins (b ∷ name) rest h =
+    let start = (both (is_plain_name_start b) (list_all is_plain_name_char name) h).0 in
+    begins_tag b (name ++ rest) (other-byte b 0x21 start no-start-mark) (other-byte b 0x3F start no-start-question)
+
+-- A name is neither the front of a comment or section nor that of an instruction.
+pub name-begins : (bytes name rest : List ℕ) → bytes ≡ name ++ rest → IsPlainName name → BeginsTag bytes
+name-begins bytes name rest e (plain_local same h) = subst BeginsTag (sym e) (ncname-begins name rest h)
+name-begins bytes name rest e (plain_prefixed prefix local h g) =
+    subst BeginsTag (sym (e ∙ append_assoc prefix (0x3A ∷ local) rest)) (ncname-begins prefix ((0x3A ∷ local) ++ rest) h)
+
+abbrev behind-open : Position → List ℕ → Bool → Bool → Beginning
+behind-open p bytes t u = elim t [
+  | true ↦ comment_or_section_at (drop 1 bytes)
+  | false ↦ elim u [ true ↦ extent_through (0x3F ∷ (0x3E ∷ [])) 2 (drop 1 bytes) (instruction (may_declare p)) | false ↦ tag_at bytes ]
+]
+
+markup-tag : (p : Position) (bytes : List ℕ) → BeginsTag bytes → markup_at p bytes ≡ tag_at bytes
+markup-tag p [] tag = elim tag [ ]
+markup-tag p (b ∷ bytes) (begins_tag c same e f) = ap (λ t. behind-open p (b ∷ bytes) t (b == 0x3F)) e ∙ ap (behind-open p (b ∷ bytes) false) f
+
+-- What begins with `<` and a tag behind it is that tag.
+pub begins-as-tag : (p : Position) (ended : Bool) (bytes rest : List ℕ) (b : ℕ) → bytes ≡ b ∷ rest → b ≡ 0x3C → BeginsTag rest →
+    beginning p ended bytes ≡ tag_at rest
+begins-as-tag p ended bytes rest b e f tag = sym (begin-markup p ended bytes rest b e f) ∙ markup-tag p rest tag
+
+pub if-some : {X : Type 0} (found : Option X) (P Q R : X → Type 0) → ((x : X) → P x → Q x → R x) → IfSome found P → IfSome found Q → IfSome found R
+if-some None P Q R f p q = tt
+if-some (Some x) P Q R f p q = f x p q
+
+pub if-any : {X : Type 0} (found : Option X) (P : X → Type 0) → ((x : X) → P x) → IfSome found P
+if-any None P f = tt
+if-any (Some x) P f = f x

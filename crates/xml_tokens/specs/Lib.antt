@@ -16,3 +16,4 @@ pub mod Searching
 pub mod Seen
 pub mod Told
 pub mod Runs
+pub mod Plain

@@ -12,7 +12,6 @@ use crate::beginning::{Beginning, Position};
 use crate::greatest::GREATEST_TAG;
 use crate::kind::XmlKind;
 use crate::markup::{comment, instruction, section};
-use crate::plain_tags::plain_tag;
 use crate::scanning::{TagEnd, begins_with, ends_inside, place_after, shared_front, tag_end};
 use crate::search::Search;
 use crate::tags::tag;
@@ -169,7 +168,7 @@ fn ended_tag<'b>(
 }
 
 /// A tag, by where it ends.
-fn any_tag_at<'b>(
+fn tag_at<'b>(
     alloc: Global,
     bytes: &'b [u8],
     search: &mut Search,
@@ -186,34 +185,6 @@ fn any_tag_at<'b>(
             search.reach(1 + bytes.len(), quote);
             Ok(Beginning::Later)
         }
-    }
-}
-
-/// A tag that is a plain name alone, looked for once: a tag that was searched before isn't looked at again.
-fn first_look<'b>(alloc: Global, bytes: &'b [u8], search: &Search) -> Option<(Token<'b>, usize)>
-    ensures { IfSome result (λ tag. spec.tag_at bytes.now ≡ spec.good (seen_token tag.0) tag.1) }
-{
-    if search.is_fresh() {
-        plain_tag(alloc, bytes)
-    } else {
-        None
-    }
-}
-
-/// A tag, by the bytes behind its `<`.
-fn tag_at<'b>(
-    alloc: Global,
-    bytes: &'b [u8],
-    search: &mut Search,
-) -> Result<Beginning<'b>, AllocError>
-    requires fits { Fits search.old (0x3C ∷ bytes.now) }
-    requires is_tag { told.BeginsTag bytes.now }
-    ensures answer { IfOk result (λ found. Shows found (spec.tag_at bytes.now)) }
-    ensures search { IfOk result (λ found. Keeps found search.new (0x3C ∷ bytes.now)) }
-{
-    match first_look(alloc, bytes, search) {
-        Some((token, length)) => Ok(Beginning::Good(token, length)),
-        None => any_tag_at(alloc, bytes, search),
     }
 }
 

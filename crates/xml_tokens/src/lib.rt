@@ -31,6 +31,7 @@ pub use asides::{ClosedAside, OpenAside};
 pub use beginning::{Beginning, Position, what_begins};
 pub use greatest::GREATEST_TAG;
 pub use kind::XmlKind;
+pub use plain_tags::{PlainKind, PlainTag, plain_tag};
 pub use run::run_at_front;
 pub use search::Search;
 pub use token::{Attribute, Section, StartTag, Token, Value};

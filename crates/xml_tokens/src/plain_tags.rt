@@ -1,11 +1,14 @@
 //! Tags that are a name of ASCII and nothing else, as most tags are: gone over once, where other tags are gone over for
 //! their end, their characters and their names.
-ghost use Rattle.std.specs.Prelude.{◌≡◌, ◌≤◌, ◌<◌, ◌∷◌, ◌++◌, [], not, length, take, position, IfSome, true};
+ghost use Rattle.std.specs.Prelude.{◌≡◌, ◌≤◌, ◌<◌, ◌∷◌, ◌++◌, [], Bool, not, length, take, position, IfSome, true};
 ghost use Rattle.xml_tokens.specs.Ascii as spec;
 ghost use Rattle.xml_tokens.specs.Ascii.{IsPlainName};
-ghost use Rattle.xml_tokens.specs.Beginnings.{tag_at, good};
+ghost use Rattle.xml_tokens.specs.Beginnings.{beginning, tag_at, good};
 ghost use Rattle.xml_tokens.specs.Markup.{a_start_tag};
+ghost use Rattle.xml_tokens.specs.Plain.{plain_token};
 ghost use Rattle.xml_tokens.specs.Seen.{seen_token};
+ghost use Rattle.xml_tokens.specs.Told.{BeginsTag};
+ghost use Rattle.xml_tokens.specs.declared.beginning.Position.{Position};
 
 use crate::ascii::{is_plain_name_char, is_plain_name_start};
 use crate::scanning::begins_with;
@@ -69,13 +72,49 @@ fn name_at(bytes: &[u8]) -> Option<(&str, &[u8])>
     }
 }
 
+/// Which sort of tag it is.
+#[derive(Clone, Copy)]
+pub enum PlainKind {
+    Start,
+    Empty,
+    End,
+}
+
+/// A tag that is a name of ASCII and nothing else, and how many bytes it takes.
+#[derive(Clone, Copy)]
+pub struct PlainTag<'b> {
+    /// The name as written, its prefix and colon among it.
+    pub name: &'b str,
+    /// The length of the tag, in bytes.
+    pub len: usize,
+    /// Whether it is a start tag, an empty-element tag or an end tag.
+    pub kind: PlainKind,
+}
+
+impl<'b> PlainTag<'b> {
+    /// The tag as a token.
+    pub fn token(&self, alloc: Global) -> Token<'b>
+        ensures { seen_token result ≡ plain_token self.now }
+    {
+        match self.kind {
+            PlainKind::Start => bare(alloc, self.name, false),
+            PlainKind::Empty => bare(alloc, self.name, true),
+            PlainKind::End => Token::EndTag(self.name),
+        }
+    }
+}
+
 /// The end tag, by what stands behind its `/`.
-fn plain_end_tag(bytes: &[u8]) -> Option<(Token<'_>, usize)>
-    ensures { IfSome result (λ tag. tag_at (0x2F ∷ bytes.now) ≡ good (seen_token tag.0) tag.1) }
+fn plain_end_tag(bytes: &[u8]) -> Option<PlainTag<'_>>
+    ensures { IfSome result (λ tag. tag_at (0x2F ∷ bytes.now) ≡ good (plain_token tag) tag.len) }
 {
     let (name, behind) = name_at(bytes)?;
     if begins_with(b">", behind) {
-        Some((Token::EndTag(name), name.len() + 3))
+        Some(PlainTag {
+            name,
+            len: name.len() + 3,
+            kind: PlainKind::End,
+        })
     } else {
         None
     }
@@ -93,26 +132,46 @@ fn bare<'b>(alloc: Global, name: &'b str, is_empty: bool) -> Token<'b>
 }
 
 /// The start tag or empty-element tag, by what stands behind its `<`.
-fn plain_start_tag(alloc: Global, bytes: &[u8]) -> Option<(Token<'_>, usize)>
-    ensures { IfSome result (λ tag. tag_at bytes.now ≡ good (seen_token tag.0) tag.1) }
+fn plain_start_tag(bytes: &[u8]) -> Option<PlainTag<'_>>
+    ensures tag { IfSome result (λ tag. tag_at bytes.now ≡ good (plain_token tag) tag.len) }
+    ensures begins { IfSome result (λ tag. BeginsTag bytes.now) }
 {
     let (name, behind) = name_at(bytes)?;
     if begins_with(b">", behind) {
-        Some((bare(alloc, name, false), name.len() + 2))
+        Some(PlainTag {
+            name,
+            len: name.len() + 2,
+            kind: PlainKind::Start,
+        })
     } else if begins_with(b"/>", behind) {
-        Some((bare(alloc, name, true), name.len() + 3))
+        Some(PlainTag {
+            name,
+            len: name.len() + 3,
+            kind: PlainKind::Empty,
+        })
     } else {
         None
     }
 }
 
-/// The tag that is a name of ASCII and nothing else, and how many bytes it takes, by what stands behind its `<`. None
-/// where it is another tag, or isn't whole.
-pub fn plain_tag(alloc: Global, bytes: &[u8]) -> Option<(Token<'_>, usize)>
-    ensures { IfSome result (λ tag. tag_at bytes.now ≡ good (seen_token tag.0) tag.1) }
+/// The same of each sort, by what stands behind its `<`.
+fn plain_tag_behind(bytes: &[u8]) -> Option<PlainTag<'_>>
+    ensures tag { IfSome result (λ tag. tag_at bytes.now ≡ good (plain_token tag) tag.len) }
+    ensures begins { IfSome result (λ tag. BeginsTag bytes.now) }
 {
     match bytes {
         [first, behind @ ..] if *first == b'/' => plain_end_tag(behind),
-        _ => plain_start_tag(alloc, bytes),
+        _ => plain_start_tag(bytes),
+    }
+}
+
+/// The tag that begins at the front of the bytes, where it is a name of ASCII and nothing else. None where it is another
+/// tag or isn't whole, or where no tag begins.
+pub fn plain_tag(bytes: &[u8]) -> Option<PlainTag<'_>>
+    ensures { IfSome result (λ tag. (position : Position) → (ended : Bool) → beginning position ended bytes.now ≡ good (plain_token tag) tag.len) }
+{
+    match bytes {
+        [first, behind @ ..] if *first == b'<' => plain_tag_behind(behind),
+        _ => None,
     }
 }

@@ -1,4 +1,4 @@
-ghost use Rattle.std.specs.Prelude.{◌≡◌, ◌-◌, None};
+ghost use Rattle.std.specs.Prelude.{◌≡◌, ◌==◌, ◌-◌, None};
 ghost use Rattle.xml_tokens.specs.Searching.{fresh};
 
 use std::marker::Model;
@@ -31,7 +31,9 @@ impl Search {
     }
 
     /// Whether nothing was searched.
-    pub(crate) fn is_fresh(&self) -> bool {
+    pub fn is_fresh(&self) -> bool
+        ensures { result ≡ (self.now.searched == 0) }
+    {
         self.searched == 0
     }
 

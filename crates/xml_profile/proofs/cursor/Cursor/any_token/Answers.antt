@@ -1,7 +1,7 @@
 use Rattle.std.proofs.Common.{sym, ◌∙◌}
 use Rattle.xml_tokens.specs.declared.beginning.Beginning.TheVariants.{Bad, Later}
 use Rattle.xml_profile.proofs.TurnLemmas.{says-at, continues-as, breaks-at-once, breaks-as, is-bad, is-unfinished, is-unfinished-beyond, turns-anew}
-use Rattle.xml_profile.proofs.cursor.Cursor.token.Goals as goal
+use Rattle.xml_profile.proofs.cursor.Cursor.any_token.Goals as goal
 
 pub returns-in-Ok-Good : goal.returns-in-Ok-Good
 returns-in-Ok-Good g c = turns-anew _ _ _ _ _ _ _ _ _ _ _ c.take.ensures

@@ -11,6 +11,7 @@ pub mod MapLemmas
 pub mod PresenceLemmas
 pub mod CountLemmas
 pub mod LineRowLemmas
+mod LeftOutLemmas
 pub mod WalkLemmas
 mod LackRows
 pub mod ContextLemmas

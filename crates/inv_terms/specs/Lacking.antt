@@ -99,6 +99,10 @@ lacks_group seats context k row =
     is_at_least_once (occurrence_of row.group) && ((k == first_row row.group)
     && (has_context (parent_of row.group) context && not (has_occurrence seats row.group)))
 
+-- Nothing is ever missing at the row: its term may be left out, and so may its group.
+abbrev pub may_be_left_out : TermRow → Bool
+may_be_left_out row = elim row.mark [ marks.One ↦ false | marks.Optional ↦ not (is_at_least_once (occurrence_of row.group)) | marks.After ↦ false ]
+
 -- what is missing at the k-th row
 abbrev pub missing_at : List Seat → Context → ℕ → TermRow → Option Name
 missing_at seats context k row =

@@ -200,6 +200,17 @@ fn lacks_group<T: Seated>(
             && (has_context(row.group.parent(), context) && !has_occurrence(standing, row.group)))
 }
 
+/// Whether nothing is ever missing at a row, as at most rows: its term may be left out, and so may its group.
+fn may_be_left_out(row: &TermRow) -> bool
+    ensures { result ≡ spec.may_be_left_out row.now }
+{
+    match row.mark {
+        Mark::Optional => !is_at_least_once(row.group.occurrence()),
+        Mark::One => false,
+        Mark::After => false,
+    }
+}
+
 fn missing_at<T: Seated>(
     standing: &Standing<'_, T>,
     context: Context,
@@ -208,6 +219,9 @@ fn missing_at<T: Seated>(
 ) -> Option<Name>
     ensures { result ≡ spec.missing_at standing.now context k row.now }
 {
+    if may_be_left_out(row) {
+        return None;
+    }
     if has_context(row.group, context) {
         if is_missing(standing, context, row) {
             return Some(Name::Term(row.term));

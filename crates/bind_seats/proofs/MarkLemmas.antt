@@ -1,13 +1,14 @@
 -- Marks in their order: halving finds how many come before one.
 use Rattle.std.proofs.Common.{◌≡◌, ℕ, ◌+◌, ◌-◌, ◌<◌, ◌≤◌, zero, suc, Bool, true, false, ◌&&◌, ◌||◌, List, [], ◌∷◌, length, get_or, refl, sym, ap, ◌∙◌, cond}
-use Rattle.std.proofs.Common.{not, inl, inr, arith}
-use Rattle.std.specs.Prelude.{nat_lt, filter}
+use Rattle.std.proofs.Common.{not, inl, inr, arith, Option, Some, None, ◌++◌}
+use Rattle.std.specs.Prelude.{nat_lt, filter, slice_get}
 use Rattle.std.specs.List.{list_all, dedup, dedup_from, AllByRecursion}
 use Rattle.std.specs.List.Sorted.{IsPartitionedBy, IsPartitionPoint, IsSorted, IsStrictlySortedBy}
 use Rattle.std.specs.Ordering.{nat_cmp, ordering_then, eq_by_cmp}
 use Rattle.std.specs.Cmp.{IsTotalOrder}
 use Rattle.std.proofs.lemmas.Cmp.{nat_cmp_total, then_total, on_total}
 use Rattle.std.proofs.lemmas.List.Kept.{IsStrictlySortedBy-dedup}
+use Rattle.std.proofs.lemmas.Option.{none-some}
 use lib.Dec.{eqb, leb}
 use Rattle.std.specs.declared.cmp.Ordering.{Ordering}
 use Rattle.std.specs.declared.cmp.Ordering.TheVariants.{Less}
@@ -170,6 +171,18 @@ or-twice true true r e = refl
 or-twice false false r e = refl
 or-twice true false r e = cc
 or-twice false true r e = cc
+
+-- A mark that is the last of some already makes no difference behind them.
+pub last-twice : (ms : List Mark) (last mark : Mark) → Some last ≡ slice_get ms (length ms - 1) → mark_eq last mark ≡ true → (rest : List Mark) (m : Mark)
+    → has_mark (ms ++ rest) m ≡ has_mark (ms ++ (mark ∷ rest)) m
+last-twice [] last mark is same rest m = absurd (none-some last (sym is))
+last-twice (x ∷ []) last mark is same rest m =
+    let it : last ≡ x = ap (λ (found : Option Mark). elim found [ None ↦ x | (Some k) ↦ k ]) is in
+    let alike : mark_eq x mark ≡ true = ap (λ k. mark_eq k mark) (sym it) ∙ same in
+    or-twice (same_mark m mark) (same_mark m x) (has_mark rest m) (sym (same-alike m x mark alike))
+last-twice (x ∷ (y ∷ ms)) last mark is same rest m =
+    let one : length (x ∷ (y ∷ ms)) - 1 ≡ suc (length (y ∷ ms) - 1) = omega arith in
+    ap (λ b. same_mark m x || b) (last-twice (y ∷ ms) last mark (is ∙ ap (slice_get (x ∷ (y ∷ ms))) one) same rest m)
 
 dedup_from-has : (k : Mark) (ms : List Mark) (m : Mark) → has_mark (dedup_from mark_eq k ms) m ≡ has_mark (k ∷ ms) m
 dedup_from-has k [] m = refl

@@ -1,8 +1,10 @@
 //! Lists that are looked up by halving.
 
-ghost use Rattle.std.specs.Prelude.{◌≡◌, ◌+◌, ◌<◌, ◌^◌, true, length, filter};
+ghost use Rattle.std.specs.Prelude.{◌≡◌, ◌+◌, ◌<◌, ◌^◌, List, ◌∷◌, ◌++◌, true, length, filter, OnOk};
 ghost use Rattle.bind_seats.specs.declared.marks.Mark.{Mark};
 ghost use Rattle.bind_seats.specs.Marks as spec;
+
+use std::alloc::AllocError;
 
 /// Something of a kind that stands in a node, and has a number there: an occurrence of a group in the element of its
 /// outer one, or a term picked in an element.
@@ -12,6 +14,26 @@ pub(crate) struct Mark {
     pub(crate) around: u32,
     pub(crate) kind: u32,
     pub(crate) number: u32,
+}
+
+/// Whether the last of the marks is this one.
+fn is_last(marks: &[Mark], mark: Mark) -> bool
+    ensures { result ≡ true → (rest : List Mark) → (m : Mark) → spec.has_mark (marks.now ++ rest) m ≡ spec.has_mark (marks.now ++ mark ∷ rest) m }
+{
+    match marks.last() {
+        Some(last) => *last == mark,
+        None => false,
+    }
+}
+
+/// Puts a mark behind the others, unless it is the last of them: most marks come many times in a row.
+pub(crate) fn put_mark(marks: &mut Vec<Mark>, mark: Mark) -> Result<(), AllocError>
+    ensures { OnOk result ((rest : List Mark) → (m : Mark) → spec.has_mark (marks.new.items ++ rest) m ≡ spec.has_mark (marks.old.items ++ mark ∷ rest) m) }
+{
+    if !is_last(marks, mark) {
+        marks.push(mark)?;
+    }
+    Ok(())
 }
 
 /// The marks in their order, each once.

@@ -8,7 +8,7 @@ ghost use Rattle.bind_seats.specs.Rowed.{AreRowed, IsRowed};
 ghost use Rattle.bind_seats.specs.Occurrences as spec;
 ghost use Rattle.bind_seats.specs.Occurrences.{IsSeated};
 
-use crate::marks::{Mark, in_order, place_in};
+use crate::marks::{Mark, in_order, place_in, put_mark};
 use crate::rowed::row_of;
 use bind_meaning::{Picked, PlacedPick, Seated};
 use bind_rows::Row;
@@ -67,7 +67,7 @@ fn outer_marks(alloc: Global, rows: &[Row], picks: &[Picked]) -> Result<Vec<Mark
     let mut marks = Vec::new(alloc);
     'picks: for pick in picks {
         match outer_mark(row_of(rows, pick), pick) {
-            Some(mark) => marks.push(mark)?,
+            Some(mark) => put_mark(&mut marks, mark)?,
             None => {}
         }
     }
@@ -83,7 +83,7 @@ fn inner_marks(alloc: Global, rows: &[Row], picks: &[Picked]) -> Result<Vec<Mark
     let mut marks = Vec::new(alloc);
     'picks: for pick in picks {
         match inner_mark(row_of(rows, pick), pick) {
-            Some(mark) => marks.push(mark)?,
+            Some(mark) => put_mark(&mut marks, mark)?,
             None => {}
         }
     }

@@ -12,7 +12,7 @@ use Rattle.bind_rows.specs.declared.rows.Content.{Content}
 use Rattle.bind_rows.specs.declared.rows.Content.TheVariants as contents
 use Rattle.bind_rows.specs.declared.rows.Check.{Check}
 use Rattle.bind_rows.specs.declared.rows.Check.TheVariants as checks
-use Rattle.bind_table.specs.Lines.{Plan, plan_of}
+use Rattle.bind_table.specs.Lines.{plan_of}
 use Rattle.bind_table.specs.Limits.{HasSteps}
 use Rattle.bind_table.specs.Picks.{picked_from, walked}
 use Rattle.bind_meaning.specs.declared.picked.Picked.{Picked}
@@ -21,13 +21,13 @@ use Rattle.bind_meaning.specs.Picks.{Pick, Numbered, term_in, has_any_term, rows
 use Rattle.bind_meaning.specs.Terms.{in_order}
 use Rattle.bind_walk.specs.declared.lines.Wanted.{Wanted}
 use Rattle.bind_walk.specs.declared.lines.Wanted.TheVariants as wants
-use Rattle.bind_walk.specs.declared.walk.Find.{Find}
-use Rattle.bind_walk.specs.declared.lines.FoundLine.{FoundLine}
-use Rattle.bind_walk.specs.Finding.{Finds, RowsAreWalked, SortsPicks}
-use Rattle.bind_walk.specs.Lines.{wanted, wanted_by, lined}
+use Rattle.bind_walk.specs.declared.finds.Find.{Find}
+use Rattle.bind_walk.specs.Finding.{AreFound, RowsAreWalked, SortsPicks}
+use Rattle.bind_walk.specs.Lines.{wanted, wanted_by}
 use Rattle.bind_walk.specs.Picks.{is_indicator, indicator_in}
 use Rattle.bind_walk.specs.Sorting.{order, Sorts}
-use Rattle.bind_walk.specs.Walks.{sight, picked_for, strolled, LeadsAlike}
+use Rattle.bind_walk.specs.Finds.{picked_for}
+use Rattle.bind_walk.specs.Walks.{sight, strolled, LeadsAlike}
 use Rattle.bind_walk.proofs.SortLemmas.{Every, up-sorted, up-map, unique, sum-flat_map, sum-map}
 use Rattle.bind_walk.proofs.LinkLemmas.{none}
 use Rattle.bind_walk.proofs.StrollLemmas.{strolled-sum}
@@ -41,13 +41,12 @@ from-places n (node ∷ nodes) h = (
   from-places (n + 1) nodes (λ k l. h (suc k) (omega (arith, l)) ∙ (let e : n + suc k ≡ n + 1 + k = omega arith in e)),
 )
 
-pub finds-of : (d : Document) (rows : List Row) (lines held : List FoundLine) (finds seen : List Find) → RowsAreWalked → LeadsAlike d → All HasSteps rows
-    → held ≡ lines → lines ≡ lined d (plan_of rows)
-    → ((plan : Plan) → held ≡ lined d plan → finds ≡ strolled d plan [] 0) → seen ≡ finds → Finds d rows seen
-finds-of d rows lines held finds seen walking alike long held_is lines_is found seen_is = record {
+-- What is found by the lines of a table is what its rows pick, in another order.
+pub are-found : (d : Document) (rows : List Row) → RowsAreWalked → LeadsAlike d → All HasSteps rows → AreFound d rows (strolled d (plan_of rows) [] 0)
+are-found d rows walking alike long = record {
   moved = λ f.
       sym (sum_by-IsPermutation f (picked_from (sight d) 0 rows [] 0) (walked (sight d) (plan_of rows) [] 0) (walking.moved d rows long))
-      ∙ (sym (strolled-sum f d alike (plan_of rows) [] 0) ∙ ap (sum_by f) (sym (seen_is ∙ found (plan_of rows) (held_is ∙ lines_is))));
+      ∙ sym (strolled-sum f d alike (plan_of rows) [] 0);
 }
 
 term-agrees : (d : Document) (content : Content) (check : Check) → is_some (term_in content) ≡ is_for d wants.Term (wanted_by content check)
@@ -71,7 +70,7 @@ module _ (d : Document) (nested : IsNested d) (some : 0 < length d.nodes) where
 
   module _ (w : Wanted) (test : Row → Bool) (agree : (row : Row) → test row ≡ is_for d w (wanted row)) (rows : List Row) (finds : List Find)
       (picks : List Picked)
-      (found : Finds d rows finds) (sorts : Sorts (flat_map (picked_for w) finds) picks) where
+      (found : AreFound d rows finds) (sorts : Sorts (flat_map (picked_for w) finds) picks) where
     counts : (f : Picked → ℕ) → sum_by f (map kept (in_order (tree_nodes d) (all_picked (tree_nodes d) (rows_where test rows)))) ≡ sum_by f picks
     counts f =
         let ps = all_picked (tree_nodes d) (rows_where test rows) in

@@ -36,7 +36,7 @@ use Rattle.bind_walk.specs.declared.lines.Wanted.{Wanted}
 use Rattle.bind_walk.specs.declared.lines.End.TheVariants as ends
 use Rattle.bind_walk.specs.declared.lines.FoundRow.{FoundRow}
 use Rattle.bind_walk.specs.declared.walk.Carried.{Carried}
-use Rattle.bind_walk.specs.declared.walk.Find.{Find}
+use Rattle.bind_walk.specs.declared.finds.Find.{Find}
 use Rattle.bind_walk.specs.Lines.{wanted, end_at, attribute_at, row_for, found_cell}
 use Rattle.bind_walk.specs.Walks.{sight, told, told_for, find_at, found_attributes, found_in_row, found_in, around_in, is_of, entered_in, line_of, LeadsAlike}
 use Rattle.bind_walk.proofs.SortLemmas.{Every, every-at, every-filter, every-map, every-weaker}

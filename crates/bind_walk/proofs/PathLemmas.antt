@@ -18,9 +18,10 @@ use Rattle.bind_meaning.specs.Picks.{ways, last_of, leaves_of, picks_of_way, nod
 use Rattle.bind_meaning.specs.Kept.{kept}
 use Rattle.bind_walk.specs.declared.lines.Wanted.{Wanted}
 use Rattle.bind_walk.specs.declared.walk.Carried.{Carried}
-use Rattle.bind_walk.specs.declared.walk.Find.{Find}
+use Rattle.bind_walk.specs.declared.finds.Find.{Find}
 use Rattle.bind_walk.specs.Lines.{wanted}
-use Rattle.bind_walk.specs.Walks.{same_wanted, picked_for, carried, carrier_of, told_for, sight}
+use Rattle.bind_walk.specs.Finds.{same_wanted, picked_for}
+use Rattle.bind_walk.specs.Walks.{carried, carrier_of, told_for, sight}
 
 -- ---- lists one behind another
 

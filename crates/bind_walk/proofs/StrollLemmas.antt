@@ -10,7 +10,7 @@ use Rattle.bind_meaning.specs.Elements.{met}
 use Rattle.bind_walk.specs.Chains.{children}
 use Rattle.bind_walk.specs.declared.lines.FoundLine.{FoundLine}
 use Rattle.bind_walk.specs.declared.walk.Carried.{Carried}
-use Rattle.bind_walk.specs.declared.walk.Find.{Find}
+use Rattle.bind_walk.specs.declared.finds.Find.{Find}
 use Rattle.bind_walk.specs.Walks.{sight, line_of, is_of, around_in, found_here, found_by, entered_by, entered_in, met_by, strolled, LeadsAlike}
 
 module _ (f : Find → ℕ) where

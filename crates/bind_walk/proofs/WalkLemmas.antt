@@ -4,20 +4,39 @@ use Rattle.std.proofs.Common.{append_assoc, length-append, length-drop}
 use Rattle.std.specs.Prelude.{◌&&◌, ◌==◌}
 use Rattle.std.specs.List.{flat_map, list_all}
 use Rattle.std.proofs.lemmas.List.{take_at, drop_at, append-nil}
+use Rattle.std.proofs.lemmas.Grind.{flat_map-append}
 use Rattle.std.proofs.lemmas.Bool.{eqb-true}
-use Rattle.term_table.specs.declared.groups.Group.{Group}
 use Rattle.node_arena.specs.Document.{Document, node_at}
 use Rattle.node_arena.specs.Moves.{is_child, has_found}
 use Rattle.bind_rows.specs.declared.rows.Step.{Step}
 use Rattle.bind_table.specs.Lines.{Cell, Plan, nothing, a_line}
 use Rattle.bind_walk.specs.Chains.{children, numbers_from, IsAt}
+use Rattle.bind_walk.specs.declared.lines.Wanted.TheVariants as wants
 use Rattle.bind_walk.specs.declared.lines.FoundLine.{FoundLine}
 use Rattle.bind_walk.specs.declared.walk.Carried.{Carried}
-use Rattle.bind_walk.specs.declared.walk.Find.{Find}
+use Rattle.bind_walk.specs.declared.finds.Find.{Find}
+use Rattle.bind_walk.specs.Finds.{Lists, lists_of, picked_for, put_all}
 use Rattle.bind_walk.specs.Lines.{lined}
 use Rattle.bind_walk.specs.Found.{found_element, is_met, is_same_number}
 use Rattle.bind_walk.specs.Walks.{line_of, AreLined, around_in, is_of, found_by, entered_by, met_by, strolled, Walks, Meets, Enters, PicksIn}
 use Rattle.bind_walk.proofs.NumberLemmas.{number-says, none-found}
+
+-- ---- finds that are put
+
+-- Where nothing is put nothing changes,
+pub put-nil : (lists : Lists) → put_all lists [] ≡ lists
+put-nil lists = ap (λ xs. lists_of xs (lists.indicators ++ [])) (append-nil lists.terms) ∙ ap (lists_of lists.terms) (append-nil lists.indicators)
+
+-- and finds that are put one behind another are put together.
+pub put-more : (lists : Lists) (xs ys : List Find) → put_all (put_all lists xs) ys ≡ put_all lists (xs ++ ys)
+put-more lists xs ys =
+    let terms = append_assoc lists.terms (flat_map (picked_for wants.Term) xs) (flat_map (picked_for wants.Term) ys)
+    ∙ ap (λ zs. lists.terms ++ zs) (sym (flat_map-append (picked_for wants.Term) xs ys)) in
+    let indicators = append_assoc lists.indicators (flat_map (picked_for wants.Indicator) xs) (flat_map (picked_for wants.Indicator) ys)
+    ∙ ap (λ zs. lists.indicators ++ zs) (sym (flat_map-append (picked_for wants.Indicator) xs ys)) in
+    ap (λ zs. lists_of zs (put_all (put_all lists xs) ys).indicators) terms ∙ ap (lists_of (put_all lists (xs ++ ys)).terms) indicators
+
+-- ---- at an element of a line
 
 -- An element isn't of a line whose name it hasn't.
 not-entered : (d : Document) (line : FoundLine) (deeper : List Carried → ℕ → List Find) (around : List Carried) (n : ℕ)
@@ -26,33 +45,33 @@ not-entered d line deeper around n other =
     ap (λ b. elim (b && list_all (is_met d n) line.guards) as (λ _. List Find) [ true ↦ found_by d line deeper (around_in line.group n around) n | false ↦ [] ])
     other
 
--- At an element of a line of a group more is around.
-pub entered_some : (d : Document) (line : FoundLine) (lines : List FoundLine) (n : ℕ) (around further : List Carried) (group : Group) (passes : Bool)
-    (old new : List Find)
-    → passes ≡ is_of d line n → passes ≡ true → line.group ≡ Some group → further ≡ around ++ record { group = group; element = n } ∷ []
+-- What is found in an element of a line is found with more around where the line has a group.
+pub entered : (d : Document) (line : FoundLine) (lines : List FoundLine) (n : ℕ) (around further : List Carried) (passes : Bool) (old new : Lists)
+    → passes ≡ is_of d line n → passes ≡ true → around_in line.group n around ≡ further
     → PicksIn d line lines n further old new → Enters d line lines n around old new
-entered_some d line lines n around further group passes old new passes_is passed group_is further_is picks plan is =
-    picks plan is ∙ ap (λ xs. old ++ xs) (sym
+entered d line lines n around further passes old new passes_is passed further_is picks plan is =
+    picks plan is ∙ ap (put_all old) (sym
     (ap (λ b. elim b as (λ _. List Find) [ true ↦ found_by d line (strolled d plan) (around_in line.group n around) n | false ↦ [] ]) (sym passes_is ∙ passed)
-    ∙ ap (λ c. found_by d line (strolled d plan) c n) (ap (λ g. around_in g n around) group_is ∙ sym further_is)))
+    ∙ ap (λ c. found_by d line (strolled d plan) c n) further_is))
 
 -- Of the lines of a tree these are left: what was recorded, and what they find in a child, is what all find there.
-pub record Left (d : Document) (lines : List FoundLine) (n : ℕ) (around : List Carried) (old : List Find) (left : List FoundLine)
-    (new : List Find) : Type 0 where
+pub record Left (d : Document) (lines : List FoundLine) (n : ℕ) (around : List Carried) (old : Lists) (left : List FoundLine)
+    (new : Lists) : Type 0 where
   pub some : AreLined d left
   pub shorter : length left ≤ length lines
-  pub all : (plan : Plan) → lines ≡ lined d plan → (rest : Plan) × (left ≡ lined d rest) × (new ++ met_by d rest around n ≡ old ++ met_by d plan around n)
+  pub all : (plan : Plan) → lines ≡ lined d plan
+      → (rest : Plan) × (left ≡ lined d rest) × (put_all new (met_by d rest around n) ≡ put_all old (met_by d plan around n))
 
 -- Of the children of an element those from one on are left.
-pub record Inside (d : Document) (lines : List FoundLine) (n : ℕ) (around : List Carried) (old : List Find) (at : Option ℕ) (new : List Find) : Type 0 where
+pub record Inside (d : Document) (lines : List FoundLine) (n : ℕ) (around : List Carried) (old : Lists) (at : Option ℕ) (new : Lists) : Type 0 where
   pub here : IsAt (is_child n) d at
   pub all : (plan : Plan) → lines ≡ lined d plan
-      → new ++ flat_map (met_by d plan around) (numbers_from (is_child n) d at) ≡ old ++ strolled d plan around n
+      → put_all new (flat_map (met_by d plan around) (numbers_from (is_child n) d at)) ≡ put_all old (strolled d plan around n)
 
 -- Without lines nothing is found.
-pub walks_nowhere : (d : Document) (lines : List FoundLine) (n : ℕ) (around : List Carried) (old : List Find) → (length lines == 0) ≡ true
+pub walks_nowhere : (d : Document) (lines : List FoundLine) (n : ℕ) (around : List Carried) (old : Lists) → (length lines == 0) ≡ true
     → Walks d lines n around old old
-walks_nowhere d lines n around old none nothing is = sym (append-nil old) ∙ ap (λ xs. old ++ xs) (sym (nowhere (children d n)))
+walks_nowhere d lines n around old none nothing is = sym (put-nil old) ∙ ap (put_all old) (sym (nowhere (children d n)))
   where
     nowhere : (ns : List ℕ) → flat_map (met_by d nothing around) ns ≡ []
     nowhere [] = refl
@@ -61,9 +80,9 @@ walks_nowhere d lines n around old none (a_line s cells inside rest) is =
     absurd (let e = ap length is in let z = eqb-true (length lines) 0 none in omega (arith, e, z))
 
 -- nor in a child that has no name
-pub meets_nothing : (d : Document) (lines : List FoundLine) (n : ℕ) (around : List Carried) (old : List Find) → None ≡ (node_at d.nodes n).name
+pub meets_nothing : (d : Document) (lines : List FoundLine) (n : ℕ) (around : List Carried) (old : Lists) → None ≡ (node_at d.nodes n).name
     → Meets d lines n around old old
-meets_nothing d lines n around old none plan is = sym (append-nil old) ∙ ap (λ xs. old ++ xs) (sym (all plan))
+meets_nothing d lines n around old none plan is = sym (put-nil old) ∙ ap (put_all old) (sym (all plan))
   where
     all : (plan : Plan) → met_by d plan around n ≡ []
     all nothing = refl
@@ -105,7 +124,7 @@ module _ {d : Document} {line : FoundLine} {behind : List FoundLine} {plan : Pla
   pub split-rest : drop line.size behind ≡ lined d s.rest
   split-rest = ap (drop line.size) s.behind_is ∙ drop_at (lined d s.inside) (lined d s.rest) line.size (sym split-size)
 
-pub left_begin : (d : Document) (lines : List FoundLine) (n : ℕ) (around : List Carried) (old : List Find) → AreLined d lines
+pub left_begin : (d : Document) (lines : List FoundLine) (n : ℕ) (around : List Carried) (old : Lists) → AreLined d lines
     → Left d lines n around old lines old
 left_begin d lines n around old a = record { some = a; shorter = omega arith; all = λ plan is. (plan, is, refl) }
 
@@ -123,10 +142,10 @@ left_inside d left line behind inside is front a =
     let s = left_split d left line behind is a in
     record { plan = s.1.inside; is = front ∙ split-inside s.1 }
 
-module _ (d : Document) (lines : List FoundLine) (n : ℕ) (around : List Carried) (old : List Find) (left : List FoundLine) (new : List Find)
+module _ (d : Document) (lines : List FoundLine) (n : ℕ) (around : List Carried) (old : Lists) (left : List FoundLine) (new : Lists)
     (line : FoundLine) (behind inside rest : List FoundLine) (l : Left d lines n around old left new)
     (is : left ≡ line ∷ behind) (front : inside ≡ take line.size behind) (back : rest ≡ drop line.size behind) where
-  pub left_more : (after : List Find) → ((plan : Plan) → inside ≡ lined d plan → after ≡ new ++ entered_by d line (strolled d plan) around n)
+  pub left_more : (after : Lists) → ((plan : Plan) → inside ≡ lined d plan → after ≡ put_all new (entered_by d line (strolled d plan) around n))
       → Left d lines n around old rest after
   left_more after enters =
       let s = left_split d left line behind is l.some in
@@ -138,26 +157,27 @@ module _ (d : Document) (lines : List FoundLine) (n : ℕ) (around : List Carrie
             let t = split d line behind w.0 (sym is ∙ w.1) in
             let found : List Find = entered_by d (line_of d t.step t.cells t.inside) (strolled d t.inside) around n in
             let others : List Find = met_by d t.rest around n in
-            let step : after ≡ new ++ found = enters t.inside (front ∙ split-inside t)
-            ∙ ap (λ x. new ++ entered_by d x (strolled d t.inside) around n) t.line_is in (
+            let step : after ≡ put_all new found = enters t.inside (front ∙ split-inside t)
+            ∙ ap (λ x. put_all new (entered_by d x (strolled d t.inside) around n)) t.line_is in (
               t.rest,
               back ∙ split-rest t,
-              ap (λ xs. xs ++ others) step ∙ (append_assoc new found others ∙ (ap (λ p. new ++ met_by d p around n) (sym t.plan_is) ∙ w.2)),
+              ap (λ lists. put_all lists others) step ∙ (put-more new found others ∙ (ap (λ p. put_all new (met_by d p around n)) (sym t.plan_is) ∙ w.2)),
             );
       }
 
   -- a line of another name
   pub left_past : (name : ℕ) → (node_at d.nodes n).name ≡ Some name → is_same_number line.name name ≡ false → Left d lines n around old rest new
   left_past name named other =
-      left_more new (λ plan lined_is. sym (append-nil new)
-      ∙ ap (λ xs. new ++ xs) (sym (not-entered d line (strolled d plan) around n (number-says d line.name name n named ∙ other))))
+      left_more new (λ plan lined_is. sym (put-nil new)
+      ∙ ap (put_all new) (sym (not-entered d line (strolled d plan) around n (number-says d line.name name n named ∙ other))))
 
-pub left_end : (d : Document) (lines : List FoundLine) (n : ℕ) (around : List Carried) (old : List Find) (new : List Find) → Left d lines n around old [] new
+pub left_end : (d : Document) (lines : List FoundLine) (n : ℕ) (around : List Carried) (old : Lists) (new : Lists) → Left d lines n around old [] new
     → Meets d lines n around old new
 left_end d lines n around old new l plan is =
     let w = l.all plan is in
     at w.0 w.1 w.2
   where
-    at : (rest : Plan) → [] ≡ lined d rest → new ++ met_by d rest around n ≡ old ++ met_by d plan around n → new ≡ old ++ met_by d plan around n
-    at nothing e h = sym (append-nil new) ∙ h
+    at : (rest : Plan) → [] ≡ lined d rest → put_all new (met_by d rest around n) ≡ put_all old (met_by d plan around n)
+        → new ≡ put_all old (met_by d plan around n)
+    at nothing e h = sym (put-nil new) ∙ h
     at (a_line s cells inside rest) e h = cc

@@ -1,4 +1,5 @@
 pub mod Lines
+pub mod Finds
 pub mod Walks
 pub mod Sorting
 pub mod Picks

@@ -12,30 +12,18 @@ use Rattle.bind_table.specs.Lines.{Cell, Plan, nothing, a_line}
 use Rattle.bind_table.specs.Picks.{Sight, walked, through, here}
 use Rattle.bind_walk.specs.Chains.{attributes, children}
 use Rattle.bind_walk.specs.Found.{is_met, string_at}
-use Rattle.bind_meaning.specs.declared.picked.Picked.{Picked}
 use Rattle.bind_meaning.specs.Elements.{met}
 use Rattle.bind_meaning.specs.Picks.{leaves_of}
 use Rattle.bind_walk.specs.declared.lines.Wanted.{Wanted}
-use Rattle.bind_walk.specs.declared.lines.Wanted.TheVariants as wants
 use Rattle.bind_walk.specs.declared.lines.End.{End}
 use Rattle.bind_walk.specs.declared.lines.End.TheVariants as ends
 use Rattle.bind_walk.specs.declared.lines.FoundRow.{FoundRow}
 use Rattle.bind_walk.specs.declared.lines.FoundLine.{FoundLine}
 use Rattle.bind_walk.specs.declared.walk.Carried.{Carried}
-use Rattle.bind_walk.specs.declared.walk.Find.{Find}
+use Rattle.bind_walk.specs.declared.finds.Find.{Find}
+use Rattle.bind_walk.specs.Finds.{Lists, put_all}
 use Rattle.bind_walk.specs.Lines.{wanted, lined, found_cell}
 use Rattle.bind_walk.specs.Found.{found_element, found_guard}
-
--- ---- what was found for one reason
-
-abbrev pub same_wanted : Wanted → Wanted → Bool
-same_wanted wants.Term wants.Term = true
-same_wanted wants.Term wants.Indicator = false
-same_wanted wants.Indicator wants.Term = false
-same_wanted wants.Indicator wants.Indicator = true
-
-abbrev pub picked_for : Wanted → Find → List Picked
-picked_for w find = elim (same_wanted find.wanted w) [ true ↦ find.picked ∷ [] | false ↦ [] ]
 
 -- ---- the elements of groups
 
@@ -140,17 +128,17 @@ met_by d (a_line s cells inside rest) around n =
 abbrev pub strolled : Document → Plan → List Carried → ℕ → List Find
 strolled d plan around n = flat_map (met_by d plan around) (children d n)
 
-abbrev pub Walks : Document → List FoundLine → ℕ → List Carried → List Find → List Find → Type 0
-Walks d lines n around old new = (plan : Plan) → lines ≡ lined d plan → new ≡ old ++ strolled d plan around n
+abbrev pub Walks : Document → List FoundLine → ℕ → List Carried → Lists → Lists → Type 0
+Walks d lines n around old new = (plan : Plan) → lines ≡ lined d plan → new ≡ put_all old (strolled d plan around n)
 
-abbrev pub Meets : Document → List FoundLine → ℕ → List Carried → List Find → List Find → Type 0
-Meets d lines n around old new = (plan : Plan) → lines ≡ lined d plan → new ≡ old ++ met_by d plan around n
+abbrev pub Meets : Document → List FoundLine → ℕ → List Carried → Lists → Lists → Type 0
+Meets d lines n around old new = (plan : Plan) → lines ≡ lined d plan → new ≡ put_all old (met_by d plan around n)
 
-abbrev pub Enters : Document → FoundLine → List FoundLine → ℕ → List Carried → List Find → List Find → Type 0
-Enters d line lines n around old new = (inside : Plan) → lines ≡ lined d inside → new ≡ old ++ entered_by d line (strolled d inside) around n
+abbrev pub Enters : Document → FoundLine → List FoundLine → ℕ → List Carried → Lists → Lists → Type 0
+Enters d line lines n around old new = (inside : Plan) → lines ≡ lined d inside → new ≡ put_all old (entered_by d line (strolled d inside) around n)
 
-abbrev pub PicksIn : Document → FoundLine → List FoundLine → ℕ → List Carried → List Find → List Find → Type 0
-PicksIn d line lines n around old new = (inside : Plan) → lines ≡ lined d inside → new ≡ old ++ found_by d line (strolled d inside) around n
+abbrev pub PicksIn : Document → FoundLine → List FoundLine → ℕ → List Carried → Lists → Lists → Type 0
+PicksIn d line lines n around old new = (inside : Plan) → lines ≡ lined d inside → new ≡ put_all old (found_by d line (strolled d inside) around n)
 
 -- ---- lines beside steps
 

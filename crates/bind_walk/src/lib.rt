@@ -3,6 +3,7 @@
 #![tactic(auto)]
 
 mod chains;
+mod finds;
 mod guards;
 mod lines;
 mod names;

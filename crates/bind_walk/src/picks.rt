@@ -1,7 +1,6 @@
 //! What the rows of a table pick in a document.
 
 ghost use Rattle.std.specs.Prelude.{◌≡◌, ◌<◌, [], length, All, IfOk};
-ghost use Rattle.std.specs.List.{flat_map};
 ghost use Rattle.node_arena.specs.Moves.{tree_nodes};
 ghost use Rattle.bind_table.specs.Limits.{HasSteps};
 ghost use Rattle.bind_table.specs.Lines.{Plan, plan_of};
@@ -9,17 +8,18 @@ ghost use Rattle.bind_meaning.specs.Kept.{all_kept};
 ghost use Rattle.bind_meaning.specs.Picks.{has_any_term, rows_where, all_picked};
 ghost use Rattle.bind_meaning.specs.Faults.{passed_nodes};
 ghost use Rattle.bind_meaning.specs.Terms.{in_order};
+ghost use Rattle.bind_walk.specs.Finds.{lists_of, put_all};
 ghost use Rattle.bind_walk.specs.Lines.{lined};
 ghost use Rattle.bind_walk.specs.Picks.{is_indicator};
 ghost use Rattle.bind_walk.specs.Sorting.{Sorts};
-ghost use Rattle.bind_walk.specs.Walks.{strolled, AreLined, picked_for};
-ghost use Rattle.bind_walk.specs.declared.lines.Wanted.TheVariants as wants;
+ghost use Rattle.bind_walk.specs.Walks.{strolled, AreLined};
 ghost use Rattle.bind_walk.specs.Finding as spec;
 
-use crate::lines::{FoundLine, Wanted, find_lines};
+use crate::finds::{Find, Finds};
+use crate::lines::{FoundLine, find_lines};
 use crate::passed::passed_of;
 use crate::sorting::sorted;
-use crate::walk::{Carried, Find, Position, lines_lead_as_steps_do, walk};
+use crate::walk::{Carried, Position, lines_lead_as_steps_do, walk};
 use crate::{Scene, chains_lead_on};
 use bind_meaning::Picked;
 use bind_rows::Many;
@@ -98,21 +98,18 @@ fn picks_by<L: Ledger>(
     picks_are_sorted_finds(doc);
     let passed_over = passed_of(alloc, doc, table.rows(), lines, steps)?;
     let finds = find_all(alloc, doc, lines, steps)?;
-    sorted_picks(alloc, &finds, passed_over)
+    sorted_picks(finds, passed_over)
 }
 
-/// What was found, sorted by nodes and then by rows.
-fn sorted_picks(
-    alloc: Global,
-    finds: &[Find],
-    passed_over: Vec<NodeId>,
-) -> Result<Picks, AllocError>
-    ensures terms { IfOk result (λ picks. Sorts (flat_map (picked_for wants.Term) finds.now) picks.terms.items) }
-    ensures indicators { IfOk result (λ picks. Sorts (flat_map (picked_for wants.Indicator) finds.now) picks.indicators.items) }
+/// What was found, each list sorted by nodes and then by rows.
+fn sorted_picks(finds: Finds, passed_over: Vec<NodeId>) -> Result<Picks, AllocError>
+    ensures terms { IfOk result (λ picks. Sorts finds.terms picks.terms.items) }
+    ensures indicators { IfOk result (λ picks. Sorts finds.indicators picks.indicators.items) }
     ensures passed_over { IfOk result (λ picks. picks.passed_over.items ≡ passed_over.items) }
 {
-    let terms = sorted(alloc, finds, Wanted::Term)?;
-    let indicators = sorted(alloc, finds, Wanted::Indicator)?;
+    let (terms, indicators) = finds.into_lists();
+    let terms = sorted(terms)?;
+    let indicators = sorted(indicators)?;
     Ok(Picks {
         terms,
         indicators,
@@ -130,17 +127,17 @@ fn lines_of(alloc: Global, doc: &Doc<'_>, table: &Binding) -> Result<Vec<FoundLi
     Ok(lines)
 }
 
-/// What is found by the lines, in the order of the walk.
+/// What is found by the lines, for each reason in the order of the walk.
 fn find_all<L: Ledger>(
     alloc: Global,
     doc: &Doc<'_>,
     lines: &[FoundLine],
     steps: &mut Steps<L>,
-) -> Result<Vec<Find>, AllocError>
+) -> Result<Finds, AllocError>
     requires { AreLined doc.now lines.now }
-    ensures { IfOk result (λ finds. (plan : Plan) → lines.now ≡ lined doc.now plan → finds.items ≡ strolled doc.now plan [] 0) }
+    ensures { IfOk result (λ finds. (plan : Plan) → lines.now ≡ lined doc.now plan → finds ≡ put_all (lists_of [] []) (strolled doc.now plan [] 0)) }
 {
-    let mut finds = Vec::new(alloc);
+    let mut finds = Finds::new(alloc);
     let scene = Scene { alloc, doc };
     let top = Position {
         node: doc.document(),

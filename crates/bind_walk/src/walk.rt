@@ -5,9 +5,11 @@ ghost use Rattle.std.specs.List.{list_all};
 ghost use Rattle.node_arena.specs.Document.{node_at};
 ghost use Rattle.node_arena.specs.Moves.{has_found};
 ghost use Rattle.bind_walk.specs.Found.{is_met};
+ghost use Rattle.bind_walk.specs.Finds.{put_all};
 ghost use Rattle.bind_walk.specs.Walks as spec;
 
-use crate::lines::{End, FoundLine, FoundRow, Wanted};
+use crate::finds::{Find, Finds};
+use crate::lines::{End, FoundLine, FoundRow};
 use crate::names::is_number;
 use crate::{Scene, are_met, chains_lead_on, has_name};
 use bind_meaning::{Picked, is_blank_at};
@@ -32,13 +34,6 @@ pub(crate) struct Position<'p> {
     pub(crate) around: &'p [Carried],
 }
 
-/// A node that was found, and what for.
-#[derive(Clone, Copy)]
-pub(crate) struct Find {
-    pub(crate) wanted: Wanted,
-    pub(crate) picked: Picked,
-}
-
 /// A line leads where its step does, and what is found at it is what its rows pick. It has no code.
 pub(crate) fn lines_lead_as_steps_do(doc: &Doc<'_>)
     ensures { spec.LeadsAlike doc.now }
@@ -54,12 +49,12 @@ pub(crate) fn walk<L: Ledger>(
     scene: &Scene<'_, '_>,
     lines: &[FoundLine],
     position: &Position<'_>,
-    finds: &mut Vec<Find>,
+    finds: &mut Finds,
     steps: &mut Steps<L>,
 ) -> Result<(), AllocError>
     requires within { position.now.node < length scene.now.doc.now.nodes }
     requires lined { spec.AreLined scene.now.doc.now lines.now }
-    ensures { OnOk result (spec.Walks scene.now.doc.now lines.now position.now.node position.now.around.now finds.old.items finds.new.items) }
+    ensures { OnOk result (spec.Walks scene.now.doc.now lines.now position.now.node position.now.around.now finds.old finds.new) }
 {
     if lines.is_empty() {
         return Ok(());
@@ -83,12 +78,12 @@ fn meet<L: Ledger>(
     scene: &Scene<'_, '_>,
     lines: &[FoundLine],
     position: &Position<'_>,
-    finds: &mut Vec<Find>,
+    finds: &mut Finds,
     steps: &mut Steps<L>,
 ) -> Result<(), AllocError>
     requires within { position.now.node < length scene.now.doc.now.nodes }
     requires lined { spec.AreLined scene.now.doc.now lines.now }
-    ensures { OnOk result (spec.Meets scene.now.doc.now lines.now position.now.node position.now.around.now finds.old.items finds.new.items) }
+    ensures { OnOk result (spec.Meets scene.now.doc.now lines.now position.now.node position.now.around.now finds.old finds.new) }
 {
     match scene.doc.name(position.node) {
         Some(name) => follow(scene, lines, position, name.number(), finds, steps),
@@ -103,13 +98,13 @@ fn follow<L: Ledger>(
     lines: &[FoundLine],
     position: &Position<'_>,
     name: u32,
-    finds: &mut Vec<Find>,
+    finds: &mut Finds,
     steps: &mut Steps<L>,
 ) -> Result<(), AllocError>
     requires within { position.now.node < length scene.now.doc.now.nodes }
     requires named { (node_at scene.now.doc.now.nodes position.now.node).name ≡ Some name }
     requires lined { spec.AreLined scene.now.doc.now lines.now }
-    ensures { OnOk result (spec.Meets scene.now.doc.now lines.now position.now.node position.now.around.now finds.old.items finds.new.items) }
+    ensures { OnOk result (spec.Meets scene.now.doc.now lines.now position.now.node position.now.around.now finds.old finds.new) }
 {
     let mut left = lines;
     'lines: while let Some((line, behind)) = left.split_first() {
@@ -129,13 +124,12 @@ fn enter<L: Ledger>(
     line: &FoundLine,
     inside: &[FoundLine],
     position: &Position<'_>,
-    finds: &mut Vec<Find>,
+    finds: &mut Finds,
     steps: &mut Steps<L>,
 ) -> Result<(), AllocError>
     requires within { position.now.node < length scene.now.doc.now.nodes }
     requires lined { spec.AreLined scene.now.doc.now inside.now }
-    ensures { OnOk result (spec.Enters scene.now.doc.now line.now inside.now position.now.node position.now.around.now
-        finds.old.items finds.new.items) }
+    ensures { OnOk result (spec.Enters scene.now.doc.now line.now inside.now position.now.node position.now.around.now finds.old finds.new) }
 {
     if !passes(scene, line, position.node, steps)? {
         return Ok(());
@@ -164,13 +158,12 @@ fn pick_in<L: Ledger>(
     line: &FoundLine,
     inside: &[FoundLine],
     position: &Position<'_>,
-    finds: &mut Vec<Find>,
+    finds: &mut Finds,
     steps: &mut Steps<L>,
 ) -> Result<(), AllocError>
     requires within { position.now.node < length scene.now.doc.now.nodes }
     requires lined { spec.AreLined scene.now.doc.now inside.now }
-    ensures { OnOk result (spec.PicksIn scene.now.doc.now line.now inside.now position.now.node position.now.around.now
-        finds.old.items finds.new.items) }
+    ensures { OnOk result (spec.PicksIn scene.now.doc.now line.now inside.now position.now.node position.now.around.now finds.old finds.new) }
 {
     pick_here(scene, line.rows.as_slice(), position, finds, steps)?;
     walk(scene, inside, position, finds, steps)
@@ -212,12 +205,11 @@ fn pick_here<L: Ledger>(
     scene: &Scene<'_, '_>,
     rows: &[FoundRow],
     position: &Position<'_>,
-    finds: &mut Vec<Find>,
+    finds: &mut Finds,
     steps: &mut Steps<L>,
 ) -> Result<(), AllocError>
     requires { position.now.node < length scene.now.doc.now.nodes }
-    ensures { OnOk result (finds.new.items ≡ finds.old.items
-        ++ spec.found_here scene.now.doc.now position.now.around.now position.now.node rows.now) }
+    ensures { OnOk result (finds.new ≡ put_all finds.old (spec.found_here scene.now.doc.now position.now.around.now position.now.node rows.now)) }
 {
     if rows.is_empty() {
         return Ok(());
@@ -235,16 +227,15 @@ fn pick_row<L: Ledger>(
     scene: &Scene<'_, '_>,
     row: &FoundRow,
     position: &Position<'_>,
-    finds: &mut Vec<Find>,
+    finds: &mut Finds,
     steps: &mut Steps<L>,
 ) -> Result<(), AllocError>
     requires { position.now.node < length scene.now.doc.now.nodes }
-    ensures { OnOk result (finds.new.items ≡ finds.old.items
-        ++ spec.found_in_row scene.now.doc.now position.now.around.now position.now.node row.now) }
+    ensures { OnOk result (finds.new ≡ put_all finds.old (spec.found_in_row scene.now.doc.now position.now.around.now position.now.node row.now)) }
 {
     match row.end {
         End::Element => {
-            finds.push(find_of(row, position))?;
+            finds.put(find_of(row, position))?;
             Ok(())
         }
         End::Attribute => pick_attributes(scene, row, position, finds, steps),
@@ -255,12 +246,11 @@ fn pick_attributes<L: Ledger>(
     scene: &Scene<'_, '_>,
     row: &FoundRow,
     position: &Position<'_>,
-    finds: &mut Vec<Find>,
+    finds: &mut Finds,
     steps: &mut Steps<L>,
 ) -> Result<(), AllocError>
     requires { position.now.node < length scene.now.doc.now.nodes }
-    ensures { OnOk result (finds.new.items ≡ finds.old.items
-        ++ spec.found_attributes scene.now.doc.now position.now.around.now position.now.node row.now) }
+    ensures { OnOk result (finds.new ≡ put_all finds.old (spec.found_attributes scene.now.doc.now position.now.around.now position.now.node row.now)) }
 {
     chains_lead_on(scene.doc);
     let mut at = scene.doc.first_attribute(position.node, steps);
@@ -279,12 +269,11 @@ fn pick_attribute<L: Ledger>(
     scene: &Scene<'_, '_>,
     row: &FoundRow,
     position: &Position<'_>,
-    finds: &mut Vec<Find>,
+    finds: &mut Finds,
     steps: &mut Steps<L>,
 ) -> Result<(), AllocError>
     requires { position.now.node < length scene.now.doc.now.nodes }
-    ensures { OnOk result (finds.new.items ≡ finds.old.items
-        ++ spec.found_attribute scene.now.doc.now position.now.around.now row.now position.now.node) }
+    ensures { OnOk result (finds.new ≡ put_all finds.old (spec.found_attribute scene.now.doc.now position.now.around.now row.now position.now.node)) }
 {
     if !has_name(scene.doc, position.node, row.attribute) {
         return Ok(());
@@ -292,7 +281,7 @@ fn pick_attribute<L: Ledger>(
     if is_blank_at(scene.alloc, scene.doc, position.node, steps)? {
         return Ok(());
     }
-    finds.push(find_of(row, position))?;
+    finds.put(find_of(row, position))?;
     Ok(())
 }
 

@@ -1,4 +1,4 @@
-use Rattle.std.proofs.Common.{ap, ◌∙◌, sym}
+use Rattle.std.proofs.Common.{ap, ◌∙◌}
 use Rattle.std.specs.Prelude.{get_or}
 use Rattle.bind_walk.specs.Passing.{no_part}
 use Rattle.bind_walk.proofs.PassLemmas.{naming_some, naming_more}

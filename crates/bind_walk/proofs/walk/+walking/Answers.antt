@@ -1,8 +1,8 @@
 use Rattle.std.proofs.Common.{◌≡◌, ◌≤◌, length, arith, rules, ap, sym, ◌∙◌, subst}
 use Rattle.std.proofs.lemmas.List.{nil_from_length}
 use Rattle.std.proofs.lemmas.Result.{on_ok_weaker}
-use Rattle.bind_walk.specs.Walks.{AreLined}
-use Rattle.bind_walk.proofs.WalkLemmas.{Left, left_fits, left_inside, left_more, left_past, left_end, walks_nowhere, meets_nothing, entered_some}
+use Rattle.bind_walk.specs.Walks.{AreLined, around_in}
+use Rattle.bind_walk.proofs.WalkLemmas.{Left, left_fits, left_inside, left_more, left_past, left_end, walks_nowhere, meets_nothing, entered}
 use Rattle.bind_walk.proofs.walk.+walking.Goals as goal
 
 pub follow-split_at-requires : goal.follow-split_at-requires
@@ -31,18 +31,28 @@ follow-lines-preserved g t c =
 pub follow-returns : goal.follow-returns
 follow-returns g t c = let e = nil_from_length _ c.in_default.ensures.cases in
     left_end _ _ _ _ _ _ (subst (λ left. Left c.args.scene.now.doc.now c.args.lines.now c.args.position.now.node c.args.position.now.around.now
-    c.args.finds.now.items left c.lines.finds.items) e c.lines.invariant)
+    c.args.finds.now left c.lines.finds) e c.lines.invariant)
 
 pub walk-returns-then-is_empty : goal.walk-returns-then-is_empty
 walk-returns-then-is_empty g t c = walks_nowhere c.args.scene.now.doc.now c.args.lines.now c.args.position.now.node c.args.position.now.around.now
-    c.args.finds.now.items (sym c.is_empty.ensures ∙ c.if-is_empty.true)
+    c.args.finds.now (sym c.is_empty.ensures ∙ c.if-is_empty.true)
 
 pub meet-returns-in-None : goal.meet-returns-in-None
 meet-returns-in-None g t c = meets_nothing _ _ _ _ _ (sym c.in-None.is ∙ c.name.ensures.value)
 
+pub enter-returns-in-None : goal.enter-returns-in-None
+enter-returns-in-None g t c =
+    on_ok_weaker c.pick_in.result
+    (entered c.args.scene.now.doc.now c.args.line.now c.args.inside.now c.args.position.now.node c.args.position.now.around.now
+    c.args.position.now.around.now c.in_ok-passes.field-0 _ _ c.in_ok-passes.ensures c.if-not-branch.false
+    (ap (λ group. around_in group c.args.position.now.node c.args.position.now.around.now) c.in-None.is))
+    c.pick_in.ensures
+
 pub enter-returns-in_ok-further-in-Some : goal.enter-returns-in_ok-further-in-Some
 enter-returns-in_ok-further-in-Some g t c =
     on_ok_weaker c.pick_in-in-Some.result
-    (entered_some c.args.scene.now.doc.now c.args.line.now c.args.inside.now c.args.position.now.node c.args.position.now.around.now _ c.in-Some.group
-    c.in_ok-passes.field-0 _ _ c.in_ok-passes.ensures c.if-not-branch.false c.in-Some.is (c.as_slice.ensures.value ∙ c.in_ok-further-in-Some.ensures))
+    (entered c.args.scene.now.doc.now c.args.line.now c.args.inside.now c.args.position.now.node c.args.position.now.around.now _
+    c.in_ok-passes.field-0 _ _ c.in_ok-passes.ensures c.if-not-branch.false
+    (ap (λ group. around_in group c.args.position.now.node c.args.position.now.around.now) c.in-Some.is
+    ∙ sym (c.as_slice.ensures.value ∙ c.in_ok-further-in-Some.ensures)))
     c.pick_in-in-Some.ensures

@@ -4,7 +4,7 @@ use crate::texts::bytes_of;
 use std::alloc::{AllocError, Global};
 use std::test::Fail;
 use test_rows::{Shown, expect_shown};
-use xml_tokens::{Beginning, Position, Search, what_begins};
+use xml_tokens::{Beginning, Position, Search, plain_tag, what_begins};
 
 /// What begins a document, with `%` and two hexadecimal digits for a byte, and, behind ` => `, the answer.
 const STARTS: &str = "\
@@ -115,6 +115,24 @@ a => Good(Character('a'), 1)
 </> => Bad(BadMarkup, 3)
 </a/> => Bad(BadMarkup, 5)";
 
+/// Tags that are a name alone, with their lengths, and other fronts.
+const PLAIN: &str = "\
+<a>x => 3 StartTag(StartTag { name: \"a\", attributes: [], is_empty: false })
+<p:a-1/> => 8 StartTag(StartTag { name: \"p:a-1\", attributes: [], is_empty: true })
+</p:_b.c><a> => 9 EndTag(\"p:_b.c\")
+<a => other
+<a/ => other
+<a > => other
+<a b='c'> => other
+<é> => other
+<1> => other
+</a/> => other
+<a:b:c> => other
+<!----> => other
+<?a?> => other
+a> => other
+< => other";
+
 /// What begins at the start of the bytes, where they come one by one and the search is kept.
 fn piece_by_piece(alloc: Global, bytes: &[u8]) -> Result<String, AllocError> {
     let mut search = Search::new();
@@ -135,6 +153,28 @@ fn at_once(alloc: Global, bytes: &[u8]) -> Result<String, AllocError> {
     match what_begins(alloc, Position::AtStart, false, bytes, &mut search) {
         Ok(found) => format!(in alloc; "{found:?}"),
         Err(error) => Err(error),
+    }
+}
+
+/// The tag at the start of the bytes, where it is a name alone.
+fn shown_plainly(alloc: Global, bytes: &[u8]) -> Result<String, AllocError> {
+    match plain_tag(bytes) {
+        Some(tag) => {
+            let token = tag.token(alloc);
+            let shown = format!(in alloc; "{} {token:?}", tag.len);
+            drop(token);
+            shown
+        }
+        None => String::from_str(alloc, "other"),
+    }
+}
+
+struct PlainTags;
+
+impl Shown for PlainTags {
+    fn shown(&self, alloc: Global, written: &'static str) -> Result<String, Fail> {
+        let bytes = bytes_of(alloc, written)?;
+        Ok(shown_plainly(alloc, bytes.as_slice())?)
     }
 }
 
@@ -160,4 +200,9 @@ impl Shown for PieceByPiece {
 fn tokens_begin(rt: HostRuntime) -> Result<(), Fail> {
     expect_shown(rt.alloc(), &AtOnce, " => ", STARTS)?;
     expect_shown(rt.alloc(), &PieceByPiece, " => ", STARTS)
+}
+
+#[test]
+fn plain_tags_are_told(rt: HostRuntime) -> Result<(), Fail> {
+    expect_shown(rt.alloc(), &PlainTags, " => ", PLAIN)
 }

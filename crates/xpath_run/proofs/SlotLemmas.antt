@@ -38,7 +38,7 @@ use Rattle.xpath_run.specs.Finishing.{wanted, first_alone}
 use Rattle.xpath_meaning.specs.Steps.{is_node}
 use Rattle.xpath_run.specs.Placed.{kept_parts, ArePlaced}
 use Rattle.xpath_run.specs.Runs.{Running, Goes}
-use Rattle.xpath_run.specs.Slots.{table, PlacedWork, PlacedParts, PlacedNode, IsHeld, HoldIn, AreHeld, Grows, filled, whole_step, whole_slot}
+use Rattle.xpath_run.specs.Slots.{table, PlacedWork, PlacedParts, PlacedNode, IsHeld, IsKeptHere, HoldIn, AreHeld, Grows, filled, whole_step, whole_slot}
 
 -- ---- the expression beside the kept parts is that of the work
 
@@ -279,6 +279,30 @@ module _ (base : Ground) (slots slots' : List (Option Value)) (slot height : ℕ
   pub grows_now : Grows slots slots'
   grows_now = subst (Grows slots) (sym put) (grows_filled base slots the_part v (context base focus bound) (placed_own base slot height parts placed)
       (at_node base focus bound height is long) found within held)
+
+-- ---- a part that is evaluated for its slot
+
+pub part_here : (base : Ground) (kind : Kind) (parts : List (Link × Work)) (focus : Focus) (bound : List Item) (slot : ℕ) (part : Work)
+    → kind ≡ m.Once slot (length bound) → is_node focus.item ≡ true → first_part (operands_of base.names.now parts) ≡ seen base.names.now part
+    → PlacedNode base kind parts → PlacedWork base part
+    → IsKeptHere base focus bound slot part
+part_here base kind parts focus bound slot part once node first own placed = record {
+  placed = placed;
+  kept = subst (λ e. IsPlaced (table base) (record { slot = slot; height = length bound; exp = e })) first
+      (placed_own base slot (length bound) parts (subst (λ kind. PlacedNode base kind parts) once own));
+  node = node;
+}
+
+module _ (base : Ground) (slots slots' : List (Option Value)) (focus : Focus) (bound : List Item) (slot : ℕ) (part : Work) (v : Value)
+    (here : IsKeptHere base focus bound slot part) (held : AreHeld base slots) (found : v ≡ value_in base (seen base.names.now part) focus bound)
+    (within : ValueWithin (count base) v) (put : slots' ≡ filled slots slot v) where
+  pub held_here : AreHeld base slots'
+  held_here = subst (AreHeld base) (sym put) (held_filled base slots _ v (context base focus bound) here.kept
+      (at_node base focus bound (length bound) here.node refl) found within held)
+
+  pub grows_here : Grows slots slots'
+  grows_here = subst (Grows slots) (sym put) (grows_filled base slots _ v (context base focus bound) here.kept
+      (at_node base focus bound (length bound) here.node refl) found within held)
 
 -- ---- the whole plan
 

@@ -1,8 +1,11 @@
 -- Slots, in which the values of parts are kept that have one value at all nodes of a document.
-use Rattle.std.specs.Prelude.{◌≡◌, ℕ, zero, List, ◌++◌, ◌∷◌, length, Option, Some, None, get_or, slice_get, slice_set}
+use Rattle.std.specs.Prelude.{◌≡◌, ℕ, zero, true, List, ◌++◌, ◌∷◌, length, Option, Some, None, get_or, slice_get, slice_set}
 use Rattle.inv_base.specs.Tree.{Node}
 use Rattle.node_arena.specs.Document.{Document}
 use Rattle.node_arena.specs.Moves.{tree_nodes}
+use Rattle.xpath_items.specs.declared.item.Item.{Item}
+use Rattle.xpath_items.specs.declared.outcome.Focus.{Focus}
+use Rattle.xpath_meaning.specs.Steps.{is_node}
 use Rattle.xpath_meaning.specs.Values.{Value}
 use Rattle.xpath_meaning.specs.Meaning.{Context, mean}
 use Rattle.xpath_meaning.specs.Uses.{IsAtNode}
@@ -11,7 +14,8 @@ use Rattle.xpath_plan.specs.declared.work.Kind.TheVariants as m
 use Rattle.xpath_plan.specs.declared.work.Link.{Link}
 use Rattle.xpath_plan.specs.declared.work.Work.{Work, fold-Work}
 use Rattle.xpath_plan.specs.declared.work.Work.TheOpen.{Work-F}
-use Rattle.xpath_plan.specs.Claims.{Kept, kept_of, kept_in, own_kept}
+use Rattle.xpath_plan.specs.Claims.{Kept, IsPlaced, kept_of, kept_in, own_kept}
+use Rattle.xpath_plan.specs.Plans.{seen}
 use Rattle.xpath_steps.specs.Variables.{ValueWithin}
 use Rattle.xpath_run.specs.declared.ground.Ground.{Ground}
 use Rattle.xpath_run.specs.Contexts.{operands_of}
@@ -43,6 +47,12 @@ HoldIn document parts slots = (k : ℕ) (part : Kept) (v : Value) → slice_get 
 
 abbrev pub AreHeld : Ground → List (Option Value) → Type 0
 AreHeld base slots = HoldIn base.doc.now (table base) slots
+
+-- The part is the slot's, which is used at the focus and inside these variables.
+pub record IsKeptHere (base : Ground) (focus : Focus) (bound : List Item) (slot : ℕ) (part : Work) : Type 0 where
+  pub placed : PlacedWork base part
+  pub kept : IsPlaced (table base) (record { slot = slot; height = length bound; exp = seen base.names.now part })
+  pub node : is_node focus.item ≡ true
 
 -- What is held stays.
 unfoldable pub Grows : List (Option Value) → List (Option Value) → Type 0

@@ -1,20 +1,22 @@
 //! Values that are at hand: those of variables, and of parts that are kept. They are lent where they lie.
-ghost use Rattle.std.specs.Prelude.{◌≡◌, IfOk, IfSome};
+ghost use Rattle.std.specs.Prelude.{◌≡◌, ◌≤◌, ◌<◌, None, true, get_or, length, IfOk, IfSome};
 ghost use Rattle.node_arena.specs.Moves.{tree_nodes};
 ghost use Rattle.xpath_items.specs.Faults.{Gives};
+ghost use Rattle.xpath_meaning.specs.Steps as steps;
 ghost use Rattle.xpath_meaning.specs.Values.{then_};
 ghost use Rattle.xpath_operators.specs.Nodes.{AreWithin};
 ghost use Rattle.xpath_plan.specs.Plans.{made, seen, simple_seen};
 ghost use Rattle.xpath_run.specs.Contexts.{IsReady, count, operands_of, value_in};
+ghost use Rattle.xpath_run.specs.Depths.{depth, deepest};
 ghost use Rattle.xpath_run.specs.Links as links;
 ghost use Rattle.xpath_run.specs.Sizes as sizes;
-ghost use Rattle.xpath_run.specs.Slots.{AreHeld, PlacedNode, PlacedParts, PlacedWork};
+ghost use Rattle.xpath_run.specs.Slots.{AreHeld, IsKeptHere, PlacedNode, PlacedParts, PlacedWork};
 ghost use Rattle.xpath_steps.specs.Lending.{lent_value};
 ghost use Rattle.xpath_steps.specs.Variables.{ValueWithin};
 
 use crate::ground::Ground;
 use crate::linking::{operated_on, operator_on_items};
-use crate::parts::{only, sole};
+use crate::parts::{first, is_light, only, sole};
 use crate::sizes::{Sizing, sized, sizing_in};
 use crate::slots::Slots;
 use xpath_items::{Fault, Focus, Item, Seq};
@@ -40,6 +42,23 @@ fn of_variable<'r, 'a>(
     }
 }
 
+/// The slot of a part that is kept, where it is used: at a node, inside as many bound variables as the plan says.
+fn slot_here(kind: &Kind, focus: &Focus<'_>, bound: &[Item<'_>]) -> Option<usize>
+    ensures once { IfSome result (λ slot. kind.now ≡ Kind.Once slot (length bound.now)) }
+    ensures node { IfSome result (λ slot. steps.is_node focus.now.item ≡ true) }
+{
+    match kind {
+        Kind::Once(slot, height) => {
+            if is_node(&focus.item) && bound.len() == *height {
+                Some(*slot)
+            } else {
+                None
+            }
+        }
+        _ => None,
+    }
+}
+
 /// What the slot holds of a part that is kept.
 fn of_slot<'r, 'a>(
     ground: &Ground<'_, 'a>,
@@ -55,15 +74,9 @@ fn of_slot<'r, 'a>(
         (made kind.now (operands_of ground.now.names.now parts.now)) focus.now bound.now) }
     ensures within { IfSome result (λ found. ValueWithin (count ground.now) (lent_value found)) }
 {
-    match kind {
-        Kind::Once(slot, height) => {
-            if is_node(&focus.item) && bound.len() == *height {
-                slots.lent(*slot)
-            } else {
-                None
-            }
-        }
-        _ => None,
+    match slot_here(kind, focus, bound) {
+        Some(slot) => slots.lent(slot),
+        None => None,
     }
 }
 
@@ -191,6 +204,83 @@ pub(crate) fn operated_at_hand<'r, 'a>(
 {
     match operand_at_hand(ground, link, work, focus, bound, slots) {
         Some((operator, ys)) => Some(operated_on(ground, operator, xs, ys)),
+        None => None,
+    }
+}
+
+/// The slot of a part that is kept, and the part, where it is to be evaluated for the slot: this is used, is empty and saves
+/// something.
+fn unkept_here<'p, 'a>(
+    kind: &Kind,
+    parts: &'p [(Link, Work)],
+    focus: &Focus<'a>,
+    bound: &[Item<'a>],
+    slots: &Slots<'a>,
+) -> Option<(usize, &'p Work)>
+    ensures kept { (base : Ground) → PlacedNode base kind.now parts.now
+        → IfSome result (λ found. IsKeptHere base focus.now bound.now found.0 found.1.now) }
+    ensures deeper { IfSome result (λ found. depth found.1.now ≤ deepest parts.now) }
+    ensures empty { IfSome result (λ found. get_or slots.now found.0 None ≡ None) }
+{
+    let slot = slot_here(kind, focus, bound)?;
+    let part = first(parts)?;
+    match slots.lent(slot) {
+        Some(_) => None,
+        None => {
+            if is_light(part) {
+                None
+            } else {
+                Some((slot, part))
+            }
+        }
+    }
+}
+
+/// The same of a work that is such a part and nothing else.
+fn unkept<'p, 'a>(
+    work: &'p Work,
+    focus: &Focus<'a>,
+    bound: &[Item<'a>],
+    slots: &Slots<'a>,
+) -> Option<(usize, &'p Work)>
+    ensures kept { (base : Ground) → PlacedWork base work.now
+        → IfSome result (λ found. IsKeptHere base focus.now bound.now found.0 found.1.now) }
+    ensures deeper { IfSome result (λ found. depth found.1.now < depth work.now) }
+    ensures empty { IfSome result (λ found. get_or slots.now found.0 None ≡ None) }
+{
+    match work {
+        Work::Simple(_) => None,
+        Work::Node(kind, parts) => {
+            let parts = parts.as_slice();
+            match unkept_here(kind, parts, focus, bound, slots) {
+                Some(found) => Some(found),
+                None => match sole(kind, parts) {
+                    Some(part) => unkept(part, focus, bound, slots),
+                    None => None,
+                },
+            }
+        }
+    }
+}
+
+/// The same of the argument of a call that looks at nothing but how many items its argument has.
+pub(crate) fn unkept_argument<'p, 'a>(
+    kind: &Kind,
+    parts: &'p [(Link, Work)],
+    focus: &Focus<'a>,
+    bound: &[Item<'a>],
+    slots: &Slots<'a>,
+) -> Option<(usize, &'p Work)>
+    ensures kept { (base : Ground) → PlacedParts base parts.now
+        → IfSome result (λ found. IsKeptHere base focus.now bound.now found.0 found.1.now) }
+    ensures deeper { IfSome result (λ found. depth found.1.now ≤ deepest parts.now) }
+    ensures empty { IfSome result (λ found. get_or slots.now found.0 None ≡ None) }
+{
+    match sizing_in(kind) {
+        Some(_) => match only(parts) {
+            Some(part) => unkept(part, focus, bound, slots),
+            None => None,
+        },
         None => None,
     }
 }

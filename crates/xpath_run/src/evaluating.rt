@@ -16,7 +16,7 @@ ghost use Rattle.xpath_run.specs.Slots.{AreHeld, Grows, PlacedWork, PlacedParts,
 ghost use Rattle.xpath_run.specs.Links as links;
 ghost use Rattle.xpath_steps.specs.Variables.{ValueWithin};
 
-use crate::at_hand::{operated_at_hand, told_at_hand};
+use crate::at_hand::{operated_at_hand, told_at_hand, unkept_argument};
 use crate::calling::value_of;
 use crate::finishing::{finished, wanted};
 use crate::ground::Ground;
@@ -111,7 +111,7 @@ fn by_kind<'a, L: Ledger>(
 }
 
 /// What a kind makes of the values of its parts. Of an argument that is at hand, of which nothing but the number of items is
-/// looked at, that is looked at where it lies.
+/// looked at, that is looked at where it lies. One that is kept is put there first.
 #[cycle(evaluating)]
 fn finish<'a, L: Ledger>(
     ground: &Ground<'_, 'a>,
@@ -132,12 +132,42 @@ fn finish<'a, L: Ledger>(
     ensures held { AreHeld ground.now slots.new }
     ensures grown { Grows slots.old slots.new }
 {
+    keep_argument(ground, kind, parts, focus, bound, slots, steps)?;
     match told_at_hand(&*ground, kind, parts, focus, bound.as_slice(), slots) {
         Some(found) => found,
         None => {
             let values = values_of(ground, wanted(kind, parts), focus, bound, slots, steps)?;
             finished(ground.alloc, ground.doc, kind, focus, values)
         }
+    }
+}
+
+/// Evaluates the argument of a call that looks at nothing but how many items it has, where it is kept and its slot is empty. What
+/// was found goes into the slot as it is.
+#[cycle(evaluating)]
+fn keep_argument<'a, L: Ledger>(
+    ground: &Ground<'_, 'a>,
+    kind: &Kind,
+    parts: &'a [(Link, Work)],
+    focus: &Focus<'a>,
+    bound: &mut Vec<Item<'a>>,
+    slots: &mut Slots<'a>,
+    steps: &mut Steps<L>,
+) -> Result<(), AllocError>
+    requires ready { IsReady ground.now focus.now bound.old.items }
+    requires placed { PlacedParts ground.now parts.now }
+    requires slots { AreHeld ground.now slots.old }
+    ensures kept { bound.new.items ≡ bound.old.items }
+    ensures held { AreHeld ground.now slots.new }
+    ensures grown { Grows slots.old slots.new }
+{
+    match unkept_argument(kind, parts, focus, bound.as_slice(), slots) {
+        Some((slot, part)) => {
+            let found = evaluate(ground, part, focus, bound, slots, steps);
+            slots.keep(slot, outcome(found)?);
+            Ok(())
+        }
+        None => Ok(()),
     }
 }
 

@@ -58,8 +58,15 @@ impl<'a> Slots<'a> {
         ensures err { OnErr result (self.new ≡ self.old) }
     {
         let copy = outcome(copy_of(alloc, lend(&found)))?;
-        put_at(self.kept.as_mut_slice(), slot, found);
+        self.keep(slot, found);
         Ok(copy)
+    }
+
+    /// Keeps what was found in the slot, where there is one.
+    pub(crate) fn keep(&mut self, slot: usize, found: Outcome<'a>)
+        ensures { self.new ≡ spec.filled self.old slot (values.value found.entry) }
+    {
+        put_at(self.kept.as_mut_slice(), slot, found);
     }
 }
 

@@ -2,7 +2,8 @@ use Rattle.std.proofs.Common.{rules, ◌≡◌, ◌+◌, ◌-◌, List, [], ◌�
 use Rattle.std.proofs.Common.{⊎_elim}
 use Rattle.node_arena.specs.Moves.{tree_nodes}
 use Rattle.xpath_items.specs.Faults.{Gives}
-use Rattle.xpath_meaning.specs.Resolving.{in_axis_order}
+use Rattle.xpath_meaning.specs.Meaning.{means}
+use Rattle.xpath_meaning.specs.Resolving.{arguments_of, in_axis_order}
 use Rattle.xpath_meaning.specs.Steps as steps
 use Rattle.xpath_meaning.specs.Values.{value, then_}
 use Rattle.xpath_plan.specs.Plans.{seen, made}
@@ -11,6 +12,7 @@ use Rattle.xpath_run.specs.Contexts.{context, count, operands_of, turn_in, value
 use Rattle.xpath_run.specs.Depths.{deepest}
 use Rattle.xpath_run.specs.Finishing.{is_strict, finished}
 use Rattle.xpath_run.specs.Links as links
+use Rattle.xpath_run.specs.Slots.{IsKeptHere}
 use Rattle.std.specs.Vec.Iter.{into_iter_items}
 use Rattle.xpath_items.specs.declared.item.Item.{Item}
 use Rattle.xpath_run.specs.Turns.{Takes, after}
@@ -1111,11 +1113,11 @@ finish-values_of-requires g t c κs within = (
   (
     search rules,
     (
-      c.requires.ready,
+      known.ready-along _ _ _ _ c.keep_argument.ensures.kept c.requires.ready,
       (
         slots.placed_wanted c.args.ground.now c.args.kind.now c.args.parts.now c.wanted.result.now c.wanted.ensures
             c.requires.placed,
-        c.requires.slots,
+        c.keep_argument.ensures.held,
       ),
     ),
   ),
@@ -1127,7 +1129,9 @@ finish-returns-in_ok-values-in-None-clause-value g t c =
     let here = context c.args.ground.now c.args.focus.now c.args.bound.now.items in
     gives-along c.finished.result _ _
     (sym (strict nodes c.args.ground.now.names.now c.args.kind.now c.args.parts.now c.wanted.result.now here c.requires.strict c.wanted.ensures
-    ∙ ap (λ v. then_ v (finished nodes c.args.kind.now c.args.focus.now)) c.in_ok-values-in-None.ensures.value))
+    ∙ ap (λ v. then_ v (finished nodes c.args.kind.now c.args.focus.now))
+    (ap (λ bound. means nodes (arguments_of (operands_of c.args.ground.now.names.now c.wanted.result.now))
+    (context c.args.ground.now c.args.focus.now bound)) (sym c.keep_argument.ensures.kept) ∙ c.in_ok-values-in-None.ensures.value)))
     c.finished.ensures.value
 
 pub by_kind-finish-requires : goal.by_kind-finish-requires
@@ -1148,7 +1152,53 @@ pub finish-told_at_hand-requires-clause-placed : goal.finish-told_at_hand-requir
 finish-told_at_hand-requires-clause-placed g t c = slots.placed_parts c.args.ground.now c.args.kind.now c.args.parts.now c.requires.placed
 
 pub finish-returns-in-Some-clause-grown : goal.finish-returns-in-Some-clause-grown
-finish-returns-in-Some-clause-grown g t c = slots.grows_same c.args.slots.now
+finish-returns-in-Some-clause-grown g t c = c.keep_argument.ensures.grown
+
+pub finish-keep_argument-requires : goal.finish-keep_argument-requires
+finish-keep_argument-requires g t c κs within = (
+  omega (arith, c.decreases),
+  (
+    search rules,
+    (
+      c.requires.ready,
+      (
+        slots.placed_parts c.args.ground.now c.args.kind.now c.args.parts.now c.requires.placed,
+        c.requires.slots,
+      ),
+    ),
+  ),
+)
+
+pub finish-returns-in_err-values-in-None-clause-grown : goal.finish-returns-in_err-values-in-None-clause-grown
+finish-returns-in_err-values-in-None-clause-grown g t c = slots.grows_more _ _ _ c.keep_argument.ensures.grown c.values_of.ensures.grown
+
+pub finish-returns-in_ok-values-in-None-clause-grown : goal.finish-returns-in_ok-values-in-None-clause-grown
+finish-returns-in_ok-values-in-None-clause-grown g t c = slots.grows_more _ _ _ c.keep_argument.ensures.grown c.values_of.ensures.grown
+
+pub keep_argument-returns-in_ok-outcome-in-Some-clause-held : goal.keep_argument-returns-in_ok-outcome-in-Some-clause-held
+keep_argument-returns-in_ok-outcome-in-Some-clause-held g t c =
+    slots.held_here c.args.ground.now c.evaluate-found.new.slots c.keep.new.self c.args.focus.now c.args.bound.now.items c.in-Some.slot c.in-Some.part.now
+    (value c.in_ok-outcome-in-Some.field-0)
+    (subst (λ bound. IsKeptHere c.args.ground.now c.args.focus.now bound c.in-Some.slot c.in-Some.part.now) c.as_slice.ensures.value
+    (c.in-Some.ensures.kept c.args.ground.now c.requires.placed))
+    c.evaluate-found.ensures.held (c.in_ok-outcome-in-Some.ensures _ c.evaluate-found.ensures.value)
+    (outcome-within (count c.args.ground.now) c.evaluate-found.result (Ok c.in_ok-outcome-in-Some.field-0) c.in_ok-outcome-in-Some.ensures
+    c.evaluate-found.ensures.within)
+    c.keep.ensures
+
+pub keep_argument-returns-in_ok-outcome-in-Some-clause-grown : goal.keep_argument-returns-in_ok-outcome-in-Some-clause-grown
+keep_argument-returns-in_ok-outcome-in-Some-clause-grown g t c = slots.grows_more _ _ _ c.evaluate-found.ensures.grown
+    (slots.grows_here c.args.ground.now c.evaluate-found.new.slots c.keep.new.self c.args.focus.now c.args.bound.now.items c.in-Some.slot
+    c.in-Some.part.now (value c.in_ok-outcome-in-Some.field-0)
+    (subst (λ bound. IsKeptHere c.args.ground.now c.args.focus.now bound c.in-Some.slot c.in-Some.part.now) c.as_slice.ensures.value
+    (c.in-Some.ensures.kept c.args.ground.now c.requires.placed))
+    c.evaluate-found.ensures.held (c.in_ok-outcome-in-Some.ensures _ c.evaluate-found.ensures.value)
+    (outcome-within (count c.args.ground.now) c.evaluate-found.result (Ok c.in_ok-outcome-in-Some.field-0) c.in_ok-outcome-in-Some.ensures
+    c.evaluate-found.ensures.within)
+    c.keep.ensures)
+
+pub keep_argument-returns-in-None-clause-grown : goal.keep_argument-returns-in-None-clause-grown
+keep_argument-returns-in-None-clause-grown g t c = slots.grows_same c.args.slots.now
 
 pub operand-returns-in-Some-clause-grown : goal.operand-returns-in-Some-clause-grown
 operand-returns-in-Some-clause-grown g t c = slots.grows_same c.args.slots.now

@@ -68,6 +68,9 @@ decreases-by_kind g l = 8 * deepest l.parts.now + 7
 abbrev pub decreases-finish : goal.decreases-finish
 decreases-finish g l = 8 * deepest l.parts.now + 6
 
+abbrev pub decreases-keep_argument : goal.decreases-keep_argument
+decreases-keep_argument g l = 8 * deepest l.parts.now + 1
+
 abbrev pub decreases-operand : goal.decreases-operand
 decreases-operand g l = 8 * depth l.work.now + 1
 

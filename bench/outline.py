@@ -3,11 +3,11 @@
 
     python3 bench/outline.py [PROGRAM] [RUNS]
 
-PROGRAM is crates/einv/out/einv if it isn't given, RUNS 5. Prints two tables: documents of 1 and 16 MB, rich in elements, in
-attributes or in text, with both times and their ratio; and one hostile document of each kind, with its time, how many times
-that is the time of a document rich in elements of its size, the most memory that einv held, and what it answers. Each time
-is the least of the runs, in which the two take turns, in seconds of a processor, start-up included. Where xmllint (libxml2-utils) is missing
-its column is left out with a word.
+PROGRAM is crates/einv/out/einv if it isn't given, RUNS 5. Prints two tables: documents of 1, 4 and 16 MB, rich in elements, in
+attributes or in text, with both times, and the times that xmllint takes of outline's, the median of the runs with the quartiles, each
+run beside the mean of the two of outline around it; and one hostile document of each kind, with its time, how many times that is the
+time of a document rich in elements of its size, the most memory that einv held, and what it answers. Each time is the least of the
+runs, in seconds of a processor, start-up included. Where xmllint (libxml2-utils) is missing its columns are left out with a word.
 """
 import pathlib
 import shutil
@@ -105,15 +105,15 @@ def main():
         print("xmllint isn't there (libxml2-utils): its column is left out\n")
     with tempfile.TemporaryDirectory() as folder:
         path = pathlib.Path(folder) / "document.xml"
-        print("| Document | MB | einv outline | xmllint --noout | ratio |")
+        print("| Document | MB | einv outline | xmllint --noout | xmllint / outline |")
         print("|---|---|---|---|---|")
         for name, make in (("elements", elements), ("attributes", attributes), ("texts", texts)):
-            for megabytes in (1, 16):
+            for megabytes in (1, 4, 16):
                 path.write_bytes(make(megabytes * MEGABYTE))
                 beside = [[other, "--noout", str(path)]] if other else []
-                (mine, _, said), *theirs = measuring.in_turns([[program, "outline", str(path)], *beside], runs)
-                right = f"{theirs[0][0]:.3f} | {mine / theirs[0][0]:.2f}" if theirs else "- | -"
-                print(f"| {name} | {megabytes} | {mine:.3f} | {right} | {said}".rstrip())
+                mine, theirs = measuring.beside([program, "outline", str(path)], beside, runs)
+                right = "%.3f | %.2f (%.2f to %.2f)" % theirs[0] if theirs else "- | -"
+                print(f"| {name} | {megabytes} | {mine:.3f} | {right} |", flush=True)
         print("\n| Hostile document | MB | einv outline | by honest | peak, MB | answer |")
         print("|---|---|---|---|---|---|")
         for name, make in HOSTILE.items():

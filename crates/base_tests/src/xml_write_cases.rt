@@ -8,8 +8,9 @@ use inv_base::{MemSink, Place, Sink};
 use std::alloc::{AllocError, Global};
 use std::test::Fail;
 use test_rows::{Holds, expect, expect_rows};
+use xml_events::{Events, NameId, NameTable};
 use xml_profile::Reader;
-use xml_state::{DOCUMENT_LIMITS, Events, NameId, NameTable, XmlFault};
+use xml_state::{DOCUMENT_LIMITS, XmlFault};
 use xml_write::{Gauge, Nowhere, Pen, PenState, WriteFault, Writer};
 
 const FIRST_LINE: &str = "<?xml version=\"1.0\" encoding=\"UTF-8\"?>\n";

@@ -7,7 +7,7 @@ use Rattle.std.specs.Char.{encode_utf8}
 use Rattle.inv_base.specs.Characters.{is_char, is_white_space, is_name_start, is_name_char}
 use Rattle.inv_base.specs.Text.{quoted}
 use Rattle.inv_base.specs.Tree.{Node, document_nodes}
-use Rattle.xml_state.specs.Events.{Event, starts, tree_of_events}
+use Rattle.xml_events.specs.Events.{Event, starts, tree_of_events}
 use Rattle.xml_state.specs.declared.limits.Limits.{Limits}
 use Rattle.xml_state.specs.Sizes.{document_limits}
 use Rattle.xml_tokens.specs.Encoding.{character_at}

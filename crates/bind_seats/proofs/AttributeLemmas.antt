@@ -15,7 +15,7 @@ use Rattle.std.proofs.lemmas.Bool.Decides.{same_from_decides, Decides-like, Deci
 use Rattle.std.proofs.lemmas.List.{get_or-map, get_or-drop, drop-drop, drop_more, nil_from_length, length-map}
 use Rattle.inv_base.specs.Tree.{Name, Node}
 use Rattle.inv_terms.specs.Values.{is_blank, trimmed}
-use Rattle.xml_state.specs.Events.{name_at}
+use Rattle.xml_events.specs.Events.{name_at}
 use Rattle.node_arena.specs.Document.{Document, Placed, node_at, document_node, AreNumbered}
 use Rattle.node_arena.specs.Moves.{tree_nodes, tree_node, node_of, parent, is_nearest, is_attribute, is_attribute_of, first_that, behind, next_attribute}
 use Rattle.bind_meaning.specs.Names.{has_plain_name, is_named, is_spelled}

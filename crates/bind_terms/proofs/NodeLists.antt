@@ -15,7 +15,7 @@ use Rattle.node_arena.specs.Moves.{first_attribute, next_attribute}
 use Rattle.node_arena.proofs.FoundLemmas.{AreInOrder, first_from, none_from}
 use Rattle.bind_meaning.specs.Elements.{number, is_element, both, has_element_inside}
 use Rattle.bind_meaning.specs.Names.{is_named, has_plain_name}
-use Rattle.xml_state.specs.Events.{name_at}
+use Rattle.xml_events.specs.Events.{name_at}
 use Rattle.std.specs.Str.{chars, bytes_eq}
 use Rattle.std.proofs.lemmas.Str.{chars-nil}
 use Rattle.term_table.proofs.GroupLemmas.{both as parts}

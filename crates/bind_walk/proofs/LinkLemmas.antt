@@ -12,7 +12,7 @@ use Rattle.inv_base.specs.declared.tree.Kind.TheVariants as kinds
 use Rattle.inv_base.specs.Tree.{Name, Node}
 use Rattle.inv_terms.specs.Values.{is_blank, trimmed}
 use Rattle.term_table.specs.declared.groups.Group.{Group}
-use Rattle.xml_state.specs.Names.{find_name, same_name}
+use Rattle.xml_events.specs.Names.{find_name, same_name}
 use Rattle.node_arena.specs.Document.{Document, node_at}
 use Rattle.node_arena.specs.Moves.{node_of, tree_nodes, tree_node, has_name, has_found, is_child, is_attribute_of}
 use Rattle.bind_rows.specs.declared.names.ElementName.{ElementName}

@@ -11,7 +11,7 @@ use Rattle.bind_rows.specs.declared.names.Namespace.TheVariants as spaces
 use Rattle.bind_rows.specs.declared.names.ElementName.{ElementName}
 use Rattle.bind_rows.specs.Namespaces.{uri_of}
 use Rattle.inv_base.specs.Tree.{Name}
-use Rattle.xml_state.specs.Names.{find_name}
+use Rattle.xml_events.specs.Names.{find_name}
 use Rattle.node_arena.specs.Document.{Document}
 use Rattle.bind_walk.specs.Found.{found_element}
 

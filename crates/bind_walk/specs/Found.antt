@@ -4,7 +4,7 @@ use Rattle.std.specs.List.{list_any}
 use Rattle.std.specs.Str.{bytes_eq}
 use Rattle.inv_base.specs.Tree.{string_of}
 use Rattle.inv_terms.specs.Values.{is_blank, trimmed}
-use Rattle.xml_state.specs.Names.{find_name}
+use Rattle.xml_events.specs.Names.{find_name}
 use Rattle.node_arena.specs.Document.{Document, node_at}
 use Rattle.node_arena.specs.Moves.{tree_nodes, tree_node, has_found}
 use Rattle.bind_rows.specs.declared.names.ElementName.{ElementName}

@@ -8,7 +8,7 @@ ghost use Rattle.bind_walk.specs.Found as spec;
 use bind_rows::{ElementName, Leaf, uri_of};
 use node_arena::{Doc, NodeId};
 use std::alloc::{AllocError, Global};
-use xml_state::NameId;
+use xml_events::NameId;
 
 /// Where a path ends: at its last element, or at an attribute of it, whose name has this number in the document, if any.
 #[derive(Clone, Copy)]

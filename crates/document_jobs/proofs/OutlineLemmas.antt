@@ -10,7 +10,7 @@ use Rattle.inv_base.specs.declared.tree.Kind.TheVariants as kinds
 use Rattle.inv_base.specs.Text.{quoted}
 use Rattle.inv_base.specs.Tree.{Name, Attribute, Node, Forest, no_more, a_text, an_element, size, nodes_of_attributes, nodes_of}
 use Rattle.inv_base.proofs.TextLemmas.{encode-chars}
-use Rattle.xml_state.specs.Events.{name_at}
+use Rattle.xml_events.specs.Events.{name_at}
 use Rattle.node_arena.specs.Document.{Placed, Document, document_node, node_at}
 use Rattle.node_arena.specs.Moves.{node_of, tree_nodes, tree_node, HasNodesOf}
 use Rattle.xml_document.specs.Walking.{StandsIn}

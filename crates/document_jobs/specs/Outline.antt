@@ -5,7 +5,7 @@ use Rattle.inv_base.specs.declared.tree.Kind.{Kind}
 use Rattle.inv_base.specs.declared.tree.Kind.TheVariants as kinds
 use Rattle.inv_base.specs.Text.{quoted}
 use Rattle.inv_base.specs.Tree.{Name, Attribute, Node, Forest, no_more, a_text, an_element}
-use Rattle.xml_state.specs.Events.{name_at}
+use Rattle.xml_events.specs.Events.{name_at}
 use Rattle.xml_profile.specs.Profile.{tree_of}
 use Rattle.node_arena.specs.Document.{Placed}
 use Rattle.job_course.specs.Course.{Course, ends, done, document_course}

@@ -4,7 +4,7 @@ ghost use Rattle.inv_base.specs.Printing.{Prints, Printed};
 ghost use Rattle.node_arena.specs.Document.{node_at};
 ghost use Rattle.node_arena.specs.Moves.{node_of, tree_nodes};
 ghost use Rattle.std.specs.Option.{ForSome};
-ghost use Rattle.xml_state.specs.Events.{name_at};
+ghost use Rattle.xml_events.specs.Events.{name_at};
 ghost use Rattle.document_jobs.specs.Outline.{node_line, line_as, optional_name_text, braced};
 ghost use Rattle.xml_document.specs.Walking.{StandsIn};
 
@@ -14,7 +14,7 @@ use short_lines::print_quoted_line;
 use std::marker::Brand;
 use std::sync::ledger::{Blank, Ledger};
 use xml_document::Walk;
-use xml_state::NameId;
+use xml_events::NameId;
 
 /// How many spaces are printed at once: those of a hundred levels.
 const INDENT: [u8; 200] = [b' '; 200];

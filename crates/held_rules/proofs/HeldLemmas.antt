@@ -3,7 +3,7 @@ use Rattle.std.proofs.Common.{◌≡◌, ℕ, true, List, [], ◌∷◌, Option,
 use Rattle.std.specs.Prelude.{bytes_eq, option_map, if◌then◌else◌}
 use Rattle.inv_base.specs.Files.{content_of, bytes_under}
 use Rattle.inv_base.specs.Memory.{Kept, shelf_of}
-use Rattle.xml_state.specs.Events.{with_events}
+use Rattle.xml_events.specs.Events.{with_events}
 use Rattle.xml_state.specs.declared.fault.XmlFault.{XmlFault}
 use Rattle.xml_profile.specs.Profile.{document, first_fault, names_of}
 use Rattle.xml_profile.specs.Profile as profile

@@ -7,8 +7,8 @@ use Rattle.inv_terms.specs.declared.entries.Entry.{Entry}
 use Rattle.inv_terms.specs.Listing.{IsInvoice}
 use Rattle.inv_terms.specs.Whole.{IsValid}
 use Rattle.xml_state.specs.declared.limits.Limits.{Limits}
-use Rattle.xml_state.specs.Events.{Event}
-use Rattle.xml_state.specs.Documents.{Tells}
+use Rattle.xml_events.specs.Events.{Event}
+use Rattle.xml_events.specs.Documents.{Tells}
 use Rattle.xml_profile.specs.Profile as profile
 use Rattle.xml_laws.specs.Told as told
 use Rattle.node_arena.specs.Document.{built}

@@ -9,7 +9,7 @@ use Rattle.inv_base.specs.Outside.{ShelfView, SinkView, WhereTold}
 use Rattle.code_lists.specs.CodeFiles.{Lists, file_lists}
 use Rattle.code_lists.specs.declared.fault.ListFault.{ListFault}
 use Rattle.code_lists.specs.declared.fault.ListFault.TheVariants as list_faults
-use Rattle.xml_state.specs.Events.{with_events}
+use Rattle.xml_events.specs.Events.{with_events}
 use Rattle.xml_state.specs.declared.limits.Limits.{Limits}
 use Rattle.xml_state.specs.declared.fault.XmlFault.{XmlFault}
 use Rattle.xml_profile.specs.Profile.{document, first_fault, names_of}

@@ -5,7 +5,7 @@ use Rattle.std.specs.List.{list_any}
 use Rattle.std.proofs.lemmas.List.{length-map, get_or-map, drop_all}
 use Rattle.std.proofs.lemmas.List.Folds.{list_any-append}
 use Rattle.xml_state.specs.StartTags.{twice_behind}
-use Rattle.xml_state.proofs.DuplicateLemmas.{nat_eq-flips}
+use Rattle.xml_events.proofs.FlipLemmas.{nat_eq-flips}
 use Rattle.bind_table.specs.declared.lines.Line.{Line}
 use Rattle.bind_table.specs.Laid.{are_distinct}
 use Rattle.laid_tables.specs.Lines.{line_numbers}

@@ -9,7 +9,7 @@ use Rattle.inv_base.specs.Tree.{is_among}
 use Rattle.inv_base.specs.declared.tree.Kind.TheVariants as kinds
 use Rattle.inv_base.specs.declared.place.Place.{Place}
 use Rattle.inv_base.proofs.TextLemmas.{chars-append}
-use Rattle.xml_state.specs.Events.{starts, has_attribute, has_text, ends}
+use Rattle.xml_events.specs.Events.{starts, has_attribute, has_text, ends}
 use Rattle.node_arena.specs.Document.{Placed, Built, after, begun, document_node, node_behind, last_place, ended}
 use Rattle.node_arena.specs.Slots.{is_inner, path, kept, text_nodes, last_kept, IsGrowing}
 use Rattle.node_arena.specs.declared.slot.Slot.{Slot}

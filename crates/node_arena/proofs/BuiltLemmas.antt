@@ -1,6 +1,6 @@
 -- A document behind one event more.
 use Rattle.std.proofs.Common.{◌≡◌, ℕ, Result, Ok, Err, Bool, true, false, List, [], ◌∷◌, ◌++◌, refl, ap, sym, ◌∙◌, append_assoc}
-use Rattle.xml_state.specs.Events.{Event, starts, has_attribute, has_text, ends, with_event, with_events, joined, Takes}
+use Rattle.xml_events.specs.Events.{Event, starts, has_attribute, has_text, ends, with_event, with_events, joined, Takes}
 use Rattle.node_arena.specs.Document.{Placed, Built, Builds, begun, after, built, built_from, with_last_text}
 use Rattle.node_arena.proofs.NodeLemmas.{with_last_text-push}
 

@@ -6,8 +6,8 @@ use Rattle.std.proofs.lemmas.Bool.{eqb-true, eq-eqb, and_parts, and_from, cases_
 use Rattle.std.proofs.lemmas.List.{drop-map, get_or-map}
 use Rattle.std.proofs.lemmas.Slice.Eq.{bytes_eq-Decides}
 use Rattle.inv_base.specs.Tree.{Name, Node}
-use Rattle.xml_state.specs.Events.{name_at}
-use Rattle.xml_state.specs.Names.{same_name, find_name, AreDistinct}
+use Rattle.xml_events.specs.Events.{name_at}
+use Rattle.xml_events.specs.Names.{same_name, find_name, AreDistinct}
 use Rattle.node_arena.specs.Document.{Placed, Document, document_node, node_at, AreNamed}
 use Rattle.node_arena.specs.Moves.{node_of, tree_nodes, behind, nearest, first_that, is_named, has_name, has_found, tree_node, chain, first_named, next_named}
 

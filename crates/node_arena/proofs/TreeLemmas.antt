@@ -7,8 +7,8 @@ use Rattle.inv_base.specs.declared.tree.Kind.TheVariants as kinds
 use Rattle.inv_base.specs.Tree.{Name, Attribute, Forest, no_more, a_text, an_element, begins_with_text, is_joined, IsDocument, Node, size, nodes_of}
 use Rattle.inv_base.specs.Tree.{nodes_of_attributes}
 use Rattle.inv_base.proofs.TextLemmas.{both}
-use Rattle.xml_state.specs.Events.{Event, starts, has_attribute, has_text, ends}
-use Rattle.xml_state.specs.Documents.{Tells, TellsAttributes}
+use Rattle.xml_events.specs.Events.{Event, starts, has_attribute, has_text, ends}
+use Rattle.xml_events.specs.Documents.{Tells, TellsAttributes}
 use Rattle.node_arena.specs.Document.{Placed, Built, begun, after, built, built_from, last_place, with_last_text, document_node, node_behind, ended, AreNamed}
 use Rattle.node_arena.specs.Document.{IsNumbered}
 use Rattle.node_arena.specs.Moves.{node_of, HasNodesOf, IsWhole}

@@ -6,7 +6,7 @@ use Rattle.std.specs.Option.{ForSome}
 use Rattle.inv_base.specs.declared.tree.Kind.{Kind}
 use Rattle.inv_base.specs.declared.tree.Kind.TheVariants as kinds
 use Rattle.inv_base.specs.Tree.{Name}
-use Rattle.xml_state.specs.Events.{Event, starts, has_attribute, has_text, ends}
+use Rattle.xml_events.specs.Events.{Event, starts, has_attribute, has_text, ends}
 
 -- A node: how many nodes stand before it in document order, its kind, the number of its name, the numbers of its
 -- ancestors from the nearest to the document's, its own text, and its place.

@@ -4,8 +4,8 @@ use Rattle.std.specs.Prelude.{◌≡◌, ℕ, ◌+◌, ◌<◌, Bool, true, fals
 use Rattle.std.specs.Prelude.{drop, get_or, Option, Some, None, IfSome, option_map}
 use Rattle.inv_base.specs.declared.tree.Kind.TheVariants as kinds
 use Rattle.inv_base.specs.Tree.{Name, Forest, IsDocument, Node, document_nodes, is_among}
-use Rattle.xml_state.specs.Events.{name_at}
-use Rattle.xml_state.specs.Names.{same_name}
+use Rattle.xml_events.specs.Events.{name_at}
+use Rattle.xml_events.specs.Names.{same_name}
 use Rattle.node_arena.specs.Document.{Placed, Built, Document, node_at, IsNumbered}
 
 -- the nodes of a document as the plain tree has them

@@ -1,6 +1,6 @@
 ghost use Rattle.std.specs.Prelude.{◌≡◌, ℕ, ◌<◌, List, map, chars, length, false, IfOk, OnSome, string_bytes};
 ghost use Rattle.inv_base.specs.declared.tree.Kind.TheVariants as kinds;
-ghost use Rattle.xml_state.specs.Events.{Event, starts, has_attribute, has_text, ends, Takes};
+ghost use Rattle.xml_events.specs.Events.{Event, starts, has_attribute, has_text, ends, Takes};
 ghost use Rattle.node_arena.specs.Document.{Built, Builds, begun, after, built, last_place};
 ghost use Rattle.node_arena.specs.Moves.{IsWhole};
 ghost use Rattle.node_arena.specs.Slots.{kept};
@@ -12,7 +12,7 @@ use bumpalo::Bump;
 use inv_base::{Kind, Place};
 use std::alloc::{AllocError, Global};
 use std::marker::Model;
-use xml_state::{Events, NameId, NameTable};
+use xml_events::{Events, NameId, NameTable};
 
 /// Receives the events of a document and places its texts in the arena.
 #[derive(Drop)]

@@ -3,14 +3,14 @@ ghost use Rattle.node_arena.specs.Document.{node_at, IsNumbered, AreNumbered, Ar
 ghost use Rattle.node_arena.specs.Linked.{AreEnds};
 ghost use Rattle.node_arena.specs.Moves.{IsOfATree};
 ghost use Rattle.node_arena.specs.Slots.{placed, kept, AreBelow};
-ghost use Rattle.xml_state.specs.Names.{AreDistinct};
+ghost use Rattle.xml_events.specs.Names.{AreDistinct};
 
 use crate::chains::Links;
 use crate::slot::Slot;
 use inv_base::{Kind, Place};
 use std::alloc::{AllocError, Global};
 use std::marker::Model;
-use xml_state::{NameId, NameTable};
+use xml_events::{NameId, NameTable};
 
 /// The number of a node in its document: how many nodes stand before it in document order.
 #[derive(Clone, Copy, PartialEq, Eq, Hash, PartialOrd, Ord)]

@@ -1,8 +1,8 @@
 ghost use Rattle.std.specs.Prelude.{◌≡◌, ℕ, List, ◌<◌, ◌^◌, length, map, filter, ◌+◌, Some};
 ghost use Rattle.inv_base.specs.Tree.{Name, Node, Forest, IsDocument, size};
-ghost use Rattle.xml_state.specs.Events.{Event, name_at};
-ghost use Rattle.xml_state.specs.Documents.{Tells};
-ghost use Rattle.xml_state.specs.Names.{AreDistinct, find_name};
+ghost use Rattle.xml_events.specs.Events.{Event, name_at};
+ghost use Rattle.xml_events.specs.Documents.{Tells};
+ghost use Rattle.xml_events.specs.Names.{AreDistinct, find_name};
 ghost use Rattle.node_arena.specs.Document.{Document, built, node_at, AreNamed};
 ghost use Rattle.node_arena.specs.Moves.{tree_nodes, tree_node, HasNodesOf, IsWhole, behind, is_inside, last_inside, is_between, first_that, has_name};
 ghost use Rattle.node_arena.specs.Moves.{has_found, chain, first_named, next_named};

@@ -8,7 +8,7 @@ use crate::link::Link;
 use crate::slot::parent_at;
 use inv_base::{Kind, Steps};
 use std::sync::ledger::Ledger;
-use xml_state::NameId;
+use xml_events::NameId;
 
 impl<'a> Doc<'a> {
     /// The element or the document that a node is right inside. Only the document has none.

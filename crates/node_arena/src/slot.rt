@@ -5,7 +5,7 @@ ghost use Rattle.node_arena.specs.Moves.{nearest};
 ghost use Rattle.node_arena.specs.Slots.{kept, around, AreBelow};
 
 use inv_base::{Kind, Place};
-use xml_state::NameId;
+use xml_events::NameId;
 
 /// A node as it is kept, with the number of the node around it. The document is inside none.
 #[derive(Drop)]

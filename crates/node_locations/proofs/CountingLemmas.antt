@@ -11,8 +11,8 @@ use Rattle.inv_base.specs.declared.tree.Kind.{Kind}
 use Rattle.inv_base.specs.declared.tree.Kind.TheVariants as kinds
 use Rattle.node_arena.specs.Keys.{is_attribute_kind}
 use Rattle.inv_base.specs.Tree.{Name, Node}
-use Rattle.xml_state.specs.Events.{name_at}
-use Rattle.xml_state.specs.Names.{same_name, AreDistinct}
+use Rattle.xml_events.specs.Events.{name_at}
+use Rattle.xml_events.specs.Names.{same_name, AreDistinct}
 use Rattle.node_arena.specs.Document.{Document, Placed, document_node, node_at, AreNamed}
 use Rattle.node_arena.specs.Moves.{node_of, tree_nodes, tree_node, behind, nearest, is_nearest, is_child, is_attribute, first_that, first_child, next_sibling}
 use Rattle.node_arena.specs.Moves.{parent}

@@ -4,7 +4,7 @@ use Rattle.inv_base.specs.declared.tree.Kind.{Kind}
 use Rattle.inv_base.specs.declared.tree.Kind.TheVariants as kinds
 use Rattle.inv_base.specs.Tree.{Node}
 use Rattle.std.proofs.lemmas.List.{get_or-map}
-use Rattle.xml_state.specs.Events.{name_at}
+use Rattle.xml_events.specs.Events.{name_at}
 use Rattle.node_arena.specs.Document.{Document, node_at, document_node}
 use Rattle.node_arena.specs.Moves.{node_of, tree_nodes, tree_node}
 use Rattle.node_locations.specs.Locations.{AreOrdinals, is_counted, optional_name_test, bracketed, step_of, step, path, ordinal}

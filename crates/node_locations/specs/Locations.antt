@@ -5,7 +5,7 @@ use Rattle.std.specs.Prelude.{codes, decimal, Option, Some, None}
 use Rattle.inv_base.specs.declared.tree.Kind.{Kind}
 use Rattle.inv_base.specs.declared.tree.Kind.TheVariants as kinds
 use Rattle.inv_base.specs.Tree.{Name, Node}
-use Rattle.xml_state.specs.Names.{same_name}
+use Rattle.xml_events.specs.Names.{same_name}
 use Rattle.node_arena.specs.Document.{Document}
 use Rattle.node_arena.specs.Moves.{tree_nodes, tree_node, nearest, is_child}
 

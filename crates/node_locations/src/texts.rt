@@ -3,14 +3,14 @@ ghost use Rattle.std.specs.Prelude.{◌≡◌, chars, string_bytes, flat_map};
 ghost use Rattle.std.specs.Str.{IsAscii};
 ghost use Rattle.std.specs.Option.{ForSome};
 ghost use Rattle.std.specs.Prelude.{◌<◌, length, option_map};
-ghost use Rattle.xml_state.specs.Events.{name_at};
+ghost use Rattle.xml_events.specs.Events.{name_at};
 ghost use Rattle.node_locations.specs.Locations.{doubled, optional_name_test, bracketed};
 ghost use Rattle.node_locations.specs.Puts.{Puts};
 
 use itoa::Buffer;
 use node_arena::Doc;
 use std::alloc::AllocError;
-use xml_state::NameId;
+use xml_events::NameId;
 
 /// Puts a text behind another.
 fn push_text(text: &str, out: &mut String) -> Result<(), AllocError>

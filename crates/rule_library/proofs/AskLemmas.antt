@@ -10,7 +10,7 @@ use Rattle.std.proofs.lemmas.List.{length-drop}
 use Rattle.inv_base.specs.declared.tree.Kind.TheVariants as kinds
 use Rattle.inv_base.specs.Tree.{Name}
 use Rattle.inv_base.proofs.TextLemmas.{both}
-use Rattle.xml_state.specs.Events.{name_at}
+use Rattle.xml_events.specs.Events.{name_at}
 use Rattle.node_arena.specs.Document.{Placed, Document, node_at}
 use Rattle.rule_library.specs.Asked.{Given, given_at, is_schematron, is_plain, value_of, Asked, stays, root_of, inside_of, bad, is_good, root_by, inside_by}
 use Rattle.rule_library.specs.Asked.{included, extended, takes_roots, takes_insides, asked}

@@ -8,7 +8,7 @@ use Rattle.inv_base.specs.Files.{Files}
 use Rattle.inv_base.specs.Tree.{Name, Attribute, Node, Forest, no_more, a_text, an_element, begins_with_text, is_joined, IsDocument, nodes_of}
 use Rattle.inv_base.specs.Tree.{nodes_of_attributes, document_nodes, size}
 use Rattle.inv_base.proofs.TextLemmas.{both}
-use Rattle.xml_state.specs.Events.{name_at}
+use Rattle.xml_events.specs.Events.{name_at}
 use Rattle.xml_profile.specs.Profile as profile
 use Rattle.xml_profile.specs.Profile.{document}
 use Rattle.node_arena.specs.Document.{Placed, Document, node_at}

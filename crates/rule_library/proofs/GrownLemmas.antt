@@ -7,9 +7,9 @@ use Rattle.std.proofs.lemmas.Bool.Decides.{nat_tests}
 use Rattle.inv_base.specs.Tree.{Name, Attribute, Forest, no_more, a_text, an_element, begins_with_text, is_joined, IsDocument, size, nodes_of}
 use Rattle.inv_base.specs.Tree.{nodes_of_attributes}
 use Rattle.inv_base.proofs.TextLemmas.{both}
-use Rattle.xml_state.specs.Events.{Event, starts, has_attribute, has_text, ends, with_event, name_at}
-use Rattle.xml_state.specs.Documents.{IsNumberOf, Tells, TellsAttributes}
-use Rattle.xml_state.specs.Names.{same_name, number_of, with_name}
+use Rattle.xml_events.specs.Events.{Event, starts, has_attribute, has_text, ends, with_event, name_at}
+use Rattle.xml_events.specs.Documents.{IsNumberOf, Tells, TellsAttributes}
+use Rattle.xml_events.specs.Names.{same_name, number_of, with_name}
 use Rattle.xml_state.proofs.NumberLemmas.{is_among, among-itself, number-itself, name-number}
 use Rattle.node_arena.specs.Document.{Built, begun, after, built, built_from, ended}
 use Rattle.node_arena.specs.Moves.{HasNodesOf, IsWhole, node_of}

@@ -9,7 +9,7 @@ use Rattle.node_arena.specs.Document.{Placed, Document, document_node, node_at}
 use Rattle.node_arena.specs.Moves.{tree_nodes, tree_node, node_of, parent, HasNodesOf, is_inside, is_between, last_inside}
 use Rattle.node_arena.specs.Moves as moves
 use Rattle.node_arena.specs.Walks.{LeadsOn}
-use Rattle.xml_state.specs.Events.{name_at}
+use Rattle.xml_events.specs.Events.{name_at}
 use Rattle.rule_library.specs.Turns.{from}
 use Rattle.rule_library.specs.Walk.{nearest, element_name, parent_name}
 

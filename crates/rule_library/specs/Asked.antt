@@ -5,7 +5,7 @@ use Rattle.std.specs.Prelude.{ℕ, Bool, true, false, ◌&&◌, ◌||◌, List, 
 use Rattle.std.specs.Prelude.{if◌then◌else◌}
 use Rattle.inv_base.specs.Tree.{Name}
 use Rattle.inv_base.specs.declared.tree.Kind.TheVariants as kinds
-use Rattle.xml_state.specs.Events.{name_at}
+use Rattle.xml_events.specs.Events.{name_at}
 use Rattle.node_arena.specs.Document.{Placed}
 
 abbrev pub schematron : List ℕ

@@ -1,8 +1,8 @@
 -- How nodes of files are joined into one document.
 use Rattle.std.specs.Prelude.{ℕ, zero, suc, ◌+◌, ◌-◌, Bool, true, false, List, [], ◌∷◌, length, Option, Some, None, nat_lt, if◌then◌else◌}
 use Rattle.inv_base.specs.Tree.{Name}
-use Rattle.xml_state.specs.Events.{starts, has_attribute, has_text, ends}
-use Rattle.xml_state.specs.Names.{number_of, with_name}
+use Rattle.xml_events.specs.Events.{starts, has_attribute, has_text, ends}
+use Rattle.xml_events.specs.Names.{number_of, with_name}
 use Rattle.xml_state.specs.Sizes.{rule_limits}
 use Rattle.node_arena.specs.Document.{Built, begun, after}
 use Rattle.rule_library.specs.Readings.{Joined}

@@ -1,6 +1,6 @@
 -- What the calls on attributes and requests answer.
 use Rattle.std.specs.Prelude.{◌≡◌, ℕ, ◌+◌, ◌<◌, ◌∷◌, length, drop, Option, Some}
-use Rattle.xml_state.specs.Events.{name_at}
+use Rattle.xml_events.specs.Events.{name_at}
 use Rattle.node_arena.specs.Document.{Document, node_at}
 use Rattle.rule_library.specs.Asked.{Asked, stays, bad, root_of, inside_of, given_at}
 use Rattle.rule_library.specs.Turns.{from}

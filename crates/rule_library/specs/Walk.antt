@@ -9,8 +9,8 @@ use Rattle.inv_base.specs.declared.tree.Kind.{Kind}
 use Rattle.inv_base.specs.declared.tree.Kind.TheVariants as nodes_are
 use Rattle.inv_base.specs.Tree.{Name, is_among}
 use Rattle.xml_state.specs.declared.fault.XmlFault.{XmlFault}
-use Rattle.xml_state.specs.Events.{name_at}
-use Rattle.xml_state.specs.Names.{same_name}
+use Rattle.xml_events.specs.Events.{name_at}
+use Rattle.xml_events.specs.Names.{same_name}
 use Rattle.xml_profile.specs.Profile as profile
 use Rattle.xml_profile.specs.Profile.{document}
 use Rattle.node_arena.specs.Document.{Placed, Document, node_at}

@@ -1,8 +1,8 @@
 -- When what is joined is a whole document.
 use Rattle.std.specs.Prelude.{◌≡◌, ℕ, List, Ok}
 use Rattle.inv_base.specs.Tree.{Forest, IsDocument}
-use Rattle.xml_state.specs.Events.{Event}
-use Rattle.xml_state.specs.Documents.{Tells}
+use Rattle.xml_events.specs.Events.{Event}
+use Rattle.xml_events.specs.Documents.{Tells}
 use Rattle.xml_profile.specs.Profile as profile
 use Rattle.xml_profile.specs.Profile.{document}
 use Rattle.node_arena.specs.Document.{built}

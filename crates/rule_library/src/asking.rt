@@ -1,7 +1,7 @@
 //! What an element asks for.
 ghost use Rattle.std.specs.Prelude.{◌≡◌, ℕ, ◌+◌, ◌<◌, ◌∷◌, [], length, drop, chars, option_map, encode_utf8_all, MatchOption};
 ghost use Rattle.std.specs.Option.{ForSome, option_copied};
-ghost use Rattle.xml_state.specs.Events.{name_at};
+ghost use Rattle.xml_events.specs.Events.{name_at};
 ghost use Rattle.node_arena.specs.Document.{node_at};
 ghost use Rattle.rule_library.specs.Asked as spec;
 ghost use Rattle.rule_library.specs.Requests.{asked_by, IsGiven};
@@ -11,7 +11,7 @@ ghost use Rattle.rule_library.specs.Walk.{parent_name, own_name};
 use crate::moves::{next_of, parent_name};
 use inv_base::{Kind, is_same_text};
 use node_arena::{Doc, NodeId};
-use xml_state::{NameId, NameTable};
+use xml_events::{NameId, NameTable};
 
 const SCHEMATRON: &str = "http://purl.oclc.org/dsdl/schematron";
 

@@ -1,8 +1,8 @@
 //! The document that grows of the nodes of files.
 ghost use Rattle.std.specs.Prelude.{◌≡◌, ℕ, ◌+◌, ◌-◌, ◌<◌, ◌≤◌, length, drop, chars, option_map, IfOk, OnOk};
 ghost use Rattle.std.specs.Option.{ForSome};
-ghost use Rattle.xml_state.specs.Events.{name_at};
-ghost use Rattle.xml_state.specs.Names.{number_of, with_name};
+ghost use Rattle.xml_events.specs.Events.{name_at};
+ghost use Rattle.xml_events.specs.Names.{number_of, with_name};
 ghost use Rattle.node_arena.specs.Document.{node_at};
 ghost use Rattle.rule_library.specs.Whole.{TellsDocument};
 ghost use Rattle.rule_library.specs.Asked.{given_at};
@@ -19,7 +19,8 @@ use node_arena::{
 };
 use std::alloc::{AllocError, Global};
 use std::marker::Model;
-use xml_state::{NameId, NameTable, RULE_LIMITS};
+use xml_events::{NameId, NameTable};
+use xml_state::RULE_LIMITS;
 
 /// How many bytes of texts and values are joined at most: a text of white space that is put in twice by each file
 /// doubles with each.

@@ -1,7 +1,7 @@
 //! Moves over a document whose steps nobody counts.
 ghost use Rattle.std.specs.Prelude.{◌≡◌, ℕ, ◌+◌, ◌<◌, ◌≤◌, length, drop, option_map};
 ghost use Rattle.std.specs.Option.{ForSome};
-ghost use Rattle.xml_state.specs.Events.{name_at};
+ghost use Rattle.xml_events.specs.Events.{name_at};
 ghost use Rattle.node_arena.specs.Document.{node_at};
 ghost use Rattle.node_arena.specs.Moves.{tree_nodes, last_inside};
 ghost use Rattle.rule_library.specs.Turns.{from};
@@ -11,7 +11,7 @@ use inv_base::Steps;
 use node_arena::{Doc, NodeId, moves_lead_on};
 use std::marker::Brand;
 use std::sync::ledger::{Blank, Ledger};
-use xml_state::NameId;
+use xml_events::NameId;
 
 /// The node behind one, in document order.
 pub(crate) fn next_of(doc: &Doc<'_>, n: NodeId) -> Option<NodeId>

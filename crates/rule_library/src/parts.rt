@@ -1,7 +1,7 @@
 //! Parts: the files that elements ask for.
 ghost use Rattle.std.specs.Prelude.{◌≡◌, ℕ, ◌+◌, ◌<◌, [], length, drop, option_map, nat_le, IfOk, IfErr, OnOk};
 ghost use Rattle.std.specs.Option.{ForSome};
-ghost use Rattle.xml_state.specs.Events.{name_at};
+ghost use Rattle.xml_events.specs.Events.{name_at};
 ghost use Rattle.node_arena.specs.Document.{node_at};
 ghost use Rattle.rule_library.specs.Faults.{Fails};
 ghost use Rattle.rule_library.specs.Leads.{Reaches};
@@ -18,7 +18,7 @@ use bumpalo::Bump;
 use inv_base::{Shelf, is_same_text};
 use node_arena::{Doc, NodeId, insides_are_intervals};
 use std::alloc::{AllocError, Global};
-use xml_state::{NameId, NameTable};
+use xml_events::{NameId, NameTable};
 
 /// How many files there may be.
 const FILES: usize = 64;

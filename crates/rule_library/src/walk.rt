@@ -1,7 +1,7 @@
 //! The walk over a rule file and the parts that it takes.
 ghost use Rattle.std.specs.Prelude.{◌≡◌, ℕ, ◌+◌, ◌-◌, ◌<◌, ◌∷◌, length, drop, chars, option_map, Some, Ok, IfOk, IfErr, OnOk};
 ghost use Rattle.std.specs.Option.{ForSome};
-ghost use Rattle.xml_state.specs.Events.{name_at};
+ghost use Rattle.xml_events.specs.Events.{name_at};
 ghost use Rattle.node_arena.specs.Document.{node_at};
 ghost use Rattle.rule_library.specs.Faults.{Fails, TellsOf, want_of_memory};
 ghost use Rattle.rule_library.specs.Readings.{file_at, gives};

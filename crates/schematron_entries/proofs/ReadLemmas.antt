@@ -8,7 +8,7 @@ use Rattle.inv_base.specs.Tree.{Node}
 use Rattle.node_arena.specs.Document.{Document, Placed, AreNumbered, node_at, document_node}
 use Rattle.node_arena.specs.Moves.{tree_nodes, tree_node, node_of}
 use Rattle.node_arena.specs.Moves.{is_attribute}
-use Rattle.xml_state.specs.Events.{name_at}
+use Rattle.xml_events.specs.Events.{name_at}
 use Rattle.inv_base.specs.Tree.{Name}
 use Rattle.schematron_meaning.specs.declared.around.Around.{Around}
 use Rattle.schematron_meaning.specs.declared.role.Role.{Role}

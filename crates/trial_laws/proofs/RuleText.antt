@@ -4,7 +4,7 @@ use Rattle.std.specs.Str.{is_utf8, chars}
 use Rattle.std.specs.Char.{encode_utf8}
 use Rattle.inv_base.specs.Characters.{is_char, is_white_space, is_name_start, is_name_char}
 use Rattle.inv_base.specs.Tree.{Name}
-use Rattle.xml_state.specs.Events.{Event, starts, has_attribute, has_text, ends}
+use Rattle.xml_events.specs.Events.{Event, starts, has_attribute, has_text, ends}
 use Rattle.xml_state.specs.Sizes.{document_limits}
 use Rattle.xml_tokens.specs.Encoding.{character_at}
 use Rattle.xml_tokens.specs.References.{referred, reference_at}

@@ -8,7 +8,7 @@ use Rattle.std.proofs.lemmas.List.Elements.{filter-append}
 use Rattle.inv_base.specs.declared.tree.Kind.TheVariants as kinds
 use Rattle.inv_base.specs.Tree.{Forest, no_more, an_element, Name, Attribute, Node, size, nodes_of, nodes_of_attributes}
 use Rattle.node_arena.specs.Moves.{is_nearest, is_child}
-use Rattle.xml_state.specs.Names.{same_name}
+use Rattle.xml_events.specs.Names.{same_name}
 use Rattle.term_table.specs.declared.groups.Group.{Group}
 use Rattle.term_table.specs.declared.contexts.Context.{Context}
 use Rattle.inv_terms.specs.declared.entries.Entry.{Entry}

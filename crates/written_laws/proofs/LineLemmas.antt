@@ -6,7 +6,7 @@ use Rattle.std.specs.Str.{bytes_eq}
 use Rattle.std.specs.List.{list_all, list_any}
 use Rattle.inv_base.specs.Characters.{is_char}
 use Rattle.inv_base.specs.Tree.{Attribute}
-use Rattle.xml_state.specs.Names.{same_name}
+use Rattle.xml_events.specs.Names.{same_name}
 use Rattle.xml_state.specs.Admission.{has_twice}
 use Rattle.term_table.specs.declared.contexts.Context.{Context}
 use Rattle.term_table.specs.Contexts.{root_context}

@@ -5,7 +5,7 @@ use Rattle.std.specs.List.{list_any}
 use Rattle.std.proofs.lemmas.Bool.{false≢true}
 use Rattle.std.proofs.lemmas.Slice.Eq.{bytes_eq-Decides}
 use Rattle.inv_base.specs.Tree.{Name}
-use Rattle.xml_state.specs.Names.{same_name, with_name}
+use Rattle.xml_events.specs.Names.{same_name, with_name}
 use Rattle.xml_state.specs.States.{with_names}
 use Rattle.written_laws.proofs.ListLemmas.{and-true, or-right, Among, Within}
 

@@ -2,8 +2,8 @@
 use Rattle.std.proofs.Common.{◌≡◌, ℕ, true, List, Ok, ap, sym, ◌∙◌, encode_utf8_all}
 use Rattle.inv_base.specs.Tree.{Name, Forest, IsDocument, document_nodes}
 use Rattle.xml_state.specs.declared.limits.Limits.{Limits}
-use Rattle.xml_state.specs.Events.{Event}
-use Rattle.xml_state.specs.Documents.{Tells}
+use Rattle.xml_events.specs.Events.{Event}
+use Rattle.xml_events.specs.Documents.{Tells}
 use Rattle.xml_profile.specs.Profile.{Document, document, tree_of, IsXml}
 use Rattle.xml_write.specs.Canonical.{Declaration, canonical_text}
 use Rattle.xml_laws.specs.Told.{IsReadAs}

@@ -6,7 +6,7 @@ use Rattle.std.specs.List.{list_all}
 use Rattle.inv_base.specs.Characters.{is_char}
 use Rattle.inv_base.specs.Tree.{Name, Attribute, Forest, no_more, a_text, an_element, begins_with_text, is_joined}
 use Rattle.xml_state.specs.declared.limits.Limits.{Limits}
-use Rattle.xml_state.specs.Names.{same_name}
+use Rattle.xml_events.specs.Names.{same_name}
 use Rattle.xml_state.specs.Admission.{has_twice}
 use Rattle.xml_write.specs.Canonical.{Declaration, element_name, attribute_name}
 use Rattle.xml_laws.specs.Writable.{is_element_name, is_attribute_name, all_elements, all_texts, depth_of, names_in, is_short}

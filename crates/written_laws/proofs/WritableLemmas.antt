@@ -5,7 +5,7 @@ use Rattle.inv_base.specs.Characters.{is_char}
 use Rattle.inv_base.specs.Tree.{Name, Attribute, Forest, no_more, an_element, is_joined}
 use Rattle.xml_tokens.specs.Beginnings.{greatest_tag}
 use Rattle.xml_state.specs.declared.limits.Limits.{Limits}
-use Rattle.xml_state.specs.Names.{same_name}
+use Rattle.xml_events.specs.Names.{same_name}
 use Rattle.xml_state.specs.Admission.{has_twice}
 use Rattle.xml_state.specs.States.{with_names}
 use Rattle.xml_write.specs.Canonical.{Declaration, declaring_name, canonical_text}

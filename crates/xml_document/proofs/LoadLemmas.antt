@@ -8,7 +8,7 @@ use Rattle.std.proofs.lemmas.Option.{none-some}
 use Rattle.inv_base.specs.Outside.{ShelfView, WhereTold, ahead_of}
 use Rattle.inv_base.specs.Tree.{Name}
 use Rattle.xml_tokens.specs.Asides.{open_aside}
-use Rattle.xml_state.specs.Events.{Event, with_events}
+use Rattle.xml_events.specs.Events.{Event, with_events}
 use Rattle.xml_state.specs.declared.limits.Limits.{Limits}
 use Rattle.xml_state.specs.declared.fault.TheConstants.XmlFault.{WANT_OF_MEMORY}
 use Rattle.xml_state.specs.declared.fault.XmlFault.{XmlFault}

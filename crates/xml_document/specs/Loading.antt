@@ -2,7 +2,7 @@
 use Rattle.std.specs.Prelude.{◌≡◌, ◌≢◌, ℕ, ◌+◌, ◌≤◌, List, [], ◌++◌, length, take, Option, Some, None, Result, Ok, Err}
 use Rattle.inv_base.specs.Counts.{Rose, next_count}
 use Rattle.inv_base.specs.Outside.{ShelfView, WhereTold, ahead_of}
-use Rattle.xml_state.specs.Events.{Event}
+use Rattle.xml_events.specs.Events.{Event}
 use Rattle.xml_state.specs.declared.limits.Limits.{Limits}
 use Rattle.xml_state.specs.declared.fault.XmlFault.{XmlFault}
 use Rattle.xml_profile.specs.Profile.{document, first_fault, settled_fault, tree_of}

@@ -18,9 +18,10 @@ use node_arena::{
     Builder, Doc, events_build_a_whole_document, events_build_the_nodes_of_their_tree,
 };
 use std::alloc::{AllocError, AllocFailed, Global};
+use xml_events::Events;
 use xml_laws::read_tells_its_tree;
 use xml_profile::{Reader, settled_is_first, settled_stays};
-use xml_state::{Events, Limits, XmlFault};
+use xml_state::{Limits, XmlFault};
 use xml_tokens::XmlKind;
 
 /// How many bytes are read at a time.

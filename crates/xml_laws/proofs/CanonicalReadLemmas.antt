@@ -14,8 +14,8 @@ use Rattle.xml_tokens.specs.Markup.{a_character, an_aside, instruction, is_decla
 use Rattle.xml_tokens.specs.Beginnings.{good, beginning, extent}
 use Rattle.xml_tokens.specs.declared.beginning.Position.TheVariants.{AtStart, Farther}
 use Rattle.xml_state.specs.declared.limits.Limits.{Limits}
-use Rattle.xml_state.specs.Events.{Event, with_events}
-use Rattle.xml_state.specs.Documents.{Tells}
+use Rattle.xml_events.specs.Events.{Event, with_events}
+use Rattle.xml_events.specs.Documents.{Tells}
 use Rattle.xml_state.specs.States.{State, begin, with_names, state_behind, events_of}
 use Rattle.xml_state.specs.Admission.{fault_of}
 use Rattle.xml_profile.specs.TokenByToken.{Read, read, resume, read_whole, waits}

@@ -10,9 +10,9 @@ use Rattle.inv_base.proofs.TextLemmas.{both}
 use Rattle.xml_tokens.specs.Markup.{Written, an_end_tag}
 use Rattle.xml_tokens.specs.Beginnings.{good, beginning, greatest_tag}
 use Rattle.xml_state.specs.declared.limits.Limits.{Limits}
-use Rattle.xml_state.specs.Names.{number_of, with_name}
-use Rattle.xml_state.specs.Events.{Event, starts, ends}
-use Rattle.xml_state.specs.Documents.{IsNumberOf, Tells, TellsAttributes}
+use Rattle.xml_events.specs.Names.{number_of, with_name}
+use Rattle.xml_events.specs.Events.{Event, starts, ends}
+use Rattle.xml_events.specs.Documents.{IsNumberOf, Tells, TellsAttributes}
 use Rattle.xml_state.specs.States.{Open, State, is_outside, is_innermost, bindings_here, with_names, attribute_event, state_behind, events_of}
 use Rattle.xml_state.specs.Admission.{fault_of, is_long_name, end_tag_causes}
 use Rattle.xml_profile.specs.TokenByToken.{telling, read}

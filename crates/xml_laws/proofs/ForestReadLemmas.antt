@@ -8,8 +8,8 @@ use Rattle.inv_base.specs.Characters.{is_char}
 use Rattle.inv_base.specs.Tree.{Name, Attribute, Forest, no_more, a_text, an_element, begins_with_text, is_joined, size}
 use Rattle.inv_base.proofs.TextLemmas.{both}
 use Rattle.xml_state.specs.declared.limits.Limits.{Limits}
-use Rattle.xml_state.specs.Events.{Event, starts, has_text, ends}
-use Rattle.xml_state.specs.Documents.{Tells}
+use Rattle.xml_events.specs.Events.{Event, starts, has_text, ends}
+use Rattle.xml_events.specs.Documents.{Tells}
 use Rattle.xml_state.specs.States.{State, is_outside, bindings_here, with_names}
 use Rattle.xml_write.specs.Escapes.{in_text}
 use Rattle.xml_write.specs.Canonical.{Declaration, element_name, declarations_text, attributes_text, element_text, is_childless, forest_text}

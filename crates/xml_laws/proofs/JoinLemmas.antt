@@ -1,7 +1,7 @@
 -- Joined events, read from the last one back.
 use Rattle.std.proofs.Common.{◌≡◌, ℕ, List, [], ◌∷◌, ◌++◌, map, refl, sym, ap, ◌∙◌}
 use Rattle.std.proofs.lemmas.List.{append_assoc}
-use Rattle.xml_state.specs.Events.{Event, starts, has_attribute, has_text, ends, joined, with_event, with_events}
+use Rattle.xml_events.specs.Events.{Event, starts, has_attribute, has_text, ends, joined, with_event, with_events}
 use Rattle.xml_state.specs.States.{attribute_event}
 use Rattle.inv_base.specs.Tree.{Name, Attribute}
 

@@ -6,10 +6,10 @@ use Rattle.std.proofs.lemmas.Slice.Eq.{bytes_eq-Decides}
 use Rattle.inv_base.specs.Tree.{Name, Attribute}
 use Rattle.std.specs.Str.{bytes_eq}
 use Rattle.inv_base.proofs.TextLemmas.{both}
-use Rattle.xml_state.specs.Events.{name_at}
-use Rattle.xml_state.specs.Names.{same_name, number_of, with_name}
+use Rattle.xml_events.specs.Events.{name_at}
+use Rattle.xml_events.specs.Names.{same_name, number_of, with_name}
 use Rattle.xml_state.specs.States.{with_names, attribute_event}
-use Rattle.xml_state.specs.Documents.{IsNumberOf, TellsAttributes}
+use Rattle.xml_events.specs.Documents.{IsNumberOf, TellsAttributes}
 
 -- names, and others behind them
 pub record Extends (names more : List Name) : Type 0 where

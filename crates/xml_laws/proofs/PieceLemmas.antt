@@ -2,7 +2,7 @@
 use Rattle.std.proofs.Common.{◌≡◌, ℕ, ◌+◌, true, List, ◌∷◌, ◌++◌, length, sym, ap, ◌∙◌, arith}
 use Rattle.std.proofs.lemmas.List.{append_assoc, length-append}
 use Rattle.xml_state.specs.declared.limits.Limits.{Limits}
-use Rattle.xml_state.specs.Events.{Event}
+use Rattle.xml_events.specs.Events.{Event}
 use Rattle.xml_state.specs.States.{State}
 use Rattle.xml_profile.specs.TokenByToken.{telling, read}
 use Rattle.xml_laws.proofs.StepLemmas.{telling-more}

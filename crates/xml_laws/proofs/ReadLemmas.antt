@@ -14,9 +14,9 @@ use Rattle.xml_tokens.specs.Markup.{Tag, Token, a_mark, an_aside, a_character, a
 use Rattle.xml_tokens.specs.Beginnings.{Beginning, good, bad, later, beginning, sure_length}
 use Rattle.xml_state.specs.declared.limits.Limits.{Limits}
 use Rattle.xml_state.specs.Faults.{fault_at}
-use Rattle.xml_state.specs.Events.{Event, starts, has_text, ends, with_events}
-use Rattle.xml_state.specs.Documents.{Tells}
-use Rattle.xml_state.specs.Names.{number_of}
+use Rattle.xml_events.specs.Events.{Event, starts, has_text, ends, with_events}
+use Rattle.xml_events.specs.Documents.{Tells}
+use Rattle.xml_events.specs.Names.{number_of}
 use Rattle.xml_state.specs.States.{Open, State, begin, is_outside, behind_aside, behind_text, behind_start_tag, behind_end_tag, state_behind, events_of}
 use Rattle.xml_state.specs.States.{text_events, start_tag_events, names_behind, name_in, attributes_in, attribute_event, bindings_in}
 use Rattle.xml_state.specs.Admission.{text_fault, is_text_too_many, start_tag_causes, end_tag_causes, fault_of}

@@ -5,9 +5,9 @@ use Rattle.std.proofs.lemmas.List.{append_assoc}
 use Rattle.std.proofs.lemmas.Bool.Decides.{nat_tests}
 use Rattle.inv_base.specs.Tree.{Name, Attribute, Forest, no_more, a_text, an_element, begins_with_text, is_joined, IsDocument, size}
 use Rattle.inv_base.proofs.TextLemmas.{both}
-use Rattle.xml_state.specs.Events.{Event, starts, has_attribute, has_text, ends}
+use Rattle.xml_events.specs.Events.{Event, starts, has_attribute, has_text, ends}
 use Rattle.xml_state.specs.States.{Open}
-use Rattle.xml_state.specs.Documents.{IsNumberOf, Tells, TellsAttributes}
+use Rattle.xml_events.specs.Documents.{IsNumberOf, Tells, TellsAttributes}
 use Rattle.xml_laws.proofs.JoinLemmas.{before}
 
 -- The events begin with a text.

@@ -17,7 +17,7 @@ use Rattle.xml_tokens.specs.Beginnings.{extent, beginning}
 use Rattle.xml_state.specs.declared.limits.Limits.{Limits}
 use Rattle.xml_state.specs.Sizes.{document_limits}
 use Rattle.xml_state.specs.Faults.{fault_at}
-use Rattle.xml_state.specs.Events.{tree_of_events}
+use Rattle.xml_events.specs.Events.{tree_of_events}
 use Rattle.xml_state.specs.States.{with_names, state_behind, events_of}
 use Rattle.xml_state.specs.Admission.{fault_of}
 use Rattle.xml_profile.specs.TokenByToken.{read, resume}

@@ -10,8 +10,8 @@ use Rattle.xml_tokens.specs.Faults.{Cause, first_cause}
 use Rattle.xml_tokens.specs.Markup.{Written, Tag, a_start_tag}
 use Rattle.xml_tokens.specs.Beginnings.{good, beginning, greatest_tag}
 use Rattle.xml_state.specs.declared.limits.Limits.{Limits}
-use Rattle.xml_state.specs.Names.{same_name, number_of}
-use Rattle.xml_state.specs.Events.{starts, ends}
+use Rattle.xml_events.specs.Names.{same_name, number_of}
+use Rattle.xml_events.specs.Events.{starts, ends}
 use Rattle.xml_state.specs.Namespaces.{Binding, bindings_inside, declared_bindings, is_bad_binding, is_undeclared, undeclaring, attributes_of}
 use Rattle.xml_state.specs.Namespaces as names
 use Rattle.xml_state.specs.States.{State, is_outside, bindings_here, bindings_in, name_in, attributes_in, names_behind, with_names, behind_start_tag}

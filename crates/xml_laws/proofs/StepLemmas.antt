@@ -5,7 +5,7 @@ use Rattle.std.proofs.lemmas.Bool.Decides.{nat_tests}
 use Rattle.xml_tokens.specs.Markup.{Token}
 use Rattle.xml_tokens.specs.Beginnings.{good, beginning}
 use Rattle.xml_state.specs.declared.limits.Limits.{Limits}
-use Rattle.xml_state.specs.Events.{Event}
+use Rattle.xml_events.specs.Events.{Event}
 use Rattle.xml_state.specs.States.{State, state_behind, events_of}
 use Rattle.xml_state.specs.Admission.{fault_of}
 use Rattle.xml_profile.specs.TokenByToken.{Read, telling, read}

@@ -15,7 +15,7 @@ use Rattle.inv_base.specs.Tree.{Attribute}
 use Rattle.inv_base.proofs.TextLemmas.{both}
 use Rattle.xml_tokens.specs.Markup.{Written}
 use Rattle.xml_state.specs.declared.limits.Limits.{Limits}
-use Rattle.xml_state.specs.Names.{same_name}
+use Rattle.xml_events.specs.Names.{same_name}
 use Rattle.xml_state.specs.Namespaces.{Binding, xml, xmlns, xml_uri, xmlns_uri, first_bindings, declared_prefix, declared_binding, declared_bindings}
 use Rattle.xml_state.specs.Namespaces.{undeclaring, is_bad_binding, is_undeclared, attributes_of}
 use Rattle.xml_state.specs.Namespaces as names

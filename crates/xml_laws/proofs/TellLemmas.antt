@@ -2,8 +2,8 @@
 use Rattle.std.proofs.Common.{◌≡◌, List, [], ◌∷◌, ◌++◌, refl, sym, ap, ◌∙◌}
 use Rattle.std.proofs.lemmas.List.{append_assoc, append-nil}
 use Rattle.inv_base.specs.Tree.{Name, Attribute, Forest, no_more, a_text, an_element}
-use Rattle.xml_state.specs.Events.{Event, ends, Trees, name_at, started, trees_of, tree_of_events}
-use Rattle.xml_state.specs.Documents.{Tells, TellsAttributes}
+use Rattle.xml_events.specs.Events.{Event, ends, Trees, name_at, started, trees_of, tree_of_events}
+use Rattle.xml_events.specs.Documents.{Tells, TellsAttributes}
 
 -- a forest before another
 pub followed : Forest → Forest → Forest

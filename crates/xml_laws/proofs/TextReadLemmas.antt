@@ -9,7 +9,7 @@ use Rattle.inv_base.specs.Tree.{Name}
 use Rattle.inv_base.proofs.TextLemmas.{both}
 use Rattle.xml_tokens.specs.declared.beginning.Position.TheVariants.{Farther}
 use Rattle.xml_state.specs.declared.limits.Limits.{Limits}
-use Rattle.xml_state.specs.Events.{Event, starts, has_attribute, has_text, ends}
+use Rattle.xml_events.specs.Events.{Event, starts, has_attribute, has_text, ends}
 use Rattle.xml_state.specs.States.{Open, State, is_outside, state_behind, behind_text, text_events}
 use Rattle.xml_state.specs.Admission.{is_text_too_many}
 use Rattle.xml_profile.specs.TokenByToken.{telling, read}

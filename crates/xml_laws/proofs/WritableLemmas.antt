@@ -6,7 +6,7 @@ use Rattle.inv_base.specs.Characters.{is_char}
 use Rattle.inv_base.specs.Tree.{Name, Attribute, Forest, a_text, an_element}
 use Rattle.inv_base.proofs.TextLemmas.{both}
 use Rattle.xml_state.specs.declared.limits.Limits.{Limits}
-use Rattle.xml_state.specs.Names.{same_name}
+use Rattle.xml_events.specs.Names.{same_name}
 use Rattle.xml_state.specs.Admission.{has_twice}
 use Rattle.xml_write.specs.Canonical.{Declaration, element_name, attribute_name, declaring_name, declarations_text, attributes_text, is_childless}
 use Rattle.xml_laws.specs.Writable.{is_element_name, is_attribute_name, all_elements, all_texts, depth_of, is_short, tags_fit, keeps_limits, keep_limits}

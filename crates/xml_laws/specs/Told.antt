@@ -2,7 +2,7 @@
 use Rattle.std.specs.Prelude.{◌+◌, ◌≤◌}
 use Rattle.inv_base.specs.Tree.{Forest, IsDocument, size}
 use Rattle.xml_state.specs.declared.limits.Limits.{Limits}
-use Rattle.xml_state.specs.Documents.{Tells}
+use Rattle.xml_events.specs.Documents.{Tells}
 use Rattle.xml_profile.specs.Profile.{Document}
 
 -- What was read tells the tree, which is that of a document and keeps the limit on nodes.

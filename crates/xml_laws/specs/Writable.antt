@@ -7,7 +7,7 @@ use Rattle.inv_base.specs.Tree.{Name, Attribute, Forest, no_more, a_text, an_ele
 use Rattle.xml_tokens.specs.WrittenNames.{is_ncname}
 use Rattle.xml_tokens.specs.Beginnings.{greatest_tag}
 use Rattle.xml_state.specs.declared.limits.Limits.{Limits}
-use Rattle.xml_state.specs.Names.{same_name}
+use Rattle.xml_events.specs.Names.{same_name}
 use Rattle.xml_state.specs.Namespaces.{xmlns, is_bad_binding}
 use Rattle.xml_state.specs.States.{with_names}
 use Rattle.xml_state.specs.Admission.{has_twice}

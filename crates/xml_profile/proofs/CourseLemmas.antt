@@ -1,7 +1,7 @@
 -- Turn behind turn.
 use Rattle.std.proofs.Common.{◌≡◌, ℕ, ◌≤◌, Bool, List, [], ◌∷◌, ◌++◌, length, refl, sym, ap, ◌∙◌, subst, arith}
 use Rattle.std.proofs.lemmas.List.{append_assoc, append-nil}
-use Rattle.xml_state.specs.Events.{Event, TakesAll, with_events}
+use Rattle.xml_events.specs.Events.{Event, TakesAll, with_events}
 use Rattle.xml_state.specs.declared.limits.Limits.{Limits}
 use Rattle.xml_state.specs.declared.fault.XmlFault.{XmlFault}
 use Rattle.xml_tokens.proofs.SearchingLemmas.{few-searched}

@@ -2,7 +2,7 @@
 use Rattle.std.proofs.Common.{◌≡◌, ℕ, ◌+◌, List, [], ◌∷◌, ◌++◌, length, refl, sym, ap, ◌∙◌}
 use Rattle.std.proofs.lemmas.List.{append_assoc}
 use Rattle.std.specs.Char.{encode_utf8}
-use Rattle.xml_state.specs.Events.{Event, starts, has_attribute, has_text, ends, joined, with_event, with_events}
+use Rattle.xml_events.specs.Events.{Event, starts, has_attribute, has_text, ends, joined, with_event, with_events}
 
 -- Events and more, and more again.
 pub with_events-append : (events a b : List Event) → with_events events (a ++ b) ≡ with_events (with_events events a) b

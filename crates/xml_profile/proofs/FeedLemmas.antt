@@ -4,7 +4,7 @@ use Rattle.std.proofs.Common.{if◌then◌else◌}
 use Rattle.std.proofs.lemmas.Bool.Decides.{nat_tests}
 use Rattle.std.proofs.lemmas.List.{append-nil, length-append, drop_at}
 use Rattle.xml_tokens.specs.declared.kind.XmlKind.TheVariants.{Truncated, NoRoot}
-use Rattle.xml_state.specs.Events.{Event}
+use Rattle.xml_events.specs.Events.{Event}
 use Rattle.xml_state.specs.declared.limits.Limits.{Limits}
 use Rattle.xml_state.specs.States.{State, is_outside}
 use Rattle.xml_state.specs.Faults.{fault_at}

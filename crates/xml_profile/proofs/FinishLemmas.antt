@@ -4,7 +4,7 @@ use Rattle.std.proofs.Common.{MatchResult}
 use Rattle.std.proofs.lemmas.Option.{none-some}
 use Rattle.std.proofs.lemmas.List.{append-nil, append_assoc}
 use Rattle.inv_base.specs.Tree.{Name}
-use Rattle.xml_state.specs.Events.{Event, TakesAll, with_events}
+use Rattle.xml_events.specs.Events.{Event, TakesAll, with_events}
 use Rattle.xml_state.specs.declared.limits.Limits.{Limits}
 use Rattle.xml_state.specs.Taking.{TakesFront}
 use Rattle.xml_state.specs.declared.fault.XmlFault.{XmlFault}

@@ -2,7 +2,7 @@
 use Rattle.std.proofs.Common.{◌≡◌, ℕ, Bool, true, false, List, [], ◌++◌, sym, ap, ◌∙◌, arith, Some}
 use Rattle.std.proofs.lemmas.List.{append-nil}
 use Rattle.std.proofs.lemmas.Option.{none-some}
-use Rattle.xml_state.specs.Events.{Event}
+use Rattle.xml_events.specs.Events.{Event}
 use Rattle.xml_state.specs.declared.limits.Limits.{Limits}
 use Rattle.xml_state.specs.States.{begin}
 use Rattle.xml_profile.specs.TokenByToken.{Standing, waits, stopped, Read, outset, resume, read_front, read_whole}

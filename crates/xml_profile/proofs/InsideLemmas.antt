@@ -12,7 +12,7 @@ use Rattle.xml_tokens.specs.Beginnings.{later, good, beginning, sure_length}
 use Rattle.xml_tokens.specs.Asides.{open_aside, Course, stays_open, ends_with, course, begins_by, if_open}
 use Rattle.xml_tokens.specs.Searching.{fresh}
 use Rattle.xml_tokens.proofs.OpenLemmas.{open-is, open-begins, open-grows}
-use Rattle.xml_state.specs.Events.{Event, TakesAll}
+use Rattle.xml_events.specs.Events.{Event, TakesAll}
 use Rattle.xml_state.specs.Faults.{fault_at}
 use Rattle.xml_state.specs.Taking.{Advances}
 use Rattle.xml_state.specs.declared.limits.Limits.{Limits}

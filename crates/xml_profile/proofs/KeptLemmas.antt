@@ -6,7 +6,7 @@ use Rattle.xml_tokens.specs.declared.asides.OpenAside.{OpenAside}
 use Rattle.xml_tokens.proofs.SearchingLemmas.{fits-goes-on}
 use Rattle.xml_tokens.specs.Asides.{open_aside}
 use Rattle.xml_tokens.specs.Beginnings.{sure_length}
-use Rattle.xml_state.specs.Events.{Event}
+use Rattle.xml_events.specs.Events.{Event}
 use Rattle.xml_state.specs.declared.limits.Limits.{Limits}
 use Rattle.xml_state.specs.declared.fault.XmlFault.{XmlFault}
 use Rattle.xml_state.specs.States.{State}

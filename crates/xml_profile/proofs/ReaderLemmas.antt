@@ -1,7 +1,7 @@
 -- What a piece does to a reader, by what it does to its fields.
 use Rattle.std.proofs.Common.{◌≡◌, ◌≢◌, ℕ, false, List, [], ◌++◌, refl, sym, ap, ◌∙◌, subst, Option, Some, None, Ok, Err}
 use Rattle.std.proofs.lemmas.List.{append-nil}
-use Rattle.xml_state.specs.Events.{Event, TakesAll}
+use Rattle.xml_events.specs.Events.{Event, TakesAll}
 use Rattle.xml_state.specs.Taking.{TakesFront}
 use Rattle.xml_state.specs.declared.fault.XmlFault.{XmlFault}
 use Rattle.xml_state.specs.declared.limits.Limits.{Limits}

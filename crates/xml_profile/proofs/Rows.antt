@@ -6,7 +6,7 @@ use Rattle.std.specs.Char.{encode_utf8}
 use Rattle.inv_base.specs.Characters.{is_char, is_white_space, is_name_start, is_name_char}
 use Rattle.inv_base.specs.Tree.{Name, Forest, no_more, a_text, an_element}
 use Rattle.xml_state.specs.Faults.{fault_at}
-use Rattle.xml_state.specs.Events.{Event, starts, has_attribute, has_text, ends, tree_of_events}
+use Rattle.xml_events.specs.Events.{Event, starts, has_attribute, has_text, ends, tree_of_events}
 use Rattle.xml_tokens.specs.declared.kind.XmlKind.{XmlKind}
 use Rattle.xml_tokens.specs.declared.kind.XmlKind.TheVariants.{NotUtf8, BadChar, Doctype, BadDeclaration, BadMarkup, BadReference, TextOutside}
 use Rattle.xml_tokens.specs.declared.kind.XmlKind.TheVariants.{TooManyAttributes, NameTooLong, Mismatched, SecondRoot, BadNamespace, UndeclaredPrefix}

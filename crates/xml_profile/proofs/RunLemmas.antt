@@ -17,7 +17,7 @@ use Rattle.xml_tokens.specs.Runs.{is_plain}
 use Rattle.xml_tokens.specs.Searching.{fresh}
 use Rattle.xml_tokens.proofs.SearchingLemmas.{fresh-fits}
 use Rattle.xml_state.specs.Faults.{fault_at}
-use Rattle.xml_state.specs.Events.{Event, has_text}
+use Rattle.xml_events.specs.Events.{Event, has_text}
 use Rattle.xml_state.specs.declared.limits.Limits.{Limits}
 use Rattle.xml_state.specs.States.{State, is_outside, behind_aside, behind_text, state_behind, events_of}
 use Rattle.xml_state.specs.Admission.{is_text_too_many, fault_of}

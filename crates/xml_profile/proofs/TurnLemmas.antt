@@ -13,7 +13,7 @@ use Rattle.xml_tokens.specs.declared.beginning.Beginning.{Beginning}
 use Rattle.xml_tokens.specs.declared.beginning.Position.{Position}
 use Rattle.xml_tokens.specs.declared.beginning.Beginning.TheVariants.{Good, Bad, Later}
 use Rattle.xml_tokens.proofs.SearchingLemmas.{fresh-fits}
-use Rattle.xml_state.specs.Events.{Event, TakesAll}
+use Rattle.xml_events.specs.Events.{Event, TakesAll}
 use Rattle.xml_state.specs.declared.limits.Limits.{Limits}
 use Rattle.xml_state.specs.States.{State, state_behind, events_of}
 use Rattle.xml_state.specs.Taking.{Advances, Refused, of_memory, at_once, of_token}

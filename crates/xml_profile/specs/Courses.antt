@@ -4,7 +4,7 @@ use Rattle.xml_tokens.specs.Searching.{Fits, IsSearched}
 use Rattle.xml_tokens.specs.Beginnings.{sure_length}
 use Rattle.xml_tokens.specs.declared.beginning.Position.{Position}
 use Rattle.xml_tokens.specs.Asides.{open_aside}
-use Rattle.xml_state.specs.Events.{Event, TakesAll}
+use Rattle.xml_events.specs.Events.{Event, TakesAll}
 use Rattle.xml_state.specs.declared.limits.Limits.{Limits}
 use Rattle.xml_state.specs.declared.fault.TheConstants.XmlFault.{WANT_OF_MEMORY}
 use Rattle.xml_state.specs.declared.fault.XmlFault.{XmlFault}

@@ -1,7 +1,7 @@
 -- What contracts see of a reader's fields, and what its calls do to them.
 use Rattle.std.specs.Prelude.{◌≡◌, ◌≢◌, ℕ, false, true, List, [], Option, Some, None, Result, Err, MatchResult}
 use Rattle.inv_base.specs.Tree.{Name}
-use Rattle.xml_state.specs.Events.{Event, TakesAll}
+use Rattle.xml_events.specs.Events.{Event, TakesAll}
 use Rattle.xml_state.specs.Taking.{TakesFront}
 use Rattle.xml_state.specs.declared.fault.TheConstants.XmlFault.{WANT_OF_MEMORY}
 use Rattle.xml_state.specs.declared.fault.XmlFault.{XmlFault}

@@ -2,7 +2,7 @@
 use Rattle.std.specs.Prelude.{◌≡◌, ℕ, ◌+◌, nat_lt, List, [], length, Option, Some, None, Result, Ok, Err, if◌then◌else◌}
 use Rattle.inv_base.specs.Tree.{Name, Forest}
 use Rattle.xml_state.specs.Faults.{fault_at}
-use Rattle.xml_state.specs.Events.{Event, with_events, tree_of_events}
+use Rattle.xml_events.specs.Events.{Event, with_events, tree_of_events}
 use Rattle.xml_tokens.specs.declared.kind.XmlKind.TheVariants.{Truncated, NoRoot}
 use Rattle.xml_state.specs.declared.fault.XmlFault.{XmlFault}
 use Rattle.xml_state.specs.declared.limits.Limits.{Limits}

@@ -3,7 +3,7 @@
 -- events.
 use Rattle.std.specs.Prelude.{◌≡◌, ◌≢◌, ℕ, List, [], ◌++◌, Option, Some, None, Result, MatchResult}
 use Rattle.inv_base.specs.Tree.{Name}
-use Rattle.xml_state.specs.Events.{Event, with_events}
+use Rattle.xml_events.specs.Events.{Event, with_events}
 use Rattle.xml_state.specs.declared.limits.Limits.{Limits}
 use Rattle.xml_state.specs.declared.fault.TheConstants.XmlFault.{WANT_OF_MEMORY}
 use Rattle.xml_state.specs.declared.fault.XmlFault.{XmlFault}

@@ -1,7 +1,7 @@
 -- Reading token by token: what tokens tell, and where reading stands behind them.
 use Rattle.std.specs.Prelude.{ℕ, ◌+◌, zero, suc, pred, Bool, true, false, nat_le, List, [], ◌∷◌, ◌++◌, Some, None, if◌then◌else◌}
 use Rattle.xml_state.specs.Faults.{fault_at}
-use Rattle.xml_state.specs.Events.{Event}
+use Rattle.xml_events.specs.Events.{Event}
 use Rattle.xml_tokens.specs.declared.kind.XmlKind.{XmlKind}
 use Rattle.xml_tokens.specs.declared.kind.XmlKind.TheVariants.{TooLong}
 use Rattle.xml_state.specs.declared.fault.XmlFault.{XmlFault}

@@ -19,7 +19,8 @@ ghost use Rattle.xml_profile.specs.Courses.{Leaves};
 
 use inv_base::Place;
 use std::alloc::{AllocError, Global};
-use xml_state::{Events, Limits, NameTable, Nest, XmlFault};
+use xml_events::{Events, NameTable};
+use xml_state::{Limits, Nest, XmlFault};
 use xml_tokens::{
     Beginning, ClosedAside, OpenAside, PlainTag, Position, Search, Token, XmlKind, plain_tag,
     run_at_front, what_begins,

@@ -8,5 +8,6 @@ mod reader;
 
 pub use laws::{settled_is_first, settled_stays, want_of_memory_is_no_fault};
 pub use reader::Reader;
-pub use xml_state::{DOCUMENT_LIMITS, Events, Limits, NameId, NameTable, RULE_LIMITS, XmlFault};
+pub use xml_events::{Events, NameId, NameTable};
+pub use xml_state::{DOCUMENT_LIMITS, Limits, RULE_LIMITS, XmlFault};
 pub use xml_tokens::XmlKind;

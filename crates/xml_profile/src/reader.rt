@@ -1,12 +1,13 @@
 ghost use Rattle.std.specs.Prelude.{◌≡◌, ◌≢◌, ◌++◌, List, [], ℕ, Some, None, Err, IfOk};
-ghost use Rattle.xml_state.specs.Events.{TakesAll};
+ghost use Rattle.xml_events.specs.Events.{TakesAll};
 ghost use Rattle.xml_profile.specs.Readers.{HasRead, HasMemory, Answers, Tells, Ends, unread, fault_of_reader, kept};
 ghost use Rattle.xml_profile.specs.Fields.{Feeds, EndsAt};
 
 use crate::cursor::{Cursor, Inside, Reading};
 use std::alloc::{AllocError, Global};
 use std::marker::Model;
-use xml_state::{Events, Limits, NameTable, XmlFault};
+use xml_events::{Events, NameTable};
+use xml_state::{Limits, XmlFault};
 
 /// Reads a document, in pieces, and tells a receiver what it holds. It keeps the bytes of the unfinished token and
 /// nothing else of the input: of an unfinished comment or processing instruction no byte, but which faults were seen.

@@ -1,8 +1,6 @@
 -- Names and numbers that stand twice.
-use Rattle.std.proofs.Common.{◌≡◌, ℕ, Bool, true, false, ◌||◌, List, [], ◌∷◌, ◌++◌, map, refl, sym, ap, ◌∙◌, arith, bytes_eq, nat_eq}
+use Rattle.std.proofs.Common.{◌≡◌, Bool, true, false, ◌||◌, List, [], ◌∷◌, ◌++◌, map, refl, sym, ap, ◌∙◌}
 use Rattle.std.specs.List.{list_any}
-use Rattle.std.proofs.lemmas.Slice.Eq.{bytes_eq-Decides}
-use Rattle.std.proofs.lemmas.Bool.Decides.{same_from_decides, Decides-like, nat_tests}
 use Rattle.xml_state.specs.Admission.{has_twice}
 use Rattle.xml_state.specs.StartTags.{twice_behind}
 
@@ -71,10 +69,3 @@ pub has_twice-map : {X Y : Type 0} (same : Y → Y → Bool) (f : X → Y) (list
 has_twice-map same f [] = refl
 has_twice-map same f (x ∷ list) = ap (λ b. b || has_twice same (map f list)) (any-map (same (f x)) f list) ∙
     ap (λ b. list_any (λ y. same (f x) (f y)) list || b) (has_twice-map same f list)
-
--- texts are compared either way
-pub bytes_eq-flips : (a b : List ℕ) → bytes_eq a b ≡ bytes_eq b a
-bytes_eq-flips a b = same_from_decides _ _ (bytes_eq-Decides a b) (Decides-like _ sym sym (bytes_eq-Decides b a))
-
-pub nat_eq-flips : (a b : ℕ) → nat_eq a b ≡ nat_eq b a
-nat_eq-flips a b = grind (arith, nat_tests)

@@ -1,7 +1,4 @@
 pub mod ListLemmas
-pub mod PlaceLemmas
-pub mod NameLemmas
-pub mod DistinctLemmas
 pub mod ScopeLemmas
 pub mod FoundLemmas
 pub mod WrittenLemmas

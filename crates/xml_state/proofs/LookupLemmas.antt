@@ -16,7 +16,7 @@ use Rattle.xml_tokens.specs.declared.token.Attribute.{Attribute}
 use Rattle.xml_tokens.specs.Markup.{Written}
 use Rattle.xml_tokens.specs.Seen.{seen_attribute}
 use Rattle.xml_state.specs.StartTags.{written_names, twice_behind}
-use Rattle.xml_state.proofs.DuplicateLemmas.{bytes_eq-flips, nat_eq-flips}
+use Rattle.xml_events.proofs.FlipLemmas.{bytes_eq-flips, nat_eq-flips}
 
 or_false : (a : Bool) → (a || false) ≡ a
 or_false true = refl

@@ -6,12 +6,13 @@ use Rattle.xml_tokens.specs.Markup.{Written, Tag}
 use Rattle.xml_tokens.specs.declared.kind.XmlKind.{XmlKind}
 use Rattle.xml_tokens.specs.declared.kind.XmlKind.TheVariants.{UndeclaredPrefix, DuplicateAttribute}
 use Rattle.xml_state.specs.Admission.{has_twice, has_undeclared_prefix, has_duplicate}
-use Rattle.xml_state.specs.Names.{same_name, with_name}
+use Rattle.xml_events.specs.Names.{same_name, with_name}
 use Rattle.xml_state.specs.Namespaces.{Binding, bindings_inside, declared_bindings, element_name, attributes_of}
 use Rattle.xml_state.specs.Scopes.{InScope}
 use Rattle.xml_state.specs.StartTags.{ReadsNames, tag_names, attribute_names, numbers_from, written_names, twice_behind, is_duplicated}
 use Rattle.xml_state.specs.States.{with_names, bindings_inside_innermost}
-use Rattle.xml_state.proofs.DuplicateLemmas.{twice_behind-nil, has_twice-map, bytes_eq-flips, nat_eq-flips}
+use Rattle.xml_events.proofs.FlipLemmas.{bytes_eq-flips, nat_eq-flips}
+use Rattle.xml_state.proofs.DuplicateLemmas.{twice_behind-nil, has_twice-map}
 use Rattle.xml_state.proofs.NumberLemmas.{numbers-twice}
 
 -- the kind of the first cause of a fault of names, by which of the two hold

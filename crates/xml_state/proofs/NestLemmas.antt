@@ -7,7 +7,7 @@ use Rattle.xml_tokens.specs.declared.kind.XmlKind.TheVariants.{TextOutside, Name
 use Rattle.xml_tokens.specs.Markup.{Token, a_mark, an_aside, a_character, a_reference, a_section, an_end_tag}
 use Rattle.xml_tokens.specs.declared.beginning.Position.TheVariants.{Farther}
 use Rattle.xml_state.specs.Admission.{fault_of, is_text_too_many, is_long_name}
-use Rattle.xml_state.specs.Events.{Event, has_text, ends, with_event, with_events, TakesAll}
+use Rattle.xml_events.specs.Events.{Event, has_text, ends, with_event, with_events, TakesAll}
 use Rattle.xml_state.specs.declared.limits.Limits.{Limits}
 use Rattle.xml_state.specs.Scopes.{around_innermost}
 use Rattle.xml_state.specs.Faults.{fault_at}

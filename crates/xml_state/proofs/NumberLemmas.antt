@@ -7,8 +7,8 @@ use Rattle.std.proofs.lemmas.Slice.Eq.{bytes_eq-Decides}
 use Rattle.std.proofs.lemmas.Bool.Decides.{same_from_decides, Decides-like, Decides-and, Decides-eqb}
 use Rattle.inv_base.specs.Tree.{Name}
 use Rattle.xml_state.specs.Admission.{has_twice}
-use Rattle.xml_state.specs.Events.{name_at}
-use Rattle.xml_state.specs.Names.{same_name, number_of, with_name}
+use Rattle.xml_events.specs.Events.{name_at}
+use Rattle.xml_events.specs.Names.{same_name, number_of, with_name}
 use Rattle.xml_state.specs.States.{with_names}
 use Rattle.xml_state.specs.StartTags.{numbers_from}
 use Rattle.xml_state.proofs.DuplicateLemmas.{has_twice-map}

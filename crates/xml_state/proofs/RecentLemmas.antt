@@ -8,7 +8,7 @@ use Rattle.std.proofs.lemmas.List.Folds.{list_all-append}
 use Rattle.std.proofs.lemmas.Slice.Eq.{bytes_eq-Decides}
 use Rattle.inv_base.specs.Tree.{Name}
 use Rattle.xml_tokens.specs.WrittenNames.{prefix_of, local_of}
-use Rattle.xml_state.specs.Names.{same_name, number_of, with_name}
+use Rattle.xml_events.specs.Names.{same_name, number_of, with_name}
 use Rattle.xml_state.specs.Namespaces.{Binding, bound_uri, uri_of, attribute_uri, is_undeclared, element_name, attribute_name}
 use Rattle.xml_state.specs.Recent.{is_right, are_right, is_among, is_numbered, is_element, is_attribute, AreRecalled}
 use Rattle.xml_state.specs.Scopes.{InScope}

@@ -14,17 +14,17 @@ use Rattle.inv_base.specs.Tree.{Name}
 use Rattle.xml_tokens.specs.declared.token.Attribute.{Attribute}
 use Rattle.xml_tokens.specs.Markup.{Written}
 use Rattle.xml_tokens.specs.Seen.{seen_attribute}
-use Rattle.xml_state.specs.declared.kept.Kept.{Kept}
+use Rattle.xml_events.specs.declared.kept.Kept.{Kept}
 use Rattle.xml_state.specs.declared.scopes.Bound.{Bound}
 use Rattle.xml_state.specs.declared.scopes.Frame.{Frame}
-use Rattle.xml_state.specs.NameTables.{space_at, names_of, AreApart, AreKept, TakesSpace, KeepsOne, is_kept}
-use Rattle.xml_state.specs.Names.{number_of, with_name}
+use Rattle.xml_events.specs.NameTables.{space_at, names_of, AreApart, AreKept, TakesSpace, KeepsOne, is_kept}
+use Rattle.xml_events.specs.Names.{number_of, with_name}
 use Rattle.xml_state.specs.Namespaces.{Binding, xml, xml_uri, first_bindings, bound_uri, uri_of, declared_prefix, declared_binding, declared_bindings}
 use Rattle.xml_state.specs.Scopes.{InScope, seen_bound, bound_in, bindings_of, opened, in_scope, or_else, space_of, AreBelow, AreBound, BindsSpace}
 use Rattle.xml_state.specs.Scopes.{inside_innermost, AreNested, around_innermost, AreScoped, Grows, Declares, Binds}
 use Rattle.xml_state.specs.States.{Open, bindings_inside_innermost}
 use Rattle.xml_state.proofs.ListLemmas.{reverse-cons, reverse-push, map-map, map-reverse}
-use Rattle.xml_state.proofs.NameLemmas.{space-front, kept-behind, kept-grown, answers-number, answers-names, stays-kept}
+use Rattle.xml_events.proofs.NameLemmas.{space-front, kept-behind, kept-grown, answers-number, answers-names, stays-kept}
 
 -- one more binding stands inside all others
 pub bound_in-push : (spaces : List (String Global)) (outer : List Binding) (stack : List Bound) (bound : Bound) →

@@ -8,9 +8,9 @@ use Rattle.xml_tokens.specs.Markup.{Written, Tag, a_start_tag}
 use Rattle.xml_tokens.specs.declared.beginning.Position.TheVariants.{Farther}
 use Rattle.xml_tokens.specs.declared.kind.XmlKind.{XmlKind}
 use Rattle.xml_state.specs.Admission.{fault_of, early_causes, name_causes, late_causes}
-use Rattle.xml_state.specs.Events.{Event, starts, has_attribute, ends, TakesAll}
+use Rattle.xml_events.specs.Events.{Event, starts, has_attribute, ends, TakesAll}
 use Rattle.xml_state.specs.Faults.{fault_at}
-use Rattle.xml_state.specs.Names.{number_of}
+use Rattle.xml_events.specs.Names.{number_of}
 use Rattle.xml_state.specs.Namespaces.{Binding, attribute_name, undeclaring, bindings_inside}
 use Rattle.xml_state.specs.Scopes.{InScope}
 use Rattle.xml_state.specs.StartTags.{AreNamed, ReadsNames, tag_names, numbered_events, tag_events}

@@ -8,7 +8,7 @@ use Rattle.xml_tokens.specs.Seen.{seen_attribute, seen_value}
 use Rattle.xml_tokens.specs.declared.token.Attribute.{Attribute}
 use Rattle.xml_state.specs.Namespaces.{declared_prefix, undeclaring}
 use Rattle.xml_state.specs.StartTags.{numbered_events, attribute_events, tag_events}
-use Rattle.xml_state.specs.Events.{Event, starts, has_attribute, ends, with_event, with_events, TakesAll}
+use Rattle.xml_events.specs.Events.{Event, starts, has_attribute, ends, with_event, with_events, TakesAll}
 use Rattle.xml_state.specs.Taking.{TakesFront, TakesUpTo}
 
 with_events-append : (events more others : List Event) → with_events events (more ++ others) ≡ with_events (with_events events more) others

@@ -8,7 +8,7 @@ use Rattle.xml_tokens.specs.declared.kind.XmlKind.{XmlKind}
 use Rattle.xml_tokens.specs.declared.kind.XmlKind.TheVariants.{TextOutside, TooManyAttributes, NameTooLong, Mismatched, SecondRoot, BadNamespace}
 use Rattle.xml_tokens.specs.declared.kind.XmlKind.TheVariants.{UndeclaredPrefix, DuplicateAttribute, TooDeep, TooManyNames, TooManyNodes}
 use Rattle.xml_state.specs.declared.limits.Limits.{Limits}
-use Rattle.xml_state.specs.Names.{same_name}
+use Rattle.xml_events.specs.Names.{same_name}
 use Rattle.xml_tokens.specs.Markup.{Written, Tag, Token, a_mark, an_aside, a_character, a_reference, a_section, a_start_tag, an_end_tag}
 use Rattle.xml_state.specs.Namespaces.{Binding, declared_bindings, undeclaring, is_bad_binding, is_undeclared, attributes_of}
 use Rattle.xml_state.specs.States.{State, Open, is_outside, is_innermost, bindings_in, attributes_in, names_behind}

@@ -1,8 +1,3 @@
-pub mod Events
-pub mod Names
-pub mod NameTables
-pub mod Places
-pub mod Documents
 pub mod Faults
 pub mod Namespaces
 pub mod States

@@ -2,7 +2,7 @@
 use Rattle.std.specs.Prelude.{◌≡◌, ℕ, ◌<◌, Bool, true, not, ◌&&◌, ◌||◌, ◌==◌, nat_lt, nat_eq, List, string_bytes}
 use Rattle.std.specs.List.{list_any, list_all}
 use Rattle.inv_base.specs.Tree.{Name}
-use Rattle.xml_state.specs.Names.{same_name, number_of}
+use Rattle.xml_events.specs.Names.{same_name, number_of}
 use Rattle.xml_state.specs.Namespaces.{is_undeclared, element_name, attribute_name}
 use Rattle.xml_state.specs.Scopes.{InScope}
 use Rattle.xml_state.specs.declared.recent.Slot.{Slot}

@@ -7,9 +7,9 @@ use Rattle.std.specs.Global.{Global}
 use Rattle.inv_base.specs.Tree.{Name}
 use Rattle.xml_tokens.specs.Markup.{Written}
 use Rattle.xml_state.specs.Namespaces.{Binding, first_bindings, declared_bindings}
-use Rattle.xml_state.specs.NameTables.{space_at, names_of, AreApart, AreKept}
+use Rattle.xml_events.specs.NameTables.{space_at, names_of, AreApart, AreKept}
 use Rattle.xml_state.specs.States.{Open}
-use Rattle.xml_state.specs.declared.kept.Kept.{Kept}
+use Rattle.xml_events.specs.declared.kept.Kept.{Kept}
 use Rattle.xml_state.specs.declared.scopes.Bound.{Bound}
 use Rattle.xml_state.specs.declared.scopes.Frame.{Frame}
 

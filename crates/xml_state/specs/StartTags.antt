@@ -6,8 +6,8 @@ use Rattle.xml_tokens.specs.Faults.{first_cause}
 use Rattle.xml_tokens.specs.Markup.{Written, Tag}
 use Rattle.xml_tokens.specs.declared.kind.XmlKind.{XmlKind}
 use Rattle.xml_state.specs.Admission.{name_causes}
-use Rattle.xml_state.specs.Events.{Event, starts, has_attribute, ends}
-use Rattle.xml_state.specs.Names.{number_of, with_name}
+use Rattle.xml_events.specs.Events.{Event, starts, has_attribute, ends}
+use Rattle.xml_events.specs.Names.{number_of, with_name}
 use Rattle.xml_state.specs.Namespaces.{Binding, declared_binding, is_bad_binding, undeclaring, element_name, attributes_of, bindings_inside}
 use Rattle.xml_state.specs.Scopes.{InScope}
 use Rattle.xml_state.specs.States.{with_names, bindings_inside_innermost}

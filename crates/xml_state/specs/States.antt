@@ -1,8 +1,8 @@
 -- What stands behind tokens: the open elements with their bindings, whether the root was seen, and counts.
 use Rattle.std.specs.Prelude.{ℕ, ◌+◌, Bool, true, false, ◌==◌, List, [], ◌∷◌, ◌++◌, map, length, if◌then◌else◌, bytes_eq}
 use Rattle.inv_base.specs.Tree.{Name, Attribute}
-use Rattle.xml_state.specs.Events.{Event, starts, has_attribute, has_text, ends}
-use Rattle.xml_state.specs.Names.{number_of, with_name}
+use Rattle.xml_events.specs.Events.{Event, starts, has_attribute, has_text, ends}
+use Rattle.xml_events.specs.Names.{number_of, with_name}
 use Rattle.xml_tokens.specs.Markup.{Tag, Token, a_mark, an_aside, a_character, a_reference, a_section, a_start_tag, an_end_tag}
 use Rattle.xml_tokens.specs.declared.beginning.Position.{Position}
 use Rattle.xml_tokens.specs.declared.beginning.Position.TheVariants.{AtStart, BehindMark, Farther}

@@ -3,7 +3,7 @@ use Rattle.std.specs.Prelude.{◌≡◌, ℕ, false, true, List, [], ◌∷◌, 
 use Rattle.xml_tokens.specs.declared.kind.XmlKind.{XmlKind}
 use Rattle.xml_tokens.specs.declared.kind.XmlKind.TheVariants.{TooManyNodes}
 use Rattle.xml_tokens.specs.Markup.{Token}
-use Rattle.xml_state.specs.Events.{Event, has_text, TakesAll}
+use Rattle.xml_events.specs.Events.{Event, has_text, TakesAll}
 use Rattle.xml_state.specs.declared.limits.Limits.{Limits}
 use Rattle.xml_state.specs.States.{State, state_behind, behind_text, events_of}
 use Rattle.xml_state.specs.Admission.{fault_of, is_text_too_many}

@@ -4,9 +4,9 @@ ghost use Rattle.std.specs.List.{list_any};
 ghost use Rattle.xml_tokens.specs.Seen.{seen_attribute, seen_tag};
 ghost use Rattle.xml_state.specs.StartTags as spec;
 
-use crate::names::NameId;
 use std::alloc::{AllocError, Global};
 use std::collections::BTreeSet;
+use xml_events::NameId;
 use xml_tokens::{Attribute, StartTag};
 
 // So many are compared one with another; more are looked up in a set, which takes memory. It is ordered, since no choice

@@ -3,25 +3,19 @@
 #![tactic(auto)]
 
 mod duplicates;
-mod events;
 mod fault;
-mod kept;
 mod limits;
-mod names;
 mod naming;
 mod nest;
 mod numbering;
 mod recent;
 mod registry;
 mod scopes;
-mod spaces;
 mod tags;
 mod telling;
 mod text;
 mod written;
 
-pub use events::Events;
 pub use fault::XmlFault;
 pub use limits::{DOCUMENT_LIMITS, Limits, RULE_LIMITS};
-pub use names::{NameId, NameTable};
 pub use nest::Nest;

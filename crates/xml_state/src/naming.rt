@@ -4,11 +4,11 @@ ghost use Rattle.xml_tokens.specs.Seen.{seen_tag};
 ghost use Rattle.xml_state.specs.StartTags as spec;
 
 use crate::duplicates::is_duplicated;
-use crate::names::NameId;
 use crate::numbering::number_tag;
 use crate::registry::Registry;
 use crate::tags::has_undeclared_prefix;
 use std::alloc::{AllocError, Global};
+use xml_events::NameId;
 use xml_tokens::{StartTag, XmlKind};
 
 // Binds what a tag declares inside the innermost open element, and numbers its names, that of the element first.

@@ -8,10 +8,8 @@ ghost use Rattle.xml_state.specs.Admission.{early_causes, late_causes};
 ghost use Rattle.xml_state.specs.States as spec;
 ghost use Rattle.xml_state.specs.Taking.{TakesToken, TakesText};
 
-use crate::events::Events;
 use crate::fault::XmlFault;
 use crate::limits::Limits;
-use crate::names::{NameId, NameTable};
 use crate::naming::read_names;
 use crate::registry::Registry;
 use crate::tags::{has_bad_namespace, has_long_name, is_long};
@@ -21,6 +19,7 @@ use crate::written::says_nothing;
 use inv_base::{Place, is_white_space};
 use std::alloc::{AllocError, Global};
 use std::marker::Model;
+use xml_events::{Events, NameId, NameTable};
 use xml_tokens::{Position, StartTag, Token, XmlKind};
 
 /// What stands behind tokens.

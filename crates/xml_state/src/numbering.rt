@@ -4,10 +4,10 @@ ghost use Rattle.xml_tokens.specs.Seen.{seen_attribute, seen_tag};
 ghost use Rattle.xml_state.specs.StartTags as spec;
 ghost use Rattle.xml_state.specs.States.{with_names};
 
-use crate::names::NameId;
 use crate::registry::Registry;
 use crate::written::is_plain;
 use std::alloc::{AllocError, Global};
+use xml_events::NameId;
 use xml_tokens::{Attribute, StartTag};
 
 // Numbers the name of an attribute, unless it is a declaration.

@@ -3,8 +3,8 @@
 ghost use Rattle.std.specs.Prelude.{◌≡◌, ℕ, ◌<◌, ◌==◌, ◌&&◌, Bool, true, List, length, slice_set, string_bytes, bytes_eq, IfSome, OnOk, OnErr};
 ghost use Rattle.xml_state.specs.Recent as spec;
 
-use crate::names::NameId;
 use std::alloc::{AllocError, Global};
+use xml_events::NameId;
 
 // So many names are kept.
 const SLOTS: usize = 64;

@@ -2,17 +2,17 @@
 //! and numbered again.
 ghost use Rattle.std.specs.Prelude.{◌≡◌, ◌+◌, [], ◌∷◌, ◌++◌, map, length, IfOk, OnOk};
 ghost use Rattle.xml_tokens.specs.Seen.{seen_attribute};
-ghost use Rattle.xml_state.specs.Names.{number_of, with_name};
+ghost use Rattle.xml_events.specs.Names.{number_of, with_name};
 ghost use Rattle.xml_state.specs.Namespaces as namespaces;
 ghost use Rattle.xml_state.specs.Scopes.{around_innermost};
 ghost use Rattle.xml_state.specs.States as states;
 
-use crate::names::{NameId, NameTable};
 use crate::recent::{Slot, keep_recent, recent_number};
 use crate::scopes::Scopes;
 use crate::written::parts_of;
 use std::alloc::{AllocError, Global};
 use std::marker::Model;
+use xml_events::{NameId, NameTable};
 use xml_tokens::Attribute;
 
 // The open elements and the names, with names that were numbered before.

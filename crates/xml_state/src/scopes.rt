@@ -5,19 +5,17 @@ ghost use Rattle.std.specs.Prelude.{IsSome, bytes_eq};
 ghost use Rattle.std.specs.BTreeMap.{get_by_text};
 ghost use Rattle.std.proofs.Common.{reverse};
 ghost use Rattle.xml_tokens.specs.Seen.{seen_attribute};
-ghost use Rattle.xml_state.specs.NameTables as tables;
-ghost use Rattle.xml_state.specs.Names.{number_of, with_name};
+ghost use Rattle.xml_events.specs.NameTables as tables;
+ghost use Rattle.xml_events.specs.Names.{number_of, with_name};
 ghost use Rattle.xml_state.specs.Namespaces as namespaces;
 ghost use Rattle.xml_state.specs.Scopes as spec;
 ghost use Rattle.xml_state.specs.States as states;
 
-use crate::kept::KeptNames;
-use crate::names::{NameId, NameTable, number_kept, number_space};
-use crate::spaces::Spaces;
 use crate::written::{declared_prefix, is_plain, text_of};
 use std::alloc::{AllocError, Global};
 use std::collections::BTreeMap;
 use std::marker::Model;
+use xml_events::{KeptNames, NameId, NameTable, Spaces, number_kept, number_space};
 use xml_tokens::Attribute;
 
 pub(crate) const XML_URI: &str = "http://www.w3.org/XML/1998/namespace";

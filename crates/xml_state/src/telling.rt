@@ -5,12 +5,11 @@ ghost use Rattle.xml_state.specs.StartTags.{attribute_events, tag_events};
 ghost use Rattle.xml_state.specs.States.{elements_behind};
 ghost use Rattle.xml_state.specs.Taking.{Tells};
 
-use crate::events::Events;
-use crate::names::NameId;
 use crate::registry::Registry;
 use crate::written::{is_plain, text_of};
 use inv_base::Place;
 use std::alloc::AllocError;
+use xml_events::{Events, NameId};
 use xml_tokens::{Attribute, StartTag};
 
 fn tell_attributes<E: Events>(

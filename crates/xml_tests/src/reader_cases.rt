@@ -5,8 +5,9 @@ use inv_base::Place;
 use std::alloc::{AllocError, Global};
 use std::test::Fail;
 use test_rows::{Holds, expect, expect_rows};
+use xml_events::{Events, NameId, NameTable};
 use xml_profile::Reader;
-use xml_state::{DOCUMENT_LIMITS, Events, Limits, NameId, NameTable, XmlFault};
+use xml_state::{DOCUMENT_LIMITS, Limits, XmlFault};
 
 /// What was told, a word an event: elements and attributes by the numbers of their names, a text's pieces behind one
 /// another.

@@ -18,9 +18,9 @@ use Rattle.xpath_plan.specs.declared.work.StepTest.TheVariants as t
 use Rattle.xpath_plan.specs.declared.work.Work.{Work}
 use Rattle.xpath_plan.specs.declared.work.Work.TheVariants as w
 use Rattle.xpath_plan.specs.Plans.{seen, made, simple_seen, test_seen}
-use Rattle.xpath_run.proofs.SeenLemmas.{seen-simple}
-use Rattle.xpath_run.specs.Contexts.{operands_of}
-use Rattle.xpath_run.specs.Named.{name_of, name_on, child_name, step_name}
+use Rattle.xpath_parts.proofs.SeenLemmas.{seen-simple}
+use Rattle.xpath_parts.specs.Contexts.{operands_of}
+use Rattle.xpath_parts.specs.Named.{name_of, name_on, child_name, step_name}
 use Rattle.xpath_marks.specs.FirstSteps.{filtered_name, is_found_by_first}
 use Rattle.xpath_marks.specs.Marking.{is_first_part, is_filter, is_root}
 use Rattle.xpath_marks.specs.Shapes.{alone, child_test, is_downward, is_step}

@@ -24,9 +24,9 @@ use Rattle.xpath_plan.specs.declared.work.Simple.{Simple}
 use Rattle.xpath_plan.specs.declared.work.Simple.TheVariants as s
 use Rattle.xpath_plan.specs.declared.work.StepTest.TheVariants as t
 use Rattle.xpath_plan.specs.Plans.{seen, made, simple_seen, test_seen}
-use Rattle.xpath_run.proofs.SeenLemmas.{seen-simple}
-use Rattle.xpath_run.specs.declared.ground.Ground.{Ground}
-use Rattle.xpath_run.specs.Contexts.{operands_of}
+use Rattle.xpath_parts.proofs.SeenLemmas.{seen-simple}
+use Rattle.xpath_parts.specs.declared.ground.Ground.{Ground}
+use Rattle.xpath_parts.specs.Contexts.{operands_of}
 use Rattle.xpath_walks.specs.Walks.{IsWalkable, IsWalked, axis_numbers, node_numbers}
 use Rattle.xpath_walks.proofs.FilterLemmas.{alike}
 use Rattle.xpath_walks.proofs.ReverseLemmas.{above_below}

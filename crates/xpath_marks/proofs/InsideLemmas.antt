@@ -17,8 +17,8 @@ use Rattle.xpath_meaning.specs.Patterns.{found_at}
 use Rattle.xpath_walks.specs.Walks.{IsWalked, node_numbers, from_on}
 use Rattle.xpath_walks.proofs.AroundLemmas.{inside_inside}
 use Rattle.xpath_walks.proofs.FilterLemmas.{AreCounted, alike}
-use Rattle.xpath_run.specs.declared.ground.Ground.{Ground}
-use Rattle.xpath_run.specs.Contexts.{count}
+use Rattle.xpath_parts.specs.declared.ground.Ground.{Ground}
+use Rattle.xpath_parts.specs.Contexts.{count}
 use Rattle.xpath_marks.specs.Found.{is_reached, all_reached}
 use Rattle.xpath_marks.specs.Marking.{AreNodes, GoesBy, GoesIn, nodes_of, is_covered}
 use Rattle.xpath_marks.proofs.AmongLemmas.{among_both, among_passing, IsNumberOf, filtered_from, in_back}

@@ -23,16 +23,16 @@ use Rattle.xpath_plan.specs.declared.work.Simple.TheVariants as s
 use Rattle.xpath_plan.specs.declared.work.Work.{Work}
 use Rattle.xpath_plan.specs.declared.work.Work.TheVariants as w
 use Rattle.xpath_plan.specs.Plans.{seen, made, label_of, simple_seen, test_seen}
-use Rattle.xpath_run.proofs.SeenLemmas.{seen-simple}
-use Rattle.xpath_run.proofs.NamedLemmas.{chain_is}
+use Rattle.xpath_parts.proofs.SeenLemmas.{seen-simple}
+use Rattle.xpath_parts.proofs.NamedLemmas.{chain_is}
 use Rattle.xpath_walks.specs.Walks.{IsWalked, node_numbers}
 use Rattle.xpath_walks.specs.Order.{AreNumbers}
 use Rattle.xpath_walks.proofs.FilterLemmas.{alike}
 use Rattle.xpath_walks.proofs.OrderLemmas.{rising}
-use Rattle.xpath_run.specs.declared.ground.Ground.{Ground}
-use Rattle.xpath_run.specs.Contexts.{operands_of}
-use Rattle.xpath_run.specs.Named.{is_chain}
-use Rattle.xpath_run.specs.Parts.{is_operator}
+use Rattle.xpath_parts.specs.declared.ground.Ground.{Ground}
+use Rattle.xpath_parts.specs.Contexts.{operands_of}
+use Rattle.xpath_parts.specs.Named.{is_chain}
+use Rattle.xpath_parts.specs.Parts.{is_operator}
 use Rattle.xpath_marks.specs.declared.marking.Joining.{Joining}
 use Rattle.xpath_marks.specs.declared.marking.Joining.TheVariants as j
 use Rattle.xpath_marks.specs.Shapes.{is_step, is_pattern}

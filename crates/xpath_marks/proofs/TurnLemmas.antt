@@ -27,9 +27,9 @@ use Rattle.xpath_plan.specs.declared.work.Link.TheVariants as l
 use Rattle.xpath_plan.specs.declared.work.Work.{Work}
 use Rattle.xpath_plan.specs.declared.work.Work.TheVariants as w
 use Rattle.xpath_plan.specs.Plans.{seen, made, label_of}
-use Rattle.xpath_run.specs.declared.ground.Ground.{Ground}
-use Rattle.xpath_run.specs.Contexts.{count, operands_of}
-use Rattle.xpath_run.proofs.SeenLemmas.{seen-node}
+use Rattle.xpath_parts.specs.declared.ground.Ground.{Ground}
+use Rattle.xpath_parts.specs.Contexts.{count, operands_of}
+use Rattle.xpath_parts.proofs.SeenLemmas.{seen-node}
 use Rattle.xpath_steps.proofs.WithinLemmas.{append_within, below_within, filter_below}
 use Rattle.xpath_steps.proofs.NodeLemmas.{document_below, items_of_numbers}
 use Rattle.xpath_steps.proofs.PathLemmas.{axis_within}

@@ -13,8 +13,8 @@ use Rattle.xpath_plan.specs.declared.work.Link.{Link}
 use Rattle.xpath_plan.specs.declared.work.StepTest.TheVariants as t
 use Rattle.xpath_plan.specs.declared.work.Work.{Work}
 use Rattle.xpath_plan.specs.Plans.{test_seen}
-use Rattle.xpath_run.specs.declared.ground.Ground.{Ground}
-use Rattle.xpath_run.specs.Named.{step_name}
+use Rattle.xpath_parts.specs.declared.ground.Ground.{Ground}
+use Rattle.xpath_parts.specs.Named.{step_name}
 use Rattle.xpath_walks.specs.Walks.{axis_numbers, node_numbers}
 use Rattle.xpath_marks.specs.Marking.{nodes_of, is_first_part, is_filter}
 

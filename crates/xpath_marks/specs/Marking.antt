@@ -22,9 +22,9 @@ use Rattle.xpath_tokens.specs.declared.token.Operator.{Operator}
 use Rattle.xpath_tokens.specs.declared.token.Operator.TheVariants as o
 use Rattle.xpath_marks.specs.declared.marking.Joining.{Joining}
 use Rattle.xpath_marks.specs.declared.marking.Joining.TheVariants as j
-use Rattle.xpath_run.specs.declared.ground.Ground.{Ground}
-use Rattle.xpath_run.specs.Contexts.{count}
-use Rattle.xpath_run.specs.Parts.{is_operator}
+use Rattle.xpath_parts.specs.declared.ground.Ground.{Ground}
+use Rattle.xpath_parts.specs.Contexts.{count}
+use Rattle.xpath_parts.specs.Parts.{is_operator}
 use Rattle.xpath_marks.specs.Shapes.{is_step, is_pattern}
 use Rattle.xpath_marks.specs.Found.{all_found, all_reached}
 

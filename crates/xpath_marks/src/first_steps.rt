@@ -1,8 +1,8 @@
 //! First steps of patterns to children of a name, along the document's elements of that name.
 ghost use Rattle.std.specs.Prelude.{◌≡◌, ◌<◌, ◌++◌, [], true, length, IfOk, IfSome, OnOk};
 ghost use Rattle.xpath_plan.specs.Plans.{seen, test_seen};
-ghost use Rattle.xpath_run.specs.Contexts.{IsReadyFor, count};
-ghost use Rattle.xpath_run.specs.Slots.{AreHeld, PlacedWork};
+ghost use Rattle.xpath_parts.specs.Contexts.{IsReadyFor, count};
+ghost use Rattle.xpath_parts.specs.Slots.{AreHeld, PlacedWork};
 ghost use Rattle.xpath_walks.specs.Walks.{Bounds, chain_of};
 ghost use Rattle.xpath_marks.specs.FirstSteps as spec;
 ghost use Rattle.xpath_marks.specs.FirstSteps.{GoesToChildren, all_around, around_at, elements_of};
@@ -14,8 +14,8 @@ use node_arena::NodeId;
 use std::alloc::AllocError;
 use std::sync::ledger::Ledger;
 use xpath_grammar::step::Axis;
+use xpath_parts::{Ground, Slots, step_name};
 use xpath_plan::work::{Kind, Simple, StepTest, Work};
-use xpath_run::{Ground, Slots, step_name};
 use xpath_walks::{documents_are_walkable, in_order, named_nodes};
 
 /// Which of the plan's names the children have that the first part goes to, where the others are its predicates.

@@ -2,7 +2,7 @@
 ghost use Rattle.std.specs.Prelude.{◌≡◌, ◌<◌, ◌&&◌, ◌++◌, not, IfOk, IfSome, OnOk};
 ghost use Rattle.node_arena.specs.Moves.{tree_node, is_inside, is_attribute};
 ghost use Rattle.xpath_meaning.specs.Resolving as meaning;
-ghost use Rattle.xpath_run.specs.Contexts.{count};
+ghost use Rattle.xpath_parts.specs.Contexts.{count};
 ghost use Rattle.xpath_marks.specs.Found.{all_reached};
 ghost use Rattle.xpath_meaning.specs.Patterns.{found_at};
 ghost use Rattle.xpath_marks.specs.Marking as spec;
@@ -14,8 +14,8 @@ use node_arena::NodeId;
 use std::alloc::AllocError;
 use std::sync::ledger::Ledger;
 use xpath_grammar::step::{Axis, KindTest};
+use xpath_parts::Ground;
 use xpath_plan::work::StepTest;
-use xpath_run::Ground;
 use xpath_walks::{Step, axis_nodes, documents_are_walkable, in_order, is_around};
 
 /// All nodes.

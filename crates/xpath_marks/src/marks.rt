@@ -17,8 +17,9 @@ use node_arena::{Doc, NodeId};
 use std::alloc::{AllocError, Global};
 use std::marker::Model;
 use std::sync::ledger::Ledger;
+use xpath_parts::{Ground, Slots};
 use xpath_plan::Plan;
-use xpath_run::{Env, Ground, Slots};
+use xpath_run::Env;
 use xpath_walks::{documents_are_walkable, numbers_in};
 
 /// The nodes of a document that a pattern matches, in document order. Contracts see the list of their numbers.

@@ -4,8 +4,8 @@ ghost use Rattle.xpath_meaning.specs.Patterns as patterns;
 ghost use Rattle.xpath_meaning.specs.Steps as meaning;
 ghost use Rattle.xpath_meaning.specs.Values.{then_};
 ghost use Rattle.xpath_plan.specs.Plans.{seen};
-ghost use Rattle.xpath_run.specs.Contexts.{IsReadyFor, count, operands_of};
-ghost use Rattle.xpath_run.specs.Slots.{AreHeld, PlacedParts, PlacedWork};
+ghost use Rattle.xpath_parts.specs.Contexts.{IsReadyFor, count, operands_of};
+ghost use Rattle.xpath_parts.specs.Slots.{AreHeld, PlacedParts, PlacedWork};
 ghost use Rattle.xpath_walks.specs.Walks.{if_so};
 ghost use Rattle.xpath_marks.specs.Marking as spec;
 ghost use Rattle.xpath_marks.specs.Marking.{AreNodes};
@@ -15,8 +15,9 @@ use node_arena::NodeId;
 use std::alloc::AllocError;
 use std::sync::ledger::Ledger;
 use xpath_items::{DynError, Fault, Focus, Item};
+use xpath_parts::{Ground, Slots};
 use xpath_plan::work::{Link, Work};
-use xpath_run::{Ground, Slots, evaluate};
+use xpath_run::evaluate;
 use xpath_steps::keeps;
 
 /// Whether a predicate that comes to this keeps the node. An error doesn't.

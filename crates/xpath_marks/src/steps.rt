@@ -1,8 +1,8 @@
 //! What a step of a pattern finds, with its predicates.
 ghost use Rattle.std.specs.Prelude.{◌≡◌, ◌<◌, [], IfOk, OnOk};
 ghost use Rattle.xpath_plan.specs.Plans.{seen, made, simple_seen};
-ghost use Rattle.xpath_run.specs.Contexts.{IsReadyFor, count, operands_of};
-ghost use Rattle.xpath_run.specs.Slots.{AreHeld, PlacedParts, PlacedWork};
+ghost use Rattle.xpath_parts.specs.Contexts.{IsReadyFor, count, operands_of};
+ghost use Rattle.xpath_parts.specs.Slots.{AreHeld, PlacedParts, PlacedWork};
 ghost use Rattle.xpath_marks.specs.Marking as spec;
 ghost use Rattle.xpath_marks.specs.Marking.{AreNodes, Turned, Reached};
 
@@ -11,8 +11,9 @@ use inv_base::Steps;
 use node_arena::NodeId;
 use std::alloc::AllocError;
 use std::sync::ledger::Ledger;
+use xpath_parts::parts::is_operator;
+use xpath_parts::{Ground, Slots};
 use xpath_plan::work::{Kind, Link, Simple, Work};
-use xpath_run::{Ground, Slots, is_operator};
 use xpath_walks::{Step, axis_nodes, documents_are_walkable, in_order};
 
 /// Puts what a step without predicates finds at the node behind the others.

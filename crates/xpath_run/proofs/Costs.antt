@@ -7,9 +7,9 @@ use Rattle.xpath_items.specs.declared.outcome.Focus.{Focus}
 use Rattle.xpath_meaning.specs.Values.{Value}
 use Rattle.xpath_meaning.specs.Resolving.{Operand, bound_all}
 use Rattle.xpath_meaning.specs.Meaning.{Context, inside, mean}
-use Rattle.xpath_run.specs.declared.ground.Ground.{Ground}
-use Rattle.xpath_run.specs.Contexts.{context}
-use Rattle.xpath_run.specs.Turns.{join, no_turns}
+use Rattle.xpath_parts.specs.declared.ground.Ground.{Ground}
+use Rattle.xpath_parts.specs.Contexts.{context}
+use Rattle.xpath_parts.specs.Turns.{join, no_turns}
 
 -- the sum of what the items come to, with one for each
 abbrev pub total : {X : Type 0} → (X → ℕ) → List X → ℕ

@@ -17,10 +17,10 @@ use Rattle.xpath_operators.specs.Nodes.{IsWithin, AreWithin}
 use Rattle.xpath_plan.specs.declared.work.Link.{Link}
 use Rattle.xpath_plan.specs.declared.work.Work.{Work}
 use Rattle.xpath_plan.specs.Plans.{seen}
-use Rattle.xpath_run.specs.Contexts.{operands_of}
-use Rattle.xpath_run.specs.Links.{linked_value, chain_value, linked_parts, kept_by_all}
+use Rattle.xpath_parts.specs.Contexts.{operands_of}
+use Rattle.xpath_parts.specs.Links.{linked_value, chain_value, linked_parts, kept_by_all}
 use Rattle.xpath_run.proofs.Continuing.{behind_those}
-use Rattle.xpath_run.proofs.WithinLemmas.{within-along, within-append}
+use Rattle.xpath_parts.proofs.WithinLemmas.{within-along, within-append}
 
 -- the rest of a list, from its next item on
 pub here : {X : Type 0} (xs : List X) (i : ℕ) (x : X) → i < length xs → x ≡ get_or xs i x → drop i xs ≡ x ∷ drop (i + 1) xs

@@ -15,10 +15,10 @@ use Rattle.xpath_plan.specs.declared.work.Kind.{Kind}
 use Rattle.xpath_plan.specs.declared.work.Kind.TheVariants as m
 use Rattle.xpath_plan.specs.declared.work.Work.{Work}
 use Rattle.xpath_plan.specs.Plans.{made}
-use Rattle.xpath_run.specs.Contexts.{operands_of}
-use Rattle.xpath_run.specs.Depths.{deepest}
-use Rattle.xpath_run.specs.Finishing.{is_strict, wanted, first_alone, finished}
-use Rattle.xpath_run.proofs.DepthLemmas.{first_alone-no_deeper}
+use Rattle.xpath_parts.specs.Contexts.{operands_of}
+use Rattle.xpath_parts.specs.Depths.{deepest}
+use Rattle.xpath_parts.specs.Finishing.{is_strict, wanted, first_alone, finished}
+use Rattle.xpath_parts.proofs.DepthLemmas.{first_alone-no_deeper}
 
 one-argument : (v : Value) (g : List (List Item) → Value) → then_ v (λ value. g (value ∷ [])) ≡ then_ (then_ v (λ value. Ok (value ∷ []))) g
 one-argument (Ok items) g = refl

@@ -10,7 +10,7 @@ use Rattle.xpath_meaning.specs.Values.{Value, then_, joined, each}
 use Rattle.xpath_meaning.specs.Comparing.{any_of, all_of, boolean}
 use Rattle.xpath_meaning.specs.Resolving.{Operand, bound_all}
 use Rattle.xpath_meaning.specs.Meaning.{Context, inside, mean, truth_of, bound_by}
-use Rattle.xpath_run.specs.Turns.{join, no_turns, after, advanced}
+use Rattle.xpath_parts.specs.Turns.{join, no_turns, after, advanced}
 use Rattle.xpath_run.proofs.Costs.{total, cost, costs, turns_onto, to_come}
 
 -- Joining

@@ -17,14 +17,14 @@ use Rattle.xpath_meaning.specs.Meaning.{Context, inside, mean, bound_by}
 use Rattle.xpath_plan.specs.declared.work.Link.{Link}
 use Rattle.xpath_plan.specs.declared.work.Work.{Work}
 use Rattle.xpath_plan.specs.Plans.{label_of, seen}
-use Rattle.xpath_run.specs.declared.ground.Ground.{Ground}
-use Rattle.xpath_run.specs.Contexts.{context, operands_of, value_in}
-use Rattle.xpath_run.specs.Links.{bound_value}
-use Rattle.xpath_run.specs.Turns.{Takes, Advances, join, no_turns, decided, after, advanced}
+use Rattle.xpath_parts.specs.declared.ground.Ground.{Ground}
+use Rattle.xpath_parts.specs.Contexts.{context, operands_of, value_in}
+use Rattle.xpath_parts.specs.Links.{bound_value}
+use Rattle.xpath_parts.specs.Turns.{Takes, Advances, join, no_turns, decided, after, advanced}
 use Rattle.xpath_run.proofs.Costs.{total, total_of, cost, costs, turns_onto, to_come, level}
 use Rattle.xpath_run.proofs.TurnLaws.{bound-onto, bound-joined, join-err, after-nothing, part-err, same-to_come, same-costs, to_come-none, to_come-next}
 use Rattle.xpath_run.proofs.TurnLaws.{costs-next, no-some, rest_in}
-use Rattle.xpath_run.proofs.WithinLemmas.{reverse-push}
+use Rattle.xpath_parts.proofs.WithinLemmas.{reverse-push}
 
 pub length-push : {X : Type 0} (ys : List X) (y : X) → length (ys ++ y ∷ []) ≡ suc (length ys)
 length-push [] y = refl

@@ -5,8 +5,8 @@ use Rattle.xpath_meaning.specs.Values.{Value}
 use Rattle.xpath_plan.specs.Plans.{Planned}
 use Rattle.xpath_plan.specs.Claims.{kept_of}
 use Rattle.xpath_walks.specs.Tests.{numbers_of}
-use Rattle.xpath_run.specs.Placed.{ArePlaced}
-use Rattle.xpath_run.specs.Slots.{HoldIn, Grows}
+use Rattle.xpath_parts.specs.Placed.{ArePlaced}
+use Rattle.xpath_parts.specs.Slots.{HoldIn, Grows}
 
 pub record Running : Type 0 where
   pub plan : Planned

@@ -10,30 +10,29 @@ ghost use Rattle.xpath_meaning.specs.Values as values_spec;
 ghost use Rattle.xpath_meaning.specs.Values.{then_};
 ghost use Rattle.xpath_operators.specs.Nodes.{AreWithin, AllWithin};
 ghost use Rattle.xpath_plan.specs.Plans.{seen, made};
-ghost use Rattle.xpath_run.specs.Contexts.{IsReady, IsReadyFor, context, count, operands_of, turn_in, value_in};
-ghost use Rattle.xpath_run.specs.Finishing.{is_strict};
-ghost use Rattle.xpath_run.specs.Slots.{AreHeld, Grows, PlacedWork, PlacedParts, PlacedNode};
-ghost use Rattle.xpath_run.specs.Links as links;
+ghost use Rattle.xpath_parts.specs.Contexts.{IsReady, IsReadyFor, context, count, operands_of, turn_in, value_in};
+ghost use Rattle.xpath_parts.specs.Finishing.{is_strict};
+ghost use Rattle.xpath_parts.specs.Slots.{AreHeld, Grows, PlacedWork, PlacedParts, PlacedNode};
+ghost use Rattle.xpath_parts.specs.Links as links;
 ghost use Rattle.xpath_steps.specs.Variables.{ValueWithin};
 
-use crate::at_hand::{operated_at_hand, told_at_hand, unkept_argument};
-use crate::calling::value_of;
-use crate::finishing::{finished, wanted};
-use crate::ground::Ground;
-use crate::linking::{Ahead, ahead_of, joined_by, step_inside, test_inside};
-use crate::parts::{
-    append_found, as_step, first, is_filtered_step, is_light, is_operator, keep_if, part_at, sole,
-};
-use crate::simple::{simple, simple_in_axis_order};
-use crate::slots::Slots;
-use crate::turns::{Turn, advance, decided, ended, take_turn};
-use crate::values::Values;
 use inv_base::Steps;
 use std::alloc::AllocError;
 use std::sync::ledger::Ledger;
 use xpath_grammar::operators::Binder;
 use xpath_items::{DynError, Fault, Focus, Item, Outcome, Seq};
 use xpath_operators::{outcome, truth};
+use xpath_parts::at_hand::{operated_at_hand, told_at_hand, unkept_argument};
+use xpath_parts::calling::value_of;
+use xpath_parts::finishing::{finished, wanted};
+use xpath_parts::linking::{Ahead, ahead_of, joined_by, step_inside, test_inside};
+use xpath_parts::parts::{
+    append_found, as_step, first, is_filtered_step, is_light, is_operator, keep_if, part_at, sole,
+};
+use xpath_parts::simple::{simple, simple_in_axis_order};
+use xpath_parts::turns::{Turn, advance, decided, ended, take_turn};
+use xpath_parts::values::Values;
+use xpath_parts::{Ground, Slots};
 use xpath_plan::work::{Kind, Link, Work};
 use xpath_steps::{all_nodes, copy_of, is_node, keeps, of_turns, root_of, settled, steps_over};
 use xpath_walks::Step;

@@ -6,22 +6,20 @@ ghost use Rattle.xpath_meaning.specs.Values.{Value, value};
 ghost use Rattle.xpath_plan.specs.Plans.{seen, test_seen};
 ghost use Rattle.xpath_plan.specs.declared.work.Work.TheVariants as w;
 ghost use Rattle.xpath_steps.specs.Variables.{ValueWithin};
-ghost use Rattle.xpath_run.specs.Contexts.{IsReady, count, value_in};
-ghost use Rattle.xpath_run.specs.Slots.{AreHeld, Grows, PlacedWork, table, whole_slot};
-ghost use Rattle.xpath_run.specs.Named.{IsEmptyAt, plain_walk, walk_of};
-ghost use Rattle.xpath_run.specs.Whole as spec;
-ghost use Rattle.xpath_run.specs.declared.named.Walk.{Walk};
+ghost use Rattle.xpath_parts.specs.Contexts.{IsReady, count, value_in};
+ghost use Rattle.xpath_parts.specs.Slots.{AreHeld, Grows, PlacedWork, table, whole_slot};
+ghost use Rattle.xpath_parts.specs.Named.{IsEmptyAt, plain_walk, walk_of};
+ghost use Rattle.xpath_parts.specs.Whole as spec;
+ghost use Rattle.xpath_parts.specs.declared.named.Walk.{Walk};
 ghost use Rattle.xpath_walks.specs.Walks.{Bounds, chain_of};
 
 use crate::evaluating::evaluate;
-use crate::ground::Ground;
-use crate::named::{node_of, walk_in, walked};
-use crate::slots::Slots;
 use inv_base::Steps;
 use std::alloc::AllocError;
 use std::sync::ledger::Ledger;
 use xpath_items::{Focus, Outcome};
 use xpath_operators::outcome;
+use xpath_parts::{Ground, Slots, node_of, walk_in, walked};
 use xpath_plan::work::{Kind, Link, StepTest, Work};
 use xpath_steps::{copy_of, is_node};
 

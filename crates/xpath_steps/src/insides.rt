@@ -13,7 +13,7 @@ use inv_base::Steps;
 use node_arena::{Doc, NodeId};
 use std::alloc::{AllocError, Global};
 use std::sync::ledger::Ledger;
-use xml_state::NameId;
+use xml_events::NameId;
 use xpath_grammar::step::Axis;
 use xpath_plan::work::StepTest;
 use xpath_walks::{Step, axis_nodes, documents_are_walkable, is_around};

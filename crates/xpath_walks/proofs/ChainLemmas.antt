@@ -6,8 +6,8 @@ use Rattle.std.specs.Option.{ForSome}
 use Rattle.std.proofs.lemmas.Bool.{cases_Bool, and_parts, lt-ltb, le-leb, false≢true}
 use Rattle.std.proofs.lemmas.Slice.Eq.{bytes_eq-Decides}
 use Rattle.inv_base.specs.Tree.{Node, Name}
-use Rattle.xml_state.specs.Events.{name_at}
-use Rattle.xml_state.specs.Names.{same_name, find_name}
+use Rattle.xml_events.specs.Events.{name_at}
+use Rattle.xml_events.specs.Names.{same_name, find_name}
 use Rattle.node_arena.specs.Document.{Document, Placed, node_at, AreNamed}
 use Rattle.node_arena.specs.Moves.{tree_nodes, tree_node, behind, first_that, parent, is_attribute, is_inside, last_inside, has_name, has_found}
 use Rattle.xpath_grammar.specs.declared.step.Axis.{Axis}

@@ -2,7 +2,7 @@
 use Rattle.std.proofs.Common.{◌≡◌, ℕ, ◌<◌, zero, suc, Bool, true, false, ◌&&◌, List, [], ◌∷◌, length, get_or, slice_get, Option, Some, None, option_map, Result}
 use Rattle.std.proofs.Common.{Ok, Err, IfOk, refl, ap, sym, ◌∙◌}
 use Rattle.inv_base.specs.Tree.{Node, Name}
-use Rattle.xml_state.specs.Names.{find_name}
+use Rattle.xml_events.specs.Names.{find_name}
 use Rattle.node_arena.specs.Document.{Document, document_node, node_at}
 use Rattle.node_arena.specs.Moves.{has_name, tree_node, tree_nodes, node_of}
 use Rattle.inv_base.specs.declared.tree.Kind.{Kind}

@@ -1,7 +1,7 @@
 -- Tests of nodes whose names are numbers of a table.
 use Rattle.std.specs.Prelude.{ℕ, Bool, false, List, map, Option, Some, None}
 use Rattle.inv_base.specs.Tree.{Node, Name}
-use Rattle.xml_state.specs.Names.{find_name}
+use Rattle.xml_events.specs.Names.{find_name}
 use Rattle.xpath_grammar.specs.declared.step.Axis.{Axis}
 use Rattle.xpath_meaning.specs.Expressions.{NodeTest}
 use Rattle.xpath_meaning.specs.Axes.{passes}

@@ -14,7 +14,7 @@ use inv_base::Steps;
 use node_arena::{Doc, NodeId};
 use std::alloc::AllocError;
 use std::sync::ledger::Ledger;
-use xml_state::NameId;
+use xml_events::NameId;
 use xpath_grammar::step::Axis;
 use xpath_plan::work::StepTest;
 

@@ -2,7 +2,7 @@
 ghost use Rattle.std.specs.Prelude.{◌≡◌, ◌<◌, ◌≤◌, ◌+◌, List, Option, length, IfSome, true};
 ghost use Rattle.inv_base.specs.Tree.{Name};
 ghost use Rattle.node_arena.specs.Moves.{tree_nodes, tree_node, behind, first_that, has_name};
-ghost use Rattle.xml_state.specs.Events.{name_at};
+ghost use Rattle.xml_events.specs.Events.{name_at};
 ghost use Rattle.xpath_meaning.specs.Expressions.{NodeTest};
 ghost use Rattle.xpath_plan.specs.Plans.{test_seen};
 ghost use Rattle.xpath_walks.specs.Tests.{numbers_of};
@@ -16,7 +16,7 @@ use inv_base::Steps;
 use node_arena::{Doc, NodeId, chains_are_of_expanded_names, names_are_found_by_number};
 use std::alloc::AllocError;
 use std::sync::ledger::Ledger;
-use xml_state::NameId;
+use xml_events::NameId;
 use xpath_grammar::step::Axis;
 use xpath_plan::work::StepTest;
 

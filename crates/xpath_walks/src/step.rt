@@ -1,4 +1,4 @@
-use xml_state::NameId;
+use xml_events::NameId;
 use xpath_grammar::step::Axis;
 use xpath_plan::work::StepTest;
 

@@ -3,7 +3,7 @@ ghost use Rattle.std.specs.Prelude.{◌≡◌, ◌<◌, List, length, get_or, ch
 ghost use Rattle.inv_base.specs.Tree.{Name};
 ghost use Rattle.std.specs.Str.{bytes_eq};
 ghost use Rattle.node_arena.specs.Moves.{tree_nodes, tree_node, has_name};
-ghost use Rattle.xml_state.specs.Names.{find_name};
+ghost use Rattle.xml_events.specs.Names.{find_name};
 ghost use Rattle.xpath_meaning.specs.Axes as meaning;
 ghost use Rattle.xpath_meaning.specs.Axes.{has_name_that};
 ghost use Rattle.xpath_plan.specs.Plans.{test_seen};
@@ -12,7 +12,7 @@ ghost use Rattle.xpath_walks.specs.Tests.{numbers_of, is_passed};
 use inv_base::{Kind, is_same_text};
 use node_arena::{Doc, NodeId, names_are_found_by_number};
 use std::alloc::{AllocError, Global};
-use xml_state::NameId;
+use xml_events::NameId;
 use xpath_grammar::step::{Axis, KindTest};
 use xpath_plan::NameTable;
 use xpath_plan::work::StepTest;

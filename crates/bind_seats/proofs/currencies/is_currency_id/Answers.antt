@@ -1,6 +1,6 @@
 use Rattle.std.proofs.Common.{◌≡◌, ℕ, List, [], sym, ap, ◌∙◌}
 use Rattle.inv_base.specs.Tree.{Name}
-use Rattle.xml_state.specs.Events.{name_at}
+use Rattle.xml_events.specs.Events.{name_at}
 use Rattle.bind_meaning.specs.Names.{is_spelled}
 use Rattle.bind_meaning.specs.Currencies.{currency_id}
 use Rattle.bind_seats.proofs.AttributeLemmas.{plain-some, plain-none}

@@ -2,7 +2,7 @@ use Rattle.std.proofs.Common.{◌++◌, List, ap, ◌∙◌}
 use Rattle.std.specs.Prelude.{chars, encode_utf8_all}
 use Rattle.inv_base.specs.Tree.{Name}
 use Rattle.document_jobs.specs.Outline.{braced}
-use Rattle.xml_state.specs.Events.{name_at}
+use Rattle.xml_events.specs.Events.{name_at}
 use Rattle.inv_base.proofs.PrintingLemmas.{Prints-append, Prints-same}
 use Rattle.document_jobs.proofs.OutlineLemmas.{encode-name}
 use Rattle.document_jobs.proofs.printing.print_name.Goals as goal

@@ -1,6 +1,6 @@
 use Rattle.std.proofs.Common.{List, ◌∙◌, ap, codes}
 use Rattle.inv_base.specs.Tree.{Name}
-use Rattle.xml_state.specs.Events.{name_at}
+use Rattle.xml_events.specs.Events.{name_at}
 use Rattle.node_locations.proofs.PutLemmas.{HasFront-more, HasFront-append, Puts-append, Puts-at_err}
 use Rattle.node_locations.proofs.texts.push_name_test.Goals as goal
 

@@ -1,5 +1,5 @@
 use Rattle.std.specs.Str.{chars}
-use Rattle.xml_state.specs.Events.{name_at}
+use Rattle.xml_events.specs.Events.{name_at}
 use Rattle.std.proofs.lemmas.Str.{chars-nil}
 use Rattle.rule_library.proofs.AskLemmas.{compared, other_uri}
 use Rattle.rule_library.proofs.asking.is_plain.Goals as goal

@@ -1,6 +1,6 @@
 use Rattle.std.proofs.Common.{refl}
 use Rattle.std.specs.Str.{chars}
-use Rattle.xml_state.specs.Events.{name_at}
+use Rattle.xml_events.specs.Events.{name_at}
 use Rattle.rule_library.specs.Asked.{schematron}
 use Rattle.rule_library.proofs.AskLemmas.{literal, compared, other_uri}
 use Rattle.rule_library.proofs.asking.is_schematron.Goals as goal

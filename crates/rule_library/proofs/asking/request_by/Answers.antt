@@ -1,7 +1,7 @@
 use Rattle.std.proofs.Common.{List, ◌+◌, drop, option_map, refl, ap, ◌∙◌}
 use Rattle.std.specs.Prelude.{codes, ◌&&◌}
 use Rattle.inv_base.specs.Tree.{Name}
-use Rattle.xml_state.specs.Events.{name_at}
+use Rattle.xml_events.specs.Events.{name_at}
 use Rattle.node_arena.specs.Document.{node_at}
 use Rattle.rule_library.specs.Asked.{is_schematron, takes_roots, takes_insides, value_of, given_at}
 use Rattle.rule_library.specs.Walk.{parent_name}

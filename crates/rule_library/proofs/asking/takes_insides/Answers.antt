@@ -1,6 +1,6 @@
 use Rattle.std.proofs.Common.{option_map, refl, sym, ap, ◌∙◌}
 use Rattle.std.specs.Prelude.{codes}
-use Rattle.xml_state.specs.Events.{name_at}
+use Rattle.xml_events.specs.Events.{name_at}
 use Rattle.rule_library.specs.Asked.{takes_insides}
 use Rattle.rule_library.proofs.AskLemmas.{is_named, one_of_three}
 use Rattle.rule_library.proofs.asking.takes_insides.Goals as goal

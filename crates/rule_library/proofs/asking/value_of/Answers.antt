@@ -1,7 +1,7 @@
 use Rattle.std.proofs.Common.{List, Some, ◌+◌, drop, sym, ap, ◌∙◌}
 use Rattle.std.specs.Str.{chars}
 use Rattle.inv_base.specs.Tree.{Name}
-use Rattle.xml_state.specs.Events.{name_at}
+use Rattle.xml_events.specs.Events.{name_at}
 use Rattle.node_arena.specs.Document.{Placed, node_at}
 use Rattle.rule_library.specs.Asked.{Given, given_at, is_plain, value_of}
 use Rattle.rule_library.proofs.AskLemmas.{value-found, value-passed}

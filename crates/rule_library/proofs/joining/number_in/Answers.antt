@@ -1,8 +1,8 @@
 use Rattle.std.proofs.Common.{◌≡◌, List, ℕ, option_map, subst, sym}
 use Rattle.std.specs.Prelude.{IfOk, OnOk}
 use Rattle.std.proofs.lemmas.Str.{chars-nil}
-use Rattle.xml_state.specs.Events.{name_at}
-use Rattle.xml_state.specs.Names.{number_of, with_name}
+use Rattle.xml_events.specs.Events.{name_at}
+use Rattle.xml_events.specs.Names.{number_of, with_name}
 use Rattle.rule_library.specs.Walk.{name_or_none}
 use Rattle.rule_library.proofs.joining.number_in.Goals as goal
 

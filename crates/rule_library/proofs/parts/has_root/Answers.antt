@@ -1,5 +1,5 @@
 use Rattle.std.proofs.Common.{ap, option_map, ◌∙◌}
-use Rattle.xml_state.specs.Events.{name_at}
+use Rattle.xml_events.specs.Events.{name_at}
 use Rattle.rule_library.specs.Walk.{same_names, element_name}
 use Rattle.rule_library.proofs.parts.has_root.Goals as goal
 

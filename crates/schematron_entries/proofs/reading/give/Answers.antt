@@ -1,6 +1,6 @@
 use Rattle.std.proofs.Common.{◌∙◌, ap, sym}
 use Rattle.std.proofs.lemmas.Str.{chars-nil}
-use Rattle.xml_state.specs.Events.{name_at}
+use Rattle.xml_events.specs.Events.{name_at}
 use Rattle.schematron_entries.proofs.ReadLemmas.{gives, put_one, put_none}
 use Rattle.schematron_entries.proofs.reading.give.Goals as goal
 

@@ -1,5 +1,5 @@
 use Rattle.std.proofs.Common.{◌<◌, ◌∷◌, [], ◌++◌, ◌∙◌, ap, sym, subst, arith, append-nil}
-use Rattle.xpath_run.specs.Contexts.{count}
+use Rattle.xpath_parts.specs.Contexts.{count}
 use Rattle.xpath_marks.specs.Marking.{AreNodes, nodes_of}
 use Rattle.xpath_marks.proofs.FirstStepLemmas.{around_some, around_none}
 use Rattle.xpath_marks.proofs.TurnLemmas.{nodes_append}

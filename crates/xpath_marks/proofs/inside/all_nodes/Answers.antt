@@ -1,5 +1,5 @@
 use Rattle.std.proofs.Common.{◌∙◌, ap, sym, subst, ◌+◌, ◌<◌, ◌∷◌, ◌++◌, [], SomeIff}
-use Rattle.xpath_run.specs.Contexts.{count}
+use Rattle.xpath_parts.specs.Contexts.{count}
 use Rattle.xpath_walks.specs.Walks.{node_numbers, from_on}
 use Rattle.xpath_walks.proofs.WalkLemmas.{at_some}
 use Rattle.xpath_marks.specs.Marking.{AreNodes, nodes_of}

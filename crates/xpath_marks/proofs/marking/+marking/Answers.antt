@@ -3,10 +3,10 @@ use Rattle.xpath_meaning.specs.Expressions.{Exp}
 use Rattle.xpath_meaning.specs.Items.{is_empty}
 use Rattle.xpath_meaning.specs.Resolving.{all_inside, chained, chained_on, linked}
 use Rattle.xpath_plan.specs.Plans.{seen, label_of}
-use Rattle.xpath_run.specs.Contexts.{operands_of}
-use Rattle.xpath_run.specs.Depths.{deepest}
-use Rattle.xpath_run.proofs.DepthLemmas.{deeper, no_deeper, first-no_deeper}
-use Rattle.xpath_run.proofs.SlotLemmas as slots
+use Rattle.xpath_parts.specs.Contexts.{operands_of}
+use Rattle.xpath_parts.specs.Depths.{deepest}
+use Rattle.xpath_parts.proofs.DepthLemmas.{deeper, no_deeper, first-no_deeper}
+use Rattle.xpath_parts.proofs.SlotLemmas as slots
 use Rattle.xpath_marks.specs.FirstSteps.{is_found_by_first}
 use Rattle.xpath_marks.specs.Found.{all_reached}
 use Rattle.xpath_marks.specs.Marking.{Marked, Reached, FoundByStep, nodes_of, united_of}

@@ -1,9 +1,9 @@
 use Rattle.std.proofs.Common.{◌+◌, ◌*◌, take}
 use Rattle.xpath_meaning.specs.Expressions.{Exp}
 use Rattle.xpath_meaning.specs.Resolving.{chained_on}
-use Rattle.xpath_run.specs.Contexts.{operands_of}
-use Rattle.xpath_run.specs.Depths.{depth, deepest}
-use Rattle.xpath_run.specs.Slots.{AreHeld}
+use Rattle.xpath_parts.specs.Contexts.{operands_of}
+use Rattle.xpath_parts.specs.Depths.{depth, deepest}
+use Rattle.xpath_parts.specs.Slots.{AreHeld}
 use Rattle.xpath_marks.specs.Marking.{AreNodes, Marked}
 use Rattle.xpath_marks.proofs.marking.+marking.Given as goal
 

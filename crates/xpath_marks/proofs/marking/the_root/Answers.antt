@@ -1,6 +1,6 @@
 use Rattle.std.proofs.Common.{◌∙◌, ◌∷◌, [], ◌++◌, ◌<◌, ap, subst, sym}
 use Rattle.xpath_steps.proofs.NodeLemmas.{are_numbers}
-use Rattle.xpath_run.specs.Contexts.{count}
+use Rattle.xpath_parts.specs.Contexts.{count}
 use Rattle.xpath_marks.proofs.MarkingLemmas.{root_found}
 use Rattle.xpath_marks.proofs.marking.the_root.Goals as goal
 

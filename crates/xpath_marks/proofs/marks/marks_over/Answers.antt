@@ -4,8 +4,8 @@ use Rattle.node_arena.specs.Moves.{tree_nodes}
 use Rattle.xpath_plan.specs.Plans.{expression, seen}
 use Rattle.xpath_walks.specs.Tests.{numbers_of}
 use Rattle.xpath_plan.specs.Claims.{kept_of}
-use Rattle.xpath_run.specs.Slots.{HoldIn}
-use Rattle.xpath_run.proofs.SlotLemmas as slots
+use Rattle.xpath_parts.specs.Slots.{HoldIn}
+use Rattle.xpath_parts.proofs.SlotLemmas as slots
 use Rattle.xpath_marks.specs.Shapes.{alone, is_pattern}
 use Rattle.xpath_marks.specs.Found.{all_found}
 use Rattle.xpath_marks.proofs.marks.marks_over.Goals as goal

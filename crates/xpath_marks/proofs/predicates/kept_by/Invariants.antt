@@ -1,7 +1,7 @@
 use Rattle.std.proofs.Common.{◌≡◌, ◌++◌, length, drop, ◌+◌}
 use Rattle.xpath_meaning.specs.Patterns.{kept_nodes}
 use Rattle.xpath_plan.specs.Plans.{seen}
-use Rattle.xpath_run.specs.Slots.{AreHeld}
+use Rattle.xpath_parts.specs.Slots.{AreHeld}
 use Rattle.xpath_marks.specs.Marking.{AreNodes, judged, kept_by}
 use Rattle.xpath_marks.proofs.predicates.kept_by.Given as goal
 

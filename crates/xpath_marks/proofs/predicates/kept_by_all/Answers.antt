@@ -1,4 +1,4 @@
-use Rattle.xpath_run.proofs.SlotLemmas.{placed_at}
+use Rattle.xpath_parts.proofs.SlotLemmas.{placed_at}
 use Rattle.xpath_marks.proofs.TurnLemmas.{all_next, all_done}
 use Rattle.xpath_marks.proofs.predicates.kept_by_all.Goals as goal
 

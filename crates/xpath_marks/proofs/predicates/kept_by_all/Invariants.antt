@@ -1,6 +1,6 @@
 use Rattle.std.proofs.Common.{◌≡◌, drop}
-use Rattle.xpath_run.specs.Contexts.{operands_of}
-use Rattle.xpath_run.specs.Slots.{AreHeld}
+use Rattle.xpath_parts.specs.Contexts.{operands_of}
+use Rattle.xpath_parts.specs.Slots.{AreHeld}
 use Rattle.xpath_marks.specs.Marking.{AreNodes, kept_by_all}
 use Rattle.xpath_marks.proofs.predicates.kept_by_all.Given as goal
 

@@ -1,10 +1,10 @@
 use Rattle.std.proofs.Common.{rules, arith, ◌∙◌, ap, sym, subst, refl, true, false, ◌≡◌}
 use Rattle.xpath_meaning.specs.Items.{is_empty}
 use Rattle.xpath_plan.specs.Plans.{seen, made}
-use Rattle.xpath_run.specs.Contexts.{operands_of}
-use Rattle.xpath_run.specs.Depths.{deepest}
-use Rattle.xpath_run.proofs.DepthLemmas.{deeper, first-no_deeper}
-use Rattle.xpath_run.proofs.SlotLemmas as slots
+use Rattle.xpath_parts.specs.Contexts.{operands_of}
+use Rattle.xpath_parts.specs.Depths.{deepest}
+use Rattle.xpath_parts.proofs.DepthLemmas.{deeper, first-no_deeper}
+use Rattle.xpath_parts.proofs.SlotLemmas as slots
 use Rattle.xpath_marks.specs.Marking.{AreNodes, is_first_part}
 use Rattle.xpath_marks.proofs.TurnLemmas.{node_seen, other_turned, first_turned, filters_turned, along_ok, nodes_append, alone_is}
 use Rattle.xpath_marks.proofs.steps.+turning.Goals as goal

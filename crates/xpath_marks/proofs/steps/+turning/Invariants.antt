@@ -1,5 +1,5 @@
 use Rattle.std.proofs.Common.{◌+◌, ◌*◌}
-use Rattle.xpath_run.specs.Depths.{depth, deepest}
+use Rattle.xpath_parts.specs.Depths.{depth, deepest}
 use Rattle.xpath_marks.proofs.steps.+turning.Given as goal
 
 abbrev pub decreases-turn : goal.decreases-turn

@@ -2,7 +2,7 @@ use Rattle.std.proofs.Common.{◌≡◌, ◌++◌, drop, true}
 use Rattle.std.specs.List.{flat_map}
 use Rattle.xpath_meaning.specs.Patterns.{found_at}
 use Rattle.xpath_plan.specs.Plans.{seen}
-use Rattle.xpath_run.specs.Slots.{AreHeld}
+use Rattle.xpath_parts.specs.Slots.{AreHeld}
 use Rattle.xpath_marks.specs.Shapes.{is_step}
 use Rattle.xpath_marks.specs.Marking.{AreNodes, nodes_of}
 use Rattle.xpath_marks.proofs.steps.reached.Given as goal

@@ -8,26 +8,26 @@ use Rattle.xpath_meaning.specs.Steps as steps
 use Rattle.xpath_meaning.specs.Values.{value, then_}
 use Rattle.xpath_plan.specs.Plans.{seen, made}
 use Rattle.xpath_plan.specs.declared.work.Kind.TheVariants as m
-use Rattle.xpath_run.specs.Contexts.{context, count, operands_of, turn_in, value_in}
-use Rattle.xpath_run.specs.Depths.{deepest}
-use Rattle.xpath_run.specs.Finishing.{is_strict, finished}
-use Rattle.xpath_run.specs.Links as links
-use Rattle.xpath_run.specs.Slots.{IsKeptHere}
+use Rattle.xpath_parts.specs.Contexts.{context, count, operands_of, turn_in, value_in}
+use Rattle.xpath_parts.specs.Depths.{deepest}
+use Rattle.xpath_parts.specs.Finishing.{is_strict, finished}
+use Rattle.xpath_parts.specs.Links as links
+use Rattle.xpath_parts.specs.Slots.{IsKeptHere}
 use Rattle.std.specs.Vec.Iter.{into_iter_items}
 use Rattle.xpath_items.specs.declared.item.Item.{Item}
-use Rattle.xpath_run.specs.Turns.{Takes, after}
+use Rattle.xpath_parts.specs.Turns.{Takes, after}
 use Rattle.xpath_run.proofs.Costs.{to_come, level}
-use Rattle.xpath_run.proofs.DepthLemmas.{deeper, no_deeper, there-no_deeper, first-no_deeper, dropped-no_deeper}
-use Rattle.xpath_run.proofs.GivesLemmas.{gives-along, gives-within, outcome-within}
+use Rattle.xpath_parts.proofs.DepthLemmas.{deeper, no_deeper, there-no_deeper, first-no_deeper, dropped-no_deeper}
+use Rattle.xpath_parts.proofs.GivesLemmas.{gives-along, gives-within, outcome-within}
 use Rattle.xpath_run.proofs.LoopLemmas as loop
-use Rattle.xpath_run.proofs.SeenLemmas as known
-use Rattle.xpath_run.proofs.SlotLemmas as slots
+use Rattle.xpath_parts.proofs.SeenLemmas as known
+use Rattle.xpath_parts.proofs.SlotLemmas as slots
 use Rattle.xpath_run.proofs.StrictLemmas.{strict, wanted-no_deeper}
 use Rattle.xpath_run.proofs.TurnSteps as turn
 use Rattle.xpath_operators.specs.Nodes.{AllWithin}
 use Rattle.xpath_steps.specs.Lending.{lent_value}
 use Rattle.xpath_steps.specs.Variables.{ValueWithin}
-use Rattle.xpath_run.proofs.WithinLemmas.{within-along, within-append, all_within-append, all_within-along}
+use Rattle.xpath_parts.proofs.WithinLemmas.{within-along, within-append, all_within-append, all_within-along}
 use Rattle.xpath_run.proofs.evaluating.+evaluating.Goals as goal
 
 pub along_axis-along_axis-requires : goal.along_axis-along_axis-requires

@@ -8,11 +8,11 @@ use Rattle.xpath_meaning.specs.Steps as steps
 use Rattle.xpath_operators.specs.Nodes.{AreWithin, AllWithin}
 use Rattle.xpath_plan.specs.Plans.{seen}
 use Rattle.xpath_steps.specs.Variables.{ValueWithin}
-use Rattle.xpath_run.specs.Contexts.{context, count, operands_of, turn_in}
-use Rattle.xpath_run.specs.Depths.{depth, deepest}
-use Rattle.xpath_run.specs.Links as links
-use Rattle.xpath_run.specs.Slots.{AreHeld, Grows}
-use Rattle.xpath_run.specs.Turns.{after}
+use Rattle.xpath_parts.specs.Contexts.{context, count, operands_of, turn_in}
+use Rattle.xpath_parts.specs.Depths.{depth, deepest}
+use Rattle.xpath_parts.specs.Links as links
+use Rattle.xpath_parts.specs.Slots.{AreHeld, Grows}
+use Rattle.xpath_parts.specs.Turns.{after}
 use Rattle.xpath_run.proofs.Continuing.{behind_those}
 use Rattle.xpath_run.proofs.Costs.{level, costs, to_come}
 use Rattle.xpath_run.proofs.evaluating.+evaluating.Given as goal

@@ -1,4 +1,4 @@
-use Rattle.xpath_run.proofs.GivesLemmas.{outcome-within}
+use Rattle.xpath_parts.proofs.GivesLemmas.{outcome-within}
 use Rattle.xpath_run.proofs.whole.by_cycle.Goals as goal
 
 pub returns-clause-within : goal.returns-clause-within

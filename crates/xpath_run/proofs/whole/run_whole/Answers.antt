@@ -1,10 +1,10 @@
 use Rattle.std.proofs.Common.{sym, ◌∙◌}
 use Rattle.xpath_meaning.specs.Values.{value}
 use Rattle.std.proofs.lemmas.Result.{err_from_is_err_and}
-use Rattle.xpath_run.proofs.NamedLemmas.{unkept_walk, whole_walk, on_ok_any, no_bounds_left}
-use Rattle.xpath_run.specs.Contexts.{count}
-use Rattle.xpath_run.proofs.GivesLemmas.{gives-along, outcome-so}
-use Rattle.xpath_run.proofs.SlotLemmas as slots
+use Rattle.xpath_parts.proofs.NamedLemmas.{unkept_walk, whole_walk, on_ok_any, no_bounds_left}
+use Rattle.xpath_parts.specs.Contexts.{count}
+use Rattle.xpath_parts.proofs.GivesLemmas.{gives-along, outcome-so}
+use Rattle.xpath_parts.proofs.SlotLemmas as slots
 use Rattle.xpath_run.proofs.whole.run_whole.Goals as goal
 
 pub returns-in-Some-lent-clause-value : goal.returns-in-Some-lent-clause-value

@@ -1,6 +1,6 @@
 use Rattle.std.proofs.Common.{◌∙◌, ap, chars}
 use Rattle.inv_base.specs.Tree.{Name}
-use Rattle.xml_state.specs.Names.{find_name}
+use Rattle.xml_events.specs.Names.{find_name}
 use Rattle.xpath_walks.proofs.TestLemmas.{no_number, number-at, ok_then}
 use Rattle.xpath_walks.proofs.test.number_in.Goals as goal
 

@@ -1,5 +1,5 @@
 use Rattle.std.proofs.Common.{refl, ap, ◌∙◌, arith}
-use Rattle.xml_state.specs.Events.{has_attribute}
+use Rattle.xml_events.specs.Events.{has_attribute}
 use Rattle.node_arena.specs.Document.{after, last_place}
 use Rattle.node_arena.specs.Slots.{kept}
 use Rattle.node_arena.proofs.BuilderLemmas.{attributed}

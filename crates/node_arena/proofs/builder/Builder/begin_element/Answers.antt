@@ -1,5 +1,5 @@
 use Rattle.std.proofs.Common.{refl, ap, ◌∙◌, arith}
-use Rattle.xml_state.specs.Events.{starts}
+use Rattle.xml_events.specs.Events.{starts}
 use Rattle.node_arena.specs.Document.{after}
 use Rattle.node_arena.proofs.BuilderLemmas.{started}
 use Rattle.node_arena.proofs.GrowingLemmas.{growing-opened, path-opened, kept-more}

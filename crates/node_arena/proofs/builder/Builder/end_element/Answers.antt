@@ -1,5 +1,5 @@
 use Rattle.std.proofs.Common.{ap, ◌∙◌}
-use Rattle.xml_state.specs.Events.{ends}
+use Rattle.xml_events.specs.Events.{ends}
 use Rattle.node_arena.specs.Document.{after}
 use Rattle.node_arena.proofs.BuilderLemmas.{ended_behind, closed_around}
 use Rattle.node_arena.proofs.builder.Builder.end_element.Goals as goal

@@ -1,6 +1,6 @@
-use Rattle.std.proofs.Common.{ap, sym, ◌∙◌, ◌++◌, append-nil, chars}
+use Rattle.std.proofs.Common.{ap, sym, ◌∙◌}
 use Rattle.std.proofs.lemmas.Str.{IsUtf8-string_bytes}
-use Rattle.xml_state.specs.Events.{has_text}
+use Rattle.xml_events.specs.Events.{has_text}
 use Rattle.node_arena.specs.Document.{after}
 use Rattle.node_arena.proofs.BuilderLemmas.{text_more, text_begun, lent_alone}
 use Rattle.node_arena.proofs.builder.Builder.text_lent.Goals as goal

@@ -1,6 +1,6 @@
 use Rattle.std.proofs.Common.{subst}
 use Rattle.std.specs.Str.{chars}
-use Rattle.xml_state.specs.Events.{has_attribute}
+use Rattle.xml_events.specs.Events.{has_attribute}
 use Rattle.node_arena.specs.Document.{Builds}
 use Rattle.node_arena.proofs.BuiltLemmas.{takes-builds}
 use Rattle.node_arena.proofs.builder.BuilderEvents.attribute.Goals as goal

@@ -1,6 +1,6 @@
 use Rattle.std.proofs.Common.{◌++◌, ap, sym, ◌∙◌, refl}
 use Rattle.std.proofs.lemmas.Str.{IsUtf8-string_bytes}
-use Rattle.xml_state.specs.Events.{has_text}
+use Rattle.xml_events.specs.Events.{has_text}
 use Rattle.node_arena.specs.Document.{after}
 use Rattle.node_arena.proofs.BuiltLemmas.{Takes-after}
 use Rattle.node_arena.proofs.BuilderLemmas.{text_more, text_begun, copied_alone}

@@ -2,7 +2,7 @@ use Rattle.std.proofs.Common.{rules, ◌≡◌, ◌+◌, ap, sym, subst, ◌∙�
 use Rattle.xml_tokens.specs.Seen.{seen_tag}
 use Rattle.xml_tokens.specs.Faults.{first_cause}
 use Rattle.xml_state.specs.Admission.{early_causes}
-use Rattle.xml_state.specs.Events.{TakesAll}
+use Rattle.xml_events.specs.Events.{TakesAll}
 use Rattle.xml_state.specs.StartTags.{tag_events}
 use Rattle.xml_state.specs.States.{State}
 use Rattle.xml_state.specs.Taking.{TakesFront}

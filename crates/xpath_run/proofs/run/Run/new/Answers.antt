@@ -1,9 +1,9 @@
 use Rattle.std.proofs.Common.{sym, ap, ◌∙◌, subst, length}
 use Rattle.std.proofs.lemmas.List.{length-replicate}
 use Rattle.xpath_plan.specs.Claims.{kept_of}
-use Rattle.xpath_run.specs.Slots.{HoldIn}
+use Rattle.xpath_parts.specs.Slots.{HoldIn}
 use Rattle.xpath_walks.specs.Tests.{numbers_of}
-use Rattle.xpath_run.proofs.SlotLemmas as slots
+use Rattle.xpath_parts.proofs.SlotLemmas as slots
 use Rattle.xpath_run.proofs.run.Run.new.Goals as goal
 
 pub invariant_of-result : goal.invariant_of-result

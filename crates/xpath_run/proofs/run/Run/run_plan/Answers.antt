@@ -4,8 +4,8 @@ use Rattle.xpath_meaning.specs.Meaning.{mean}
 use Rattle.xpath_meaning.specs.Values.{value}
 use Rattle.xpath_plan.specs.declared.work.StepTest.TheVariants as t
 use Rattle.xpath_plan.specs.Plans.{seen, test_seen}
-use Rattle.xpath_run.specs.Named.{IsEmptyAt, walk_of}
-use Rattle.xpath_run.proofs.SlotLemmas as slots
+use Rattle.xpath_parts.specs.Named.{IsEmptyAt, walk_of}
+use Rattle.xpath_parts.proofs.SlotLemmas as slots
 use Rattle.xpath_walks.specs.Walks.{Bounds, chain_of}
 use Rattle.xpath_run.proofs.run.Run.run_plan.Goals as goal
 

@@ -1,0 +1,4 @@
+pub mod FlipLemmas
+pub mod PlaceLemmas
+pub mod NameLemmas
+pub mod DistinctLemmas

@@ -1,0 +1,5 @@
+pub mod Events
+pub mod Names
+pub mod NameTables
+pub mod Places
+pub mod Documents

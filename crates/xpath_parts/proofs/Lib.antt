@@ -1,0 +1,13 @@
+pub mod WithinLemmas
+pub mod StackLemmas
+pub mod LinkLemmas
+pub mod DepthLemmas
+pub mod CallLemmas
+pub mod CallWithin
+pub mod GivesLemmas
+pub mod PartLemmas
+pub mod SeenLemmas
+pub mod SlotLemmas
+pub mod WalkLemmas
+pub mod NamedLemmas
+pub mod SizeLemmas

@@ -1,0 +1,12 @@
+pub mod Contexts
+pub mod Links
+pub mod Finishing
+pub mod Turns
+pub mod Depths
+pub mod Parts
+pub mod Held
+pub mod Placed
+pub mod Slots
+pub mod Whole
+pub mod Named
+pub mod Sizes

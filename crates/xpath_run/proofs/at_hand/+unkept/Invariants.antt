@@ -1,5 +1,0 @@
-use Rattle.xpath_run.specs.Depths.{depth}
-use Rattle.xpath_run.proofs.at_hand.+unkept.Given as goal
-
-abbrev pub decreases-unkept : goal.decreases-unkept
-decreases-unkept l = depth l.work.now

@@ -1,5 +1,0 @@
-use Rattle.std.proofs.Common.{◌≡◌, replicate, None}
-use Rattle.xpath_run.proofs.slots.Slots.new.Given as goal
-
-abbrev pub invariant-slots : goal.invariant-slots
-invariant-slots l = l.kept.items ≡ replicate l._k None

@@ -19,8 +19,8 @@ pub fn print_term<K: Sink>(term: Term, printer: &mut Printer, out: &mut K)
     printer.put(out, text.as_slice());
 }
 
-/// Puts a term behind a short text.
-pub(crate) fn put_term(text: &mut Short, term: Term)
+/// Puts a term behind a short text, as `print_term` prints it: at most 12 bytes.
+pub fn put_term(text: &mut Short, term: Term)
     requires { array_vec_len text.old + 12 ≤ 128 }
     ensures { Composes (term_text term) 12 text.old text.new }
 {

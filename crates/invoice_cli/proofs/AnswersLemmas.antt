@@ -254,7 +254,7 @@ none_read held course a n file is reads = end_reads held a n file (subst (λ c. 
 -- Files want memory.
 files_want : (job : Job) → NamesFiles job → WantsMemory job
 files_want (outline file) names = names
-files_want (show sources file) names = names
+files_want (show format sources file) names = names
 files_want (totals sources file) names = names
 files_want (convert syntax sources file) names = names
 files_want (check svrl phase rules file) names = names

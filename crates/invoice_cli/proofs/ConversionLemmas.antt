@@ -49,8 +49,8 @@ module _
             read-goes files sources file basis read (converted first) are is ∙ converted-done first basis read files by,
             record {
               text = texts (bytes_under file files) basis read first terms is by;
-              shown = λ others name held.
-                  read-goes others sources name basis (exactly read.entries) listed held.basis_is
+              shown = λ format others name held.
+                  read-goes others sources name basis (exactly read.entries) (listed format) held.basis_is
                   (written_read others name sources basis first read.entries valid.0 valid.1 by held);
               back = λ too others name held. converts steps others name sources basis first other read.entries valid.0 valid.1 by too held;
               again = λ too others name held. converts steps others name sources basis other first read.entries valid.0 valid.1 too by held;

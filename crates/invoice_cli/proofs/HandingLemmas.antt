@@ -56,7 +56,7 @@ module _ (start shown now : SinkView) (status status' : Status) where
     -- What holds of a command in front of the output holds behind handing on.
     pub ends_handed : (steps : ℕ) (job : Job) → Ends steps job Before Shown status → Ends steps job Before Now status'
     ends_handed steps (outline file) ends = (ends.0, runs steps (outline file) ends.1)
-    ends_handed steps (show sources file) ends = (tt, runs steps (show sources file) ends.1)
+    ends_handed steps (show format sources file) ends = (tt, runs steps (show format sources file) ends.1)
     ends_handed steps (totals sources file) ends = (tt, runs steps (totals sources file) ends.1)
     ends_handed steps (convert syntax sources file) ends = (tt, runs steps (convert syntax sources file) ends.1)
     ends_handed steps (check svrl phase rules file) ends = (tt, runs steps (check svrl phase rules file) ends.1)
@@ -77,7 +77,7 @@ still P s s' e e' shelf err p = subst (λ x. P x e') (sym shelf) (subst (P s) (s
 pub answers_of_ends : (steps : ℕ) (job : Job) (before after : Outside) (status : Status) → Ends steps job before after status →
     Answers steps job before after status
 answers_of_ends steps (outline file) before after status ends = answers_of_run steps (outline file) tt before after status (λ name is. ends.0) ends.1
-answers_of_ends steps (show sources file) before after status ends = answers_of_run steps (show sources file) tt before after status (λ name is. cc) ends.1
+answers_of_ends steps (show format sources file) before after status ends = answers_of_run steps (show format sources file) tt before after status (λ name is. cc) ends.1
 answers_of_ends steps (totals sources file) before after status ends = answers_of_run steps (totals sources file) tt before after status (λ name is. cc) ends.1
 answers_of_ends steps (convert syntax sources file) before after status ends =
     answers_of_run steps (convert syntax sources file) tt before after status (λ name is. cc) ends.1

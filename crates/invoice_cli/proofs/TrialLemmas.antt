@@ -8,8 +8,8 @@ use Rattle.invoice_cli.specs.declared.options.Optioned.{Optioned}
 use Rattle.invoice_cli.specs.declared.options.Optioned.TheVariants as commands
 use Rattle.invoice_cli.specs.declared.options.Switch.{Switch}
 use Rattle.invoice_cli.specs.Job.{Job, outline, show, totals, convert, check, validate, extract, query, trial, help, version, bad_word, Options, none_given}
-use Rattle.invoice_cli.specs.Job.{is_option, with_no_more, last_operand, offered, takes_value, with_svrl, with_value, or_bad, last_word, optioned, sources}
-use Rattle.invoice_cli.specs.Job.{show_of, totals_of, convert_of, check_of, validate_of, is_digit, digits_value, at_most, number_up_to, by_number, extract_of}
+use Rattle.invoice_cli.specs.Job.{is_option, with_no_more, last_operand, offered, takes_value, with_flag, with_value, or_bad, last_word, optioned, sources}
+use Rattle.invoice_cli.specs.Job.{format_of, show_of, totals_of, convert_of, check_of, validate_of, is_digit, digits_value, at_most, number_up_to, by_number, extract_of}
 use Rattle.invoice_cli.specs.Job.{most_lines, try_of, query_of, job}
 
 -- ---- numbers
@@ -70,13 +70,14 @@ module _ (command : Optioned) (further : Options → ℕ → List (List ℕ) →
   few-last : (given : Options) (number : ℕ) (word : List ℕ) (switch : Option Switch) → HasFew (last_word further given number word switch)
   few-last given number word None = few given number (word ∷ [])
   few-last given number word (Some switch) =
-      few-if (takes_value switch) (bad_word (number + 1)) (further (with_svrl given) (number + 1) []) tt (few (with_svrl given) (number + 1) [])
+      few-if (takes_value switch) (bad_word (number + 1)) (further (with_flag given switch) (number + 1) []) tt
+      (few (with_flag given switch) (number + 1) [])
 
   by_switch : (given : Options) (number : ℕ) (value : List ℕ) (words : List (List ℕ)) (switch : Switch) (b : Bool)
-      → HasFew (optioned command further (with_svrl given) (number + 1) (value ∷ words))
+      → HasFew (optioned command further (with_flag given switch) (number + 1) (value ∷ words))
       → ((more : Options) → HasFew (optioned command further more (number + 2) words))
       → HasFew (elim b [
-        | false ↦ optioned command further (with_svrl given) (number + 1) (value ∷ words)
+        | false ↦ optioned command further (with_flag given switch) (number + 1) (value ∷ words)
         | true ↦ or_bad (number + 1) (λ more. optioned command further more (number + 2) words) (with_value given switch value)
       ])
   by_switch given number value words switch false alone valued = alone
@@ -84,23 +85,24 @@ module _ (command : Optioned) (further : Options → ℕ → List (List ℕ) →
       few-or_bad (number + 1) (λ more. optioned command further more (number + 2) words) (with_value given switch value) valued
 
   by_offer : (given : Options) (number : ℕ) (word value : List ℕ) (words : List (List ℕ)) (o : Option Switch)
-      → HasFew (optioned command further (with_svrl given) (number + 1) (value ∷ words))
+      → ((switch : Switch) → HasFew (optioned command further (with_flag given switch) (number + 1) (value ∷ words)))
       → ((more : Options) → HasFew (optioned command further more (number + 2) words))
       → HasFew (elim o [
         | None ↦ further given number (word ∷ (value ∷ words))
         | (Some switch) ↦ elim (takes_value switch) [
-          | false ↦ optioned command further (with_svrl given) (number + 1) (value ∷ words)
+          | false ↦ optioned command further (with_flag given switch) (number + 1) (value ∷ words)
           | true ↦ or_bad (number + 1) (λ more. optioned command further more (number + 2) words) (with_value given switch value)
         ]
       ])
   by_offer given number word value words None alone valued = few given number (word ∷ (value ∷ words))
-  by_offer given number word value words (Some switch) alone valued = by_switch given number value words switch (takes_value switch) alone valued
+  by_offer given number word value words (Some switch) alone valued = by_switch given number value words switch (takes_value switch) (alone switch) valued
 
   few-optioned : (given : Options) (number : ℕ) (words : List (List ℕ)) → HasFew (optioned command further given number words)
   few-optioned given number [] = few given number []
   few-optioned given number (word ∷ []) = few-last given number word (offered command given word)
   few-optioned given number (word ∷ (value ∷ words)) =
-      by_offer given number word value words (offered command given word) (few-optioned (with_svrl given) (number + 1) (value ∷ words))
+      by_offer given number word value words (offered command given word)
+      (λ switch. few-optioned (with_flag given switch) (number + 1) (value ∷ words))
       (λ more. few-optioned more (number + 2) words)
 
 -- ---- commands
@@ -152,7 +154,7 @@ few-job [] = tt
 few-job (command ∷ words) =
     few-if (bytes_eq command (codes "outline")) _ _ (few-operand outline 2 words (λ word. tt))
     (few-if (bytes_eq command (codes "show")) _ _
-    (few-optioned commands.Show show_of (λ given number ws. few-operand (show (sources given)) number ws (λ word. tt)) none_given 2 words)
+    (few-optioned commands.Show show_of (λ given number ws. few-operand (show (format_of given.json) (sources given)) number ws (λ word. tt)) none_given 2 words)
     (few-if (bytes_eq command (codes "totals")) _ _
     (few-optioned commands.Totals totals_of (λ given number ws. few-operand (totals (sources given)) number ws (λ word. tt)) none_given 2 words)
     (few-if (bytes_eq command (codes "convert")) _ _ (few-optioned commands.Convert convert_of few-convert none_given 2 words)

@@ -22,7 +22,7 @@ version_text = VERSION.now ++ (RULES_VERSION.now ++ 0xA ∷ [])
 -- What a job reads and answers. Only the last line of a trial tells how many steps its judging took, which nothing defines.
 abbrev pub course_of : ℕ → Job → Course
 course_of steps (outline file) = outline_course file
-course_of steps (show sources file) = show_course sources file
+course_of steps (show format sources file) = show_course format sources file
 course_of steps (totals sources file) = totals_course sources file
 course_of steps (convert syntax sources file) = convert_course syntax sources file
 course_of steps (check svrl phase rules file) = check_course svrl phase rules file

@@ -20,6 +20,7 @@ given_options given = record {
   codes_file = option_map text_of given.sources.codes_file;
   extension_file = option_map text_of given.sources.extension_file;
   target = given.target;
+  json = given.json;
   svrl = given.svrl;
   phase = option_map text_of given.phase;
   rules = named_files given.rules;
@@ -37,7 +38,7 @@ by_operand make (Err number) = bad_word number
 -- what is asked, by the rule files that are named
 abbrev pub asked_by : List (List ℕ) → Command → Job
 asked_by rules (commands.Outline file) = outline file.now
-asked_by rules (commands.Show sources file) = show (sources_of sources) file.now
+asked_by rules (commands.Show format sources file) = show format (sources_of sources) file.now
 asked_by rules (commands.Totals sources file) = totals (sources_of sources) file.now
 asked_by rules (commands.Convert syntax sources file) = convert syntax (sources_of sources) file.now
 asked_by rules (commands.Check svrl phase file) = check svrl (option_map text_of phase) rules file.now

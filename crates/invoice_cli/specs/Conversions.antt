@@ -2,13 +2,14 @@
 use Rattle.std.specs.Prelude.{◌≡◌, ℕ, List, Option}
 use Rattle.inv_base.specs.Files.{Files}
 use Rattle.inv_terms.specs.declared.entries.Entry.{Entry}
-use Rattle.inv_listing.specs.Listing.{listing}
 use Rattle.bind_meaning.specs.Terms.{Read}
 use Rattle.bind_meaning.specs.declared.tables.Syntax.{Syntax}
 use Rattle.job_course.specs.declared.status.Status.TheVariants as statuses
 use Rattle.job_course.specs.Course.{Answer, done}
 use Rattle.job_course.specs.Runs.{EndsIn}
 use Rattle.invoice_jobs.specs.Sources.{Sources, Basis}
+use Rattle.invoice_jobs.specs.declared.formats.AnswerFormat.{AnswerFormat}
+use Rattle.invoice_jobs.specs.Invoices.{listing_in}
 use Rattle.invoice_jobs.specs.Conversions.{IsBasis, IsReadAs, IsCarriedBy, text_of_invoice, Holds, IsDocumentText, IsConverted, IsConvertedThere}
 use Rattle.invoice_cli.specs.Job.{show, convert}
 use Rattle.invoice_cli.specs.Answer.{course_of, answer_to}
@@ -17,8 +18,8 @@ use Rattle.invoice_cli.specs.Answer.{course_of, answer_to}
 -- that writes the same terms, and converting this back writes the first bytes again: with the same code lists and the same further terms throughout.
 pub record IsConvertedBack (steps : ℕ) (first other : Syntax) (sources : Sources) (basis : Basis) (es : List Entry) : Type 0 where
   pub text : IsDocumentText first basis es
-  pub shown : (files : Files) (file : List ℕ) → Holds files file (text_of_invoice first basis es) sources basis →
-      answer_to steps (show sources file) files ≡ done (listing es 0)
+  pub shown : (format : AnswerFormat) (files : Files) (file : List ℕ) → Holds files file (text_of_invoice first basis es) sources basis →
+      answer_to steps (show format sources file) files ≡ done (listing_in format es 0)
   pub back : IsCarriedBy other basis es → (files : Files) (file : List ℕ) → Holds files file (text_of_invoice first basis es) sources basis
       → answer_to steps (convert other sources file) files ≡ done (text_of_invoice other basis es)
   pub again : IsCarriedBy other basis es → (files : Files) (file : List ℕ) → Holds files file (text_of_invoice other basis es) sources basis

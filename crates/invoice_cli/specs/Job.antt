@@ -6,20 +6,22 @@ use Rattle.std.specs.List.{starts_with}
 use Rattle.bind_meaning.specs.declared.tables.Syntax.{Syntax}
 use Rattle.bind_meaning.specs.declared.tables.Syntax.TheVariants as syntaxes
 use Rattle.invoice_jobs.specs.Sources.{Sources}
+use Rattle.invoice_jobs.specs.declared.formats.AnswerFormat.{AnswerFormat}
+use Rattle.invoice_jobs.specs.declared.formats.AnswerFormat.TheVariants as formats
 use Rattle.invoice_cli.specs.declared.options.Optioned.{Optioned}
 use Rattle.invoice_cli.specs.declared.options.Optioned.TheVariants as commands
 use Rattle.invoice_cli.specs.declared.options.Switch.{Switch}
 use Rattle.invoice_cli.specs.declared.options.Switch.TheVariants as switches
 
--- The outline of a file; the terms of an invoice, by the code lists of a file or the built-in ones and by the terms that
--- another file adds or none; where its totals differ, likewise; the invoice in a syntax, likewise; what rule files find in
+-- The outline of a file; the terms of an invoice, as lines or as JSON, by the code lists of a file or the built-in ones and by
+-- the terms that another file adds or none; where its totals differ, likewise; the invoice in a syntax, likewise; what rule files find in
 -- a document, in SVRL or plain, by the patterns of a phase or those that each file has by default; all that is wrong with
 -- an invoice, in SVRL or plain, by such files beside it; an invoice's attached document of that number; the value of an
 -- expression at a document; a trial of the whole tool on a generated invoice of so many lines; the help; the version; or
 -- the number of the first word that fits no command, counted from 1, where a missing word counts as one behind the last.
 pub data Job : Type 0 where
   outline : List ℕ → Job
-  show : Sources → List ℕ → Job
+  show : AnswerFormat → Sources → List ℕ → Job
   totals : Sources → List ℕ → Job
   convert : Syntax → Sources → List ℕ → Job
   check : Bool → Option (List ℕ) → List (List ℕ) → List ℕ → Job
@@ -47,32 +49,36 @@ last_operand job number (word ∷ words) = if is_option word then bad_word numbe
 
 -- ---- options: between the command and its operands, in any order
 
--- the files of code lists and of further terms, and the syntax to write; whether the report is SVRL, the phase, and the rule files
+-- the files of code lists and of further terms, and the syntax to write; whether the answer is JSON and whether the report is SVRL,
+-- the phase, and the rule files
 pub record Options : Type 0 where
   pub codes_file : Option (List ℕ)
   pub extension_file : Option (List ℕ)
   pub target : Option Syntax
+  pub json : Bool
   pub svrl : Bool
   pub phase : Option (List ℕ)
   pub rules : List (List ℕ)
 
 abbrev pub none_given : Options
-none_given = record { codes_file = None; extension_file = None; target = None; svrl = false; phase = None; rules = [] }
+none_given = record { codes_file = None; extension_file = None; target = None; json = false; svrl = false; phase = None; rules = [] }
 
 abbrev pub switch_named : List ℕ → Option Switch
 switch_named word =
     if bytes_eq word (codes "--codes") then Some switches.CodeLists
     else (if bytes_eq word (codes "--extension") then Some switches.Extension
     else (if bytes_eq word (codes "--to") then Some switches.SyntaxToWrite
+    else (if bytes_eq word (codes "--json") then Some switches.Json
     else (if bytes_eq word (codes "--svrl") then Some switches.Svrl
     else (if bytes_eq word (codes "--phase") then Some switches.Phase
     else (if bytes_eq word (codes "--rules") then Some switches.RuleFile
-    else None)))))
+    else None))))))
 
 -- which options a command has
 abbrev pub has : Optioned → Switch → Bool
 has commands.Show switches.CodeLists = true
 has commands.Show switches.Extension = true
+has commands.Show switches.Json = true
 has commands.Show _ = false
 has commands.Totals switches.CodeLists = true
 has commands.Totals switches.Extension = true
@@ -95,6 +101,7 @@ abbrev pub may_follow : Options → Switch → Bool
 may_follow given switches.CodeLists = is_none given.codes_file
 may_follow given switches.Extension = is_none given.extension_file
 may_follow given switches.SyntaxToWrite = is_none given.target
+may_follow given switches.Json = not given.json
 may_follow given switches.Svrl = not given.svrl
 may_follow given switches.Phase = is_none given.phase
 may_follow given switches.RuleFile = nat_lt (length given.rules) 16
@@ -113,6 +120,7 @@ offered command given word = if_offered command given (switch_named word)
 
 -- Such an option takes the word behind it, whatever it is.
 abbrev pub takes_value : Switch → Bool
+takes_value switches.Json = false
 takes_value switches.Svrl = false
 takes_value _ = true
 
@@ -122,15 +130,23 @@ syntax_named word = if bytes_eq word (codes "ubl") then Some syntaxes.Ubl else (
 abbrev pub with_target : Options → Syntax → Options
 with_target given syntax = record given { target = Some syntax }
 
--- the options with one more that takes no value
+abbrev pub with_json : Options → Options
+with_json given = record given { json = true }
+
 abbrev pub with_svrl : Options → Options
 with_svrl given = record given { svrl = true }
+
+-- the options with one more that takes no value
+abbrev pub with_flag : Options → Switch → Options
+with_flag given switches.Json = with_json given
+with_flag given _ = with_svrl given
 
 -- the options with the value of one more, if it is one
 abbrev pub with_value : Options → Switch → List ℕ → Option Options
 with_value given switches.CodeLists value = Some (record given { codes_file = Some value })
 with_value given switches.Extension value = Some (record given { extension_file = Some value })
 with_value given switches.SyntaxToWrite value = option_map (with_target given) (syntax_named value)
+with_value given switches.Json value = Some (with_json given)
 with_value given switches.Svrl value = Some (with_svrl given)
 with_value given switches.Phase value = Some (record given { phase = Some value })
 with_value given switches.RuleFile value = Some (record given { rules = given.rules ++ value ∷ [] })
@@ -142,7 +158,7 @@ or_bad number further (Some given) = further given
 -- the last word, which may be an option: where that takes a value, the value is missing
 abbrev pub last_word : (Options → ℕ → List (List ℕ) → Job) → Options → ℕ → List ℕ → Option Switch → Job
 last_word further given number word None = further given number (word ∷ [])
-last_word further given number word (Some switch) = if takes_value switch then bad_word (number + 1) else further (with_svrl given) (number + 1) []
+last_word further given number word (Some switch) = if takes_value switch then bad_word (number + 1) else further (with_flag given switch) (number + 1) []
 
 -- what follows by the options, the number of the word behind them, and the words from there on
 abbrev pub optioned : Optioned → (Options → ℕ → List (List ℕ) → Job) → Options → ℕ → List (List ℕ) → Job
@@ -151,7 +167,7 @@ optioned command further given number (word ∷ []) = last_word further given nu
 optioned command further given number (word ∷ (value ∷ words)) = elim (offered command given word) [
   | None ↦ further given number (word ∷ (value ∷ words))
   | (Some switch) ↦ elim (takes_value switch) [
-    | false ↦ optioned command further (with_svrl given) (number + 1) (value ∷ words)
+    | false ↦ optioned command further (with_flag given switch) (number + 1) (value ∷ words)
     | true ↦ or_bad (number + 1) (λ more. optioned command further more (number + 2) words) (with_value given switch value)
   ]
 ]
@@ -162,8 +178,12 @@ optioned command further given number (word ∷ (value ∷ words)) = elim (offer
 abbrev pub sources : Options → Sources
 sources given = record { codes_file = given.codes_file; extension_file = given.extension_file }
 
+abbrev pub format_of : Bool → AnswerFormat
+format_of true = formats.Json
+format_of false = formats.Lines
+
 abbrev pub show_of : Options → ℕ → List (List ℕ) → Job
-show_of given number words = last_operand (show (sources given)) number words
+show_of given number words = last_operand (show (format_of given.json) (sources given)) number words
 
 abbrev pub totals_of : Options → ℕ → List (List ℕ) → Job
 totals_of given number words = last_operand (totals (sources given)) number words

@@ -66,6 +66,8 @@ pub(crate) struct Given<'w> {
     pub(crate) sources: Sources<'w>,
     /// The syntax to write.
     pub(crate) target: Option<Syntax>,
+    /// Whether the answer is to be JSON.
+    pub(crate) json: bool,
     /// Whether the report is to be SVRL.
     pub(crate) svrl: bool,
     /// The phase whose patterns are judged.
@@ -77,6 +79,7 @@ pub(crate) struct Given<'w> {
 pub(crate) const NONE_GIVEN: Given<'static> = Given {
     sources: NO_SOURCES,
     target: None,
+    json: false,
     svrl: false,
     phase: None,
     rules: NO_RULES,
@@ -109,7 +112,9 @@ enum Switch {
     /// The file of terms that are added to those of the standard.
     Extension,
     SyntaxToWrite,
-    /// The report is to be SVRL. It alone takes no value.
+    /// The answer is to be JSON. It takes no value.
+    Json,
+    /// The report is to be SVRL. It takes no value.
     Svrl,
     Phase,
     RuleFile,
@@ -123,6 +128,7 @@ fn switch_named(word: &str) -> Option<Switch>
         "--codes" => Some(Switch::CodeLists),
         "--extension" => Some(Switch::Extension),
         "--to" => Some(Switch::SyntaxToWrite),
+        "--json" => Some(Switch::Json),
         "--svrl" => Some(Switch::Svrl),
         "--phase" => Some(Switch::Phase),
         "--rules" => Some(Switch::RuleFile),
@@ -136,7 +142,7 @@ fn has(command: Optioned, switch: Switch) -> bool
 {
     match command {
         Optioned::Show => match switch {
-            Switch::CodeLists | Switch::Extension => true,
+            Switch::CodeLists | Switch::Extension | Switch::Json => true,
             _ => false,
         },
         Optioned::Totals => match switch {
@@ -166,6 +172,7 @@ fn may_follow(given: &Given<'_>, switch: Switch) -> bool
         Switch::CodeLists => given.sources.codes_file.is_none(),
         Switch::Extension => given.sources.extension_file.is_none(),
         Switch::SyntaxToWrite => given.target.is_none(),
+        Switch::Json => !given.json,
         Switch::Svrl => !given.svrl,
         Switch::Phase => given.phase.is_none(),
         Switch::RuleFile => given.rules.has_room(),
@@ -191,7 +198,7 @@ fn takes_value(switch: Switch) -> bool
     ensures { result ≡ spec.takes_value switch }
 {
     match switch {
-        Switch::Svrl => false,
+        Switch::Json | Switch::Svrl => false,
         _ => true,
     }
 }
@@ -207,13 +214,30 @@ fn syntax_named(word: &str) -> Option<Syntax>
     }
 }
 
-/// The options with the one that takes no value.
+fn with_json<'w>(given: &Given<'w>) -> Given<'w>
+    ensures { given_options result ≡ spec.with_json (given_options given.now) }
+{
+    let mut more = *given;
+    more.json = true;
+    more
+}
+
 fn with_svrl<'w>(given: &Given<'w>) -> Given<'w>
     ensures { given_options result ≡ spec.with_svrl (given_options given.now) }
 {
     let mut more = *given;
     more.svrl = true;
     more
+}
+
+/// The options with one more that takes no value.
+fn with_flag<'w>(given: &Given<'w>, switch: Switch) -> Given<'w>
+    ensures { given_options result ≡ spec.with_flag (given_options given.now) switch }
+{
+    match switch {
+        Switch::Json => with_json(given),
+        _ => with_svrl(given),
+    }
 }
 
 fn with_rules<'w>(given: &Given<'w>, file: &'w str) -> Given<'w>
@@ -260,6 +284,7 @@ fn with_value<'w>(given: &Given<'w>, switch: Switch, value: &'w str) -> Option<G
             Some(more)
         }
         Switch::SyntaxToWrite => with_target(given, value),
+        Switch::Json => Some(with_json(given)),
         Switch::Svrl => Some(with_svrl(given)),
         Switch::Phase => {
             more.phase = Some(value);
@@ -294,7 +319,7 @@ pub(crate) fn scan<'w>(
         return ready;
     };
     if !takes_value(switch) {
-        return scan(command, &with_svrl(given), number + 1, behind);
+        return scan(command, &with_flag(given, switch), number + 1, behind);
     }
     let Some((value, rest)) = behind.split_first() else {
         return bad(ready, number + 1);

@@ -92,7 +92,9 @@ fn answer<S: Shelf, O: Sink, E: Sink>(
     let asked = command_of(words);
     match asked.command {
         Command::Outline(file) => outline(alloc, file, shelf, out, err),
-        Command::Show(sources, file) => show(alloc, &sources, file, shelf, out, err),
+        Command::Show(format, sources, file) => {
+            show(alloc, format, &sources, file, shelf, out, err)
+        }
         Command::Totals(sources, file) => totals(alloc, &sources, file, shelf, out, err),
         Command::Convert(syntax, sources, file) => {
             convert(alloc, syntax, &sources, file, shelf, out, err)

@@ -10,8 +10,9 @@ see whether an invoice is right, and what is wrong with it
       --svrl          the report in SVRL, the XML of Schematron reports
 
 read an invoice
-  einv show [--codes LISTS] [--extension TERMS] FILE
+  einv show [--json] [--codes LISTS] [--extension TERMS] FILE
       lists its business terms, a line each
+      --json          the terms as JSON, groups that stand several times as arrays
   einv totals [--codes LISTS] [--extension TERMS] FILE
       lists each total that isn't what the other values make of it
 

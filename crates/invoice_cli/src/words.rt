@@ -6,7 +6,7 @@ ghost use Rattle.invoice_cli.specs.declared.options.Optioned.TheVariants as comm
 
 use crate::options::{Given, NO_RULES, NONE_GIVEN, Optioned, RuleFiles, scan};
 use bind_meaning::Syntax;
-use invoice_jobs::Sources;
+use invoice_jobs::{AnswerFormat, Sources};
 use trial_invoice::MOST_LINES;
 
 /// The greatest number of an attached document.
@@ -16,9 +16,9 @@ const MOST_DOCUMENTS: u32 = 9_999;
 #[derive(Clone, Copy)]
 pub(crate) enum Command<'w> {
     Outline(&'w str),
-    /// With the files beside the document, as far as they are named.
-    Show(Sources<'w>, &'w str),
-    /// Likewise.
+    /// In a format, with the files beside the document, as far as they are named.
+    Show(AnswerFormat, Sources<'w>, &'w str),
+    /// With such files.
     Totals(Sources<'w>, &'w str),
     Convert(Syntax, Sources<'w>, &'w str),
     /// Whether the report is to be SVRL, the phase, if one is named, and the document. The rule files are named beside.
@@ -135,8 +135,18 @@ fn show_with<'w>(given: &Given<'w>, number: u64, words: &'w [String]) -> Command
     ensures { asked_by [] result ≡ spec.show_of (given_options given.now) number (words_of words.now) }
 {
     match last_operand(number, words) {
-        Ok(file) => Command::Show(given.sources, file),
+        Ok(file) => Command::Show(format_of(given.json), given.sources, file),
         Err(number) => Command::BadWord(number),
+    }
+}
+
+fn format_of(json: bool) -> AnswerFormat
+    ensures { result ≡ spec.format_of json }
+{
+    if json {
+        AnswerFormat::Json
+    } else {
+        AnswerFormat::Lines
     }
 }
 

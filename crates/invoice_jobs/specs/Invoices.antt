@@ -1,11 +1,14 @@
 -- What is answered to a job that reads an invoice.
-use Rattle.std.specs.Prelude.{◌≡◌, ◌≢◌, ℕ, List, [], ◌∷◌, ◌++◌, codes, decimal, Result}
+use Rattle.std.specs.Prelude.{◌≡◌, ◌≢◌, ℕ, List, [], ◌∷◌, ◌++◌, codes, decimal, encode_utf8_all, Result}
 use Rattle.std.proofs.Common.{◌⊎◌}
 use Rattle.inv_base.specs.Outside.{SinkView}
 use Rattle.inv_terms.specs.declared.attachments.AttachFault.{AttachFault}
 use Rattle.inv_terms.specs.declared.attachments.AttachFault.TheVariants as attach
 use Rattle.inv_terms.specs.Attachments.{attached}
+use Rattle.inv_terms.specs.declared.entries.Entry.{Entry}
 use Rattle.inv_listing.specs.Listing.{name_text, listing}
+use Rattle.json_text.specs.Layout.{document}
+use Rattle.invoice_json.specs.InvoiceJson.{invoice_json}
 use Rattle.node_arena.specs.Document.{Document, node_at}
 use Rattle.node_arena.specs.Moves.{tree_nodes}
 use Rattle.bind_meaning.specs.declared.fault.BindFault.{BindFault}
@@ -24,6 +27,8 @@ use Rattle.job_course.specs.declared.status.Status.TheVariants as statuses
 use Rattle.job_course.specs.Outside.{TakesOrFails}
 use Rattle.job_course.specs.Course.{Course, ends, done, refusal, by_result, document_course}
 use Rattle.job_course.specs.Views.{document_read}
+use Rattle.invoice_jobs.specs.declared.formats.AnswerFormat.{AnswerFormat}
+use Rattle.invoice_jobs.specs.declared.formats.AnswerFormat.TheVariants as formats
 use Rattle.invoice_jobs.specs.declared.invoices.Loaded.{Loaded}
 use Rattle.invoice_jobs.specs.Sources.{Sources, Basis, no_sources, basis_course, basis_of, term_or_dash}
 
@@ -52,12 +57,16 @@ pub record Given : Type 0 where
 abbrev pub read_course : Sources → List ℕ → (Given → Course) → Course
 read_course sources file next = basis_course sources (λ basis. invoice_course file basis (λ read. next (record { basis = basis; read = read })))
 
--- the terms of an invoice, in listing order
-abbrev pub listed : Given → Course
-listed given = ends (done (listing given.read.entries given.read.passed_over))
+-- the terms of an invoice, in listing order, and how many elements were passed over
+abbrev pub listing_in : AnswerFormat → List Entry → ℕ → List ℕ
+listing_in formats.Lines entries passed_over = listing entries passed_over
+listing_in formats.Json entries passed_over = encode_utf8_all (document (invoice_json entries passed_over))
 
-abbrev pub show_course : Sources → List ℕ → Course
-show_course sources file = read_course sources file listed
+abbrev pub listed : AnswerFormat → Given → Course
+listed format given = ends (done (listing_in format given.read.entries given.read.passed_over))
+
+abbrev pub show_course : AnswerFormat → Sources → List ℕ → Course
+show_course format sources file = read_course sources file (listed format)
 
 -- ---- the invoice in a syntax
 

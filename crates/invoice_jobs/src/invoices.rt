@@ -8,8 +8,10 @@ ghost use Rattle.extension_laws.specs.Texts.{target_rows};
 ghost use Rattle.job_course.specs.Runs.{Runs, Continues, Fails};
 ghost use Rattle.invoice_jobs.specs.Sources.{basis_of, sources_of};
 ghost use Rattle.invoice_jobs.specs.Invoices.{read_of, given_of, IsInvoiceRefusal, invoice_course, read_course, show_course, converted, convert_course};
-ghost use Rattle.invoice_jobs.specs.Invoices.{extracted, extract_course};
+ghost use Rattle.invoice_jobs.specs.Invoices.{extracted, extract_course, listing_in};
+ghost use Rattle.inv_base.specs.Printing.{Printed};
 
+use crate::formats::AnswerFormat;
 use crate::refusals::{tell_attach_fault, tell_condition, tell_invoice_fault};
 use crate::sources::{Basis, NO_SOURCES, Sources, load_basis};
 use bind_run::{BindFault, BindKind, ReadInvoice, Syntax, carries, read_document, target, write};
@@ -19,6 +21,7 @@ use extension_laws::extended_tables_are_laid;
 use inv_base::{Shelf, Sink};
 use inv_listing::print_listing;
 use inv_terms::{AttachFault, attachment};
+use invoice_json::print_json;
 use job_course::{Status, load_document};
 use node_arena::Doc;
 use std::alloc::Global;
@@ -109,13 +112,14 @@ pub(crate) fn load<S: Shelf, E: Sink>(
 /// Lists the terms of an invoice.
 pub fn show<S: Shelf, O: Sink, E: Sink>(
     alloc: Global,
+    format: AnswerFormat,
     sources: &Sources<'_>,
     file: &str,
     shelf: &mut S,
     out: &mut O,
     err: &mut E,
 ) -> Status
-    ensures { Runs (show_course (sources_of sources.now) file.now)
+    ensures { Runs (show_course format (sources_of sources.now) file.now)
         (record { shelf = S.view shelf.old; out = O.view out.old; err = E.view err.old })
         (record { shelf = S.view shelf.new; out = O.view out.new; err = E.view err.new }) result }
 {
@@ -123,10 +127,20 @@ pub fn show<S: Shelf, O: Sink, E: Sink>(
         Ok(loaded) => loaded,
         Err(status) => return status,
     };
-    if print_listing(&loaded.read.invoice, loaded.read.passed_over, out) {
+    if print_in(format, &loaded.read, out) {
         Status::WriteFault
     } else {
         Status::Done
+    }
+}
+
+/// Prints the terms of an invoice in a format; answers whether a write failed.
+fn print_in<O: Sink>(format: AnswerFormat, read: &ReadInvoice, out: &mut O) -> bool
+    ensures { Printed result (listing_in format read.now.invoice read.now.passed_over) (O.view out.old) (O.view out.new) }
+{
+    match format {
+        AnswerFormat::Lines => print_listing(&read.invoice, read.passed_over, out),
+        AnswerFormat::Json => print_json(&read.invoice, read.passed_over, out),
     }
 }
 

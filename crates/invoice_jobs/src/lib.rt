@@ -4,6 +4,7 @@
 
 mod comparison;
 mod conversions;
+mod formats;
 mod invoices;
 mod refusals;
 mod sources;
@@ -13,5 +14,6 @@ pub use conversions::{
     accepted_terms_are_good, carried_texts_are_read_exactly, converted_texts_are_documents,
     done_conversions_are_documents, read_files_are_valid_invoices,
 };
+pub use formats::AnswerFormat;
 pub use invoices::{convert, extract, refuse_invoice, show};
 pub use sources::{Basis, Extended, NO_SOURCES, Sources, load_extended};

@@ -6,6 +6,7 @@ ghost use Rattle.term_table.specs.Rows.{is_base64};
 ghost use Rattle.inv_terms.specs.Listing.{Fits};
 
 use crate::building::{context_of, full_without, push_text, pushed};
+use crate::json_cases::is_printed;
 use crate::texts::{halves, numbers};
 use code_lists::CodeLists;
 use inv_base::MemSink;
@@ -150,6 +151,27 @@ EXT-99 \"X\"
 passed over 0
 ";
 
+/// The same as JSON text.
+const JSON: &str = "\
+{
+  \"BT-1\": \"1\",
+  \"BG-25\": [
+    {
+      \"BT-126\": \"1\",
+      \"EXT-2\": \"X\",
+      \"EXT-99\": \"X\"
+    },
+    {
+      \"BT-126\": \"1\",
+      \"EXT-1\": \"X\"
+    }
+  ],
+  \"EXT-1\": \"X\",
+  \"EXT-10\": \"X\",
+  \"EXT-99\": \"X\"
+}
+";
+
 fn is_listed(alloc: Global, invoice: &Invoice) -> Result<bool, AllocError> {
     let mut out = MemSink::new(alloc, 1000)?;
     let failed = print_listing(invoice, 0, &mut out);
@@ -160,7 +182,8 @@ fn is_listed(alloc: Global, invoice: &Invoice) -> Result<bool, AllocError> {
 
 fn expect_listed(alloc: Global, invoice: &mut Invoice) -> Result<(), Fail> {
     expect_pushes(alloc, invoice)?;
-    expect(is_listed(alloc, invoice)?, "listing")
+    expect(is_listed(alloc, invoice)?, "listing")?;
+    expect(is_printed(alloc, invoice, 0, JSON)?, "JSON")
 }
 
 #[test]

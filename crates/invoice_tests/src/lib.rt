@@ -12,6 +12,8 @@ mod check_cases;
 #[cfg(test)]
 mod extension_cases;
 #[cfg(test)]
+mod json_cases;
+#[cfg(test)]
 mod laid_cases;
 #[cfg(test)]
 mod look_cases;

@@ -8,6 +8,7 @@ pub(crate) const JOBS: &str = "\
 outline f|0|f
 show f|0|f
 show --codes eur f|0|eur f
+show --json f|0|f
 totals f|1|f
 totals --codes eur f|1|eur f
 convert --to ubl f|0|f
@@ -23,6 +24,8 @@ pub(crate) const REFUSALS: &str = "\
 shew f|2|bad word 1
 frob|2|bad word 1
 convert --to pdf f|2|bad word 3
+show --json --json f|2|bad word 3
+convert --json --to cii f|2|bad word 2
 check f|2|bad word 2
 validate f f|2|bad word 3
 try 10001|2|bad word 2

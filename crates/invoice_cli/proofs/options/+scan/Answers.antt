@@ -12,7 +12,7 @@ returns-then-not-takes_value-clause-follows g c = λ further.
     let is_offered = ap (offered c.args.command given) (sym c.as_str.ensures.value) ∙ (sym c.offered.ensures.is ∙ c.in-Some-offered.is) in
     let alone : takes_value c.in-Some-offered.switch ≡ false = cc in
     c.scan.ensures.follows further
-    ∙ (ap (λ more. optioned c.args.command further more (c.args.number + 1) (words_of c.in-Some.behind.now)) c.with_svrl.ensures
+    ∙ (ap (λ more. optioned c.args.command further more (c.args.number + 1) (words_of c.in-Some.behind.now)) c.with_flag.ensures
     ∙ (sym (optioned-alone c.args.command further given c.args.number word c.in-Some-offered.switch (words_of c.in-Some.behind.now) is_offered alone)
     ∙ ap (λ words. optioned c.args.command further given c.args.number (words_of words)) (sym c.in-Some.ensures.cases.0)))
 

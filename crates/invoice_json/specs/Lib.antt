@@ -1,0 +1,2 @@
+pub mod InvoiceJson
+pub mod Streaming

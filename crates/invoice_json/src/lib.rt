@@ -1,0 +1,8 @@
+//! An invoice (EN 16931-1) as JSON text.
+#![tactic(auto)]
+
+mod names;
+mod occurrences;
+mod printing;
+
+pub use printing::print_json;

@@ -1,0 +1,4 @@
+mod Rows
+pub mod StringLemmas
+pub mod LayoutLemmas
+pub mod CallsLemmas

@@ -1,0 +1,4 @@
+pub mod Json
+pub mod Layout
+pub mod Escapes
+pub mod Calls

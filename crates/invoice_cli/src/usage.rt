@@ -12,7 +12,7 @@ see whether an invoice is right, and what is wrong with it
 read an invoice
   einv show [--json] [--codes LISTS] [--extension TERMS] FILE
       lists its business terms, a line each
-      --json          the terms as JSON, groups that stand several times as arrays
+      --json          the terms as JSON; repeated groups are arrays
   einv totals [--codes LISTS] [--extension TERMS] FILE
       lists each total that isn't what the other values make of it
 

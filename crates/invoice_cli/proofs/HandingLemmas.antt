@@ -77,7 +77,8 @@ still P s s' e e' shelf err p = subst (λ x. P x e') (sym shelf) (subst (P s) (s
 pub answers_of_ends : (steps : ℕ) (job : Job) (before after : Outside) (status : Status) → Ends steps job before after status →
     Answers steps job before after status
 answers_of_ends steps (outline file) before after status ends = answers_of_run steps (outline file) tt before after status (λ name is. ends.0) ends.1
-answers_of_ends steps (show format sources file) before after status ends = answers_of_run steps (show format sources file) tt before after status (λ name is. cc) ends.1
+answers_of_ends steps (show format sources file) before after status ends =
+    answers_of_run steps (show format sources file) tt before after status (λ name is. cc) ends.1
 answers_of_ends steps (totals sources file) before after status ends = answers_of_run steps (totals sources file) tt before after status (λ name is. cc) ends.1
 answers_of_ends steps (convert syntax sources file) before after status ends =
     answers_of_run steps (convert syntax sources file) tt before after status (λ name is. cc) ends.1

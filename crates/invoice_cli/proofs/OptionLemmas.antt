@@ -30,7 +30,8 @@ module _ (command : Optioned) (further : Options → ℕ → List (List ℕ) →
   pub optioned-alone : (words : List (List ℕ)) → offered command given word ≡ Some switch → takes_value switch ≡ false
       → optioned command further given number (word ∷ words) ≡ optioned command further (with_flag given switch) (number + 1) words
   optioned-alone [] is_offered alone =
-      ap (last_word further given number word) is_offered ∙ ap (λ b. if b then bad_word (number + 1) else further (with_flag given switch) (number + 1) []) alone
+      ap (last_word further given number word) is_offered
+      ∙ ap (λ b. if b then bad_word (number + 1) else further (with_flag given switch) (number + 1) []) alone
   optioned-alone (value ∷ words) is_offered alone =
       ap (by_offer value words) is_offered ∙ ap (by_switch value words switch) alone
 
@@ -38,4 +39,5 @@ module _ (command : Optioned) (further : Options → ℕ → List (List ℕ) →
   pub optioned-valueless : offered command given word ≡ Some switch → takes_value switch ≡ true
       → optioned command further given number (word ∷ []) ≡ bad_word (number + 1)
   optioned-valueless is_offered takes =
-      ap (last_word further given number word) is_offered ∙ ap (λ b. if b then bad_word (number + 1) else further (with_flag given switch) (number + 1) []) takes
+      ap (last_word further given number word) is_offered
+      ∙ ap (λ b. if b then bad_word (number + 1) else further (with_flag given switch) (number + 1) []) takes

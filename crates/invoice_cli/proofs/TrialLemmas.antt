@@ -9,7 +9,8 @@ use Rattle.invoice_cli.specs.declared.options.Optioned.TheVariants as commands
 use Rattle.invoice_cli.specs.declared.options.Switch.{Switch}
 use Rattle.invoice_cli.specs.Job.{Job, outline, show, totals, convert, check, validate, extract, query, trial, help, version, bad_word, Options, none_given}
 use Rattle.invoice_cli.specs.Job.{is_option, with_no_more, last_operand, offered, takes_value, with_flag, with_value, or_bad, last_word, optioned, sources}
-use Rattle.invoice_cli.specs.Job.{format_of, show_of, totals_of, convert_of, check_of, validate_of, is_digit, digits_value, at_most, number_up_to, by_number, extract_of}
+use Rattle.invoice_cli.specs.Job.{format_of, show_of, totals_of, convert_of, check_of, validate_of, is_digit, digits_value, at_most, number_up_to}
+use Rattle.invoice_cli.specs.Job.{by_number, extract_of}
 use Rattle.invoice_cli.specs.Job.{most_lines, try_of, query_of, job}
 
 -- ---- numbers
@@ -154,7 +155,8 @@ few-job [] = tt
 few-job (command ∷ words) =
     few-if (bytes_eq command (codes "outline")) _ _ (few-operand outline 2 words (λ word. tt))
     (few-if (bytes_eq command (codes "show")) _ _
-    (few-optioned commands.Show show_of (λ given number ws. few-operand (show (format_of given.json) (sources given)) number ws (λ word. tt)) none_given 2 words)
+    (few-optioned commands.Show show_of
+    (λ given number ws. few-operand (show (format_of given.json) (sources given)) number ws (λ word. tt)) none_given 2 words)
     (few-if (bytes_eq command (codes "totals")) _ _
     (few-optioned commands.Totals totals_of (λ given number ws. few-operand (totals (sources given)) number ws (λ word. tt)) none_given 2 words)
     (few-if (bytes_eq command (codes "convert")) _ _ (few-optioned commands.Convert convert_of few-convert none_given 2 words)
